@@ -1,0 +1,65 @@
+-- Boxes as envelopes.
+use Rattle.std.specs.Prelude.{◌≡◌, ◌+◌, ◌*◌, ◌+ℤ◌, ◌-ℤ◌, ◌<ℤ◌, ℕ, ℤ, List, [], ◌∷◌, map, min, pos, unsigned_abs, slice_index_or, int_div}
+use Rattle.std.specs.Int.{int_min, int_max}
+use Rattle.rstar_base.specs.Points.{IsPoint}
+use Rattle.rstar_base.specs.Boxes.{is_empty_box, box_contains_point, contains_box, merge_boxes, boxes_intersect, empty_box, IsBox}
+use Rattle.rstar_base.specs.BoxLaws.{merge-comm, merge-assoc, merge-unit, merge-empty-left, merge-empty-right, merge-box, empty-box, merge-contains, contains-refl, contains-trans, contains-point, contains-intersects, intersects-sym, intersects-self, low_le_high, long_same}
+use Rattle.rstar_base.specs.Distances.{box_distance, box_min_max, box_distance-up, box_min_max-merge}
+use Rattle.rstar_base.specs.Envelopes.{Boxes, EnvelopeLaws}
+
+-- how far an interval goes, 0 where its bounds are inverted
+abbrev pub extent : ℤ × ℤ → ℕ
+extent x = unsigned_abs (int_max (pos 0) (x.1 -ℤ x.0))
+
+abbrev pub extent_product : List (ℤ × ℤ) → ℕ
+extent_product [] = 1
+extent_product (x ∷ xs) = extent x * extent_product xs
+
+abbrev pub extent_sum : List (ℤ × ℤ) → ℕ
+extent_sum [] = 0
+extent_sum (x ∷ xs) = extent x + extent_sum xs
+
+-- what two boxes share, its bounds inverted where they share nothing
+abbrev pub overlap : List (ℤ × ℤ) → List (ℤ × ℤ) → List (ℤ × ℤ)
+overlap [] ys = []
+overlap (x ∷ xs) [] = []
+overlap (x ∷ xs) (y ∷ ys) = (int_max x.0 y.0, int_min x.1 y.1) ∷ overlap xs ys
+
+-- the boxes of n axes over the scalars from low to high
+abbrev pub box_data : ℤ → ℤ → ℕ → Boxes (List (ℤ × ℤ))
+box_data low high n = record {
+  IsValue = IsBox low high n;
+  empty = empty_box low high n;
+  is_empty = is_empty_box;
+  contains_point = box_contains_point;
+  contains = contains_box;
+  merge = merge_boxes;
+  intersects = boxes_intersect;
+  area = λ b. min (extent_product b) (unsigned_abs high);
+  intersection_area = λ a b. min (extent_product (overlap a b)) (unsigned_abs high);
+  distance_2 = box_distance high;
+  min_max_dist_2 = box_min_max high;
+  center = λ b. map (λ (x : ℤ × ℤ). int_div (x.0 +ℤ x.1) (pos 2)) b;
+  perimeter = λ b. min (extent_sum b) (unsigned_abs high);
+  axis_key = λ b i. (slice_index_or b i (pos 0, pos 0)).0;
+}
+
+pub box_laws : (low high : ℤ) (n : ℕ) → low <ℤ pos 0 → pos 0 <ℤ high → EnvelopeLaws (IsPoint low high n) (box_data low high n)
+box_laws low high n hl hh = record {
+  empty_value = empty-box low high n (low_le_high _ _ hl hh);
+  merge_value = λ a b h k. merge-box low high n a b h k;
+  merge_comm = λ a b _ _. merge-comm a b;
+  merge_assoc = λ a b c _ _ _. merge-assoc a b c;
+  merge_empty = λ a h. merge-unit low high n a h.long h.ranged;
+  merge_is_empty = λ a b _ _ e. (merge-empty-left a b e, merge-empty-right a b e);
+  empty_same = λ a h e. h.shape e;
+  merge_contains = λ a b h k. merge-contains a b (long_same low high n _ _ h k);
+  merge_contains_point = λ a b p _ h k c. contains-point _ a p (merge-contains a b (long_same low high n _ _ h k)) c;
+  merge_intersects = λ a b c h k _ i. contains-intersects _ a c (merge-contains a b (long_same low high n _ _ h k)) i;
+  contains_refl = λ a _. contains-refl a;
+  contains_trans = λ a b c _ _ _ h k. contains-trans a b c h k;
+  intersects_sym = λ a b _ _ h. intersects-sym a b h;
+  contains_intersects = λ a b _ _ h e. contains-intersects a b b h (intersects-self b e);
+  merge_distance = λ a b p _ h k e. box_distance-up high (merge_boxes a b) a p (merge-contains a b (long_same low high n _ _ h k)) e;
+  merge_min_max = λ a b p _ h k e f. box_min_max-merge high a b p (long_same low high n _ _ h k) e f;
+}

@@ -1,0 +1,13 @@
+pub mod Scalars
+pub mod Sizes
+pub mod Points
+pub mod Boxes
+pub mod BoxLaws
+pub mod BoxEq
+pub mod Hulls
+pub mod Distances
+pub mod Envelopes
+pub mod Elements
+pub mod Sums
+pub mod BoxData
+pub mod PointElements

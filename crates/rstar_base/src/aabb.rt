@@ -1,0 +1,185 @@
+//! Boxes.
+
+ghost use Rattle.std.specs.Prelude.{◌≡◌, ◌<◌, ◌&&◌, ℕ, ⊤, true, int_le, map, not, pos, min, unsigned_abs};
+ghost use Rattle.rstar_base.specs.Distances.{square_apart, nearest_on_axis};
+ghost use Rattle.rstar_base.specs.Sums.{sum_below};
+ghost use Rattle.std.specs.Int.{int_min, int_max};
+ghost use Rattle.rstar_base.specs.Boxes.{between_corners, is_empty_box, merge_boxes, contains_box, box_contains_point, boxes_intersect, empty_box, IsBox};
+ghost use Rattle.rstar_base.specs.Points.{table, all_below, IsPoint};
+ghost use Rattle.rstar_base.specs.Scalars.{InRange};
+
+use crate::axes::{clamped_sum, copied_point, every_axis, filled, greatest_point, least_point};
+use crate::envelope::Envelope;
+use crate::point::{Point, greatest, least, not_above, square_between};
+use num_traits::Bounded;
+use std::alloc::AllocError;
+use std::marker::Model;
+
+/// Whether `lower <= above` and `below <= upper` on every axis.
+pub(crate) fn bound<P: Point>(lower: &P, upper: &P, above: &P, below: &P) -> bool
+    ensures { result ≡ all_below P.DIMENSIONS (λ i. int_le (P.coord lower.now i) (P.coord above.now i) && int_le (P.coord below.now i) (P.coord upper.now i)) }
+{
+    every_axis::<P, _>(
+        |i: usize| -> bool
+            requires { i < P.DIMENSIONS }
+            ensures { result ≡ (int_le (P.coord lower.entry.now i) (P.coord above.entry.now i) && int_le (P.coord below.entry.now i) (P.coord upper.entry.now i)) }
+        { not_above(lower.nth(i), above.nth(i)) && not_above(below.nth(i), upper.nth(i)) },
+    )
+}
+
+/// Whether `lower <= upper` on every axis.
+pub(crate) fn upright<P: Point>(lower: &P, upper: &P) -> bool
+    ensures { result ≡ all_below P.DIMENSIONS (λ i. int_le (P.coord lower.now i) (P.coord upper.now i)) }
+{
+    every_axis::<P, _>(
+        |i: usize| -> bool
+            requires { i < P.DIMENSIONS }
+            ensures { result ≡ int_le (P.coord lower.entry.now i) (P.coord upper.entry.now i) }
+        { not_above(lower.nth(i), upper.nth(i)) },
+    )
+}
+
+/// The clamped squared distance from a point to the nearest point between two corners.
+pub(crate) fn squared_distance<P: Point>(lower: &P, upper: &P, point: &P) -> P::Scalar
+    ensures { P.Scalar.value result ≡ pos (min (sum_below P.DIMENSIONS (λ i. square_apart (P.coord point.now i) (nearest_on_axis (P.coord lower.now i, P.coord upper.now i) (P.coord point.now i)))) (unsigned_abs P.Scalar.high)) }
+{
+    clamped_sum::<P, _>(
+        |i: usize| -> P::Scalar
+            requires { i < P.DIMENSIONS }
+            ensures { P.Scalar.value result ≡ pos (min (square_apart (P.coord point.entry.now i) (nearest_on_axis (P.coord lower.entry.now i, P.coord upper.entry.now i) (P.coord point.entry.now i))) (unsigned_abs P.Scalar.high)) }
+        {
+            square_between(
+                point.nth(i),
+                least(upper.nth(i), greatest(lower.nth(i), point.nth(i))),
+            )
+        },
+    )
+}
+
+/// Whether two points have the same coordinates.
+pub(crate) fn same_coordinates<P: Point>(p: &P, q: &P) -> bool
+    ensures { result ≡ box_contains_point (between_corners P.DIMENSIONS (P.coord p.now) (P.coord p.now)) (table P.DIMENSIONS (P.coord q.now)) }
+{
+    bound(p, p, q, q)
+}
+
+/// A box.
+#[derive(Copy, Debug, PartialEq, Eq, PartialOrd, Ord, Hash, Drop)]
+pub struct AABB<P: Point> {
+    lower: P,
+    upper: P,
+}
+
+impl<P: Point> Model for AABB<P> {
+    ghost use Rattle.std.specs.Prelude.{ℕ, ℤ, List, map, ◌≡◌};
+    ghost use Rattle.std.proofs.Common.{refl};
+    ghost use Rattle.rstar_base.specs.Points.{table, table-firsts, table-seconds};
+    ghost use Rattle.rstar_base.specs.Boxes.{between_corners, IsBox};
+
+    ghost Value = { List (ℤ × ℤ) };
+
+    ghost view = { λ b. between_corners P.DIMENSIONS (P.coord b.lower) (P.coord b.upper) };
+
+    ghost invariant = { λ b. (P.of_coords (table P.DIMENSIONS (P.coord b.lower)) ≡ b.lower) × (P.of_coords (table P.DIMENSIONS (P.coord b.upper)) ≡ b.upper) × IsBox P.Scalar.low P.Scalar.high P.DIMENSIONS (between_corners P.DIMENSIONS (P.coord b.lower) (P.coord b.upper)) };
+
+    ghost inverse = { λ v. record { lower = P.of_coords (map (λ (x : ℤ × ℤ). x.0) v); upper = P.of_coords (map (λ (x : ℤ × ℤ). x.1) v) } };
+
+    ghost inverse_ok = { λ a h. rw (table-firsts P.DIMENSIONS (P.coord a.lower) (P.coord a.upper), table-seconds P.DIMENSIONS (P.coord a.lower) (P.coord a.upper), h.0, h.1) refl };
+}
+
+impl<P: Point> Clone for AABB<P> {
+    ghost is_clone = { λ a b. b ≡ a };
+
+    ghost is_infallible = { λ _. ⊤ };
+
+    fn clone(&self) -> Result<AABB<P>, AllocError> {
+        Ok(AABB {
+            lower: copied_point(&self.lower),
+            upper: copied_point(&self.upper),
+        })
+    }
+}
+
+impl<P: Point> AABB<P> {
+    /// The box of one point.
+    pub fn from_point(p: P) -> Self
+        ensures { result ≡ between_corners P.DIMENSIONS (P.coord p) (P.coord p) }
+    {
+        AABB {
+            lower: copied_point(&p),
+            upper: copied_point(&p),
+        }
+    }
+
+    /// The lower corner.
+    pub fn lower(&self) -> P
+        ensures { table P.DIMENSIONS (P.coord result) ≡ map (λ x. x.0) self.now }
+    {
+        copied_point(&self.lower)
+    }
+
+    /// The hull of two points.
+    pub fn from_corners(p: P, q: P) -> Self
+        ensures { result ≡ between_corners P.DIMENSIONS (λ i. int_min (P.coord p i) (P.coord q i)) (λ i. int_max (P.coord p i) (P.coord q i)) }
+    {
+        AABB {
+            lower: least_point(&p, &q),
+            upper: greatest_point(&p, &q),
+        }
+    }
+}
+
+impl<P: Point> Envelope for AABB<P> {
+    ghost use Rattle.rstar_base.specs.BoxData.{box_data, box_laws};
+    ghost use Rattle.rstar_base.specs.BoxEq.{box_eq};
+
+    type Point = P;
+
+    ghost boxes = { box_data P.Scalar.low P.Scalar.high P.DIMENSIONS };
+
+    fn new_empty() -> Self {
+        AABB {
+            lower: filled(P::Scalar::max_value()),
+            upper: filled(P::Scalar::min_value()),
+        }
+    }
+
+    fn is_empty(&self) -> bool {
+        !upright(&self.lower, &self.upper)
+    }
+
+    fn contains_point(&self, point: &P) -> bool {
+        bound(&self.lower, &self.upper, point, point)
+    }
+
+    fn contains_envelope(&self, other: &Self) -> bool {
+        bound(&self.lower, &self.upper, &other.lower, &other.upper)
+    }
+
+    fn merge(&mut self, other: &Self) {
+        *self = self.merged(other);
+    }
+
+    fn merged(&self, other: &Self) -> Self {
+        AABB {
+            lower: least_point(&self.lower, &other.lower),
+            upper: greatest_point(&self.upper, &other.upper),
+        }
+    }
+
+    fn intersects(&self, other: &Self) -> bool {
+        bound(&self.lower, &self.upper, &other.upper, &other.lower)
+    }
+
+    fn distance_2(&self, point: &P) -> P::Scalar {
+        squared_distance(&self.lower, &self.upper, point)
+    }
+
+    fn axis_key(&self, axis: usize) -> P::Scalar {
+        self.lower.nth(axis)
+    }
+
+    ghost envelope_laws = { box_laws P.Scalar.low P.Scalar.high P.DIMENSIONS P.Scalar.low_law P.Scalar.high_law };
+
+    ghost eq_law = { λ a b h k. box_eq P.Scalar.low P.Scalar.high P.DIMENSIONS P.coord P.of_coords P.eq P.coords_of_law P.eq_law a b h k };
+}

@@ -1,0 +1,11 @@
+//! The base of an R*-tree whose answers are proved: scalars, points, boxes and elements.
+#![tactic(auto)]
+
+pub mod aabb;
+mod axes;
+pub mod envelope;
+pub mod mint;
+pub mod object;
+mod places;
+pub mod point;
+pub mod primitives;
