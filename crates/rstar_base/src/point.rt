@@ -40,7 +40,7 @@ pub trait RTreeNum: Bounded
         ensures { Self.value result ≡ int_div (Self.value self +ℤ Self.value other) (pos 2) };
 
     /// The exact sum, held between the least and the greatest.
-    final fn clamped_add(self, other: Self) -> Self
+    fn clamped_add(self, other: Self) -> Self
         ensures { Self.value result ≡ between (Self.value self +ℤ Self.value other) Self.low Self.high }
     {
         let a = self.ord();
@@ -56,7 +56,7 @@ pub trait RTreeNum: Bounded
     }
 
     /// The exact difference, held between the least and the greatest.
-    final fn clamped_sub(self, other: Self) -> Self
+    fn clamped_sub(self, other: Self) -> Self
         ensures { Self.value result ≡ between (Self.value self -ℤ Self.value other) Self.low Self.high }
     {
         let a = self.ord();
@@ -72,7 +72,7 @@ pub trait RTreeNum: Bounded
     }
 
     /// The exact product, held between the least and the greatest.
-    final fn clamped_mul(self, other: Self) -> Self
+    fn clamped_mul(self, other: Self) -> Self
         ensures { Self.value result ≡ between (Self.value self *ℤ Self.value other) Self.low Self.high }
     {
         let a = self.ord();
@@ -131,11 +131,7 @@ pub(crate) fn apart<S: RTreeNum>(a: S, b: S) -> S
     ensures { S.value result ≡ pos (min (unsigned_abs (S.value b -ℤ S.value a)) (unsigned_abs S.high)) }
 {
     // The lesser from the greater: a difference clamped at the least scalar could be too small.
-    if not_above(a, b) {
-        b.clamped_sub(a)
-    } else {
-        a.clamped_sub(b)
-    }
+    greatest(a, b).clamped_sub(least(a, b))
 }
 
 /// The clamped square of the distance of two scalars.

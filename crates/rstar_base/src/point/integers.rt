@@ -1,9 +1,47 @@
 //! The signed integers as scalars.
 
-ghost use Rattle.std.specs.Prelude.{refl};
+ghost use Rattle.std.specs.Prelude.{◌≡◌, ◌-◌, ◌^◌, ◌↔◌, ◌≤ℤ◌, ◌<ℤ◌, IsTrue, pos, negsuc, refl};
 ghost use Rattle.std.proofs.Common.{rules};
+ghost use Rattle.num_traits.specs.Laws.{between};
 
 use crate::point::RTreeNum;
+
+// Clamped arithmetic goes by the next wider type: no test of an overflow, and so no branch.
+
+// A number held between the ends of `i8`.
+fn clamped_to_i8(number: i16) -> i8
+    ensures { result ≡ between number (negsuc (2 ^ 7 - 1)) (pos (2 ^ 7 - 1)) }
+{
+    number.clamp(i16::from(i8::MIN), i16::from(i8::MAX)) as i8
+}
+
+// A number held between the ends of `i16`.
+fn clamped_to_i16(number: i32) -> i16
+    ensures { result ≡ between number (negsuc (2 ^ 15 - 1)) (pos (2 ^ 15 - 1)) }
+{
+    number.clamp(i32::from(i16::MIN), i32::from(i16::MAX)) as i16
+}
+
+// A number held between the ends of `i32`.
+fn clamped_to_i32(number: i64) -> i32
+    ensures { result ≡ between number (negsuc (2 ^ 31 - 1)) (pos (2 ^ 31 - 1)) }
+{
+    number.clamp(i64::from(i32::MIN), i64::from(i32::MAX)) as i32
+}
+
+// A number held between the ends of `i64`.
+fn clamped_to_i64(number: i128) -> i64
+    ensures { result ≡ between number (negsuc (2 ^ 63 - 1)) (pos (2 ^ 63 - 1)) }
+{
+    number.clamp(i128::from(i64::MIN), i128::from(i64::MAX)) as i64
+}
+
+// Whether a number is one of those whose products all fit.
+fn is_small(number: i64) -> bool
+    ensures { IsTrue result ↔ ((pos 0 ≤ℤ number) × (number <ℤ pos (2 ^ 31))) }
+{
+    0 <= number && number <= 2147483647
+}
 
 impl RTreeNum for i8 {
     ghost of_value = { λ z. z };
@@ -13,7 +51,19 @@ impl RTreeNum for i8 {
     }
 
     fn half_sum(self, other: i8) -> i8 {
-        ((self as i16 + other as i16) / 2) as i8
+        ((i16::from(self) + i16::from(other)) / 2) as i8
+    }
+
+    fn clamped_add(self, other: i8) -> i8 {
+        clamped_to_i8(i16::from(self) + i16::from(other))
+    }
+
+    fn clamped_sub(self, other: i8) -> i8 {
+        clamped_to_i8(i16::from(self) - i16::from(other))
+    }
+
+    fn clamped_mul(self, other: i8) -> i8 {
+        clamped_to_i8(i16::from(self) * i16::from(other))
     }
 
     ghost low_law = { record { lt = tt } };
@@ -35,7 +85,19 @@ impl RTreeNum for i16 {
     }
 
     fn half_sum(self, other: i16) -> i16 {
-        ((self as i32 + other as i32) / 2) as i16
+        ((i32::from(self) + i32::from(other)) / 2) as i16
+    }
+
+    fn clamped_add(self, other: i16) -> i16 {
+        clamped_to_i16(i32::from(self) + i32::from(other))
+    }
+
+    fn clamped_sub(self, other: i16) -> i16 {
+        clamped_to_i16(i32::from(self) - i32::from(other))
+    }
+
+    fn clamped_mul(self, other: i16) -> i16 {
+        clamped_to_i16(i32::from(self) * i32::from(other))
     }
 
     ghost low_law = { record { lt = tt } };
@@ -57,7 +119,19 @@ impl RTreeNum for i32 {
     }
 
     fn half_sum(self, other: i32) -> i32 {
-        ((self as i64 + other as i64) / 2) as i32
+        ((i64::from(self) + i64::from(other)) / 2) as i32
+    }
+
+    fn clamped_add(self, other: i32) -> i32 {
+        clamped_to_i32(i64::from(self) + i64::from(other))
+    }
+
+    fn clamped_sub(self, other: i32) -> i32 {
+        clamped_to_i32(i64::from(self) - i64::from(other))
+    }
+
+    fn clamped_mul(self, other: i32) -> i32 {
+        clamped_to_i32(i64::from(self) * i64::from(other))
     }
 
     ghost low_law = { record { lt = tt } };
@@ -79,7 +153,23 @@ impl RTreeNum for i64 {
     }
 
     fn half_sum(self, other: i64) -> i64 {
-        ((self as i128 + other as i128) / 2) as i64
+        ((i128::from(self) + i128::from(other)) / 2) as i64
+    }
+
+    fn clamped_add(self, other: i64) -> i64 {
+        clamped_to_i64(i128::from(self) + i128::from(other))
+    }
+
+    fn clamped_sub(self, other: i64) -> i64 {
+        clamped_to_i64(i128::from(self) - i128::from(other))
+    }
+
+    fn clamped_mul(self, other: i64) -> i64 {
+        if is_small(self) && is_small(other) {
+            self * other
+        } else {
+            clamped_to_i64(i128::from(self) * i128::from(other))
+        }
     }
 
     ghost low_law = { record { lt = tt } };
@@ -128,7 +218,19 @@ impl RTreeNum for isize {
     }
 
     fn half_sum(self, other: isize) -> isize {
-        ((self as i128 + other as i128) / 2) as isize
+        (self as i64).half_sum(other as i64) as isize
+    }
+
+    fn clamped_add(self, other: isize) -> isize {
+        (self as i64).clamped_add(other as i64) as isize
+    }
+
+    fn clamped_sub(self, other: isize) -> isize {
+        (self as i64).clamped_sub(other as i64) as isize
+    }
+
+    fn clamped_mul(self, other: isize) -> isize {
+        (self as i64).clamped_mul(other as i64) as isize
     }
 
     ghost low_law = { record { lt = tt } };
