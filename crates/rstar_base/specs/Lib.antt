@@ -1,6 +1,7 @@
 pub mod Scalars
 pub mod Sizes
 pub mod Points
+pub mod Tuples
 pub mod Boxes
 pub mod BoxLaws
 pub mod BoxEq
