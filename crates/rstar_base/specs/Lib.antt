@@ -13,3 +13,5 @@ pub mod Elements
 pub mod Sums
 pub mod BoxData
 pub mod PointElements
+pub mod CarrierLaws
+pub mod Orders
