@@ -15,3 +15,4 @@ pub mod BoxData
 pub mod PointElements
 pub mod CarrierLaws
 pub mod Orders
+pub mod Selections
