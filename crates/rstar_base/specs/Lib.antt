@@ -1,6 +1,7 @@
 pub mod Scalars
 pub mod Sizes
 pub mod Points
+pub mod Tuples
 pub mod Boxes
 pub mod BoxLaws
 pub mod BoxEq
@@ -12,3 +13,6 @@ pub mod Elements
 pub mod Sums
 pub mod BoxData
 pub mod PointElements
+pub mod CarrierLaws
+pub mod Orders
+pub mod Selections
