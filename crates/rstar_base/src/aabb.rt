@@ -304,7 +304,8 @@ impl<P: Point> AABB<P> {
 }
 
 impl<P: Point> Envelope for AABB<P> {
-    ghost use Rattle.rstar_base.specs.BoxData.{box_data, box_laws};
+    ghost use Rattle.rstar_base.specs.BoxData.{box_data};
+    ghost use Rattle.rstar_base.specs.BoxEnvelopes.{box_laws};
     ghost use Rattle.rstar_base.specs.BoxEq.{box_eq};
 
     type Point = P;
