@@ -289,7 +289,7 @@ impl<P: Point> AABB<P> {
     pub fn distance_2(&self, point: &P) -> P::Scalar
         ensures { P.Scalar.value result ≡ pos (box_distance P.Scalar.high self.now (table P.DIMENSIONS (P.coord point.now))) }
     {
-        squared_distance(&self.lower, &self.upper, point)
+        Envelope::distance_2(self, point)
     }
 
     /// The least box that contains two points.
