@@ -1,9 +1,8 @@
 -- Clamped squares and sums.
-use Rattle.std.proofs.Common.{◌≡◌, ◌<ℤ◌, ◌≤ℤ◌, ◌+ℤ◌, ◌-ℤ◌, ◌*ℤ◌, ◌+◌, ◌*◌, ◌≤◌, ◌<◌, ℤ, ℕ, suc, zero, pos, negsuc, min, unsigned_abs, refl, ap, sym, ◌∙◌, arith}
-use Rattle.std.specs.Prelude.{int_lt, int_le, true, false}
+use Rattle.std.proofs.Common.{◌≡◌, ◌<ℤ◌, ◌+ℤ◌, ◌-ℤ◌, ◌*ℤ◌, ◌+◌, ◌*◌, ◌≤◌, ◌<◌, ℤ, ℕ, suc, zero, pos, min, unsigned_abs, refl, ap, sym, ◌∙◌, arith}
+use Rattle.std.specs.Int.{int_min, int_max}
 use Rattle.std.proofs.lemmas.Int.{ints, by_lt_z}
 use Rattle.num_traits.specs.Laws.{between}
-use Rattle.rstar_base.specs.Distances.{square_apart}
 
 -- a number that is not negative, clamped
 pub clamped_pos : (low high : ℤ) (m : ℕ) → low <ℤ pos 0 → pos 0 <ℤ high → between (pos m) low high ≡ pos (min m (unsigned_abs high))
@@ -49,8 +48,6 @@ square_law low high d r x h k e f =
     ∙ clamped_pos low high (min x (unsigned_abs high) * min x (unsigned_abs high)) h k
     ∙ ap pos (square_clamped x (unsigned_abs high) (omega (arith, ints)))
 
-pub apart_up : (low high a b : ℤ) → low <ℤ pos 0 → pos 0 <ℤ high → int_le a b ≡ true → between (b -ℤ a) low high ≡ pos (min (unsigned_abs (b -ℤ a)) (unsigned_abs high))
-apart_up low high a b h k l = grind (arith, ints)
-
-pub apart_down : (low high a b : ℤ) → low <ℤ pos 0 → pos 0 <ℤ high → int_le a b ≡ false → between (a -ℤ b) low high ≡ pos (min (unsigned_abs (b -ℤ a)) (unsigned_abs high))
-apart_down low high a b h k l = grind (arith, ints)
+pub apart_law : (low high a b x y d : ℤ) → low <ℤ pos 0 → pos 0 <ℤ high → x ≡ int_max a b → y ≡ int_min a b → d ≡ between (x -ℤ y) low high
+    → d ≡ pos (min (unsigned_abs (b -ℤ a)) (unsigned_abs high))
+apart_law low high a b x y d h k e f g = grind (arith, ints)
