@@ -71,9 +71,9 @@ module _ {T E : Type 0} {IsPoint : List ℤ → Type 0} {v : Boxes E} {o : Objec
       let vt : v.IsValue (o.box_of t) = ok t all.0.0 in
       let vm : v.IsValue (hull v o.box_of ts) = hull-value laws o.box_of ts (values-of laws ok ts all.1) in
       let forward : v.merge a (v.merge (o.box_of t) (hull v o.box_of ts)) ≡ v.merge (o.box_of t) (v.merge a (hull v o.box_of ts)) =
-          sym (laws.merge_assoc a (o.box_of t) _ va vt vm)
-          ∙ ap (λ e. v.merge e (hull v o.box_of ts)) (laws.merge_comm a (o.box_of t) va vt)
-          ∙ laws.merge_assoc (o.box_of t) a _ vt va vm in
+      sym (laws.merge_assoc a (o.box_of t) _ va vt vm)
+      ∙ ap (λ e. v.merge e (hull v o.box_of ts)) (laws.merge_comm a (o.box_of t) va vt)
+      ∙ laws.merge_assoc (o.box_of t) a _ vt va vm in
       by_test (selects t) (λ (is : selects t ≡ true). lawful t (v.merge a (hull v o.box_of ts)) all.0.0 (laws.merge_value _ _ va vm) is all.0.1)
       (ap accepts (sym forward) ∙ refused)
       (none-selected ts (v.merge a (o.box_of t)) all.1 (laws.merge_value _ _ va vt)

@@ -3,3 +3,4 @@ pub mod Trees
 pub mod Counts
 pub mod Walks
 pub mod Complete
+pub mod Chains

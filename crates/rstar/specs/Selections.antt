@@ -85,18 +85,25 @@ opened_by it = it.opened
 abbrev pub slices_of : {T F E P S X : Type 0} → SelectionIterator T F E P S X → List (Bor (List (RTreeNode T E P S X)))
 slices_of it = it.path.items ++ it.nodes ∷ []
 
+-- what its slices give, and that they are on their way
+abbrev pub given_by : {T F E P S X : Type 0} → (F → E → Bool) → (F → T → Bool) → SelectionIterator T F E P S X → List T
+given_by accepts selects it = given_from_slices (accepts (question_of it)) (selects (question_of it)) (slices_of it)
+
+abbrev pub HasItsWay : {T F E P S X : Type 0} → (F → E → Bool) → SelectionIterator T F E P S X → Type 0
+HasItsWay accepts it = IsUnderWay (accepts (question_of it)) (root_walked it) (slices_of it) (vec_capacity it.path) (opened_by it)
+
 -- the elements that it still gives, in order
-abbrev pub to_come : {T F E P S X : Type 0} → (F → E → Bool) → (F → T → Bool) → SelectionIterator T F E P S X → List T
-to_come accepts selects it = given_from_slices (accepts (question_of it)) (selects (question_of it)) (slices_of it)
+unfoldable pub to_come : {T F E P S X : Type 0} → (F → E → Bool) → (F → T → Bool) → SelectionIterator T F E P S X → List T
+to_come accepts selects it = given_by accepts selects it
 
 -- what it keeps, so that `next` may be called
-abbrev pub IsWalking : {T F E P S X : Type 0} → (F → E → Bool) → SelectionIterator T F E P S X → Type 0
-IsWalking accepts it = IsUnderWay (accepts (question_of it)) (root_walked it) (slices_of it) (vec_capacity it.path) (opened_by it)
+unfoldable pub IsWalking : {T F E P S X : Type 0} → (F → E → Bool) → SelectionIterator T F E P S X → Type 0
+IsWalking accepts it = HasItsWay accepts it
 
--- a call of `next` gives the first of what is to come, of the same root and question; at the end all that is reached was opened, and never more
+-- a call of `next` gives the first of what is to come, of the same root and question, and another may follow; at the end all that is reached was opened, and never more
 pub record GivesNext {T F E P S X : Type 0} (accepts : F → E → Bool) (selects : F → T → Bool)
     (old : SelectionIterator T F E P S X) (r : Option (Bor T)) (new : SelectionIterator T F E P S X) : Type 0 where
-  pub gives : YieldsFirstRef (λ (it : SelectionIterator T F E P S X). to_come accepts selects it) old r new
+  pub gives : YieldsFirstRef (to_come accepts selects) old r new
   pub root : root_walked new ≡ root_walked old
   pub question : question_of new ≡ question_of old
   pub walking : IsWalking accepts new

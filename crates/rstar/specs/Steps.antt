@@ -6,7 +6,7 @@ use Rattle.rstar.specs.declared.iterators.SelectionIterator.{SelectionIterator}
 use Rattle.rstar.specs.declared.iterators.Step.{Step}
 use Rattle.rstar.specs.declared.iterators.Step.TheVariants.{Found, Passed, Ended}
 use Rattle.rstar.specs.Nodes.{total, fold_tree}
-use Rattle.rstar.specs.Selections.{reach_from_slices, root_walked, question_of, slices_of, to_come, IsWalking}
+use Rattle.rstar.specs.Selections.{reach_from_slices, root_walked, question_of, slices_of, given_by, HasItsWay}
 
 -- how many steps a node takes: a leaf one, a parent two and its children's
 unfoldable pub steps : {T E P S X : Type 0} → RTreeNode T E P S X → ℕ
@@ -38,9 +38,9 @@ IsOver Ended left = left ≡ 0
 -- a step keeps the walk, its root and its question, and goes on
 pub record IsStep {T F E P S X : Type 0} (accepts : F → E → Bool) (selects : F → T → Bool)
     (old : SelectionIterator T F E P S X) (r : Step T) (new : SelectionIterator T F E P S X) : Type 0 where
-  pub walking : IsWalking accepts new
+  pub walking : HasItsWay accepts new
   pub root : root_walked new ≡ root_walked old
   pub question : question_of new ≡ question_of old
-  pub given : IsGiven (to_come accepts selects old) r (to_come accepts selects new)
+  pub given : IsGiven (given_by accepts selects old) r (given_by accepts selects new)
   pub nearer : IsNearer (steps_of (slices_of old)) r (steps_of (slices_of new))
   pub over : IsOver r (reach_from_slices (accepts (question_of new)) (slices_of new))

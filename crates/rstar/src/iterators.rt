@@ -4,7 +4,7 @@ ghost use Rattle.std.specs.Prelude.{◌≡◌, ◌≢◌, ◌≤◌, ℕ, [], If
 ghost use Rattle.std.specs.List.{AllByRecursion};
 ghost use Rattle.std.specs.Iterator.{item_count};
 ghost use Rattle.rstar.specs.Nodes.{children_of, IsWhole};
-ghost use Rattle.rstar.specs.Selections.{given_from_root, root_walked, question_of, opened_by, to_come, IsLevel, IsWalking, GivesNext};
+ghost use Rattle.rstar.specs.Selections.{given_from_root, root_walked, question_of, opened_by, to_come, IsLevel, HasItsWay, IsWalking, GivesNext};
 ghost use Rattle.rstar.specs.Steps.{IsStep};
 
 use crate::node::{ParentNode, RTreeNode};
@@ -65,6 +65,7 @@ fn empty_path<'a, T: RTreeObject>(
 
 impl<'a, T: RTreeObject, Func: SelectionFunction<T>> SelectionIterator<'a, T, Func> {
     /// A selection below a root.
+    #[tactic(auto, unfolding(crate::specs::Selections::to_come, crate::specs::Selections::IsWalking))]
     pub(crate) fn new(root: &'a ParentNode<T>, func: Func) -> Result<Self, AllocError>
         requires { IsWhole T.Envelope.boxes T.object root.now }
         ensures gives { IfOk result (λ it. to_come Func.accepts Func.selects it ≡ given_from_root (Func.accepts func) (Func.selects func) root.now) }
@@ -100,7 +101,7 @@ impl<'a, T: RTreeObject, Func: SelectionFunction<T>> SelectionIterator<'a, T, Fu
 
     /// Reads one node, or goes back to the nodes that were left last.
     fn step(&mut self) -> Step<'a, T>
-        requires { IsWalking Func.accepts self.old }
+        requires { HasItsWay Func.accepts self.old }
         ensures { IsStep Func.accepts Func.selects self.old result self.new }
     {
         let Some((first, rest)) = self.nodes.split_first() else {
@@ -140,8 +141,9 @@ impl<'a, T: RTreeObject, Func: SelectionFunction<T>> Iterator for SelectionItera
 
     ghost next_gives = { GivesNext Func.accepts Func.selects };
 
-    ghost remaining = { item_count (λ it. to_come Func.accepts Func.selects it) };
+    ghost remaining = { item_count (to_come Func.accepts Func.selects) };
 
+    #[tactic(auto, unfolding(crate::specs::Selections::to_come, crate::specs::Selections::IsWalking))]
     fn next(&mut self) -> Option<&'a T> {
         loop {
             match self.step() {

@@ -1,7 +1,7 @@
 //! The calls at concrete types: points, an element type of one's own, and a generic caller.
 
-ghost use Rattle.std.specs.Prelude.{◌≡◌, ◌≤◌, false, IfOk};
-ghost use Rattle.rstar.specs.Trees.{IsWholeTree};
+ghost use Rattle.std.specs.Prelude.{◌≡◌, ◌∷◌, ◌≤◌, List, [], false, map, filter, IfOk, MatchOption};
+ghost use Rattle.rstar.specs.Trees.{IsWholeTree, elements_in};
 
 use crate::rtree::{InsertCause, InsertError, RTree};
 use rstar_base::aabb::AABB;
@@ -9,7 +9,7 @@ use rstar_base::envelope::Envelope;
 use rstar_base::object::RTreeObject;
 use rstar_base::point::Point;
 use rstar_base::primitives::Rectangle;
-use std::alloc::Global;
+use std::alloc::{AllocError, Global};
 
 /// An element type of one's own.
 #[derive(Drop)]
@@ -62,6 +62,53 @@ fn no_boxes(alloc: Global) -> usize {
     tree.size()
 }
 
+/// All elements, by a `collect`.
+fn listed<'a, T: RTreeObject>(alloc: Global, tree: &'a RTree<T>) -> Result<Vec<&'a T>, AllocError>
+    requires { IsWholeTree T.Envelope.boxes T.object tree.now }
+    ensures { IfOk result (λ v. map (λ r. r.now) v.items ≡ elements_in tree.now) }
+{
+    tree.iter()?.collect(alloc)
+}
+
+/// The elements inside an envelope, by a `for`.
+fn inside<'a, T: RTreeObject>(
+    alloc: Global,
+    tree: &'a RTree<T>,
+    envelope: T::Envelope,
+) -> Result<Vec<&'a T>, AllocError>
+    requires { IsWholeTree T.Envelope.boxes T.object tree.now }
+    ensures { IfOk result (λ v. map (λ r. r.now) v.items ≡ filter (λ t. T.Envelope.boxes.contains envelope (T.object.box_of t)) (elements_in tree.now)) }
+{
+    let mut all = Vec::new(alloc);
+    for t in tree.locate_in_envelope(envelope)? {
+        all.push(t)?;
+    }
+    Ok(all)
+}
+
+/// The first element inside an envelope that a `next` gives.
+fn first_inside<T: RTreeObject>(
+    tree: &RTree<T>,
+    envelope: T::Envelope,
+) -> Result<Option<&T>, AllocError>
+    requires { IsWholeTree T.Envelope.boxes T.object tree.now }
+    ensures { IfOk result (λ o. MatchOption o
+        (filter (λ t. T.Envelope.boxes.contains envelope (T.object.box_of t)) (elements_in tree.now) ≡ [])
+        (λ t. (rest : List T) × (filter (λ u. T.Envelope.boxes.contains envelope (T.object.box_of u)) (elements_in tree.now) ≡ t.now ∷ rest))) }
+{
+    Ok(tree.locate_in_envelope(envelope)?.next())
+}
+
+fn sum_of_ids(tree: &RTree<Place>) -> Result<u64, AllocError>
+    requires { IsWholeTree ⟦<AABB<[i64; 2]> as Envelope>⟧.boxes ⟦<Place as RTreeObject>⟧.object tree.now }
+{
+    let mut sum = 0u64;
+    for place in tree.locate_in_envelope(AABB::from_corners([0, 0], [9, 9]))? {
+        sum = sum.wrapping_add(place.id);
+    }
+    Ok(sum)
+}
+
 #[test]
 fn sizes(rt: HostRuntime) {
     assert_eq!(rt; no_boxes(rt.alloc()), 0);
@@ -72,6 +119,12 @@ fn sizes(rt: HostRuntime) {
         Ok(tree) => {
             assert_eq!(rt; tree.size(), 2);
             assert_eq!(rt; tree.root().children().len(), 2);
+            let all = listed(rt.alloc(), &tree).expect(&rt, "memory");
+            assert_eq!(rt; all.len(), 2);
+            let near = inside(rt.alloc(), &tree, AABB::from_corners([0, 0], [1, 2])).expect(
+                &rt, "memory",
+            );
+            assert_eq!(rt; near.len(), 1);
         }
         Err(_) => assert!(rt; false),
     }

@@ -2,23 +2,25 @@ use Rattle.std.proofs.Common.{◌≡◌, ◌∙◌, sym, ap, refl, ◌≢◌, []
 use Rattle.std.specs.Prelude.{⊤}
 use Rattle.std.specs.List.{AllByRecursion}
 use Rattle.rstar.specs.Nodes.{children_of, envelope_of, IsInner, IsElement}
-use Rattle.rstar.specs.Selections.{IsLevel, reach_from_root, reach_below}
+use Rattle.rstar.specs.Selections.{IsLevel, IsWalking, reach_from_root, reach_below}
 use Rattle.rstar_base.proofs.Lists.{all_map}
 use Rattle.rstar.proofs.Walks.{tree-weaker, way-none, way-start, reach-refused, no-items, some-items}
 use Rattle.rstar.proofs.iterators.SelectionIterator.new.Goals as goal
 use Rattle.rstar.proofs.iterators.SelectionIterator.new.Goals.{then-is_empty-via-then-is_empty, then-is_empty-via-else-is_empty+then-not-should_unpack_parent}
 
 pub returns-then-is_empty-clause-walking : goal.returns-then-is_empty-clause-walking
+unfolding IsWalking
 returns-then-is_empty-clause-walking g c =
     let accepts = g.Func.SelectionFunction.accepts c.args.func in
     let root = c.args.root.now in
     let nothing : reach_from_root accepts root ≡ 0 = elim c.then-is_empty.branch [
-      then-is_empty-via-then-is_empty w ↦ ap (reach_below accepts (envelope_of root)) (no-items (children_of root) _ _ c.is_empty.ensures w.if-is_empty.true root.children.ok.0)
-    | then-is_empty-via-else-is_empty+then-not-should_unpack_parent w ↦ reach-refused accepts (envelope_of root) (children_of root) (sym w.should_unpack_parent.ensures ∙ w.if-not-should_unpack_parent.true)
+      | then-is_empty-via-then-is_empty w ↦ ap (reach_below accepts (envelope_of root)) (no-items (children_of root) _ _ c.is_empty.ensures w.if-is_empty.true root.children.ok.0)
+      | then-is_empty-via-else-is_empty+then-not-should_unpack_parent w ↦ reach-refused accepts (envelope_of root) (children_of root) (sym w.should_unpack_parent.ensures ∙ w.if-not-should_unpack_parent.true)
     ] in
     way-none accepts root c.in_ok-path.path.items _ _ c.in_ok-path.ensures.empty refl nothing
 
 pub returns-clause-walking : goal.returns-clause-walking
+unfolding IsWalking
 returns-clause-walking g c =
     let accepts = g.Func.SelectionFunction.accepts c.args.func in
     let v = g.T.Envelope.Envelope.boxes in

@@ -9,7 +9,7 @@ returns-in_default g c =
     let selects = g.Func.SelectionFunction.selects c.args.self.now.func in
     let none = nil-length c.args.self.now.nodes.now c.in_default.ensures.cases in
     let dropped : IsDropped (slices_of c.args.self.now) (c.pop.new.self.items ++ c.in-Some-pop.above ∷ []) =
-        record { nodes = c.args.self.now.nodes; is = ap (λ l. l ++ c.args.self.now.nodes ∷ []) c.in-Some-pop.ensures.items; none = none } in
+    record { nodes = c.args.self.now.nodes; is = ap (λ l. l ++ c.args.self.now.nodes ∷ []) c.in-Some-pop.ensures.items; none = none } in
     record {
       walking = way-drop accepts c.args.self.now.root.now dropped c.in-Some-pop.ensures.capacity c.requires;
       root = refl;
@@ -23,7 +23,7 @@ pub push_reserved-requires : goal.push_reserved-requires
 push_reserved-requires g c =
     let accepts = g.Func.SelectionFunction.accepts c.args.self.now.func in
     let taken : IsTaken (slices_of c.args.self.now) (c.args.self.now.path.items ++ c.in-Some.rest ∷ []) c.in-Some.first.now =
-        record { left = c.args.self.now.path.items; nodes = c.args.self.now.nodes; rest = c.in-Some.rest; is = refl; first = c.in-Some.ensures.cases.0; more = refl } in
+    record { left = c.args.self.now.path.items; nodes = c.args.self.now.nodes; rest = c.in-Some.rest; is = refl; first = c.in-Some.ensures.cases.0; more = refl } in
     let room = room-opened accepts c.args.self.now.root.now c.in-Parent.parent taken c.in-Parent.is c.requires in
     let long = length-append c.args.self.now.path.items (c.in-Some.rest ∷ []) in
     let same = c.args.self.now.path.ok.0 in
@@ -34,7 +34,7 @@ returns-then-should_unpack_leaf g c =
     let accepts = g.Func.SelectionFunction.accepts c.args.self.now.func in
     let selects = g.Func.SelectionFunction.selects c.args.self.now.func in
     let taken : IsTaken (slices_of c.args.self.now) (c.args.self.now.path.items ++ c.in-Some.rest ∷ []) c.in-Some.first.now =
-        record { left = c.args.self.now.path.items; nodes = c.args.self.now.nodes; rest = c.in-Some.rest; is = refl; first = c.in-Some.ensures.cases.0; more = refl } in
+    record { left = c.args.self.now.path.items; nodes = c.args.self.now.nodes; rest = c.in-Some.rest; is = refl; first = c.in-Some.ensures.cases.0; more = refl } in
     record {
       walking = way-take accepts c.args.self.now.root.now taken (reach-leaf accepts c.in-Leaf.t c.in-Leaf.is) c.requires;
       root = refl;
@@ -49,7 +49,7 @@ returns-else-should_unpack_leaf g c =
     let accepts = g.Func.SelectionFunction.accepts c.args.self.now.func in
     let selects = g.Func.SelectionFunction.selects c.args.self.now.func in
     let taken : IsTaken (slices_of c.args.self.now) (c.args.self.now.path.items ++ c.in-Some.rest ∷ []) c.in-Some.first.now =
-        record { left = c.args.self.now.path.items; nodes = c.args.self.now.nodes; rest = c.in-Some.rest; is = refl; first = c.in-Some.ensures.cases.0; more = refl } in
+    record { left = c.args.self.now.path.items; nodes = c.args.self.now.nodes; rest = c.in-Some.rest; is = refl; first = c.in-Some.ensures.cases.0; more = refl } in
     record {
       walking = way-take accepts c.args.self.now.root.now taken (reach-leaf accepts c.in-Leaf.t c.in-Leaf.is) c.requires;
       root = refl;
@@ -64,7 +64,7 @@ returns-then-should_unpack_parent g c =
     let accepts = g.Func.SelectionFunction.accepts c.args.self.now.func in
     let selects = g.Func.SelectionFunction.selects c.args.self.now.func in
     let taken : IsTaken (slices_of c.args.self.now) (c.args.self.now.path.items ++ c.in-Some.rest ∷ []) c.in-Some.first.now =
-        record { left = c.args.self.now.path.items; nodes = c.args.self.now.nodes; rest = c.in-Some.rest; is = refl; first = c.in-Some.ensures.cases.0; more = refl } in
+    record { left = c.args.self.now.path.items; nodes = c.args.self.now.nodes; rest = c.in-Some.rest; is = refl; first = c.in-Some.ensures.cases.0; more = refl } in
     let accepted = sym c.should_unpack_parent.ensures ∙ c.if-should_unpack_parent.true in
     let more = ap (λ l. l ++ c.as_slice-self.result ∷ []) c.push_reserved.ensures.items in
     record {
@@ -81,7 +81,7 @@ returns-else-should_unpack_parent g c =
     let accepts = g.Func.SelectionFunction.accepts c.args.self.now.func in
     let selects = g.Func.SelectionFunction.selects c.args.self.now.func in
     let taken : IsTaken (slices_of c.args.self.now) (c.args.self.now.path.items ++ c.in-Some.rest ∷ []) c.in-Some.first.now =
-        record { left = c.args.self.now.path.items; nodes = c.args.self.now.nodes; rest = c.in-Some.rest; is = refl; first = c.in-Some.ensures.cases.0; more = refl } in
+    record { left = c.args.self.now.path.items; nodes = c.args.self.now.nodes; rest = c.in-Some.rest; is = refl; first = c.in-Some.ensures.cases.0; more = refl } in
     let refused = sym c.should_unpack_parent.ensures ∙ c.if-should_unpack_parent.false in
     record {
       walking = way-take accepts c.args.self.now.root.now taken (reach-passed accepts c.in-Parent.parent c.in-Parent.is refused) c.requires;

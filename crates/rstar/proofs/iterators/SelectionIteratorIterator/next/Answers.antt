@@ -1,8 +1,10 @@
-use Rattle.std.proofs.Common.{◌≡◌, ◌∙◌, ap, sym, arith}
+use Rattle.std.proofs.Common.{◌≡◌, ◌∙◌}
+use Rattle.rstar.specs.Selections.{IsWalking, to_come}
 use Rattle.rstar.proofs.Walks.{way-ended, way-at_most}
 use Rattle.rstar.proofs.iterators.SelectionIteratorIterator.next.Goals as goal
 
 pub returns-in-Ended-clause-steps : goal.returns-in-Ended-clause-steps
+unfolding IsWalking to_come
 returns-in-Ended-clause-steps g c =
     let accepts = g.Func.SelectionFunction.accepts in
     let root = c.in-Ended.ensures.root ∙ c.loop-t.invariant.root in

@@ -1,0 +1,20 @@
+-- Chains of calls that begin at a selection: the list that it gives.
+use Rattle.std.proofs.Common.{◌≡◌, List, Bool, [], ◌∷◌, length, map, ap, subst, refl, None}
+use Rattle.std.specs.Borrow.{Bor}
+use Rattle.std.specs.Iterator.{Yields}
+use Rattle.std.proofs.lemmas.Iterator.{YieldsList}
+use Rattle.std.proofs.lemmas.Iterator.Consumers.{YieldsList-from_shown, YieldsList-end}
+use Rattle.rstar.specs.declared.iterators.SelectionIterator.{SelectionIterator}
+use Rattle.rstar.specs.Selections.{to_come, GivesNext}
+
+pub selection_list : {T F E P S X : Type 0} {accepts : F → E → Bool} {selects : F → T → Bool} {it : SelectionIterator T F E P S X} (xs : List T)
+    → to_come accepts selects it ≡ xs → YieldsList (GivesNext accepts selects) (λ (x : Bor T). x.now) it xs
+selection_list {T} {F} {E} {P} {S} {X} {accepts} {selects} {it} xs e =
+    subst (YieldsList (GivesNext accepts selects) (λ (x : Bor T). x.now) it) e
+    (YieldsList-from_shown (GivesNext accepts selects) (λ (x : Bor T). x.now) (to_come accepts selects) (λ s t h. ap length h.gives.0) (λ s x t h. h.gives) it)
+
+-- at the end of a `for` over a selection, whose items so far are ys
+pub selection_end : {T F E P S X : Type 0} {accepts : F → E → Bool} {selects : F → T → Bool} (it : SelectionIterator T F E P S X) (xs : List T)
+    → to_come accepts selects it ≡ xs → (ys : List (Bor T)) (t : SelectionIterator T F E P S X) → Yields (GivesNext accepts selects) it ys t
+    → (u : SelectionIterator T F E P S X) → GivesNext accepts selects t None u → map (λ (x : Bor T). x.now) ys ≡ xs
+selection_end it xs e ys t y u last = (YieldsList-end (selection_list {it = it} xs e) ys t y None u refl last).0
