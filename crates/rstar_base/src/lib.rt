@@ -9,3 +9,5 @@ pub mod object;
 mod places;
 pub mod point;
 pub mod primitives;
+#[cfg(test)]
+mod tests;
