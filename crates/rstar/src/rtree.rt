@@ -1,16 +1,22 @@
 //! The tree.
 
-ghost use Rattle.std.specs.Prelude.{◌≡◌, ◌↔◌, ◌∷◌, ◌≤◌, [], false, length, OnOk, OnErr, IfErr};
+ghost use Rattle.std.specs.Prelude.{◌≡◌, ◌↔◌, ◌∷◌, ◌≤◌, [], false, length, OnOk, OnErr, IfOk, IfErr, filter};
 ghost use Rattle.std.specs.Result.{IsErrAnd};
 ghost use Rattle.std.specs.List.Sorted.{IsPermutation};
+ghost use Rattle.rstar_base.specs.Selections.{IsLawful};
+ghost use Rattle.rstar.specs.Selections.{IsPartOf, to_come, IsWalking, root_walked, question_of};
 ghost use Rattle.rstar.specs.Trees.{root_of, size_of, elements_in, IsUnchanged, IsWholeTree};
 
+use crate::iterators::{LocateInEnvelope, RTreeIterator, SelectionIterator};
 use crate::node::{ParentNode, add_leaf};
+use rstar_base::algorithm::selection_functions::{
+    SelectAllFunc, SelectInEnvelopeFunction, SelectionFunction,
+};
 use rstar_base::envelope::Envelope;
 use rstar_base::object::RTreeObject;
 use rstar_base::params::{DefaultParams, RTreeParams};
 use rstar_base::point::Point;
-use std::alloc::Global;
+use std::alloc::{AllocError, Global};
 use std::marker::PhantomData;
 
 /// An index of elements by their envelopes.
@@ -76,6 +82,46 @@ impl<T: RTreeObject, Params: RTreeParams> RTree<T, Params> {
         ensures counted { IsWholeTree T.Envelope.boxes T.object self.now → result ≡ length (elements_in self.now) }
     {
         self.size
+    }
+
+    /// All elements, in some order.
+    pub fn iter(&self) -> Result<RTreeIterator<'_, T>, AllocError>
+        requires { IsWholeTree T.Envelope.boxes T.object self.now }
+        ensures all { IfOk result (λ it. to_come ⟦<SelectAllFunc as SelectionFunction<T>>⟧.accepts ⟦<SelectAllFunc as SelectionFunction<T>>⟧.selects it ≡ elements_in self.now) }
+        ensures walking { IfOk result (λ it. IsWalking ⟦<SelectAllFunc as SelectionFunction<T>>⟧.accepts it) }
+        ensures root { IfOk result (λ it. root_walked it ≡ root_of self.now) }
+    {
+        self.locate_with_selection_function(SelectAllFunc)
+    }
+
+    /// The elements whose envelopes an envelope contains, in some order. Its borders belong to it.
+    pub fn locate_in_envelope(
+        &self,
+        envelope: T::Envelope,
+    ) -> Result<LocateInEnvelope<'_, T>, AllocError>
+        requires { IsWholeTree T.Envelope.boxes T.object self.now }
+        ensures all { IfOk result (λ it. to_come ⟦<SelectInEnvelopeFunction<T> as SelectionFunction<T>>⟧.accepts ⟦<SelectInEnvelopeFunction<T> as SelectionFunction<T>>⟧.selects it
+            ≡ filter (λ t. T.Envelope.boxes.contains envelope (T.object.box_of t)) (elements_in self.now)) }
+        ensures walking { IfOk result (λ it. IsWalking ⟦<SelectInEnvelopeFunction<T> as SelectionFunction<T>>⟧.accepts it) }
+        ensures root { IfOk result (λ it. root_walked it ≡ root_of self.now) }
+    {
+        self.locate_with_selection_function(SelectInEnvelopeFunction::new(envelope))
+    }
+
+    /// The elements that a function selects, in some order. A function that is not lawful may miss some.
+    pub fn locate_with_selection_function<Func: SelectionFunction<T>>(
+        &self,
+        func: Func,
+    ) -> Result<SelectionIterator<'_, T, Func>, AllocError>
+        requires { IsWholeTree T.Envelope.boxes T.object self.now }
+        ensures all { IfOk result (λ it. IsLawful T.Envelope.boxes T.object (Func.accepts func) (Func.selects func)
+            → to_come Func.accepts Func.selects it ≡ filter (Func.selects func) (elements_in self.now)) }
+        ensures part { IfOk result (λ it. IsPartOf (to_come Func.accepts Func.selects it) (filter (Func.selects func) (elements_in self.now))) }
+        ensures walking { IfOk result (λ it. IsWalking Func.accepts it) }
+        ensures root { IfOk result (λ it. root_walked it ≡ root_of self.now) }
+        ensures question { IfOk result (λ it. question_of it ≡ func) }
+    {
+        SelectionIterator::new(&self.root, func)
     }
 
     /// Adds an element, whose envelope is not empty. Equal elements may be added, and are counted.
