@@ -1,7 +1,8 @@
 //! The rectangles that commands work on.
 
-ghost use Rattle.std.specs.Prelude.{◌≡◌, [], ◌∷◌, length, OnOk, OnErr, IfOk};
+ghost use Rattle.std.specs.Prelude.{◌≡◌, [], ◌∷◌, filter, length, map, OnOk, OnErr, IfOk};
 ghost use Rattle.std.specs.List.Sorted.{IsPermutation};
+ghost use Rattle.rstar.specs.Trees.{elements_in, IsWholeTree};
 ghost use Rattle.rstar_run.specs.Answers.{box_between, Lists, lies_in};
 
 use super::command::Corners;
@@ -12,6 +13,26 @@ use std::marker::Model;
 
 /// A rectangle with its ID.
 pub type Item = GeomWithData<Rectangle<[i64; 2]>, u64>;
+
+/// The payloads of the elements in an envelope, in some order.
+///
+/// It stands for any geometry and payload, since at rectangles the borrow checker does not cover the
+/// iterator that it reads.
+fn payloads_in<G: RTreeObject, D: Copy + Drop>(
+    alloc: Global,
+    tree: &RTree<GeomWithData<G, D>>,
+    envelope: G::Envelope,
+) -> Result<Vec<D>, AllocError>
+    requires { IsWholeTree G.Envelope.boxes ⟦<GeomWithData<G, D> as RTreeObject>⟧.object tree.now }
+    ensures { IfOk result (λ found. found.items
+        ≡ map (λ t. t.1) (filter (λ t. G.Envelope.boxes.contains envelope (G.object.box_of t.0)) (elements_in tree.now))) }
+{
+    let mut found = Vec::new(alloc);
+    for item in tree.locate_in_envelope(envelope)? {
+        found.push(item.data)?;
+    }
+    Ok(found)
+}
 
 /// Rectangles with IDs, in a tree.
 #[derive(Drop)]
@@ -54,8 +75,10 @@ impl Store {
     pub fn ids_in(&self, alloc: Global, corners: &Corners) -> Result<Vec<u64>, AllocError>
         ensures { IfOk result (λ ids. Lists (lies_in (box_between corners.now)) self.now ids.items) }
     {
-        let _box = AABB::from_corners(corners.one, corners.other);
-        Ok(Vec::new(alloc))
+        let outer = AABB::from_corners(corners.one, corners.other);
+        let mut ids = payloads_in(alloc, &self.tree, outer)?;
+        ids.sort_unstable();
+        Ok(ids)
     }
 
     /// The number of rectangles.

@@ -24,7 +24,10 @@ fn answers_lines(rt: HostRuntime) {
         (b"", ""),
         (b"insert 7 0 0 2 2\nin 0 0 2 2\nsize\n", "ok\n7\n1\n"),
         // Equal rectangles and IDs count as often as they were inserted.
-        (b"insert 7 0 0 2 2\ninsert 7 0 0 2 2\nin 0 0 2 2\nsize\n", "ok\nok\n7 7\n2\n"),
+        (
+            b"insert 7 0 0 2 2\ninsert 7 0 0 2 2\nin 0 0 2 2\nsize\n",
+            "ok\nok\n7 7\n2\n",
+        ),
         (b"in 5 5 4 4\n", "-\n"),
         // IDs ascend; what lies partly or wholly outside is left out.
         (
@@ -139,14 +142,32 @@ impl Read for Failing<'_> {
 #[test]
 fn stops_at_a_failed_read(rt: HostRuntime) {
     for (bytes, kind, want, status) in [
-        (b"".as_slice(), ErrorKind::PermissionDenied, "error: input\n", 4),
-        (b"size\nsize\n", ErrorKind::PermissionDenied, "0\n0\nerror: input\n", 4),
+        (
+            b"".as_slice(),
+            ErrorKind::PermissionDenied,
+            "error: input\n",
+            4,
+        ),
+        (
+            b"size\nsize\n",
+            ErrorKind::PermissionDenied,
+            "0\n0\nerror: input\n",
+            4,
+        ),
         // The part of a line before the failure is no line.
-        (b"size\nsize", ErrorKind::UnexpectedEof, "0\nerror: input\n", 4),
+        (
+            b"size\nsize",
+            ErrorKind::UnexpectedEof,
+            "0\nerror: input\n",
+            4,
+        ),
         (b"size\n", ErrorKind::OutOfMemory, "0\nerror: memory\n", 3),
     ] {
         let mut taken = Cursor::new([0u8; 256]);
-        assert_eq!(rt; run(rt.alloc(), Failing { bytes, kind }, &mut taken), status);
+        assert_eq!(rt;
+            run(rt.alloc(), Failing { bytes, kind }, &mut taken),
+            status
+        );
         expect_written(&rt, &taken, want, bytes);
     }
 }
