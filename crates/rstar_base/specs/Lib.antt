@@ -7,11 +7,13 @@ pub mod BoxLaws
 pub mod BoxEq
 pub mod Hulls
 pub mod Distances
+pub mod DistanceLaws
 pub mod Measures
 pub mod Envelopes
 pub mod Elements
 pub mod Sums
 pub mod BoxData
+pub mod BoxEnvelopes
 pub mod PointElements
 pub mod CarrierLaws
 pub mod Orders

@@ -6,10 +6,12 @@ use Rattle.std.specs.Int.{int_min, int_max}
 abbrev pub extent : ℤ × ℤ → ℕ
 extent x = unsigned_abs (int_max (pos 0) (x.1 -ℤ x.0))
 
+-- the extents of all axes, multiplied; with no axis 1
 abbrev pub extent_product : List (ℤ × ℤ) → ℕ
 extent_product [] = 1
 extent_product (x ∷ xs) = extent x * extent_product xs
 
+-- the extents of all axes, added up
 abbrev pub extent_sum : List (ℤ × ℤ) → ℕ
 extent_sum [] = 0
 extent_sum (x ∷ xs) = extent x + extent_sum xs

@@ -289,7 +289,7 @@ impl<P: Point> AABB<P> {
     pub fn distance_2(&self, point: &P) -> P::Scalar
         ensures { P.Scalar.value result ≡ pos (box_distance P.Scalar.high self.now (table P.DIMENSIONS (P.coord point.now))) }
     {
-        squared_distance(&self.lower, &self.upper, point)
+        Envelope::distance_2(self, point)
     }
 
     /// The least box that contains two points.
@@ -304,7 +304,8 @@ impl<P: Point> AABB<P> {
 }
 
 impl<P: Point> Envelope for AABB<P> {
-    ghost use Rattle.rstar_base.specs.BoxData.{box_data, box_laws};
+    ghost use Rattle.rstar_base.specs.BoxData.{box_data};
+    ghost use Rattle.rstar_base.specs.BoxEnvelopes.{box_laws};
     ghost use Rattle.rstar_base.specs.BoxEq.{box_eq};
 
     type Point = P;

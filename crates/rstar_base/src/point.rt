@@ -103,7 +103,7 @@ pub trait RTreeNum: Bounded
     ghost narrow: { IsNarrow Self.row };
 }
 
-/// Whether `a <= b`.
+/// Whether a scalar is at most another.
 pub fn not_above<S: RTreeNum>(a: S, b: S) -> bool
     ensures { result ≡ int_le (S.value a) (S.value b) }
 {

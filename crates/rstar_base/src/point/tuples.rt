@@ -59,9 +59,9 @@ impl<S: RTreeNum> Point for (S, S) {
     ghost with = { λ p i s. (after_write i s 0 p.0, after_write i s 1 p.1) };
 
     fn generate<F: FnMut(usize) -> S>(mut generator: F) -> (S, S) {
-        let a = generator(0);
-        let b = generator(1);
-        (a, b)
+        let x = generator(0);
+        let y = generator(1);
+        (x, y)
     }
 
     fn nth(&self, index: usize) -> S {

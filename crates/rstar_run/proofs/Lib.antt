@@ -1,0 +1,5 @@
+pub mod Numerals
+pub mod Pieces
+pub mod Commands
+pub mod Selections
+pub mod Ids

@@ -1,0 +1,59 @@
+-- Numbers that are read digit by digit.
+use Rattle.std.proofs.Common.{◌≡◌, ◌≢◌, ℕ, zero, suc, ◌+◌, ◌-◌, ◌*◌, ◌<◌, ◌≤◌, ◌^◌, Bool, true, false, List, [], ◌∷◌, length, get_or, take, drop, refl, ◌∙◌, sym, ap, arith, rules, cond, Option, Some, None, add-one, take_all}
+use Rattle.std.specs.Prelude.{◌&&◌, nat_lt, not, ◌==◌}
+use Rattle.std.specs.Char.{is_ascii_digit, digit_value}
+use Rattle.std.specs.Str.{all_ascii_digits}
+use Rattle.std.specs.Str.Parse.{digits_value}
+use Rattle.std.proofs.lemmas.Bool.Decides.{nat_tests}
+use Rattle.std.proofs.lemmas.Str.Parse.{digits_value-take-le}
+use Rattle.std.proofs.lemmas.Str.{digit_value_digit}
+use Rattle.std.proofs.lemmas.Int.Digits.{digits_value_more}
+use Rattle.rstar_run.specs.Numerals.{is_numeral, unsigned_of}
+
+and_false : (a : Bool) → (a && false) ≡ false
+and_false true = refl
+and_false false = refl
+
+-- a byte that is no digit
+digits-none : (bs : List ℕ) (i : ℕ) → i < length bs → is_ascii_digit (get_or bs i 0) ≡ false → all_ascii_digits bs ≡ false
+digits-none [] i h k = absurd (omega arith)
+digits-none (b ∷ bs) zero h k = ap (λ a. a && all_ascii_digits bs) k
+digits-none (b ∷ bs) (suc i) h k = ap (λ a. is_ascii_digit b && a) (digits-none bs i (omega arith) k) ∙ and_false (is_ascii_digit b)
+
+-- one more digit
+digits-suc : (bs : List ℕ) (i : ℕ) → i < length bs → all_ascii_digits (take i bs) ≡ true → is_ascii_digit (get_or bs i 0) ≡ true → all_ascii_digits (take (suc i) bs) ≡ true
+digits-suc [] i h k d = absurd (omega arith)
+digits-suc (b ∷ bs) zero h k d = ap (λ a. a && true) d
+digits-suc (b ∷ bs) (suc i) h k d = both (is_ascii_digit b) (all_ascii_digits (take i bs)) (all_ascii_digits (take (suc i) bs)) k (λ e. digits-suc bs i (omega arith) e d) where
+  both : (a p q : Bool) → (a && p) ≡ true → (p ≡ true → q ≡ true) → (a && q) ≡ true
+  both true p q h f = f h
+  both false p q h f = h
+
+pub digits-more : (bs : List ℕ) (i : ℕ) → i < length bs → all_ascii_digits (take i bs) ≡ true → is_ascii_digit (get_or bs i 0) ≡ true → all_ascii_digits (take (i + 1) bs) ≡ true
+digits-more bs i h k d = rw add-one (digits-suc bs i h k d)
+
+-- a byte that is a digit adds its value
+pub value-more : (bs : List ℕ) (i v : ℕ) → i < length bs → digits_value 10 (take i bs) ≡ v → is_ascii_digit (get_or bs i 0) ≡ true → digits_value 10 (take (i + 1) bs) ≡ v * 10 + (get_or bs i 0 - 48)
+value-more bs i v h e d =
+    let more = digits_value_more 10 bs i h in
+    let digit : digit_value (get_or bs i 0) + 48 ≡ get_or bs i 0 = digit_value_digit (get_or bs i 0) (grind (arith, nat_tests)) in
+    omega arith
+
+pub none-by_byte : (bs : List ℕ) (i : ℕ) → i < length bs → is_ascii_digit (get_or bs i 0) ≡ false → None ≡ unsigned_of bs
+none-by_byte bs i h k =
+    let no : all_ascii_digits bs ≡ false = digits-none bs i h k in
+    sym (rw (no, and_false (not (length bs == 0))) refl)
+
+pub none-by_size : (bs : List ℕ) (i : ℕ) → 2 ^ 64 ≤ digits_value 10 (take i bs) → None ≡ unsigned_of bs
+none-by_size bs i h =
+    let least : digits_value 10 (take i bs) ≤ digits_value 10 bs = digits_value-take-le 10 bs i (omega arith) in
+    let no : nat_lt (digits_value 10 bs) (2 ^ 64) ≡ false = grind (arith, nat_tests) in
+    sym (rw (no, and_false (is_numeral bs)) refl)
+
+pub some-value : (bs : List ℕ) (i v : ℕ) → length bs ≤ i → 0 < length bs → digits_value 10 (take i bs) ≡ v → all_ascii_digits (take i bs) ≡ true → v < 2 ^ 64 → Some v ≡ unsigned_of bs
+some-value bs i v all some e d small =
+    let e' : digits_value 10 bs ≡ v = rw (take_all i bs all) at e in
+    let d' : all_ascii_digits bs ≡ true = rw (take_all i bs all) at d in
+    let a : (length bs == 0) ≡ false = grind (arith, nat_tests) in
+    let b : nat_lt v (2 ^ 64) ≡ true = grind (arith, nat_tests) in
+    sym (rw (a, d', e', b) refl)

@@ -1,0 +1,11 @@
+-- How a run ended, as a status.
+use Rattle.std.specs.Prelude.{ℕ, Result, Ok, Err}
+use Rattle.rstar_run.specs.declared.program.Stop.{Stop}
+use Rattle.rstar_run.specs.declared.program.Stop.TheVariants.{Line, Memory, Input, Output}
+
+abbrev pub status_of : Result (Unit {0}) Stop → ℕ
+status_of (Ok _) = 0
+status_of (Err (Line _)) = 2
+status_of (Err Memory) = 3
+status_of (Err Input) = 4
+status_of (Err Output) = 4

@@ -1,0 +1,119 @@
+//! Commands, and the lines that give them.
+
+ghost use Rattle.std.specs.Prelude.{◌≡◌, ◌<◌, length, map, IfSome, IfNone};
+ghost use Rattle.rstar_run.specs.Grammar.{corners_of, verb_of, command_of, line_of};
+ghost use Rattle.rstar_run.specs.Words.{words_of};
+
+use super::number::{signed, unsigned};
+use super::words::{MOST_WORDS, words};
+use arrayvec::ArrayVec;
+
+/// Two opposite corners of a box, as a line gives them.
+#[derive(Clone, Copy, Debug, PartialEq, Eq)]
+pub struct Corners {
+    pub one: [i64; 2],
+    pub other: [i64; 2],
+}
+
+/// What a line asks for.
+#[derive(Clone, Copy, Debug, PartialEq, Eq)]
+pub enum Command {
+    /// Insert a rectangle with an ID.
+    Insert(u64, Corners),
+    /// Print the IDs of the rectangles that lie in a box.
+    In(Corners),
+    /// Print the number of rectangles.
+    Size,
+}
+
+/// The first word of a command.
+#[derive(Clone, Copy, Debug, PartialEq, Eq)]
+pub enum Verb {
+    Insert,
+    In,
+    Size,
+}
+
+/// What a line is.
+#[derive(Clone, Copy, Debug, PartialEq, Eq)]
+pub enum Line {
+    Blank,
+    Command(Command),
+    Bad,
+}
+
+fn parse_corners(x1: &[u8], y1: &[u8], x2: &[u8], y2: &[u8]) -> Option<Corners>
+    ensures { result ≡ corners_of x1.now y1.now x2.now y2.now }
+{
+    Some(Corners {
+        one: [signed(x1)?, signed(y1)?],
+        other: [signed(x2)?, signed(y2)?],
+    })
+}
+
+#[tactic(auto, using(crate::proofs::Commands::verb_none))]
+fn parse_verb(word: &[u8]) -> Option<Verb>
+    ensures { result ≡ verb_of word.now }
+{
+    match str::from_utf8(word).ok()? {
+        "insert" => Some(Verb::Insert),
+        "in" => Some(Verb::In),
+        "size" => Some(Verb::Size),
+        _ => None,
+    }
+}
+
+#[tactic(auto, using(crate::proofs::Commands::lent_none))]
+fn parse_command(verb: Verb, args: &[&[u8]]) -> Option<Command>
+    ensures { result ≡ command_of verb (map (λ word. word.now) args.now) }
+{
+    match (verb, args) {
+        (Verb::Insert, [id, x1, y1, x2, y2]) => {
+            Some(Command::Insert(unsigned(id)?, parse_corners(x1, y1, x2, y2)?))
+        }
+        (Verb::In, [x1, y1, x2, y2]) => Some(Command::In(parse_corners(x1, y1, x2, y2)?)),
+        (Verb::Size, []) => Some(Command::Size),
+        _ => None,
+    }
+}
+
+/// Reads the words of a line.
+#[derive(Drop)]
+pub struct Parser<'a> {
+    words: ArrayVec<&'a [u8], MOST_WORDS>,
+}
+
+impl<'a> Parser<'a> {
+    /// The parser of a line, none where it has more words than a command can have.
+    pub fn new(text: &'a [u8]) -> Option<Parser<'a>>
+        ensures found { IfSome result (λ parser. map (λ word. word.now) parser.words.items ≡ words_of text.now) }
+        ensures none { IfNone result (MOST_WORDS < length (words_of text.now)) }
+    {
+        let words = words(text)?;
+        Some(Parser { words })
+    }
+
+    /// What the line is.
+    pub fn line(&self) -> Line
+        ensures { result ≡ line_of (map (λ word. word.now) self.now.words.items) }
+    {
+        match self.words.as_slice() {
+            [] => Line::Blank,
+            [word, args @ ..] => match parse_verb(word).and_then(|verb| parse_command(verb, args)) {
+                Some(command) => Line::Command(command),
+                None => Line::Bad,
+            },
+        }
+    }
+}
+
+#[tactic(auto, using(crate::proofs::Commands::line_bad))]
+/// What a line is, without its end.
+pub fn parse_line(text: &[u8]) -> Line
+    ensures { result ≡ line_of (words_of text.now) }
+{
+    match Parser::new(text) {
+        Some(parser) => parser.line(),
+        None => Line::Bad,
+    }
+}

@@ -1,0 +1,217 @@
+//! Whole runs: over texts, over a reader that fails or waits, and over a writer that fails.
+
+use super::program::run;
+use std::cell::Cell;
+use std::io;
+use std::io::{Cursor, Error, ErrorKind, Read, Write};
+use std::process::Abort;
+
+fn expect_written(rt: &impl Abort, taken: &Cursor<[u8; 256]>, want: &str, input: &[u8]) {
+    let length = usize::try_from(taken.position()).unwrap_or(0);
+    let written = taken.get_ref().get(..length).unwrap_or(&[]);
+    assert_eq!(rt; written, want.as_bytes(), "at {input:?}");
+}
+
+fn expect_run(rt: &(impl AllocGlobal + Abort), input: &[u8], want: &str, status: u8) {
+    let mut taken = Cursor::new([0u8; 256]);
+    assert_eq!(rt; run(rt.alloc(), input, &mut taken), status, "at {input:?}");
+    expect_written(rt, &taken, want, input);
+}
+
+#[test]
+fn answers_lines(rt: HostRuntime) {
+    let rows: [(&[u8], &str); 16] = [
+        (b"", ""),
+        (b"insert 7 0 0 2 2\nin 0 0 2 2\nsize\n", "ok\n7\n1\n"),
+        // Equal rectangles and IDs count as often as they were inserted.
+        (
+            b"insert 7 0 0 2 2\ninsert 7 0 0 2 2\nin 0 0 2 2\nsize\n",
+            "ok\nok\n7 7\n2\n",
+        ),
+        (b"in 5 5 4 4\n", "-\n"),
+        // IDs ascend; what lies partly or wholly outside is left out.
+        (
+            b"insert 9 0 0 1 1\ninsert 10 1 1 2 2\ninsert 2 2 2 3 3\ninsert 1 5 5 5 5\nin 0 0 2 2\nin 0 0 9 9\n",
+            "ok\nok\nok\nok\n9 10\n1 2 9 10\n",
+        ),
+        // Corners come in any order.
+        (b"insert 7 2 0 0 2\nin 2 2 0 0\nin 1 0 2 2\n", "ok\n7\n-\n"),
+        (b"size\r\nsize\r\n", "0\n0\n"),
+        (b"size\nsize", "0\n0\n"),
+        (b"\n\r\n   \nsize\n\n", "0\n"),
+        (b"  size  \n   insert  7   0 0  2 2 \n", "0\nok\n"),
+        (b"insert 7 -0 -0 -0 -0\nin 0 0 0 0\n", "ok\n7\n"),
+        (b"insert 007 00 0 -002 2\nin -2 0 0 2\n", "ok\n7\n"),
+        (
+            b"insert 18446744073709551615 -9223372036854775808 -9223372036854775808 9223372036854775807 9223372036854775807\nsize",
+            "ok\n1\n",
+        ),
+        (
+            b"insert 18446744073709551615 9223372036854775807 0 9223372036854775807 0\nin 9223372036854775807 0 -9223372036854775808 0",
+            "ok\n18446744073709551615\n",
+        ),
+        (
+            b"insert 00000000000000000000000000018446744073709551615 0 0 0 0\nin 0 0 0 0",
+            "ok\n18446744073709551615\n",
+        ),
+        (
+            b"insert 9 0 0 0 0\ninsert 10 0 0 0 0\ninsert 100 0 0 0 0\ninsert 8 0 0 0 0\ninsert 10 0 0 0 0\nin 0 0 0 0\nsize\n",
+            "ok\nok\nok\nok\nok\n8 9 10 10 100\n5\n",
+        ),
+    ];
+    for (input, want) in rows {
+        expect_run(&rt, input, want, 0);
+    }
+}
+
+#[test]
+fn stops_at_a_bad_line(rt: HostRuntime) {
+    let rows: [&[u8]; 40] = [
+        b"insert 7 0 0 2\n",
+        b"insert 7 0 0 2 2 2\n",
+        b"insert 7 0 0 2 2 2 2 2 2 2\n",
+        b"insert\n",
+        b"in 1 2 3\n",
+        b"in 1 2 3 4 5\n",
+        b"size 1\n",
+        b"Size\n",
+        b"siz\n",
+        b"sizes\n",
+        b"7 0 0 2 2\n",
+        b"insert +1 0 0 2 2\n",
+        b"insert 1 0 0 2 +2\n",
+        b"insert 1 0 0 2 2.0\n",
+        b"insert 1.0 0 0 2 2\n",
+        b"insert -0 0 0 2 2\n",
+        b"insert -1 0 0 2 2\n",
+        b"insert - 0 0 2 2\n",
+        b"insert 1 - 0 2 2\n",
+        b"insert 1 0 0 2 --2\n",
+        b"insert 1 0 0 2 2-\n",
+        b"insert 1 0 0 2 x\n",
+        b"insert 18446744073709551616 0 0 2 2\n",
+        b"insert 99999999999999999999 0 0 2 2\n",
+        b"insert 1 0 0 2 9223372036854775808\n",
+        b"insert 1 0 0 2 -9223372036854775809\n",
+        b"insert 1 0 0 2 18446744073709551616\n",
+        b"in 0 0 2 0x2\n",
+        b"size\t\n",
+        b"\tsize\n",
+        b"\t\n",
+        b"in\t0 0 2 2\n",
+        // A CR counts as an end only right before an LF.
+        b"size\r",
+        b"size\r\r\n",
+        b"\rsize\n",
+        b"size \xff\n",
+        b"\xff\n",
+        b"siz\xc3\xa9\n",
+        // Lines that other programs of this kind know.
+        b"hit 0 0 2 2\n",
+        b"load 0\n",
+    ];
+    for bad in rows {
+        expect_run(&rt, bad, "error: line 1\n", 2);
+    }
+    for (input, want) in [
+        (b"size\nin 1 2 3\n".as_slice(), "0\nerror: line 2\n"),
+        (b"size\nin 1 2 3", "0\nerror: line 2\n"),
+        // Blank lines are counted, and no line after a bad one runs.
+        (b"\n\r\n \nsize\n\nbad\nsize\n", "0\nerror: line 6\n"),
+    ] {
+        expect_run(&rt, input, want, 2);
+    }
+}
+
+/// Gives its bytes and then fails.
+#[derive(Drop)]
+struct Failing<'a> {
+    bytes: &'a [u8],
+    kind: ErrorKind,
+}
+
+impl Read for Failing<'_> {
+    fn read(&mut self, buf: &mut [u8]) -> io::Result<usize> {
+        if self.bytes.is_empty() {
+            return Err(Error::from(self.kind));
+        }
+        self.bytes.read(buf)
+    }
+}
+
+#[test]
+fn stops_at_a_failed_read(rt: HostRuntime) {
+    for (bytes, kind, want, status) in [
+        (
+            b"".as_slice(),
+            ErrorKind::PermissionDenied,
+            "error: input\n",
+            4,
+        ),
+        (
+            b"size\nsize\n",
+            ErrorKind::PermissionDenied,
+            "0\n0\nerror: input\n",
+            4,
+        ),
+        // The part of a line before the failure is no line.
+        (
+            b"size\nsize",
+            ErrorKind::UnexpectedEof,
+            "0\nerror: input\n",
+            4,
+        ),
+        (b"size\n", ErrorKind::OutOfMemory, "0\nerror: memory\n", 3),
+    ] {
+        let mut taken = Cursor::new([0u8; 256]);
+        assert_eq!(rt;
+            run(rt.alloc(), Failing { bytes, kind }, &mut taken),
+            status
+        );
+        expect_written(&rt, &taken, want, bytes);
+    }
+}
+
+/// Takes this many writes and then fails, and counts the calls.
+#[derive(Drop)]
+struct Full<'a> {
+    good: usize,
+    calls: &'a Cell<usize>,
+    taken: &'a mut Cursor<[u8; 256]>,
+}
+
+impl Write for Full<'_> {
+    fn write(&mut self, buf: &[u8]) -> io::Result<usize> {
+        let calls = self.calls.get();
+        self.calls.set(calls.saturating_add(1));
+        if calls >= self.good {
+            return Err(Error::from(ErrorKind::PermissionDenied));
+        }
+        self.taken.write(buf)
+    }
+
+    fn flush(&mut self) -> io::Result<()> {
+        Ok(())
+    }
+}
+
+/// Gives one piece at a time, and reads nothing before what is due was flushed.
+#[derive(Drop)]
+struct Typist<'a> {
+    pieces: &'a [(&'a [u8], usize)],
+    written: &'a Cell<usize>,
+}
+
+impl Read for Typist<'_> {
+    fn read(&mut self, buf: &mut [u8]) -> io::Result<usize> {
+        let Some(((piece, due), rest)) = self.pieces.split_first() else {
+            return Ok(0);
+        };
+        if self.written.get() != *due {
+            return Err(Error::from(ErrorKind::PermissionDenied));
+        }
+        self.pieces = rest;
+        let mut bytes = *piece;
+        bytes.read(buf)
+    }
+}
