@@ -11,3 +11,4 @@ pub mod Elements
 pub mod Sums
 pub mod BoxData
 pub mod PointElements
+pub mod NodeSizes

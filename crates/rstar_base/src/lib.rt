@@ -6,6 +6,7 @@ mod axes;
 pub mod envelope;
 pub mod mint;
 pub mod object;
+pub mod params;
 mod places;
 pub mod point;
 pub mod primitives;
