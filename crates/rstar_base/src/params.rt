@@ -1,44 +1,51 @@
-//! Node sizes.
+//! How many children a parent may have.
 
-ghost use Rattle.std.specs.Prelude.{◌↔◌, ◌≤◌, ℕ, IsTrue};
+ghost use Rattle.std.specs.Prelude.{ℕ, IsTrue, ◌↔◌, ◌+◌, ◌*◌, ◌<◌, ◌≤◌, ◌^◌};
 ghost use Rattle.rstar_base.specs.NodeSizes.{AreNodeSizes};
 
 use crate::envelope::Envelope;
 use crate::object::RTreeObject;
 use crate::point::Point;
 
-/// The numbers that shape a tree. Their bounds are laws, so a type that breaks one is no `RTreeParams`.
+/// The sizes of a tree's nodes. Their bounds are laws, so a type that breaks one is no `RTreeParams`.
+///
+/// A type that implements it is a choice of the three numbers; no value of it is ever made.
 pub trait RTreeParams {
-    /// The fewest children of a parent that is not the root: at least 1, and at most half of `MAX_SIZE`, rounded up.
-    const MIN_SIZE: usize;
-
-    /// The most children of a parent: at least 4, and below the greatest `usize`.
-    const MAX_SIZE: usize;
-
-    /// How many children an overflow takes out and inserts anew: fewer than `MAX_SIZE - MIN_SIZE`. With 0 it splits at once.
-    const REINSERTION_COUNT: usize;
-
+    // The numbers, for clauses. Each is proved to be the constant of the same name.
     ghost MIN_SIZE: { ℕ };
 
     ghost MAX_SIZE: { ℕ };
 
     ghost REINSERTION_COUNT: { ℕ };
 
-    ghost sizes_law: { AreNodeSizes MIN_SIZE MAX_SIZE REINSERTION_COUNT };
+    /// The fewest children of a parent that is not the root, where a tree is built by insertions alone: at least 1, and at
+    /// most half of `MAX_SIZE`, rounded up.
+    const MIN_SIZE: usize;
+
+    /// The most children of a parent: at least 4, and below the greatest `usize`.
+    const MAX_SIZE: usize;
+
+    /// How many children of an overfull parent are taken out and inserted anew: fewer than `MAX_SIZE - MIN_SIZE`. With 0 an
+    /// overfull parent is split at once.
+    const REINSERTION_COUNT: usize;
+
+    ghost max_at_least_four: { 4 ≤ MAX_SIZE };
+
+    ghost max_fits: { MAX_SIZE + 1 < 2 ^ 64 };
+
+    ghost min_positive: { 0 < MIN_SIZE };
+
+    ghost min_at_most_half: { 2 * MIN_SIZE ≤ MAX_SIZE + 1 };
+
+    ghost reinsertion_leaves: { REINSERTION_COUNT + MIN_SIZE < MAX_SIZE };
 }
 
-/// The sizes where none are named: 3 to 6 children, and 2 inserted anew.
+/// The sizes of a tree where none are named: 3, 6 and 2.
 #[derive(Clone, Copy, PartialEq, Eq, Default, Drop)]
 pub struct DefaultParams;
 
 impl RTreeParams for DefaultParams {
     ghost use Rattle.std.proofs.Common.{arith};
-
-    const MIN_SIZE: usize = 3;
-
-    const MAX_SIZE: usize = 6;
-
-    const REINSERTION_COUNT: usize = 2;
 
     ghost MIN_SIZE = { 3 };
 
@@ -46,24 +53,31 @@ impl RTreeParams for DefaultParams {
 
     ghost REINSERTION_COUNT = { 2 };
 
-    ghost sizes_law = { record {
-      max_at_least_four = Prim.omega arith;
-      max_fits = Prim.omega arith;
-      min_positive = Prim.omega arith;
-      min_at_most_half = Prim.omega arith;
-      reinsertion_leaves = Prim.omega arith;
-    } };
+    const MIN_SIZE: usize = 3;
+
+    const MAX_SIZE: usize = 6;
+
+    const REINSERTION_COUNT: usize = 2;
+
+    ghost max_at_least_four = { Prim.omega arith };
+
+    ghost max_fits = { Prim.omega arith };
+
+    ghost min_positive = { Prim.omega arith };
+
+    ghost min_at_most_half = { Prim.omega arith };
+
+    ghost reinsertion_leaves = { Prim.omega arith };
 }
 
-/// Whether the sizes keep their bounds and the element's points have at least two axes.
+/// Whether the sizes keep their bounds and the element's points have at least two axes, as `new` and the loads ask.
+///
+/// The bounds are laws of `RTreeParams`, so that for a lawful type only the axes can make it false.
 pub fn verify_parameters<T: RTreeObject, Params: RTreeParams>() -> bool
     ensures { IsTrue result ↔ AreNodeSizes Params.MIN_SIZE Params.MAX_SIZE Params.REINSERTION_COUNT × (2 ≤ T.Envelope.Point.DIMENSIONS) }
 {
-    let sizes = 4 <= Params::MAX_SIZE
-        && Params::MAX_SIZE < usize::MAX
-        && 0 < Params::MIN_SIZE
-        && Params::MIN_SIZE <= Params::MAX_SIZE.div_ceil(2);
-    sizes
-        && Params::REINSERTION_COUNT < Params::MAX_SIZE - Params::MIN_SIZE
-        && 2 <= <T::Envelope as Envelope>::Point::DIMENSIONS
+    let most = 4 <= Params::MAX_SIZE && Params::MAX_SIZE < usize::MAX;
+    let fewest = 0 < Params::MIN_SIZE && Params::MIN_SIZE <= Params::MAX_SIZE.div_ceil(2);
+    let reinserted = Params::REINSERTION_COUNT < Params::MAX_SIZE - Params::MIN_SIZE;
+    most && fewest && reinserted && 2 <= <T::Envelope as Envelope>::Point::DIMENSIONS
 }
