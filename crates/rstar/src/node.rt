@@ -1,0 +1,84 @@
+//! The nodes of a tree: leaves, and parents with the merge of what is below them.
+
+ghost use Rattle.std.specs.Prelude.{◌≡◌, ◌∷◌, ℕ, false};
+ghost use Rattle.std.specs.List.{AllByRecursion};
+ghost use Rattle.rstar_base.specs.Hulls.{hull};
+ghost use Rattle.rstar.specs.Nodes.{node_box, is_leaf_node, children_of, envelope_of};
+
+use rstar_base::envelope::Envelope;
+use rstar_base::object::{RTreeObject, envelope_of_all};
+use rstar_base::primitives::copied_envelope;
+
+/// A node of a tree: one element, or a parent.
+#[cycle(node)]
+#[derive(Drop)]
+pub enum RTreeNode<T: RTreeObject> {
+    /// One element.
+    Leaf(T),
+    /// A list of nodes, with the merge of the envelopes of all elements below.
+    Parent(ParentNode<T>),
+}
+
+impl<T: RTreeObject> RTreeNode<T> {
+    /// Whether the node is a leaf, and so holds one element.
+    #[tactic(auto, unfolding(crate::specs::Nodes::is_leaf_node, crate::specs::Nodes::fold_tree))]
+    pub fn is_leaf(&self) -> bool
+        ensures { result ≡ is_leaf_node self.now }
+    {
+        match self {
+            RTreeNode::Leaf(_) => true,
+            RTreeNode::Parent(_) => false,
+        }
+    }
+}
+
+/// A list of nodes, with the merge of the envelopes of all elements below.
+///
+/// The root of a tree is one. Only the tree makes and changes parents.
+#[cycle(node)]
+#[derive(Drop)]
+pub struct ParentNode<T: RTreeObject> {
+    pub(crate) children: Vec<RTreeNode<T>>,
+    pub(crate) envelope: T::Envelope,
+}
+
+impl<T: RTreeObject> ParentNode<T> {
+    /// Its children, left to right.
+    pub fn children(&self) -> &[RTreeNode<T>]
+        ensures { result.now ≡ children_of self.now }
+    {
+        self.children.as_slice()
+    }
+
+    /// The merge of the envelopes of all elements below it.
+    pub fn envelope(&self) -> &T::Envelope
+        ensures { result.now ≡ envelope_of self.now }
+    {
+        &self.envelope
+    }
+}
+
+impl<T: RTreeObject> RTreeObject for RTreeNode<T> {
+    type Envelope = T::Envelope;
+
+    ghost use Rattle.rstar.specs.Nodes.{node_box};
+
+    ghost object = { record { IsValue = λ n. T.Envelope.boxes.IsValue (node_box T.object.box_of n); box_of = node_box T.object.box_of } };
+
+    #[tactic(auto, unfolding(crate::specs::Nodes::node_box, crate::specs::Nodes::fold_tree))]
+    fn envelope(&self) -> T::Envelope {
+        match self {
+            RTreeNode::Leaf(t) => t.envelope(),
+            RTreeNode::Parent(parent) => copied_envelope(&parent.envelope),
+        }
+    }
+
+    ghost object_law = { λ n h. h };
+}
+
+/// The merge of the envelopes of some nodes, each once; the empty envelope of none. It takes no memory.
+pub fn envelope_for_children<T: RTreeObject>(children: &[RTreeNode<T>]) -> T::Envelope
+    ensures { result ≡ hull T.Envelope.boxes (node_box T.object.box_of) children.now }
+{
+    envelope_of_all(children)
+}
