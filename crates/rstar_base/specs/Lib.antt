@@ -6,6 +6,7 @@ pub mod BoxLaws
 pub mod BoxEq
 pub mod Hulls
 pub mod Distances
+pub mod Measures
 pub mod Envelopes
 pub mod Elements
 pub mod Sums
