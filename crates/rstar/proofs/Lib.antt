@@ -1,3 +1,5 @@
 pub mod Rows
 pub mod Trees
 pub mod Counts
+pub mod Places
+pub mod Insertion

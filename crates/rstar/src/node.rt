@@ -5,9 +5,8 @@ ghost use Rattle.std.specs.List.{AllByRecursion};
 ghost use Rattle.rstar_base.specs.Hulls.{hull};
 ghost use Rattle.rstar.specs.Nodes.{node_box, is_leaf_node, children_of, envelope_of};
 
-use rstar_base::envelope::Envelope;
+use rstar_base::envelope::{Envelope, copied_envelope};
 use rstar_base::object::{RTreeObject, envelope_of_all};
-use rstar_base::primitives::copied_envelope;
 
 /// A node of a tree: one element, or a parent.
 #[cycle(node)]
