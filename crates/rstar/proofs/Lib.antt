@@ -3,3 +3,4 @@ pub mod Trees
 pub mod Counts
 pub mod Places
 pub mod Insertion
+pub mod Cuts

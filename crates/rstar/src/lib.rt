@@ -1,6 +1,7 @@
 //! An R*-tree whose answers are proved.
 #![tactic(auto)]
 
+pub mod algorithm;
 pub mod node;
 pub mod rtree;
 
