@@ -13,3 +13,5 @@ pub mod Sums
 pub mod BoxData
 pub mod PointElements
 pub mod NodeSizes
+pub mod CarrierLaws
+pub mod Orders

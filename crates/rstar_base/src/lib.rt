@@ -10,3 +10,5 @@ pub mod params;
 mod places;
 pub mod point;
 pub mod primitives;
+#[cfg(test)]
+mod tests;

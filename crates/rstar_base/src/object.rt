@@ -1,17 +1,28 @@
 //! Elements.
 
-ghost use Rattle.std.specs.Prelude.{◌≡◌, ℕ, ℤ, List, Bool, true, pos};
+ghost use Rattle.std.specs.Prelude.{◌≡◌, ◌<◌, ℕ, ℤ, List, Bool, true, pos, int_le, length};
+ghost use Rattle.std.specs.Ordering.{int_cmp};
+ghost use Rattle.std.specs.List.Sorted.{IsPermutation, IsSortedByKey};
 ghost use Rattle.std.specs.List.{AllByRecursion};
 ghost use Rattle.rstar_base.specs.Boxes.{between_corners, IsBox};
 ghost use Rattle.rstar_base.specs.Points.{table, all_below, IsPoint};
-ghost use Rattle.rstar_base.specs.Elements.{Objects, Distances, ObjectLaws, DistanceLaws};
+ghost use Rattle.rstar_base.specs.Elements.{Objects, Distances, ObjectLaws, DistanceLaws, IsDistanceUpTo, carried_objects, carried_distances};
+ghost use Rattle.rstar_base.specs.CarrierLaws.{carried_laws};
 ghost use Rattle.rstar_base.specs.Hulls.{hull};
+ghost use Rattle.rstar_base.specs.Orders.{IsSplitAt};
 
 use crate::aabb::{AABB, same_coordinates, squared_distance};
 use crate::axes::copied_point;
 use crate::envelope::Envelope;
-use crate::point::Point;
+use crate::point::{Point, RTreeNum, known, not_above};
+use std::cmp::Ordering;
 use std::rc::Rc;
+
+/// The point type of an element type.
+pub type PointOf<T> = <<T as RTreeObject>::Envelope as Envelope>::Point;
+
+/// A squared distance of an element type: the scalar of its points.
+pub type Distance<T> = <<<T as RTreeObject>::Envelope as Envelope>::Point as Point>::Scalar;
 
 /// An element.
 pub trait RTreeObject: Drop {
@@ -30,7 +41,12 @@ pub trait RTreeObject: Drop {
 }
 
 /// An element with a distance to each point.
+///
+/// All distances are squared. The laws, at every point and for an element whose envelope is not
+/// empty: its distance is at least that of its envelope, and at most the envelope's
+/// `min_max_dist_2`. And where an element contains a point, its envelope contains it.
 pub trait PointDistance: RTreeObject {
+    // The distance to a point, and whether a point is contained.
     ghost distances: { Distances Self };
 
     /// The squared distance to a point.
@@ -40,11 +56,50 @@ pub trait PointDistance: RTreeObject {
     ) -> <<Self::Envelope as Envelope>::Point as Point>::Scalar
         ensures { Self.Envelope.Point.Scalar.value result ≡ pos (distances.distance_2 self.now (table Self.Envelope.Point.DIMENSIONS (Self.Envelope.Point.coord point.now))) };
 
-    /// Whether it contains a point.
+    /// Whether the element contains a point. For an element that contains exactly the points at
+    /// distance 0 the body is a call of `contains_by_distance`.
     fn contains_point(&self, point: &<Self::Envelope as Envelope>::Point) -> bool
         ensures { result ≡ distances.contains_point self.now (table Self.Envelope.Point.DIMENSIONS (Self.Envelope.Point.coord point.now)) };
 
+    /// The squared distance to a point where it is at most `max_distance_2`, and else `None`.
+    ///
+    /// As provided, an element whose envelope is farther than that is not asked for its distance.
+    fn distance_2_if_less_or_equal(
+        &self,
+        point: &<Self::Envelope as Envelope>::Point,
+        max_distance_2: <<Self::Envelope as Envelope>::Point as Point>::Scalar,
+    ) -> Option<<<Self::Envelope as Envelope>::Point as Point>::Scalar>
+        ensures { IsDistanceUpTo Self.Envelope.Point.Scalar.value (Self.Envelope.Point.Scalar.value max_distance_2) (distances.distance_2 self.now (table Self.Envelope.Point.DIMENSIONS (Self.Envelope.Point.coord point.now))) result }
+    {
+        // Does nothing but tell that the point's coordinates are in their range.
+        known(point);
+        let envelope = self.envelope();
+        if !envelope.is_empty() && !not_above(envelope.distance_2(point), max_distance_2) {
+            return None;
+        }
+        up_to(self.distance_2(point), max_distance_2)
+    }
+
     ghost distance_laws: { DistanceLaws (IsPoint Self.Envelope.Point.Scalar.low Self.Envelope.Point.Scalar.high Self.Envelope.Point.DIMENSIONS) Self.Envelope.boxes Self.object distances };
+}
+
+/// Whether a squared distance is at most 0. With `self.distance_2(point)` it is the body of
+/// `contains_point` of an element that contains exactly the points at distance 0.
+pub fn contains_by_distance<S: RTreeNum>(distance_2: S) -> bool
+    ensures { result ≡ int_le (S.value distance_2) (pos 0) }
+{
+    not_above(distance_2, S::zero())
+}
+
+/// The distance where it is at most the limit, and else `None`.
+pub fn up_to<S: RTreeNum>(distance_2: S, max_distance_2: S) -> Option<S>
+    ensures { (d : ℕ) → S.value distance_2 ≡ pos d → IsDistanceUpTo S.value (S.value max_distance_2) d result }
+{
+    if not_above(distance_2, max_distance_2) {
+        Some(distance_2)
+    } else {
+        None
+    }
 }
 
 impl<P: Point> RTreeObject for P {
@@ -75,19 +130,52 @@ impl<P: Point> PointDistance for P {
         same_coordinates(self, point)
     }
 
+    fn distance_2_if_less_or_equal(
+        &self,
+        point: &P,
+        max_distance_2: P::Scalar,
+    ) -> Option<P::Scalar> {
+        up_to(self.distance_2(point), max_distance_2)
+    }
+
     ghost distance_laws = { point_distance_laws P.Scalar.low P.Scalar.high P.DIMENSIONS P.coord P.Scalar.low_law P.Scalar.high_law };
 }
 
 impl<T: RTreeObject> RTreeObject for Rc<T> {
     type Envelope = T::Envelope;
 
-    ghost object = { record { IsValue = λ t. T.object.IsValue t.value; box_of = λ t. T.object.box_of t.value } };
+    ghost object = { carried_objects T.object (λ t. t.value) };
 
     fn envelope(&self) -> T::Envelope {
         (**self).envelope()
     }
 
     ghost object_law = { λ t h. T.object_law t.value h };
+}
+
+impl<T: PointDistance> PointDistance for Rc<T> {
+    ghost distances = { carried_distances T.distances (λ t. t.value) };
+
+    fn distance_2(
+        &self,
+        point: &<T::Envelope as Envelope>::Point,
+    ) -> <<T::Envelope as Envelope>::Point as Point>::Scalar {
+        (**self).distance_2(point)
+    }
+
+    fn contains_point(&self, point: &<T::Envelope as Envelope>::Point) -> bool {
+        (**self).contains_point(point)
+    }
+
+    fn distance_2_if_less_or_equal(
+        &self,
+        point: &<T::Envelope as Envelope>::Point,
+        max_distance_2: <<T::Envelope as Envelope>::Point as Point>::Scalar,
+    ) -> Option<<<T::Envelope as Envelope>::Point as Point>::Scalar> {
+        (**self).distance_2_if_less_or_equal(point, max_distance_2)
+    }
+
+    ghost distance_laws = { carried_laws T.Envelope.boxes T.object T.distances (λ t. t.value) T.distance_laws };
 }
 
 /// The merge of the envelopes of all elements.
@@ -100,4 +188,40 @@ pub fn envelope_of_all<T: RTreeObject>(list: &[T]) -> T::Envelope
         all.merge(&t.envelope());
     }
     all
+}
+
+/// How two elements compare by the `axis_key` of their envelopes.
+fn compare_on_axis<T: RTreeObject>(axis: usize, a: &T, b: &T) -> Ordering
+    requires { axis < T.Envelope.Point.DIMENSIONS }
+    ensures { result ≡ int_cmp (T.Envelope.boxes.axis_key (T.object.box_of a.now) axis) (T.Envelope.boxes.axis_key (T.object.box_of b.now) axis) }
+{
+    a.envelope()
+        .axis_key(axis)
+        .cmp(&b.envelope().axis_key(axis))
+}
+
+/// Puts the elements in an order that rises by the `axis_key` of their envelopes. It takes no
+/// memory, and about n log n calls of `envelope`.
+pub fn sort_envelopes<T: RTreeObject>(axis: usize, list: &mut [T])
+    requires { axis < T.Envelope.Point.DIMENSIONS }
+    ensures same { IsPermutation list.old list.new }
+    ensures rises { IsSortedByKey (λ t. T.Envelope.boxes.axis_key (T.object.box_of t) axis) int_cmp list.new }
+{
+    list.sort_unstable_by(
+        |a: &T, b: &T| -> Ordering
+            requires { axis < T.Envelope.Point.DIMENSIONS }
+            ensures { result ≡ int_cmp (T.Envelope.boxes.axis_key (T.object.box_of a.now) axis) (T.Envelope.boxes.axis_key (T.object.box_of b.now) axis) }
+        { compare_on_axis(axis, a, b) },
+    );
+}
+
+/// Reorders the elements so that, by the `axis_key` of their envelopes, none before place `k` is
+/// greater than the one at `k`, and none after it is smaller. It takes no memory.
+pub fn partition_envelopes<T: RTreeObject>(axis: usize, list: &mut [T], k: usize)
+    requires axis { axis < T.Envelope.Point.DIMENSIONS }
+    requires place { k < length list.old }
+    ensures same { IsPermutation list.old list.new }
+    ensures split { IsSplitAt (λ t. T.Envelope.boxes.axis_key (T.object.box_of t) axis) k list.new }
+{
+    sort_envelopes(axis, list);
 }

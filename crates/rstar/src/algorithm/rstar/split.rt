@@ -4,9 +4,8 @@ ghost use Rattle.std.specs.Prelude.{◌≡◌, ◌+◌, ◌*◌, ◌<◌, ◌≤
 ghost use Rattle.std.specs.List.Sorted.{IsPermutation, IsSortedByKey};
 ghost use Rattle.rstar.specs.Cuts.{RisesByAxis, IsArrangement, IsAllowedCut, overlap_at, areas_at, IsLeastCut};
 
-use crate::algorithm::rstar::sorting::sort_envelopes;
 use rstar_base::envelope::Envelope;
-use rstar_base::object::{RTreeObject, envelope_of_all};
+use rstar_base::object::{RTreeObject, envelope_of_all, sort_envelopes};
 use rstar_base::params::RTreeParams;
 use rstar_base::point::{Point, RTreeNum};
 
