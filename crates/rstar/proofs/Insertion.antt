@@ -12,16 +12,11 @@ use Rattle.rstar_base.proofs.Hulls.{hull-value, hull_along, merge_empty_right}
 use Rattle.rstar.specs.declared.node.RTreeNode.{RTreeNode, Leaf, Parent}
 use Rattle.rstar.specs.declared.node.ParentNode.{ParentNode}
 use Rattle.rstar.specs.Nodes.{elements, all_elements, elements_of, node_box, IsTree, IsElement, IsTight, IsInner, AreWhole}
-use Rattle.rstar.specs.Shapes.{AreTrees, IsParentTree, IsAny, HasSize}
-use Rattle.rstar.specs.Kept.{HasRoom, IsRoomy, IsKept, IsKeptInner, IsFit, AreKept, IsKeptTree, second_children, IsSizedAfter}
+use Rattle.rstar.specs.Shapes.{AreTrees, IsParentTree, IsAny, HasSize, IsSized}
+use Rattle.rstar.specs.Kept.{HasRoom, IsRoomy, IsKept, IsKeptInner, IsFit, AreKept, IsKeptTree, second_children, as_node, IsSizedAfter}
 use Rattle.rstar.proofs.Places.{all_set, all_get}
 use Rattle.rstar.proofs.Rows.{elements-Leaf, elements-Parent, node_box-Parent, is_leaf, is_parent, parent_of, no_parent, IsLeafOf-Leaf, IsParentOf-Parent}
 use Rattle.rstar.proofs.Trees.{all_sound, values-of, merged_is_hull}
-
--- a parent that may be there, as a list of nodes
-abbrev pub node_list : {T E P S X : Type 0} → Option (ParentNode T E P S X) → List (RTreeNode T E P S X)
-node_list None = []
-node_list (Some p) = Parent p ∷ []
 
 module _ {T E P S X : Type 0} where
   pub all_elements-append : (xs ys : List (RTreeNode T E P S X)) → all_elements (xs ++ ys) ≡ all_elements xs ++ all_elements ys
@@ -50,7 +45,7 @@ module _ {T E P S X : Type 0} where
       (rw (append_assoc (elements n) (all_elements (set ns i m)) out) (IsPermutation-append_right (elements n) _ _ rest))
 
   -- the lists of two parents that may be there
-  pub same_list : (r : Option (ParentNode T E P S X)) → all_elements (node_list r) ≡ all_elements (second_children r)
+  pub same_list : (r : Option (ParentNode T E P S X)) → all_elements (as_node r) ≡ all_elements (second_children r)
   same_list None = refl
   same_list (Some q) = all_elements-single (Parent q) ∙ elements-Parent q
 
@@ -80,7 +75,7 @@ module _ {T E P S X : Type 0} (Q : ParentNode T E P S X → Type 0) (R : T → T
   pub child_at : (h : ℕ) (ns : List (RTreeNode T E P S X)) (i : ℕ) (n : RTreeNode T E P S X) → i < length ns → n ≡ get_or ns i n → AreTrees Q R h ns → IsTree Q R h n
   child_at h ns i n below is trees = rw is (all_get (IsTree Q R h) ns i n below trees)
 
-  pub are_trees : (h : ℕ) (r : Option (ParentNode T E P S X)) → 0 < h → IfSome r (IsParentTree Q R (h - 1)) → AreTrees Q R h (node_list r)
+  pub are_trees : (h : ℕ) (r : Option (ParentNode T E P S X)) → 0 < h → IfSome r (IsParentTree Q R (h - 1)) → AreTrees Q R h (as_node r)
   are_trees h None above k = tt
   are_trees h (Some q) above k = (tree_of h q above k.0 k.1, tt)
 
@@ -148,11 +143,11 @@ module _ {T E : Type 0} {IsPoint : List ℤ → Type 0} {v : Boxes E} {o : Objec
       → 0 < h → i < length old → Parent a ≡ get_or old i (Parent a) → AreKept v o max widest h old
       → IsPermutation (t ∷ all_elements a.children.items) (all_elements (b.children.items ++ second_children r))
       → IsKeptTree v o max widest (h - 1) b → IfSome r (IsKeptTree v o max widest (h - 1))
-      → IsPermutation (t ∷ all_elements old) (all_elements (set old i (Parent b) ++ node_list r)) × AreKept v o max widest h (set old i (Parent b) ++ node_list r)
+      → IsPermutation (t ∷ all_elements old) (all_elements (set old i (Parent b) ++ as_node r)) × AreKept v o max widest h (set old i (Parent b) ++ as_node r)
   child_grown h t old i a b r above below is trees bag first second =
-      (rw (all_elements-append (set old i (Parent b)) (node_list r)) (bag_of_set t old i (Parent a) (Parent b) (all_elements (node_list r)) below
+      (rw (all_elements-append (set old i (Parent b)) (as_node r)) (bag_of_set t old i (Parent a) (Parent b) (all_elements (as_node r)) below
         (rw (← is, elements-Parent a, elements-Parent b, same_list r, ← all_elements-append b.children.items (second_children r)) bag)),
-      all-append (IsTree (IsKeptInner v o max widest) (IsElement v o) h) (set old i (Parent b)) (node_list r)
+      all-append (IsTree (IsKeptInner v o max widest) (IsElement v o) h) (set old i (Parent b)) (as_node r)
         (all_set (IsTree (IsKeptInner v o max widest) (IsElement v o) h) old i (Parent b) trees (tree_of (IsKeptInner v o max widest) (IsElement v o) h b above first.0 first.1))
         (are_trees (IsKeptInner v o max widest) (IsElement v o) h r above second))
 
@@ -183,11 +178,22 @@ module _ {T E P S X : Type 0} (min max : ℕ) (positive : 0 < min) where
       → IsSizedAfter min max h n p r
   sized_parts h n before p None trees same few whole fits first second lengths =
       let parts = all_along (IsTree (HasSize min max) IsAny h) before (p.children.items ++ []) same trees in
-      (all_first (IsTree (HasSize min max) IsAny h) p.children.items [] parts, omega (arith, p.children.ok.0), (λ k. omega (arith, p.children.ok.0)), tt)
+      record {
+        below = all_first (IsTree (HasSize min max) IsAny h) p.children.items [] parts;
+        most = omega (arith, p.children.ok.0);
+        still_least = λ k. omega (arith, p.children.ok.0);
+        cut_least = tt;
+        second_sized = tt;
+      }
   sized_parts h n before p (Some q) trees same few whole fits first second lengths =
       let parts = all_along (IsTree (HasSize min max) IsAny h) before (p.children.items ++ q.children.items) same trees in
-      (all_first (IsTree (HasSize min max) IsAny h) p.children.items q.children.items parts, omega (arith, p.children.ok.0), (λ k. omega (arith, p.children.ok.0)),
-        ((omega (arith, q.children.ok.0), omega (arith, q.children.ok.0)), all_second (IsTree (HasSize min max) IsAny h) p.children.items q.children.items parts))
+      record {
+        below = all_first (IsTree (HasSize min max) IsAny h) p.children.items q.children.items parts;
+        most = omega (arith, p.children.ok.0);
+        still_least = λ k. omega (arith, p.children.ok.0);
+        cut_least = omega (arith, p.children.ok.0);
+        second_sized = ((omega (arith, q.children.ok.0), omega (arith, q.children.ok.0)), all_second (IsTree (HasSize min max) IsAny h) p.children.items q.children.items parts);
+      }
 
   pub sized_leaf : (h : ℕ) (t : T) (old : List (RTreeNode T E P S X)) → h ≡ 0 → AreTrees (HasSize min max) IsAny h old → AreTrees (HasSize min max) IsAny h (old ++ Leaf t ∷ [])
   sized_leaf h t old low trees = all-append (IsTree (HasSize min max) IsAny h) old (Leaf t ∷ []) trees (leaf_tree (HasSize min max) IsAny h t low tt, tt)
@@ -196,11 +202,20 @@ module _ {T E P S X : Type 0} (min max : ℕ) (positive : 0 < min) where
   pub sized_child : (h : ℕ) (old : List (RTreeNode T E P S X)) (i : ℕ) (a b : ParentNode T E P S X) (r : Option (ParentNode T E P S X)) → 0 < h → i < length old → Parent a ≡ get_or old i (Parent a)
       → AreTrees (HasSize min max) IsAny h old
       → (AreTrees (HasSize min max) IsAny (h - 1) a.children.items → vec_len a.children ≤ max → IsSizedAfter min max (h - 1) (vec_len a.children) b r)
-      → AreTrees (HasSize min max) IsAny h (set old i (Parent b) ++ node_list r)
+      → AreTrees (HasSize min max) IsAny h (set old i (Parent b) ++ as_node r)
   sized_child h old i a b r above below is trees after =
       let here = tree_at (HasSize min max) IsAny h a above (rw is (all_get (IsTree (HasSize min max) IsAny h) old i (Parent a) below trees)) in
       let done = after here.1 (omega (arith, here.0.1, a.children.ok.0)) in
-      let least : min ≤ length b.children.items = done.2 (omega (arith, here.0.0, a.children.ok.0)) in
-      all-append (IsTree (HasSize min max) IsAny h) (set old i (Parent b)) (node_list r)
-        (all_set (IsTree (HasSize min max) IsAny h) old i (Parent b) trees (tree_of (HasSize min max) IsAny h b above (least, done.1) done.0))
-        (are_trees (HasSize min max) IsAny h r above done.3)
+      let least : min ≤ length b.children.items = done.still_least (omega (arith, here.0.0, a.children.ok.0)) in
+      all-append (IsTree (HasSize min max) IsAny h) (set old i (Parent b)) (as_node r)
+        (all_set (IsTree (HasSize min max) IsAny h) old i (Parent b) trees (tree_of (HasSize min max) IsAny h b above (least, done.most) done.below))
+        (are_trees (HasSize min max) IsAny h r above done.second_sized)
+
+  -- a root above two sized parts
+  pub sized_root : (h : ℕ) (a b p : ParentNode T E P S X) → AreTrees (HasSize min max) IsAny h a.children.items → min ≤ length a.children.items → length a.children.items ≤ max
+      → IsParentTree (HasSize min max) IsAny h b → p.children.items ≡ Parent a ∷ Parent b ∷ [] → 2 ≤ max → IsSized min max p
+  sized_root h a b p first low high second are wide = record {
+    height = suc h;
+    most = rw are (omega arith);
+    below = rw are (IsParentOf-Parent _ a ((low, high), first), (IsParentOf-Parent _ b second, tt));
+  }

@@ -1,10 +1,10 @@
 -- What an insertion keeps of a tree's parents beside their being whole: room in their lists.
-use Rattle.std.specs.Prelude.{◌≡◌, ℕ, ◌+◌, ◌≤◌, ◌<◌, List, [], length, Option, Some, None, IfSome, Vec, vec_len, vec_capacity}
+use Rattle.std.specs.Prelude.{◌≡◌, ℕ, ◌+◌, ◌≤◌, ◌<◌, List, [], ◌∷◌, length, Option, Some, None, IfSome, Vec, vec_len, vec_capacity}
 use Rattle.std.specs.declared.alloc.Global.{Global}
 use Rattle.rstar_base.specs.Envelopes.{Boxes}
 use Rattle.rstar_base.specs.Elements.{Objects}
 use Rattle.rstar_base.specs.Hulls.{hull}
-use Rattle.rstar.specs.declared.node.RTreeNode.{RTreeNode}
+use Rattle.rstar.specs.declared.node.RTreeNode.{RTreeNode, Parent}
 use Rattle.rstar.specs.declared.node.ParentNode.{ParentNode}
 use Rattle.rstar.specs.Nodes.{node_box, IsElement, IsTight}
 use Rattle.rstar.specs.Shapes.{AreTrees, IsParentTree, IsAny, HasSize}
@@ -53,7 +53,15 @@ abbrev pub second_children : {T E P S X : Type 0} → Option (ParentNode T E P S
 second_children None = []
 second_children (Some p) = p.children.items
 
--- the sizes after an insertion that began at a parent of n children
-abbrev pub IsSizedAfter : {T E P S X : Type 0} → ℕ → ℕ → ℕ → ℕ → ParentNode T E P S X → Option (ParentNode T E P S X) → Type 0
-IsSizedAfter min max h n p r = AreTrees (HasSize min max) IsAny h p.children.items × (length p.children.items ≤ max) × (min ≤ n → min ≤ length p.children.items)
-    × IfSome r (IsParentTree (HasSize min max) IsAny h)
+-- a parent that may be there, as a list of nodes
+abbrev pub as_node : {T E P S X : Type 0} → Option (ParentNode T E P S X) → List (RTreeNode T E P S X)
+as_node None = []
+as_node (Some p) = Parent p ∷ []
+
+-- the sizes after an insertion that began at a parent of n children, and cut off the second parent where there is one
+pub record IsSizedAfter {T E P S X : Type 0} (min max h n : ℕ) (p : ParentNode T E P S X) (second : Option (ParentNode T E P S X)) : Type 0 where
+  pub below : AreTrees (HasSize min max) IsAny h p.children.items
+  pub most : length p.children.items ≤ max
+  pub still_least : min ≤ n → min ≤ length p.children.items
+  pub cut_least : IfSome second (λ _. min ≤ length p.children.items)
+  pub second_sized : IfSome second (IsParentTree (HasSize min max) IsAny h)

@@ -5,12 +5,12 @@ ghost use Rattle.std.specs.List.Sorted.{IsPermutation, IsSortedByKey};
 ghost use Rattle.rstar.specs.Cuts.{RisesByAxis, IsArrangement, IsAllowedCut, overlap_at, areas_at, IsLeastCut};
 
 use rstar_base::envelope::Envelope;
-use rstar_base::object::{RTreeObject, envelope_of_all, sort_envelopes};
+use rstar_base::object::{Distance, RTreeObject, envelope_of_all, sort_envelopes};
 use rstar_base::params::RTreeParams;
 use rstar_base::point::{Point, RTreeNum};
 
-/// The scalar of an element type's points.
-type ScalarOf<T> = <<<T as RTreeObject>::Envelope as Envelope>::Point as Point>::Scalar;
+
+
 
 /// Moves what lies from `at` on into the spare list, in its order. It takes no memory.
 fn cut_at<A: Drop>(list: &mut Vec<A>, at: usize, spare: &mut Vec<A>)
@@ -32,7 +32,7 @@ fn cut_at<A: Drop>(list: &mut Vec<A>, at: usize, spare: &mut Vec<A>)
 }
 
 /// The overlap of the two parts at a cut, and the clamped sum of their areas.
-fn measures_at<T: RTreeObject>(list: &[T], k: usize) -> (ScalarOf<T>, ScalarOf<T>)
+fn measures_at<T: RTreeObject>(list: &[T], k: usize) -> (Distance<T>, Distance<T>)
     requires { k ≤ length list.now }
     ensures overlap { T.Envelope.Point.Scalar.value result.0 ≡ pos (overlap_at T.Envelope.boxes T.object.box_of list.now k) }
     ensures areas { T.Envelope.Point.Scalar.value result.1 ≡ pos (areas_at T.Envelope.boxes T.object.box_of (unsigned_abs T.Envelope.Point.Scalar.high) list.now k) }
@@ -75,7 +75,7 @@ fn least_cut<T: RTreeObject, Params: RTreeParams>(list: &[T]) -> usize
 }
 
 /// The least single sum of the two parts' perimeter values over the allowed cuts of a list.
-fn least_perimeter<T: RTreeObject, Params: RTreeParams>(list: &[T]) -> ScalarOf<T>
+fn least_perimeter<T: RTreeObject, Params: RTreeParams>(list: &[T]) -> Distance<T>
     requires { Params.MAX_SIZE < length list.now }
 {
     let mut least = perimeter_at(list, Params::MIN_SIZE);
@@ -89,7 +89,7 @@ fn least_perimeter<T: RTreeObject, Params: RTreeParams>(list: &[T]) -> ScalarOf<
 }
 
 /// The clamped sum of the two parts' perimeter values at a cut.
-fn perimeter_at<T: RTreeObject>(list: &[T], k: usize) -> ScalarOf<T>
+fn perimeter_at<T: RTreeObject>(list: &[T], k: usize) -> Distance<T>
     requires { k ≤ length list.now }
 {
     let (front, back) = list.split_at(k);
