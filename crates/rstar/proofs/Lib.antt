@@ -4,3 +4,5 @@ pub mod Counts
 pub mod Places
 pub mod Insertion
 pub mod Cuts
+pub mod Walks
+pub mod Complete

@@ -6,7 +6,9 @@ use Rattle.rstar.specs.declared.node.RTreeNode.TheVariants.{outs-Parent, outs-Le
 use Rattle.rstar.specs.declared.node.RTreeNode.TheOpen as layer
 use Rattle.rstar.specs.declared.node.RTreeNode.TheBlock.{hidden-the_row-RTreeNode-0}
 use Rattle.rstar.specs.declared.node.ParentNode.{ParentNode}
-use Rattle.rstar.specs.Nodes.{fold_tree, fold_row, joined, total, elements, parents, far, reach, given, all_elements, all_parents, all_far, node_box, node_distance, IsLeafOf, IsParentOf, IsLeafLayer, IsParentLayer}
+use Rattle.rstar.specs.Steps.{steps}
+use Rattle.rstar.specs.Selections.{all_given, all_reach}
+use Rattle.rstar.specs.Nodes.{children_of, fold_tree, fold_row, joined, total, elements, parents, far, reach, given, all_elements, all_parents, all_far, node_box, node_distance, IsLeafOf, IsParentOf, IsLeafLayer, IsParentLayer}
 
 pub joined-map : {A B : Type 0} (f : A → List B) (xs : List A) → joined (map f xs) ≡ flat_map f xs
 joined-map f [] = refl
@@ -42,9 +44,17 @@ module _ {T E P S X : Type 0} where
   unfolding far
   far-Parent dist d p = fold_tree-Parent _ _ p ∙ ap (λ n. (if nat_lt d (dist p.envelope) then 1 else 0) + n) (total-map (far dist d) p.children.items)
 
-  pub given-Parent : (accepts : E → Bool) (selects : T → Bool) (p : ParentNode T E P S X) → given accepts selects (Parent p) ≡ (if accepts p.envelope then flat_map (given accepts selects) p.children.items else [])
+  pub given-Parent : (accepts : E → Bool) (selects : T → Bool) (p : ParentNode T E P S X) → given accepts selects (Parent p) ≡ (if accepts p.envelope then all_given accepts selects (children_of p) else [])
   unfolding given
   given-Parent accepts selects p = fold_tree-Parent _ _ p ∙ ap (λ l. if accepts p.envelope then l else []) (joined-map (given accepts selects) p.children.items)
+
+  pub reach-Parent : (accepts : E → Bool) (p : ParentNode T E P S X) → reach accepts (Parent p) ≡ (if accepts p.envelope then 1 + all_reach accepts (children_of p) else 0)
+  unfolding reach
+  reach-Parent accepts p = fold_tree-Parent _ _ p
+
+  pub steps-Parent : (p : ParentNode T E P S X) → steps (Parent p) ≡ 2 + total (map steps (children_of p))
+  unfolding steps
+  steps-Parent p = fold_tree-Parent _ _ p
 
   pub node_box-Parent : (box_of : T → E) (p : ParentNode T E P S X) → node_box box_of (Parent p) ≡ p.envelope
   unfolding node_box
@@ -108,3 +118,15 @@ module _ (T E P S X : Type 0) where
   pub leaf_of : (Q : T → Type 0) (t : T) → IsLeafOf {E = E} {P = P} {S = S} {X = X} Q (Leaf t) → Q t
   unfolding IsLeafOf
   leaf_of Q t h = subst (IsLeafLayer Q) (outs-Leaf t) h
+
+  pub given-Leaf : (accepts : E → Bool) (selects : T → Bool) (t : T) → given {P = P} {S = S} {X = X} accepts selects (Leaf t) ≡ (if selects t then t ∷ [] else [])
+  unfolding given fold_tree
+  given-Leaf accepts selects t = refl
+
+  pub reach-Leaf : (accepts : E → Bool) (t : T) → reach {P = P} {S = S} {X = X} accepts (Leaf t) ≡ 0
+  unfolding reach fold_tree
+  reach-Leaf accepts t = refl
+
+  pub steps-Leaf : (t : T) → steps {E = E} {P = P} {S = S} {X = X} (Leaf t) ≡ 1
+  unfolding steps fold_tree
+  steps-Leaf t = refl

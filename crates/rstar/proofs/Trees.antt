@@ -71,11 +71,12 @@ module _ {T E : Type 0} {IsPoint : List ℤ → Type 0} {v : Boxes E} {o : Objec
     leaf_added ns t e f tight merged w ok_t =
         let one : elements {E = E} {P = P} {S = S} {X = X} (Leaf t) ≡ t ∷ [] = elements-Leaf T E P S X t in
         let all : all_elements (ns ++ Leaf t ∷ []) ≡ all_elements ns ++ t ∷ [] =
-            flat_map-append elements ns (Leaf t ∷ []) ∙ ap (λ (l : List T). all_elements ns ++ (l ++ [])) one in
-        (subst (IsPermutation (t ∷ all_elements ns)) (sym all) (IsPermutation-append_comm (t ∷ []) (all_elements ns)),
-         merged ∙ ap (λ x. v.merge x (o.box_of t)) tight
-         ∙ sym (ap (hull v o.box_of) all ∙ hull-push laws o.box_of (all_elements ns) t (values-of (all_elements ns) (all_sound v o 0 ns w)) (ok t ok_t.0)),
-         all-append (IsTree (IsInner v o) (IsElement v o) 0) ns (Leaf t ∷ []) w (IsLeafOf-Leaf T E P S X (IsElement v o) t ok_t, tt))
+        flat_map-append elements ns (Leaf t ∷ []) ∙ ap (λ (l : List T). all_elements ns ++ (l ++ [])) one in (
+          subst (IsPermutation (t ∷ all_elements ns)) (sym all) (IsPermutation-append_comm (t ∷ []) (all_elements ns)),
+          merged ∙ ap (λ x. v.merge x (o.box_of t)) tight
+              ∙ sym (ap (hull v o.box_of) all ∙ hull-push laws o.box_of (all_elements ns) t (values-of (all_elements ns) (all_sound v o 0 ns w)) (ok t ok_t.0)),
+          all-append (IsTree (IsInner v o) (IsElement v o) 0) ns (Leaf t ∷ []) w (IsLeafOf-Leaf T E P S X (IsElement v o) t ok_t, tt),
+        )
 
   -- the merge of some elements' envelopes is not empty
   pub hull-full : (t : T) (ts : List T) → AllByRecursion (IsElement v o) (t ∷ ts) → v.is_empty (hull v o.box_of (t ∷ ts)) ≡ false

@@ -2,15 +2,9 @@
 #![tactic(auto)]
 
 pub mod algorithm;
+pub mod iterators;
 pub mod node;
 pub mod rtree;
-
-pub use rstar_base::aabb;
-pub use rstar_base::envelope;
-pub use rstar_base::mint;
-pub use rstar_base::object;
-pub use rstar_base::point;
-pub use rstar_base::primitives;
 
 pub use crate::node::{ParentNode, RTreeNode};
 pub use crate::rtree::{InsertCause, InsertError, RTree};
@@ -19,6 +13,7 @@ pub use rstar_base::envelope::Envelope;
 pub use rstar_base::object::{PointDistance, RTreeObject};
 pub use rstar_base::params::{DefaultParams, RTreeParams};
 pub use rstar_base::point::{Point, RTreeNum};
+pub use rstar_base::{aabb, envelope, mint, object, point, primitives};
 
-
-
+#[cfg(test)]
+mod tests;

@@ -15,3 +15,4 @@ pub mod PointElements
 pub mod NodeSizes
 pub mod CarrierLaws
 pub mod Orders
+pub mod Selections

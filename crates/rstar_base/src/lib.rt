@@ -2,6 +2,7 @@
 #![tactic(auto)]
 
 pub mod aabb;
+pub mod algorithm;
 mod axes;
 pub mod envelope;
 pub mod mint;

@@ -1,0 +1,16 @@
+use Rattle.std.proofs.Common.{◌≡◌}
+use Rattle.rstar.specs.Selections.{root_walked, question_of, slices_of, to_come, IsWalking}
+use Rattle.rstar.specs.Steps.{steps_of}
+use Rattle.rstar.proofs.iterators.SelectionIteratorIterator.next.Given as goal
+
+-- the same walk, with the same to come
+abbrev pub invariant-loop-t : goal.invariant-loop-t
+invariant-loop-t g l = record {
+  walking : IsWalking g.Func.SelectionFunction.accepts l.self;
+  same : to_come g.Func.SelectionFunction.accepts g.Func.SelectionFunction.selects l.initial.self ≡ to_come g.Func.SelectionFunction.accepts g.Func.SelectionFunction.selects l.self;
+  root : root_walked l.self ≡ root_walked l.initial.self;
+  question : question_of l.self ≡ question_of l.initial.self;
+}
+
+abbrev pub decreases-loop-t : goal.decreases-loop-t
+decreases-loop-t g l = steps_of (slices_of l.self)

@@ -1,0 +1,154 @@
+//! Iterators over what a tree holds.
+
+ghost use Rattle.std.specs.Prelude.{◌≡◌, ◌≢◌, ◌≤◌, ℕ, [], IfOk, vec_capacity};
+ghost use Rattle.std.specs.List.{AllByRecursion};
+ghost use Rattle.std.specs.Iterator.{item_count};
+ghost use Rattle.rstar.specs.Nodes.{children_of, IsWhole};
+ghost use Rattle.rstar.specs.Selections.{given_from_root, root_walked, question_of, opened_by, to_come, IsLevel, IsWalking, GivesNext};
+ghost use Rattle.rstar.specs.Steps.{IsStep};
+
+use crate::node::{ParentNode, RTreeNode};
+use rstar_base::algorithm::selection_functions::{
+    SelectAllFunc, SelectInEnvelopeFunction, SelectionFunction,
+};
+use rstar_base::object::RTreeObject;
+use std::alloc::AllocError;
+
+/// The selected elements of a tree, in some order. `next` takes no memory.
+#[derive(Drop)]
+pub struct SelectionIterator<'a, T: RTreeObject, Func: SelectionFunction<T>> {
+    root: &'a ParentNode<T>,
+    func: Func,
+    // The nodes that are being read, and below them in the path those that were left for them.
+    nodes: &'a [RTreeNode<T>],
+    path: Vec<&'a [RTreeNode<T>]>,
+    opened: usize,
+}
+
+/// All elements of a tree.
+pub type RTreeIterator<'a, T> = SelectionIterator<'a, T, SelectAllFunc>;
+
+/// The elements whose envelopes an envelope contains.
+pub type LocateInEnvelope<'a, T> = SelectionIterator<'a, T, SelectInEnvelopeFunction<T>>;
+
+/// What one step of a walk did.
+enum Step<'a, T> {
+    /// It found an element.
+    Found(&'a T),
+    /// It went on.
+    Passed,
+    /// It was at the end.
+    Ended,
+}
+
+/// An empty path, with room for one slice for each level of parents below the root.
+fn empty_path<'a, T: RTreeObject>(
+    root: &'a ParentNode<T>,
+) -> Result<Vec<&'a [RTreeNode<T>]>, AllocError>
+    ensures empty { IfOk result (λ path. path.items ≡ []) }
+    ensures room { IfOk result (λ path. (h : ℕ) → AllByRecursion (IsLevel h) (children_of root.now) → children_of root.now ≢ [] → h ≤ vec_capacity path) }
+{
+    let mut path = Vec::new(*root.children.allocator());
+    let mut nodes = root.children.as_slice();
+    while let Some((first, _rest)) = nodes.split_first() {
+        match first {
+            RTreeNode::Leaf(_) => break,
+            RTreeNode::Parent(below) => {
+                path.push(nodes)?;
+                nodes = below.children.as_slice();
+            }
+        }
+    }
+    path.clear();
+    Ok(path)
+}
+
+impl<'a, T: RTreeObject, Func: SelectionFunction<T>> SelectionIterator<'a, T, Func> {
+    /// A selection below a root.
+    pub(crate) fn new(root: &'a ParentNode<T>, func: Func) -> Result<Self, AllocError>
+        requires { IsWhole T.Envelope.boxes T.object root.now }
+        ensures gives { IfOk result (λ it. to_come Func.accepts Func.selects it ≡ given_from_root (Func.accepts func) (Func.selects func) root.now) }
+        ensures walking { IfOk result (λ it. IsWalking Func.accepts it) }
+        ensures root { IfOk result (λ it. root_walked it ≡ root.now) }
+        ensures question { IfOk result (λ it. question_of it ≡ func) }
+    {
+        let path = empty_path(root)?;
+        if root.children.is_empty() || !func.should_unpack_parent(&root.envelope) {
+            return Ok(SelectionIterator {
+                root,
+                func,
+                nodes: &root.children[..0],
+                path,
+                opened: 0,
+            });
+        }
+        Ok(SelectionIterator {
+            root,
+            func,
+            nodes: root.children.as_slice(),
+            path,
+            opened: 1,
+        })
+    }
+
+    /// How many parents were opened so far, held at the greatest `usize`.
+    pub fn opened(&self) -> usize
+        ensures { result ≡ opened_by self.now }
+    {
+        self.opened
+    }
+
+    /// Reads one node, or goes back to the nodes that were left last.
+    fn step(&mut self) -> Step<'a, T>
+        requires { IsWalking Func.accepts self.old }
+        ensures { IsStep Func.accepts Func.selects self.old result self.new }
+    {
+        let Some((first, rest)) = self.nodes.split_first() else {
+            let Some(above) = self.path.pop() else {
+                return Step::Ended;
+            };
+            self.nodes = above;
+            return Step::Passed;
+        };
+        self.nodes = rest;
+        match first {
+            RTreeNode::Leaf(t) => {
+                if self.func.should_unpack_leaf(t) {
+                    Step::Found(t)
+                } else {
+                    Step::Passed
+                }
+            }
+            RTreeNode::Parent(parent) => {
+                if self.func.should_unpack_parent(&parent.envelope) {
+                    self.opened = self.opened.saturating_add(1);
+                    self.path.push_reserved(rest);
+                    self.nodes = parent.children.as_slice();
+                    Step::Passed
+                } else {
+                    Step::Passed
+                }
+            }
+        }
+    }
+}
+
+impl<'a, T: RTreeObject, Func: SelectionFunction<T>> Iterator for SelectionIterator<'a, T, Func> {
+    type Item = &'a T;
+
+    ghost can_next = { IsWalking Func.accepts };
+
+    ghost next_gives = { GivesNext Func.accepts Func.selects };
+
+    ghost remaining = { item_count (λ it. to_come Func.accepts Func.selects it) };
+
+    fn next(&mut self) -> Option<&'a T> {
+        loop {
+            match self.step() {
+                Step::Found(t) => return Some(t),
+                Step::Passed => {}
+                Step::Ended => return None,
+            }
+        }
+    }
+}
