@@ -6,3 +6,4 @@ pub mod Insertion
 pub mod Cuts
 pub mod Walks
 pub mod Complete
+pub mod Heights
