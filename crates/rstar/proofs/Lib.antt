@@ -7,3 +7,4 @@ pub mod Cuts
 pub mod Walks
 pub mod Complete
 pub mod Heights
+pub mod WholeTrees

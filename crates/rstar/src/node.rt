@@ -1,9 +1,8 @@
 //! The nodes of a tree: leaves, and parents with the merge of what is below them.
 
-ghost use Rattle.std.specs.Prelude.{◌≡◌, ◌∷◌, false, OnOk, OnErr, IfErr};
-ghost use Rattle.std.specs.List.Sorted.{IsPermutation};
+ghost use Rattle.std.specs.Prelude.{◌≡◌};
 ghost use Rattle.rstar_base.specs.Hulls.{hull};
-ghost use Rattle.rstar.specs.Nodes.{node_box, is_leaf_node, children_of, envelope_of, elements_of, IsTight, AreWhole};
+ghost use Rattle.rstar.specs.Nodes.{node_box, is_leaf_node, children_of, envelope_of};
 
 use rstar_base::envelope::{Envelope, copied_envelope};
 use rstar_base::object::{RTreeObject, envelope_of_all};

@@ -184,12 +184,12 @@ impl<T: RTreeObject, Params: RTreeParams> RTree<T, Params> {
                 cause: InsertCause::TooMany,
             });
         };
-        if self.prepare(wanted).is_err() {
+        let Ok(()) = self.prepare(wanted) else {
             return Err(InsertError {
                 element: t,
                 cause: InsertCause::NoMemory,
             });
-        }
+        };
         self.insert_at_levels(t, levels);
         Ok(())
     }
