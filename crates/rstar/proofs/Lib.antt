@@ -1,6 +1,11 @@
 pub mod Rows
 pub mod Trees
 pub mod Counts
+pub mod Places
+pub mod Insertion
+pub mod Cuts
 pub mod Walks
 pub mod Complete
 pub mod Chains
+pub mod Heights
+pub mod WholeTrees

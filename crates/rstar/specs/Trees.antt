@@ -1,11 +1,14 @@
 -- What a tree shows, and what it keeps.
 -- T is the element's type, D the type of the node sizes, E its envelope's, P its point's, S its scalar's, X what a scalar's text is refused with.
-use Rattle.std.specs.Prelude.{◌≡◌, ℕ, List, length}
+use Rattle.std.specs.Prelude.{◌≡◌, ◌≢◌, ◌+◌, ◌<◌, ◌≤◌, ◌^◌, ℕ, List, [], length}
+use Rattle.std.specs.List.{AllByRecursion}
 use Rattle.rstar_base.specs.Envelopes.{Boxes}
 use Rattle.rstar_base.specs.Elements.{Objects}
 use Rattle.rstar.specs.declared.node.ParentNode.{ParentNode}
 use Rattle.rstar.specs.declared.rtree.RTree.{RTree}
-use Rattle.rstar.specs.Nodes.{children_of, elements_of, envelopes_of, AreWhole, IsWhole}
+use Rattle.rstar.specs.Nodes.{children_of, envelope_of, elements_of, envelopes_of, IsWhole}
+use Rattle.rstar.specs.Shapes.{AreTrees, IsAny}
+use Rattle.rstar.specs.Kept.{HasRoom, IsRoomy, IsSpare}
 
 -- what `root` shows
 abbrev pub root_of : {T D E P S X : Type 0} → RTree T D E P S X → ParentNode T E P S X
@@ -23,16 +26,26 @@ elements_in tree = elements_of (root_of tree)
 abbrev pub envelopes_in : {T D E P S X : Type 0} → RTree T D E P S X → List E
 envelopes_in tree = envelopes_of (root_of tree)
 
--- the tree shows the same elements, envelopes and size as before
+-- the tree shows the same nodes, and so the same elements and envelopes, and the same size
 pub record IsUnchanged {T D E P S X : Type 0} (old new : RTree T D E P S X) : Type 0 where
+  pub children : children_of (root_of new) ≡ children_of (root_of old)
+  pub envelope : envelope_of (root_of new) ≡ envelope_of (root_of old)
+  pub size : size_of new ≡ size_of old
   pub elements : elements_in new ≡ elements_in old
   pub envelopes : envelopes_in new ≡ envelopes_in old
-  pub size : size_of new ≡ size_of old
 
-module _ {T D E P S X : Type 0} (v : Boxes E) (o : Objects T E) where
-  -- a whole tree: a whole root, whose elements are counted
+module _ {T D E P S X : Type 0} (v : Boxes E) (o : Objects T E) (max : ℕ) where
+  -- a whole tree: a whole root, whose elements are counted; and the room that makes insertions safe, where `max` is the
+  -- most children of a parent
   pub record IsWholeTree (tree : RTree T D E P S X) : Type 0 where
     pub root_whole : IsWhole v o (root_of tree)
     pub counted : size_of tree ≡ length (elements_in tree)
-    -- as long as no parent is ever split, the root's children are the leaves
-    pub one_level : AreWhole v o 0 (children_of (root_of tree))
+    -- no parent has more children than the tree's bound, which is at least `max` and can be counted past
+    pub wide : max ≤ tree.widest
+    pub wide_fits : tree.widest + 1 < 2 ^ 64
+    pub narrow : length (children_of (root_of tree)) ≤ tree.widest
+    -- each child list can take a child more, but that of an empty root
+    pub root_room : children_of (root_of tree) ≢ [] → HasRoom max tree.root.children
+    pub rooms : AreTrees (IsRoomy max tree.widest) IsAny root_whole.height (children_of (root_of tree))
+    -- and so can each spare list, one more than the bound
+    pub spares : AllByRecursion (IsSpare tree.widest) tree.spares.items

@@ -1,9 +1,8 @@
 //! The nodes of a tree: leaves, and parents with the merge of what is below them.
 
-ghost use Rattle.std.specs.Prelude.{◌≡◌, ◌∷◌, false, OnOk, OnErr, IfErr};
-ghost use Rattle.std.specs.List.Sorted.{IsPermutation};
+ghost use Rattle.std.specs.Prelude.{◌≡◌};
 ghost use Rattle.rstar_base.specs.Hulls.{hull};
-ghost use Rattle.rstar.specs.Nodes.{node_box, is_leaf_node, children_of, envelope_of, elements_of, IsTight, AreWhole};
+ghost use Rattle.rstar.specs.Nodes.{node_box, is_leaf_node, children_of, envelope_of};
 
 use rstar_base::envelope::{Envelope, copied_envelope};
 use rstar_base::object::{RTreeObject, envelope_of_all};
@@ -80,24 +79,4 @@ pub fn envelope_for_children<T: RTreeObject>(children: &[RTreeNode<T>]) -> T::En
     ensures { result ≡ hull T.Envelope.boxes (node_box T.object.box_of) children.now }
 {
     envelope_of_all(children)
-}
-
-/// Adds an element to a root whose children are leaves. A refusal hands the element back and leaves the root.
-pub(crate) fn add_leaf<T: RTreeObject>(root: &mut ParentNode<T>, t: T) -> Result<(), T>
-    requires tight { IsTight T.Envelope.boxes T.object root.old }
-    requires below { AreWhole T.Envelope.boxes T.object 0 (children_of root.old) }
-    requires element { T.Envelope.boxes.is_empty (T.object.box_of t) ≡ false }
-    ensures added { OnOk result (IsPermutation (t ∷ elements_of root.old) (elements_of root.new)) }
-    ensures handed_back { IfErr result (λ u. u ≡ t) }
-    ensures children { OnErr result (children_of root.new ≡ children_of root.old) }
-    ensures envelope { OnErr result (envelope_of root.new ≡ envelope_of root.old) }
-    ensures tight { IsTight T.Envelope.boxes T.object root.new }
-    ensures below { AreWhole T.Envelope.boxes T.object 0 (children_of root.new) }
-{
-    if root.children.reserve(1).is_err() {
-        return Err(t);
-    }
-    root.envelope.merge(&t.envelope());
-    root.children.push_reserved(RTreeNode::Leaf(t));
-    Ok(())
 }

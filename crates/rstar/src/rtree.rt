@@ -1,14 +1,22 @@
 //! The tree.
 
-ghost use Rattle.std.specs.Prelude.{◌≡◌, ◌↔◌, ◌∷◌, ◌≤◌, [], false, length, OnOk, OnErr, IfOk, IfErr, filter};
+ghost use Rattle.std.specs.Prelude.{◌≡◌, ◌⊎◌, ◌↔◌, ◌∷◌, ◌+◌, ◌<◌, ◌≤◌, [], false, length, OnOk, OnErr, IfOk, IfErr, IfSome, IfNone, filter, vec_len};
 ghost use Rattle.std.specs.Result.{IsErrAnd};
 ghost use Rattle.std.specs.List.Sorted.{IsPermutation};
 ghost use Rattle.rstar_base.specs.Selections.{IsLawful};
 ghost use Rattle.rstar.specs.Selections.{IsPartOf, to_come, IsWalking, root_walked, question_of};
+ghost use Rattle.rstar.specs.Heights.{levels_below, height_of, spare_lists};
+ghost use Rattle.rstar.specs.Kept.{HasRoom};
+ghost use Rattle.rstar.specs.Nodes.{children_of};
+ghost use Rattle.rstar.specs.Shapes.{IsSized};
 ghost use Rattle.rstar.specs.Trees.{root_of, size_of, elements_in, IsUnchanged, IsWholeTree};
 
+use crate::algorithm::rstar::RStarInsertionStrategy;
+use crate::algorithm::rstar::insertion::insert_at_root;
+use crate::algorithm::rstar::preparation::{levels_of, lists_wanted, top_up};
 use crate::iterators::{LocateInEnvelope, RTreeIterator, SelectionIterator};
-use crate::node::{ParentNode, add_leaf};
+use crate::node::{ParentNode, RTreeNode};
+use crate::params::{InsertCause, InsertError, InsertionStrategy};
 use rstar_base::algorithm::selection_functions::{
     SelectAllFunc, SelectInEnvelopeFunction, SelectionFunction,
 };
@@ -27,35 +35,45 @@ use std::marker::PhantomData;
 pub struct RTree<T: RTreeObject, Params: RTreeParams = DefaultParams> {
     root: ParentNode<T>,
     size: usize,
+    // No parent has more children than this, which is at least `MAX_SIZE`.
+    widest: usize,
+    // Empty child lists, for the parents that an insertion makes.
+    spares: Vec<Vec<RTreeNode<T>>>,
     params: PhantomData<Params>,
-}
-
-/// Why an insertion was refused.
-#[derive(Clone, Copy, Debug, PartialEq, Eq, Drop)]
-pub enum InsertCause {
-    /// The allocator refused a growth.
-    NoMemory = 1,
-    /// The tree holds as many elements as a `usize` counts.
-    TooMany = 2,
-}
-
-/// An insertion that was refused. The tree has the elements, envelopes and size that it had before.
-#[derive(Debug, Drop)]
-pub struct InsertError<T> {
-    /// The element, handed back.
-    pub element: T,
-    /// Why it was refused.
-    pub cause: InsertCause,
 }
 
 impl<T: RTreeObject> RTree<T> {
     /// The empty tree, with the default node sizes. It takes no memory yet.
     ///
-    /// Its points have at least two dimensions.
+    /// Its points have at least two dimensions; `verify_parameters` is the test.
     pub fn new(alloc: Global) -> Self
         requires dimensions { 2 ≤ T.Envelope.Point.DIMENSIONS }
         ensures none { elements_in result ≡ [] }
-        ensures whole { IsWholeTree T.Envelope.boxes T.object result }
+        ensures whole { IsWholeTree T.Envelope.boxes T.object ⟦<DefaultParams as RTreeParams>⟧.MAX_SIZE result }
+        ensures sized { IsSized ⟦<DefaultParams as RTreeParams>⟧.MIN_SIZE ⟦<DefaultParams as RTreeParams>⟧.MAX_SIZE (root_of result) }
+    {
+        RTree::new_with_params(alloc)
+    }
+}
+
+impl<T: RTreeObject, Params: RTreeParams> RTree<T, Params> {
+    /// The empty tree, with chosen node sizes. It takes no memory yet.
+    ///
+    /// Its points have at least two dimensions; `verify_parameters` is the test.
+    pub fn new_with_params(alloc: Global) -> Self
+        requires dimensions { 2 ≤ T.Envelope.Point.DIMENSIONS }
+        ensures none { elements_in result ≡ [] }
+        ensures whole { IsWholeTree T.Envelope.boxes T.object Params.MAX_SIZE result }
+        ensures sized { IsSized Params.MIN_SIZE Params.MAX_SIZE (root_of result) }
+    {
+        RTree::default(alloc)
+    }
+
+    /// The empty tree, of any number of dimensions. It takes no memory yet.
+    pub fn default(alloc: Global) -> Self
+        ensures none { elements_in result ≡ [] }
+        ensures whole { IsWholeTree T.Envelope.boxes T.object Params.MAX_SIZE result }
+        ensures sized { IsSized Params.MIN_SIZE Params.MAX_SIZE (root_of result) }
     {
         RTree {
             root: ParentNode {
@@ -63,12 +81,12 @@ impl<T: RTreeObject> RTree<T> {
                 envelope: T::Envelope::new_empty(),
             },
             size: 0,
+            widest: Params::MAX_SIZE,
+            spares: Vec::new(alloc),
             params: PhantomData,
         }
     }
-}
 
-impl<T: RTreeObject, Params: RTreeParams> RTree<T, Params> {
     /// The root, from which all nodes are reached.
     pub fn root(&self) -> &ParentNode<T>
         ensures { result.now ≡ root_of self.now }
@@ -79,14 +97,14 @@ impl<T: RTreeObject, Params: RTreeParams> RTree<T, Params> {
     /// The number of elements.
     pub fn size(&self) -> usize
         ensures shown { result ≡ size_of self.now }
-        ensures counted { IsWholeTree T.Envelope.boxes T.object self.now → result ≡ length (elements_in self.now) }
+        ensures counted { IsWholeTree T.Envelope.boxes T.object Params.MAX_SIZE self.now → result ≡ length (elements_in self.now) }
     {
         self.size
     }
 
     /// All elements, in some order.
     pub fn iter(&self) -> Result<RTreeIterator<'_, T>, AllocError>
-        requires { IsWholeTree T.Envelope.boxes T.object self.now }
+        requires { IsWholeTree T.Envelope.boxes T.object Params.MAX_SIZE self.now }
         ensures all { IfOk result (λ it. to_come ⟦<SelectAllFunc as SelectionFunction<T>>⟧.accepts ⟦<SelectAllFunc as SelectionFunction<T>>⟧.selects it ≡ elements_in self.now) }
         ensures walking { IfOk result (λ it. IsWalking ⟦<SelectAllFunc as SelectionFunction<T>>⟧.accepts it) }
         ensures root { IfOk result (λ it. root_walked it ≡ root_of self.now) }
@@ -99,7 +117,7 @@ impl<T: RTreeObject, Params: RTreeParams> RTree<T, Params> {
         &self,
         envelope: T::Envelope,
     ) -> Result<LocateInEnvelope<'_, T>, AllocError>
-        requires { IsWholeTree T.Envelope.boxes T.object self.now }
+        requires { IsWholeTree T.Envelope.boxes T.object Params.MAX_SIZE self.now }
         ensures all { IfOk result (λ it. to_come ⟦<SelectInEnvelopeFunction<T> as SelectionFunction<T>>⟧.accepts ⟦<SelectInEnvelopeFunction<T> as SelectionFunction<T>>⟧.selects it
             ≡ filter (λ t. T.Envelope.boxes.contains envelope (T.object.box_of t)) (elements_in self.now)) }
         ensures walking { IfOk result (λ it. IsWalking ⟦<SelectInEnvelopeFunction<T> as SelectionFunction<T>>⟧.accepts it) }
@@ -113,7 +131,7 @@ impl<T: RTreeObject, Params: RTreeParams> RTree<T, Params> {
         &self,
         func: Func,
     ) -> Result<SelectionIterator<'_, T, Func>, AllocError>
-        requires { IsWholeTree T.Envelope.boxes T.object self.now }
+        requires { IsWholeTree T.Envelope.boxes T.object Params.MAX_SIZE self.now }
         ensures all { IfOk result (λ it. IsLawful T.Envelope.boxes T.object (Func.accepts func) (Func.selects func)
             → to_come Func.accepts Func.selects it ≡ filter (Func.selects func) (elements_in self.now)) }
         ensures part { IfOk result (λ it. IsPartOf (to_come Func.accepts Func.selects it) (filter (Func.selects func) (elements_in self.now))) }
@@ -124,34 +142,99 @@ impl<T: RTreeObject, Params: RTreeParams> RTree<T, Params> {
         SelectionIterator::new(&self.root, func)
     }
 
-    /// Adds an element, whose envelope is not empty. Equal elements may be added, and are counted.
+    /// Adds an element, whose envelope is not empty, by `RStarInsertionStrategy`. Equal elements may be added, and are counted.
     ///
-    /// It is refused where the allocator refuses a growth, and before that where `size` is the
-    /// greatest `usize`. A refusal hands the element back and leaves elements, envelopes and size.
+    /// All memory is taken before the first change. It is refused with `TooMany` exactly where `size` is the greatest
+    /// `usize` or a `usize` does not count the spare child lists that are wanted, and otherwise with `NoMemory` where
+    /// the allocator refuses a growth. A refusal hands the element back and leaves the tree as it shows itself.
+    ///
+    /// It costs a path from the root to the leaves, with a look at each child beside it, and a split now and then.
     pub fn insert(&mut self, t: T) -> Result<(), InsertError<T>>
-        requires whole { IsWholeTree T.Envelope.boxes T.object self.old }
+        requires whole { IsWholeTree T.Envelope.boxes T.object Params.MAX_SIZE self.old }
         requires element { T.Envelope.boxes.is_empty (T.object.box_of t) ≡ false }
         ensures added { OnOk result (IsPermutation (t ∷ elements_in self.old) (elements_in self.new)) }
+        ensures counted { OnOk result (size_of self.new ≡ size_of self.old + 1) }
         ensures handed_back { IfErr result (λ refused. refused.element ≡ t) }
         ensures unchanged { OnErr result (IsUnchanged self.old self.new) }
-        ensures too_many { IsErrAnd result (λ refused. refused.cause ≡ InsertCause.TooMany) ↔ (size_of self.old ≡ usize.MAX) }
-        ensures whole { IsWholeTree T.Envelope.boxes T.object self.new }
+        ensures too_many { IsErrAnd result (λ refused. refused.cause ≡ InsertCause.TooMany)
+            ↔ ((size_of self.old ≡ usize.MAX) ⊎ (usize.MAX < spare_lists Params.REINSERTION_COUNT (height_of (root_of self.old)))) }
+        ensures whole { IsWholeTree T.Envelope.boxes T.object Params.MAX_SIZE self.new }
+        ensures sized { IsSized Params.MIN_SIZE Params.MAX_SIZE (root_of self.old) → IsSized Params.MIN_SIZE Params.MAX_SIZE (root_of self.new) }
     {
-        if self.size == usize::MAX {
+        RStarInsertionStrategy::insert(self, t)
+    }
+
+    /// The body of the strategy: memory first, then the element.
+    pub(crate) fn insert_prepared(&mut self, t: T) -> Result<(), InsertError<T>>
+        requires whole { IsWholeTree T.Envelope.boxes T.object Params.MAX_SIZE self.old }
+        requires element { T.Envelope.boxes.is_empty (T.object.box_of t) ≡ false }
+        ensures added { OnOk result (IsPermutation (t ∷ elements_in self.old) (elements_in self.new)) }
+        ensures counted { OnOk result (size_of self.new ≡ size_of self.old + 1) }
+        ensures handed_back { IfErr result (λ refused. refused.element ≡ t) }
+        ensures unchanged { OnErr result (IsUnchanged self.old self.new) }
+        ensures too_many { IsErrAnd result (λ refused. refused.cause ≡ InsertCause.TooMany)
+            ↔ ((size_of self.old ≡ usize.MAX) ⊎ (usize.MAX < spare_lists Params.REINSERTION_COUNT (height_of (root_of self.old)))) }
+        ensures whole { IsWholeTree T.Envelope.boxes T.object Params.MAX_SIZE self.new }
+        ensures sized { IsSized Params.MIN_SIZE Params.MAX_SIZE (root_of self.old) → IsSized Params.MIN_SIZE Params.MAX_SIZE (root_of self.new) }
+    {
+        let levels = levels_of(&self.root);
+        let Some(wanted) = self.lists_to_prepare(levels) else {
             return Err(InsertError {
                 element: t,
                 cause: InsertCause::TooMany,
             });
-        }
-        match add_leaf(&mut self.root, t) {
-            Ok(()) => {
-                self.size += 1;
-                Ok(())
-            }
-            Err(element) => Err(InsertError {
-                element,
+        };
+        let Ok(()) = self.prepare(wanted) else {
+            return Err(InsertError {
+                element: t,
                 cause: InsertCause::NoMemory,
-            }),
+            });
+        };
+        self.insert_at_levels(t, levels);
+        Ok(())
+    }
+
+    /// How many spare lists an insertion wants, and `None` where the tree cannot count one element more, or not them.
+    fn lists_to_prepare(&self, levels: usize) -> Option<usize>
+        ensures some { IfSome result (λ n. (n ≡ spare_lists Params.REINSERTION_COUNT (1 + levels)) × (self.now.size < usize.MAX)) }
+        ensures none { IfNone result ((self.now.size ≡ usize.MAX) ⊎ (usize.MAX < spare_lists Params.REINSERTION_COUNT (1 + levels))) }
+    {
+        if self.size == usize::MAX {
+            return None;
         }
+        lists_wanted::<Params>(levels)
+    }
+
+    /// Takes the memory of an insertion: spare lists, and room in an empty root's list.
+    fn prepare(&mut self, wanted: usize) -> Result<(), AllocError>
+        requires whole { IsWholeTree T.Envelope.boxes T.object Params.MAX_SIZE self.old }
+        ensures unchanged { IsUnchanged self.old self.new }
+        ensures whole { IsWholeTree T.Envelope.boxes T.object Params.MAX_SIZE self.new }
+        ensures room { OnOk result (HasRoom Params.MAX_SIZE self.new.root.children) }
+        ensures enough { OnOk result (wanted ≤ vec_len self.new.spares) }
+    {
+        let alloc = *self.root.children.allocator();
+        top_up(&mut self.spares, wanted, self.widest, alloc)?;
+        if self.root.children.is_empty() {
+            self.root.children.reserve(Params::MAX_SIZE + 1)?;
+        }
+        Ok(())
+    }
+
+    /// Inserts an element where the memory is prepared.
+    fn insert_at_levels(&mut self, t: T, levels: usize)
+        requires whole { IsWholeTree T.Envelope.boxes T.object Params.MAX_SIZE self.old }
+        requires element { T.Envelope.boxes.is_empty (T.object.box_of t) ≡ false }
+        requires levels { levels ≡ levels_below (children_of (root_of self.old)) }
+        requires room { HasRoom Params.MAX_SIZE self.old.root.children }
+        requires enough { levels + 1 < vec_len self.old.spares }
+        requires count { self.old.size < usize.MAX }
+        ensures added { IsPermutation (t ∷ elements_in self.old) (elements_in self.new) }
+        ensures counted { size_of self.new ≡ size_of self.old + 1 }
+        ensures whole { IsWholeTree T.Envelope.boxes T.object Params.MAX_SIZE self.new }
+        ensures sized { IsSized Params.MIN_SIZE Params.MAX_SIZE (root_of self.old) → IsSized Params.MIN_SIZE Params.MAX_SIZE (root_of self.new) }
+    {
+        insert_at_root::<T, Params>(&mut self.root, t, levels, self.widest, &mut self.spares);
+        self.size += 1;
     }
 }

@@ -3,7 +3,8 @@
 ghost use Rattle.std.specs.Prelude.{◌≡◌, ◌∷◌, ◌≤◌, List, [], false, map, filter, IfOk, MatchOption};
 ghost use Rattle.rstar.specs.Trees.{IsWholeTree, elements_in};
 
-use crate::rtree::{InsertCause, InsertError, RTree};
+use crate::params::{DefaultParams, InsertCause, InsertError, RTreeParams};
+use crate::rtree::RTree;
 use rstar_base::aabb::AABB;
 use rstar_base::envelope::Envelope;
 use rstar_base::object::RTreeObject;
@@ -35,7 +36,7 @@ fn pair<T: RTreeObject>(alloc: Global, first: T, second: T) -> Result<RTree<T>, 
     requires dimensions { 2 ≤ T.Envelope.Point.DIMENSIONS }
     requires first { T.Envelope.boxes.is_empty (T.object.box_of first) ≡ false }
     requires second { T.Envelope.boxes.is_empty (T.object.box_of second) ≡ false }
-    ensures whole { IfOk result (λ tree. IsWholeTree T.Envelope.boxes T.object tree) }
+    ensures whole { IfOk result (λ tree. IsWholeTree T.Envelope.boxes T.object ⟦<DefaultParams as RTreeParams>⟧.MAX_SIZE tree) }
 {
     let mut tree = RTree::new(alloc);
     tree.insert(first)?;

@@ -16,6 +16,7 @@ pub mod Sums
 pub mod BoxData
 pub mod BoxEnvelopes
 pub mod PointElements
+pub mod NodeSizes
 pub mod CarrierLaws
 pub mod Orders
 pub mod Selections

@@ -1,8 +1,13 @@
 //! How many children a parent may have.
 
-ghost use Rattle.std.specs.Prelude.{ℕ, ◌+◌, ◌*◌, ◌<◌, ◌≤◌, ◌^◌};
+ghost use Rattle.std.specs.Prelude.{ℕ, IsTrue, ◌↔◌, ◌+◌, ◌*◌, ◌<◌, ◌≤◌, ◌^◌};
+ghost use Rattle.rstar_base.specs.NodeSizes.{AreNodeSizes};
 
-/// The sizes of a tree's nodes.
+use crate::envelope::Envelope;
+use crate::object::RTreeObject;
+use crate::point::Point;
+
+/// The sizes of a tree's nodes. Their bounds are laws, so a type that breaks one is no `RTreeParams`.
 ///
 /// A type that implements it is a choice of the three numbers; no value of it is ever made.
 pub trait RTreeParams {
@@ -13,13 +18,15 @@ pub trait RTreeParams {
 
     ghost REINSERTION_COUNT: { ℕ };
 
-    /// The fewest children of a parent that is not the root, where a tree is built by insertions alone.
+    /// The fewest children of a parent that is not the root, where a tree is built by insertions alone: at least 1, and at
+    /// most half of `MAX_SIZE`, rounded up.
     const MIN_SIZE: usize;
 
-    /// The most children of a parent.
+    /// The most children of a parent: at least 4, and below the greatest `usize`.
     const MAX_SIZE: usize;
 
-    /// How many children of an overfull parent are taken out and inserted anew.
+    /// How many children of an overfull parent are taken out and inserted anew: fewer than `MAX_SIZE - MIN_SIZE`. With 0 an
+    /// overfull parent is split at once.
     const REINSERTION_COUNT: usize;
 
     ghost max_at_least_four: { 4 ≤ MAX_SIZE };
@@ -61,4 +68,16 @@ impl RTreeParams for DefaultParams {
     ghost min_at_most_half = { Prim.omega arith };
 
     ghost reinsertion_leaves = { Prim.omega arith };
+}
+
+/// Whether the sizes keep their bounds and the element's points have at least two axes, as `new` and the loads ask.
+///
+/// The bounds are laws of `RTreeParams`, so that for a lawful type only the axes can make it false.
+pub fn verify_parameters<T: RTreeObject, Params: RTreeParams>() -> bool
+    ensures { IsTrue result ↔ AreNodeSizes Params.MIN_SIZE Params.MAX_SIZE Params.REINSERTION_COUNT × (2 ≤ T.Envelope.Point.DIMENSIONS) }
+{
+    let most = 4 <= Params::MAX_SIZE && Params::MAX_SIZE < usize::MAX;
+    let fewest = 0 < Params::MIN_SIZE && Params::MIN_SIZE <= Params::MAX_SIZE.div_ceil(2);
+    let reinserted = Params::REINSERTION_COUNT < Params::MAX_SIZE - Params::MIN_SIZE;
+    most && fewest && reinserted && 2 <= <T::Envelope as Envelope>::Point::DIMENSIONS
 }

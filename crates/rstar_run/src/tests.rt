@@ -172,15 +172,16 @@ fn stops_at_a_failed_read(rt: HostRuntime) {
     }
 }
 
-/// Takes this many writes and then fails, and counts the calls.
+/// Takes this many writes and then fails. It counts the calls, and what was written at the last flush.
 #[derive(Drop)]
-struct Full<'a> {
+struct Terminal<'a> {
     good: usize,
     calls: &'a Cell<usize>,
-    taken: &'a mut Cursor<[u8; 256]>,
+    shown: &'a Cell<u64>,
+    taken: Cursor<[u8; 256]>,
 }
 
-impl Write for Full<'_> {
+impl Write for Terminal<'_> {
     fn write(&mut self, buf: &[u8]) -> io::Result<usize> {
         let calls = self.calls.get();
         self.calls.set(calls.saturating_add(1));
@@ -191,27 +192,88 @@ impl Write for Full<'_> {
     }
 
     fn flush(&mut self) -> io::Result<()> {
+        self.shown.set(self.taken.position());
         Ok(())
     }
 }
 
-/// Gives one piece at a time, and reads nothing before what is due was flushed.
+/// Gives a piece at each read, and fails where less was shown before than the piece waits for.
 #[derive(Drop)]
 struct Typist<'a> {
-    pieces: &'a [(&'a [u8], usize)],
-    written: &'a Cell<usize>,
+    pieces: &'a [(&'a [u8], u64)],
+    shown: &'a Cell<u64>,
+    reads: &'a Cell<usize>,
 }
 
 impl Read for Typist<'_> {
     fn read(&mut self, buf: &mut [u8]) -> io::Result<usize> {
+        self.reads.set(self.reads.get().saturating_add(1));
         let Some(((piece, due), rest)) = self.pieces.split_first() else {
             return Ok(0);
         };
-        if self.written.get() != *due {
-            return Err(Error::from(ErrorKind::PermissionDenied));
+        if self.shown.get() < *due {
+            return Err(Error::from(ErrorKind::WouldBlock));
         }
         self.pieces = rest;
-        let mut bytes = *piece;
+        let mut bytes: &[u8] = piece;
         bytes.read(buf)
+    }
+}
+
+#[test]
+fn flushes_before_it_waits(rt: HostRuntime) {
+    let calls = Cell::new(0);
+    let shown = Cell::new(0);
+    let reads = Cell::new(0);
+    // The second read comes in the middle of a line.
+    let pieces: [(&[u8], u64); 4] = [
+        (b"size\nsi", 0),
+        (b"ze\n", 2),
+        (b"insert 7 0 0 2 2\nin 0 0 2 2\nbad", 4),
+        (b"\nsize\n", 9),
+    ];
+    let input = Typist {
+        pieces: &pieces,
+        shown: &shown,
+        reads: &reads,
+    };
+    let mut output = Terminal {
+        good: 9,
+        calls: &calls,
+        shown: &shown,
+        taken: Cursor::new([0; 256]),
+    };
+    assert_eq!(rt; run(rt.alloc(), input, &mut output), 2);
+    expect_written(
+        &rt,
+        &output.taken,
+        "0\n0\nok\n7\nerror: line 5\n",
+        b"pieces",
+    );
+}
+
+#[test]
+fn stops_at_a_failed_write(rt: HostRuntime) {
+    let pieces: [(&[u8], u64); 3] = [(b"size\n", 0), (b"size\n", 2), (b"bad\n", 4)];
+    for good in 0..4 {
+        let calls = Cell::new(0);
+        let shown = Cell::new(0);
+        let reads = Cell::new(0);
+        let input = Typist {
+            pieces: &pieces,
+            shown: &shown,
+            reads: &reads,
+        };
+        let mut output = Terminal {
+            good,
+            calls: &calls,
+            shown: &shown,
+            taken: Cursor::new([0; 256]),
+        };
+        let status = run(rt.alloc(), input, &mut output);
+        // No line runs after the failure, and nothing is written again.
+        assert_eq!(rt; status, if good < 3 { 4 } else { 2 });
+        assert_eq!(rt; calls.get(), if good < 3 { good + 1 } else { 3 });
+        assert_eq!(rt; reads.get(), if good < 3 { good + 1 } else { 3 });
     }
 }

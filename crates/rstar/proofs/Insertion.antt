@@ -1,0 +1,221 @@
+-- What an insertion does to the lists of a tree.
+use Rattle.std.proofs.Common.{◌≡◌, ◌≢◌, ℕ, ℤ, zero, suc, ◌+◌, ◌-◌, ◌<◌, ◌≤◌, List, [], ◌∷◌, ◌++◌, length, get_or, set, refl, sym, ap, ◌∙◌, subst, arith, append_assoc, append-nil, sub-one, add-one, IsPermutation, Option, Some, None, IfSome, IfNone, vec_len}
+use Rattle.std.specs.List.{AllByRecursion, flat_map}
+use Rattle.std.proofs.lemmas.List.Concat.{flat_map-append}
+use Rattle.std.proofs.lemmas.List.Sorted.{IsPermutation-refl, IsPermutation-trans, IsPermutation-sym, IsPermutation-append_left, IsPermutation-append_right, IsPermutation-append_comm, IsPermutation-middle, IsPermutation-to_front}
+use Rattle.rstar_base.specs.Envelopes.{Boxes, EnvelopeLaws}
+use Rattle.rstar_base.specs.Elements.{Objects, ObjectLaws}
+use Rattle.rstar_base.specs.Hulls.{hull}
+use Rattle.rstar_base.proofs.Along.{IsPermutation-same, IsPermutation-flat_map}
+use Rattle.rstar_base.proofs.Lists.{all-append, all_first, all_second, all_along, all_map}
+use Rattle.rstar_base.proofs.Hulls.{hull-value, hull_along, merge_empty_right}
+use Rattle.rstar.specs.declared.node.RTreeNode.{RTreeNode, Leaf, Parent}
+use Rattle.rstar.specs.declared.node.ParentNode.{ParentNode}
+use Rattle.rstar.specs.Nodes.{elements, all_elements, elements_of, node_box, IsTree, IsElement, IsTight, IsInner, AreWhole}
+use Rattle.rstar.specs.Shapes.{AreTrees, IsParentTree, IsAny, HasSize, IsSized}
+use Rattle.rstar.specs.Kept.{HasRoom, IsRoomy, IsKept, IsKeptInner, IsFit, AreKept, IsKeptTree, second_children, as_node, IsSizedAfter}
+use Rattle.rstar.proofs.Places.{all_set, all_get}
+use Rattle.rstar.proofs.Rows.{elements-Leaf, elements-Parent, node_box-Parent, is_leaf, is_parent, parent_of, no_parent, IsLeafOf-Leaf, IsParentOf-Parent}
+use Rattle.rstar.proofs.Trees.{all_sound, values-of, merged_is_hull}
+
+module _ {T E P S X : Type 0} where
+  pub all_elements-append : (xs ys : List (RTreeNode T E P S X)) → all_elements (xs ++ ys) ≡ all_elements xs ++ all_elements ys
+  all_elements-append xs ys = flat_map-append elements xs ys
+
+  pub all_elements-single : (n : RTreeNode T E P S X) → all_elements (n ∷ []) ≡ elements n
+  all_elements-single n = append-nil (elements n)
+
+  -- nodes in another order have elements in another order
+  pub elements_along : (xs ys : List (RTreeNode T E P S X)) → IsPermutation xs ys → IsPermutation (all_elements xs) (all_elements ys)
+  elements_along = IsPermutation-flat_map elements
+
+  -- one node of a list gets an element more, and hands out others
+  pub bag_of_set : (t : T) (ns : List (RTreeNode T E P S X)) (i : ℕ) (d m : RTreeNode T E P S X) (out : List T) → i < length ns
+      → IsPermutation (t ∷ elements (get_or ns i d)) (elements m ++ out)
+      → IsPermutation (t ∷ all_elements ns) (all_elements (set ns i m) ++ out)
+  bag_of_set t [] i d m out below h = absurd (omega arith)
+  bag_of_set t (n ∷ ns) zero d m out below h =
+      let rest : List T = all_elements ns in
+      IsPermutation-trans _ _ _ (IsPermutation-append_left rest (t ∷ elements n) (elements m ++ out) h)
+      (rw (append_assoc (elements m) out rest, append_assoc (elements m) rest out) (IsPermutation-append_right (elements m) _ _ (IsPermutation-append_comm out rest)))
+  bag_of_set t (n ∷ ns) (suc i) d m out below h =
+      let rest = bag_of_set t ns i d m out (omega arith) h in
+      let before : List T = all_elements ns in
+      IsPermutation-trans _ _ _ (IsPermutation-sym _ _ (IsPermutation-middle (elements n) t before))
+      (rw (append_assoc (elements n) (all_elements (set ns i m)) out) (IsPermutation-append_right (elements n) _ _ rest))
+
+  -- the lists of two parents that may be there
+  pub same_list : (r : Option (ParentNode T E P S X)) → all_elements (as_node r) ≡ all_elements (second_children r)
+  same_list None = refl
+  same_list (Some q) = all_elements-single (Parent q) ∙ elements-Parent q
+
+  -- the elements below two parents, as a list of two nodes
+  pub two_parents : (a b : ParentNode T E P S X) → all_elements (Parent a ∷ Parent b ∷ []) ≡ all_elements (a.children.items ++ b.children.items)
+  two_parents a b = ap (λ (ts : List T). elements (Parent a) ++ ts) (all_elements-single (Parent b)) ∙ ap (λ (ts : List T). ts ++ elements (Parent b)) (elements-Parent a)
+      ∙ ap (λ (ts : List T). all_elements a.children.items ++ ts) (elements-Parent b) ∙ sym (all_elements-append a.children.items b.children.items)
+
+module _ {T E P S X : Type 0} (Q : ParentNode T E P S X → Type 0) (R : T → Type 0) where
+  pub tree_at : (h : ℕ) (p : ParentNode T E P S X) → 0 < h → IsTree Q R h (Parent p) → Q p × AreTrees Q R (h - 1) p.children.items
+  tree_at zero p above is = absurd (omega arith)
+  tree_at (suc h) p above is = rw sub-one (parent_of _ p is)
+
+  pub tree_of : (h : ℕ) (p : ParentNode T E P S X) → 0 < h → Q p → AreTrees Q R (h - 1) p.children.items → IsTree Q R h (Parent p)
+  tree_of zero p above q all = absurd (omega arith)
+  tree_of (suc h) p above q all = let below : AreTrees Q R h p.children.items = rw sub-one at all in IsParentOf-Parent _ p (q, below)
+
+  pub no_leaf_above : (h : ℕ) (t : T) → 0 < h → IsTree Q R h (Leaf t) → ⊥
+  no_leaf_above zero t above is = absurd (omega arith)
+  no_leaf_above (suc h) t above is = no_parent _ t is
+
+  pub leaf_tree : (h : ℕ) (t : T) → h ≡ 0 → R t → IsTree Q R h (Leaf t)
+  leaf_tree zero t e r = IsLeafOf-Leaf T E P S X R t r
+  leaf_tree (suc h) t e r = absurd (omega arith)
+
+  -- the child at an index
+  pub child_at : (h : ℕ) (ns : List (RTreeNode T E P S X)) (i : ℕ) (n : RTreeNode T E P S X) → i < length ns → n ≡ get_or ns i n → AreTrees Q R h ns → IsTree Q R h n
+  child_at h ns i n below is trees = rw is (all_get (IsTree Q R h) ns i n below trees)
+
+  pub are_trees : (h : ℕ) (r : Option (ParentNode T E P S X)) → 0 < h → IfSome r (IsParentTree Q R (h - 1)) → AreTrees Q R h (as_node r)
+  are_trees h None above k = tt
+  are_trees h (Some q) above k = (tree_of h q above k.0 k.1, tt)
+
+-- trees whose parents and elements meet more
+module _ {T E P S X : Type 0} {Q Q' : ParentNode T E P S X → Type 0} {R R' : T → Type 0} (f : (p : ParentNode T E P S X) → Q p → Q' p) (g : (t : T) → R t → R' t) where
+  pub tree_map : (h : ℕ) (n : RTreeNode T E P S X) → IsTree Q R h n → IsTree Q' R' h n
+  tree_map zero n w =
+      let l = is_leaf R n w in
+      subst (IsTree Q' R' 0) (sym l.1) (IsLeafOf-Leaf T E P S X R' l.0 (g l.0 l.2))
+  tree_map (suc h) n w =
+      let p = is_parent _ n w in
+      subst (IsTree Q' R' (suc h)) (sym p.1) (IsParentOf-Parent _ p.0 (f p.0 p.2.0, all_map (IsTree Q R h) (IsTree Q' R' h) (tree_map h) p.0.children.items p.2.1))
+
+  pub trees_map : (h : ℕ) (ns : List (RTreeNode T E P S X)) → AreTrees Q R h ns → AreTrees Q' R' h ns
+  trees_map h = all_map (IsTree Q R h) (IsTree Q' R' h) (tree_map h)
+
+module _ {T E : Type 0} {IsPoint : List ℤ → Type 0} {v : Boxes E} {o : Objects T E} (laws : EnvelopeLaws IsPoint v) (ok : ObjectLaws v o) (max widest : ℕ) {P S X : Type 0} where
+  inner : (p : ParentNode T E P S X) → IsKeptInner v o max widest p → IsInner v o p
+  inner p k = (k.0.tight, λ none. let long = ap length none in absurd (omega (arith, long, k.1)))
+
+  -- kept trees are whole
+  pub whole_of_kept : (h : ℕ) (ns : List (RTreeNode T E P S X)) → AreKept v o max widest h ns → AreWhole v o h ns
+  whole_of_kept = trees_map inner (λ t k. k)
+
+  -- the envelope that took one element more in is the merge of what is there after it
+  pub hull_grown : (h : ℕ) (t : T) (old new : List (RTreeNode T E P S X)) (e f : E) → AreKept v o max widest h old → e ≡ hull v o.box_of (all_elements old)
+      → o.IsValue t → f ≡ v.merge e (o.box_of t)
+      → IsPermutation (t ∷ all_elements old) (all_elements new) → AreKept v o max widest h new
+      → (f ≡ hull v o.box_of (all_elements new)) × (f ≡ hull v (node_box o.box_of) new)
+  hull_grown h t old new e f before was value next bag after =
+      let o_values = values-of laws ok (all_elements old) (all_sound v o h old (whole_of_kept h old before)) in
+      let both = hull_along laws o.box_of (t ∷ all_elements old) (all_elements new) bag (ok t value, o_values) in
+      let first : v.IsValue e = subst v.IsValue (sym was) (hull-value laws o.box_of (all_elements old) o_values) in
+      let is : f ≡ hull v o.box_of (all_elements new) = next ∙ laws.merge_comm e (o.box_of t) first (ok t value) ∙ ap (v.merge (o.box_of t)) was ∙ both.0 in
+      (is, is ∙ sym (merged_is_hull laws ok h new (whole_of_kept h new after)))
+
+  pub inner_of_fit : (h : ℕ) (p : ParentNode T E P S X) → AreKept v o max widest h p.children.items → IsFit v o max widest p → IsKeptInner v o max widest p
+  inner_of_fit h p trees fit =
+      (record { tight = fit.merged ∙ merged_is_hull laws ok h p.children.items (whole_of_kept h p.children.items trees); roomy = fit.roomy }, fit.some)
+
+  -- what an insertion leaves of a list of children, after it was parted
+  pub added : (h : ℕ) (t : T) (old before : List (RTreeNode T E P S X)) (p : ParentNode T E P S X) (r : Option (ParentNode T E P S X))
+      → IsPermutation (t ∷ all_elements old) (all_elements before) → AreKept v o max widest h before → IsPermutation before (p.children.items ++ second_children r)
+      → IsFit v o max widest p → IfSome r (IsFit v o max widest)
+      → IsPermutation (t ∷ all_elements old) (all_elements (p.children.items ++ second_children r)) × IsKeptTree v o max widest h p × IfSome r (IsKeptTree v o max widest h)
+  added h t old before p r bag trees same first second =
+      let parts = all_along (IsTree (IsKeptInner v o max widest) (IsElement v o) h) before (p.children.items ++ second_children r) same trees in
+      let one = all_first (IsTree (IsKeptInner v o max widest) (IsElement v o) h) p.children.items (second_children r) parts in
+      let two = all_second (IsTree (IsKeptInner v o max widest) (IsElement v o) h) p.children.items (second_children r) parts in
+      (IsPermutation-trans _ _ _ bag (elements_along before (p.children.items ++ second_children r) same), (inner_of_fit h p one first, one), other r two second) where
+    other : (r : Option (ParentNode T E P S X)) → AreKept v o max widest h (second_children r) → IfSome r (IsFit v o max widest) → IfSome r (IsKeptTree v o max widest h)
+    other None trees fit = tt
+    other (Some q) trees fit = (inner_of_fit h q trees fit, trees)
+
+  -- a leaf at the end of a list of leaves
+  pub leaf_added : (h : ℕ) (t : T) (old : List (RTreeNode T E P S X)) → h ≡ 0 → IsElement v o t → AreKept v o max widest h old
+      → IsPermutation (t ∷ all_elements old) (all_elements (old ++ Leaf t ∷ [])) × AreKept v o max widest h (old ++ Leaf t ∷ [])
+  leaf_added h t old low is trees =
+      (IsPermutation-trans _ _ _ (IsPermutation-sym _ _ (IsPermutation-to_front (all_elements old) t))
+        (IsPermutation-same _ _ (sym (all_elements-append old (Leaf t ∷ []) ∙ ap (λ (ts : List T). all_elements old ++ ts) (all_elements-single (Leaf t) ∙ elements-Leaf T E P S X t)))),
+      all-append (IsTree (IsKeptInner v o max widest) (IsElement v o) h) old (Leaf t ∷ []) trees (leaf_tree (IsKeptInner v o max widest) (IsElement v o) h t low is, tt))
+
+  -- a child that took the element in, and what it handed out
+  pub child_grown : (h : ℕ) (t : T) (old : List (RTreeNode T E P S X)) (i : ℕ) (a b : ParentNode T E P S X) (r : Option (ParentNode T E P S X))
+      → 0 < h → i < length old → Parent a ≡ get_or old i (Parent a) → AreKept v o max widest h old
+      → IsPermutation (t ∷ all_elements a.children.items) (all_elements (b.children.items ++ second_children r))
+      → IsKeptTree v o max widest (h - 1) b → IfSome r (IsKeptTree v o max widest (h - 1))
+      → IsPermutation (t ∷ all_elements old) (all_elements (set old i (Parent b) ++ as_node r)) × AreKept v o max widest h (set old i (Parent b) ++ as_node r)
+  child_grown h t old i a b r above below is trees bag first second =
+      (rw (all_elements-append (set old i (Parent b)) (as_node r)) (bag_of_set t old i (Parent a) (Parent b) (all_elements (as_node r)) below
+        (rw (← is, elements-Parent a, elements-Parent b, same_list r, ← all_elements-append b.children.items (second_children r)) bag)),
+      all-append (IsTree (IsKeptInner v o max widest) (IsElement v o) h) (set old i (Parent b)) (as_node r)
+        (all_set (IsTree (IsKeptInner v o max widest) (IsElement v o) h) old i (Parent b) trees (tree_of (IsKeptInner v o max widest) (IsElement v o) h b above first.0 first.1))
+        (are_trees (IsKeptInner v o max widest) (IsElement v o) h r above second))
+
+  -- a root above two parents is a tree of one level more
+  pub root_grown : (h : ℕ) (a b p : ParentNode T E P S X) → IsKeptTree v o max widest h a → IsKeptTree v o max widest h b
+      → p.children.items ≡ Parent a ∷ Parent b ∷ [] → p.envelope ≡ v.merge a.envelope b.envelope → HasRoom max p.children → 2 ≤ widest
+      → IsKeptTree v o max widest (h + 1) p
+  root_grown h a b p first second are is room wide =
+      let trees : AreKept v o max widest (h + 1) (Parent a ∷ Parent b ∷ []) = rw add-one (IsParentOf-Parent _ a first, (IsParentOf-Parent _ b second, tt)) in
+      let b_values = values-of laws ok (all_elements b.children.items) (all_sound v o h b.children.items (whole_of_kept h b.children.items second.1)) in
+      let value : v.IsValue b.envelope = subst v.IsValue (sym second.0.0.tight) (hull-value laws o.box_of (all_elements b.children.items) b_values) in
+      let last : v.merge b.envelope v.empty ≡ b.envelope = merge_empty_right laws b.envelope value in
+      let both : hull v (node_box o.box_of) (Parent a ∷ Parent b ∷ []) ≡ v.merge a.envelope b.envelope =
+          ap (λ e. v.merge e (v.merge (node_box o.box_of (Parent b)) v.empty)) (node_box-Parent o.box_of a)
+          ∙ ap (λ e. v.merge a.envelope (v.merge e v.empty)) (node_box-Parent o.box_of b) ∙ ap (v.merge a.envelope) last in
+      let all = merged_is_hull laws ok (h + 1) (Parent a ∷ Parent b ∷ []) (whole_of_kept (h + 1) (Parent a ∷ Parent b ∷ []) trees) in
+      ((record {
+        tight = is ∙ sym both ∙ all ∙ ap (λ (ns : List (RTreeNode T E P S X)). hull v o.box_of (all_elements ns)) (sym are);
+        roomy = record { narrow = rw are (omega arith); room = room };
+      }, rw are (omega arith)), rw are trees)
+
+module _ {T E P S X : Type 0} (min max : ℕ) (positive : 0 < min) where
+  -- what is left of a list of children after it was parted is sized
+  pub sized_parts : (h n : ℕ) (before : List (RTreeNode T E P S X)) (p : ParentNode T E P S X) (r : Option (ParentNode T E P S X)) → AreTrees (HasSize min max) IsAny h before
+      → IsPermutation before (p.children.items ++ second_children r) → n ≤ max
+      → IfNone r (vec_len p.children ≡ n + 1) → IfNone r (vec_len p.children ≤ max)
+      → IfSome r (λ _. min ≤ vec_len p.children) → IfSome r (λ q. min ≤ vec_len q.children) → IfSome r (λ q. vec_len p.children + vec_len q.children ≡ n + 1)
+      → IsSizedAfter min max h n p r
+  sized_parts h n before p None trees same few whole fits first second lengths =
+      let parts = all_along (IsTree (HasSize min max) IsAny h) before (p.children.items ++ []) same trees in
+      record {
+        below = all_first (IsTree (HasSize min max) IsAny h) p.children.items [] parts;
+        most = omega (arith, p.children.ok.0);
+        still_least = λ k. omega (arith, p.children.ok.0);
+        cut_least = tt;
+        second_sized = tt;
+      }
+  sized_parts h n before p (Some q) trees same few whole fits first second lengths =
+      let parts = all_along (IsTree (HasSize min max) IsAny h) before (p.children.items ++ q.children.items) same trees in
+      record {
+        below = all_first (IsTree (HasSize min max) IsAny h) p.children.items q.children.items parts;
+        most = omega (arith, p.children.ok.0);
+        still_least = λ k. omega (arith, p.children.ok.0);
+        cut_least = omega (arith, p.children.ok.0);
+        second_sized = ((omega (arith, q.children.ok.0), omega (arith, q.children.ok.0)), all_second (IsTree (HasSize min max) IsAny h) p.children.items q.children.items parts);
+      }
+
+  pub sized_leaf : (h : ℕ) (t : T) (old : List (RTreeNode T E P S X)) → h ≡ 0 → AreTrees (HasSize min max) IsAny h old → AreTrees (HasSize min max) IsAny h (old ++ Leaf t ∷ [])
+  sized_leaf h t old low trees = all-append (IsTree (HasSize min max) IsAny h) old (Leaf t ∷ []) trees (leaf_tree (HasSize min max) IsAny h t low tt, tt)
+
+  -- a child that took an element in, and what it handed out
+  pub sized_child : (h : ℕ) (old : List (RTreeNode T E P S X)) (i : ℕ) (a b : ParentNode T E P S X) (r : Option (ParentNode T E P S X)) → 0 < h → i < length old → Parent a ≡ get_or old i (Parent a)
+      → AreTrees (HasSize min max) IsAny h old
+      → (AreTrees (HasSize min max) IsAny (h - 1) a.children.items → vec_len a.children ≤ max → IsSizedAfter min max (h - 1) (vec_len a.children) b r)
+      → AreTrees (HasSize min max) IsAny h (set old i (Parent b) ++ as_node r)
+  sized_child h old i a b r above below is trees after =
+      let here = tree_at (HasSize min max) IsAny h a above (rw is (all_get (IsTree (HasSize min max) IsAny h) old i (Parent a) below trees)) in
+      let done = after here.1 (omega (arith, here.0.1, a.children.ok.0)) in
+      let least : min ≤ length b.children.items = done.still_least (omega (arith, here.0.0, a.children.ok.0)) in
+      all-append (IsTree (HasSize min max) IsAny h) (set old i (Parent b)) (as_node r)
+        (all_set (IsTree (HasSize min max) IsAny h) old i (Parent b) trees (tree_of (HasSize min max) IsAny h b above (least, done.most) done.below))
+        (are_trees (HasSize min max) IsAny h r above done.second_sized)
+
+  -- a root above two sized parts
+  pub sized_root : (h : ℕ) (a b p : ParentNode T E P S X) → AreTrees (HasSize min max) IsAny h a.children.items → min ≤ length a.children.items → length a.children.items ≤ max
+      → IsParentTree (HasSize min max) IsAny h b → p.children.items ≡ Parent a ∷ Parent b ∷ [] → 2 ≤ max → IsSized min max p
+  sized_root h a b p first low high second are wide = record {
+    height = suc h;
+    most = rw are (omega arith);
+    below = rw are (IsParentOf-Parent _ a ((low, high), first), (IsParentOf-Parent _ b second, tt));
+  }

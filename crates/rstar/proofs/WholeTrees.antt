@@ -1,0 +1,77 @@
+-- From what a tree keeps to what an insertion asks, and back.
+use Rattle.std.proofs.Common.{◌≡◌, ◌≢◌, ℕ, ℤ, zero, suc, ◌+◌, ◌*◌, ◌<◌, ◌≤◌, List, [], ◌∷◌, length, max, min, inl, inr, ⊎_elim, ◌⊎◌, refl, ap, sym, ◌∙◌, subst, arith, add-one}
+use Rattle.std.specs.List.{AllByRecursion}
+use Rattle.rstar_base.specs.Envelopes.{Boxes}
+use Rattle.rstar_base.specs.Elements.{Objects}
+use Rattle.rstar.specs.declared.node.RTreeNode.{RTreeNode, Leaf, Parent}
+use Rattle.rstar.specs.declared.node.ParentNode.{ParentNode}
+use Rattle.rstar.specs.Nodes.{IsTree, IsElement, IsInner, AreWhole, IsWhole, children_of}
+use Rattle.rstar.specs.Shapes.{AreTrees, IsAny, HasSize, IsSized}
+use Rattle.rstar.specs.Heights.{levels_below, spare_lists}
+use Rattle.rstar.specs.Kept.{IsRoomy, IsKept, IsKeptInner, AreKept, IsKeptTree}
+use Rattle.rstar.proofs.Heights.{levels_are}
+use Rattle.rstar.proofs.Rows.{is_parent, parent_of, IsParentOf-Parent}
+use Rattle.rstar.proofs.Insertion.{trees_map}
+
+some_item : {A : Type 0} (xs : List A) → xs ≢ [] → 0 < length xs
+some_item [] full = absurd (full refl)
+some_item (x ∷ xs) full = omega arith
+
+module _ {T E P S X : Type 0} (v : Boxes E) (o : Objects T E) (max widest : ℕ) where
+  all_kept : (h : ℕ) → ((n : RTreeNode T E P S X) → IsTree (IsInner v o) (IsElement v o) h n → IsTree (IsRoomy max widest) IsAny h n → IsTree (IsKeptInner v o max widest) (IsElement v o) h n)
+      → (ns : List (RTreeNode T E P S X)) → AreWhole v o h ns → AreTrees (IsRoomy max widest) IsAny h ns → AreKept v o max widest h ns
+  all_kept h one [] w r = tt
+  all_kept h one (n ∷ ns) w r = (one n w.0 r.0, all_kept h one ns w.1 r.1)
+
+  tree_kept : (h : ℕ) (n : RTreeNode T E P S X) → IsTree (IsInner v o) (IsElement v o) h n → IsTree (IsRoomy max widest) IsAny h n → IsTree (IsKeptInner v o max widest) (IsElement v o) h n
+  tree_kept zero n w r = w
+  tree_kept (suc h) n w r =
+      let p = is_parent _ n w in
+      let q = parent_of _ p.0 (subst (IsTree (IsRoomy max widest) IsAny (suc h)) p.1 r) in
+      subst (IsTree (IsKeptInner v o max widest) (IsElement v o) (suc h)) (sym p.1)
+        (IsParentOf-Parent _ p.0 ((record { tight = p.2.0.0; roomy = q.0 }, some_item p.0.children.items p.2.0.1), all_kept h (tree_kept h) p.0.children.items p.2.1 q.1))
+
+  -- whole trees with room, by the levels that their first leaf shows
+  pub kept_at : (h n : ℕ) (ns : List (RTreeNode T E P S X)) → n ≡ levels_below ns → AreWhole v o h ns → AreTrees (IsRoomy max widest) IsAny h ns → AreKept v o max widest n ns
+  kept_at h n [] is w r = tt
+  kept_at h n (m ∷ ms) is w r =
+      subst (λ (k : ℕ). AreKept v o max widest k (m ∷ ms)) (sym (is ∙ levels_are (IsInner v o) (IsElement v o) (λ p q. q.1) h (m ∷ ms) (λ none. cc) w)) (all_kept h (tree_kept h) (m ∷ ms) w r)
+
+  -- what is kept of room
+  pub rooms_of : (h : ℕ) (ns : List (RTreeNode T E P S X)) → AreKept v o max widest h ns → AreTrees (IsRoomy max widest) IsAny h ns
+  rooms_of = trees_map (λ p k. k.0.roomy) (λ t k. tt)
+
+module _ {T E P S X : Type 0} (min max : ℕ) (positive : 0 < min) where
+  has_child : (p : ParentNode T E P S X) → HasSize min max p → p.children.items ≢ []
+  has_child p size none = let long = ap length none in absurd (omega (arith, long, size.0))
+
+  -- sized trees, by the levels that their first leaf shows
+  pub sized_at : (h n : ℕ) (ns : List (RTreeNode T E P S X)) → n ≡ levels_below ns → AreTrees (HasSize min max) IsAny h ns → AreTrees (HasSize min max) IsAny n ns
+  sized_at h n [] is w = tt
+  sized_at h n (m ∷ ms) is w =
+      subst (λ (k : ℕ). AreTrees (HasSize min max) IsAny k (m ∷ ms)) (sym (is ∙ levels_are (HasSize min max) IsAny has_child h (m ∷ ms) (λ none. cc) w)) w
+
+pub sized_along : {T E P S X : Type 0} (min max : ℕ) (a b : ParentNode T E P S X) → children_of b ≡ children_of a → IsSized min max a → IsSized min max b
+sized_along min max a b same s = record {
+  height = s.height;
+  most = rw same s.most;
+  below = subst (AreTrees (HasSize min max) IsAny s.height) (sym same) s.below;
+}
+
+times_one : (m n : ℕ) → 0 < m → n ≤ m * n
+times_one zero n h = absurd (omega arith)
+times_one (suc m) n h = grind arith
+
+-- the spare lists are enough for a way down and a new root
+pub enough_lists : (reinserted levels wanted have : ℕ) → wanted ≡ spare_lists reinserted (1 + levels) → wanted ≤ have → levels + 1 < have
+enough_lists reinserted levels wanted have is fits =
+    let all = times_one (max 1 reinserted) (1 + levels + reinserted + 2) (omega arith) in omega arith
+
+-- a number of lists that a `usize` counts was not cut off, and is no reason to refuse
+pub counted_lists : (reinserted below levels wanted size top : ℕ) → levels ≡ min below top → wanted ≡ spare_lists reinserted (1 + levels) → wanted ≤ top → size < top
+    → (size ≡ top) ⊎ (top < spare_lists reinserted (1 + below)) → ⊥
+counted_lists reinserted below levels wanted size top cut is fits room bad =
+    let low = enough_lists reinserted levels wanted wanted is (omega arith) in
+    let same : levels ≡ below = omega arith in
+    let lists : wanted ≡ spare_lists reinserted (1 + below) = is ∙ ap (λ n. spare_lists reinserted (1 + n)) same in
+    ⊎_elim (λ full. omega arith) (λ many. omega (arith, lists, many)) bad

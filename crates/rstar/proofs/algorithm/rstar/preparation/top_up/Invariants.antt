@@ -1,0 +1,10 @@
+use Rattle.std.proofs.Common.{◌-◌, vec_len}
+use Rattle.std.specs.List.{AllByRecursion}
+use Rattle.rstar.specs.Kept.{IsSpare}
+use Rattle.rstar.proofs.algorithm.rstar.preparation.top_up.Given as goal
+
+abbrev pub invariant-loop-alloc : goal.invariant-loop-alloc
+invariant-loop-alloc g l = AllByRecursion (IsSpare l.widest) l.spares.items
+
+abbrev pub decreases-loop-alloc : goal.decreases-loop-alloc
+decreases-loop-alloc g l = l.wanted - vec_len l.spares

@@ -1,0 +1,3 @@
+//! The algorithms of the tree.
+
+pub mod rstar;

@@ -1,0 +1,51 @@
+//! Insertion, and how an overfull parent is split, after Beckmann, Kriegel, Schneider and Seeger, "The R*-tree" (1990).
+
+ghost use Rattle.std.specs.Prelude.{◌≡◌, ◌≤◌, ◌<◌, [], ◌++◌, vec_len, vec_capacity, unsigned_abs};
+ghost use Rattle.rstar.specs.Cuts.{IsArrangement, IsLeastCut};
+ghost use Rattle.rstar.specs.Nodes.{node_box};
+
+mod choose;
+pub(crate) mod insertion;
+pub(crate) mod preparation;
+mod split;
+
+use crate::algorithm::rstar::split::split_in_place;
+use crate::node::RTreeNode;
+use crate::params::{InsertError, InsertionStrategy};
+use crate::rtree::RTree;
+use rstar_base::envelope::Envelope;
+use rstar_base::object::RTreeObject;
+use rstar_base::params::RTreeParams;
+
+/// Inserts as the R*-tree does: going down into the child that contains the element or has to grow least, and splitting
+/// a parent that has too many children by a least cut.
+pub enum RStarInsertionStrategy {}
+
+impl InsertionStrategy for RStarInsertionStrategy {
+    fn insert<T: RTreeObject, Params: RTreeParams>(tree: &mut RTree<T, Params>, t: T) -> Result<(), InsertError<T>> {
+        tree.insert_prepared(t)
+    }
+}
+
+/// Cuts a list of more than `MAX_SIZE` children in two parts of at least `MIN_SIZE`.
+///
+/// The parts are those of an arrangement of the list: a reordering that rises by the `axis_key` of one axis, where there
+/// is an axis. No allowed cut of that arrangement has a smaller overlap of the two merges, and none of the same overlap
+/// a smaller clamped sum of their areas. `spare` is an empty list with room for all children; no memory is taken. It
+/// costs a sort for each axis and one more, and a merge of all children for each allowed cut of each.
+pub fn split_children<T: RTreeObject, Params: RTreeParams>(
+    list: Vec<RTreeNode<T>>,
+    spare: Vec<RTreeNode<T>>,
+) -> (Vec<RTreeNode<T>>, Vec<RTreeNode<T>>)
+    requires many { Params.MAX_SIZE < vec_len list }
+    requires empty { spare.items ≡ [] }
+    requires room { vec_len list ≤ vec_capacity spare }
+    ensures arranged { IsArrangement T.Envelope.Point.DIMENSIONS (λ n axis. T.Envelope.boxes.axis_key (node_box T.object.box_of n) axis) list.items (result.0.items ++ result.1.items) }
+    ensures least { IsLeastCut T.Envelope.boxes (node_box T.object.box_of) (unsigned_abs T.Envelope.Point.Scalar.high) Params.MIN_SIZE (result.0.items ++ result.1.items) (vec_len result.0) }
+    ensures capacities { (vec_capacity result.0 ≡ vec_capacity list) × (vec_capacity spare ≤ vec_capacity result.1) }
+{
+    let mut first = list;
+    let mut second = spare;
+    split_in_place::<_, Params>(&mut first, &mut second);
+    (first, second)
+}

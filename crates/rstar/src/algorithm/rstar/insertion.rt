@@ -1,0 +1,180 @@
+//! Insertion below a root whose memory was prepared: nothing here takes memory, and nothing can fail.
+
+ghost use Rattle.std.specs.Prelude.{◌≡◌, ℕ, ◌+◌, ◌<◌, ◌≤◌, [], ◌∷◌, ◌++◌, false, length, vec_len, vec_capacity, IfSome, IfNone};
+ghost use Rattle.std.specs.List.{AllByRecursion};
+ghost use Rattle.std.specs.List.Sorted.{IsPermutation};
+ghost use Rattle.rstar_base.specs.Hulls.{hull};
+ghost use Rattle.rstar.specs.declared.node.RTreeNode.{Parent};
+ghost use Rattle.rstar.specs.Nodes.{node_box, all_elements};
+ghost use Rattle.rstar.specs.Shapes.{AreTrees, IsAny, HasSize, IsSized};
+ghost use Rattle.rstar.specs.Kept.{HasRoom, IsRoomy, IsSpare, IsKept, IsFit, AreKept, IsKeptTree, IsSizedAfter, second_children, as_node};
+
+use crate::algorithm::rstar::choose::choose_subtree;
+use crate::algorithm::rstar::split::split_in_place;
+use crate::node::{ParentNode, RTreeNode, envelope_for_children};
+use rstar_base::envelope::{Envelope, copied_envelope};
+use rstar_base::object::RTreeObject;
+use rstar_base::params::RTreeParams;
+use std::mem;
+
+/// Adds a child that the node's envelope covers already. An overflow is cut in two, and the second part handed out.
+fn add_child<T: RTreeObject, Params: RTreeParams>(
+    node: &mut ParentNode<T>,
+    child: RTreeNode<T>,
+    widest: usize,
+    spares: &mut Vec<Vec<RTreeNode<T>>>,
+) -> Option<ParentNode<T>>
+    requires covered { node.old.envelope ≡ hull T.Envelope.boxes (node_box T.object.box_of) (node.old.children.items ++ child ∷ []) }
+    requires roomy { IsRoomy Params.MAX_SIZE widest node.old }
+    requires wide { Params.MAX_SIZE ≤ widest }
+    requires spares { AllByRecursion (IsSpare widest) spares.old.items }
+    requires enough { 0 < vec_len spares.old }
+
+    // The children are those before and the new one.
+    ensures same { IsPermutation (node.old.children.items ++ child ∷ []) (node.new.children.items ++ second_children result) }
+
+    // Each part has room, and the merge of its children's envelopes.
+    ensures first { IsFit T.Envelope.boxes T.object Params.MAX_SIZE widest node.new }
+    ensures second { IfSome result (IsFit T.Envelope.boxes T.object Params.MAX_SIZE widest) }
+
+    // Only an overflow is cut, and each part then has at least the least number.
+    ensures whole { IfNone result (vec_len node.new.children ≡ vec_len node.old.children + 1) }
+    ensures low { IfNone result (vec_len node.new.children ≤ Params.MAX_SIZE) }
+    ensures first_least { IfSome result (λ _. Params.MIN_SIZE ≤ vec_len node.new.children) }
+    ensures second_least { IfSome result (λ p. Params.MIN_SIZE ≤ vec_len p.children) }
+    ensures lengths { IfSome result (λ p. vec_len node.new.children + vec_len p.children ≡ vec_len node.old.children + 1) }
+
+    // At most one spare list was used.
+    ensures spares { AllByRecursion (IsSpare widest) spares.new.items }
+    ensures used { vec_len spares.old ≤ vec_len spares.new + 1 }
+{
+    let Ok(()) = node.children.push(child) else { unreachable!() };
+    if node.children.len() <= Params::MAX_SIZE {
+        return None;
+    }
+    let Some(mut second) = spares.pop() else { unreachable!() };
+    split_in_place::<_, Params>(&mut node.children, &mut second);
+    node.envelope = envelope_for_children(&node.children);
+    let envelope = envelope_for_children(&second);
+    Some(ParentNode {
+        children: second,
+        envelope,
+    })
+}
+
+/// Inserts an element below the node, whose children are trees of `levels` levels of parents. A second part that the
+/// node's parent has to take in is handed out.
+#[cycle(insert)]
+fn insert_below<T: RTreeObject, Params: RTreeParams>(
+    node: &mut ParentNode<T>,
+    t: T,
+    levels: usize,
+    widest: usize,
+    spares: &mut Vec<Vec<RTreeNode<T>>>,
+) -> Option<ParentNode<T>>
+    requires node { IsKept T.Envelope.boxes T.object Params.MAX_SIZE widest node.old }
+    requires below { AreKept T.Envelope.boxes T.object Params.MAX_SIZE widest levels node.old.children.items }
+    requires some { 0 < levels → 0 < vec_len node.old.children }
+    requires element { T.Envelope.boxes.is_empty (T.object.box_of t) ≡ false }
+    requires wide { Params.MAX_SIZE ≤ widest }
+    requires spares { AllByRecursion (IsSpare widest) spares.old.items }
+    requires enough { levels < vec_len spares.old }
+    ensures bag { IsPermutation (t ∷ all_elements node.old.children.items) (all_elements (node.new.children.items ++ second_children result)) }
+    ensures first { IsKeptTree T.Envelope.boxes T.object Params.MAX_SIZE widest levels node.new }
+    ensures second { IfSome result (IsKeptTree T.Envelope.boxes T.object Params.MAX_SIZE widest levels) }
+    ensures sized { AreTrees (HasSize Params.MIN_SIZE Params.MAX_SIZE) IsAny levels node.old.children.items → vec_len node.old.children ≤ Params.MAX_SIZE
+        → IsSizedAfter Params.MIN_SIZE Params.MAX_SIZE levels (vec_len node.old.children) node.new result }
+    ensures spares { AllByRecursion (IsSpare widest) spares.new.items }
+    ensures used { vec_len spares.old ≤ vec_len spares.new + levels + 1 }
+{
+    let envelope = t.envelope();
+    node.envelope.merge(&envelope);
+    if levels == 0 {
+        return add_child::<T, Params>(node, RTreeNode::Leaf(t), widest, spares);
+    }
+    let index = choose_subtree(&node.children, &envelope, levels == 1);
+    match insert_in_child::<T, Params>(&mut node.children, index, t, levels, widest, spares) {
+        None => None,
+        Some(second) => add_child::<T, Params>(node, RTreeNode::Parent(second), widest, spares),
+    }
+}
+
+/// Inserts an element into one of some trees of `levels` levels of parents, and hands out its second part.
+#[cycle(insert)]
+fn insert_in_child<T: RTreeObject, Params: RTreeParams>(
+    children: &mut Vec<RTreeNode<T>>,
+    index: usize,
+    t: T,
+    levels: usize,
+    widest: usize,
+    spares: &mut Vec<Vec<RTreeNode<T>>>,
+) -> Option<ParentNode<T>>
+    requires index { index < vec_len children.old }
+    requires above { 0 < levels }
+    requires below { AreKept T.Envelope.boxes T.object Params.MAX_SIZE widest levels children.old.items }
+    requires element { T.Envelope.boxes.is_empty (T.object.box_of t) ≡ false }
+    requires wide { Params.MAX_SIZE ≤ widest }
+    requires spares { AllByRecursion (IsSpare widest) spares.old.items }
+    requires enough { levels ≤ vec_len spares.old }
+    ensures bag { IsPermutation (t ∷ all_elements children.old.items) (all_elements (children.new.items ++ as_node result)) }
+    ensures below { AreKept T.Envelope.boxes T.object Params.MAX_SIZE widest levels (children.new.items ++ as_node result) }
+    ensures sized { AreTrees (HasSize Params.MIN_SIZE Params.MAX_SIZE) IsAny levels children.old.items → AreTrees (HasSize Params.MIN_SIZE Params.MAX_SIZE) IsAny levels (children.new.items ++ as_node result) }
+    ensures length { vec_len children.new ≡ vec_len children.old }
+    ensures capacity { vec_capacity children.new ≡ vec_capacity children.old }
+    ensures spares { AllByRecursion (IsSpare widest) spares.new.items }
+    ensures used { vec_len spares.old ≤ vec_len spares.new + levels }
+{
+    match &mut children[index] {
+        RTreeNode::Parent(child) => insert_below::<T, Params>(child, t, levels - 1, widest, spares),
+        RTreeNode::Leaf(_) => unreachable!(),
+    }
+}
+
+/// Puts a new root above the old one and a second part.
+fn grow_root<T: RTreeObject, Params: RTreeParams>(
+    root: &mut ParentNode<T>,
+    second: ParentNode<T>,
+    widest: usize,
+    spares: &mut Vec<Vec<RTreeNode<T>>>,
+)
+    requires wide { Params.MAX_SIZE ≤ widest }
+    requires spares { AllByRecursion (IsSpare widest) spares.old.items }
+    requires enough { 0 < vec_len spares.old }
+    ensures children { root.new.children.items ≡ Parent root.old ∷ Parent second ∷ [] }
+    ensures envelope { root.new.envelope ≡ T.Envelope.boxes.merge root.old.envelope second.envelope }
+    ensures room { HasRoom Params.MAX_SIZE root.new.children }
+    ensures spares { AllByRecursion (IsSpare widest) spares.new.items }
+    ensures used { vec_len spares.old ≡ vec_len spares.new + 1 }
+{
+    let Some(children) = spares.pop() else { unreachable!() };
+    let envelope = root.envelope.merged(&second.envelope);
+    let old = mem::replace(root, ParentNode { children, envelope });
+    let Ok(()) = root.children.push(RTreeNode::Parent(old)) else { unreachable!() };
+    let Ok(()) = root.children.push(RTreeNode::Parent(second)) else { unreachable!() };
+}
+
+/// Inserts an element from the root, whose children are trees of `levels` levels of parents. The root grows a level
+/// where it is split.
+pub(crate) fn insert_at_root<T: RTreeObject, Params: RTreeParams>(
+    root: &mut ParentNode<T>,
+    t: T,
+    levels: usize,
+    widest: usize,
+    spares: &mut Vec<Vec<RTreeNode<T>>>,
+)
+    requires root { IsKept T.Envelope.boxes T.object Params.MAX_SIZE widest root.old }
+    requires below { AreKept T.Envelope.boxes T.object Params.MAX_SIZE widest levels root.old.children.items }
+    requires some { 0 < levels → 0 < vec_len root.old.children }
+    requires element { T.Envelope.boxes.is_empty (T.object.box_of t) ≡ false }
+    requires wide { Params.MAX_SIZE ≤ widest }
+    requires spares { AllByRecursion (IsSpare widest) spares.old.items }
+    requires enough { levels + 1 < vec_len spares.old }
+    ensures bag { IsPermutation (t ∷ all_elements root.old.children.items) (all_elements root.new.children.items) }
+    ensures whole { (h : ℕ) × IsKeptTree T.Envelope.boxes T.object Params.MAX_SIZE widest h root.new }
+    ensures sized { AreTrees (HasSize Params.MIN_SIZE Params.MAX_SIZE) IsAny levels root.old.children.items → vec_len root.old.children ≤ Params.MAX_SIZE → IsSized Params.MIN_SIZE Params.MAX_SIZE root.new }
+    ensures spares { AllByRecursion (IsSpare widest) spares.new.items }
+{
+    if let Some(second) = insert_below::<T, Params>(root, t, levels, widest, spares) {
+        grow_root::<T, Params>(root, second, widest, spares);
+    }
+}

@@ -1,0 +1,57 @@
+//! The memory of an insertion, which is taken before the first change.
+
+ghost use Rattle.std.specs.Prelude.{◌≡◌, ◌+◌, ◌<◌, ◌≤◌, ◌^◌, min, OnOk, IfSome, IfNone, vec_len};
+ghost use Rattle.std.specs.List.{AllByRecursion};
+ghost use Rattle.rstar.specs.Heights.{levels_below, spare_lists};
+ghost use Rattle.rstar.specs.Kept.{IsSpare};
+
+use crate::node::{ParentNode, RTreeNode};
+use rstar_base::object::RTreeObject;
+use rstar_base::params::RTreeParams;
+use std::alloc::{AllocError, Global};
+
+/// The levels of parents below a root, held at the greatest `usize`.
+pub(crate) fn levels_of<T: RTreeObject>(root: &ParentNode<T>) -> usize
+    ensures { result ≡ min (levels_below root.now.children.items) usize.MAX }
+{
+    let mut nodes = root.children.as_slice();
+    let mut levels = 0usize;
+    while let Some((first, _rest)) = nodes.split_first() {
+        match first {
+            RTreeNode::Leaf(_) => break,
+            RTreeNode::Parent(below) => {
+                nodes = below.children.as_slice();
+                levels = levels.saturating_add(1);
+            }
+        }
+    }
+    levels
+}
+
+/// How many spare lists an insertion wants below a root with so many levels of parents, where a `usize` counts them.
+pub(crate) fn lists_wanted<Params: RTreeParams>(levels: usize) -> Option<usize>
+    ensures some { IfSome result (λ n. n ≡ spare_lists Params.REINSERTION_COUNT (1 + levels)) }
+    ensures none { IfNone result (usize.MAX < spare_lists Params.REINSERTION_COUNT (1 + levels)) }
+{
+    let each = levels.checked_add(1)?.checked_add(Params::REINSERTION_COUNT)?.checked_add(2)?;
+    Params::REINSERTION_COUNT.max(1).checked_mul(each)
+}
+
+/// Tops the spare lists up to so many. Each can hold one child more than `widest`.
+pub(crate) fn top_up<T: RTreeObject>(
+    spares: &mut Vec<Vec<RTreeNode<T>>>,
+    wanted: usize,
+    widest: usize,
+    alloc: Global,
+) -> Result<(), AllocError>
+    requires spares { AllByRecursion (IsSpare widest) spares.old.items }
+    requires fits { widest < usize.MAX }
+    ensures spares { AllByRecursion (IsSpare widest) spares.new.items }
+    ensures enough { OnOk result (wanted ≤ vec_len spares.new) }
+{
+    while spares.len() < wanted {
+        let list = Vec::with_capacity(alloc, widest + 1)?;
+        spares.push(list)?;
+    }
+    Ok(())
+}
