@@ -1,7 +1,8 @@
 pub mod Scalars
 pub mod Sizes
 pub mod Points
-pub mod Tuples
+pub mod PointLemmas
+pub mod TupleLemmas
 pub mod Boxes
 pub mod BoxLaws
 pub mod BoxEq
