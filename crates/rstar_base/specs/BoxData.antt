@@ -1,29 +1,11 @@
 -- Boxes as envelopes.
-use Rattle.std.specs.Prelude.{◌≡◌, ◌+◌, ◌*◌, ◌+ℤ◌, ◌-ℤ◌, ◌<ℤ◌, ℕ, ℤ, List, [], ◌∷◌, map, min, pos, unsigned_abs, slice_index_or, int_div}
-use Rattle.std.specs.Int.{int_min, int_max}
+use Rattle.std.specs.Prelude.{◌<ℤ◌, ℕ, ℤ, List, min, pos, unsigned_abs, slice_index_or}
 use Rattle.rstar_base.specs.Points.{IsPoint}
 use Rattle.rstar_base.specs.Boxes.{is_empty_box, box_contains_point, contains_box, merge_boxes, boxes_intersect, empty_box, IsBox}
 use Rattle.rstar_base.specs.BoxLaws.{merge-comm, merge-assoc, merge-unit, merge-empty-left, merge-empty-right, merge-box, empty-box, merge-contains, contains-refl, contains-trans, contains-point, contains-intersects, intersects-sym, intersects-self, low_le_high, long_same}
 use Rattle.rstar_base.specs.Distances.{box_distance, box_min_max, box_distance-up, box_min_max-merge}
+use Rattle.rstar_base.specs.Measures.{extent_product, extent_sum, overlap, box_center}
 use Rattle.rstar_base.specs.Envelopes.{Boxes, EnvelopeLaws}
-
--- how far an interval goes, 0 where its bounds are inverted
-abbrev pub extent : ℤ × ℤ → ℕ
-extent x = unsigned_abs (int_max (pos 0) (x.1 -ℤ x.0))
-
-abbrev pub extent_product : List (ℤ × ℤ) → ℕ
-extent_product [] = 1
-extent_product (x ∷ xs) = extent x * extent_product xs
-
-abbrev pub extent_sum : List (ℤ × ℤ) → ℕ
-extent_sum [] = 0
-extent_sum (x ∷ xs) = extent x + extent_sum xs
-
--- what two boxes share, its bounds inverted where they share nothing
-abbrev pub overlap : List (ℤ × ℤ) → List (ℤ × ℤ) → List (ℤ × ℤ)
-overlap [] ys = []
-overlap (x ∷ xs) [] = []
-overlap (x ∷ xs) (y ∷ ys) = (int_max x.0 y.0, int_min x.1 y.1) ∷ overlap xs ys
 
 -- the boxes of n axes over the scalars from low to high
 abbrev pub box_data : ℤ → ℤ → ℕ → Boxes (List (ℤ × ℤ))
@@ -39,7 +21,7 @@ box_data low high n = record {
   intersection_area = λ a b. min (extent_product (overlap a b)) (unsigned_abs high);
   distance_2 = box_distance high;
   min_max_dist_2 = box_min_max high;
-  center = λ b. map (λ (x : ℤ × ℤ). int_div (x.0 +ℤ x.1) (pos 2)) b;
+  center = box_center;
   perimeter = λ b. min (extent_sum b) (unsigned_abs high);
   axis_key = λ b i. (slice_index_or b i (pos 0, pos 0)).0;
 }

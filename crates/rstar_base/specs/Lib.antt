@@ -6,10 +6,12 @@ pub mod BoxLaws
 pub mod BoxEq
 pub mod Hulls
 pub mod Distances
+pub mod Measures
 pub mod Envelopes
 pub mod Elements
 pub mod Sums
 pub mod BoxData
 pub mod PointElements
 pub mod CarrierLaws
+pub mod RectangleLaws
 pub mod Orders

@@ -173,8 +173,9 @@ pub array-with : {S : Type 0} (value : S → ℤ) (d : S) (p : List S) (i : ℕ)
     → array_coord value d (slice_set p i s) j ≡ (if j == i then value s else array_coord value d p j)
 array-with value d p i s j l =
     elim (eqb_tells j i) [
-      inl e ↦ rw e.0 (ap value (get_or-set_at p i j s d e.1 l))
-    | inr e ↦ rw e.0 (ap value (get_or-set_other p i j s d e.1)) ]
+      | inl e ↦ rw e.0 (ap value (get_or-set_at p i j s d e.1 l))
+      | inr e ↦ rw e.0 (ap value (get_or-set_other p i j s d e.1))
+    ]
 
 module _ {S : Type 0} (eq : S → S → Bool) (value : S → ℤ) (law : (a b : S) → IsTrue (eq a b) ↔ (value a ≡ value b)) where
   pub pair-eq : (a b c d : S) → IsTrue (eq a c && eq b d) ↔ ((value a ∷ value b ∷ []) ≡ (value c ∷ value d ∷ []))

@@ -1,17 +1,21 @@
 //! Boxes.
 
-ghost use Rattle.std.specs.Prelude.{◌≡◌, ◌<◌, ◌&&◌, ℕ, ⊤, true, int_le, map, not, pos, min, unsigned_abs};
-ghost use Rattle.rstar_base.specs.Distances.{square_apart, nearest_on_axis};
-ghost use Rattle.rstar_base.specs.Sums.{sum_below};
+ghost use Rattle.std.specs.Prelude.{◌≡◌, ◌<◌, ◌&&◌, ◌+ℤ◌, ℕ, ⊤, true, int_div, int_le, map, not, pos, min, unsigned_abs};
+ghost use Rattle.rstar_base.specs.Distances.{square_apart, nearest_on_axis, near_face, far_face, box_min_max};
+ghost use Rattle.rstar_base.specs.Sums.{sum_below, product_below};
+ghost use Rattle.rstar_base.specs.Measures.{extent};
 ghost use Rattle.std.specs.Int.{int_min, int_max};
 ghost use Rattle.rstar_base.specs.Boxes.{between_corners, is_empty_box, merge_boxes, contains_box, box_contains_point, boxes_intersect, empty_box, IsBox};
 ghost use Rattle.rstar_base.specs.Points.{table, all_below, IsPoint};
 ghost use Rattle.rstar_base.specs.Scalars.{InRange};
 
-use crate::axes::{clamped_sum, copied_point, every_axis, filled, greatest_point, least_point};
+use crate::axes::{
+    clamped_product, clamped_sum, copied_point, every_axis, filled, generated, greatest_point,
+    least_point,
+};
 use crate::envelope::Envelope;
-use crate::point::{Point, greatest, least, not_above, square_between};
-use num_traits::Bounded;
+use crate::point::{Point, RTreeNum, greatest, least, not_above, square_between};
+use num_traits::{Bounded, Zero};
 use std::alloc::AllocError;
 use std::marker::Model;
 
@@ -53,6 +57,78 @@ pub(crate) fn squared_distance<P: Point>(lower: &P, upper: &P, point: &P) -> P::
                 least(upper.nth(i), greatest(lower.nth(i), point.nth(i))),
             )
         },
+    )
+}
+
+/// The clamped squares from a coordinate to the nearer and to the farther of two faces.
+fn faces<S: RTreeNum>(lower: S, upper: S, at: S) -> (S, S)
+    ensures near { S.value result.0 ≡ pos (min (near_face (S.value lower, S.value upper) (S.value at)) (unsigned_abs S.high)) }
+    ensures far { S.value result.1 ≡ pos (min (far_face (S.value lower, S.value upper) (S.value at)) (unsigned_abs S.high)) }
+{
+    let a = square_between(at, lower);
+    let b = square_between(at, upper);
+    (least(a, b), greatest(a, b))
+}
+
+/// The least over the axes of the clamped sum of the nearer face there and the farther faces elsewhere; 0 with no axis.
+pub(crate) fn min_max_distance<P: Point>(lower: &P, upper: &P, point: &P) -> P::Scalar
+    ensures { P.Scalar.value result ≡ pos (box_min_max P.Scalar.high (between_corners P.DIMENSIONS (P.coord lower.now) (P.coord upper.now)) (table P.DIMENSIONS (P.coord point.now))) }
+{
+    let mut best = P::Scalar::max_value();
+    // The farther faces of the axes so far.
+    let mut sum = P::Scalar::zero();
+    for i in 0..P::DIMENSIONS {
+        let (near, far) = faces(lower.nth(i), upper.nth(i), point.nth(i));
+        best = least(best.clamped_add(far), sum.clamped_add(near));
+        sum = sum.clamped_add(far);
+    }
+    if P::DIMENSIONS == 0 { sum } else { best }
+}
+
+/// How far `upper` lies above `lower`, clamped; 0 where it lies below.
+fn extent_between<S: RTreeNum>(lower: S, upper: S) -> S
+    ensures { S.value result ≡ pos (min (extent (S.value lower, S.value upper)) (unsigned_abs S.high)) }
+{
+    if not_above(lower, upper) {
+        upper.clamped_sub(lower)
+    } else {
+        S::zero()
+    }
+}
+
+/// The clamped product of the extents between two corners.
+pub(crate) fn extent_area<P: Point>(lower: &P, upper: &P) -> P::Scalar
+    ensures { P.Scalar.value result ≡ pos (min (product_below P.DIMENSIONS (λ i. extent (P.coord lower.now i, P.coord upper.now i))) (unsigned_abs P.Scalar.high)) }
+{
+    clamped_product::<P, _>(
+        |i: usize| -> P::Scalar
+            requires { i < P.DIMENSIONS }
+            ensures { P.Scalar.value result ≡ pos (min (extent (P.coord lower.entry.now i, P.coord upper.entry.now i)) (unsigned_abs P.Scalar.high)) }
+        { extent_between(lower.nth(i), upper.nth(i)) },
+    )
+}
+
+/// The clamped sum of the extents between two corners.
+pub(crate) fn extent_perimeter<P: Point>(lower: &P, upper: &P) -> P::Scalar
+    ensures { P.Scalar.value result ≡ pos (min (sum_below P.DIMENSIONS (λ i. extent (P.coord lower.now i, P.coord upper.now i))) (unsigned_abs P.Scalar.high)) }
+{
+    clamped_sum::<P, _>(
+        |i: usize| -> P::Scalar
+            requires { i < P.DIMENSIONS }
+            ensures { P.Scalar.value result ≡ pos (min (extent (P.coord lower.entry.now i, P.coord upper.entry.now i)) (unsigned_abs P.Scalar.high)) }
+        { extent_between(lower.nth(i), upper.nth(i)) },
+    )
+}
+
+/// The point in the middle of two corners, its halves truncated toward zero.
+pub(crate) fn middle_point<P: Point>(lower: &P, upper: &P) -> P
+    ensures { (i : ℕ) → i < P.DIMENSIONS → P.coord result i ≡ int_div (P.coord lower.now i +ℤ P.coord upper.now i) (pos 2) }
+{
+    generated(
+        |i: usize| -> P::Scalar
+            requires { i < P.DIMENSIONS }
+            ensures { P.Scalar.value result ≡ int_div (P.coord lower.entry.now i +ℤ P.coord upper.entry.now i) (pos 2) }
+        { lower.nth(i).half_sum(upper.nth(i)) },
     )
 }
 
@@ -173,6 +249,29 @@ impl<P: Point> Envelope for AABB<P> {
 
     fn distance_2(&self, point: &P) -> P::Scalar {
         squared_distance(&self.lower, &self.upper, point)
+    }
+
+    fn min_max_dist_2(&self, point: &P) -> P::Scalar {
+        min_max_distance(&self.lower, &self.upper, point)
+    }
+
+    fn area(&self) -> P::Scalar {
+        extent_area(&self.lower, &self.upper)
+    }
+
+    fn intersection_area(&self, other: &Self) -> P::Scalar {
+        extent_area(
+            &greatest_point(&self.lower, &other.lower),
+            &least_point(&self.upper, &other.upper),
+        )
+    }
+
+    fn center(&self) -> P {
+        middle_point(&self.lower, &self.upper)
+    }
+
+    fn perimeter_value(&self) -> P::Scalar {
+        extent_perimeter(&self.lower, &self.upper)
     }
 
     fn axis_key(&self, axis: usize) -> P::Scalar {

@@ -4,10 +4,10 @@ ghost use Rattle.std.specs.Prelude.{◌≡◌, ◌<◌, ℕ, ℤ, Bool, pos, min
 ghost use Rattle.std.specs.Int.{int_min, int_max};
 ghost use Rattle.rstar_base.specs.Scalars.{InRange};
 ghost use Rattle.rstar_base.specs.Points.{table, all_below};
-ghost use Rattle.rstar_base.specs.Sums.{sum_below};
+ghost use Rattle.rstar_base.specs.Sums.{sum_below, product_below};
 
 use crate::point::{Point, RTreeNum, greatest, least};
-use num_traits::Zero;
+use num_traits::{One, Zero};
 
 /// The point with the coordinates that a function gives.
 pub(crate) fn generated<P: Point, F: Fn(usize) -> P::Scalar + Drop>(f: F) -> P
@@ -46,6 +46,19 @@ pub(crate) fn clamped_sum<P: Point, F: Fn(usize) -> P::Scalar + Drop>(term: F) -
         sum = sum.clamped_add(term(i));
     }
     sum
+}
+
+/// The clamped product of a number for each axis, none of them negative.
+pub(crate) fn clamped_product<P: Point, F: Fn(usize) -> P::Scalar + Drop>(factor: F) -> P::Scalar
+    requires { (i : ℕ) → i < P.DIMENSIONS → F.pre factor i }
+    ensures { (to : ℕ → ℕ) → ((i : ℕ) (y : P.Scalar) → i < P.DIMENSIONS → F.post factor i y → P.Scalar.value y ≡ pos (min (to i) (unsigned_abs P.Scalar.high)))
+        → P.Scalar.value result ≡ pos (min (product_below P.DIMENSIONS to) (unsigned_abs P.Scalar.high)) }
+{
+    let mut product = P::Scalar::one();
+    for i in 0..P::DIMENSIONS {
+        product = product.clamped_mul(factor(i));
+    }
+    product
 }
 
 /// A copy of a point.

@@ -54,6 +54,31 @@ pub trait Envelope: Clone + PartialEq + Debug + Drop {
         ensures value { Self.Point.Scalar.value result ≡ pos (boxes.distance_2 self.now (table Self.Point.DIMENSIONS (Self.Point.coord point.now))) }
         ensures own { boxes.IsValue self.now };
 
+    /// The greatest squared distance at which the nearest element of an envelope made of elements may lie.
+    fn min_max_dist_2(&self, point: &Self::Point) -> <Self::Point as Point>::Scalar
+        ensures value { Self.Point.Scalar.value result ≡ pos (boxes.min_max_dist_2 self.now (table Self.Point.DIMENSIONS (Self.Point.coord point.now))) }
+        ensures own { boxes.IsValue self.now };
+
+    /// The size of what it covers.
+    fn area(&self) -> <Self::Point as Point>::Scalar
+        ensures value { Self.Point.Scalar.value result ≡ pos (boxes.area self.now) }
+        ensures own { boxes.IsValue self.now };
+
+    /// The size of what two envelopes share.
+    fn intersection_area(&self, other: &Self) -> <Self::Point as Point>::Scalar
+        ensures value { Self.Point.Scalar.value result ≡ pos (boxes.intersection_area self.now other.now) }
+        ensures own { boxes.IsValue self.now × boxes.IsValue other.now };
+
+    /// Its middle.
+    fn center(&self) -> Self::Point
+        ensures coords { table Self.Point.DIMENSIONS (Self.Point.coord result) ≡ boxes.center self.now }
+        ensures own { boxes.IsValue self.now };
+
+    /// A number that grows with its perimeter.
+    fn perimeter_value(&self) -> <Self::Point as Point>::Scalar
+        ensures value { Self.Point.Scalar.value result ≡ pos (boxes.perimeter self.now) }
+        ensures own { boxes.IsValue self.now };
+
     /// The number by which envelopes are sorted on an axis.
     fn axis_key(&self, axis: usize) -> <Self::Point as Point>::Scalar
         requires { axis < Self.Point.DIMENSIONS }
@@ -64,4 +89,12 @@ pub trait Envelope: Clone + PartialEq + Debug + Drop {
 
     // `==` is equality of what is meant.
     ghost eq_law: { (a b : Self) → boxes.IsValue a → boxes.IsValue b → IsTrue (Self.eq a b) ↔ (a ≡ b) };
+}
+
+/// A copy of an envelope, which takes no memory.
+pub fn copied_envelope<E: Envelope>(e: &E) -> E
+    ensures same { result ≡ e.now }
+    ensures own { E.boxes.IsValue e.now }
+{
+    E::new_empty().merged(e)
 }

@@ -1,5 +1,5 @@
 use Rattle.std.proofs.Common.{◌≡◌, ◌∙◌, ap}
-use Rattle.rstar_base.proofs.primitives.copied_envelope.Goals as goal
+use Rattle.rstar_base.proofs.envelope.copied_envelope.Goals as goal
 
 pub returns-clause-same : goal.returns-clause-same
 returns-clause-same g c =

@@ -1,0 +1,70 @@
+-- The min-max distance in one pass over the axes.
+use Rattle.std.proofs.Common.{◌≡◌, ◌<◌, ◌≤◌, ◌<ℤ◌, ◌+ℤ◌, ◌+◌, ℕ, ℤ, suc, zero, List, [], ◌∷◌, pos, min, max, unsigned_abs, refl, ap, sym, ◌∙◌, arith}
+use Rattle.std.specs.Int.{int_min, int_max}
+use Rattle.std.proofs.lemmas.Int.{ints, by_lt_z}
+use Rattle.num_traits.specs.Laws.{between}
+use Rattle.rstar_base.specs.Points.{table}
+use Rattle.rstar_base.specs.Boxes.{between_corners}
+use Rattle.rstar_base.specs.Sums.{sum_below}
+use Rattle.rstar_base.specs.Distances.{near_face, far_face, far_sum, least_sum, box_min_max}
+use Rattle.rstar_base.proofs.Squares.{clamped_more}
+
+-- the best after n more axes, where `sum` is that of the farther faces of the axes before
+abbrev pub best_from : ℕ → ℕ → ℕ → (ℕ → ℕ) → (ℕ → ℕ) → ℕ
+best_from best sum zero near far = best
+best_from best sum (suc n) near far =
+    best_from (min (best + far zero) (sum + near zero)) (sum + far zero) n (λ i. near (suc i)) (λ i. far (suc i))
+
+pub best_from-more : (best sum n m : ℕ) (near far : ℕ → ℕ) → m ≡ n + 1
+    → best_from best sum m near far ≡ min (best_from best sum n near far + far n) (sum + sum_below n far + near n)
+best_from-more best sum zero zero near far e = absurd (omega arith)
+best_from-more best sum zero (suc zero) near far e = omega arith
+best_from-more best sum zero (suc (suc m)) near far e = absurd (omega arith)
+best_from-more best sum (suc n) zero near far e = absurd (omega arith)
+best_from-more best sum (suc n) (suc m) near far e =
+    let ih = best_from-more (min (best + far zero) (sum + near zero)) (sum + far zero) n m (λ i. near (suc i)) (λ i. far (suc i)) (omega arith) in omega (arith, ih)
+
+corners-far : (n : ℕ) (l u p : ℕ → ℤ) → sum_below n (λ i. far_face (l i, u i) (p i)) ≡ far_sum (between_corners n l u) (table n p)
+corners-far zero l u p = refl
+corners-far (suc n) l u p =
+    ap (λ w. far_face (l zero, u zero) (p zero) + w) (corners-far n (λ i. l (suc i)) (λ i. u (suc i)) (λ i. p (suc i)))
+
+best_step : (best sum near far rest top tail all : ℕ) → all ≡ min (min (min (best + far) (sum + near) + rest) top) tail
+    → all ≡ min (min (best + (far + rest)) top) (min (min top (sum + near + rest)) tail)
+best_step best sum near far rest top tail all h = omega arith
+
+best_all : (top best sum n : ℕ) (l u p : ℕ → ℤ)
+    → min (best_from best sum n (λ i. near_face (l i, u i) (p i)) (λ i. far_face (l i, u i) (p i))) top
+    ≡ min (min (best + far_sum (between_corners n l u) (table n p)) top) (least_sum top sum (between_corners n l u) (table n p))
+best_all top best sum zero l u p = omega arith
+best_all top best sum (suc n) l u p =
+    best_step best sum (near_face (l zero, u zero) (p zero)) (far_face (l zero, u zero) (p zero)) _ top _ _
+    (best_all top (min (best + far_face (l zero, u zero) (p zero)) (sum + near_face (l zero, u zero) (p zero))) (sum + far_face (l zero, u zero) (p zero)) n
+    (λ i. l (suc i)) (λ i. u (suc i)) (λ i. p (suc i)))
+
+least_below : (top far a b : ℕ) → min (min (top + far) top) (min (min top a) b) ≡ min (min top a) b
+least_below top far a b = omega arith
+
+pub best_min_max : (high : ℤ) (n : ℕ) (l u p : ℕ → ℤ) → 0 < n
+    → min (best_from (unsigned_abs high) 0 n (λ i. near_face (l i, u i) (p i)) (λ i. far_face (l i, u i) (p i))) (unsigned_abs high)
+    ≡ box_min_max high (between_corners n l u) (table n p)
+best_min_max high zero l u p h = absurd (omega arith)
+best_min_max high (suc n) l u p h =
+    best_all (unsigned_abs high) (unsigned_abs high) 0 (suc n) l u p
+    ∙ least_below (unsigned_abs high) _ _ _
+
+pub no_axis : (high : ℤ) (n : ℕ) (l u p : ℕ → ℤ) → n ≡ 0 → box_min_max high (between_corners n l u) (table n p) ≡ 0
+no_axis high zero l u p h = refl
+no_axis high (suc n) l u p h = absurd (omega arith)
+
+pub above_zero : (n : ℕ) → (n ≡ 0 → ⊥) → 0 < n
+above_zero zero h = absurd (h refl)
+above_zero (suc n) h = omega arith
+
+-- ---- clamped
+
+pub least_clamped : (x y r : ℤ) (a b top : ℕ) → x ≡ pos (min a top) → y ≡ pos (min b top) → r ≡ int_min x y → r ≡ pos (min (min a b) top)
+least_clamped x y r a b top h k e = e ∙ ap (λ w. int_min w y) h ∙ ap (λ w. int_min (pos (min a top)) w) k ∙ grind (arith, ints)
+
+pub greatest_clamped : (x y r : ℤ) (a b top : ℕ) → x ≡ pos (min a top) → y ≡ pos (min b top) → r ≡ int_max x y → r ≡ pos (min (max a b) top)
+greatest_clamped x y r a b top h k e = e ∙ ap (λ w. int_max w y) h ∙ ap (λ w. int_max (pos (min a top)) w) k ∙ grind (arith, ints)
