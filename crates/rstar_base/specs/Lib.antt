@@ -15,3 +15,5 @@ pub mod PointElements
 pub mod CarrierLaws
 pub mod RectangleLaws
 pub mod Orders
+pub mod Segments
+pub mod SegmentLaws

@@ -9,5 +9,6 @@ pub mod object;
 mod places;
 pub mod point;
 pub mod primitives;
+mod segments;
 #[cfg(test)]
 mod tests;
