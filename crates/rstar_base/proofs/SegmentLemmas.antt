@@ -7,11 +7,12 @@ use Rattle.std.proofs.lemmas.Bool.Decides.{nat_tests}
 use Rattle.num_traits.specs.Laws.{between, Checks}
 use Rattle.rstar_base.specs.Scalars.{InRange}
 use Rattle.rstar_base.specs.Points.{all_below, and_parts, and_both, and_left, and_right, table, table-get, IsPoint}
-use Rattle.rstar_base.specs.Boxes.{in_range}
+use Rattle.rstar_base.specs.Boxes.{in_range, box_of_corners, IsBox}
+use Rattle.rstar_base.specs.BoxLaws.{corners-same, corners-box}
 use Rattle.rstar_base.specs.Sums.{sum_below}
 use Rattle.rstar_base.specs.Distances.{square_apart}
 use Rattle.rstar_base.specs.SegmentLaws.{step-between}
-use Rattle.rstar_base.specs.Segments.{point_apart, dot, direction, along, length_squared, difference_fits, dot_fits, multiple_fits, interior, has_interior, nearer, nearest_of_segment}
+use Rattle.rstar_base.specs.Segments.{point_apart, dot, direction, along, length_squared, difference_fits, dot_fits, multiple_fits, interior, has_interior, nearer, nearest_of_segment, coordinate, segment_distance}
 
 -- ---- what fits
 
@@ -26,7 +27,7 @@ fits_within low high x h =
     let b : int_le x high ≡ true = p.1 in (grind (arith, ints), grind (arith, ints))
 
 pub within_fits : (low high x : ℤ) → (low ≤ℤ x) × (x ≤ℤ high) → in_range low high x ≡ true
-within_fits low high x h = let a = h.0 in let b = h.1 in and_both _ _ (grind (arith, ints)) (grind (arith, ints))
+within_fits low high x h = let a = h.0 in let b = h.1 in and_both (int_le low x) (int_le x high) (grind (arith, ints)) (grind (arith, ints))
 
 pub none_fits : (low high x : ℤ) → ((low ≤ℤ x) × (x ≤ℤ high) → ⊥) → in_range low high x ≡ false
 none_fits low high x h = yes-or-no _ (λ e. h (fits_within low high x e))
@@ -74,7 +75,6 @@ sum_below-same (suc n) f g h =
     let r : sum_below n (λ i. f (suc i)) ≡ sum_below n (λ i. g (suc i)) = sum_below-same n (λ i. f (suc i)) (λ i. g (suc i)) (λ i l. h (suc i) (omega arith)) in omega (arith, e, r)
 
 -- ---- the same coordinates give the same
-
 
 pub dot-same : (n : ℕ) (f g f' g' : ℕ → ℤ) → ((i : ℕ) → i < n → f i ≡ f' i) → ((i : ℕ) → i < n → g i ≡ g' i) → dot n f g ≡ dot n f' g'
 dot-same zero f g f' g' h k = refl
@@ -158,7 +158,9 @@ point-at low high n f i h l = subst (InRange low high) (table-get n f i (pos 0) 
 held : (low high a b z : ℤ) → InRange low high a → InRange low high b → int_min a b ≤ℤ z → z ≤ℤ int_max a b → between z low high ≡ z
 held low high a b z h k l m =
     let p = h.above in let q = h.below in let r = k.above in let s = k.below in
-    exact low high z (within_fits low high z (grind (arith, ints), grind (arith, ints)))
+    let x : low ≤ℤ z = grind (arith, ints) in
+    let y : z ≤ℤ high = grind (arith, ints) in
+    exact low high z (within_fits low high z (x, y))
 
 -- ---- the scalar product, axis by axis
 
@@ -191,13 +193,15 @@ module _ (low high : ℤ) (n : ℕ) (f g q d o : ℕ → ℤ) (hd : (i : ℕ) �
   not_inside t len h k e =
       let a = is_along t h in
       let b = is_length len k in
-      not_right _ _ (not_left _ _ (rw (← a, ← b) e))
+      let r : (int_lt (pos 0) (along n f g q) && int_lt (along n f g q) (length_squared n f g)) ≡ false = rw (← a, ← b) e in
+      not_right _ _ (not_left _ _ r)
 
   pub no_multiple : (t : ℤ) → t ≡ dot n o d → multiple_fits low high n d t ≡ false → has_interior low high n f g q ≡ false
   unfolding has_interior
   no_multiple t h e =
       let a = is_along t h in
-      not_right _ _ (not_right _ _ (rw (← a) (sym (multiple_fits-same low high n d _ t hd) ∙ e)))
+      let r : multiple_fits low high n (direction f g) (along n f g q) ≡ false = rw (← a) (sym (multiple_fits-same low high n d (direction f g) t hd) ∙ e) in
+      not_right _ _ (not_right _ _ r)
 
   pub all_fit : (t len : ℤ) → t ≡ dot n o d → len ≡ dot n d d → difference_fits low high n g f ≡ true → difference_fits low high n q f ≡ true → dot_fits low high n o d ≡ true → dot_fits low high n d d ≡ true
       → (int_lt (pos 0) t && int_lt t len) ≡ true → multiple_fits low high n d t ≡ true → has_interior low high n f g q ≡ true
@@ -205,9 +209,11 @@ module _ (low high : ℤ) (n : ℕ) (f g q d o : ℕ → ℤ) (hd : (i : ℕ) �
   all_fit t len h k a b p r s m =
       let u = is_along t h in
       let v = is_length len k in
+      let x : (int_lt (pos 0) (along n f g q) && int_lt (along n f g q) (length_squared n f g)) ≡ true = rw (← u, ← v) s in
+      let y : multiple_fits low high n (direction f g) (along n f g q) ≡ true = rw (← u) (sym (multiple_fits-same low high n d (direction f g) t hd) ∙ m) in
       and_both _ _
       (and_both _ _ (and_both _ _ a b) (and_both _ _ (sym (dot_fits-same low high n o d _ _ ho hd) ∙ p) (sym (dot_fits-same low high n d d _ _ hd hd) ∙ r)))
-      (and_both _ _ (rw (← u, ← v) s) (rw (← u) (sym (multiple_fits-same low high n d _ t hd) ∙ m)))
+      (and_both _ _ x y)
 
   -- the clamped steps are the interior point, since it lies between the ends
   pub stepped-interior : (t len : ℤ) → t ≡ dot n o d → len ≡ dot n d d → pos 0 <ℤ t → t <ℤ len → IsPoint low high n (table n f) → IsPoint low high n (table n g)
@@ -245,3 +251,38 @@ nearest-inside low high n f g q e p h k m i l = rw h (nearer-same high n q e p q
 pub nearest-end : (low high : ℤ) (n : ℕ) (f g q : ℕ → ℤ) (x : ℤ) (i : ℕ) → has_interior low high n f g q ≡ false → x ≡ nearer high n q f g i → x ≡ nearest_of_segment low high n f g q i
 unfolding nearest_of_segment
 nearest-end low high n f g q x i h k = rw h k
+
+-- a point that agrees with the nearest one is at the segment's distance
+pub distance-at : (low high : ℤ) (n : ℕ) (f g q c : ℕ → ℤ) → ((i : ℕ) → i < n → c i ≡ nearest_of_segment low high n f g q i)
+    → point_apart high n c q ≡ segment_distance low high n f g (table n q)
+distance-at low high n f g q c h =
+    let listed : (i : ℕ) → i < n → q i ≡ coordinate (table n q) i = λ i l. sym (table-get n q i (pos 0) l) in
+    point_apart-same high n c q _ _ (λ i l. h i l ∙ nearest-same low high n f g q _ listed i l) listed
+
+-- ---- the box of the ends
+
+pub corners_of-same : (n : ℕ) (f g f' g' : ℕ → ℤ) → ((i : ℕ) → i < n → f i ≡ f' i) → ((i : ℕ) → i < n → g i ≡ g' i) → box_of_corners n f g ≡ box_of_corners n f' g'
+corners_of-same n f g f' g' h k = corners-same n _ _ _ _
+    (λ i l. let a : f i ≡ f' i = h i l in let b : g i ≡ g' i = k i l in rw (a, b) refl)
+    (λ i l. let a : f i ≡ f' i = h i l in let b : g i ≡ g' i = k i l in rw (a, b) refl)
+
+least-ranged : (low high a b : ℤ) → InRange low high a → InRange low high b → InRange low high (int_min a b)
+least-ranged low high a b h k =
+    let p = h.above in let q = h.below in let r = k.above in let s = k.below in record { above = grind (arith, ints); below = grind (arith, ints) }
+
+greatest-ranged : (low high a b : ℤ) → InRange low high a → InRange low high b → InRange low high (int_max a b)
+greatest-ranged low high a b h k =
+    let p = h.above in let q = h.below in let r = k.above in let s = k.below in record { above = grind (arith, ints); below = grind (arith, ints) }
+
+upright : (a b : ℤ) → int_le (int_min a b) (int_max a b) ≡ true
+upright a b = grind (arith, ints)
+
+pub corners_of-box : (low high : ℤ) (n : ℕ) (f g : ℕ → ℤ) → ((i : ℕ) → i < n → InRange low high (f i)) → ((i : ℕ) → i < n → InRange low high (g i)) → IsBox low high n (box_of_corners n f g)
+corners_of-box low high n f g h k = corners-box low high n _ _
+    (λ i l. least-ranged low high (f i) (g i) (h i l) (k i l)) (λ i l. greatest-ranged low high (f i) (g i) (h i l) (k i l)) (λ i _. upright (f i) (g i))
+
+pub still_ranged : (low high : ℤ) (n : ℕ) (f f' : ℕ → ℤ) → ((i : ℕ) → i < n → f' i ≡ f i) → ((i : ℕ) → i < n → InRange low high (f' i)) → (i : ℕ) → i < n → InRange low high (f i)
+still_ranged low high n f f' h k i l = subst (InRange low high) (h i l) (k i l)
+
+pub not_above-not : (x y : ℤ) (b : Bool) → b ≡ int_le x y → not b ≡ int_lt y x
+not_above-not x y b h = grind (arith, ints)

@@ -1,9 +1,8 @@
 -- Clamped squares and sums.
-use Rattle.std.proofs.Common.{◌≡◌, ◌<ℤ◌, ◌≤ℤ◌, ◌+ℤ◌, ◌-ℤ◌, ◌*ℤ◌, ◌+◌, ◌*◌, ◌≤◌, ◌<◌, ℤ, ℕ, suc, zero, pos, negsuc, min, unsigned_abs, refl, ap, sym, ◌∙◌, arith}
-use Rattle.std.specs.Prelude.{int_lt, int_le, true, false}
+use Rattle.std.proofs.Common.{◌≡◌, ◌<ℤ◌, ◌+ℤ◌, ◌-ℤ◌, ◌*ℤ◌, ◌+◌, ◌*◌, ◌≤◌, ◌<◌, ℤ, ℕ, suc, zero, pos, min, unsigned_abs, refl, ap, sym, ◌∙◌, arith}
+use Rattle.std.specs.Prelude.{int_le, true, false}
 use Rattle.std.proofs.lemmas.Int.{ints, by_lt_z}
 use Rattle.num_traits.specs.Laws.{between}
-use Rattle.rstar_base.specs.Distances.{square_apart}
 
 -- a number that is not negative, clamped
 pub clamped_pos : (low high : ℤ) (m : ℕ) → low <ℤ pos 0 → pos 0 <ℤ high → between (pos m) low high ≡ pos (min m (unsigned_abs high))

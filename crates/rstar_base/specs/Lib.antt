@@ -1,6 +1,7 @@
 pub mod Scalars
 pub mod Sizes
 pub mod Points
+pub mod Tuples
 pub mod Boxes
 pub mod BoxLaws
 pub mod BoxEq
@@ -13,7 +14,9 @@ pub mod Sums
 pub mod BoxData
 pub mod PointElements
 pub mod CarrierLaws
-pub mod RectangleLaws
+pub mod BoxElements
+pub mod BoxElementLaws
 pub mod Orders
 pub mod Segments
 pub mod SegmentLaws
+pub mod Selections

@@ -1,5 +1,5 @@
 -- Points as lists of whole numbers.
-use Rattle.std.specs.Prelude.{◌==◌, slice_set, if◌then◌else◌, ◌≡◌, ◌+◌, ◌<◌, ◌≤◌, ◌&&◌, ◌↔◌, ℕ, ℤ, Bool, zero, suc, true, false, List, [], ◌∷◌, Option, Some, None, length, slice_index_or, IsTrue, map, pos}
+use Rattle.std.specs.Prelude.{◌==◌, slice_set, if◌then◌else◌, ◌≡◌, ◌+◌, ◌<◌, ◌≤◌, ◌&&◌, ◌↔◌, ℕ, ℤ, Bool, zero, suc, true, false, List, [], ◌∷◌, Some, length, slice_index_or, IsTrue, map}
 use Rattle.std.specs.Array.{index_steps, IsFromFnResultFrom}
 use Rattle.std.specs.Iterator.{CallableAtEachTurn, Yields}
 use Rattle.std.specs.List.{FoldsTo, All}
@@ -8,7 +8,6 @@ use Rattle.std.proofs.Common.{refl, ap, arith, subst, sym, ◌∙◌, inl, inr}
 use Rattle.std.proofs.lemmas.List.{length-map, get_or-set_other}
 use Rattle.std.proofs.lemmas.Grind.{get_or-set_at}
 use Rattle.std.proofs.lemmas.Bool.Decides.{eqb_tells}
-use Rattle.std.proofs.Math.Dec.{eqb-suc-zero}
 use lib.Pointwise.{pointwise}
 use denote.Param.Members.{Mut, Called}
 
@@ -146,26 +145,7 @@ made_from g value z whole f i zero m = tt
 made_from g value z whole f i (suc n) m =
     (m.0, m.1, m.3, ap value (m.2.1 z), made_from g value z whole m.0 (i + 1) n m.4)
 
--- the coordinates of a pair
-abbrev pub pair_coord : {S : Type 0} → (S → ℤ) → S → S → ℕ → ℤ
-pair_coord value x y zero = value x
-pair_coord value x y (suc i) = value y
-
--- the pair with another item at a place
-abbrev pub pair_with : {S : Type 0} → S → S → ℕ → S → S × S
-pair_with x y zero s = (s, y)
-pair_with x y (suc i) s = (x, s)
-
-pub pair-with : {S : Type 0} (value : S → ℤ) (x y : S) (i : ℕ) (s : S) (j : ℕ) → i < 2 → j < 2
-    → pair_coord value (pair_with x y i s).0 (pair_with x y i s).1 j ≡ (if j == i then value s else pair_coord value x y j)
-pair-with value x y zero s zero h l = refl
-pair-with value x y zero s (suc j) h l = rw (eqb-suc-zero j) refl
-pair-with value x y (suc zero) s zero h l = refl
-pair-with value x y (suc zero) s (suc zero) h l = refl
-pair-with value x y (suc zero) s (suc (suc j)) h l = absurd (omega arith)
-pair-with value x y (suc (suc i)) s j h l = absurd (omega arith)
-
--- the coordinates of an array
+-- the coordinates of a list of scalars
 abbrev pub array_coord : {S : Type 0} → (S → ℤ) → S → List S → ℕ → ℤ
 array_coord value d p i = value (slice_index_or p i d)
 
@@ -178,16 +158,6 @@ array-with value d p i s j l =
     ]
 
 module _ {S : Type 0} (eq : S → S → Bool) (value : S → ℤ) (law : (a b : S) → IsTrue (eq a b) ↔ (value a ≡ value b)) where
-  pub pair-eq : (a b c d : S) → IsTrue (eq a c && eq b d) ↔ ((value a ∷ value b ∷ []) ≡ (value c ∷ value d ∷ []))
-  pair-eq a b c d = (
-    (λ h. let p = and_parts (eq a c) (eq b d) h in
-        let e : value a ≡ value c = (law a c).0 p.0 in
-        let f : value b ≡ value d = (law b d).0 p.1 in cc),
-    λ h. let e : value a ≡ value c = cc in
-        let f : value b ≡ value d = cc in
-        and_both (eq a c) (eq b d) ((law a c).1 e) ((law b d).1 f),
-  )
-
   pub array-eq : (z : S) (n : ℕ) (xs ys : List S) → length xs ≡ n → length ys ≡ n
       → IsTrue (pointwise eq xs ys) ↔ (table n (array_coord value z xs) ≡ table n (array_coord value z ys))
   array-eq z zero [] [] h k = ((λ _. refl), λ _. refl)
@@ -208,9 +178,6 @@ module _ {S : Type 0} (eq : S → S → Bool) (value : S → ℤ) (law : (a b : 
       )
 
 module _ {S : Type 0} (value : S → ℤ) (of : ℤ → S) (law : (x : S) → of (value x) ≡ x) where
-  pub pair-back : (p : S × S) → (of (value p.0), of (value p.1)) ≡ p
-  pair-back p = let e = law p.0 in let f = law p.1 in rw (e, f) refl
-
   pub array-back : (z : S) (n : ℕ) (xs : List S) → length xs ≡ n → map of (table n (array_coord value z xs)) ≡ xs
   array-back z zero [] h = refl
   array-back z zero (x ∷ xs) h = absurd (omega arith)
@@ -220,15 +187,6 @@ module _ {S : Type 0} (value : S → ℤ) (of : ℤ → S) (law : (x : S) → of
       let ih : map of (table n (array_coord value z xs)) ≡ xs = array-back z n xs (omega arith) in cc
 
 module _ {S : Type 0} (value : S → ℤ) (of : ℤ → S) (low high : ℤ) (law : (z : ℤ) → InRange low high z → value (of z) ≡ z) where
-  pub pair-forth : (zs : List ℤ) → IsPoint low high 2 zs
-      → (value (of (slice_index_or zs 0 (pos 0))) ∷ value (of (slice_index_or zs 1 (pos 0))) ∷ []) ≡ zs
-  pair-forth [] h = let l = h.long in absurd (omega arith)
-  pair-forth (x ∷ []) h = let l = h.long in absurd (omega arith)
-  pair-forth (x ∷ y ∷ []) h =
-      let a : value (of x) ≡ x = law x (h.ranged 0 x (omega arith)) in
-      let b : value (of y) ≡ y = law y (h.ranged 1 y (omega arith)) in cc
-  pair-forth (x ∷ y ∷ z ∷ zs) h = let l = h.long in absurd (omega arith)
-
   pub array-forth : (d : S) (n : ℕ) (zs : List ℤ) → length zs ≡ n → All (λ z. InRange low high z) zs
       → table n (array_coord value d (map of zs)) ≡ zs
   array-forth d zero [] h r = refl

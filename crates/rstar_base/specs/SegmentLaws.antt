@@ -6,13 +6,13 @@ use Rattle.std.proofs.lemmas.Int.{ints, clamps}
 use Rattle.std.proofs.lemmas.Bool.Decides.{nat_tests}
 use Rattle.std.proofs.Math.Nat.{div-le_of_le-mul, mul-le-mul_left, zero-div}
 use Rattle.rstar_base.specs.Points.{IsPoint, and_parts, and_both}
-use Rattle.rstar_base.specs.Boxes.{between_corners, box_contains_point, is_empty_box, IsBox}
+use Rattle.rstar_base.specs.Boxes.{between_corners, box_of_corners, box_contains_point, is_empty_box, IsBox}
 use Rattle.rstar_base.specs.BoxLaws.{or_parts, or_both}
 use Rattle.rstar_base.specs.Sums.{sum_below}
 use Rattle.rstar_base.specs.Distances.{square_apart, nearest_on_axis, distance_sum, near_face, far_face, far_sum, least_sum, box_distance, box_min_max, square_up}
 use Rattle.rstar_base.specs.BoxData.{box_data}
 use Rattle.rstar_base.specs.Elements.{Objects, Distances, DistanceLaws}
-use Rattle.rstar_base.specs.Segments.{coordinate, point_apart, dot, direction, along, length_squared, interior, has_interior, nearer, nearest_of_segment, segment_box, segment_distance, segment_objects, segment_distances}
+use Rattle.rstar_base.specs.Segments.{coordinate, point_apart, dot, direction, along, length_squared, interior, has_interior, nearer, nearest_of_segment, segment_distance, segment_objects, segment_distances}
 
 -- ---- a point between two corners is no nearer than their box
 
@@ -39,22 +39,35 @@ box-nearer (suc n) l u c (q ∷ qs) h =
 -- ---- each candidate lies between the ends
 
 part-least : (m t len : ℕ) → t < len → (m * t) / len ≤ m
-part-least m t len h = div-le_of_le-mul len (grind (arith, mul-le-mul_left m (omega arith)))
+part-least m t len h =
+    let e : t ≤ len = omega arith in
+    let k : m * t ≤ m * len = mul-le-mul_left m e in
+    div-le_of_le-mul len (omega (arith, k))
 
 part-negative : (a len : ℕ) → int_div (neg_ℤ (pos a)) (pos len) ≡ neg_ℤ (pos (a / len))
-part-negative zero len = ap (λ k. neg_ℤ (pos k)) (sym (zero-div len))
+part-negative zero len = let e : 0 / len ≡ 0 = zero-div len in rw e refl
 part-negative (suc a) len = refl
+
+part-up : (m k : ℕ) → k ≤ m → (int_min (pos 0) (pos m) ≤ℤ pos k) × (pos k ≤ℤ int_max (pos 0) (pos m))
+part-up m k h = (omega (arith, ints, clamps), omega (arith, ints, clamps))
+
+part-down : (m k : ℕ) → k ≤ suc m → (int_min (pos 0) (negsuc m) ≤ℤ neg_ℤ (pos k)) × (neg_ℤ (pos k) ≤ℤ int_max (pos 0) (negsuc m))
+part-down m k h = (omega (arith, ints, clamps), omega (arith, ints, clamps))
 
 -- the part t / len of d, for t below len, lies between 0 and d
 part-between : (d : ℤ) (t len : ℕ) → t < len → (int_min (pos 0) d ≤ℤ int_div (d *ℤ pos t) (pos len)) × (int_div (d *ℤ pos t) (pos len) ≤ℤ int_max (pos 0) d)
 part-between (pos m) t len h =
     let e : (pos m *ℤ pos t) ≡ pos (m * t) = grind (arith, ints) in
+    let f : int_div (pos m *ℤ pos t) (pos len) ≡ pos ((m * t) / len) = ap (λ z. int_div z (pos len)) e in
     let l = part-least m t len h in
-    rw e (omega (arith, ints, clamps, l), omega (arith, ints, clamps, l))
+    let P : ℤ → Type 0 = λ z. (int_min (pos 0) (pos m) ≤ℤ z) × (z ≤ℤ int_max (pos 0) (pos m)) in
+    subst P (sym f) (part-up m ((m * t) / len) l)
 part-between (negsuc m) t len h =
     let e : (negsuc m *ℤ pos t) ≡ neg_ℤ (pos (suc m * t)) = grind (arith, ints) in
+    let f : int_div (negsuc m *ℤ pos t) (pos len) ≡ neg_ℤ (pos ((suc m * t) / len)) = ap (λ z. int_div z (pos len)) e ∙ part-negative (suc m * t) len in
     let l = part-least (suc m) t len h in
-    rw (e, part-negative (suc m * t) len) (omega (arith, ints, clamps, l), omega (arith, ints, clamps, l))
+    let P : ℤ → Type 0 = λ z. (int_min (pos 0) (negsuc m) ≤ℤ z) × (z ≤ℤ int_max (pos 0) (negsuc m)) in
+    subst P (sym f) (part-down m ((suc m * t) / len) l)
 
 of-positive : (z : ℤ) → pos 0 <ℤ z → pos (unsigned_abs z) ≡ z
 of-positive (pos m) h = refl
@@ -117,7 +130,7 @@ nearest-between low high n f g q i s = by (has_interior low high n f g q) (λ e.
     by true h = h refl
     by false h = ends-between high n f g q i s
 
-pub segment-near : (low high : ℤ) (n : ℕ) (f g : ℕ → ℤ) (p : List ℤ) → box_distance high (segment_box n f g) p ≤ segment_distance low high n f g p
+pub segment-near : (low high : ℤ) (n : ℕ) (f g : ℕ → ℤ) (p : List ℤ) → box_distance high (box_of_corners n f g) p ≤ segment_distance low high n f g p
 segment-near low high n f g p =
     let h = box-nearer n (λ i. int_min (f i) (g i)) (λ i. int_max (f i) (g i)) _ p (nearest-between low high n f g (coordinate p)) in omega (arith, h)
 
@@ -171,7 +184,7 @@ ends-far q f g = ends-far-at (square_apart q) (int_lt g f) f g
 end-sum : ℕ → (ℕ → ℤ) → List ℤ → ℕ
 end-sum n c p = sum_below n (λ i. square_apart (coordinate p i) (c i))
 
-ends-sum : (n : ℕ) (f g : ℕ → ℤ) (p : List ℤ) → length p ≡ n → (end-sum n f p ≤ far_sum (segment_box n f g) p) × (end-sum n g p ≤ far_sum (segment_box n f g) p)
+ends-sum : (n : ℕ) (f g : ℕ → ℤ) (p : List ℤ) → length p ≡ n → (end-sum n f p ≤ far_sum (box_of_corners n f g) p) × (end-sum n g p ≤ far_sum (box_of_corners n f g) p)
 unfolding end-sum
 ends-sum zero f g p l = (omega arith, omega arith)
 ends-sum (suc n) f g [] l = absurd (omega arith)
@@ -186,7 +199,7 @@ least-step : (top s a b x y u v w nf ff r : ℕ) → a ≤ s → b ≤ s → nf 
 least-step top s a b x y u v w nf ff r h k e m n o = omega arith
 
 ends-least : (top s a b n : ℕ) (f g : ℕ → ℤ) (p : List ℤ) → length p ≡ n → a ≤ s → b ≤ s
-    → min (min (a + end-sum n f p) top) (min (b + end-sum n g p) top) ≤ least_sum top s (segment_box n f g) p
+    → min (min (a + end-sum n f p) top) (min (b + end-sum n g p) top) ≤ least_sum top s (box_of_corners n f g) p
 unfolding end-sum
 ends-least top s a b zero f g p l h k = omega arith
 ends-least top s a b (suc n) f g [] l h k = absurd (omega arith)
@@ -198,12 +211,12 @@ ends-least top s a b (suc n) f g (q ∷ qs) l h k =
     least-step top s a b (square_apart q (f zero)) (square_apart q (g zero)) _ _ _ _ 0 _ h k e r.0 r.1 ih
 
 ends-min_max : (high : ℤ) (n : ℕ) (f g : ℕ → ℤ) (p : List ℤ) → length p ≡ n
-    → min (point_apart high n f (coordinate p)) (point_apart high n g (coordinate p)) ≤ box_min_max high (segment_box n f g) p
+    → min (point_apart high n f (coordinate p)) (point_apart high n g (coordinate p)) ≤ box_min_max high (box_of_corners n f g) p
 unfolding end-sum
 ends-min_max high zero f g p l = omega arith
 ends-min_max high (suc n) f g p l = let r = ends-least (unsigned_abs high) 0 0 0 (suc n) f g p l (omega arith) (omega arith) in omega (arith, r)
 
-pub segment-within : (low high : ℤ) (n : ℕ) (f g : ℕ → ℤ) (p : List ℤ) → length p ≡ n → segment_distance low high n f g p ≤ box_min_max high (segment_box n f g) p
+pub segment-within : (low high : ℤ) (n : ℕ) (f g : ℕ → ℤ) (p : List ℤ) → length p ≡ n → segment_distance low high n f g p ≤ box_min_max high (box_of_corners n f g) p
 segment-within low high n f g p l =
     let a = nearest-least low high n f g (coordinate p) in
     let b = ends-min_max high n f g p l in omega (arith, a.0, a.1, b)
@@ -215,7 +228,7 @@ no-square zero h = refl
 no-square (suc m) h = absurd (grind arith)
 
 at-none : (x : ℤ × ℤ) (q : ℤ) → int_lt x.1 x.0 ≡ false → unsigned_abs (nearest_on_axis x q -ℤ q) ≡ 0 → (int_le x.0 q && int_le q x.1) ≡ true
-at-none x q h k = and_both _ _ (grind (arith, ints)) (grind (arith, ints))
+at-none x q h k = and_both (int_le x.0 q) (int_le q x.1) (grind (arith, ints)) (grind (arith, ints))
 
 pub contains-at_zero : (b : List (ℤ × ℤ)) (p : List ℤ) → length p ≡ length b → is_empty_box b ≡ false → distance_sum b p ≡ 0 → box_contains_point b p ≡ true
 contains-at_zero [] [] l h k = refl
@@ -226,12 +239,12 @@ contains-at_zero (x ∷ xs) (q ∷ qs) l h k =
     let s : square_apart q (nearest_on_axis x q) ≡ 0 = omega arith in
     and_both _ _ (at-none x q e.0 (no-square _ s)) (contains-at_zero xs qs (omega arith) e.1 (omega arith))
 
-table_corners-upright : (n : ℕ) (f g : ℕ → ℤ) → is_empty_box (segment_box n f g) ≡ false
+table_corners-upright : (n : ℕ) (f g : ℕ → ℤ) → is_empty_box (box_of_corners n f g) ≡ false
 table_corners-upright zero f g = refl
 table_corners-upright (suc n) f g = or_both _ _ (grind (arith, ints)) (table_corners-upright n (λ i. f (suc i)) (λ i. g (suc i)))
 
-segment-contained : (low high : ℤ) (n : ℕ) (f g : ℕ → ℤ) (p : List ℤ) → pos 0 <ℤ high → length p ≡ length (segment_box n f g) → int_le (pos (segment_distance low high n f g p)) (pos 0) ≡ true
-    → box_contains_point (segment_box n f g) p ≡ true
+segment-contained : (low high : ℤ) (n : ℕ) (f g : ℕ → ℤ) (p : List ℤ) → pos 0 <ℤ high → length p ≡ length (box_of_corners n f g) → int_le (pos (segment_distance low high n f g p)) (pos 0) ≡ true
+    → box_contains_point (box_of_corners n f g) p ≡ true
 segment-contained low high n f g p hh l h =
     let d = segment-near low high n f g p in
     let z = none-left (segment_distance low high n f g p) h in

@@ -1,8 +1,7 @@
 -- The nearest point of a segment. A point is given by its coordinates on the n axes, a segment by its two ends.
 use Rattle.std.specs.Prelude.{◌+◌, ◌+ℤ◌, ◌-ℤ◌, ◌*ℤ◌, ◌&&◌, ℕ, ℤ, Bool, zero, suc, List, min, pos, nat_le, int_le, int_lt, int_div, unsigned_abs, slice_index_or, if◌then◌else◌}
 use Rattle.rstar_base.specs.Points.{all_below}
-use Rattle.std.specs.Int.{int_min, int_max}
-use Rattle.rstar_base.specs.Boxes.{in_range, between_corners, IsBox}
+use Rattle.rstar_base.specs.Boxes.{in_range, box_of_corners, IsBox}
 use Rattle.rstar_base.specs.Elements.{Objects, Distances}
 use Rattle.rstar_base.specs.Sums.{sum_below}
 use Rattle.rstar_base.specs.Distances.{square_apart}
@@ -64,10 +63,6 @@ unfoldable pub nearest_of_segment : ℤ → ℤ → ℕ → (ℕ → ℤ) → (�
 nearest_of_segment low high n from to q i =
     if has_interior low high n from to q then nearer high n q (nearer high n q from to) (interior n from to q) i else nearer high n q from to i
 
--- the box of a segment
-abbrev pub segment_box : ℕ → (ℕ → ℤ) → (ℕ → ℤ) → List (ℤ × ℤ)
-segment_box n from to = between_corners n (λ i. int_min (from i) (to i)) (λ i. int_max (from i) (to i))
-
 -- the distance of a segment: that of its nearest point
 abbrev pub segment_distance : ℤ → ℤ → ℕ → (ℕ → ℤ) → (ℕ → ℤ) → List ℤ → ℕ
 segment_distance low high n from to p = point_apart high n (nearest_of_segment low high n from to (coordinate p)) (coordinate p)
@@ -75,8 +70,8 @@ segment_distance low high n from to p = point_apart high n (nearest_of_segment l
 -- segments as elements, given by the ends of each
 abbrev pub segment_objects : {L : Type 0} → ℤ → ℤ → ℕ → (L → ℕ → ℤ) → (L → ℕ → ℤ) → Objects L (List (ℤ × ℤ))
 segment_objects low high n from to = record {
-  IsValue = λ l. IsBox low high n (segment_box n (from l) (to l));
-  box_of = λ l. segment_box n (from l) (to l);
+  IsValue = λ l. IsBox low high n (box_of_corners n (from l) (to l));
+  box_of = λ l. box_of_corners n (from l) (to l);
 }
 
 abbrev pub segment_distances : {L : Type 0} → ℤ → ℤ → ℕ → (L → ℕ → ℤ) → (L → ℕ → ℤ) → Distances L

@@ -1,11 +1,15 @@
 //! Boxes.
 
-ghost use Rattle.std.specs.Prelude.{◌≡◌, ◌<◌, ◌&&◌, ◌+ℤ◌, ℕ, ⊤, true, int_div, int_le, map, not, pos, min, unsigned_abs};
-ghost use Rattle.rstar_base.specs.Distances.{square_apart, nearest_on_axis, near_face, far_face, box_min_max};
+ghost use Rattle.std.specs.Prelude.{◌≡◌, ◌<◌, ◌&&◌, ◌+ℤ◌, ◌-ℤ◌, ℕ, List, ⊤, true, IsTrue, int_div, int_le, map, not, pos, min, unsigned_abs};
+ghost use Rattle.num_traits.specs.Laws.{between};
+ghost use Rattle.rstar_base.specs.BoxData.{box_data};
+ghost use Rattle.rstar_base.specs.Hulls.{hull};
+ghost use Rattle.rstar_base.specs.Distances.{square_apart, nearest_on_axis, nearest_point, box_distance, near_face, far_face, box_min_max};
 ghost use Rattle.rstar_base.specs.Sums.{sum_below, product_below};
 ghost use Rattle.rstar_base.specs.Measures.{extent};
-ghost use Rattle.std.specs.Int.{int_min, int_max};
-ghost use Rattle.rstar_base.specs.Boxes.{between_corners, is_empty_box, merge_boxes, contains_box, box_contains_point, boxes_intersect, empty_box, IsBox};
+ghost use Rattle.std.specs.Borrow.{Bor};
+ghost use Rattle.std.specs.Iterator.{Drains, IsFiniteIterable};
+ghost use Rattle.rstar_base.specs.Boxes.{between_corners, box_of_corners, is_upright, is_empty_box, merge_boxes, contains_box, box_contains_point, boxes_intersect, empty_box, IsBox};
 ghost use Rattle.rstar_base.specs.Points.{table, all_below, IsPoint};
 ghost use Rattle.rstar_base.specs.Scalars.{InRange};
 
@@ -31,9 +35,9 @@ pub(crate) fn bound<P: Point>(lower: &P, upper: &P, above: &P, below: &P) -> boo
     )
 }
 
-/// Whether `lower <= upper` on every axis.
-pub(crate) fn upright<P: Point>(lower: &P, upper: &P) -> bool
-    ensures { result ≡ all_below P.DIMENSIONS (λ i. int_le (P.coord lower.now i) (P.coord upper.now i)) }
+/// Whether `lower <= upper` on every axis, as `AABB::from_bounds` asks.
+pub fn upright<P: Point>(lower: &P, upper: &P) -> bool
+    ensures { result ≡ is_upright P.DIMENSIONS (P.coord lower.now) (P.coord upper.now) }
 {
     every_axis::<P, _>(
         |i: usize| -> bool
@@ -57,6 +61,42 @@ pub(crate) fn squared_distance<P: Point>(lower: &P, upper: &P, point: &P) -> P::
                 least(upper.nth(i), greatest(lower.nth(i), point.nth(i))),
             )
         },
+    )
+}
+
+/// The point between two corners that is nearest to a point.
+pub(crate) fn nearest_between<P: Point>(lower: &P, upper: &P, point: &P) -> P
+    ensures { (i : ℕ) → i < P.DIMENSIONS → P.coord result i ≡ nearest_on_axis (P.coord lower.now i, P.coord upper.now i) (P.coord point.now i) }
+{
+    generated(
+        |i: usize| -> P::Scalar
+            requires { i < P.DIMENSIONS }
+            ensures { P.Scalar.value result ≡ nearest_on_axis (P.coord lower.entry.now i, P.coord upper.entry.now i) (P.coord point.entry.now i) }
+        { least(upper.nth(i), greatest(lower.nth(i), point.nth(i))) },
+    )
+}
+
+/// The point moved up on every axis, held at the ends of the scalar.
+fn moved_up<P: Point>(p: &P, by: P::Scalar) -> P
+    ensures { (i : ℕ) → i < P.DIMENSIONS → P.coord result i ≡ between (P.coord p.now i +ℤ P.Scalar.value by) P.Scalar.low P.Scalar.high }
+{
+    generated(
+        |i: usize| -> P::Scalar
+            requires { i < P.DIMENSIONS }
+            ensures { P.Scalar.value result ≡ between (P.coord p.entry.now i +ℤ P.Scalar.value by) P.Scalar.low P.Scalar.high }
+        { p.nth(i).clamped_add(by) },
+    )
+}
+
+/// The point moved down on every axis, held at the ends of the scalar.
+fn moved_down<P: Point>(p: &P, by: P::Scalar) -> P
+    ensures { (i : ℕ) → i < P.DIMENSIONS → P.coord result i ≡ between (P.coord p.now i -ℤ P.Scalar.value by) P.Scalar.low P.Scalar.high }
+{
+    generated(
+        |i: usize| -> P::Scalar
+            requires { i < P.DIMENSIONS }
+            ensures { P.Scalar.value result ≡ between (P.coord p.entry.now i -ℤ P.Scalar.value by) P.Scalar.low P.Scalar.high }
+        { p.nth(i).clamped_sub(by) },
     )
 }
 
@@ -150,7 +190,7 @@ impl<P: Point> Model for AABB<P> {
     ghost use Rattle.std.specs.Prelude.{ℕ, ℤ, List, map, ◌≡◌};
     ghost use Rattle.std.proofs.Common.{refl};
     ghost use Rattle.rstar_base.specs.Points.{table, table-firsts, table-seconds};
-    ghost use Rattle.rstar_base.specs.Boxes.{between_corners, IsBox};
+    ghost use Rattle.rstar_base.specs.Boxes.{between_corners, box_of_corners, is_upright, IsBox};
 
     ghost Value = { List (ℤ × ℤ) };
 
@@ -187,6 +227,43 @@ impl<P: Point> AABB<P> {
         }
     }
 
+    /// The box between two corners, of which the first is nowhere above the second.
+    pub fn from_bounds(lower: P, upper: P) -> Self
+        requires { IsTrue (is_upright P.DIMENSIONS (P.coord lower) (P.coord upper)) }
+        ensures { result ≡ between_corners P.DIMENSIONS (P.coord lower) (P.coord upper) }
+    {
+        AABB {
+            lower: copied_point(&lower),
+            upper: copied_point(&upper),
+        }
+    }
+
+    /// The least box of all points that are at most `distance` from `center` on every axis, held inside the range of the scalar.
+    /// A negative distance counts as the positive one.
+    pub fn from_center(center: P, distance: P::Scalar) -> Self
+        ensures { result ≡ box_of_corners P.DIMENSIONS
+            (λ i. between (P.coord center i +ℤ P.Scalar.value distance) P.Scalar.low P.Scalar.high)
+            (λ i. between (P.coord center i -ℤ P.Scalar.value distance) P.Scalar.low P.Scalar.high) }
+    {
+        AABB::from_corners(moved_up(&center, distance), moved_down(&center, distance))
+    }
+
+    /// The least box of all points; of none, the empty box.
+    pub fn from_points<'a, I: IntoIterator<Item = &'a P>>(i: I) -> Self
+    where
+        P: 'a,
+        requires { IsFiniteIterable I.into_iter_gives I.IntoIter.can_next I.IntoIter.remaining i }
+        ensures { (s : I.IntoIter) × (points : List (Bor P)) × I.into_iter_gives i s × Drains I.IntoIter.next_gives s points
+            × (result ≡ hull (box_data P.Scalar.low P.Scalar.high P.DIMENSIONS) (λ p. between_corners P.DIMENSIONS (P.coord p.now) (P.coord p.now)) points) }
+    {
+        let mut hull = AABB::new_empty();
+        let mut rest = i.into_iter();
+        while let Some(p) = rest.next() {
+            hull.merge(&AABB::from_point(copied_point(p)));
+        }
+        hull
+    }
+
     /// The lower corner.
     pub fn lower(&self) -> P
         ensures { table P.DIMENSIONS (P.coord result) ≡ map (λ x. x.0) self.now }
@@ -194,9 +271,30 @@ impl<P: Point> AABB<P> {
         copied_point(&self.lower)
     }
 
-    /// The hull of two points.
+    /// The upper corner.
+    pub fn upper(&self) -> P
+        ensures { table P.DIMENSIONS (P.coord result) ≡ map (λ x. x.1) self.now }
+    {
+        copied_point(&self.upper)
+    }
+
+    /// The point of the box that is nearest to `point`, which is `point` itself where the box contains it.
+    pub fn min_point(&self, point: &P) -> P
+        ensures { table P.DIMENSIONS (P.coord result) ≡ nearest_point self.now (table P.DIMENSIONS (P.coord point.now)) }
+    {
+        nearest_between(&self.lower, &self.upper, point)
+    }
+
+    /// The squared distance to the nearest point of the box, held at the greatest scalar.
+    pub fn distance_2(&self, point: &P) -> P::Scalar
+        ensures { P.Scalar.value result ≡ pos (box_distance P.Scalar.high self.now (table P.DIMENSIONS (P.coord point.now))) }
+    {
+        squared_distance(&self.lower, &self.upper, point)
+    }
+
+    /// The least box that contains two points.
     pub fn from_corners(p: P, q: P) -> Self
-        ensures { result ≡ between_corners P.DIMENSIONS (λ i. int_min (P.coord p i) (P.coord q i)) (λ i. int_max (P.coord p i) (P.coord q i)) }
+        ensures { result ≡ box_of_corners P.DIMENSIONS (P.coord p) (P.coord q) }
     {
         AABB {
             lower: least_point(&p, &q),

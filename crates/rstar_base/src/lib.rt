@@ -2,10 +2,12 @@
 #![tactic(auto)]
 
 pub mod aabb;
+pub mod algorithm;
 mod axes;
 pub mod envelope;
 pub mod mint;
 pub mod object;
+pub mod params;
 mod places;
 pub mod point;
 pub mod primitives;

@@ -1,17 +1,19 @@
 //! Scalars and points: whole numbers in a range, and lists of them.
 
-ghost use Rattle.std.specs.Prelude.{◌≡◌, ◌<◌, ◌+ℤ◌, ◌-ℤ◌, ◌*ℤ◌, ◌<ℤ◌, ◌↔◌, ℕ, ℤ, List, Bool, IsTrue, pos, int_div, int_le, min, map, unsigned_abs, slice_index_or, slice_set, if◌then◌else◌, ◌==◌, length, refl};
+ghost use Rattle.std.specs.Prelude.{◌≡◌, ◌<◌, ◌+ℤ◌, ◌-ℤ◌, ◌*ℤ◌, ◌<ℤ◌, ◌↔◌, ℕ, ℤ, List, IsTrue, pos, int_div, int_le, min, unsigned_abs, if◌then◌else◌, ◌==◌};
 ghost use Rattle.std.specs.Int.{int_min, int_max};
 ghost use Rattle.std.specs.Borrow.{sem, Lends};
-ghost use Rattle.std.proofs.Common.{rules};
 ghost use Rattle.num_traits.specs.Laws.{between};
 ghost use Rattle.rstar_base.specs.Distances.{square_apart};
 ghost use Rattle.rstar_base.specs.Scalars.{InRange};
 ghost use Rattle.rstar_base.specs.Sizes.{IsNarrow};
-ghost use Rattle.rstar_base.specs.Points.{Callable, Made, table, pair_coord, pair_with, pair-with, array_coord, array-with, pair-eq, array-eq, array-long, IsPoint, pair-forth, array-forth};
+ghost use Rattle.rstar_base.specs.Points.{Callable, Made, table, IsPoint};
+
+mod arrays;
+mod integers;
+mod tuples;
 
 use crate::axes::copied_point;
-use crate::places::place_in;
 use num_traits::{Bounded, CheckedAdd, CheckedMul, CheckedSub, Num, One, Signed, Zero};
 use std::fmt::Debug;
 
@@ -99,50 +101,6 @@ pub trait RTreeNum: Bounded
 
     // A value takes little room, so that lists of them can lie in place.
     ghost narrow: { IsNarrow Self.row };
-}
-
-impl RTreeNum for i64 {
-    ghost of_value = { λ z. z };
-
-    fn ord(self) -> i64 {
-        self
-    }
-
-    fn half_sum(self, other: i64) -> i64 {
-        ((self as i128 + other as i128) / 2) as i64
-    }
-
-    ghost low_law = { record { lt = tt } };
-
-    ghost high_law = { record { lt = tt } };
-
-    ghost of_value_law = { λ x. refl };
-
-    ghost value_of_law = { λ z _. refl };
-
-    ghost narrow = { Prim.search rules };
-}
-
-impl RTreeNum for i8 {
-    ghost of_value = { λ z. z };
-
-    fn ord(self) -> i8 {
-        self
-    }
-
-    fn half_sum(self, other: i8) -> i8 {
-        ((self as i16 + other as i16) / 2) as i8
-    }
-
-    ghost low_law = { record { lt = tt } };
-
-    ghost high_law = { record { lt = tt } };
-
-    ghost of_value_law = { λ x. refl };
-
-    ghost value_of_law = { λ z _. refl };
-
-    ghost narrow = { Prim.search rules };
 }
 
 /// Whether `a <= b`.
@@ -233,72 +191,6 @@ pub trait Point: Clone + PartialEq + Debug + Drop {
 
     // Points are equal exactly where all coordinates are.
     ghost eq_law: { (p q : Self) → of_coords (table DIMENSIONS (coord p)) ≡ p → of_coords (table DIMENSIONS (coord q)) ≡ q → IsTrue (Self.eq p q) ↔ (table DIMENSIONS (coord p) ≡ table DIMENSIONS (coord q)) };
-}
-
-impl<S: RTreeNum> Point for (S, S) {
-    type Scalar = S;
-
-    const DIMENSIONS: usize = 2;
-
-    ghost DIMENSIONS = { 2 };
-
-    ghost coord = { λ p i. pair_coord S.value p.0 p.1 i };
-
-    ghost of_coords = { λ zs. (S.of_value (slice_index_or zs 0 (pos 0)), S.of_value (slice_index_or zs 1 (pos 0))) };
-
-    ghost with = { λ p i s. pair_with p.0 p.1 i s };
-
-    fn generate<F: FnMut(usize) -> S>(mut generator: F) -> (S, S) {
-        let x = generator(0);
-        let y = generator(1);
-        (x, y)
-    }
-
-    fn nth(&self, index: usize) -> S {
-        if index == 0 { self.0 } else { self.1 }
-    }
-
-    fn nth_mut(&mut self, index: usize) -> &mut S {
-        if index == 0 { &mut self.0 } else { &mut self.1 }
-    }
-
-    ghost coords_of_law = { λ zs h. pair-forth S.value S.of_value S.low S.high S.value_of_law zs h };
-
-    ghost with_law = { λ p i s j _ h l. pair-with S.value p.0 p.1 i s j h l };
-
-    ghost eq_law = { λ p q _ _. pair-eq S.eq S.value (λ a b. S.eq_law a b S.exact_law) p.0 p.1 q.0 q.1 };
-}
-
-impl<S: RTreeNum, const N: usize> Point for [S; N] {
-    type Scalar = S;
-
-    const DIMENSIONS: usize = N;
-
-    ghost DIMENSIONS = { N };
-
-    ghost coord = { λ p i. array_coord S.value S.zero p i };
-
-    ghost of_coords = { λ zs. map S.of_value zs };
-
-    ghost with = { λ p i s. slice_set p i s };
-
-    fn generate<F: FnMut(usize) -> S>(generator: F) -> [S; N] {
-        std::array::from_fn(generator)
-    }
-
-    fn nth(&self, index: usize) -> S {
-        self[index]
-    }
-
-    fn nth_mut(&mut self, index: usize) -> &mut S {
-        place_in(self, index)
-    }
-
-    ghost coords_of_law = { λ zs h. array-forth S.value S.of_value S.low S.high S.value_of_law S.zero N zs h.long h.ranged };
-
-    ghost with_law = { λ p i s j h l _. array-with S.value S.zero p i s j (rw (array-long S.of_value _ N p h) l) };
-
-    ghost eq_law = { λ p q h k. array-eq S.eq S.value (λ a b. S.eq_law a b S.exact_law) S.zero N p q (array-long S.of_value _ N _ h) (array-long S.of_value _ N _ k) };
 }
 
 /// Does nothing: each point in hand is a value, and its coordinates are in the range.

@@ -21,7 +21,10 @@ pub(crate) fn distance_between<P: Point>(a: &P, b: &P) -> P::Scalar
 fn nearer<P: Point>(query_point: &P, a: &P, b: &P) -> P
     ensures { (i : ℕ) → i < P.DIMENSIONS → P.coord result i ≡ segment.nearer P.Scalar.high P.DIMENSIONS (P.coord query_point.now) (P.coord a.now) (P.coord b.now) i }
 {
-    if not_above(distance_between(a, query_point), distance_between(b, query_point)) {
+    if not_above(
+        distance_between(a, query_point),
+        distance_between(b, query_point),
+    ) {
         copied_point(a)
     } else {
         copied_point(b)
@@ -154,7 +157,7 @@ fn interior_point<P: Point>(from: &P, to: &P, query_point: &P) -> Option<P>
     ensures { MatchOption result
         (segment.has_interior P.Scalar.low P.Scalar.high P.DIMENSIONS (P.coord from.now) (P.coord to.now) (P.coord query_point.now) ≡ false)
         (λ p. (segment.has_interior P.Scalar.low P.Scalar.high P.DIMENSIONS (P.coord from.now) (P.coord to.now) (P.coord query_point.now) ≡ true)
-            × ((i : ℕ) → i < P.DIMENSIONS → P.coord p i ≡ segment.interior P.DIMENSIONS (P.coord from.now) (P.coord to.now) (P.coord query_point.now) i)) }
+        × ((i : ℕ) → i < P.DIMENSIONS → P.coord p i ≡ segment.interior P.DIMENSIONS (P.coord from.now) (P.coord to.now) (P.coord query_point.now) i)) }
 {
     // These do nothing but tell that the coordinates are in their range.
     known(from);

@@ -1,4 +1,4 @@
-use Rattle.std.proofs.Common.{◌≡◌, ◌<◌, sym, true, false, arith}
+use Rattle.std.proofs.Common.{◌<◌, true, false, arith}
 use Rattle.rstar_base.specs.Points.{all_below-true, all_below-false}
 use Rattle.rstar_base.proofs.axes.every_axis.Goals as goal
 

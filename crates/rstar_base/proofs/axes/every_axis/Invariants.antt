@@ -1,4 +1,4 @@
-use Rattle.std.proofs.Common.{◌≡◌, ◌<◌, ℕ, Bool, true}
+use Rattle.std.proofs.Common.{◌<◌, ℕ, true}
 use Rattle.rstar_base.proofs.axes.every_axis.Given as goal
 
 -- every test below the axis held

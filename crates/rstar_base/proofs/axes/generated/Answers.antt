@@ -1,4 +1,4 @@
-use Rattle.std.proofs.Common.{rules, ◌≡◌, ◌<◌, ℕ, ℤ}
+use Rattle.std.proofs.Common.{◌≡◌}
 use Rattle.rstar_base.specs.Scalars.{InRange}
 use Rattle.rstar_base.specs.Points.{callable, made_holds}
 use Rattle.rstar_base.proofs.axes.generated.Goals as goal

@@ -1,5 +1,5 @@
 use Rattle.std.proofs.Common.{ℕ}
-use Rattle.std.specs.Int.{int_min, int_max}
+use Rattle.std.specs.Int.{int_min}
 use Rattle.rstar_base.proofs.axes.least_point.Goals as goal
 
 pub returns-clause-coords : goal.returns-clause-coords

@@ -1,4 +1,4 @@
-use Rattle.std.proofs.Common.{◌≡◌, ◌∙◌, sym}
+use Rattle.std.proofs.Common.{◌∙◌, sym}
 use Rattle.rstar_base.proofs.Squares.{apart_up, apart_down}
 use Rattle.rstar_base.proofs.point.apart.Goals as goal
 

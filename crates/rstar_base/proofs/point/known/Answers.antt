@@ -1,4 +1,4 @@
-use Rattle.std.proofs.Common.{◌≡◌, ◌<◌, ℕ, ℤ, subst}
+use Rattle.std.proofs.Common.{subst}
 use Rattle.rstar_base.specs.Scalars.{InRange}
 use Rattle.rstar_base.proofs.Ranges.{table-point}
 use Rattle.rstar_base.proofs.point.known.Goals as goal

@@ -22,5 +22,5 @@ returns g c =
     let product : value c.clamped_mul.result ≡ (value c.args.dir *ℤ value c.args.t) = c.clamped_mul.ensures ∙ exact _ _ _ c.requires.fits in
     let len : value c.ord-len.result ≡ value c.args.len = ap value c.ord-len.ensures.same in
     let q : value c.div.result ≡ int_div (value c.args.dir *ℤ value c.args.t) (value c.args.len) =
-        g.met.S.Num.div_law _ _ _ c.div.ensures e ∙ ap (λ z. int_div z (value c.ord-len.result)) product ∙ ap (λ z. int_div (value c.args.dir *ℤ value c.args.t) z) len in
+    g.met.S.Num.div_law _ _ _ c.div.ensures e ∙ ap (λ z. int_div z (value c.ord-len.result)) product ∙ ap (λ z. int_div (value c.args.dir *ℤ value c.args.t) z) len in
     c.clamped_add.ensures ∙ ap (λ z. between (value c.args.from +ℤ z) g.S.Bounded.low g.S.Bounded.high) q

@@ -1,4 +1,4 @@
--- A rectangle keeps the laws of elements.
+-- A box keeps the laws of elements.
 use Rattle.std.specs.Prelude.{◌≡◌, ◌+◌, ◌≤◌, ◌≤ℤ◌, ◌-ℤ◌, ℕ, ℤ, false, zero, suc, List, [], ◌∷◌, min, max, pos, int_lt, unsigned_abs}
 use Rattle.std.specs.Int.{int_min, int_max}
 use Rattle.std.proofs.Common.{refl, arith}
@@ -8,7 +8,8 @@ use Rattle.rstar_base.specs.Boxes.{is_empty_box, box_contains_point, IsBox}
 use Rattle.rstar_base.specs.BoxLaws.{or_parts}
 use Rattle.rstar_base.specs.Distances.{square_apart, nearest_on_axis, distance_sum, near_face, far_face, far_sum, least_sum, box_distance, box_min_max, square_up}
 use Rattle.rstar_base.specs.BoxData.{box_data}
-use Rattle.rstar_base.specs.Elements.{Objects, Distances, DistanceLaws}
+use Rattle.rstar_base.specs.Elements.{DistanceLaws}
+use Rattle.rstar_base.specs.BoxElements.{box_objects, box_distances}
 
 to-lower : (x : ℤ × ℤ) (q : ℤ) → int_lt x.1 x.0 ≡ false → unsigned_abs (int_min x.1 (int_max x.0 q) -ℤ q) ≤ unsigned_abs (x.0 -ℤ q)
 to-lower x q h = grind (arith, ints)
@@ -47,10 +48,8 @@ box_within high (x ∷ xs) p h = let l = distance-least (unsigned_abs high) 0 (x
 same_le : (m : ℕ) → m ≤ m
 same_le m = omega arith
 
-pub rectangle_laws : (low high : ℤ) (n : ℕ) → DistanceLaws (IsPoint low high n) (box_data low high n)
-    (record { IsValue = λ (b : List (ℤ × ℤ)). IsBox low high n b; box_of = λ b. b })
-    (record { distance_2 = λ b. box_distance high b; contains_point = λ b. box_contains_point b })
-rectangle_laws low high n = record {
+pub box_element_laws : (low high : ℤ) (n : ℕ) → DistanceLaws (IsPoint low high n) (box_data low high n) (box_objects low high n) (box_distances high)
+box_element_laws low high n = record {
   near = λ b p _ _ _. same_le (box_distance high b p);
   within = λ b p _ _ h. box_within high b p h;
   contained = λ b p _ _ h. h;

@@ -1,0 +1,103 @@
+-- Whole trees: their elements, and that their envelopes are tight.
+use Rattle.std.proofs.Common.{◌≡◌, ◌≢◌, ℕ, ℤ, zero, suc, ◌+◌, ◌≤◌, Bool, true, false, List, [], ◌∷◌, ◌++◌, refl, ap, sym, ◌∙◌, subst, arith}
+use Rattle.std.specs.List.{AllByRecursion, flat_map}
+use Rattle.std.specs.List.Sorted.{IsPermutation}
+use Rattle.std.proofs.lemmas.List.Sorted.{IsPermutation-append_comm}
+use Rattle.std.proofs.lemmas.List.Concat.{flat_map-append}
+use Rattle.rstar_base.specs.Envelopes.{Boxes, EnvelopeLaws}
+use Rattle.rstar_base.specs.Elements.{Objects, ObjectLaws, Distances, DistanceLaws}
+use Rattle.rstar_base.specs.Hulls.{hull}
+use Rattle.rstar_base.proofs.Lists.{all-append, all_map}
+use Rattle.rstar_base.proofs.Hulls.{hull-value, hull-append, hull-single, hull-push}
+use Rattle.rstar.specs.declared.node.RTreeNode.{RTreeNode, Leaf, Parent}
+use Rattle.rstar.specs.declared.node.ParentNode.{ParentNode}
+use Rattle.rstar.specs.Nodes.{elements, all_elements, elements_of, node_box, IsTree, IsElement, IsTight, IsInner, AreWhole}
+use Rattle.rstar.proofs.Rows.{is_leaf, is_parent, elements-Leaf, elements-Parent, node_box-Leaf, node_box-Parent, IsLeafOf-Leaf}
+
+not_true : (b : Bool) → (b ≡ true → ⊥) → b ≡ false
+not_true true h = absurd (h refl)
+not_true false h = refl
+
+differ : {b : Bool} → b ≡ true → b ≡ false → ⊥
+differ p q = cc
+
+module _ {T E : Type 0} (v : Boxes E) (o : Objects T E) {P S X : Type 0} where
+  each_sound : (Q : RTreeNode T E P S X → Type 0) → ((n : RTreeNode T E P S X) → Q n → AllByRecursion (IsElement v o) (elements n))
+      → (ns : List (RTreeNode T E P S X)) → AllByRecursion Q ns → AllByRecursion (IsElement v o) (all_elements ns)
+  each_sound Q one [] w = tt
+  each_sound Q one (n ∷ ns) w = all-append (IsElement v o) (elements n) (all_elements ns) (one n w.0) (each_sound Q one ns w.1)
+
+  -- a whole node holds elements
+  pub sound : (h : ℕ) (n : RTreeNode T E P S X) → IsTree (IsInner v o) (IsElement v o) h n → AllByRecursion (IsElement v o) (elements n)
+  sound zero n w =
+      let l = is_leaf (IsElement v o) n w in
+      subst (λ (ts : List T). AllByRecursion (IsElement v o) ts) (sym (ap elements l.1 ∙ elements-Leaf T E P S X l.0)) (l.2, tt)
+  sound (suc h) n w =
+      let p = is_parent _ n w in
+      subst (λ (ts : List T). AllByRecursion (IsElement v o) ts) (sym (ap elements p.1 ∙ elements-Parent p.0))
+      (each_sound (IsTree (IsInner v o) (IsElement v o) h) (sound h) p.0.children.items p.2.1)
+
+  pub all_sound : (h : ℕ) (ns : List (RTreeNode T E P S X)) → AreWhole v o h ns → AllByRecursion (IsElement v o) (all_elements ns)
+  all_sound h = each_sound (IsTree (IsInner v o) (IsElement v o) h) (sound h)
+
+module _ {T E : Type 0} {IsPoint : List ℤ → Type 0} {v : Boxes E} {o : Objects T E} (laws : EnvelopeLaws IsPoint v) (ok : ObjectLaws v o) where
+  pub values-of : (ts : List T) → AllByRecursion (IsElement v o) ts → AllByRecursion (λ t. v.IsValue (o.box_of t)) ts
+  values-of = all_map (IsElement v o) (λ t. v.IsValue (o.box_of t)) (λ t h. ok t h.0)
+
+  module _ {P S X : Type 0} where
+    -- a whole node's envelope is tight
+    pub box_is_hull : (h : ℕ) (n : RTreeNode T E P S X) → IsTree (IsInner v o) (IsElement v o) h n → node_box o.box_of n ≡ hull v o.box_of (elements n)
+    box_is_hull zero n w =
+        let l = is_leaf (IsElement v o) n w in
+        ap (node_box o.box_of) l.1 ∙ node_box-Leaf T E P S X o.box_of l.0 ∙ sym (hull-single laws o.box_of l.0 (ok l.0 l.2.0))
+        ∙ ap (hull v o.box_of) (sym (ap elements l.1 ∙ elements-Leaf T E P S X l.0))
+    box_is_hull (suc h) n w =
+        let p = is_parent _ n w in
+        ap (node_box o.box_of) p.1 ∙ node_box-Parent o.box_of p.0 ∙ p.2.0.0
+        ∙ ap (hull v o.box_of) (sym (ap elements p.1 ∙ elements-Parent p.0))
+
+    -- the merge of whole nodes' envelopes is that of their elements' envelopes
+    pub merged_is_hull : (h : ℕ) (ns : List (RTreeNode T E P S X)) → AreWhole v o h ns → hull v (node_box o.box_of) ns ≡ hull v o.box_of (all_elements ns)
+    merged_is_hull h [] w = refl
+    merged_is_hull h (n ∷ ns) w =
+        ap (λ e. v.merge e (hull v (node_box o.box_of) ns)) (box_is_hull h n w.0)
+        ∙ ap (v.merge (hull v o.box_of (elements n))) (merged_is_hull h ns w.1)
+        ∙ sym (hull-append laws o.box_of (elements n) (all_elements ns) (values-of (elements n) (sound v o h n w.0)) (values-of (all_elements ns) (all_sound v o h ns w.1)))
+
+    -- one more leaf in a list of leaves
+    pub leaf_added : (ns : List (RTreeNode T E P S X)) (t : T) (e f : E) → e ≡ hull v o.box_of (all_elements ns) → f ≡ v.merge e (o.box_of t)
+        → AreWhole v o 0 ns → IsElement v o t
+        → IsPermutation (t ∷ all_elements ns) (all_elements (ns ++ Leaf t ∷ [])) × (f ≡ hull v o.box_of (all_elements (ns ++ Leaf t ∷ []))) × AreWhole v o 0 (ns ++ Leaf t ∷ [])
+    leaf_added ns t e f tight merged w ok_t =
+        let one : elements {E = E} {P = P} {S = S} {X = X} (Leaf t) ≡ t ∷ [] = elements-Leaf T E P S X t in
+        let all : all_elements (ns ++ Leaf t ∷ []) ≡ all_elements ns ++ t ∷ [] =
+        flat_map-append elements ns (Leaf t ∷ []) ∙ ap (λ (l : List T). all_elements ns ++ (l ++ [])) one in (
+          subst (IsPermutation (t ∷ all_elements ns)) (sym all) (IsPermutation-append_comm (t ∷ []) (all_elements ns)),
+          merged ∙ ap (λ x. v.merge x (o.box_of t)) tight
+              ∙ sym (ap (hull v o.box_of) all ∙ hull-push laws o.box_of (all_elements ns) t (values-of (all_elements ns) (all_sound v o 0 ns w)) (ok t ok_t.0)),
+          all-append (IsTree (IsInner v o) (IsElement v o) 0) ns (Leaf t ∷ []) w (IsLeafOf-Leaf T E P S X (IsElement v o) t ok_t, tt),
+        )
+
+  -- the merge of some elements' envelopes is not empty
+  pub hull-full : (t : T) (ts : List T) → AllByRecursion (IsElement v o) (t ∷ ts) → v.is_empty (hull v o.box_of (t ∷ ts)) ≡ false
+  hull-full t ts h =
+      not_true (v.is_empty (hull v o.box_of (t ∷ ts)))
+      (λ e. differ (laws.merge_is_empty (o.box_of t) (hull v o.box_of ts) (ok t h.0.0) (hull-value laws o.box_of ts (values-of ts h.1)) e).0 h.0.1)
+
+  module _ {d : Distances T} (near : DistanceLaws IsPoint v o d) (p : List ℤ) (is_point : IsPoint p) where
+    above-lower : (m n : ℕ) (ts : List T) → m ≤ n → AllByRecursion (λ t. n ≤ d.distance_2 t p) ts → AllByRecursion (λ t. m ≤ d.distance_2 t p) ts
+    above-lower m n [] le h = tt
+    above-lower m n (t ∷ ts) le h = let one = h.0 in (omega (arith, le, one), above-lower m n ts le h.1)
+
+    -- no element is nearer than the merge of all
+    pub hull_least : (ts : List T) → AllByRecursion (IsElement v o) ts → AllByRecursion (λ t. v.distance_2 (hull v o.box_of ts) p ≤ d.distance_2 t p) ts
+    hull_least [] h = tt
+    hull_least (t ∷ []) h =
+        (subst (λ e. v.distance_2 e p ≤ d.distance_2 t p) (sym (hull-single laws o.box_of t (ok t h.0.0))) (near.near t p is_point h.0.0 h.0.1), tt)
+    hull_least (t ∷ u ∷ us) h =
+        let rest = hull-value laws o.box_of (u ∷ us) (values-of (u ∷ us) h.1) in
+        let first = laws.merge_distance (o.box_of t) (hull v o.box_of (u ∷ us)) p is_point (ok t h.0.0) rest h.0.1 in
+        let own = near.near t p is_point h.0.0 h.0.1 in
+        let second = laws.merge_distance (hull v o.box_of (u ∷ us)) (o.box_of t) p is_point rest (ok t h.0.0) (hull-full u us h.1) in
+        let swapped = subst (λ e. v.distance_2 e p ≤ v.distance_2 (hull v o.box_of (u ∷ us)) p) (laws.merge_comm (hull v o.box_of (u ∷ us)) (o.box_of t) rest (ok t h.0.0)) second in
+        (omega (arith, first, own), above-lower _ _ (u ∷ us) swapped (hull_least (u ∷ us) h.1))

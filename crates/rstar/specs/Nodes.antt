@@ -1,0 +1,144 @@
+-- What a node holds, and when it is whole.
+-- T is the element's type, E its envelope's, P its point's, S its scalar's, X what a scalar's text is refused with.
+use Rattle.std.specs.Prelude.{◌≡◌, ◌≢◌, ℕ, zero, suc, ◌+◌, Bool, true, false, List, [], ◌∷◌, ◌++◌, sum_by, if◌then◌else◌, nat_lt}
+use Rattle.std.specs.List.{AllByRecursion, flat_map}
+use Rattle.rstar_base.specs.Envelopes.{Boxes}
+use Rattle.rstar_base.specs.Elements.{Objects}
+use Rattle.rstar_base.specs.Hulls.{hull}
+use Rattle.rstar.specs.declared.node.RTreeNode.{RTreeNode, Leaf, Parent', Row_of-RTreeNode, end_of-RTreeNode, more_of-RTreeNode, RTreeNode-F, out-RTreeNode}
+use Rattle.rstar.specs.declared.node.RTreeNode.TheOpen as layer
+use Rattle.rstar.specs.declared.node.ParentNode.{ParentNode}
+
+-- ---- what a parent shows
+
+-- its children, left to right
+abbrev pub children_of : {T E P S X : Type 0} → ParentNode T E P S X → List (RTreeNode T E P S X)
+children_of p = p.children.items
+
+-- the envelope that it keeps
+abbrev pub envelope_of : {T E P S X : Type 0} → ParentNode T E P S X → E
+envelope_of p = p.envelope
+
+-- ---- folds
+
+-- a value for a node: of a leaf by its element, of a parent by its envelope and its children's values
+unfoldable mutual
+  pub fold_tree : {T E P S X A : Type 0} → (T → A) → (E → List A → A) → RTreeNode T E P S X → A
+  fold_tree leaf parent (Leaf t) = leaf t
+  fold_tree leaf parent (Parent' shape children envelope) = parent envelope (fold_row leaf parent children)
+
+  pub fold_row : {T E P S X A : Type 0} {m : _} → (T → A) → (E → List A → A) → Row_of-RTreeNode T E P S X m → List A
+  fold_row leaf parent end_of-RTreeNode = []
+  fold_row leaf parent (more_of-RTreeNode node rest) = fold_tree leaf parent node ∷ fold_row leaf parent rest
+
+-- the lists, one after another
+abbrev pub joined : {A : Type 0} → List (List A) → List A
+joined [] = []
+joined (xs ∷ rest) = xs ++ joined rest
+
+-- the sum of the numbers
+abbrev pub total : List ℕ → ℕ
+total [] = 0
+total (n ∷ rest) = n + total rest
+
+-- the elements of the leaves, left to right
+unfoldable pub elements : {T E P S X : Type 0} → RTreeNode T E P S X → List T
+elements n = fold_tree (λ t. t ∷ []) (λ e below. joined below) n
+
+-- the envelopes of the parents, each before those below it
+unfoldable pub envelopes : {T E P S X : Type 0} → RTreeNode T E P S X → List E
+envelopes n = fold_tree (λ t. []) (λ e below. e ∷ joined below) n
+
+-- the number of parents, the node among them where it is one
+unfoldable pub parents : {T E P S X : Type 0} → RTreeNode T E P S X → ℕ
+parents n = fold_tree (λ t. 0) (λ e below. 1 + total below) n
+
+-- how many parents have an envelope whose distance is above d
+unfoldable pub far : {T E P S X : Type 0} → (E → ℕ) → ℕ → RTreeNode T E P S X → ℕ
+far dist d n = fold_tree (λ t. 0) (λ e below. (if nat_lt d (dist e) then 1 else 0) + total below) n
+
+-- how many parents a walk opens that goes below the accepted parents alone
+unfoldable pub reach : {T E P S X : Type 0} → (E → Bool) → RTreeNode T E P S X → ℕ
+reach accepts n = fold_tree (λ t. 0) (λ e below. if accepts e then 1 + total below else 0) n
+
+-- what such a walk gives
+unfoldable pub given : {T E P S X : Type 0} → (E → Bool) → (T → Bool) → RTreeNode T E P S X → List T
+given accepts selects n = fold_tree (λ t. if selects t then t ∷ [] else []) (λ e below. if accepts e then joined below else []) n
+
+-- whether the node is a leaf
+unfoldable pub is_leaf_node : {T E P S X : Type 0} → RTreeNode T E P S X → Bool
+is_leaf_node n = fold_tree (λ t. true) (λ e below. false) n
+
+-- the envelope of a node: of a leaf its element's, of a parent the one that it keeps
+unfoldable pub node_box : {T E P S X : Type 0} → (T → E) → RTreeNode T E P S X → E
+node_box box_of n = fold_tree box_of (λ e below. e) n
+
+-- the distance at which a node waits: an element's own, and a parent's envelope's
+unfoldable pub node_distance : {T E P S X : Type 0} → (E → ℕ) → (T → ℕ) → RTreeNode T E P S X → ℕ
+node_distance dist element_dist n = fold_tree element_dist (λ e below. dist e) n
+
+-- the same of several nodes: the lists joined, the numbers added up
+abbrev pub all_elements : {T E P S X : Type 0} → List (RTreeNode T E P S X) → List T
+all_elements ns = flat_map elements ns
+
+abbrev pub all_parents : {T E P S X : Type 0} → List (RTreeNode T E P S X) → ℕ
+all_parents ns = sum_by parents ns
+
+abbrev pub all_far : {T E P S X : Type 0} → (E → ℕ) → ℕ → List (RTreeNode T E P S X) → ℕ
+all_far dist d ns = sum_by (far dist d) ns
+
+-- the elements below a parent
+abbrev pub elements_of : {T E P S X : Type 0} → ParentNode T E P S X → List T
+elements_of p = all_elements (children_of p)
+
+-- the envelopes of a parent and of the parents below it
+abbrev pub envelopes_of : {T E P S X : Type 0} → ParentNode T E P S X → List E
+envelopes_of p = envelope_of p ∷ flat_map envelopes (children_of p)
+
+-- ---- shapes
+
+-- one layer of a node: a leaf whose element meets Q, or a parent that meets Q
+abbrev pub IsLeafLayer : {T E P S X : Type 0} → (T → Type 0) → RTreeNode-F T E P S X (RTreeNode T E P S X) (ParentNode T E P S X) → Type 0
+IsLeafLayer Q (layer.Leaf t) = Q t
+IsLeafLayer Q (layer.Parent p) = ⊥
+
+abbrev pub IsParentLayer : {T E P S X : Type 0} → (ParentNode T E P S X → Type 0) → RTreeNode-F T E P S X (RTreeNode T E P S X) (ParentNode T E P S X) → Type 0
+IsParentLayer Q (layer.Leaf t) = ⊥
+IsParentLayer Q (layer.Parent p) = Q p
+
+-- the node is a leaf whose element meets Q
+unfoldable pub IsLeafOf : {T E P S X : Type 0} → (T → Type 0) → RTreeNode T E P S X → Type 0
+IsLeafOf Q n = IsLeafLayer Q (out-RTreeNode _ _ _ _ _ n)
+
+-- the node is a parent that meets Q
+unfoldable pub IsParentOf : {T E P S X : Type 0} → (ParentNode T E P S X → Type 0) → RTreeNode T E P S X → Type 0
+IsParentOf Q n = IsParentLayer Q (out-RTreeNode _ _ _ _ _ n)
+
+-- all leaves lie this many levels below the node, each parent meets Q and each element R
+abbrev pub IsTree : {T E P S X : Type 0} → (ParentNode T E P S X → Type 0) → (T → Type 0) → ℕ → RTreeNode T E P S X → Type 0
+IsTree Q R zero n = IsLeafOf R n
+IsTree Q R (suc h) n = IsParentOf (λ p. Q p × AllByRecursion (IsTree Q R h) (children_of p)) n
+
+module _ {T E : Type 0} (v : Boxes E) (o : Objects T E) where
+  -- an element that a tree may hold: a value, with an envelope that is not empty
+  abbrev pub IsElement : T → Type 0
+  IsElement t = o.IsValue t × (v.is_empty (o.box_of t) ≡ false)
+
+module _ {T E P S X : Type 0} (v : Boxes E) (o : Objects T E) where
+  -- the envelope is the merge of the elements' envelopes, each once
+  abbrev pub IsTight : ParentNode T E P S X → Type 0
+  IsTight p = envelope_of p ≡ hull v o.box_of (elements_of p)
+
+  -- a parent that is not the root: tight, and with a child
+  abbrev pub IsInner : ParentNode T E P S X → Type 0
+  IsInner p = IsTight p × (children_of p ≢ [])
+
+  -- whole nodes, whose leaves lie this many levels below them
+  abbrev pub AreWhole : ℕ → List (RTreeNode T E P S X) → Type 0
+  AreWhole h ns = AllByRecursion (IsTree IsInner (IsElement v o) h) ns
+
+  -- a whole root: tight, with all leaves on one level
+  pub record IsWhole (root : ParentNode T E P S X) : Type 0 where
+    pub height : ℕ
+    pub tight : IsTight root
+    pub below : AreWhole height (children_of root)

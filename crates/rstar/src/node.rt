@@ -1,0 +1,103 @@
+//! The nodes of a tree: leaves, and parents with the merge of what is below them.
+
+ghost use Rattle.std.specs.Prelude.{◌≡◌, ◌∷◌, false, OnOk, OnErr, IfErr};
+ghost use Rattle.std.specs.List.Sorted.{IsPermutation};
+ghost use Rattle.rstar_base.specs.Hulls.{hull};
+ghost use Rattle.rstar.specs.Nodes.{node_box, is_leaf_node, children_of, envelope_of, elements_of, IsTight, AreWhole};
+
+use rstar_base::envelope::{Envelope, copied_envelope};
+use rstar_base::object::{RTreeObject, envelope_of_all};
+
+/// A node of a tree: one element, or a parent.
+#[cycle(node)]
+#[derive(Drop)]
+pub enum RTreeNode<T: RTreeObject> {
+    /// One element.
+    Leaf(T),
+    /// A list of nodes, with the merge of the envelopes of all elements below.
+    Parent(ParentNode<T>),
+}
+
+impl<T: RTreeObject> RTreeNode<T> {
+    /// Whether the node is a leaf, and so holds one element.
+    #[tactic(auto, unfolding(crate::specs::Nodes::is_leaf_node, crate::specs::Nodes::fold_tree))]
+    pub fn is_leaf(&self) -> bool
+        ensures { result ≡ is_leaf_node self.now }
+    {
+        match self {
+            RTreeNode::Leaf(_) => true,
+            RTreeNode::Parent(_) => false,
+        }
+    }
+}
+
+/// A list of nodes, with the merge of the envelopes of all elements below.
+///
+/// The root of a tree is one. Only the tree makes and changes parents.
+#[cycle(node)]
+#[derive(Drop)]
+pub struct ParentNode<T: RTreeObject> {
+    pub(crate) children: Vec<RTreeNode<T>>,
+    pub(crate) envelope: T::Envelope,
+}
+
+impl<T: RTreeObject> ParentNode<T> {
+    /// Its children, left to right.
+    pub fn children(&self) -> &[RTreeNode<T>]
+        ensures { result.now ≡ children_of self.now }
+    {
+        self.children.as_slice()
+    }
+
+    /// The merge of the envelopes of all elements below it.
+    pub fn envelope(&self) -> &T::Envelope
+        ensures { result.now ≡ envelope_of self.now }
+    {
+        &self.envelope
+    }
+}
+
+impl<T: RTreeObject> RTreeObject for RTreeNode<T> {
+    type Envelope = T::Envelope;
+
+    ghost use Rattle.rstar.specs.Nodes.{node_box};
+
+    ghost object = { record { IsValue = λ n. T.Envelope.boxes.IsValue (node_box T.object.box_of n); box_of = node_box T.object.box_of } };
+
+    #[tactic(auto, unfolding(crate::specs::Nodes::node_box, crate::specs::Nodes::fold_tree))]
+    fn envelope(&self) -> T::Envelope {
+        match self {
+            RTreeNode::Leaf(t) => t.envelope(),
+            RTreeNode::Parent(parent) => copied_envelope(&parent.envelope),
+        }
+    }
+
+    ghost object_law = { λ n h. h };
+}
+
+/// The merge of the envelopes of some nodes, each once; the empty envelope of none. It takes no memory.
+pub fn envelope_for_children<T: RTreeObject>(children: &[RTreeNode<T>]) -> T::Envelope
+    ensures { result ≡ hull T.Envelope.boxes (node_box T.object.box_of) children.now }
+{
+    envelope_of_all(children)
+}
+
+/// Adds an element to a root whose children are leaves. A refusal hands the element back and leaves the root.
+pub(crate) fn add_leaf<T: RTreeObject>(root: &mut ParentNode<T>, t: T) -> Result<(), T>
+    requires tight { IsTight T.Envelope.boxes T.object root.old }
+    requires below { AreWhole T.Envelope.boxes T.object 0 (children_of root.old) }
+    requires element { T.Envelope.boxes.is_empty (T.object.box_of t) ≡ false }
+    ensures added { OnOk result (IsPermutation (t ∷ elements_of root.old) (elements_of root.new)) }
+    ensures handed_back { IfErr result (λ u. u ≡ t) }
+    ensures children { OnErr result (children_of root.new ≡ children_of root.old) }
+    ensures envelope { OnErr result (envelope_of root.new ≡ envelope_of root.old) }
+    ensures tight { IsTight T.Envelope.boxes T.object root.new }
+    ensures below { AreWhole T.Envelope.boxes T.object 0 (children_of root.new) }
+{
+    if root.children.reserve(1).is_err() {
+        return Err(t);
+    }
+    root.envelope.merge(&t.envelope());
+    root.children.push_reserved(RTreeNode::Leaf(t));
+    Ok(())
+}

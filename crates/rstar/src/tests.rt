@@ -1,0 +1,78 @@
+//! The calls at concrete types: points, an element type of one's own, and a generic caller.
+
+ghost use Rattle.std.specs.Prelude.{◌≡◌, ◌≤◌, false, IfOk};
+ghost use Rattle.rstar.specs.Trees.{IsWholeTree};
+
+use crate::rtree::{InsertCause, InsertError, RTree};
+use rstar_base::aabb::AABB;
+use rstar_base::envelope::Envelope;
+use rstar_base::object::RTreeObject;
+use rstar_base::point::Point;
+use rstar_base::primitives::Rectangle;
+use std::alloc::Global;
+
+/// An element type of one's own.
+#[derive(Drop)]
+struct Place {
+    id: u64,
+    at: [i64; 2],
+}
+
+impl RTreeObject for Place {
+    type Envelope = AABB<[i64; 2]>;
+
+    ghost object = { record { IsValue = λ p. ⟦<[i64; 2] as RTreeObject>⟧.object.IsValue p.at; box_of = λ p. ⟦<[i64; 2] as RTreeObject>⟧.object.box_of p.at } };
+
+    fn envelope(&self) -> AABB<[i64; 2]> {
+        self.at.envelope()
+    }
+
+    ghost object_law = { λ p h. h };
+}
+
+/// Two elements of any type.
+fn pair<T: RTreeObject>(alloc: Global, first: T, second: T) -> Result<RTree<T>, InsertError<T>>
+    requires dimensions { 2 ≤ T.Envelope.Point.DIMENSIONS }
+    requires first { T.Envelope.boxes.is_empty (T.object.box_of first) ≡ false }
+    requires second { T.Envelope.boxes.is_empty (T.object.box_of second) ≡ false }
+    ensures whole { IfOk result (λ tree. IsWholeTree T.Envelope.boxes T.object tree) }
+{
+    let mut tree = RTree::new(alloc);
+    tree.insert(first)?;
+    tree.insert(second)?;
+    Ok(tree)
+}
+
+fn two_points(alloc: Global) -> Result<usize, InsertError<[i64; 2]>> {
+    let mut tree = RTree::new(alloc);
+    tree.insert([1, 2])?;
+    tree.insert([3, 4])?;
+    Ok(tree.size())
+}
+
+fn two_places(alloc: Global) -> Result<usize, InsertError<Place>> {
+    let mut tree = RTree::new(alloc);
+    tree.insert(Place { id: 7, at: [1, 2] })?;
+    tree.insert(Place { id: 8, at: [1, 2] })?;
+    Ok(tree.size())
+}
+
+fn no_boxes(alloc: Global) -> usize {
+    let tree: RTree<Rectangle<[i64; 2]>> = RTree::new(alloc);
+    tree.size()
+}
+
+#[test]
+fn sizes(rt: HostRuntime) {
+    assert_eq!(rt; no_boxes(rt.alloc()), 0);
+    assert!(rt; matches!(two_points(rt.alloc()), Ok(2)));
+    assert!(rt; matches!(two_places(rt.alloc()), Ok(2)));
+    let tree = pair(rt.alloc(), [1i64, 2], [3, 4]);
+    match tree {
+        Ok(tree) => {
+            assert_eq!(rt; tree.size(), 2);
+            assert_eq!(rt; tree.root().children().len(), 2);
+        }
+        Err(_) => assert!(rt; false),
+    }
+}

@@ -1,0 +1,31 @@
+-- Boxes between corners, axis by axis.
+use Rattle.std.proofs.Common.{◌≡◌, ◌<◌, ◌&&◌, ℕ, ℤ, zero, suc, Bool, true, false, List, [], ◌∷◌, refl, ap, sym, ◌∙◌, arith, IsTrue}
+use Rattle.std.specs.Prelude.{int_le}
+use Rattle.std.specs.Int.{int_min, int_max}
+use Rattle.rstar_base.specs.Points.{table, all_below, and_parts}
+use Rattle.rstar_base.specs.Boxes.{between_corners, box_of_corners}
+use Rattle.rstar_base.specs.BoxLaws.{corners-same}
+use Rattle.rstar_base.specs.Distances.{nearest_on_axis, nearest_point}
+
+pub all_below-each : (n : ℕ) (t : ℕ → Bool) (k : ℕ) → k < n → IsTrue (all_below n t) → IsTrue (t k)
+all_below-each zero t k l h = absurd (omega arith)
+all_below-each (suc n) t zero l h = (and_parts (t zero) (all_below n (λ i. t (suc i))) h).0
+all_below-each (suc n) t (suc k) l h = all_below-each n (λ i. t (suc i)) k (omega arith) (and_parts (t zero) (all_below n (λ i. t (suc i))) h).1
+
+pub le_along : (a b x y : ℤ) → a ≡ x → b ≡ y → IsTrue (int_le x y) → int_le a b ≡ true
+le_along a b x y h k l = rw (h, k) l
+
+pub corners-nearest : (n : ℕ) (l u p : ℕ → ℤ) → table n (λ i. nearest_on_axis (l i, u i) (p i)) ≡ nearest_point (between_corners n l u) (table n p)
+corners-nearest zero l u p = refl
+corners-nearest (suc n) l u p =
+    ap (λ (w : List ℤ). nearest_on_axis (l zero, u zero) (p zero) ∷ w) (corners-nearest n (λ i. l (suc i)) (λ i. u (suc i)) (λ i. p (suc i)))
+
+least_same : (a b x y : ℤ) → a ≡ x → b ≡ y → int_min a b ≡ int_min x y
+least_same a b x y h k = rw (h, k) refl
+
+greatest_same : (a b x y : ℤ) → a ≡ x → b ≡ y → int_max a b ≡ int_max x y
+greatest_same a b x y h k = rw (h, k) refl
+
+pub corners-hull : (n : ℕ) (p q p' q' : ℕ → ℤ) → ((i : ℕ) → i < n → p i ≡ p' i) → ((i : ℕ) → i < n → q i ≡ q' i) → box_of_corners n p q ≡ box_of_corners n p' q'
+corners-hull n p q p' q' h k =
+    corners-same n _ _ _ _ (λ i l. least_same (p i) (q i) (p' i) (q' i) (h i l) (k i l)) (λ i l. greatest_same (p i) (q i) (p' i) (q' i) (h i l) (k i l))

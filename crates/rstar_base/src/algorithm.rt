@@ -1,0 +1,3 @@
+//! What searches are made of.
+
+pub mod selection_functions;

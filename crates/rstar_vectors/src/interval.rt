@@ -1,0 +1,203 @@
+//! An envelope of a user's own: a stretch of the number line with a level.
+
+ghost use Rattle.std.specs.Prelude.{◌≡◌, pos, min, unsigned_abs};
+ghost use Rattle.std.specs.Int.{int_min, int_max};
+ghost use Rattle.rstar_vectors.specs.Stretches.{gap_between, length_between, nearer_end, held_square};
+
+use num_traits::Zero;
+use rstar_base::envelope::Envelope;
+use rstar_base::point::{Point, RTreeNum, greatest, least, not_above};
+use std::marker::Model;
+
+/// The numbers between two ends, both included, with the greatest level of what was merged.
+#[derive(Clone, Copy, Debug, PartialEq, Drop)]
+pub struct Stretch {
+    from: i64,
+    to: i64,
+    level: u8,
+}
+
+impl Model for Stretch {
+    ghost use Rattle.std.specs.Prelude.{ℤ, ℕ, refl};
+    ghost use Rattle.rstar_vectors.specs.Stretches.{IsStretch};
+
+    ghost Value = { ℤ × ℤ × ℕ };
+
+    ghost view = { λ s. (s.from, s.to, s.level) };
+
+    ghost invariant = { λ s. IsStretch (s.from, s.to, s.level) };
+
+    ghost inverse = { λ v. record { from = v.0; to = v.1; level = v.2 } };
+
+    ghost inverse_ok = { λ a h. refl };
+}
+
+impl Stretch {
+    /// The numbers between two ends, given in either order.
+    pub fn new(a: i64, b: i64, level: u8) -> Self
+        ensures { result ≡ (int_min a b, int_max a b, level) }
+    {
+        Stretch {
+            from: least(a, b),
+            to: greatest(a, b),
+            level,
+        }
+    }
+
+    /// The greatest level of what was merged; 0 for the empty stretch.
+    pub fn level(&self) -> u8
+        ensures { result ≡ self.now.2 }
+    {
+        self.level
+    }
+}
+
+/// How far `to` lies above `from`, held at the greatest scalar; 0 where it lies below.
+fn length<S: RTreeNum>(from: S, to: S) -> S
+    ensures { S.value result ≡ pos (min (length_between (S.value from) (S.value to)) (unsigned_abs S.high)) }
+{
+    if not_above(from, to) {
+        to.clamped_sub(from)
+    } else {
+        S::zero()
+    }
+}
+
+/// How far `at` lies from the numbers between two ends, held at the greatest scalar.
+fn gap<S: RTreeNum>(from: S, to: S, at: S) -> S
+    ensures { S.value result ≡ pos (min (gap_between (S.value from) (S.value to) (S.value at)) (unsigned_abs S.high)) }
+{
+    greatest(length(at, from), length(to, at))
+}
+
+/// The square of the gap, held at the greatest scalar.
+fn squared_gap<S: RTreeNum>(from: S, to: S, at: S) -> S
+    ensures { S.value result ≡ pos (held_square (unsigned_abs S.high) (gap_between (S.value from) (S.value to) (S.value at))) }
+{
+    let gap = gap(from, to, at);
+    gap.clamped_mul(gap)
+}
+
+/// The square of the distance to the nearer end, held at the greatest scalar.
+fn squared_nearer_end<S: RTreeNum>(from: S, to: S, at: S) -> S
+    ensures { S.value result ≡ pos (held_square (unsigned_abs S.high) (nearer_end (S.value from) (S.value to) (S.value at))) }
+{
+    let end = least(gap(from, from, at), gap(to, to, at));
+    end.clamped_mul(end)
+}
+
+impl Envelope for Stretch {
+    ghost use Rattle.rstar_vectors.specs.Stretches.{stretch_data};
+    ghost use Rattle.rstar_vectors.specs.StretchLaws.{stretch_laws, stretch_eq};
+
+    type Point = [i64; 1];
+
+    ghost boxes = { stretch_data };
+
+    fn new_empty() -> Self {
+        Stretch {
+            from: i64::MAX,
+            to: i64::MIN,
+            level: 0,
+        }
+    }
+
+    fn is_empty(&self) -> bool {
+        self.to < self.from
+    }
+
+    fn contains_point(&self, point: &[i64; 1]) -> bool {
+        self.from <= point.nth(0) && point.nth(0) <= self.to
+    }
+
+    fn contains_envelope(&self, other: &Self) -> bool {
+        self.from <= other.from && other.to <= self.to
+    }
+
+    fn merge(&mut self, other: &Self) {
+        *self = self.merged(other);
+    }
+
+    fn merged(&self, other: &Self) -> Self {
+        Stretch {
+            from: least(self.from, other.from),
+            to: greatest(self.to, other.to),
+            level: self.level.max(other.level),
+        }
+    }
+
+    fn intersects(&self, other: &Self) -> bool {
+        self.from <= other.to && other.from <= self.to
+    }
+
+    fn distance_2(&self, point: &[i64; 1]) -> i64 {
+        squared_gap(self.from, self.to, point.nth(0))
+    }
+
+    fn min_max_dist_2(&self, point: &[i64; 1]) -> i64 {
+        squared_nearer_end(self.from, self.to, point.nth(0))
+    }
+
+    fn area(&self) -> i64 {
+        length(self.from, self.to)
+    }
+
+    fn intersection_area(&self, other: &Self) -> i64 {
+        length(greatest(self.from, other.from), least(self.to, other.to))
+    }
+
+    fn center(&self) -> [i64; 1] {
+        [self.from.half_sum(self.to)]
+    }
+
+    fn perimeter_value(&self) -> i64 {
+        length(self.from, self.to)
+    }
+
+    fn axis_key(&self, _axis: usize) -> i64 {
+        self.from
+    }
+
+    ghost envelope_laws = { stretch_laws };
+
+    ghost eq_law = { λ a b _ _. stretch_eq a b };
+}
+
+#[cfg(test)]
+mod tests {
+    use super::*;
+    use rstar_base::envelope::copied_envelope;
+    use std::test::Fail;
+
+    #[test]
+    fn stretches_merge_with_their_levels(rt: HostRuntime) -> Result<(), Fail> {
+        let low = Stretch::new(4, 1, 7);
+        let high = Stretch::new(10, 12, 3);
+        let both = low.merged(&high);
+        assert_eq!(rt; both, Stretch::new(1, 12, 7));
+        assert_eq!(rt; both.level(), 7);
+        assert_ne!(rt; both, Stretch::new(1, 12, 3));
+        assert!(rt; both.contains_envelope(&high) && !low.intersects(&high));
+        assert_eq!(rt; low.distance_2(&[7]), 9);
+        assert_eq!(rt; high.min_max_dist_2(&[7]), 9);
+        assert_eq!(rt; both.distance_2(&[7]), 0);
+        assert_eq!(rt; both.min_max_dist_2(&[7]), 25);
+        assert_eq!(rt; both.center(), [6]);
+        assert_eq!(rt; both.area(), 11);
+        assert_eq!(rt; low.intersection_area(&both), 3);
+        assert_eq!(rt; both.axis_key(0), 1);
+        Ok(())
+    }
+
+    #[test]
+    fn the_empty_stretch_is_the_unit(rt: HostRuntime) -> Result<(), Fail> {
+        let empty = Stretch::new_empty();
+        assert!(rt; empty.is_empty());
+        let mut all = copied_envelope(&empty);
+        all.merge(&Stretch::new(i64::MIN, i64::MAX, 1));
+        assert_eq!(rt; all, Stretch::new(i64::MIN, i64::MAX, 1));
+        assert_eq!(rt; all.area(), i64::MAX);
+        assert_eq!(rt; empty.area(), 0);
+        Ok(())
+    }
+}
