@@ -20,3 +20,4 @@ pub mod Orders
 pub mod Segments
 pub mod SegmentLaws
 pub mod Selections
+pub mod KeptEnvelopes
