@@ -6,7 +6,8 @@ use Rattle.std.proofs.lemmas.Int.{ints}
 use Rattle.std.proofs.lemmas.Bool.Decides.{nat_tests}
 use Rattle.num_traits.specs.Laws.{between, Checks}
 use Rattle.rstar_base.specs.Scalars.{InRange}
-use Rattle.rstar_base.specs.Points.{all_below, and_parts, and_both, and_left, and_right, table, table-get, IsPoint}
+use Rattle.rstar_base.specs.Points.{all_below, table, IsPoint}
+use Rattle.rstar_base.specs.PointLemmas.{and_parts, and_both, and_left, and_right, table-get}
 use Rattle.rstar_base.specs.Boxes.{in_range, box_of_corners, IsBox}
 use Rattle.rstar_base.specs.BoxLaws.{corners-same, corners-box}
 use Rattle.rstar_base.specs.Sums.{sum_below}

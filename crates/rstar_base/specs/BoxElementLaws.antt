@@ -6,7 +6,8 @@ use Rattle.std.proofs.lemmas.Int.{ints}
 use Rattle.rstar_base.specs.Points.{IsPoint}
 use Rattle.rstar_base.specs.Boxes.{is_empty_box, box_contains_point, IsBox}
 use Rattle.rstar_base.specs.BoxLaws.{or_parts}
-use Rattle.rstar_base.specs.Distances.{square_apart, nearest_on_axis, distance_sum, near_face, far_face, far_sum, least_sum, box_distance, box_min_max, square_up}
+use Rattle.rstar_base.specs.Distances.{square_apart, nearest_on_axis, distance_sum, near_face, far_face, far_sum, least_sum, box_distance, box_min_max}
+use Rattle.rstar_base.specs.DistanceLaws.{square_up}
 use Rattle.rstar_base.specs.BoxData.{box_data}
 use Rattle.rstar_base.specs.Elements.{DistanceLaws}
 use Rattle.rstar_base.specs.BoxElements.{box_objects, box_distances}

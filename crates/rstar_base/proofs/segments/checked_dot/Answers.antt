@@ -1,6 +1,6 @@
 use Rattle.std.proofs.Common.{◌≡◌, ◌<◌, ◌∙◌, sym, ap, arith, below_more, ℕ, suc, true, false, ◌*ℤ◌}
 use Rattle.std.specs.Prelude.{◌&&◌}
-use Rattle.rstar_base.specs.Points.{all_below-true, all_below-false}
+use Rattle.rstar_base.specs.PointLemmas.{all_below-true, all_below-false}
 use Rattle.rstar_base.specs.Boxes.{in_range}
 use Rattle.rstar_base.specs.Segments.{dot}
 use Rattle.rstar_base.proofs.SegmentLemmas.{dot-next, fits-next}
