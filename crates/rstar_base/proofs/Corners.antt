@@ -2,7 +2,8 @@
 use Rattle.std.proofs.Common.{◌≡◌, ◌<◌, ◌&&◌, ℕ, ℤ, zero, suc, Bool, true, false, List, [], ◌∷◌, refl, ap, sym, ◌∙◌, arith, IsTrue}
 use Rattle.std.specs.Prelude.{int_le}
 use Rattle.std.specs.Int.{int_min, int_max}
-use Rattle.rstar_base.specs.Points.{table, all_below, and_parts}
+use Rattle.rstar_base.specs.Points.{table, all_below}
+use Rattle.rstar_base.specs.PointLemmas.{and_parts}
 use Rattle.rstar_base.specs.Boxes.{between_corners, box_of_corners}
 use Rattle.rstar_base.specs.BoxLaws.{corners-same}
 use Rattle.rstar_base.specs.Distances.{nearest_on_axis, nearest_point}

@@ -4,7 +4,8 @@ use Rattle.std.specs.List.{All}
 use Rattle.std.proofs.Common.{refl, ap, arith, sym, ◌∙◌}
 use Rattle.std.proofs.lemmas.Int.{ints}
 use Rattle.std.proofs.lemmas.List.{length-map}
-use Rattle.rstar_base.specs.Points.{table, IsPoint, and_parts, and_both}
+use Rattle.rstar_base.specs.Points.{table, IsPoint}
+use Rattle.rstar_base.specs.PointLemmas.{and_parts, and_both}
 use Rattle.rstar_base.specs.Scalars.{InRange}
 use Rattle.rstar_base.specs.Boxes.{in_range, all_in_range, IsBox}
 

@@ -3,7 +3,7 @@ use Rattle.std.specs.Prelude.{◌≡◌, ◌+◌, ◌*◌, ◌≤◌, ◌<◌, �
 use Rattle.std.specs.Int.{int_min, int_max}
 use Rattle.std.proofs.Common.{refl, ap, arith, sym, ◌∙◌}
 use Rattle.std.proofs.lemmas.Int.{ints, clamps, by_lt_z}
-use Rattle.rstar_base.specs.Points.{and_parts}
+use Rattle.rstar_base.specs.PointLemmas.{and_parts}
 use Rattle.rstar_base.specs.Boxes.{merge_axis, merge_boxes, is_empty_box, contains_box}
 use Rattle.rstar_base.specs.BoxLaws.{or_parts}
 use Rattle.rstar_base.specs.Distances.{square_apart, distance_sum, box_distance, near_face, far_face, far_sum, least_sum, box_min_max}

@@ -1,7 +1,8 @@
 pub mod Scalars
 pub mod Sizes
 pub mod Points
-pub mod Tuples
+pub mod PointLemmas
+pub mod TupleLemmas
 pub mod Boxes
 pub mod BoxLaws
 pub mod BoxEq
@@ -17,5 +18,10 @@ pub mod BoxEnvelopes
 pub mod PointElements
 pub mod NodeSizes
 pub mod CarrierLaws
+pub mod BoxElements
+pub mod BoxElementLaws
 pub mod Orders
+pub mod Segments
+pub mod SegmentLaws
 pub mod Selections
+pub mod KeptEnvelopes

@@ -189,7 +189,8 @@ pub struct AABB<P: Point> {
 impl<P: Point> Model for AABB<P> {
     ghost use Rattle.std.specs.Prelude.{ℕ, ℤ, List, map, ◌≡◌};
     ghost use Rattle.std.proofs.Common.{refl};
-    ghost use Rattle.rstar_base.specs.Points.{table, table-firsts, table-seconds};
+    ghost use Rattle.rstar_base.specs.Points.{table};
+    ghost use Rattle.rstar_base.specs.PointLemmas.{table-firsts, table-seconds};
     ghost use Rattle.rstar_base.specs.Boxes.{between_corners, box_of_corners, is_upright, IsBox};
 
     ghost Value = { List (ℤ × ℤ) };

@@ -1,8 +1,8 @@
 //! Points with named coordinates.
 
 ghost use Rattle.std.specs.Prelude.{[], ◌∷◌, pos, refl, slice_index_or};
-ghost use Rattle.rstar_base.specs.Points.{array_coord};
-ghost use Rattle.rstar_base.specs.Tuples.{after_write, tuple-forth, tuple-with, tuple-eq, triple-eq};
+ghost use Rattle.rstar_base.specs.Points.{list_coord, after_write};
+ghost use Rattle.rstar_base.specs.TupleLemmas.{tuple-forth, tuple-with, tuple-eq, triple-eq};
 
 use crate::point::{Point, RTreeNum};
 
@@ -33,7 +33,7 @@ impl<S: RTreeNum> Point for Point2<S> {
 
     ghost DIMENSIONS = { 2 };
 
-    ghost coord = { λ p i. array_coord S.value S.zero (p.x ∷ p.y ∷ []) i };
+    ghost coord = { λ p i. list_coord S.value S.zero (p.x ∷ p.y ∷ []) i };
 
     ghost of_coords = { λ zs. record { x = S.of_value (slice_index_or zs 0 (pos 0)); y = S.of_value (slice_index_or zs 1 (pos 0)) } };
 
@@ -75,7 +75,7 @@ impl<S: RTreeNum> Point for Point3<S> {
 
     ghost DIMENSIONS = { 3 };
 
-    ghost coord = { λ p i. array_coord S.value S.zero (p.x ∷ p.y ∷ p.z ∷ []) i };
+    ghost coord = { λ p i. list_coord S.value S.zero (p.x ∷ p.y ∷ p.z ∷ []) i };
 
     ghost of_coords = { λ zs. record { x = S.of_value (slice_index_or zs 0 (pos 0)); y = S.of_value (slice_index_or zs 1 (pos 0)); z = S.of_value (slice_index_or zs 2 (pos 0)) } };
 

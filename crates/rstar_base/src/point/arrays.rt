@@ -1,7 +1,8 @@
 //! Arrays of any length as points.
 
 ghost use Rattle.std.specs.Prelude.{map, slice_set};
-ghost use Rattle.rstar_base.specs.Points.{array_coord, array-with, array-eq, array-long, array-forth};
+ghost use Rattle.rstar_base.specs.Points.{list_coord};
+ghost use Rattle.rstar_base.specs.PointLemmas.{array-with, array-eq, array-long, array-forth};
 
 use crate::places::place_in;
 use crate::point::{Point, RTreeNum};
@@ -13,7 +14,7 @@ impl<S: RTreeNum, const N: usize> Point for [S; N] {
 
     ghost DIMENSIONS = { N };
 
-    ghost coord = { λ p i. array_coord S.value S.zero p i };
+    ghost coord = { λ p i. list_coord S.value S.zero p i };
 
     ghost of_coords = { λ zs. map S.of_value zs };
 

@@ -1,8 +1,8 @@
 //! Tuples of one scalar type as points.
 
 ghost use Rattle.std.specs.Prelude.{[], ◌∷◌, pos, refl, slice_index_or};
-ghost use Rattle.rstar_base.specs.Points.{array_coord};
-ghost use Rattle.rstar_base.specs.Tuples.{after_write, tuple-forth, tuple-with, tuple-eq};
+ghost use Rattle.rstar_base.specs.Points.{list_coord, after_write};
+ghost use Rattle.rstar_base.specs.TupleLemmas.{tuple-forth, tuple-with, tuple-eq};
 
 use crate::point::{Point, RTreeNum};
 
@@ -13,7 +13,7 @@ impl<S: RTreeNum> Point for (S,) {
 
     ghost DIMENSIONS = { 1 };
 
-    ghost coord = { λ p i. array_coord S.value S.zero (p.0 ∷ []) i };
+    ghost coord = { λ p i. list_coord S.value S.zero (p.0 ∷ []) i };
 
     ghost of_coords = { λ zs. record { 0 = S.of_value (slice_index_or zs 0 (pos 0)) } };
 
@@ -52,7 +52,7 @@ impl<S: RTreeNum> Point for (S, S) {
 
     ghost DIMENSIONS = { 2 };
 
-    ghost coord = { λ p i. array_coord S.value S.zero (p.0 ∷ p.1 ∷ []) i };
+    ghost coord = { λ p i. list_coord S.value S.zero (p.0 ∷ p.1 ∷ []) i };
 
     ghost of_coords = { λ zs. (S.of_value (slice_index_or zs 0 (pos 0)), S.of_value (slice_index_or zs 1 (pos 0))) };
 
@@ -94,7 +94,7 @@ impl<S: RTreeNum> Point for (S, S, S) {
 
     ghost DIMENSIONS = { 3 };
 
-    ghost coord = { λ p i. array_coord S.value S.zero (p.0 ∷ p.1 ∷ p.2 ∷ []) i };
+    ghost coord = { λ p i. list_coord S.value S.zero (p.0 ∷ p.1 ∷ p.2 ∷ []) i };
 
     ghost of_coords = { λ zs. (S.of_value (slice_index_or zs 0 (pos 0)), S.of_value (slice_index_or zs 1 (pos 0)), S.of_value (slice_index_or zs 2 (pos 0))) };
 
@@ -139,7 +139,7 @@ impl<S: RTreeNum> Point for (S, S, S, S) {
 
     ghost DIMENSIONS = { 4 };
 
-    ghost coord = { λ p i. array_coord S.value S.zero (p.0 ∷ p.1 ∷ p.2 ∷ p.3 ∷ []) i };
+    ghost coord = { λ p i. list_coord S.value S.zero (p.0 ∷ p.1 ∷ p.2 ∷ p.3 ∷ []) i };
 
     ghost of_coords = { λ zs. (S.of_value (slice_index_or zs 0 (pos 0)), S.of_value (slice_index_or zs 1 (pos 0)), S.of_value (slice_index_or zs 2 (pos 0)), S.of_value (slice_index_or zs 3 (pos 0))) };
 
@@ -187,7 +187,7 @@ impl<S: RTreeNum> Point for (S, S, S, S, S) {
 
     ghost DIMENSIONS = { 5 };
 
-    ghost coord = { λ p i. array_coord S.value S.zero (p.0 ∷ p.1 ∷ p.2 ∷ p.3 ∷ p.4 ∷ []) i };
+    ghost coord = { λ p i. list_coord S.value S.zero (p.0 ∷ p.1 ∷ p.2 ∷ p.3 ∷ p.4 ∷ []) i };
 
     ghost of_coords = { λ zs. (S.of_value (slice_index_or zs 0 (pos 0)), S.of_value (slice_index_or zs 1 (pos 0)), S.of_value (slice_index_or zs 2 (pos 0)), S.of_value (slice_index_or zs 3 (pos 0)), S.of_value (slice_index_or zs 4 (pos 0))) };
 
@@ -238,7 +238,7 @@ impl<S: RTreeNum> Point for (S, S, S, S, S, S) {
 
     ghost DIMENSIONS = { 6 };
 
-    ghost coord = { λ p i. array_coord S.value S.zero (p.0 ∷ p.1 ∷ p.2 ∷ p.3 ∷ p.4 ∷ p.5 ∷ []) i };
+    ghost coord = { λ p i. list_coord S.value S.zero (p.0 ∷ p.1 ∷ p.2 ∷ p.3 ∷ p.4 ∷ p.5 ∷ []) i };
 
     ghost of_coords = { λ zs. (S.of_value (slice_index_or zs 0 (pos 0)), S.of_value (slice_index_or zs 1 (pos 0)), S.of_value (slice_index_or zs 2 (pos 0)), S.of_value (slice_index_or zs 3 (pos 0)), S.of_value (slice_index_or zs 4 (pos 0)), S.of_value (slice_index_or zs 5 (pos 0))) };
 
@@ -292,7 +292,7 @@ impl<S: RTreeNum> Point for (S, S, S, S, S, S, S) {
 
     ghost DIMENSIONS = { 7 };
 
-    ghost coord = { λ p i. array_coord S.value S.zero (p.0 ∷ p.1 ∷ p.2 ∷ p.3 ∷ p.4 ∷ p.5 ∷ p.6 ∷ []) i };
+    ghost coord = { λ p i. list_coord S.value S.zero (p.0 ∷ p.1 ∷ p.2 ∷ p.3 ∷ p.4 ∷ p.5 ∷ p.6 ∷ []) i };
 
     ghost of_coords = { λ zs. (S.of_value (slice_index_or zs 0 (pos 0)), S.of_value (slice_index_or zs 1 (pos 0)), S.of_value (slice_index_or zs 2 (pos 0)), S.of_value (slice_index_or zs 3 (pos 0)), S.of_value (slice_index_or zs 4 (pos 0)), S.of_value (slice_index_or zs 5 (pos 0)), S.of_value (slice_index_or zs 6 (pos 0))) };
 
@@ -349,7 +349,7 @@ impl<S: RTreeNum> Point for (S, S, S, S, S, S, S, S) {
 
     ghost DIMENSIONS = { 8 };
 
-    ghost coord = { λ p i. array_coord S.value S.zero (p.0 ∷ p.1 ∷ p.2 ∷ p.3 ∷ p.4 ∷ p.5 ∷ p.6 ∷ p.7 ∷ []) i };
+    ghost coord = { λ p i. list_coord S.value S.zero (p.0 ∷ p.1 ∷ p.2 ∷ p.3 ∷ p.4 ∷ p.5 ∷ p.6 ∷ p.7 ∷ []) i };
 
     ghost of_coords = { λ zs. (S.of_value (slice_index_or zs 0 (pos 0)), S.of_value (slice_index_or zs 1 (pos 0)), S.of_value (slice_index_or zs 2 (pos 0)), S.of_value (slice_index_or zs 3 (pos 0)), S.of_value (slice_index_or zs 4 (pos 0)), S.of_value (slice_index_or zs 5 (pos 0)), S.of_value (slice_index_or zs 6 (pos 0)), S.of_value (slice_index_or zs 7 (pos 0))) };
 
@@ -409,7 +409,7 @@ impl<S: RTreeNum> Point for (S, S, S, S, S, S, S, S, S) {
 
     ghost DIMENSIONS = { 9 };
 
-    ghost coord = { λ p i. array_coord S.value S.zero (p.0 ∷ p.1 ∷ p.2 ∷ p.3 ∷ p.4 ∷ p.5 ∷ p.6 ∷ p.7 ∷ p.8 ∷ []) i };
+    ghost coord = { λ p i. list_coord S.value S.zero (p.0 ∷ p.1 ∷ p.2 ∷ p.3 ∷ p.4 ∷ p.5 ∷ p.6 ∷ p.7 ∷ p.8 ∷ []) i };
 
     ghost of_coords = { λ zs. (S.of_value (slice_index_or zs 0 (pos 0)), S.of_value (slice_index_or zs 1 (pos 0)), S.of_value (slice_index_or zs 2 (pos 0)), S.of_value (slice_index_or zs 3 (pos 0)), S.of_value (slice_index_or zs 4 (pos 0)), S.of_value (slice_index_or zs 5 (pos 0)), S.of_value (slice_index_or zs 6 (pos 0)), S.of_value (slice_index_or zs 7 (pos 0)), S.of_value (slice_index_or zs 8 (pos 0))) };
 
@@ -472,7 +472,7 @@ impl<S: RTreeNum> Point for (S, S, S, S, S, S, S, S, S, S) {
 
     ghost DIMENSIONS = { 10 };
 
-    ghost coord = { λ p i. array_coord S.value S.zero (p.0 ∷ p.1 ∷ p.2 ∷ p.3 ∷ p.4 ∷ p.5 ∷ p.6 ∷ p.7 ∷ p.8 ∷ p.9 ∷ []) i };
+    ghost coord = { λ p i. list_coord S.value S.zero (p.0 ∷ p.1 ∷ p.2 ∷ p.3 ∷ p.4 ∷ p.5 ∷ p.6 ∷ p.7 ∷ p.8 ∷ p.9 ∷ []) i };
 
     ghost of_coords = { λ zs. (S.of_value (slice_index_or zs 0 (pos 0)), S.of_value (slice_index_or zs 1 (pos 0)), S.of_value (slice_index_or zs 2 (pos 0)), S.of_value (slice_index_or zs 3 (pos 0)), S.of_value (slice_index_or zs 4 (pos 0)), S.of_value (slice_index_or zs 5 (pos 0)), S.of_value (slice_index_or zs 6 (pos 0)), S.of_value (slice_index_or zs 7 (pos 0)), S.of_value (slice_index_or zs 8 (pos 0)), S.of_value (slice_index_or zs 9 (pos 0))) };
 

@@ -1,16 +1,13 @@
--- Tuples as lists: what a write leaves, which numbers they have, and where two are equal.
+-- Lemmas on tuples as lists: what a write leaves, which numbers they have, and where two are equal.
 use Rattle.std.specs.Prelude.{◌≡◌, ◌+◌, ◌<◌, ◌==◌, ◌&&◌, ◌↔◌, if◌then◌else◌, ℕ, ℤ, Bool, true, false, zero, suc, List, [], ◌∷◌, IsTrue, length, map, pos, slice_index_or}
 use Rattle.std.proofs.Common.{refl, arith}
 use Rattle.std.proofs.Math.Bool.{and_assoc}
 use Rattle.std.specs.List.{All}
 use Rattle.rstar_base.specs.Scalars.{InRange}
-use Rattle.rstar_base.specs.Points.{table, array_coord, and_parts, and_both, IsPoint}
+use Rattle.rstar_base.specs.Points.{table, list_coord, after_write, IsPoint}
+use Rattle.rstar_base.specs.PointLemmas.{and_parts, and_both}
 
--- what a write of s at place i leaves at place k, where x was
-abbrev pub after_write : {S : Type 0} → ℕ → S → ℕ → S → S
-after_write i s k x = if k == i then s else x
-
--- what it leaves of a list whose first place is k
+-- what a write of s at place i leaves of a list whose first place is k
 abbrev pub all_after_write : {S : Type 0} → ℕ → S → ℕ → List S → List S
 all_after_write i s k [] = []
 all_after_write i s k (x ∷ xs) = after_write i s k x ∷ all_after_write i s (k + 1) xs
@@ -20,14 +17,14 @@ value_of_choice value true s x = refl
 value_of_choice value false s x = refl
 
 pub write-from : {S : Type 0} (value : S → ℤ) (d : S) (i : ℕ) (s : S) (k : ℕ) (xs : List S) (j m : ℕ) → m ≡ k + j → j < length xs
-    → array_coord value d (all_after_write i s k xs) j ≡ (if m == i then value s else array_coord value d xs j)
+    → list_coord value d (all_after_write i s k xs) j ≡ (if m == i then value s else list_coord value d xs j)
 write-from value d i s k [] j m e l = absurd (omega arith)
 write-from value d i s k (x ∷ xs) zero m e l = let e' : m ≡ k = omega arith in rw e' (value_of_choice value (k == i) s x)
 write-from value d i s k (x ∷ xs) (suc j) m e l = write-from value d i s (k + 1) xs j m (omega arith) (omega arith)
 
 -- a write changes the number at its place and no other
 pub tuple-with : {S : Type 0} (value : S → ℤ) (d : S) (xs : List S) (i : ℕ) (s : S) (j : ℕ) → j < length xs
-    → array_coord value d (all_after_write i s 0 xs) j ≡ (if j == i then value s else array_coord value d xs j)
+    → list_coord value d (all_after_write i s 0 xs) j ≡ (if j == i then value s else list_coord value d xs j)
 tuple-with value d xs i s j l = write-from value d i s 0 xs j j (omega arith) l
 
 -- the tuple made of a list of numbers in the range has these numbers
