@@ -12,7 +12,7 @@ ghost use Rattle.rstar.specs.Kept.{HasRoom, IsRoomy, IsSpare, IsKept, IsFit, Are
 use crate::algorithm::rstar::choose::choose_subtree;
 use crate::algorithm::rstar::split::split_in_place;
 use crate::node::{ParentNode, RTreeNode, envelope_for_children};
-use rstar_base::envelope::{Envelope, copied_envelope};
+use rstar_base::envelope::Envelope;
 use rstar_base::object::RTreeObject;
 use rstar_base::params::RTreeParams;
 use std::mem;
