@@ -51,7 +51,10 @@ mod tests {
 
     #[test]
     fn the_nearer_door_counts(rt: HostRuntime) -> Result<(), Fail> {
-        let shop: Doors<[i64; 2]> = Doors { front: [0, 0], back: [10, 4] };
+        let shop: Doors<[i64; 2]> = Doors {
+            front: [0, 0],
+            back: [10, 4],
+        };
         assert_eq!(rt; shop.distance_2(&[1, 0]), 1);
         assert_eq!(rt; shop.distance_2(&[10, 2]), 4);
         // Inside the envelope, and at neither door.

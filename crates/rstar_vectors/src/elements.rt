@@ -5,7 +5,9 @@ ghost use Rattle.rstar_base.specs.Elements.{carried_objects};
 use rstar_base::aabb::AABB;
 use rstar_base::envelope::Envelope;
 use rstar_base::object::{PointDistance, RTreeObject, partition_envelopes, sort_envelopes};
-use rstar_base::primitives::{CachedEnvelope, GeomWithData, Line, ObjectRef, PointWithData, Rectangle};
+use rstar_base::primitives::{
+    CachedEnvelope, GeomWithData, Line, ObjectRef, PointWithData, Rectangle,
+};
 use std::cell::Cell;
 use std::rc::Rc;
 use std::test::Fail;
@@ -114,7 +116,10 @@ impl RTreeObject for Counting {
 
 #[test]
 fn a_cached_envelope_is_asked_for_once(rt: HostRuntime) -> Result<(), Fail> {
-    let cached = CachedEnvelope::new(Counting { at: [1, 2], calls: Cell::new(0) });
+    let cached = CachedEnvelope::new(Counting {
+        at: [1, 2],
+        calls: Cell::new(0),
+    });
     let wanted: AABB<[i64; 2]> = AABB::from_point([1, 2]);
     for _ in 0..3 {
         assert_eq!(rt; cached.envelope(), wanted);

@@ -2,7 +2,9 @@
 
 use rstar::algorithm::rstar::{RStarInsertionStrategy, split_children};
 use rstar::node::{RTreeNode, envelope_for_children};
-use rstar::params::{DefaultParams, InsertCause, InsertError, InsertionStrategy, RTreeParams, verify_parameters};
+use rstar::params::{
+    DefaultParams, InsertCause, InsertError, InsertionStrategy, RTreeParams, verify_parameters,
+};
 use rstar::rtree::RTree;
 use rstar_base::aabb::AABB;
 use std::alloc::{AllocError, Global};
@@ -38,7 +40,10 @@ impl RTreeParams for Huge {
 }
 
 /// For each child how many children it has, none for a leaf, and its envelope.
-fn outlines(alloc: Global, nodes: &[RTreeNode<[i32; 2]>]) -> Result<Vec<(usize, AABB<[i32; 2]>)>, AllocError> {
+fn outlines(
+    alloc: Global,
+    nodes: &[RTreeNode<[i32; 2]>],
+) -> Result<Vec<(usize, AABB<[i32; 2]>)>, AllocError> {
     let mut all = Vec::new(alloc);
     for node in nodes {
         match node {
@@ -103,7 +108,9 @@ fn ten_without_axes(alloc: Global) -> Result<RTree<[i32; 0]>, InsertError<[i32; 
 }
 
 /// The seven leaves of the two heaps, cut in two.
-fn cut_heaps(alloc: Global) -> Result<(Vec<RTreeNode<[i32; 2]>>, Vec<RTreeNode<[i32; 2]>>), AllocError> {
+fn cut_heaps(
+    alloc: Global,
+) -> Result<(Vec<RTreeNode<[i32; 2]>>, Vec<RTreeNode<[i32; 2]>>), AllocError> {
     let mut list = Vec::new(alloc);
     list.push(RTreeNode::Leaf([12, 12]))?;
     list.push(RTreeNode::Leaf([0, 0]))?;
@@ -128,8 +135,14 @@ fn a_list_is_cut_by_overlap_and_area(rt: HostRuntime) -> Result<(), Fail> {
     let (left, right) = cut_heaps(rt.alloc())?;
     assert_eq!(rt; left.len(), 4);
     assert_eq!(rt; right.len(), 3);
-    assert_eq!(rt; envelope_for_children(&left), AABB::from_corners([0, 0], [3, 3]));
-    assert_eq!(rt; envelope_for_children(&right), AABB::from_corners([10, 10], [12, 12]));
+    assert_eq!(rt;
+        envelope_for_children(&left),
+        AABB::from_corners([0, 0], [3, 3])
+    );
+    assert_eq!(rt;
+        envelope_for_children(&right),
+        AABB::from_corners([10, 10], [12, 12])
+    );
     Ok(())
 }
 
