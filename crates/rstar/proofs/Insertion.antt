@@ -126,17 +126,18 @@ module _ {T E : Type 0} {IsPoint : List ℤ → Type 0} {v : Boxes E} {o : Objec
       let one = all_first (IsTree (IsKeptInner v o max widest) (IsElement v o) h) p.children.items (second_children r) parts in
       let two = all_second (IsTree (IsKeptInner v o max widest) (IsElement v o) h) p.children.items (second_children r) parts in
       (IsPermutation-trans _ _ _ bag (elements_along before (p.children.items ++ second_children r) same), (inner_of_fit h p one first, one), other r two second) where
-    other : (r : Option (ParentNode T E P S X)) → AreKept v o max widest h (second_children r) → IfSome r (IsFit v o max widest) → IfSome r (IsKeptTree v o max widest h)
-    other None trees fit = tt
-    other (Some q) trees fit = (inner_of_fit h q trees fit, trees)
+        other : (r : Option (ParentNode T E P S X)) → AreKept v o max widest h (second_children r) → IfSome r (IsFit v o max widest) → IfSome r (IsKeptTree v o max widest h)
+        other None trees fit = tt
+        other (Some q) trees fit = (inner_of_fit h q trees fit, trees)
 
   -- a leaf at the end of a list of leaves
   pub leaf_added : (h : ℕ) (t : T) (old : List (RTreeNode T E P S X)) → h ≡ 0 → IsElement v o t → AreKept v o max widest h old
       → IsPermutation (t ∷ all_elements old) (all_elements (old ++ Leaf t ∷ [])) × AreKept v o max widest h (old ++ Leaf t ∷ [])
-  leaf_added h t old low is trees =
-      (IsPermutation-trans _ _ _ (IsPermutation-sym _ _ (IsPermutation-to_front (all_elements old) t))
+  leaf_added h t old low is trees = (
+    IsPermutation-trans _ _ _ (IsPermutation-sym _ _ (IsPermutation-to_front (all_elements old) t))
         (IsPermutation-same _ _ (sym (all_elements-append old (Leaf t ∷ []) ∙ ap (λ (ts : List T). all_elements old ++ ts) (all_elements-single (Leaf t) ∙ elements-Leaf T E P S X t)))),
-      all-append (IsTree (IsKeptInner v o max widest) (IsElement v o) h) old (Leaf t ∷ []) trees (leaf_tree (IsKeptInner v o max widest) (IsElement v o) h t low is, tt))
+    all-append (IsTree (IsKeptInner v o max widest) (IsElement v o) h) old (Leaf t ∷ []) trees (leaf_tree (IsKeptInner v o max widest) (IsElement v o) h t low is, tt),
+  )
 
   -- a child that took the element in, and what it handed out
   pub child_grown : (h : ℕ) (t : T) (old : List (RTreeNode T E P S X)) (i : ℕ) (a b : ParentNode T E P S X) (r : Option (ParentNode T E P S X))
@@ -144,12 +145,13 @@ module _ {T E : Type 0} {IsPoint : List ℤ → Type 0} {v : Boxes E} {o : Objec
       → IsPermutation (t ∷ all_elements a.children.items) (all_elements (b.children.items ++ second_children r))
       → IsKeptTree v o max widest (h - 1) b → IfSome r (IsKeptTree v o max widest (h - 1))
       → IsPermutation (t ∷ all_elements old) (all_elements (set old i (Parent b) ++ as_node r)) × AreKept v o max widest h (set old i (Parent b) ++ as_node r)
-  child_grown h t old i a b r above below is trees bag first second =
-      (rw (all_elements-append (set old i (Parent b)) (as_node r)) (bag_of_set t old i (Parent a) (Parent b) (all_elements (as_node r)) below
+  child_grown h t old i a b r above below is trees bag first second = (
+    rw (all_elements-append (set old i (Parent b)) (as_node r)) (bag_of_set t old i (Parent a) (Parent b) (all_elements (as_node r)) below
         (rw (← is, elements-Parent a, elements-Parent b, same_list r, ← all_elements-append b.children.items (second_children r)) bag)),
-      all-append (IsTree (IsKeptInner v o max widest) (IsElement v o) h) (set old i (Parent b)) (as_node r)
+    all-append (IsTree (IsKeptInner v o max widest) (IsElement v o) h) (set old i (Parent b)) (as_node r)
         (all_set (IsTree (IsKeptInner v o max widest) (IsElement v o) h) old i (Parent b) trees (tree_of (IsKeptInner v o max widest) (IsElement v o) h b above first.0 first.1))
-        (are_trees (IsKeptInner v o max widest) (IsElement v o) h r above second))
+        (are_trees (IsKeptInner v o max widest) (IsElement v o) h r above second),
+  )
 
   -- a root above two parents is a tree of one level more
   pub root_grown : (h : ℕ) (a b p : ParentNode T E P S X) → IsKeptTree v o max widest h a → IsKeptTree v o max widest h b
@@ -161,13 +163,18 @@ module _ {T E : Type 0} {IsPoint : List ℤ → Type 0} {v : Boxes E} {o : Objec
       let value : v.IsValue b.envelope = subst v.IsValue (sym second.0.0.tight) (hull-value laws o.box_of (all_elements b.children.items) b_values) in
       let last : v.merge b.envelope v.empty ≡ b.envelope = merge_empty_right laws b.envelope value in
       let both : hull v (node_box o.box_of) (Parent a ∷ Parent b ∷ []) ≡ v.merge a.envelope b.envelope =
-          ap (λ e. v.merge e (v.merge (node_box o.box_of (Parent b)) v.empty)) (node_box-Parent o.box_of a)
-          ∙ ap (λ e. v.merge a.envelope (v.merge e v.empty)) (node_box-Parent o.box_of b) ∙ ap (v.merge a.envelope) last in
-      let all = merged_is_hull laws ok (h + 1) (Parent a ∷ Parent b ∷ []) (whole_of_kept (h + 1) (Parent a ∷ Parent b ∷ []) trees) in
-      ((record {
-        tight = is ∙ sym both ∙ all ∙ ap (λ (ns : List (RTreeNode T E P S X)). hull v o.box_of (all_elements ns)) (sym are);
-        roomy = record { narrow = rw are (omega arith); room = room };
-      }, rw are (omega arith)), rw are trees)
+      ap (λ e. v.merge e (v.merge (node_box o.box_of (Parent b)) v.empty)) (node_box-Parent o.box_of a)
+      ∙ ap (λ e. v.merge a.envelope (v.merge e v.empty)) (node_box-Parent o.box_of b) ∙ ap (v.merge a.envelope) last in
+      let all = merged_is_hull laws ok (h + 1) (Parent a ∷ Parent b ∷ []) (whole_of_kept (h + 1) (Parent a ∷ Parent b ∷ []) trees) in (
+        (
+          record {
+            tight = is ∙ sym both ∙ all ∙ ap (λ (ns : List (RTreeNode T E P S X)). hull v o.box_of (all_elements ns)) (sym are);
+            roomy = record { narrow = rw are (omega arith); room = room };
+          },
+          rw are (omega arith),
+        ),
+        rw are trees,
+      )
 
 module _ {T E P S X : Type 0} (min max : ℕ) (positive : 0 < min) where
   -- what is left of a list of children after it was parted is sized
@@ -208,8 +215,8 @@ module _ {T E P S X : Type 0} (min max : ℕ) (positive : 0 < min) where
       let done = after here.1 (omega (arith, here.0.1, a.children.ok.0)) in
       let least : min ≤ length b.children.items = done.still_least (omega (arith, here.0.0, a.children.ok.0)) in
       all-append (IsTree (HasSize min max) IsAny h) (set old i (Parent b)) (as_node r)
-        (all_set (IsTree (HasSize min max) IsAny h) old i (Parent b) trees (tree_of (HasSize min max) IsAny h b above (least, done.most) done.below))
-        (are_trees (HasSize min max) IsAny h r above done.second_sized)
+      (all_set (IsTree (HasSize min max) IsAny h) old i (Parent b) trees (tree_of (HasSize min max) IsAny h b above (least, done.most) done.below))
+      (are_trees (HasSize min max) IsAny h r above done.second_sized)
 
   -- a root above two sized parts
   pub sized_root : (h : ℕ) (a b p : ParentNode T E P S X) → AreTrees (HasSize min max) IsAny h a.children.items → min ≤ length a.children.items → length a.children.items ≤ max

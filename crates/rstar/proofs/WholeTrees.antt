@@ -29,7 +29,7 @@ module _ {T E P S X : Type 0} (v : Boxes E) (o : Objects T E) (max widest : ℕ)
       let p = is_parent _ n w in
       let q = parent_of _ p.0 (subst (IsTree (IsRoomy max widest) IsAny (suc h)) p.1 r) in
       subst (IsTree (IsKeptInner v o max widest) (IsElement v o) (suc h)) (sym p.1)
-        (IsParentOf-Parent _ p.0 ((record { tight = p.2.0.0; roomy = q.0 }, some_item p.0.children.items p.2.0.1), all_kept h (tree_kept h) p.0.children.items p.2.1 q.1))
+      (IsParentOf-Parent _ p.0 ((record { tight = p.2.0.0; roomy = q.0 }, some_item p.0.children.items p.2.0.1), all_kept h (tree_kept h) p.0.children.items p.2.1 q.1))
 
   -- whole trees with room, by the levels that their first leaf shows
   pub kept_at : (h n : ℕ) (ns : List (RTreeNode T E P S X)) → n ≡ levels_below ns → AreWhole v o h ns → AreTrees (IsRoomy max widest) IsAny h ns → AreKept v o max widest n ns

@@ -7,8 +7,8 @@ pub mod node;
 pub mod params;
 pub mod rtree;
 
-pub use crate::node::{ParentNode, RTreeNode};
 pub use crate::algorithm::rstar::RStarInsertionStrategy;
+pub use crate::node::{ParentNode, RTreeNode};
 pub use crate::params::{DefaultParams, InsertCause, InsertError, InsertionStrategy, RTreeParams};
 pub use crate::rtree::RTree;
 pub use rstar_base::aabb::AABB;

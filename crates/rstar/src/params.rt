@@ -10,7 +10,6 @@ ghost use Rattle.rstar.specs.Trees.{root_of, size_of, elements_in, IsUnchanged, 
 use crate::rtree::RTree;
 use rstar_base::envelope::Envelope;
 use rstar_base::object::RTreeObject;
-
 pub use rstar_base::params::{DefaultParams, RTreeParams, verify_parameters};
 
 /// Why an insertion was refused.
@@ -38,7 +37,10 @@ pub trait InsertionStrategy {
     /// All memory is taken before the first change. It is refused with `TooMany` exactly where `size` is the greatest
     /// `usize` or a `usize` does not count the spare child lists that are wanted, and otherwise with `NoMemory` where
     /// the allocator refuses a growth. A refusal hands the element back and leaves the tree as it shows itself.
-    fn insert<T: RTreeObject, Params: RTreeParams>(tree: &mut RTree<T, Params>, t: T) -> Result<(), InsertError<T>>
+    fn insert<T: RTreeObject, Params: RTreeParams>(
+        tree: &mut RTree<T, Params>,
+        t: T,
+    ) -> Result<(), InsertError<T>>
         requires whole { IsWholeTree T.Envelope.boxes T.object Params.MAX_SIZE tree.old }
         requires element { T.Envelope.boxes.is_empty (T.object.box_of t) ≡ false }
         ensures added { OnOk result (IsPermutation (t ∷ elements_in tree.old) (elements_in tree.new)) }

@@ -65,7 +65,7 @@ fn no_boxes(alloc: Global) -> usize {
 
 /// All elements, by a `collect`.
 fn listed<'a, T: RTreeObject>(alloc: Global, tree: &'a RTree<T>) -> Result<Vec<&'a T>, AllocError>
-    requires { IsWholeTree T.Envelope.boxes T.object tree.now }
+    requires { IsWholeTree T.Envelope.boxes T.object ⟦<DefaultParams as RTreeParams>⟧.MAX_SIZE tree.now }
     ensures { IfOk result (λ v. map (λ r. r.now) v.items ≡ elements_in tree.now) }
 {
     tree.iter()?.collect(alloc)
@@ -77,7 +77,7 @@ fn inside<'a, T: RTreeObject>(
     tree: &'a RTree<T>,
     envelope: T::Envelope,
 ) -> Result<Vec<&'a T>, AllocError>
-    requires { IsWholeTree T.Envelope.boxes T.object tree.now }
+    requires { IsWholeTree T.Envelope.boxes T.object ⟦<DefaultParams as RTreeParams>⟧.MAX_SIZE tree.now }
     ensures { IfOk result (λ v. map (λ r. r.now) v.items ≡ filter (λ t. T.Envelope.boxes.contains envelope (T.object.box_of t)) (elements_in tree.now)) }
 {
     let mut all = Vec::new(alloc);
@@ -92,7 +92,7 @@ fn first_inside<T: RTreeObject>(
     tree: &RTree<T>,
     envelope: T::Envelope,
 ) -> Result<Option<&T>, AllocError>
-    requires { IsWholeTree T.Envelope.boxes T.object tree.now }
+    requires { IsWholeTree T.Envelope.boxes T.object ⟦<DefaultParams as RTreeParams>⟧.MAX_SIZE tree.now }
     ensures { IfOk result (λ o. MatchOption o
         (filter (λ t. T.Envelope.boxes.contains envelope (T.object.box_of t)) (elements_in tree.now) ≡ [])
         (λ t. (rest : List T) × (filter (λ u. T.Envelope.boxes.contains envelope (T.object.box_of u)) (elements_in tree.now) ≡ t.now ∷ rest))) }
@@ -101,7 +101,7 @@ fn first_inside<T: RTreeObject>(
 }
 
 fn sum_of_ids(tree: &RTree<Place>) -> Result<u64, AllocError>
-    requires { IsWholeTree ⟦<AABB<[i64; 2]> as Envelope>⟧.boxes ⟦<Place as RTreeObject>⟧.object tree.now }
+    requires { IsWholeTree ⟦<AABB<[i64; 2]> as Envelope>⟧.boxes ⟦<Place as RTreeObject>⟧.object ⟦<DefaultParams as RTreeParams>⟧.MAX_SIZE tree.now }
 {
     let mut sum = 0u64;
     for place in tree.locate_in_envelope(AABB::from_corners([0, 0], [9, 9]))? {

@@ -18,5 +18,10 @@ pub mod BoxEnvelopes
 pub mod PointElements
 pub mod NodeSizes
 pub mod CarrierLaws
+pub mod BoxElements
+pub mod BoxElementLaws
 pub mod Orders
+pub mod Segments
+pub mod SegmentLaws
 pub mod Selections
+pub mod KeptEnvelopes

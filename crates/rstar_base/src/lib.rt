@@ -11,5 +11,6 @@ pub mod params;
 mod places;
 pub mod point;
 pub mod primitives;
+mod segments;
 #[cfg(test)]
 mod tests;

@@ -77,7 +77,8 @@ pub trait PointDistance: RTreeObject {
         if !envelope.is_empty() && !not_above(envelope.distance_2(point), max_distance_2) {
             return None;
         }
-        up_to(self.distance_2(point), max_distance_2)
+        let distance_2 = self.distance_2(point);
+        up_to(distance_2, max_distance_2)
     }
 
     ghost distance_laws: { DistanceLaws (IsPoint Self.Envelope.Point.Scalar.low Self.Envelope.Point.Scalar.high Self.Envelope.Point.DIMENSIONS) Self.Envelope.boxes Self.object distances };

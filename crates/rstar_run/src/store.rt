@@ -7,7 +7,7 @@ ghost use Rattle.rstar_run.specs.Answers.{box_between, Lists, lies_in};
 
 use super::command::Corners;
 use rstar::primitives::{GeomWithData, Rectangle};
-use rstar::{AABB, Envelope, InsertError, RTree, RTreeObject};
+use rstar::{AABB, DefaultParams, Envelope, InsertError, RTree, RTreeObject, RTreeParams};
 use std::alloc::{AllocError, Global};
 use std::marker::Model;
 
@@ -23,7 +23,7 @@ fn payloads_in<G: RTreeObject, D: Copy + Drop>(
     tree: &RTree<GeomWithData<G, D>>,
     envelope: G::Envelope,
 ) -> Result<Vec<D>, AllocError>
-    requires { IsWholeTree G.Envelope.boxes ⟦<GeomWithData<G, D> as RTreeObject>⟧.object tree.now }
+    requires { IsWholeTree G.Envelope.boxes ⟦<GeomWithData<G, D> as RTreeObject>⟧.object ⟦<DefaultParams as RTreeParams>⟧.MAX_SIZE tree.now }
     ensures { IfOk result (λ found. found.items
         ≡ map (λ t. t.1) (filter (λ t. G.Envelope.boxes.contains envelope (G.object.box_of t.0)) (elements_in tree.now))) }
 {
@@ -49,7 +49,7 @@ impl Model for Store {
 
     ghost view = { λ s. elements_in s.tree };
 
-    ghost invariant = { λ s. IsWholeTree ⟦<AABB<[i64; 2]> as Envelope>⟧.boxes ⟦<Item as RTreeObject>⟧.object s.tree };
+    ghost invariant = { λ s. IsWholeTree ⟦<AABB<[i64; 2]> as Envelope>⟧.boxes ⟦<Item as RTreeObject>⟧.object ⟦<DefaultParams as RTreeParams>⟧.MAX_SIZE s.tree };
 }
 
 impl Store {

@@ -1,2 +1,3 @@
 pub mod Stretches
 pub mod StretchLaws
+pub mod Doors

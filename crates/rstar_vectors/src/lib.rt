@@ -1,2 +1,15 @@
-//! Tests that cross the crates, on fixed sequences.
+//! Tests that cross the crates, on fixed sequences, and types of a user's own.
 #![tactic(auto)]
+
+#[cfg(test)]
+mod boxes;
+pub mod doors;
+#[cfg(test)]
+mod elements;
+#[cfg(test)]
+mod first;
+#[cfg(test)]
+mod insertion;
+pub mod interval;
+#[cfg(test)]
+mod points;

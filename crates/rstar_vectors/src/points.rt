@@ -65,11 +65,20 @@ fn products_about_the_ends(rt: HostRuntime) -> Result<(), Fail> {
     assert_eq!(rt; 46341i32.clamped_mul(46341), 2147483647);
     assert_eq!(rt; 2147483647i64.clamped_mul(2147483647), 4611686014132420609);
     assert_eq!(rt; 2147483648i64.clamped_mul(2147483648), 4611686018427387904);
-    assert_eq!(rt; (-2147483648i64).clamped_mul(2147483647), -4611686016279904256);
+    assert_eq!(rt;
+        (-2147483648i64).clamped_mul(2147483647),
+        -4611686016279904256
+    );
     assert_eq!(rt; 3037000499i64.clamped_mul(3037000499), 9223372030926249001);
     assert_eq!(rt; 3037000500i64.clamped_mul(3037000500), 9223372036854775807);
-    assert_eq!(rt; 3037000500isize.clamped_mul(-3037000500), -9223372036854775808);
-    assert_eq!(rt; 9223372036854775808i128.clamped_mul(4), 36893488147419103232);
+    assert_eq!(rt;
+        3037000500isize.clamped_mul(-3037000500),
+        -9223372036854775808
+    );
+    assert_eq!(rt;
+        9223372036854775808i128.clamped_mul(4),
+        36893488147419103232
+    );
     Ok(())
 }
 
@@ -111,14 +120,46 @@ fn long_tuples(rt: HostRuntime) -> Result<(), Fail> {
     let ten = (0i64, 1, 2, 3, 4, 5, 6, 7, 8, 9);
     assert_eq!(rt; ten.nth(9), 9);
     reads(&rt, &(1i8, 2, 3, 4, 5, 6), [1, 2, 3, 4, 5, 6].as_slice());
-    reads(&rt, &(1i16, 2, 3, 4, 5, 6, 7), [1, 2, 3, 4, 5, 6, 7].as_slice());
-    reads(&rt, &(1i32, 2, 3, 4, 5, 6, 7, 8), [1, 2, 3, 4, 5, 6, 7, 8].as_slice());
-    reads(&rt, &(1isize, 2, 3, 4, 5, 6, 7, 8, 9), [1, 2, 3, 4, 5, 6, 7, 8, 9].as_slice());
+    reads(
+        &rt,
+        &(1i16, 2, 3, 4, 5, 6, 7),
+        [1, 2, 3, 4, 5, 6, 7].as_slice(),
+    );
+    reads(
+        &rt,
+        &(1i32, 2, 3, 4, 5, 6, 7, 8),
+        [1, 2, 3, 4, 5, 6, 7, 8].as_slice(),
+    );
+    reads(
+        &rt,
+        &(1isize, 2, 3, 4, 5, 6, 7, 8, 9),
+        [1, 2, 3, 4, 5, 6, 7, 8, 9].as_slice(),
+    );
     reads(&rt, &ten, [0, 1, 2, 3, 4, 5, 6, 7, 8, 9].as_slice());
-    writes(&rt, (1i128, 2, 3, 4, 5, 6), 5, [1, 2, 3, 4, 5, 0].as_slice());
-    writes(&rt, (1i64, 2, 3, 4, 5, 6, 7), 6, [1, 2, 3, 4, 5, 6, 0].as_slice());
-    writes(&rt, (1i64, 2, 3, 4, 5, 6, 7, 8), 0, [0, 2, 3, 4, 5, 6, 7, 8].as_slice());
-    writes(&rt, (1i64, 2, 3, 4, 5, 6, 7, 8, 9), 4, [1, 2, 3, 4, 0, 6, 7, 8, 9].as_slice());
+    writes(
+        &rt,
+        (1i128, 2, 3, 4, 5, 6),
+        5,
+        [1, 2, 3, 4, 5, 0].as_slice(),
+    );
+    writes(
+        &rt,
+        (1i64, 2, 3, 4, 5, 6, 7),
+        6,
+        [1, 2, 3, 4, 5, 6, 0].as_slice(),
+    );
+    writes(
+        &rt,
+        (1i64, 2, 3, 4, 5, 6, 7, 8),
+        0,
+        [0, 2, 3, 4, 5, 6, 7, 8].as_slice(),
+    );
+    writes(
+        &rt,
+        (1i64, 2, 3, 4, 5, 6, 7, 8, 9),
+        4,
+        [1, 2, 3, 4, 0, 6, 7, 8, 9].as_slice(),
+    );
     writes(&rt, ten, 9, [0, 1, 2, 3, 4, 5, 6, 7, 8, 0].as_slice());
     Ok(())
 }
@@ -132,8 +173,25 @@ fn arrays_and_named_coordinates(rt: HostRuntime) -> Result<(), Fail> {
     writes(&rt, [7i64, -3, 5], 1, [7, 0, 5].as_slice());
     reads(&rt, &Point2 { x: 1i32, y: 2 }, [1, 2].as_slice());
     writes(&rt, Point2 { x: 1i64, y: 2 }, 1, [1, 0].as_slice());
-    reads(&rt, &Point3 { x: 1i64, y: 2, z: 3 }, [1, 2, 3].as_slice());
-    writes(&rt, Point3 { x: 1i64, y: 2, z: 3 }, 2, [1, 2, 0].as_slice());
+    reads(
+        &rt,
+        &Point3 {
+            x: 1i64,
+            y: 2,
+            z: 3,
+        },
+        [1, 2, 3].as_slice(),
+    );
+    writes(
+        &rt,
+        Point3 {
+            x: 1i64,
+            y: 2,
+            z: 3,
+        },
+        2,
+        [1, 2, 0].as_slice(),
+    );
     Ok(())
 }
 
@@ -148,8 +206,26 @@ fn points_are_equal_where_all_coordinates_are(rt: HostRuntime) -> Result<(), Fai
     assert!(rt; !same(&[1i64, 2, 3], &[1, 2, 4]));
     assert!(rt; same(&(1i64, 2, 3), &(1, 2, 3)));
     assert!(rt; !same(&(1i64, 2, 3), &(0, 2, 3)));
-    assert!(rt; same(&Point3 { x: 1i64, y: 2, z: 3 }, &Point3 { x: 1, y: 2, z: 3 }));
-    assert!(rt; !same(&Point3 { x: 1i64, y: 2, z: 3 }, &Point3 { x: 1, y: 5, z: 3 }));
+    assert!(rt;
+        same(
+            &Point3 {
+                x: 1i64,
+                y: 2,
+                z: 3
+            },
+            &Point3 { x: 1, y: 2, z: 3 }
+        )
+    );
+    assert!(rt;
+        !same(
+            &Point3 {
+                x: 1i64,
+                y: 2,
+                z: 3
+            },
+            &Point3 { x: 1, y: 5, z: 3 }
+        )
+    );
     Ok(())
 }
 

@@ -22,7 +22,10 @@ use rstar_base::params::RTreeParams;
 pub enum RStarInsertionStrategy {}
 
 impl InsertionStrategy for RStarInsertionStrategy {
-    fn insert<T: RTreeObject, Params: RTreeParams>(tree: &mut RTree<T, Params>, t: T) -> Result<(), InsertError<T>> {
+    fn insert<T: RTreeObject, Params: RTreeParams>(
+        tree: &mut RTree<T, Params>,
+        t: T,
+    ) -> Result<(), InsertError<T>> {
         tree.insert_prepared(t)
     }
 }

@@ -10,7 +10,11 @@ use rstar_base::point::RTreeNum;
 
 /// The child that an element with this envelope goes into: among those that contain the envelope, the first of least
 /// area; where there is none, the first that has to grow least. `above_leaves` says that the children hold leaves.
-pub(crate) fn choose_subtree<T: RTreeObject>(children: &[RTreeNode<T>], envelope: &T::Envelope, above_leaves: bool) -> usize
+pub(crate) fn choose_subtree<T: RTreeObject>(
+    children: &[RTreeNode<T>],
+    envelope: &T::Envelope,
+    above_leaves: bool,
+) -> usize
     requires { 0 < length children.now }
     ensures { result < length children.now }
 {
@@ -21,7 +25,10 @@ pub(crate) fn choose_subtree<T: RTreeObject>(children: &[RTreeNode<T>], envelope
 }
 
 /// The first child of least area among those that contain the envelope.
-fn smallest_container<T: RTreeObject>(children: &[RTreeNode<T>], envelope: &T::Envelope) -> Option<usize>
+fn smallest_container<T: RTreeObject>(
+    children: &[RTreeNode<T>],
+    envelope: &T::Envelope,
+) -> Option<usize>
     ensures { IfSome result (λ i. i < length children.now) }
 {
     let mut best = None;
@@ -41,7 +48,11 @@ fn smallest_container<T: RTreeObject>(children: &[RTreeNode<T>], envelope: &T::E
 
 /// The first child whose envelope, merged with the new one, has the least overlap increase, then the least area
 /// increase, then the least area.
-fn least_grown<T: RTreeObject>(children: &[RTreeNode<T>], envelope: &T::Envelope, above_leaves: bool) -> usize
+fn least_grown<T: RTreeObject>(
+    children: &[RTreeNode<T>],
+    envelope: &T::Envelope,
+    above_leaves: bool,
+) -> usize
     requires { 0 < length children.now }
     ensures { result < length children.now }
 {
@@ -59,7 +70,12 @@ fn least_grown<T: RTreeObject>(children: &[RTreeNode<T>], envelope: &T::Envelope
 
 /// How a child grows that takes the envelope in: by overlap with the others, which counts where the children hold
 /// leaves, and by area; and its area afterwards.
-fn growth<T: RTreeObject>(children: &[RTreeNode<T>], index: usize, envelope: &T::Envelope, above_leaves: bool) -> (Distance<T>, Distance<T>, Distance<T>)
+fn growth<T: RTreeObject>(
+    children: &[RTreeNode<T>],
+    index: usize,
+    envelope: &T::Envelope,
+    above_leaves: bool,
+) -> (Distance<T>, Distance<T>, Distance<T>)
     requires { index < length children.now }
 {
     let own = children[index].envelope();
@@ -74,7 +90,12 @@ fn growth<T: RTreeObject>(children: &[RTreeNode<T>], index: usize, envelope: &T:
 }
 
 /// By how much the overlaps with the other children grow where the child's own envelope grows to `merged`.
-fn overlap_increase<T: RTreeObject>(children: &[RTreeNode<T>], index: usize, own: &T::Envelope, merged: &T::Envelope) -> Distance<T> {
+fn overlap_increase<T: RTreeObject>(
+    children: &[RTreeNode<T>],
+    index: usize,
+    own: &T::Envelope,
+    merged: &T::Envelope,
+) -> Distance<T> {
     let mut before = Distance::<T>::zero();
     let mut after = Distance::<T>::zero();
     for (other, child) in children.iter().enumerate() {

@@ -12,7 +12,7 @@ ghost use Rattle.rstar.specs.Kept.{HasRoom, IsRoomy, IsSpare, IsKept, IsFit, Are
 use crate::algorithm::rstar::choose::choose_subtree;
 use crate::algorithm::rstar::split::split_in_place;
 use crate::node::{ParentNode, RTreeNode, envelope_for_children};
-use rstar_base::envelope::{Envelope, copied_envelope};
+use rstar_base::envelope::Envelope;
 use rstar_base::object::RTreeObject;
 use rstar_base::params::RTreeParams;
 use std::mem;
@@ -48,11 +48,15 @@ fn add_child<T: RTreeObject, Params: RTreeParams>(
     ensures spares { AllByRecursion (IsSpare widest) spares.new.items }
     ensures used { vec_len spares.old ≤ vec_len spares.new + 1 }
 {
-    let Ok(()) = node.children.push(child) else { unreachable!() };
+    let Ok(()) = node.children.push(child) else {
+        unreachable!()
+    };
     if node.children.len() <= Params::MAX_SIZE {
         return None;
     }
-    let Some(mut second) = spares.pop() else { unreachable!() };
+    let Some(mut second) = spares.pop() else {
+        unreachable!()
+    };
     split_in_place::<_, Params>(&mut node.children, &mut second);
     node.envelope = envelope_for_children(&node.children);
     let envelope = envelope_for_children(&second);
@@ -146,11 +150,17 @@ fn grow_root<T: RTreeObject, Params: RTreeParams>(
     ensures spares { AllByRecursion (IsSpare widest) spares.new.items }
     ensures used { vec_len spares.old ≡ vec_len spares.new + 1 }
 {
-    let Some(children) = spares.pop() else { unreachable!() };
+    let Some(children) = spares.pop() else {
+        unreachable!()
+    };
     let envelope = root.envelope.merged(&second.envelope);
     let old = mem::replace(root, ParentNode { children, envelope });
-    let Ok(()) = root.children.push(RTreeNode::Parent(old)) else { unreachable!() };
-    let Ok(()) = root.children.push(RTreeNode::Parent(second)) else { unreachable!() };
+    let Ok(()) = root.children.push(RTreeNode::Parent(old)) else {
+        unreachable!()
+    };
+    let Ok(()) = root.children.push(RTreeNode::Parent(second)) else {
+        unreachable!()
+    };
 }
 
 /// Inserts an element from the root, whose children are trees of `levels` levels of parents. The root grows a level

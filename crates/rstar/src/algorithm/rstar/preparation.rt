@@ -33,7 +33,10 @@ pub(crate) fn lists_wanted<Params: RTreeParams>(levels: usize) -> Option<usize>
     ensures some { IfSome result (λ n. n ≡ spare_lists Params.REINSERTION_COUNT (1 + levels)) }
     ensures none { IfNone result (usize.MAX < spare_lists Params.REINSERTION_COUNT (1 + levels)) }
 {
-    let each = levels.checked_add(1)?.checked_add(Params::REINSERTION_COUNT)?.checked_add(2)?;
+    let each = levels
+        .checked_add(1)?
+        .checked_add(Params::REINSERTION_COUNT)?
+        .checked_add(2)?;
     Params::REINSERTION_COUNT.max(1).checked_mul(each)
 }
 

@@ -9,9 +9,6 @@ use rstar_base::object::{Distance, RTreeObject, envelope_of_all, sort_envelopes}
 use rstar_base::params::RTreeParams;
 use rstar_base::point::{Point, RTreeNum};
 
-
-
-
 /// Moves what lies from `at` on into the spare list, in its order. It takes no memory.
 fn cut_at<A: Drop>(list: &mut Vec<A>, at: usize, spare: &mut Vec<A>)
     requires within { at ≤ vec_len list.old }
@@ -25,8 +22,12 @@ fn cut_at<A: Drop>(list: &mut Vec<A>, at: usize, spare: &mut Vec<A>)
     ensures second_capacity { vec_capacity spare.old ≤ vec_capacity spare.new }
 {
     while at < list.len() {
-        let Some(item) = list.pop() else { unreachable!() };
-        let Ok(()) = spare.push(item) else { unreachable!() };
+        let Some(item) = list.pop() else {
+            unreachable!()
+        };
+        let Ok(()) = spare.push(item) else {
+            unreachable!()
+        };
     }
     spare.reverse();
 }
@@ -40,7 +41,10 @@ fn measures_at<T: RTreeObject>(list: &[T], k: usize) -> (Distance<T>, Distance<T
     let (front, back) = list.split_at(k);
     let first = envelope_of_all(front);
     let second = envelope_of_all(back);
-    (first.intersection_area(&second), first.area().clamped_add(second.area()))
+    (
+        first.intersection_area(&second),
+        first.area().clamped_add(second.area()),
+    )
 }
 
 /// Whether `a < b`.
@@ -93,7 +97,9 @@ fn perimeter_at<T: RTreeObject>(list: &[T], k: usize) -> Distance<T>
     requires { k ≤ length list.now }
 {
     let (front, back) = list.split_at(k);
-    envelope_of_all(front).perimeter_value().clamped_add(envelope_of_all(back).perimeter_value())
+    envelope_of_all(front)
+        .perimeter_value()
+        .clamped_add(envelope_of_all(back).perimeter_value())
 }
 
 /// The first axis of least perimeter, by the order of the children along it. Each axis is sorted on the list as the one
@@ -130,7 +136,10 @@ fn arrange<T: RTreeObject, Params: RTreeParams>(list: &mut [T])
 }
 
 /// Cuts the list in two parts of an arrangement, by a least cut. It takes no memory.
-pub(crate) fn split_in_place<T: RTreeObject, Params: RTreeParams>(list: &mut Vec<T>, spare: &mut Vec<T>)
+pub(crate) fn split_in_place<T: RTreeObject, Params: RTreeParams>(
+    list: &mut Vec<T>,
+    spare: &mut Vec<T>,
+)
     requires many { Params.MAX_SIZE < vec_len list.old }
     requires empty { spare.old.items ≡ [] }
     requires room { vec_len list.old ≤ vec_capacity spare.old }

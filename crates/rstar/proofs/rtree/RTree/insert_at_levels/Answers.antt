@@ -9,7 +9,7 @@ pub insert_at_root-requires-clause-below : goal.insert_at_root-requires-clause-b
 insert_at_root-requires-clause-below g c =
     let whole = c.requires.whole in
     kept_at g.T.Envelope.Envelope.boxes g.T.RTreeObject.object g.Params.RTreeParams.MAX_SIZE c.args.self.now.widest whole.root_whole.height c.args.levels c.args.self.now.root.children.items
-      c.requires.levels whole.root_whole.below whole.rooms
+    c.requires.levels whole.root_whole.below whole.rooms
 
 pub returns-clause-whole : goal.returns-clause-whole
 returns-clause-whole g c =
@@ -36,5 +36,5 @@ returns-clause-whole g c =
 pub returns-clause-sized : goal.returns-clause-sized
 returns-clause-sized g c = λ sized.
     c.insert_at_root.ensures.sized
-      (sized_at g.Params.RTreeParams.MIN_SIZE g.Params.RTreeParams.MAX_SIZE g.Params.RTreeParams.min_positive sized.height c.args.levels c.args.self.now.root.children.items c.requires.levels sized.below)
-      (omega (arith, sized.most, c.args.self.now.root.children.ok.0))
+    (sized_at g.Params.RTreeParams.MIN_SIZE g.Params.RTreeParams.MAX_SIZE g.Params.RTreeParams.min_positive sized.height c.args.levels c.args.self.now.root.children.items c.requires.levels sized.below)
+    (omega (arith, sized.most, c.args.self.now.root.children.ok.0))

@@ -9,15 +9,17 @@ returns-in-Some-clause-bag g c =
     rw same c.in-Some.ensures.bag
 
 pub returns-in-Some-clause-whole : goal.returns-in-Some-clause-whole
-returns-in-Some-clause-whole g c =
-    (c.args.levels + 1, root_grown g.met.T.Envelope.Envelope.envelope_laws g.met.T.RTreeObject.object_law g.Params.RTreeParams.MAX_SIZE c.args.widest c.args.levels c.insert_below.new.node c.in-Some.second c.grow_root.new.root
-      c.in-Some.ensures.first c.in-Some.ensures.second c.grow_root.ensures.children c.grow_root.ensures.envelope c.grow_root.ensures.room (omega (arith, g.Params.RTreeParams.max_at_least_four)))
+returns-in-Some-clause-whole g c = (
+  c.args.levels + 1,
+  root_grown g.met.T.Envelope.Envelope.envelope_laws g.met.T.RTreeObject.object_law g.Params.RTreeParams.MAX_SIZE c.args.widest c.args.levels c.insert_below.new.node c.in-Some.second c.grow_root.new.root
+      c.in-Some.ensures.first c.in-Some.ensures.second c.grow_root.ensures.children c.grow_root.ensures.envelope c.grow_root.ensures.room (omega (arith, g.Params.RTreeParams.max_at_least_four)),
+)
 
 pub returns-in-Some-clause-sized : goal.returns-in-Some-clause-sized
 returns-in-Some-clause-sized g c = λ trees few.
     let after = c.in-Some.ensures.sized trees few in
     sized_root g.Params.RTreeParams.MIN_SIZE g.Params.RTreeParams.MAX_SIZE g.Params.RTreeParams.min_positive c.args.levels c.insert_below.new.node c.in-Some.second c.grow_root.new.root
-      after.below after.cut_least after.most after.second_sized c.grow_root.ensures.children (omega (arith, g.Params.RTreeParams.max_at_least_four))
+    after.below after.cut_least after.most after.second_sized c.grow_root.ensures.children (omega (arith, g.Params.RTreeParams.max_at_least_four))
 
 pub returns-in_default-clause-sized : goal.returns-in_default-clause-sized
 returns-in_default-clause-sized g c = λ trees few.

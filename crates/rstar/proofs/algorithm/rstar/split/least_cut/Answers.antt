@@ -10,8 +10,16 @@ loop-k-preserved g c =
     let areas : ℕ → ℕ = areas_at g.T.Envelope.Envelope.boxes g.T.RTreeObject.object.box_of (unsigned_abs g.T.Envelope.Point.Scalar.Bounded.high) c.args.list.now in
     let answer = rw (c.measures_at-here.ensures.overlap, c.measures_at-here.ensures.areas, c.loop-k.invariant.first, c.loop-k.invariant.second) at c.is_below.ensures in
     elim c.if-is_below.branch [
-      | then-is_below w ↦ rw (w.best-is, w.least-is) (record { allowed = (omega arith, omega arith); first = c.measures_at-here.ensures.overlap; second = c.measures_at-here.ensures.areas;
-          least = least_new overlap areas g.Params.RTreeParams.MIN_SIZE c.loop-k.k c.loop-k.best c.loop-k.invariant.least (sym answer ∙ w.if-is_below.true) })
-      | else-is_below w ↦ rw (w.best-is, w.least-is) (record { allowed = c.loop-k.invariant.allowed; first = c.loop-k.invariant.first; second = c.loop-k.invariant.second;
-          least = least_old overlap areas g.Params.RTreeParams.MIN_SIZE c.loop-k.k c.loop-k.best c.loop-k.invariant.least (sym answer ∙ w.if-is_below.false) })
+      | then-is_below w ↦ rw (w.best-is, w.least-is) (record {
+        allowed = (omega arith, omega arith);
+        first = c.measures_at-here.ensures.overlap;
+        second = c.measures_at-here.ensures.areas;
+        least = least_new overlap areas g.Params.RTreeParams.MIN_SIZE c.loop-k.k c.loop-k.best c.loop-k.invariant.least (sym answer ∙ w.if-is_below.true);
+      })
+      | else-is_below w ↦ rw (w.best-is, w.least-is) (record {
+        allowed = c.loop-k.invariant.allowed;
+        first = c.loop-k.invariant.first;
+        second = c.loop-k.invariant.second;
+        least = least_old overlap areas g.Params.RTreeParams.MIN_SIZE c.loop-k.k c.loop-k.best c.loop-k.invariant.least (sym answer ∙ w.if-is_below.false);
+      })
     ]

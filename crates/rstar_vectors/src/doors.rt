@@ -1,0 +1,67 @@
+//! An element type of a user's own: a place with two doors.
+
+ghost use Rattle.rstar_vectors.specs.Doors.{doors_objects, doors_distances, doors_object_law, doors_laws, lesser};
+
+use rstar_base::aabb::AABB;
+use rstar_base::envelope::Envelope;
+use rstar_base::object::{PointDistance, RTreeObject};
+use rstar_base::point::{Point, least};
+
+/// A place with two doors. It is as far away as its nearer door, and contains the points at which
+/// a door is.
+#[derive(Clone, Debug, PartialEq, Drop)]
+pub struct Doors<P> {
+    /// The one door.
+    pub front: P,
+    /// The other door.
+    pub back: P,
+}
+
+impl<P: Point> RTreeObject for Doors<P> {
+    type Envelope = AABB<P>;
+
+    ghost object = { doors_objects P.Scalar.low P.Scalar.high P.DIMENSIONS (λ d. P.coord d.front) (λ d. P.coord d.back) };
+
+    fn envelope(&self) -> AABB<P> {
+        self.front.envelope().merged(&self.back.envelope())
+    }
+
+    ghost object_law = { doors_object_law P.Scalar.low P.Scalar.high P.DIMENSIONS (λ d. P.coord d.front) (λ d. P.coord d.back) };
+}
+
+impl<P: Point> PointDistance for Doors<P> {
+    ghost distances = { doors_distances P.Scalar.high P.DIMENSIONS (λ d. P.coord d.front) (λ d. P.coord d.back) };
+
+    #[tactic(auto, using(crate::specs::Doors::lesser))]
+    fn distance_2(&self, point: &P) -> P::Scalar {
+        least(self.front.distance_2(point), self.back.distance_2(point))
+    }
+
+    fn contains_point(&self, point: &P) -> bool {
+        self.front.contains_point(point) || self.back.contains_point(point)
+    }
+
+    ghost distance_laws = { doors_laws P.Scalar.low P.Scalar.high P.DIMENSIONS (λ d. P.coord d.front) (λ d. P.coord d.back) P.Scalar.low_law P.Scalar.high_law };
+}
+
+#[cfg(test)]
+mod tests {
+    use super::*;
+    use std::test::Fail;
+
+    #[test]
+    fn the_nearer_door_counts(rt: HostRuntime) -> Result<(), Fail> {
+        let shop: Doors<[i64; 2]> = Doors {
+            front: [0, 0],
+            back: [10, 4],
+        };
+        assert_eq!(rt; shop.distance_2(&[1, 0]), 1);
+        assert_eq!(rt; shop.distance_2(&[10, 2]), 4);
+        // Inside the envelope, and at neither door.
+        assert!(rt; !shop.contains_point(&[5, 2]));
+        assert!(rt; shop.contains_point(&[10, 4]));
+        assert_eq!(rt; shop.distance_2_if_less_or_equal(&[10, 2], 3), None);
+        assert_eq!(rt; shop.distance_2_if_less_or_equal(&[10, 2], 4), Some(4));
+        Ok(())
+    }
+}
