@@ -25,3 +25,4 @@ pub mod Segments
 pub mod SegmentLaws
 pub mod Selections
 pub mod KeptEnvelopes
+pub mod KeptLaws

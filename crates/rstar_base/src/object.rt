@@ -24,7 +24,9 @@ pub type PointOf<T> = <<T as RTreeObject>::Envelope as Envelope>::Point;
 /// A squared distance of an element type: the scalar of its points.
 pub type Distance<T> = <<<T as RTreeObject>::Envelope as Envelope>::Point as Point>::Scalar;
 
-/// An element.
+/// An element of a tree: something with an envelope.
+///
+/// The law: the envelope of each element in hand is a value of its type.
 pub trait RTreeObject: Drop {
     /// The type of its envelope.
     type Envelope: Envelope;
@@ -32,7 +34,7 @@ pub trait RTreeObject: Drop {
     // Which are values, and the envelope of each.
     ghost object: { Objects Self Self.Envelope };
 
-    /// Its envelope.
+    /// The envelope: the least that contains the element.
     fn envelope(&self) -> Self::Envelope
         ensures value { result ≡ object.box_of self.now }
         ensures own { object.IsValue self.now };
