@@ -3,3 +3,4 @@ pub mod Pieces
 pub mod Commands
 pub mod Selections
 pub mod Ids
+pub mod Ends

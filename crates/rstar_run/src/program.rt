@@ -1,7 +1,7 @@
 //! Lines in, lines out.
 
 ghost use Rattle.std.specs.Prelude.{◌≡◌, ◌⊎◌};
-ghost use Rattle.rstar_run.specs.Statuses.{status_of};
+ghost use Rattle.rstar_run.specs.Statuses.{status_of, IsStatus};
 ghost use Rattle.rstar_run.specs.declared.program.Stop.TheVariants.{Memory};
 
 use super::answers::{answer, write_reply};
@@ -73,7 +73,7 @@ fn answer_all<R: Read + Drop, W: Write>(
 
 /// Says why a run ended, and gives its status.
 fn report<W: Write>(ended: Result<(), Stop>, output: &mut W) -> u8
-    ensures { (result ≡ status_of ended) ⊎ (result ≡ 4) }
+    ensures { (result ≡ status_of ended) ⊎ (result ≡ status_of (Err Stop.Output)) }
 {
     let (status, written) = match ended {
         Ok(()) => (0, Ok(())),
@@ -93,16 +93,15 @@ fn report<W: Write>(ended: Result<(), Stop>, output: &mut W) -> u8
 ///
 /// The answers to the lines before are written in each case but a failed write, and behind them
 /// `error: line N`, `error: memory` or `error: input`.
-pub fn run<R: Read + Drop, W: Write + Drop>(alloc: Global, input: R, mut output: W) -> u8 {
-    match BufWriter::new(alloc, &mut output) {
-        Ok(mut buffered) => {
-            let ended = answer_all(alloc, input, &mut buffered);
-            let status = report(ended, &mut buffered);
-            // Dropping it would write once more what could not be written.
-            let (_, _) = buffered.into_parts();
-            return status;
-        }
-        Err(_) => {}
+pub fn run<R: Read + Drop, W: Write + Drop>(alloc: Global, input: R, mut output: W) -> u8
+    ensures { IsStatus result }
+{
+    if let Ok(mut buffered) = BufWriter::new(alloc, &mut output) {
+        let ended = answer_all(alloc, input, &mut buffered);
+        let status = report(ended, &mut buffered);
+        // Dropping it would write once more what could not be written.
+        let (_, _) = buffered.into_parts();
+        return status;
     }
     report(Err(Stop::Memory), &mut output)
 }

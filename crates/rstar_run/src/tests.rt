@@ -201,6 +201,7 @@ impl Write for Terminal<'_> {
 #[derive(Drop)]
 struct Typist<'a> {
     pieces: &'a [(&'a [u8], u64)],
+    next: usize,
     shown: &'a Cell<u64>,
     reads: &'a Cell<usize>,
 }
@@ -208,13 +209,13 @@ struct Typist<'a> {
 impl Read for Typist<'_> {
     fn read(&mut self, buf: &mut [u8]) -> io::Result<usize> {
         self.reads.set(self.reads.get().saturating_add(1));
-        let Some(((piece, due), rest)) = self.pieces.split_first() else {
+        let Some((piece, due)) = self.pieces.get(self.next) else {
             return Ok(0);
         };
         if self.shown.get() < *due {
             return Err(Error::from(ErrorKind::WouldBlock));
         }
-        self.pieces = rest;
+        self.next = self.next.saturating_add(1);
         let mut bytes: &[u8] = piece;
         bytes.read(buf)
     }
@@ -234,6 +235,7 @@ fn flushes_before_it_waits(rt: HostRuntime) {
     ];
     let input = Typist {
         pieces: &pieces,
+        next: 0,
         shown: &shown,
         reads: &reads,
     };
@@ -261,6 +263,7 @@ fn stops_at_a_failed_write(rt: HostRuntime) {
         let reads = Cell::new(0);
         let input = Typist {
             pieces: &pieces,
+            next: 0,
             shown: &shown,
             reads: &reads,
         };
