@@ -34,17 +34,17 @@ doors_laws {D} low high n front back hl hh =
     let boxes = box_laws low high n hl hh in
     let points = point_distance_laws {P = ℕ → ℤ} low high n (λ c. c) hl hh in record {
       near = λ d p h v e.
-        let a = boxes.merge_distance (corner n (front d)) (corner n (back d)) p h v.0 v.1 (point-upright n (front d)) in
-        let b = boxes.merge_distance (corner n (back d)) (corner n (front d)) p h v.1 v.0 (point-upright n (back d)) in
-        let c = subst (λ (w : List (ℤ × ℤ)). box_distance high w p ≤ box_distance high (corner n (back d)) p) (merge-comm (corner n (back d)) (corner n (front d))) b in
-        omega (arith, a, c);
+          let a = boxes.merge_distance (corner n (front d)) (corner n (back d)) p h v.0 v.1 (point-upright n (front d)) in
+          let b = boxes.merge_distance (corner n (back d)) (corner n (front d)) p h v.1 v.0 (point-upright n (back d)) in
+          let c = subst (λ (w : List (ℤ × ℤ)). box_distance high w p ≤ box_distance high (corner n (back d)) p) (merge-comm (corner n (back d)) (corner n (front d))) b in
+          omega (arith, a, c);
       within = λ d p h v e.
-        let a = points.within (front d) p h v.0 (point-upright n (front d)) in
-        let b = points.within (back d) p h v.1 (point-upright n (back d)) in
-        let c = boxes.merge_min_max (corner n (front d)) (corner n (back d)) p h v.0 v.1 (point-upright n (front d)) (point-upright n (back d)) in
-        omega (arith, a, b, c);
+          let a = points.within (front d) p h v.0 (point-upright n (front d)) in
+          let b = points.within (back d) p h v.1 (point-upright n (back d)) in
+          let c = boxes.merge_min_max (corner n (front d)) (corner n (back d)) p h v.0 v.1 (point-upright n (front d)) (point-upright n (back d)) in
+          omega (arith, a, b, c);
       contained = λ d p h v e.
-        either _ _ _ e
-        (λ k. boxes.merge_contains_point (corner n (front d)) (corner n (back d)) p h v.0 v.1 k)
-        (λ k. subst (λ (w : List (ℤ × ℤ)). box_contains_point w p ≡ true) (merge-comm (corner n (back d)) (corner n (front d))) (boxes.merge_contains_point (corner n (back d)) (corner n (front d)) p h v.1 v.0 k));
+          either _ _ _ e
+          (λ k. boxes.merge_contains_point (corner n (front d)) (corner n (back d)) p h v.0 v.1 k)
+          (λ k. subst (λ (w : List (ℤ × ℤ)). box_contains_point w p ≡ true) (merge-comm (corner n (back d)) (corner n (front d))) (boxes.merge_contains_point (corner n (back d)) (corner n (front d)) p h v.1 v.0 k));
     }
