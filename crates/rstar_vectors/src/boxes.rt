@@ -118,3 +118,14 @@ fn boxes_that_touch_intersect(rt: HostRuntime) -> Result<(), Fail> {
     assert!(rt; both.contains_point(&[4, 0]) && !left.contains_point(&[4, 0]));
     Ok(())
 }
+
+#[test]
+fn boxes_are_ordered_by_their_corners(rt: HostRuntime) -> Result<(), Fail> {
+    let low: AABB<[i64; 2]> = AABB::from_corners([0, 5], [1, 6]);
+    let wide: AABB<[i64; 2]> = AABB::from_corners([0, 5], [9, 6]);
+    let high: AABB<[i64; 2]> = AABB::from_corners([1, 0], [1, 1]);
+    assert!(rt; low < wide && wide < high);
+    assert_eq!(rt; high.max(low), high);
+    assert_ne!(rt; low, wide);
+    Ok(())
+}
