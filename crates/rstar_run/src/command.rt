@@ -107,8 +107,8 @@ impl<'a> Parser<'a> {
     }
 }
 
-#[tactic(auto, using(crate::proofs::Commands::line_bad))]
 /// What a line is, without its end.
+#[tactic(auto, using(crate::proofs::Commands::line_bad))]
 pub fn parse_line(text: &[u8]) -> Line
     ensures { result ≡ line_of (words_of text.now) }
 {
