@@ -1,3 +1,5 @@
 //! The algorithms of the tree.
 
 pub mod rstar;
+
+pub use rstar_base::algorithm::selection_functions;

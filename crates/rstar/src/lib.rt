@@ -12,6 +12,7 @@ pub use crate::node::{ParentNode, RTreeNode};
 pub use crate::params::{DefaultParams, InsertCause, InsertError, InsertionStrategy, RTreeParams};
 pub use crate::rtree::RTree;
 pub use rstar_base::aabb::AABB;
+pub use rstar_base::algorithm::selection_functions::SelectionFunction;
 pub use rstar_base::envelope::Envelope;
 pub use rstar_base::object::{PointDistance, RTreeObject};
 pub use rstar_base::point::{Point, RTreeNum};
