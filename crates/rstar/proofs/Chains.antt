@@ -1,5 +1,5 @@
 -- Chains of calls that begin at a selection: the list that it gives.
-use Rattle.std.proofs.Common.{◌≡◌, List, Bool, [], ◌∷◌, length, map, ap, subst, refl, None}
+use Rattle.std.proofs.Common.{◌≡◌, List, Bool, length, map, ap, subst, refl, None}
 use Rattle.std.specs.Borrow.{Bor}
 use Rattle.std.specs.Iterator.{Yields}
 use Rattle.std.proofs.lemmas.Iterator.{YieldsList}

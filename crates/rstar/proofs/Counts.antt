@@ -1,6 +1,6 @@
 -- How many parents are far.
-use Rattle.std.proofs.Common.{◌≡◌, ℕ, ◌+◌, ◌≤◌, Bool, true, false, if◌then◌else◌, nat_lt, refl, sym, ap, ◌∙◌, arith}
-use Rattle.rstar.specs.declared.node.RTreeNode.{RTreeNode, Parent}
+use Rattle.std.proofs.Common.{◌≡◌, ℕ, ◌+◌, ◌≤◌, if◌then◌else◌, nat_lt, sym, ◌∙◌, arith}
+use Rattle.rstar.specs.declared.node.RTreeNode.{Parent}
 use Rattle.rstar.specs.declared.node.ParentNode.{ParentNode}
 use Rattle.rstar.specs.Nodes.{far, all_far}
 use Rattle.rstar.proofs.Rows.{far-Parent}

@@ -1,11 +1,10 @@
 -- The levels of nodes.
-use Rattle.std.proofs.Common.{◌≡◌, ◌≢◌, ℕ, zero, suc, ◌+◌, ◌<◌, List, [], ◌∷◌, map, refl, ap, sym, ◌∙◌, arith}
-use Rattle.std.specs.List.{AllByRecursion}
+use Rattle.std.proofs.Common.{◌≡◌, ◌≢◌, ℕ, zero, suc, ◌+◌, List, [], ◌∷◌, refl, ap, ◌∙◌, arith}
 use Rattle.rstar.specs.declared.node.RTreeNode.{RTreeNode, Leaf, Parent}
 use Rattle.rstar.specs.declared.node.ParentNode.{ParentNode}
-use Rattle.rstar.specs.Nodes.{fold_tree, IsTree, children_of}
+use Rattle.rstar.specs.Nodes.{fold_tree}
 use Rattle.rstar.specs.Shapes.{AreTrees}
-use Rattle.rstar.specs.Heights.{first_of, levels, levels_below}
+use Rattle.rstar.specs.Heights.{levels, levels_below}
 use Rattle.rstar.proofs.Rows.{fold_tree-Parent, is_leaf, is_parent}
 
 module _ (T E P S X : Type 0) where

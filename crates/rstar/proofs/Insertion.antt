@@ -1,8 +1,7 @@
 -- What an insertion does to the lists of a tree.
-use Rattle.std.proofs.Common.{◌≡◌, ◌≢◌, ℕ, ℤ, zero, suc, ◌+◌, ◌-◌, ◌<◌, ◌≤◌, List, [], ◌∷◌, ◌++◌, length, get_or, set, refl, sym, ap, ◌∙◌, subst, arith, append_assoc, append-nil, sub-one, add-one, IsPermutation, Option, Some, None, IfSome, IfNone, vec_len}
-use Rattle.std.specs.List.{AllByRecursion, flat_map}
+use Rattle.std.proofs.Common.{◌≡◌, ℕ, ℤ, zero, suc, ◌+◌, ◌-◌, ◌<◌, ◌≤◌, List, [], ◌∷◌, ◌++◌, length, get_or, set, refl, sym, ap, ◌∙◌, subst, arith, append_assoc, append-nil, sub-one, add-one, IsPermutation, Option, Some, None, IfSome, IfNone, vec_len}
 use Rattle.std.proofs.lemmas.List.Concat.{flat_map-append}
-use Rattle.std.proofs.lemmas.List.Sorted.{IsPermutation-refl, IsPermutation-trans, IsPermutation-sym, IsPermutation-append_left, IsPermutation-append_right, IsPermutation-append_comm, IsPermutation-middle, IsPermutation-to_front}
+use Rattle.std.proofs.lemmas.List.Sorted.{IsPermutation-trans, IsPermutation-sym, IsPermutation-append_left, IsPermutation-append_right, IsPermutation-append_comm, IsPermutation-middle, IsPermutation-to_front}
 use Rattle.rstar_base.specs.Envelopes.{Boxes, EnvelopeLaws}
 use Rattle.rstar_base.specs.Elements.{Objects, ObjectLaws}
 use Rattle.rstar_base.specs.Hulls.{hull}
@@ -11,9 +10,9 @@ use Rattle.rstar_base.proofs.Lists.{all-append, all_first, all_second, all_along
 use Rattle.rstar_base.proofs.Hulls.{hull-value, hull_along, merge_empty_right}
 use Rattle.rstar.specs.declared.node.RTreeNode.{RTreeNode, Leaf, Parent}
 use Rattle.rstar.specs.declared.node.ParentNode.{ParentNode}
-use Rattle.rstar.specs.Nodes.{elements, all_elements, elements_of, node_box, IsTree, IsElement, IsTight, IsInner, AreWhole}
+use Rattle.rstar.specs.Nodes.{elements, all_elements, node_box, IsTree, IsElement, IsInner, AreWhole}
 use Rattle.rstar.specs.Shapes.{AreTrees, IsParentTree, IsAny, HasSize, IsSized}
-use Rattle.rstar.specs.Kept.{HasRoom, IsRoomy, IsKept, IsKeptInner, IsFit, AreKept, IsKeptTree, second_children, as_node, IsSizedAfter}
+use Rattle.rstar.specs.Kept.{HasRoom, IsKeptInner, IsFit, AreKept, IsKeptTree, second_children, as_node, IsSizedAfter}
 use Rattle.rstar.proofs.Places.{all_set, all_get}
 use Rattle.rstar.proofs.Rows.{elements-Leaf, elements-Parent, node_box-Parent, is_leaf, is_parent, parent_of, no_parent, IsLeafOf-Leaf, IsParentOf-Parent}
 use Rattle.rstar.proofs.Trees.{all_sound, values-of, merged_is_hull}

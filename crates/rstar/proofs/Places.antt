@@ -1,5 +1,5 @@
 -- What holds of each item of a list, at an index and after a write.
-use Rattle.std.proofs.Common.{◌≡◌, ℕ, zero, suc, ◌+◌, ◌<◌, List, [], ◌∷◌, length, get_or, set, arith}
+use Rattle.std.proofs.Common.{ℕ, zero, suc, ◌<◌, List, [], ◌∷◌, length, get_or, set, arith}
 use Rattle.std.specs.List.{AllByRecursion}
 
 module _ {A : Type 0} (F : A → Type 0) where

@@ -1,6 +1,6 @@
 -- Whole trees: their elements, and that their envelopes are tight.
-use Rattle.std.proofs.Common.{◌≡◌, ◌≢◌, ℕ, ℤ, zero, suc, ◌+◌, ◌≤◌, Bool, true, false, List, [], ◌∷◌, ◌++◌, refl, ap, sym, ◌∙◌, subst, arith}
-use Rattle.std.specs.List.{AllByRecursion, flat_map}
+use Rattle.std.proofs.Common.{◌≡◌, ℕ, ℤ, zero, suc, ◌≤◌, Bool, true, false, List, [], ◌∷◌, ◌++◌, refl, ap, sym, ◌∙◌, subst, arith}
+use Rattle.std.specs.List.{AllByRecursion}
 use Rattle.std.specs.List.Sorted.{IsPermutation}
 use Rattle.std.proofs.lemmas.List.Sorted.{IsPermutation-append_comm}
 use Rattle.std.proofs.lemmas.List.Concat.{flat_map-append}
@@ -9,9 +9,8 @@ use Rattle.rstar_base.specs.Elements.{Objects, ObjectLaws, Distances, DistanceLa
 use Rattle.rstar_base.specs.Hulls.{hull}
 use Rattle.rstar_base.proofs.Lists.{all-append, all_map}
 use Rattle.rstar_base.proofs.Hulls.{hull-value, hull-append, hull-single, hull-push}
-use Rattle.rstar.specs.declared.node.RTreeNode.{RTreeNode, Leaf, Parent}
-use Rattle.rstar.specs.declared.node.ParentNode.{ParentNode}
-use Rattle.rstar.specs.Nodes.{elements, all_elements, elements_of, node_box, IsTree, IsElement, IsTight, IsInner, AreWhole}
+use Rattle.rstar.specs.declared.node.RTreeNode.{RTreeNode, Leaf}
+use Rattle.rstar.specs.Nodes.{elements, all_elements, node_box, IsTree, IsElement, IsInner, AreWhole}
 use Rattle.rstar.proofs.Rows.{is_leaf, is_parent, elements-Leaf, elements-Parent, node_box-Leaf, node_box-Parent, IsLeafOf-Leaf}
 
 not_true : (b : Bool) → (b ≡ true → ⊥) → b ≡ false

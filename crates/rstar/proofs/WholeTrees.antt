@@ -1,14 +1,13 @@
 -- From what a tree keeps to what an insertion asks, and back.
-use Rattle.std.proofs.Common.{◌≡◌, ◌≢◌, ℕ, ℤ, zero, suc, ◌+◌, ◌*◌, ◌<◌, ◌≤◌, List, [], ◌∷◌, length, max, min, inl, inr, ⊎_elim, ◌⊎◌, refl, ap, sym, ◌∙◌, subst, arith, add-one}
-use Rattle.std.specs.List.{AllByRecursion}
+use Rattle.std.proofs.Common.{◌≡◌, ◌≢◌, ℕ, zero, suc, ◌+◌, ◌*◌, ◌<◌, ◌≤◌, List, [], ◌∷◌, length, max, min, ⊎_elim, ◌⊎◌, refl, ap, sym, ◌∙◌, subst, arith}
 use Rattle.rstar_base.specs.Envelopes.{Boxes}
 use Rattle.rstar_base.specs.Elements.{Objects}
-use Rattle.rstar.specs.declared.node.RTreeNode.{RTreeNode, Leaf, Parent}
+use Rattle.rstar.specs.declared.node.RTreeNode.{RTreeNode}
 use Rattle.rstar.specs.declared.node.ParentNode.{ParentNode}
-use Rattle.rstar.specs.Nodes.{IsTree, IsElement, IsInner, AreWhole, IsWhole, children_of}
+use Rattle.rstar.specs.Nodes.{IsTree, IsElement, IsInner, AreWhole, children_of}
 use Rattle.rstar.specs.Shapes.{AreTrees, IsAny, HasSize, IsSized}
 use Rattle.rstar.specs.Heights.{levels_below, spare_lists}
-use Rattle.rstar.specs.Kept.{IsRoomy, IsKept, IsKeptInner, AreKept, IsKeptTree}
+use Rattle.rstar.specs.Kept.{IsRoomy, IsKeptInner, AreKept}
 use Rattle.rstar.proofs.Heights.{levels_are}
 use Rattle.rstar.proofs.Rows.{is_parent, parent_of, IsParentOf-Parent}
 use Rattle.rstar.proofs.Insertion.{trees_map}

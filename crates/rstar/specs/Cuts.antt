@@ -1,5 +1,5 @@
 -- How a list of children is cut in two, after Beckmann, Kriegel, Schneider and Seeger, "The R*-tree" (1990).
-use Rattle.std.specs.Prelude.{◌≡◌, ◌⊎◌, ℕ, ℤ, ◌+◌, ◌≤◌, ◌<◌, min, List, take, drop, length, unsigned_abs}
+use Rattle.std.specs.Prelude.{◌≡◌, ◌⊎◌, ℕ, ℤ, ◌+◌, ◌≤◌, ◌<◌, min, List, take, drop, length}
 use Rattle.std.specs.Ordering.{int_cmp}
 use Rattle.std.specs.List.Sorted.{IsPermutation, IsSortedByKey}
 use Rattle.rstar_base.specs.Envelopes.{Boxes}

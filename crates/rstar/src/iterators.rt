@@ -1,4 +1,4 @@
-//! Iterators over what a tree holds.
+//! Iterators over what a tree holds: walks that open the parents that a question accepts, and no other.
 
 ghost use Rattle.std.specs.Prelude.{◌≡◌, ◌≢◌, ◌≤◌, ℕ, [], IfOk, vec_capacity};
 ghost use Rattle.std.specs.List.{AllByRecursion};
@@ -14,7 +14,10 @@ use rstar_base::algorithm::selection_functions::{
 use rstar_base::object::RTreeObject;
 use std::alloc::AllocError;
 
-/// The selected elements of a tree, in some order. `next` takes no memory.
+/// The selected elements of a tree, each once, in some order, and then `None`.
+///
+/// A parent is opened where the selection function accepts its envelope and those of all above it, and a leaf is asked
+/// only when the walk comes to it. `next` takes no memory: the path was reserved when the iterator was made.
 #[derive(Drop)]
 pub struct SelectionIterator<'a, T: RTreeObject, Func: SelectionFunction<T>> {
     root: &'a ParentNode<T>,
@@ -92,7 +95,8 @@ impl<'a, T: RTreeObject, Func: SelectionFunction<T>> SelectionIterator<'a, T, Fu
         })
     }
 
-    /// How many parents were opened so far, held at the greatest `usize`.
+    /// How many parents were opened so far, the root among them, held at the greatest `usize`. At the end these are the
+    /// parents that the question reaches; an empty root is never asked.
     pub fn opened(&self) -> usize
         ensures { result ≡ opened_by self.now }
     {

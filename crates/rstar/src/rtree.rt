@@ -87,14 +87,14 @@ impl<T: RTreeObject, Params: RTreeParams> RTree<T, Params> {
         }
     }
 
-    /// The root, from which all nodes are reached.
+    /// The root, from which all nodes are reached. It is a parent, without children where the tree is empty.
     pub fn root(&self) -> &ParentNode<T>
         ensures { result.now ≡ root_of self.now }
     {
         &self.root
     }
 
-    /// The number of elements.
+    /// The number of elements, equal ones counted each.
     pub fn size(&self) -> usize
         ensures shown { result ≡ size_of self.now }
         ensures counted { IsWholeTree T.Envelope.boxes T.object Params.MAX_SIZE self.now → result ≡ length (elements_in self.now) }
@@ -102,7 +102,7 @@ impl<T: RTreeObject, Params: RTreeParams> RTree<T, Params> {
         self.size
     }
 
-    /// All elements, in some order.
+    /// All elements, in some order. It is refused where the allocator refuses the path, one place for each level.
     pub fn iter(&self) -> Result<RTreeIterator<'_, T>, AllocError>
         requires { IsWholeTree T.Envelope.boxes T.object Params.MAX_SIZE self.now }
         ensures all { IfOk result (λ it. to_come ⟦<SelectAllFunc as SelectionFunction<T>>⟧.accepts ⟦<SelectAllFunc as SelectionFunction<T>>⟧.selects it ≡ elements_in self.now) }
@@ -113,6 +113,9 @@ impl<T: RTreeObject, Params: RTreeParams> RTree<T, Params> {
     }
 
     /// The elements whose envelopes an envelope contains, in some order. Its borders belong to it.
+    ///
+    /// It opens the parents whose envelopes intersect it. It is refused where the allocator refuses the path, one place
+    /// for each level.
     pub fn locate_in_envelope(
         &self,
         envelope: T::Envelope,
@@ -127,6 +130,9 @@ impl<T: RTreeObject, Params: RTreeParams> RTree<T, Params> {
     }
 
     /// The elements that a function selects, in some order. A function that is not lawful may miss some.
+    ///
+    /// It opens the parents that the function accepts. It is refused where the allocator refuses the path, one place for
+    /// each level.
     pub fn locate_with_selection_function<Func: SelectionFunction<T>>(
         &self,
         func: Func,

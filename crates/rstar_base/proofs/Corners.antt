@@ -1,5 +1,5 @@
 -- Boxes between corners, axis by axis.
-use Rattle.std.proofs.Common.{◌≡◌, ◌<◌, ◌&&◌, ℕ, ℤ, zero, suc, Bool, true, false, List, [], ◌∷◌, refl, ap, sym, ◌∙◌, arith, IsTrue}
+use Rattle.std.proofs.Common.{◌≡◌, ◌<◌, ℕ, ℤ, zero, suc, Bool, true, List, ◌∷◌, refl, ap, arith, IsTrue}
 use Rattle.std.specs.Prelude.{int_le}
 use Rattle.std.specs.Int.{int_min, int_max}
 use Rattle.rstar_base.specs.Points.{table, all_below}

@@ -1,5 +1,5 @@
 -- Clamped extents and products, and the measures axis by axis.
-use Rattle.std.proofs.Common.{◌≡◌, ◌<◌, ◌≤◌, ◌<ℤ◌, ◌+ℤ◌, ◌-ℤ◌, ◌*ℤ◌, ◌+◌, ◌*◌, ℕ, ℤ, suc, zero, List, [], ◌∷◌, pos, min, map, unsigned_abs, refl, ap, sym, ◌∙◌, arith}
+use Rattle.std.proofs.Common.{◌≡◌, ◌<◌, ◌≤◌, ◌<ℤ◌, ◌+ℤ◌, ◌-ℤ◌, ◌*ℤ◌, ◌+◌, ◌*◌, ℕ, ℤ, suc, zero, ◌∷◌, pos, min, unsigned_abs, refl, ap, sym, ◌∙◌, arith}
 use Rattle.std.specs.Prelude.{int_le, int_div, true, false}
 use Rattle.std.specs.Int.{int_min, int_max}
 use Rattle.std.proofs.lemmas.Int.{ints, by_lt_z}

@@ -1,13 +1,12 @@
 -- The min-max distance in one pass over the axes.
-use Rattle.std.proofs.Common.{◌≡◌, ◌<◌, ◌≤◌, ◌<ℤ◌, ◌+ℤ◌, ◌+◌, ℕ, ℤ, suc, zero, List, [], ◌∷◌, pos, min, max, unsigned_abs, refl, ap, sym, ◌∙◌, arith}
+use Rattle.std.proofs.Common.{◌≡◌, ◌<◌, ◌≤◌, ◌+◌, ℕ, ℤ, suc, zero, length, pos, min, max, unsigned_abs, refl, ap, ◌∙◌, arith}
 use Rattle.std.specs.Int.{int_min, int_max}
-use Rattle.std.proofs.lemmas.Int.{ints, by_lt_z}
-use Rattle.num_traits.specs.Laws.{between}
+use Rattle.std.proofs.lemmas.Int.{ints}
 use Rattle.rstar_base.specs.Points.{table}
 use Rattle.rstar_base.specs.Boxes.{between_corners}
 use Rattle.rstar_base.specs.Sums.{sum_below}
-use Rattle.rstar_base.specs.Distances.{near_face, far_face, far_sum, least_sum, box_min_max}
-use Rattle.rstar_base.proofs.Squares.{clamped_more}
+use Rattle.rstar_base.specs.Distances.{near_face, far_face, far_sum, faces_at, least_below, box_min_max}
+use Rattle.rstar_base.specs.Leasts.{least-most, least-same}
 
 -- the best after n more axes, where `sum` is that of the farther faces of the axes before
 abbrev pub best_from : ℕ → ℕ → ℕ → (ℕ → ℕ) → (ℕ → ℕ) → ℕ
@@ -30,28 +29,38 @@ corners-far (suc n) l u p =
     ap (λ w. far_face (l zero, u zero) (p zero) + w) (corners-far n (λ i. l (suc i)) (λ i. u (suc i)) (λ i. p (suc i)))
 
 best_step : (best sum near far rest top tail all : ℕ) → all ≡ min (min (min (best + far) (sum + near) + rest) top) tail
-    → all ≡ min (min (best + (far + rest)) top) (min (min top (sum + near + rest)) tail)
+    → all ≡ min (min (best + (far + rest)) top) (min (sum + (near + rest)) tail)
 best_step best sum near far rest top tail all h = omega arith
 
 best_all : (top best sum n : ℕ) (l u p : ℕ → ℤ)
     → min (best_from best sum n (λ i. near_face (l i, u i) (p i)) (λ i. far_face (l i, u i) (p i))) top
-    ≡ min (min (best + far_sum (between_corners n l u) (table n p)) top) (least_sum top sum (between_corners n l u) (table n p))
+    ≡ min (min (best + far_sum (between_corners n l u) (table n p)) top)
+    (least_below top (length (between_corners n l u)) (λ k. sum + faces_at k (between_corners n l u) (table n p)))
 best_all top best sum zero l u p = omega arith
 best_all top best sum (suc n) l u p =
-    best_step best sum (near_face (l zero, u zero) (p zero)) (far_face (l zero, u zero) (p zero)) _ top _ _
-    (best_all top (min (best + far_face (l zero, u zero) (p zero)) (sum + near_face (l zero, u zero) (p zero))) (sum + far_face (l zero, u zero) (p zero)) n
-    (λ i. l (suc i)) (λ i. u (suc i)) (λ i. p (suc i)))
+    let b = between_corners n (λ i. l (suc i)) (λ i. u (suc i)) in
+    let qs = table n (λ i. p (suc i)) in
+    let far = far_face (l zero, u zero) (p zero) in
+    best_step best sum (near_face (l zero, u zero) (p zero)) far _ top _ _
+    (best_all top (min (best + far) (sum + near_face (l zero, u zero) (p zero))) (sum + far) n
+    (λ i. l (suc i)) (λ i. u (suc i)) (λ i. p (suc i))
+    ∙ ap (λ w. min (min (min (best + far) (sum + near_face (l zero, u zero) (p zero)) + far_sum b qs) top) w)
+    (least-same top (length b) (length b) (λ k. sum + far + faces_at k b qs) (λ k. sum + (far + faces_at k b qs)) refl (λ k. omega arith)))
 
-least_below : (top far a b : ℕ) → min (min (top + far) top) (min (min top a) b) ≡ min (min top a) b
-least_below top far a b = omega arith
+below_top : (top far a : ℕ) → a ≤ top → min (min (top + far) top) a ≡ a
+below_top top far a h = omega arith
 
 pub best_min_max : (high : ℤ) (n : ℕ) (l u p : ℕ → ℤ) → 0 < n
     → min (best_from (unsigned_abs high) 0 n (λ i. near_face (l i, u i) (p i)) (λ i. far_face (l i, u i) (p i))) (unsigned_abs high)
     ≡ box_min_max high (between_corners n l u) (table n p)
 best_min_max high zero l u p h = absurd (omega arith)
 best_min_max high (suc n) l u p h =
-    best_all (unsigned_abs high) (unsigned_abs high) 0 (suc n) l u p
-    ∙ least_below (unsigned_abs high) _ _ _
+    let top = unsigned_abs high in
+    let b = between_corners (suc n) l u in
+    let qs = table (suc n) p in
+    best_all top top 0 (suc n) l u p
+    ∙ below_top top _ _ (least-most top (length b) (λ k. 0 + faces_at k b qs))
+    ∙ least-same top (length b) (length b) (λ k. 0 + faces_at k b qs) (λ k. faces_at k b qs) refl (λ k. omega arith)
 
 pub no_axis : (high : ℤ) (n : ℕ) (l u p : ℕ → ℤ) → n ≡ 0 → box_min_max high (between_corners n l u) (table n p) ≡ 0
 no_axis high zero l u p h = refl

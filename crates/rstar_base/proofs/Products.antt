@@ -1,5 +1,5 @@
 -- Products of numbers of a narrow type, computed in a wider one.
-use Rattle.std.proofs.Common.{◌≡◌, ◌∙◌, ap, ◌≤◌, ◌<◌, ◌*◌, ◌-◌, ◌^◌, ◌*ℤ◌, ℤ, ℕ, pos, negsuc, unsigned_abs, arith, FitsSigned, to_z, of_z, to_z-of_z}
+use Rattle.std.proofs.Common.{◌≡◌, ◌∙◌, ap, ◌≤◌, ◌<◌, ◌*◌, ◌-◌, ◌^◌, ◌*ℤ◌, ℤ, pos, negsuc, unsigned_abs, arith, FitsSigned, to_z, of_z, to_z-of_z}
 use Rattle.std.specs.Int.{Width}
 use Rattle.std.proofs.lemmas.Int.{fits_signed_mul}
 use Rattle.num_traits.specs.Laws.{between}

@@ -1,5 +1,5 @@
 -- What the functions on segments compute, over plain numbers.
-use Rattle.std.proofs.Common.{◌≡◌, ◌<ℤ◌, ◌≤ℤ◌, ◌+ℤ◌, ◌-ℤ◌, ◌*ℤ◌, ◌<◌, ◌+◌, ℤ, ℕ, suc, zero, pos, Bool, true, false, Option, Some, None, MatchOption, min, unsigned_abs, refl, ap, sym, ◌∙◌, arith, subst, List, add-one}
+use Rattle.std.proofs.Common.{◌≡◌, ◌<ℤ◌, ◌≤ℤ◌, ◌+ℤ◌, ◌-ℤ◌, ◌*ℤ◌, ◌<◌, ◌+◌, ℤ, ℕ, suc, zero, pos, Bool, true, false, Option, Some, None, MatchOption, min, unsigned_abs, refl, ap, sym, ◌∙◌, arith, subst, add-one}
 use Rattle.std.specs.Prelude.{int_le, int_lt, int_div, nat_le, is_some, ◌&&◌, ◌↔◌, if◌then◌else◌, not}
 use Rattle.std.specs.Int.{int_min, int_max}
 use Rattle.std.proofs.lemmas.Int.{ints}
@@ -11,7 +11,6 @@ use Rattle.rstar_base.specs.PointLemmas.{and_parts, and_both, and_left, and_righ
 use Rattle.rstar_base.specs.Boxes.{in_range, box_of_corners, IsBox}
 use Rattle.rstar_base.specs.BoxLaws.{corners-same, corners-box}
 use Rattle.rstar_base.specs.Sums.{sum_below}
-use Rattle.rstar_base.specs.Distances.{square_apart}
 use Rattle.rstar_base.specs.SegmentLaws.{step-between}
 use Rattle.rstar_base.specs.Segments.{point_apart, dot, direction, along, length_squared, difference_fits, dot_fits, multiple_fits, interior, has_interior, nearer, nearest_of_segment, coordinate, segment_distance}
 

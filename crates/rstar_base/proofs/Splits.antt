@@ -1,5 +1,5 @@
 -- A sorted list is split at each of its places.
-use Rattle.std.proofs.Common.{◌≡◌, ◌<◌, ◌≤ℤ◌, ℕ, ℤ, Bool, false, List, length, arith, slice_index_or}
+use Rattle.std.proofs.Common.{◌≡◌, ◌<◌, ◌≤ℤ◌, ℕ, ℤ, false, List, length, arith}
 use Rattle.std.specs.Ordering.{is_lt, int_cmp}
 use Rattle.std.specs.List.Sorted.{IsSortedByKey}
 use Rattle.std.proofs.lemmas.Cmp.{int_cmp_total}

@@ -1,13 +1,14 @@
 -- A box keeps the laws of elements.
-use Rattle.std.specs.Prelude.{◌≡◌, ◌+◌, ◌≤◌, ◌≤ℤ◌, ◌-ℤ◌, ℕ, ℤ, false, zero, suc, List, [], ◌∷◌, min, max, pos, int_lt, unsigned_abs}
+use Rattle.std.specs.Prelude.{◌≡◌, ◌≤◌, ◌-ℤ◌, ℕ, ℤ, false, zero, suc, List, [], ◌∷◌, length, int_lt, unsigned_abs}
 use Rattle.std.specs.Int.{int_min, int_max}
-use Rattle.std.proofs.Common.{refl, arith}
+use Rattle.std.proofs.Common.{arith}
 use Rattle.std.proofs.lemmas.Int.{ints}
 use Rattle.rstar_base.specs.Points.{IsPoint}
-use Rattle.rstar_base.specs.Boxes.{is_empty_box, box_contains_point, IsBox}
+use Rattle.rstar_base.specs.Boxes.{is_empty_box}
 use Rattle.rstar_base.specs.BoxLaws.{or_parts}
-use Rattle.rstar_base.specs.Distances.{square_apart, nearest_on_axis, distance_sum, near_face, far_face, far_sum, least_sum, box_distance, box_min_max}
+use Rattle.rstar_base.specs.Distances.{square_apart, nearest_on_axis, distance_sum, near_face, far_sum, faces_at, box_distance, box_min_max}
 use Rattle.rstar_base.specs.DistanceLaws.{square_up}
+use Rattle.rstar_base.specs.Leasts.{least-above}
 use Rattle.rstar_base.specs.BoxData.{box_data}
 use Rattle.rstar_base.specs.Elements.{DistanceLaws}
 use Rattle.rstar_base.specs.BoxElements.{box_objects, box_distances}
@@ -32,19 +33,23 @@ distance-far (x ∷ xs) (q ∷ qs) h =
     let n = no_face_nearer x q e.0 in
     let r = distance-far xs qs e.1 in omega (arith, n, r)
 
-distance-least : (top sum : ℕ) (b : List (ℤ × ℤ)) (p : List ℤ) → is_empty_box b ≡ false → min (sum + distance_sum b p) top ≤ least_sum top sum b p
-distance-least top sum [] p h = omega arith
-distance-least top sum (x ∷ xs) [] h = omega arith
-distance-least top sum (x ∷ xs) (q ∷ qs) h =
+distance-faces : (k : ℕ) (b : List (ℤ × ℤ)) (p : List ℤ) → is_empty_box b ≡ false → distance_sum b p ≤ faces_at k b p
+distance-faces k [] p h = omega arith
+distance-faces k (x ∷ xs) [] h = omega arith
+distance-faces zero (x ∷ xs) (q ∷ qs) h =
     let e = or_parts (int_lt x.1 x.0) (is_empty_box xs) h in
     let n = no_face_nearer x q e.0 in
-    let f = distance-far xs qs e.1 in
-    let r = distance-least top (sum + far_face x q) xs qs e.1 in omega (arith, n, f, r)
+    let f = distance-far xs qs e.1 in omega (arith, n, f)
+distance-faces (suc k) (x ∷ xs) (q ∷ qs) h =
+    let e = or_parts (int_lt x.1 x.0) (is_empty_box xs) h in
+    let n = no_face_nearer x q e.0 in
+    let r = distance-faces k xs qs e.1 in omega (arith, n, r)
 
 -- the distance of a box is at most its min-max distance
 pub box_within : (high : ℤ) (b : List (ℤ × ℤ)) (p : List ℤ) → is_empty_box b ≡ false → box_distance high b p ≤ box_min_max high b p
 box_within high [] p h = omega arith
-box_within high (x ∷ xs) p h = let l = distance-least (unsigned_abs high) 0 (x ∷ xs) p h in omega (arith, l)
+box_within high (x ∷ xs) p h =
+    least-above (unsigned_abs high) (distance_sum (x ∷ xs) p) (length (x ∷ xs)) (λ k. faces_at k (x ∷ xs) p) (λ k. distance-faces k (x ∷ xs) p h)
 
 same_le : (m : ℕ) → m ≤ m
 same_le m = omega arith

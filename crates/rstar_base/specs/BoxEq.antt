@@ -1,5 +1,5 @@
 -- Equality of boxes is equality of their intervals.
-use Rattle.std.specs.Prelude.{◌≡◌, ◌&&◌, ◌↔◌, ◌<◌, ◌≤ℤ◌, ℕ, ℤ, Bool, true, zero, suc, List, [], ◌∷◌, length, map, slice_index_or, IsTrue, int_le}
+use Rattle.std.specs.Prelude.{◌≡◌, ◌&&◌, ◌↔◌, ℕ, ℤ, Bool, true, zero, suc, List, [], ◌∷◌, map, IsTrue, int_le}
 use Rattle.std.specs.List.{All}
 use Rattle.std.proofs.Common.{refl, ap, arith, sym, ◌∙◌}
 use Rattle.std.proofs.lemmas.Int.{ints}

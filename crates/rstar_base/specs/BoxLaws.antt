@@ -1,13 +1,13 @@
 -- The laws of boxes.
-use Rattle.std.specs.Prelude.{◌≡◌, ◌&&◌, ◌||◌, ℕ, ℤ, Bool, true, false, not, zero, suc, List, [], ◌∷◌, length, pos, IsTrue, int_le, int_lt}
+use Rattle.std.specs.Prelude.{◌≡◌, ◌&&◌, ◌||◌, ℕ, ℤ, Bool, true, false, not, zero, suc, List, [], ◌∷◌, length, pos, int_le, int_lt}
 use Rattle.std.specs.Int.{int_min, int_max}
 use Rattle.std.specs.Prelude.{◌<◌, ◌<ℤ◌}
-use Rattle.std.proofs.Common.{refl, ap, arith, subst, sym, ◌∙◌}
+use Rattle.std.proofs.Common.{refl, ap, arith, sym, ◌∙◌}
 use Rattle.std.proofs.lemmas.Int.{ints, clamps}
 use Rattle.rstar_base.specs.Points.{table, all_below}
 use Rattle.rstar_base.specs.PointLemmas.{and_parts, and_both}
 use Rattle.rstar_base.specs.Scalars.{InRange}
-use Rattle.rstar_base.specs.Boxes.{between_corners, merge_axis, merge_boxes, is_empty_box, contains_box, box_contains_point, boxes_intersect, empty_box, in_range, all_in_range, IsBox}
+use Rattle.rstar_base.specs.Boxes.{between_corners, merge_boxes, is_empty_box, contains_box, box_contains_point, boxes_intersect, empty_box, in_range, all_in_range, IsBox}
 
 min_comm : (x y : ℤ) → int_min x y ≡ int_min y x
 min_comm x y = omega (arith, ints, clamps)

@@ -1,12 +1,13 @@
 -- How the distances of boxes change when boxes are merged.
-use Rattle.std.specs.Prelude.{◌≡◌, ◌+◌, ◌*◌, ◌≤◌, ◌<◌, ◌≤ℤ◌, ◌-ℤ◌, ◌&&◌, ◌||◌, ℕ, ℤ, Bool, true, false, cond, min, max, zero, suc, List, [], ◌∷◌, length, pos, int_le, int_lt, unsigned_abs}
+use Rattle.std.specs.Prelude.{◌≡◌, ◌*◌, ◌≤◌, ◌≤ℤ◌, ◌-ℤ◌, ◌&&◌, ℕ, ℤ, Bool, true, false, cond, min, max, zero, suc, List, [], ◌∷◌, length, pos, int_le, int_lt, unsigned_abs}
 use Rattle.std.specs.Int.{int_min, int_max}
-use Rattle.std.proofs.Common.{refl, ap, arith, sym, ◌∙◌}
-use Rattle.std.proofs.lemmas.Int.{ints, clamps, by_lt_z}
+use Rattle.std.proofs.Common.{refl, arith, sym, ◌∙◌}
+use Rattle.std.proofs.lemmas.Int.{ints, by_lt_z}
 use Rattle.rstar_base.specs.PointLemmas.{and_parts}
 use Rattle.rstar_base.specs.Boxes.{merge_axis, merge_boxes, is_empty_box, contains_box}
-use Rattle.rstar_base.specs.BoxLaws.{or_parts}
-use Rattle.rstar_base.specs.Distances.{square_apart, distance_sum, box_distance, near_face, far_face, far_sum, least_sum, box_min_max}
+use Rattle.rstar_base.specs.BoxLaws.{or_parts, merge-long}
+use Rattle.rstar_base.specs.Leasts.{least-same, least-lesser}
+use Rattle.rstar_base.specs.Distances.{square_apart, distance_sum, box_distance, near_face, far_face, far_sum, faces_at, box_min_max}
 
 pub square_up : (m n : ℕ) → m ≤ n → m * m ≤ n * n
 square_up m n h = grind arith
@@ -93,25 +94,23 @@ far_sum-merge (x ∷ xs) (y ∷ ys) (q ∷ qs) l h k =
     let r = far_sum-merge xs ys qs (omega arith) e.1 f.1 in
     (omega (arith, s, r.0), omega (arith, t, r.1))
 
-least_step : (top sa sb sm na nb nm fa fb fm ra rb rm : ℕ) → sa ≤ sm → sb ≤ sm → min na nb ≤ nm → fa ≤ fm → fb ≤ fm → min ra rb ≤ rm
-    → min (min (min top (sa + na + fa)) ra) (min (min top (sb + nb + fb)) rb) ≤ min (min top (sm + nm + fm)) rm
-least_step top sa sb sm na nb nm fa fb fm ra rb rm h k l m n o = omega arith
-
-pub least_sum-merge : (top sa sb sm : ℕ) (a b : List (ℤ × ℤ)) (p : List ℤ) → length a ≡ length b → is_empty_box a ≡ false → is_empty_box b ≡ false
-    → sa ≤ sm → sb ≤ sm → min (least_sum top sa a p) (least_sum top sb b p) ≤ least_sum top sm (merge_boxes a b) p
-least_sum-merge top sa sb sm [] [] p l h k m n = omega arith
-least_sum-merge top sa sb sm [] (y ∷ ys) p l h k m n = absurd (omega arith)
-least_sum-merge top sa sb sm (x ∷ xs) [] p l h k m n = absurd (omega arith)
-least_sum-merge top sa sb sm (x ∷ xs) (y ∷ ys) [] l h k m n = omega arith
-least_sum-merge top sa sb sm (x ∷ xs) (y ∷ ys) (q ∷ qs) l h k m n =
+faces-merge : (k : ℕ) (a b : List (ℤ × ℤ)) (p : List ℤ) → length a ≡ length b → is_empty_box a ≡ false → is_empty_box b ≡ false
+    → min (faces_at k a p) (faces_at k b p) ≤ faces_at k (merge_boxes a b) p
+faces-merge k [] [] p l h m = omega arith
+faces-merge k [] (y ∷ ys) p l h m = absurd (omega arith)
+faces-merge k (x ∷ xs) [] p l h m = absurd (omega arith)
+faces-merge k (x ∷ xs) (y ∷ ys) [] l h m = omega arith
+faces-merge zero (x ∷ xs) (y ∷ ys) (q ∷ qs) l h m =
     let e = or_parts (int_lt x.1 x.0) (is_empty_box xs) h in
-    let f = or_parts (int_lt y.1 y.0) (is_empty_box ys) k in
+    let f = or_parts (int_lt y.1 y.0) (is_empty_box ys) m in
+    let n = near_merge x y q in
+    let r = far_sum-merge xs ys qs (omega arith) e.1 f.1 in omega (arith, n, r.0, r.1)
+faces-merge (suc k) (x ∷ xs) (y ∷ ys) (q ∷ qs) l h m =
+    let e = or_parts (int_lt x.1 x.0) (is_empty_box xs) h in
+    let f = or_parts (int_lt y.1 y.0) (is_empty_box ys) m in
     let s = far_left x y q (to_up x.1 x.0 e.0) in
     let t = far_right x y q (to_up y.1 y.0 f.0) in
-    let r = far_sum-merge xs ys qs (omega arith) e.1 f.1 in
-    least_step top sa sb sm (near_face x q) (near_face y q) (near_face (merge_axis x y) q) (far_sum xs qs) (far_sum ys qs) (far_sum (merge_boxes xs ys) qs) _ _ _
-    m n (near_merge x y q) r.0 r.1
-    (least_sum-merge top (sa + far_face x q) (sb + far_face y q) (sm + far_face (merge_axis x y) q) xs ys qs (omega arith) e.1 f.1 (omega (arith, s)) (omega (arith, t)))
+    let r = faces-merge k xs ys qs (omega arith) e.1 f.1 in omega (arith, s, t, r)
 
 pub box_min_max-merge : (high : ℤ) (a b : List (ℤ × ℤ)) (p : List ℤ) → length a ≡ length b → is_empty_box a ≡ false → is_empty_box b ≡ false
     → min (box_min_max high a p) (box_min_max high b p) ≤ box_min_max high (merge_boxes a b) p
@@ -119,4 +118,12 @@ box_min_max-merge high [] [] p l h k = omega arith
 box_min_max-merge high [] (y ∷ ys) p l h k = absurd (omega arith)
 box_min_max-merge high (x ∷ xs) [] p l h k = absurd (omega arith)
 box_min_max-merge high (x ∷ xs) (y ∷ ys) p l h k =
-    least_sum-merge (unsigned_abs high) 0 0 0 (x ∷ xs) (y ∷ ys) p l h k (omega arith) (omega arith)
+    let top = unsigned_abs high in
+    let a = x ∷ xs in
+    let b = y ∷ ys in
+    let n = length (merge_boxes a b) in
+    let m = merge-long (length a) a b refl (sym l) in
+    let f = least-same top (length a) n (λ i. faces_at i a p) (λ i. faces_at i a p) (sym m) (λ _. refl) in
+    let g = least-same top (length b) n (λ i. faces_at i b p) (λ i. faces_at i b p) (sym l ∙ sym m) (λ _. refl) in
+    let r = least-lesser top n (λ i. faces_at i a p) (λ i. faces_at i b p) (λ i. faces_at i (merge_boxes a b) p) (λ i. faces-merge i a b p l h k) in
+    omega (arith, f, g, r)

@@ -1,6 +1,6 @@
 -- An element beside an envelope that is kept for it keeps the laws of elements.
 use Rattle.std.specs.Prelude.{◌≡◌, ◌≤◌, ℕ, ℤ, Bool, true, false, List, min, max, if◌then◌else◌}
-use Rattle.std.proofs.Common.{refl, arith, subst, sym}
+use Rattle.std.proofs.Common.{refl, arith}
 use Rattle.rstar_base.specs.PointLemmas.{and_parts}
 use Rattle.rstar_base.specs.Envelopes.{Boxes}
 use Rattle.rstar_base.specs.Elements.{Objects, Distances, DistanceLaws}
@@ -20,9 +20,9 @@ held-own false a b d h = let p = h refl in let q = p.0 in let r = p.1 in omega a
 
 -- where the envelope is the element's own, the distance is the element's
 pub kept_distance-own : {T E : Type 0} {IsPoint : List ℤ → Type 0} (v : Boxes E) (o : Objects T E) (d : Distances T) → DistanceLaws IsPoint v o d
-    → (t : T) (e : E) (p : List ℤ) → e ≡ o.box_of t → IsPoint p → o.IsValue t → kept_distance v e p (d.distance_2 t p) ≡ d.distance_2 t p
-kept_distance-own v o d l t e p same h k =
-    rw same (held-own (v.is_empty (o.box_of t)) (v.distance_2 (o.box_of t) p) (v.min_max_dist_2 (o.box_of t) p) (d.distance_2 t p) (λ f. (l.near t p h k f, l.within t p h k f)))
+    → (inner t : T) (e : E) (p : List ℤ) → t ≡ inner → e ≡ o.box_of t → IsPoint p → o.IsValue t → kept_distance v e p (d.distance_2 inner p) ≡ d.distance_2 t p
+kept_distance-own v o d l inner t e p is same h k =
+    rw (← is, same) (held-own (v.is_empty (o.box_of t)) (v.distance_2 (o.box_of t) p) (v.min_max_dist_2 (o.box_of t) p) (d.distance_2 t p) (λ f. (l.near t p h k f, l.within t p h k f)))
 
 pub kept_laws : {T E U : Type 0} {IsPoint : List ℤ → Type 0} (v : Boxes E) (kept : U → E) (inner : U → T) (d : Distances T)
     → ((e : E) (p : List ℤ) → IsPoint p → v.IsValue e → v.is_empty e ≡ false → v.distance_2 e p ≤ v.min_max_dist_2 e p)

@@ -8,6 +8,7 @@ pub mod BoxLaws
 pub mod BoxEq
 pub mod Hulls
 pub mod Distances
+pub mod Leasts
 pub mod DistanceLaws
 pub mod Measures
 pub mod Envelopes

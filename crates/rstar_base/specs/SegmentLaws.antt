@@ -1,5 +1,5 @@
 -- A segment keeps the laws of elements.
-use Rattle.std.specs.Prelude.{◌≡◌, ◌+◌, ◌*◌, ◌/◌, ◌<◌, ◌≤◌, ◌≤ℤ◌, ◌<ℤ◌, ◌+ℤ◌, ◌-ℤ◌, ◌*ℤ◌, ◌&&◌, ℕ, ℤ, Bool, true, false, cond, zero, suc, List, [], ◌∷◌, length, min, max, pos, nat_le, int_le, int_lt, int_div, unsigned_abs, if◌then◌else◌}
+use Rattle.std.specs.Prelude.{◌≡◌, ◌*◌, ◌/◌, ◌<◌, ◌≤◌, ◌≤ℤ◌, ◌<ℤ◌, ◌+ℤ◌, ◌-ℤ◌, ◌*ℤ◌, ◌&&◌, ℕ, ℤ, Bool, true, false, cond, zero, suc, List, [], ◌∷◌, length, min, max, pos, nat_le, int_le, int_lt, int_div, unsigned_abs, if◌then◌else◌}
 use Rattle.std.specs.Int.{int_min, int_max}
 use Rattle.std.proofs.Common.{refl, ap, arith, sym, subst, ◌∙◌, negsuc, neg_ℤ}
 use Rattle.std.proofs.lemmas.Int.{ints, clamps}
@@ -7,14 +7,15 @@ use Rattle.std.proofs.lemmas.Bool.Decides.{nat_tests}
 use Rattle.std.proofs.Math.Nat.{div-le_of_le-mul, mul-le-mul_left, zero-div}
 use Rattle.rstar_base.specs.Points.{IsPoint}
 use Rattle.rstar_base.specs.PointLemmas.{and_parts, and_both}
-use Rattle.rstar_base.specs.Boxes.{between_corners, box_of_corners, box_contains_point, is_empty_box, IsBox}
+use Rattle.rstar_base.specs.Boxes.{between_corners, box_of_corners, box_contains_point, is_empty_box}
 use Rattle.rstar_base.specs.BoxLaws.{or_parts, or_both}
 use Rattle.rstar_base.specs.Sums.{sum_below}
-use Rattle.rstar_base.specs.Distances.{square_apart, nearest_on_axis, distance_sum, near_face, far_face, far_sum, least_sum, box_distance, box_min_max}
+use Rattle.rstar_base.specs.Distances.{square_apart, nearest_on_axis, distance_sum, near_face, far_face, far_sum, faces_at, box_distance, box_min_max}
 use Rattle.rstar_base.specs.DistanceLaws.{square_up}
+use Rattle.rstar_base.specs.Leasts.{least-above}
 use Rattle.rstar_base.specs.BoxData.{box_data}
-use Rattle.rstar_base.specs.Elements.{Objects, Distances, DistanceLaws}
-use Rattle.rstar_base.specs.Segments.{coordinate, point_apart, dot, direction, along, length_squared, interior, has_interior, nearer, nearest_of_segment, segment_distance, segment_objects, segment_distances}
+use Rattle.rstar_base.specs.Elements.{DistanceLaws}
+use Rattle.rstar_base.specs.Segments.{coordinate, point_apart, along, length_squared, interior, has_interior, nearer, nearest_of_segment, segment_distance, segment_objects, segment_distances}
 
 -- ---- a point between two corners is no nearer than their box
 
@@ -195,28 +196,25 @@ ends-sum (suc n) f g (q ∷ qs) l =
     let r = ends-sum n (λ i. f (suc i)) (λ i. g (suc i)) qs (omega arith) in
     (omega (arith, e, r.0), omega (arith, e, r.1))
 
-least-step : (top s a b x y u v w nf ff r : ℕ) → a ≤ s → b ≤ s → nf ≡ min x y → u ≤ w → v ≤ w
-    → min (min (a + x + u) top) (min (b + y + v) top) ≤ r
-    → min (min (a + (x + u)) top) (min (b + (y + v)) top) ≤ min (min top (s + nf + w)) r
-least-step top s a b x y u v w nf ff r h k e m n o = omega arith
-
-ends-least : (top s a b n : ℕ) (f g : ℕ → ℤ) (p : List ℤ) → length p ≡ n → a ≤ s → b ≤ s
-    → min (min (a + end-sum n f p) top) (min (b + end-sum n g p) top) ≤ least_sum top s (box_of_corners n f g) p
+ends-faces : (k n : ℕ) (f g : ℕ → ℤ) (p : List ℤ) → length p ≡ n → min (end-sum n f p) (end-sum n g p) ≤ faces_at k (box_of_corners n f g) p
 unfolding end-sum
-ends-least top s a b zero f g p l h k = omega arith
-ends-least top s a b (suc n) f g [] l h k = absurd (omega arith)
-ends-least top s a b (suc n) f g (q ∷ qs) l h k =
+ends-faces k zero f g p l = omega arith
+ends-faces k (suc n) f g [] l = absurd (omega arith)
+ends-faces zero (suc n) f g (q ∷ qs) l =
     let e = ends-near q (f zero) (g zero) in
+    let r = ends-sum n (λ i. f (suc i)) (λ i. g (suc i)) qs (omega arith) in omega (arith, e, r.0, r.1)
+ends-faces (suc k) (suc n) f g (q ∷ qs) l =
     let d = ends-far q (f zero) (g zero) in
-    let r = ends-sum n (λ i. f (suc i)) (λ i. g (suc i)) qs (omega arith) in
-    let ih = ends-least top (s + far_face (int_min (f zero) (g zero), int_max (f zero) (g zero)) q) (a + square_apart q (f zero)) (b + square_apart q (g zero)) n (λ i. f (suc i)) (λ i. g (suc i)) qs (omega arith) (omega (arith, d)) (omega (arith, d)) in
-    least-step top s a b (square_apart q (f zero)) (square_apart q (g zero)) _ _ _ _ 0 _ h k e r.0 r.1 ih
+    let ih = ends-faces k n (λ i. f (suc i)) (λ i. g (suc i)) qs (omega arith) in omega (arith, d, ih)
 
 ends-min_max : (high : ℤ) (n : ℕ) (f g : ℕ → ℤ) (p : List ℤ) → length p ≡ n
     → min (point_apart high n f (coordinate p)) (point_apart high n g (coordinate p)) ≤ box_min_max high (box_of_corners n f g) p
 unfolding end-sum
 ends-min_max high zero f g p l = omega arith
-ends-min_max high (suc n) f g p l = let r = ends-least (unsigned_abs high) 0 0 0 (suc n) f g p l (omega arith) (omega arith) in omega (arith, r)
+ends-min_max high (suc n) f g p l =
+    let b = box_of_corners (suc n) f g in
+    let r = least-above (unsigned_abs high) (min (end-sum (suc n) f p) (end-sum (suc n) g p)) (length b) (λ k. faces_at k b p) (λ k. ends-faces k (suc n) f g p l) in
+    omega (arith, r)
 
 pub segment-within : (low high : ℤ) (n : ℕ) (f g : ℕ → ℤ) (p : List ℤ) → length p ≡ n → segment_distance low high n f g p ≤ box_min_max high (box_of_corners n f g) p
 segment-within low high n f g p l =

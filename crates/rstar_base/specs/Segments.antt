@@ -1,5 +1,5 @@
 -- The nearest point of a segment. A point is given by its coordinates on the n axes, a segment by its two ends.
-use Rattle.std.specs.Prelude.{◌+◌, ◌+ℤ◌, ◌-ℤ◌, ◌*ℤ◌, ◌&&◌, ℕ, ℤ, Bool, zero, suc, List, min, pos, nat_le, int_le, int_lt, int_div, unsigned_abs, slice_index_or, if◌then◌else◌}
+use Rattle.std.specs.Prelude.{◌+ℤ◌, ◌-ℤ◌, ◌*ℤ◌, ◌&&◌, ℕ, ℤ, Bool, zero, suc, List, min, pos, nat_le, int_le, int_lt, int_div, unsigned_abs, slice_index_or, if◌then◌else◌}
 use Rattle.rstar_base.specs.Points.{all_below}
 use Rattle.rstar_base.specs.Boxes.{in_range, box_of_corners, IsBox}
 use Rattle.rstar_base.specs.Elements.{Objects, Distances}

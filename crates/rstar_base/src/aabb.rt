@@ -179,7 +179,12 @@ pub(crate) fn same_coordinates<P: Point>(p: &P, q: &P) -> bool
     bound(p, p, q, q)
 }
 
-/// A box.
+/// An axis-parallel box: on every axis the numbers from `lower` to `upper`, both included. Or the
+/// empty box, whose lower corner is all greatest and whose upper corner is all least scalars.
+///
+/// With no axis there is one box, and it is not empty. Measures and distances are exact, and held at
+/// the greatest scalar; distances are squared. Each call costs a pass over the axes, and a copy of a
+/// box takes no memory. Boxes are ordered by their lower, then by their upper corners.
 #[derive(Copy, Debug, PartialEq, Eq, PartialOrd, Ord, Hash, Drop)]
 pub struct AABB<P: Point> {
     lower: P,
@@ -228,7 +233,7 @@ impl<P: Point> AABB<P> {
         }
     }
 
-    /// The box between two corners, of which the first is nowhere above the second.
+    /// The box between two corners, of which the first is nowhere above the second; `upright` is the test.
     pub fn from_bounds(lower: P, upper: P) -> Self
         requires { IsTrue (is_upright P.DIMENSIONS (P.coord lower) (P.coord upper)) }
         ensures { result ≡ between_corners P.DIMENSIONS (P.coord lower) (P.coord upper) }
@@ -249,7 +254,7 @@ impl<P: Point> AABB<P> {
         AABB::from_corners(moved_up(&center, distance), moved_down(&center, distance))
     }
 
-    /// The least box of all points; of none, the empty box.
+    /// The least box of all points; of none, the empty box. The iterator has to end.
     pub fn from_points<'a, I: IntoIterator<Item = &'a P>>(i: I) -> Self
     where
         P: 'a,
@@ -265,14 +270,14 @@ impl<P: Point> AABB<P> {
         hull
     }
 
-    /// The lower corner.
+    /// The lower corner; of the empty box all greatest scalars.
     pub fn lower(&self) -> P
         ensures { table P.DIMENSIONS (P.coord result) ≡ map (λ x. x.0) self.now }
     {
         copied_point(&self.lower)
     }
 
-    /// The upper corner.
+    /// The upper corner; of the empty box all least scalars.
     pub fn upper(&self) -> P
         ensures { table P.DIMENSIONS (P.coord result) ≡ map (λ x. x.1) self.now }
     {
@@ -293,7 +298,7 @@ impl<P: Point> AABB<P> {
         Envelope::distance_2(self, point)
     }
 
-    /// The least box that contains two points.
+    /// The least box that contains two points: opposite corners, in any order.
     pub fn from_corners(p: P, q: P) -> Self
         ensures { result ≡ box_of_corners P.DIMENSIONS (P.coord p) (P.coord q) }
     {

@@ -141,7 +141,7 @@ impl<P: Point> PointDistance for P {
         up_to(self.distance_2(point), max_distance_2)
     }
 
-    ghost distance_laws = { point_distance_laws P.Scalar.low P.Scalar.high P.DIMENSIONS P.coord P.Scalar.low_law P.Scalar.high_law };
+    ghost distance_laws = { point_distance_laws P.Scalar.low P.Scalar.high P.DIMENSIONS P.coord };
 }
 
 impl<T: RTreeObject> RTreeObject for Rc<T> {
@@ -181,7 +181,7 @@ impl<T: PointDistance> PointDistance for Rc<T> {
     ghost distance_laws = { carried_laws T.Envelope.boxes T.object T.distances (λ t. t.value) T.distance_laws };
 }
 
-/// The merge of the envelopes of all elements.
+/// The merge of the envelopes of all elements, each asked once; of none, the empty envelope.
 pub fn envelope_of_all<T: RTreeObject>(list: &[T]) -> T::Envelope
     ensures hull { result ≡ hull T.Envelope.boxes T.object.box_of list.now }
     ensures own { AllByRecursion T.object.IsValue list.now }

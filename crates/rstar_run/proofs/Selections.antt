@@ -1,5 +1,5 @@
 -- What a walk through a selection gives.
-use Rattle.std.proofs.Common.{◌≡◌, ℕ, Bool, List, [], ◌∷◌, length, Option, Some, None, refl, rules, arith, ap, Bor}
+use Rattle.std.proofs.Common.{Bool, length, ap, Bor}
 use Rattle.std.proofs.lemmas.Iterator.{YieldsList}
 use Rattle.std.proofs.lemmas.Iterator.Consumers.{YieldsList-from_shown}
 use Rattle.rstar.specs.declared.iterators.SelectionIterator.{SelectionIterator}

@@ -1,5 +1,5 @@
 -- Lines and their words.
-use Rattle.std.specs.Prelude.{ℕ, ◌-◌, Bool, not, ◌==◌, if◌then◌else◌, List, length, filter, take, slice_index}
+use Rattle.std.specs.Prelude.{ℕ, ◌-◌, not, ◌==◌, if◌then◌else◌, List, length, filter, take, slice_index}
 use Rattle.std.specs.List.{slice_split}
 
 -- the byte of a space

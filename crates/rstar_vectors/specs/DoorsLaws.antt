@@ -33,7 +33,7 @@ pub doors_laws : {D : Type 0} (low high : ℤ) (n : ℕ) (front back : D → ℕ
     → DistanceLaws (IsPoint low high n) (box_data low high n) (doors_objects low high n front back) (doors_distances high n front back)
 doors_laws {D} low high n front back hl hh =
     let boxes = box_laws low high n hl hh in
-    let points = point_distance_laws {P = ℕ → ℤ} low high n (λ c. c) hl hh in record {
+    let points = point_distance_laws {P = ℕ → ℤ} low high n (λ c. c) in record {
       near = λ d p h v e.
           let a = boxes.merge_distance (corner n (front d)) (corner n (back d)) p h v.0 v.1 (point-upright n (front d)) in
           let b = boxes.merge_distance (corner n (back d)) (corner n (front d)) p h v.1 v.0 (point-upright n (back d)) in

@@ -2,6 +2,7 @@
 
 use rstar_base::aabb::{AABB, upright};
 use rstar_base::envelope::{Envelope, copied_envelope};
+use std::hash::{DefaultHasher, Hash, Hasher};
 use std::test::Fail;
 
 #[test]
@@ -127,5 +128,23 @@ fn boxes_are_ordered_by_their_corners(rt: HostRuntime) -> Result<(), Fail> {
     assert!(rt; low < wide && wide < high);
     assert_eq!(rt; high.max(low), high);
     assert_ne!(rt; low, wide);
+    Ok(())
+}
+
+fn hashed<T: Hash>(item: &T) -> u64 {
+    let mut state = DefaultHasher::new();
+    item.hash(&mut state);
+    state.finish()
+}
+
+#[test]
+fn equal_boxes_hash_alike_and_show_their_corners(rt: HostRuntime) -> Result<(), Fail> {
+    let one: AABB<[i64; 2]> = AABB::from_corners([0, 2], [1, 1]);
+    let same: AABB<[i64; 2]> = AABB::from_bounds([0, 1], [1, 2]);
+    assert_eq!(rt; hashed(&one), hashed(&same));
+    assert_eq!(rt;
+        format!(in rt.alloc(); "{one:?}")?.as_str(),
+        "AABB { lower: [0, 1], upper: [1, 2] }"
+    );
     Ok(())
 }

@@ -1,5 +1,8 @@
 //! Insertion and splits: the shapes that fixed sequences of elements give.
 
+ghost use Rattle.std.specs.Prelude.{IfOk};
+ghost use Rattle.rstar.specs.Trees.{IsWholeTree};
+
 use rstar::algorithm::rstar::{RStarInsertionStrategy, split_children};
 use rstar::node::{RTreeNode, envelope_for_children};
 use rstar::params::{
@@ -7,6 +10,8 @@ use rstar::params::{
 };
 use rstar::rtree::RTree;
 use rstar_base::aabb::AABB;
+use rstar_base::envelope::Envelope;
+use rstar_base::object::RTreeObject;
 use std::alloc::{AllocError, Global};
 use std::test::Fail;
 
@@ -54,7 +59,10 @@ fn outlines(
     Ok(all)
 }
 
-fn along_a_line(alloc: Global) -> Result<RTree<[i32; 2]>, InsertError<[i32; 2]>> {
+/// Seven points in two groups on a line, which lie under two parents.
+pub(crate) fn along_a_line(alloc: Global) -> Result<RTree<[i32; 2]>, InsertError<[i32; 2]>>
+    ensures { IfOk result (λ tree. IsWholeTree ⟦<AABB<[i32; 2]> as Envelope>⟧.boxes ⟦<[i32; 2] as RTreeObject>⟧.object ⟦<DefaultParams as RTreeParams>⟧.MAX_SIZE tree) }
+{
     let mut tree = RTree::new(alloc);
     tree.insert([0, 0])?;
     tree.insert([1, 0])?;

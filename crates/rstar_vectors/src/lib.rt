@@ -13,3 +13,5 @@ mod insertion;
 pub mod interval;
 #[cfg(test)]
 mod points;
+#[cfg(test)]
+mod selections;

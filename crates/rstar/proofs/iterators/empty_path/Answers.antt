@@ -1,4 +1,4 @@
-use Rattle.std.proofs.Common.{◌≡◌, ◌≢◌, ◌∷◌, ◌∙◌, [], List, ap, sym, subst, map, arith}
+use Rattle.std.proofs.Common.{◌≢◌, ◌∷◌, ◌∙◌, [], List, ap, sym, subst, map, arith}
 use Rattle.std.specs.List.{AllByRecursion}
 use Rattle.rstar.specs.Nodes.{total}
 use Rattle.rstar.specs.Selections.{IsLevel}

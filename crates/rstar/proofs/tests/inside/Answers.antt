@@ -1,5 +1,4 @@
-use Rattle.std.proofs.Common.{◌≡◌, ◌∙◌, ap, map}
-use Rattle.std.specs.Borrow.{Bor}
+use Rattle.std.proofs.Common.{◌∙◌, ap, map}
 use Rattle.rstar.proofs.Chains.{selection_end}
 use Rattle.rstar.specs.Selections.{to_come}
 use Rattle.rstar.proofs.tests.inside.Goals as goal

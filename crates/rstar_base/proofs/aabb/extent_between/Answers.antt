@@ -1,4 +1,4 @@
-use Rattle.std.proofs.Common.{◌≡◌, ◌∙◌, ap, sym}
+use Rattle.std.proofs.Common.{◌∙◌, ap, sym}
 use Rattle.rstar_base.proofs.Measures.{extent_up, extent_none}
 use Rattle.rstar_base.proofs.aabb.extent_between.Goals as goal
 

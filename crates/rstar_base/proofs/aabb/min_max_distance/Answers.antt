@@ -1,4 +1,4 @@
-use Rattle.std.proofs.Common.{◌≡◌, ◌<◌, ◌+◌, ◌∙◌, ℕ, zero, refl, ap, sym, pos, min, unsigned_abs, arith}
+use Rattle.std.proofs.Common.{◌≡◌, ◌<◌, ◌+◌, ◌∙◌, ℕ, refl, ap, sym, pos, min, unsigned_abs, arith}
 use Rattle.rstar_base.specs.Distances.{near_face, far_face}
 use Rattle.rstar_base.specs.Sums.{sum_below, sum_below-more}
 use Rattle.rstar_base.proofs.MinMax.{best_from, best_from-more, best_min_max, above_zero, least_clamped}

@@ -1,4 +1,4 @@
-use Rattle.std.proofs.Common.{◌≡◌, ◌<◌, ◌∙◌, ℕ, sym, arith, refl, ap, pos, min, unsigned_abs}
+use Rattle.std.proofs.Common.{◌≡◌, ◌∙◌, arith, refl, ap, pos, min, unsigned_abs}
 use Rattle.rstar_base.specs.Sums.{product_below}
 use Rattle.rstar_base.proofs.Measures.{clamped_times, product_below-more, one_clamped}
 use Rattle.rstar_base.proofs.axes.clamped_product.Goals as goal

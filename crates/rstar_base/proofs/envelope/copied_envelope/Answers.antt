@@ -1,4 +1,4 @@
-use Rattle.std.proofs.Common.{◌≡◌, ◌∙◌, ap}
+use Rattle.std.proofs.Common.{◌∙◌, ap}
 use Rattle.rstar_base.proofs.envelope.copied_envelope.Goals as goal
 
 pub returns-clause-same : goal.returns-clause-same

@@ -1,4 +1,4 @@
-use Rattle.std.proofs.Common.{◌≡◌, ◌∙◌, ap}
+use Rattle.std.proofs.Common.{◌∙◌, ap}
 use Rattle.rstar_base.proofs.Hulls.{hull-step}
 use Rattle.rstar_base.proofs.object.envelope_of_all.Goals as goal
 

@@ -1,26 +1,24 @@
 -- `place_in` meets its contract: a walk of its MIR by hand, two calls whose loans follow one another. Assumes `Logic`.
-use Rattle.std.proofs.Common.{◌≡◌, ℕ, ◌^◌, ◌<◌, length, slice_index_or, slice_set, List, [], ◌∷◌, refl, sym, ap, subst, w64, MutBor}
+use Rattle.std.proofs.Common.{◌≡◌, ◌^◌, ◌<◌, length, slice_index_or, slice_set, List, [], ◌∷◌, refl, sym, ap, subst, w64, MutBor}
 use Rattle.std.proofs.raw_atomic.Walks.{proved, leaves}
-use lib.Dec.{T}
-use mir.Syntax.{Fn, Ty, Lifetime, a_type, a_number, named, erased, mut, ty_ref, ty_param}
+use mir.Syntax.{Fn, a_type, a_number, named}
 use mir.MapTy.{inst_fn}
-use mir.Val.{Val, vptr, vint, has_ty, WT}
+use mir.Val.{Val, vptr, vint}
 use base.Logic.{SProp, id⊢, emp}
 use base.Fml.{ftrue, flft}
-use types.Kit.{‵, raw, ◌⊛◌, some, later, at_ret, ◌$◌, ◌∵◌, !, qed, by, move, keep, drop, split, join, fjoin, rewrite, use0, use1, use2, await, pick, group}
+use types.Kit.{‵, raw, ◌⊛◌, some, later, ◌$◌, ◌∵◌, !, qed, by, move, keep, drop, split, join, fjoin, rewrite, use0, use1, use2, await, pick, group}
 use types.Run.{addr, stop, returns, enter, and_then, no_more}
-use types.ByLocal.{alloc_all, pass_all, free_all, look_at, get, through, sets, lands_as, env}
+use types.ByLocal.{alloc_all, pass_all, free_all, look_at, get, through, sets, lands_as}
 use contract.Running.{tables}
 use contract.Monad.{fact, fact_i}
 use contract.BorrowLft.{◌⊑◌}
 use prog.Memory.{size}
-use denote.RattleType.{RattleType}
 use denote.Array.{Array}
 use denote.Laws.{Is, shows}
 use denote.Builtin.{usize, RefMutOf}
 use denote.Plain.{uint_vals, uint_Tells}
 use denote.Ref.{MutRef, mut_vals, mut_Tells}
-use denote.Slice.{MutSlice, slice_val, mut_slice_vals}
+use denote.Slice.{MutSlice, mut_slice_vals}
 use denote.Exit.{yes, no}
 use denote.Follow.{follows, follows_then}
 use denote.Param.{param, number, layout, layouts, ArrayAt}

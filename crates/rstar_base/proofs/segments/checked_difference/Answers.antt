@@ -1,7 +1,6 @@
 use Rattle.std.proofs.Common.{◌∙◌, sym, ◌-ℤ◌, ◌≡◌, ℕ, true}
 use Rattle.rstar_base.specs.Boxes.{in_range}
 use Rattle.rstar_base.specs.Points.{all_below}
-use Rattle.rstar_base.specs.Segments as segment
 use Rattle.rstar_base.proofs.SegmentLemmas.{exact, all_below-at}
 use Rattle.rstar_base.proofs.segments.checked_difference.Goals as goal
 

@@ -1,7 +1,5 @@
-use Rattle.std.proofs.Common.{◌≡◌, ◌<◌, ◌∙◌, sym, ap, arith, below_more, ℕ, suc, true, false, ◌*ℤ◌}
-use Rattle.std.specs.Prelude.{◌&&◌}
+use Rattle.std.proofs.Common.{◌≡◌, ◌<◌, ◌∙◌, sym, ap, arith, below_more, true, false}
 use Rattle.rstar_base.specs.PointLemmas.{all_below-true, all_below-false}
-use Rattle.rstar_base.specs.Boxes.{in_range}
 use Rattle.rstar_base.specs.Segments.{dot}
 use Rattle.rstar_base.proofs.SegmentLemmas.{dot-next, fits-next}
 use Rattle.rstar_base.proofs.segments.checked_dot.Goals as goal

@@ -1,8 +1,5 @@
-use Rattle.std.proofs.Common.{rules, arith, ◌≡◌, ◌≤◌, ◌^◌, ◌∙◌, ◌+◌, true, false, sym, take}
+use Rattle.std.proofs.Common.{arith, ◌∙◌, ◌+◌, sym}
 use Rattle.std.proofs.lemmas.Bool.Decides.{nat_tests}
-use Rattle.std.specs.Char.{is_ascii_digit}
-use Rattle.std.specs.Prelude.{slice_index_or}
-use Rattle.std.specs.Str.Parse.{digits_value}
 use Rattle.rstar_run.proofs.Numerals.{none-by_byte, none-by_size, digits-more, value-more, some-value}
 use Rattle.rstar_run.proofs.number.unsigned.Goals as goal
 

@@ -1,4 +1,4 @@
-use Rattle.std.proofs.Common.{◌≡◌, ◌∙◌, ap, map, sym, rules}
+use Rattle.std.proofs.Common.{◌∙◌, ap, map}
 use Rattle.std.proofs.lemmas.Iterator.Consumers.{YieldsList-end}
 use Rattle.rstar_run.proofs.Selections.{selection_gives}
 use Rattle.rstar_run.proofs.store.payloads_in.Goals as goal

@@ -1,10 +1,8 @@
-use Rattle.std.proofs.Common.{rules, arith, ◌≡◌, ◌∙◌, ap, List, map, length, ℕ, true, sym}
+use Rattle.std.proofs.Common.{rules, ◌∙◌, ap, length, sym}
 use Rattle.std.specs.Prelude.{not, ◌==◌, filter}
-use Rattle.std.proofs.lemmas.Bool.Decides.{nat_tests}
 use borrow.Author.Tests.{tests}
 use Rattle.std.proofs.lemmas.Iterator.Consumers.{YieldsList-end, YieldsList-turn, YieldsList-so_far}
 use Rattle.std.proofs.lemmas.Iterator.Splits.{YieldsList-from_slice_split}
-use Rattle.std.specs.List.{slice_split}
 use Rattle.rstar_run.proofs.Pieces.{more_words}
 use Rattle.rstar_run.proofs.words.words.Goals as goal
 

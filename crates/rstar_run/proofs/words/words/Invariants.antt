@@ -1,4 +1,4 @@
-use Rattle.std.proofs.Common.{◌≡◌, List, map, length}
+use Rattle.std.proofs.Common.{◌≡◌, map, length}
 use Rattle.std.specs.Prelude.{filter, not, ◌==◌}
 use Rattle.rstar_run.proofs.words.words.Given as goal
 

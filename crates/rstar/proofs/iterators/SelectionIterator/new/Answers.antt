@@ -1,6 +1,5 @@
 use Rattle.std.proofs.Common.{◌≡◌, ◌∙◌, sym, ap, refl, ◌≢◌, []}
 use Rattle.std.specs.Prelude.{⊤}
-use Rattle.std.specs.List.{AllByRecursion}
 use Rattle.rstar.specs.Nodes.{children_of, envelope_of, IsInner, IsElement}
 use Rattle.rstar.specs.Selections.{IsLevel, IsWalking, reach_from_root, reach_below}
 use Rattle.rstar_base.proofs.Lists.{all_map}

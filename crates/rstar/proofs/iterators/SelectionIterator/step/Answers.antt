@@ -1,5 +1,5 @@
-use Rattle.std.proofs.Common.{◌≡◌, ◌∷◌, ◌++◌, [], ◌∙◌, ap, sym, refl, arith, length, length-append, append-nil}
-use Rattle.rstar.proofs.Walks.{Slices, IsTaken, IsDropped, nil-length, way-take, way-opened, way-drop, given-leaf, given-passed, given-opened, given-drop, reach-leaf, reach-passed, nearer-leaf, nearer-passed, nearer-opened, nearer-drop, room-opened}
+use Rattle.std.proofs.Common.{◌∷◌, ◌++◌, [], ◌∙◌, ap, sym, refl, arith, length-append}
+use Rattle.rstar.proofs.Walks.{IsTaken, IsDropped, nil-length, way-take, way-opened, way-drop, given-leaf, given-passed, given-opened, given-drop, reach-leaf, reach-passed, nearer-leaf, nearer-passed, nearer-opened, nearer-drop, room-opened}
 use Rattle.rstar.specs.Selections.{slices_of}
 use Rattle.rstar.proofs.iterators.SelectionIterator.step.Goals as goal
 

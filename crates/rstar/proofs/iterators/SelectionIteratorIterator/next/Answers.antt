@@ -1,4 +1,4 @@
-use Rattle.std.proofs.Common.{◌≡◌, ◌∙◌}
+use Rattle.std.proofs.Common.{◌∙◌}
 use Rattle.rstar.specs.Selections.{IsWalking, to_come}
 use Rattle.rstar.proofs.Walks.{way-ended, way-at_most}
 use Rattle.rstar.proofs.iterators.SelectionIteratorIterator.next.Goals as goal

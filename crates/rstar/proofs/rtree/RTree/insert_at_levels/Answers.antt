@@ -1,6 +1,6 @@
-use Rattle.std.proofs.Common.{◌≡◌, ◌+◌, ◌∷◌, ◌≢◌, [], length, arith, vec_len}
+use Rattle.std.proofs.Common.{◌≡◌, ◌∷◌, length, arith}
 use Rattle.std.proofs.lemmas.List.Sorted.{length_permutation}
-use Rattle.rstar.specs.Nodes.{all_elements, children_of}
+use Rattle.rstar.specs.Nodes.{all_elements}
 use Rattle.rstar.proofs.Insertion.{whole_of_kept}
 use Rattle.rstar.proofs.WholeTrees.{kept_at, rooms_of, sized_at}
 use Rattle.rstar.proofs.rtree.RTree.insert_at_levels.Goals as goal

@@ -1,4 +1,4 @@
-use Rattle.std.proofs.Common.{◌≡◌, ◌≤◌, arith, rules, vec_len}
+use Rattle.std.proofs.Common.{◌≤◌, arith, vec_len}
 use Rattle.rstar.specs.Heights.{levels_below}
 use Rattle.rstar.specs.Trees.{root_of}
 use Rattle.rstar.proofs.WholeTrees.{sized_along, enough_lists, counted_lists}

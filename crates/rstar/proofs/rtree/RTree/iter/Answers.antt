@@ -1,4 +1,4 @@
-use Rattle.std.proofs.Common.{◌≡◌, ◌∙◌, refl}
+use Rattle.std.proofs.Common.{◌∙◌, refl}
 use Rattle.std.proofs.lemmas.Result.{IfOk-weaker}
 use Rattle.rstar.proofs.Complete.{filter-every}
 use Rattle.rstar.proofs.rtree.RTree.iter.Goals as goal

@@ -1,4 +1,4 @@
-use Rattle.std.proofs.Common.{◌≡◌, ◌∙◌, ap, filter}
+use Rattle.std.proofs.Common.{◌∙◌, ap, filter}
 use Rattle.std.proofs.lemmas.Result.{IfOk-weaker}
 use Rattle.rstar.specs.Trees.{elements_in}
 use Rattle.rstar.proofs.rtree.RTree.locate_in_envelope.Goals as goal

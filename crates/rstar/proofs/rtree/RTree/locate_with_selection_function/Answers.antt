@@ -1,4 +1,4 @@
-use Rattle.std.proofs.Common.{◌≡◌, ◌∙◌, sym, subst, filter}
+use Rattle.std.proofs.Common.{◌∙◌, sym, subst, filter}
 use Rattle.std.proofs.lemmas.Result.{IfOk-weaker}
 use Rattle.rstar.specs.Trees.{elements_in}
 use Rattle.rstar.specs.Selections.{IsPartOf}

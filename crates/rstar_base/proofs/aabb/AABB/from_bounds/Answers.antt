@@ -1,4 +1,3 @@
-use Rattle.std.proofs.Common.{◌≡◌}
 use Rattle.std.specs.Prelude.{int_le}
 use Rattle.rstar_base.specs.BoxLaws.{corners-same, corners-box}
 use Rattle.rstar_base.proofs.Corners.{all_below-each, le_along}

@@ -1,4 +1,4 @@
-use Rattle.std.proofs.Common.{◌≡◌, ◌∙◌}
+use Rattle.std.proofs.Common.{◌∙◌}
 use Rattle.rstar_base.proofs.Corners.{corners-hull}
 use Rattle.rstar_base.proofs.aabb.AABB.from_center.Goals as goal
 

@@ -1,4 +1,4 @@
-use Rattle.std.proofs.Common.{◌≡◌, subst, sym, ap, ◌∙◌, List, ℤ, map}
+use Rattle.std.proofs.Common.{sym, ap, ◌∙◌, List, ℤ, map}
 use Rattle.rstar_base.specs.PointLemmas.{table-firsts, table-same}
 use Rattle.rstar_base.proofs.aabb.AABB.lower.Goals as goal
 

@@ -1,4 +1,4 @@
-use Rattle.std.proofs.Common.{◌≡◌, ◌∙◌}
+use Rattle.std.proofs.Common.{◌∙◌}
 use Rattle.rstar_base.specs.PointLemmas.{table-same}
 use Rattle.rstar_base.specs.Distances.{nearest_on_axis}
 use Rattle.rstar_base.proofs.Corners.{corners-nearest}

@@ -1,4 +1,4 @@
-use Rattle.std.proofs.Common.{◌≡◌, sym, ap, ◌∙◌, List, ℤ, map}
+use Rattle.std.proofs.Common.{sym, ap, ◌∙◌, List, ℤ, map}
 use Rattle.rstar_base.specs.PointLemmas.{table-seconds, table-same}
 use Rattle.rstar_base.proofs.aabb.AABB.upper.Goals as goal
 

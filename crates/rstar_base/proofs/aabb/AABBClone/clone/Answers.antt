@@ -1,4 +1,4 @@
-use Rattle.std.proofs.Common.{◌≡◌, subst, sym, ◌∙◌, List, ℤ}
+use Rattle.std.proofs.Common.{subst, sym, ◌∙◌, List, ℤ}
 use Rattle.rstar_base.specs.Boxes.{IsBox}
 use Rattle.rstar_base.specs.BoxLaws.{corners-same}
 use Rattle.rstar_base.proofs.aabb.AABBClone.clone.Goals as goal

@@ -1,4 +1,4 @@
-use Rattle.std.proofs.Common.{◌≡◌, ◌∙◌, ◌+ℤ◌, pos, ap}
+use Rattle.std.proofs.Common.{◌∙◌, ◌+ℤ◌, pos, ap}
 use Rattle.std.specs.Prelude.{int_div}
 use Rattle.rstar_base.specs.PointLemmas.{table-same}
 use Rattle.rstar_base.specs.Measures.{box_center}

@@ -1,4 +1,4 @@
-use Rattle.std.proofs.Common.{◌≡◌, ◌∙◌, ap, pos, min, unsigned_abs}
+use Rattle.std.proofs.Common.{◌∙◌, ap, pos, min, unsigned_abs}
 use Rattle.rstar_base.proofs.Measures.{corners-overlap, product_below-same, extent_same}
 use Rattle.rstar_base.proofs.aabb.AABBEnvelope.intersection_area.Goals as goal
 

@@ -1,4 +1,4 @@
-use Rattle.std.proofs.Common.{◌≡◌, ◌∙◌, ap, pos, min, unsigned_abs}
+use Rattle.std.proofs.Common.{◌∙◌, ap, pos, min, unsigned_abs}
 use Rattle.rstar_base.proofs.Measures.{corners-perimeter}
 use Rattle.rstar_base.proofs.aabb.AABBEnvelope.perimeter_value.Goals as goal
 

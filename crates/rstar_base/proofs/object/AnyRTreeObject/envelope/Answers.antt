@@ -1,4 +1,4 @@
-use Rattle.std.proofs.Common.{◌≡◌, ◌∙◌, sym, ℕ, ℤ, subst, ◌<◌, refl}
+use Rattle.std.proofs.Common.{◌∙◌, ℕ, subst, ◌<◌, refl}
 use Rattle.rstar_base.specs.Scalars.{InRange}
 use Rattle.rstar_base.specs.BoxLaws.{corners-same, corners-box, le_same}
 use Rattle.rstar_base.proofs.object.AnyRTreeObject.envelope.Goals as goal

@@ -1,9 +1,8 @@
-use Rattle.std.proofs.Common.{◌≡◌, ◌<◌, ◌≤◌, ◌++◌, ◌∷◌, [], length, set, get_or, Some, None, ap, ◌∙◌, arith, length-set, append-nil, vec_len}
+use Rattle.std.proofs.Common.{◌++◌, ◌∷◌, [], ap, ◌∙◌, arith, append-nil, vec_len}
 use Rattle.rstar.specs.declared.node.RTreeNode.{Leaf, Parent}
 use Rattle.rstar.specs.declared.node.RTreeNode.TheVariants.{outs-Parent}
 use Rattle.rstar.specs.Nodes.{IsElement}
-use Rattle.rstar.specs.Shapes.{AreTrees, IsAny, HasSize}
-use Rattle.rstar.specs.Kept.{IsKeptInner, AreKept}
+use Rattle.rstar.specs.Kept.{IsKeptInner}
 use Rattle.rstar.proofs.Insertion.{leaf_added, hull_grown, added, child_grown, child_at, tree_at, sized_leaf, sized_parts, sized_child, no_leaf_above}
 use Rattle.rstar.proofs.algorithm.rstar.insertion.+insert.Goals as goal
 

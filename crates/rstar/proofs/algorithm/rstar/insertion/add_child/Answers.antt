@@ -1,4 +1,4 @@
-use Rattle.std.proofs.Common.{arith, ◌≡◌, ◌<◌, ◌≤◌, ◌∷◌, [], length, vec_capacity, subst}
+use Rattle.std.proofs.Common.{arith, ◌∷◌, [], subst}
 use Rattle.std.specs.List.{AllByRecursion}
 use Rattle.rstar_base.proofs.Lists.{all_second}
 use Rattle.rstar.specs.Kept.{IsSpare}

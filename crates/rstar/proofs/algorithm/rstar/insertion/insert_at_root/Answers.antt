@@ -1,4 +1,4 @@
-use Rattle.std.proofs.Common.{◌≡◌, ◌+◌, ◌∙◌, ap, arith}
+use Rattle.std.proofs.Common.{◌+◌, ◌∙◌, ap, arith}
 use Rattle.rstar.specs.Nodes.{all_elements}
 use Rattle.rstar.proofs.Insertion.{two_parents, root_grown, sized_root}
 use Rattle.rstar.proofs.algorithm.rstar.insertion.insert_at_root.Goals as goal

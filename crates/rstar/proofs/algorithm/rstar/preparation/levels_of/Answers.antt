@@ -1,5 +1,5 @@
-use Rattle.std.proofs.Common.{◌≡◌, ℕ, ◌+◌, ap, ◌∙◌, ◌∷◌, arith}
-use Rattle.rstar.specs.Heights.{levels_below, levels}
+use Rattle.std.proofs.Common.{◌+◌, ap, ◌∙◌, ◌∷◌, arith}
+use Rattle.rstar.specs.Heights.{levels_below}
 use Rattle.rstar.proofs.Heights.{levels-Parent, levels-Leaf}
 use Rattle.rstar.proofs.algorithm.rstar.preparation.levels_of.Goals as goal
 

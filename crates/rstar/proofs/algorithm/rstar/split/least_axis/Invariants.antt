@@ -1,4 +1,4 @@
-use Rattle.std.proofs.Common.{◌≡◌, ◌<◌, length, IsPermutation}
+use Rattle.std.proofs.Common.{◌<◌, IsPermutation}
 use Rattle.rstar.proofs.algorithm.rstar.split.least_axis.Given as goal
 
 abbrev pub invariant-loop-axis : goal.invariant-loop-axis

@@ -1,4 +1,4 @@
-use Rattle.std.proofs.Common.{◌≡◌, ◌∙◌, ℕ, ap, sym, arith, false, true, unsigned_abs}
+use Rattle.std.proofs.Common.{◌∙◌, ℕ, sym, arith, unsigned_abs}
 use Rattle.rstar.specs.Cuts.{overlap_at, areas_at}
 use Rattle.rstar.proofs.Cuts.{least_new, least_old}
 use Rattle.rstar.proofs.algorithm.rstar.split.least_cut.Goals as goal

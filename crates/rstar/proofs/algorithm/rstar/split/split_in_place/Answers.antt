@@ -1,4 +1,4 @@
-use Rattle.std.proofs.Common.{length, take, drop, ◌++◌, ◌≡◌, ap, ◌∙◌, sym, arith}
+use Rattle.std.proofs.Common.{length, take, drop, ◌++◌, ◌≡◌, ap, ◌∙◌, arith}
 use Rattle.std.proofs.lemmas.List.{take-append-drop}
 use Rattle.std.proofs.lemmas.List.Sorted.{length_permutation}
 use Rattle.std.proofs.Math.Seq.{take-append_seam}

@@ -1,4 +1,3 @@
-use Rattle.std.proofs.Common.{◌≡◌, true, false}
 use Rattle.rstar_base.proofs.algorithm.selection_functions.SelectInEnvelopeFunction.new.Goals as goal
 
 pub returns-clause-lawful : goal.returns-clause-lawful

@@ -1,0 +1,48 @@
+//! What selections give, and how many parents they open.
+
+ghost use Rattle.rstar.specs.Trees.{IsWholeTree};
+
+use crate::insertion::along_a_line;
+use rstar::algorithm::selection_functions::{
+    SelectAllFunc, SelectInEnvelopeFunction, SelectionFunction,
+};
+use rstar::{AABB, DefaultParams, Envelope, RTree, RTreeNode, RTreeObject, RTreeParams};
+use std::alloc::AllocError;
+use std::test::Fail;
+
+/// How many elements a selection gives, and how many parents it opens.
+fn counts<T: RTreeObject, Func: SelectionFunction<T>>(
+    tree: &RTree<T>,
+    func: Func,
+) -> Result<(usize, usize), AllocError>
+    requires { IsWholeTree T.Envelope.boxes T.object ⟦<DefaultParams as RTreeParams>⟧.MAX_SIZE tree.now }
+{
+    let mut selection = tree.locate_with_selection_function(func)?;
+    let mut given = 0usize;
+    for _ in selection.by_ref() {
+        given = given.saturating_add(1);
+    }
+    Ok((given, selection.opened()))
+}
+
+fn inside(corner_1: [i32; 2], corner_2: [i32; 2]) -> SelectInEnvelopeFunction<[i32; 2]> {
+    SelectInEnvelopeFunction::new(AABB::from_corners(corner_1, corner_2))
+}
+
+#[test]
+fn a_selection_opens_what_its_question_reaches(rt: HostRuntime) -> Result<(), Fail> {
+    let tree = along_a_line(rt.alloc())?;
+    assert_eq!(rt; counts(&tree, SelectAllFunc)?, (7, 3));
+    assert_eq!(rt; counts(&tree, inside([0, 0], [2, 0]))?, (3, 2));
+    assert_eq!(rt; counts(&tree, inside([50, 0], [60, 0]))?, (0, 1));
+    assert_eq!(rt; counts(&tree, inside([200, 200], [201, 201]))?, (0, 0));
+    let empty: RTree<[i32; 2]> = RTree::new(rt.alloc());
+    assert_eq!(rt; counts(&empty, SelectAllFunc)?, (0, 0));
+    assert!(rt;
+        tree.root()
+            .children()
+            .iter()
+            .all(|child: &RTreeNode<[i32; 2]>| !child.is_leaf())
+    );
+    Ok(())
+}
