@@ -14,7 +14,8 @@ use rstar_base::algorithm::selection_functions::{
 use rstar_base::object::RTreeObject;
 use std::alloc::AllocError;
 
-/// The selected elements of a tree, each once, in some order, and then `None`.
+/// The selected elements of a tree, each once, in some order, and then `None`: all of them where the selection
+/// function is lawful, as those of this library are, and never another element.
 ///
 /// A parent is opened where the selection function accepts its envelope and those of all above it, and a leaf is asked
 /// only when the walk comes to it. `next` takes no memory: the path was reserved when the iterator was made.

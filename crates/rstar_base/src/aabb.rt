@@ -254,7 +254,7 @@ impl<P: Point> AABB<P> {
         AABB::from_corners(moved_up(&center, distance), moved_down(&center, distance))
     }
 
-    /// The least box of all points; of none, the empty box. The iterator has to end.
+    /// The least box of all points; of none, the empty box. The iterator has to end. It costs a merge per point.
     pub fn from_points<'a, I: IntoIterator<Item = &'a P>>(i: I) -> Self
     where
         P: 'a,

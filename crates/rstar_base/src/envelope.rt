@@ -11,8 +11,8 @@ use std::fmt::Debug;
 ///
 /// A tree skips what an envelope rules out, and is right to by the laws that the type proves
 /// (`envelope_laws`, `eq_law`): merging is commutative and associative, with the empty envelope as its
-/// unit; a merge contains both parts, and is no farther than either; its `min_max_dist_2` is at least
-/// the lesser of theirs. `AABB` is the envelope of boxes; a type of a user's own proves the same laws.
+/// unit; a merge contains both parts; where neither part is empty, it is no farther than either, and its
+/// `min_max_dist_2` is at least the lesser of theirs. `AABB` is the envelope of boxes; a type of a user's own proves the same laws.
 /// All distances are squared, and a call takes no memory.
 pub trait Envelope: Clone + PartialEq + Debug + Drop {
     /// The type of its points.
