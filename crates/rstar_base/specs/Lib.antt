@@ -21,6 +21,8 @@ pub mod NodeSizes
 pub mod CarrierLaws
 pub mod BoxElements
 pub mod BoxElementLaws
+pub mod Rectangles
+pub mod RectangleLaws
 pub mod Orders
 pub mod Segments
 pub mod SegmentLaws

@@ -1,8 +1,7 @@
 //! The rectangles that commands work on.
 
-ghost use Rattle.std.specs.Prelude.{◌≡◌, [], ◌∷◌, filter, length, map, OnOk, OnErr, IfOk};
+ghost use Rattle.std.specs.Prelude.{◌≡◌, [], ◌∷◌, length, OnOk, OnErr, IfOk};
 ghost use Rattle.std.specs.List.Sorted.{IsPermutation};
-ghost use Rattle.rstar.specs.Trees.{elements_in, IsWholeTree};
 ghost use Rattle.rstar_run.specs.Answers.{box_between, Lists, lies_in};
 
 use super::command::Corners;
@@ -14,26 +13,6 @@ use std::marker::Model;
 /// A rectangle with its ID.
 pub type Item = GeomWithData<Rectangle<[i64; 2]>, u64>;
 
-/// The payloads of the elements in an envelope, in some order.
-///
-/// It stands for any geometry and payload, since at rectangles the borrow checker does not cover the
-/// iterator that it reads.
-fn payloads_in<G: RTreeObject, D: Copy + Drop>(
-    alloc: Global,
-    tree: &RTree<GeomWithData<G, D>>,
-    envelope: G::Envelope,
-) -> Result<Vec<D>, AllocError>
-    requires { IsWholeTree G.Envelope.boxes ⟦<GeomWithData<G, D> as RTreeObject>⟧.object ⟦<DefaultParams as RTreeParams>⟧.MAX_SIZE tree.now }
-    ensures { IfOk result (λ found. found.items
-        ≡ map (λ t. t.1) (filter (λ t. G.Envelope.boxes.contains envelope (G.object.box_of t.0)) (elements_in tree.now))) }
-{
-    let mut found = Vec::new(alloc);
-    for item in tree.locate_in_envelope(envelope)? {
-        found.push(item.data)?;
-    }
-    Ok(found)
-}
-
 /// Rectangles with IDs, in a tree.
 #[derive(Drop)]
 pub struct Store {
@@ -42,12 +21,12 @@ pub struct Store {
 
 // Contracts see the list of the boxes and IDs. The tree is whole.
 impl Model for Store {
-    ghost use Rattle.std.specs.Prelude.{ℕ, ℤ, List};
+    ghost use Rattle.std.specs.Prelude.{ℕ, ℤ, List, map};
     ghost use Rattle.rstar.specs.Trees.{elements_in, IsWholeTree};
 
     ghost Value = { List (List (ℤ × ℤ) × ℕ) };
 
-    ghost view = { λ s. elements_in s.tree };
+    ghost view = { λ s. map (λ item. (⟦<Item as RTreeObject>⟧.object.box_of item, item.1)) (elements_in s.tree) };
 
     ghost invariant = { λ s. IsWholeTree ⟦<AABB<[i64; 2]> as Envelope>⟧.boxes ⟦<Item as RTreeObject>⟧.object ⟦<DefaultParams as RTreeParams>⟧.MAX_SIZE s.tree };
 }
@@ -76,7 +55,10 @@ impl Store {
         ensures { IfOk result (λ ids. Lists (lies_in (box_between corners.now)) self.now ids.items) }
     {
         let outer = AABB::from_corners(corners.one, corners.other);
-        let mut ids = payloads_in(alloc, &self.tree, outer)?;
+        let mut ids = Vec::new(alloc);
+        for item in self.tree.locate_in_envelope(outer)? {
+            ids.push(item.data)?;
+        }
         ids.sort_unstable();
         Ok(ids)
     }

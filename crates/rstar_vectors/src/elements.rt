@@ -57,6 +57,9 @@ fn distances_of_a_rectangle(rt: HostRuntime) -> Result<(), Fail> {
     assert_eq!(rt; rectangle.distance_2_if_less_or_equal(&[0, 0], 1), None);
     assert!(rt; rectangle.contains_point(&[1, 4]));
     assert!(rt; !rectangle.contains_point(&[0, 4]));
+    let none: Rectangle<[i64; 2]> = Rectangle::from_aabb(AABB::new_empty());
+    assert!(rt; none.envelope().is_empty());
+    assert!(rt; !none.contains_point(&[0, 0]));
     let same: Rectangle<[i64; 2]> = AABB::from_corners([2, 4], [1, 1]).into();
     assert_eq!(rt; same, rectangle);
     assert_eq!(rt; same.lower(), [1, 1]);

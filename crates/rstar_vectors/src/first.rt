@@ -37,6 +37,17 @@ fn insert_again<T: RTreeObject>(tree: &mut RTree<T>, element: T) -> bool
     }
 }
 
+/// The sum of the payloads of the rectangles in a box.
+fn payloads_in(tree: &RTree<Item>, envelope: AABB<[i64; 2]>) -> Result<u64, AllocError>
+    requires { IsWholeTree ⟦<AABB<[i64; 2]> as Envelope>⟧.boxes ⟦<Item as RTreeObject>⟧.object ⟦<DefaultParams as RTreeParams>⟧.MAX_SIZE tree.now }
+{
+    let mut sum = 0u64;
+    for item in tree.locate_in_envelope(envelope)? {
+        sum = sum.saturating_add(item.data);
+    }
+    Ok(sum)
+}
+
 #[test]
 fn duplicates_are_found_twice(rt: HostRuntime) -> Result<(), Fail> {
     let mut tree: RTree<Item> = RTree::new(rt.alloc());
@@ -49,6 +60,7 @@ fn duplicates_are_found_twice(rt: HostRuntime) -> Result<(), Fail> {
     assert_eq!(rt; tree.size(), 2);
     assert_eq!(rt; count_in(&tree, AABB::from_corners([0, 0], [2, 2]))?, 2);
     assert_eq!(rt; count_in(&tree, AABB::from_corners([0, 0], [2, 1]))?, 0);
+    assert_eq!(rt; payloads_in(&tree, AABB::from_corners([0, 0], [2, 2]))?, 14);
     Ok(())
 }
 
