@@ -11,7 +11,7 @@ ghost use Rattle.std.specs.Borrow.{Bor};
 ghost use Rattle.std.specs.Iterator.{Drains, IsFiniteIterable};
 ghost use Rattle.rstar_base.specs.Boxes.{between_corners, box_of_corners, is_upright, is_empty_box, merge_boxes, contains_box, box_contains_point, boxes_intersect, empty_box, IsBox};
 ghost use Rattle.rstar_base.specs.Points.{table, all_below, IsPoint};
-ghost use Rattle.rstar_base.specs.Rectangles.{box_between};
+ghost use Rattle.rstar_base.specs.Rectangles.{box_or_empty};
 ghost use Rattle.rstar_base.specs.Scalars.{InRange};
 
 use crate::axes::{
@@ -247,7 +247,7 @@ impl<P: Point> AABB<P> {
 
     /// The box between two corners; the empty box where the first lies above the second on some axis.
     pub(crate) fn between(lower: &P, upper: &P) -> Self
-        ensures { result ≡ box_between P.Scalar.low P.Scalar.high P.DIMENSIONS (P.coord lower.now) (P.coord upper.now) }
+        ensures { result ≡ box_or_empty P.Scalar.low P.Scalar.high P.DIMENSIONS (P.coord lower.now) (P.coord upper.now) }
     {
         if upright(lower, upper) {
             AABB {

@@ -1,22 +1,20 @@
 -- The IDs that a box lists.
-use Rattle.std.proofs.Common.{◌≡◌, ◌∙◌, ◌∷◌, [], ℕ, ℤ, Bool, true, false, List, map, ap, refl, sym, IsPermutation, subst}
+use Rattle.std.proofs.Common.{◌≡◌, ◌∙◌, ◌∷◌, [], ℕ, ℤ, Bool, true, false, List, map, ap, refl, IsPermutation, subst}
 use Rattle.std.specs.Prelude.{cond, filter}
 use Rattle.std.specs.Ordering.{nat_cmp}
 use Rattle.std.specs.List.Sorted.{IsSortedByKey}
-use Rattle.std.proofs.lemmas.List.Sorted.{IsNonDecreasingBy-from_sort}
+use Rattle.std.proofs.lemmas.List.Sorted.{IsNonDecreasingBy-from_sort, IsPermutation-map}
 use Rattle.rstar_base.specs.Boxes.{contains_box}
 use Rattle.rstar_run.specs.Answers.{Lists, lies_in}
 
 -- what is passed and then shown is what is shown and then passed
+passed_by : {X Y : Type 0} (f : X → Y) (b : Bool) (x : X) (ys : List X) (zs : List Y) → map f ys ≡ zs → map f (cond b (x ∷ ys) ys) ≡ cond b (f x ∷ zs) zs
+passed_by f true x ys zs h = ap (λ rest. f x ∷ rest) h
+passed_by f false x ys zs h = h
+
 map-passed : {X Y : Type 0} (f : X → Y) (p : Y → Bool) (xs : List X) → map f (filter (λ x. p (f x)) xs) ≡ filter p (map f xs)
 map-passed f p [] = refl
-map-passed f p (x ∷ xs) = by_case (p (f x)) where
-  ih : map f (filter (λ x. p (f x)) xs) ≡ filter p (map f xs)
-  ih = map-passed f p xs
-
-  by_case : (b : Bool) → map f (cond b (x ∷ filter (λ x. p (f x)) xs) (filter (λ x. p (f x)) xs)) ≡ cond b (f x ∷ filter p (map f xs)) (filter p (map f xs))
-  by_case true = ap (λ ys. f x ∷ ys) ih
-  by_case false = ih
+map-passed f p (x ∷ xs) = passed_by f (p (f x)) x (filter (λ x. p (f x)) xs) (filter p (map f xs)) (map-passed f p xs)
 
 module _ {R : Type 0} (box : R × ℕ → List (ℤ × ℤ)) where
   -- a rectangle is seen as its box and its ID
@@ -38,3 +36,10 @@ module _ {R : Type 0} (box : R × ℕ → List (ℤ × ℤ)) where
       ∙ ap (map (λ (r : List (ℤ × ℤ) × ℕ). r.1)) (map-passed seen (lies_in b) held)
       ∙ ap (λ (rs : List (List (ℤ × ℤ) × ℕ)). map (λ (r : List (ℤ × ℤ) × ℕ). r.1) (filter (lies_in b) rs)) h in
       record { just_those = subst (λ (xs : List ℕ). IsPermutation xs ids) same p; ascending = IsNonDecreasingBy-from_sort (λ n. n) ids s }
+
+  -- what is added is seen as its box and its ID
+  pub added_seen : (r : R × ℕ) (held new : List (R × ℕ)) (b : List (ℤ × ℤ)) (id : ℕ) (old : List (List (ℤ × ℤ) × ℕ))
+      → box r ≡ b → r.1 ≡ id → map seen held ≡ old → IsPermutation (r ∷ held) new → IsPermutation ((b, id) ∷ old) (map seen new)
+  added_seen r held new b id old e f h p =
+      let same : (box r, r.1) ∷ map seen held ≡ (b, id) ∷ old = rw (e, f, h) refl in
+      subst (λ (rs : List (List (ℤ × ℤ) × ℕ)). IsPermutation rs (map seen new)) same (IsPermutation-map seen (r ∷ held) new p)

@@ -1,7 +1,7 @@
 use Rattle.std.specs.Prelude.{int_le}
 use Rattle.std.proofs.Common.{sym, ◌∙◌}
 use Rattle.rstar_base.specs.BoxLaws.{corners-same, corners-box}
-use Rattle.rstar_base.specs.RectangleLaws.{box_between-upright}
+use Rattle.rstar_base.specs.RectangleLaws.{box_or_empty-upright}
 use Rattle.rstar_base.proofs.Corners.{all_below-each, le_along}
 use Rattle.rstar_base.proofs.aabb.AABB.between.Goals as goal
 
@@ -18,5 +18,5 @@ invariant_of-result g c =
 pub returns-then-upright : goal.returns-then-upright
 returns-then-upright g c =
     corners-same _ _ _ _ _ c.copied_point.ensures.coords c.copied_point-then-upright.ensures.coords
-    ∙ sym (box_between-upright g.P.Scalar.Bounded.low g.P.Scalar.Bounded.high g.P.Point.DIMENSIONS (g.P.Point.coord c.args.lower.now) (g.P.Point.coord c.args.upper.now)
+    ∙ sym (box_or_empty-upright g.P.Scalar.Bounded.low g.P.Scalar.Bounded.high g.P.Point.DIMENSIONS (g.P.Point.coord c.args.lower.now) (g.P.Point.coord c.args.upper.now)
     (sym c.upright.ensures ∙ c.if-upright.true))

@@ -1,6 +1,6 @@
 use Rattle.std.proofs.Common.{subst, List, ℤ}
 use Rattle.rstar_base.specs.Boxes.{IsBox}
-use Rattle.rstar_base.specs.RectangleLaws.{box_between-same}
+use Rattle.rstar_base.specs.RectangleLaws.{box_or_empty-same}
 use Rattle.rstar_base.proofs.primitives.Rectangle.from_aabb.Goals as goal
 
 pub returns : goal.returns
@@ -8,5 +8,5 @@ returns g c =
     let low = g.P.Scalar.Bounded.low in
     let high = g.P.Scalar.Bounded.high in
     let n = g.P.Point.DIMENSIONS in
-    box_between-same low high n (g.P.Point.coord c.lower.result) (g.P.Point.coord c.upper.result) c.args.aabb
+    box_or_empty-same low high n (g.P.Point.coord c.lower.result) (g.P.Point.coord c.upper.result) c.args.aabb
     (subst (λ (b : List (ℤ × ℤ)). IsBox low high n b) c.aabb.view_is c.aabb.invariant.2) c.lower.ensures c.upper.ensures
