@@ -1,5 +1,5 @@
 -- A rectangle keeps the laws of elements, and the corners of a box are those of one rectangle.
-use Rattle.std.specs.Prelude.{◌≡◌, ◌<◌, if◌then◌else◌, ℕ, ℤ, Bool, true, false, zero, suc, List, [], ◌∷◌, length, map, not}
+use Rattle.std.specs.Prelude.{◌≡◌, if◌then◌else◌, ℕ, ℤ, Bool, true, false, zero, suc, List, [], ◌∷◌, length, map, not}
 use Rattle.std.specs.Int.{int_min, int_max}
 use Rattle.std.proofs.Common.{refl, ap, arith, sym, ◌∙◌}
 use Rattle.rstar_base.specs.Points.{IsPoint, table}

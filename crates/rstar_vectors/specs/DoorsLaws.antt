@@ -4,7 +4,7 @@ use Rattle.std.specs.Int.{int_min}
 use Rattle.std.proofs.Common.{refl, arith, subst}
 use Rattle.std.proofs.lemmas.Int.{ints, clamps}
 use Rattle.rstar_base.specs.Points.{IsPoint}
-use Rattle.rstar_base.specs.Boxes.{is_empty_box, box_contains_point, merge_boxes}
+use Rattle.rstar_base.specs.Boxes.{is_empty_box, box_contains_point}
 use Rattle.rstar_base.specs.BoxLaws.{corners-upright, merge-box, merge-comm}
 use Rattle.rstar_base.specs.Distances.{box_distance}
 use Rattle.rstar_base.specs.BoxData.{box_data}
