@@ -3,9 +3,9 @@ use Rattle.std.proofs.Common.{◌≡◌, ◌<◌, ℕ, ℤ, zero, suc, Bool, tru
 use Rattle.std.specs.Prelude.{int_le}
 use Rattle.std.specs.Int.{int_min, int_max}
 use Rattle.rstar_base.specs.Points.{table, all_below}
-use Rattle.rstar_base.specs.PointLemmas.{and_parts}
+use Rattle.rstar_base.specs.laws.PointLemmas.{and_parts}
 use Rattle.rstar_base.specs.Boxes.{between_corners, box_of_corners}
-use Rattle.rstar_base.specs.BoxLaws.{corners-same}
+use Rattle.rstar_base.specs.laws.BoxLaws.{corners-same}
 use Rattle.rstar_base.specs.Distances.{nearest_on_axis, nearest_point}
 
 pub all_below-each : (n : ℕ) (t : ℕ → Bool) (k : ℕ) → k < n → IsTrue (all_below n t) → IsTrue (t k)

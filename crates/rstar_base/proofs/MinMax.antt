@@ -6,7 +6,7 @@ use Rattle.rstar_base.specs.Points.{table}
 use Rattle.rstar_base.specs.Boxes.{between_corners}
 use Rattle.rstar_base.specs.Sums.{sum_below}
 use Rattle.rstar_base.specs.Distances.{near_face, far_face, far_sum, faces_at, least_below, box_min_max}
-use Rattle.rstar_base.specs.Leasts.{least-most, least-same}
+use Rattle.rstar_base.specs.laws.Leasts.{least-most, least-same}
 
 -- the best after n more axes, where `sum` is that of the farther faces of the axes before
 abbrev pub best_from : ℕ → ℕ → ℕ → (ℕ → ℕ) → (ℕ → ℕ) → ℕ

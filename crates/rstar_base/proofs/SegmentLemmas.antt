@@ -7,11 +7,11 @@ use Rattle.std.proofs.lemmas.Bool.Decides.{nat_tests}
 use Rattle.num_traits.specs.Laws.{between, Checks}
 use Rattle.rstar_base.specs.Scalars.{InRange}
 use Rattle.rstar_base.specs.Points.{all_below, table, IsPoint}
-use Rattle.rstar_base.specs.PointLemmas.{and_parts, and_both, and_left, and_right, table-get}
+use Rattle.rstar_base.specs.laws.PointLemmas.{and_parts, and_both, and_left, and_right, table-get}
 use Rattle.rstar_base.specs.Boxes.{in_range, box_of_corners, IsBox}
-use Rattle.rstar_base.specs.BoxLaws.{corners-same, corners-box}
+use Rattle.rstar_base.specs.laws.BoxLaws.{corners-same, corners-box}
 use Rattle.rstar_base.specs.Sums.{sum_below}
-use Rattle.rstar_base.specs.SegmentLaws.{step-between}
+use Rattle.rstar_base.specs.laws.SegmentLaws.{step-between}
 use Rattle.rstar_base.specs.Segments.{point_apart, dot, direction, along, length_squared, difference_fits, dot_fits, multiple_fits, interior, has_interior, nearer, nearest_of_segment, coordinate, segment_distance}
 
 -- ---- what fits

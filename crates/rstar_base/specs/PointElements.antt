@@ -5,8 +5,8 @@ use Rattle.rstar_base.specs.Boxes.{between_corners, box_contains_point, IsBox}
 use Rattle.rstar_base.specs.Distances.{box_distance}
 use Rattle.rstar_base.specs.BoxData.{box_data}
 use Rattle.rstar_base.specs.BoxElements.{box_objects, box_distances}
-use Rattle.rstar_base.specs.BoxElementLaws.{box_element_laws}
-use Rattle.rstar_base.specs.CarrierLaws.{carried_laws}
+use Rattle.rstar_base.specs.laws.BoxElementLaws.{box_element_laws}
+use Rattle.rstar_base.specs.laws.CarrierLaws.{carried_laws}
 use Rattle.rstar_base.specs.Elements.{Objects, Distances, DistanceLaws}
 
 abbrev pub point_object : {P : Type 0} → ℤ → ℤ → (n : ℕ) → (P → ℕ → ℤ) → Objects P (List (ℤ × ℤ))

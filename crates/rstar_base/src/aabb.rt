@@ -196,7 +196,7 @@ impl<P: Point> Model for AABB<P> {
     ghost use Rattle.std.specs.Prelude.{ℕ, ℤ, List, map, ◌≡◌};
     ghost use Rattle.std.proofs.Common.{refl};
     ghost use Rattle.rstar_base.specs.Points.{table};
-    ghost use Rattle.rstar_base.specs.PointLemmas.{table-firsts, table-seconds};
+    ghost use Rattle.rstar_base.specs.laws.PointLemmas.{table-firsts, table-seconds};
     ghost use Rattle.rstar_base.specs.Boxes.{between_corners, box_of_corners, is_upright, IsBox};
 
     ghost Value = { List (ℤ × ℤ) };
@@ -326,8 +326,8 @@ impl<P: Point> AABB<P> {
 
 impl<P: Point> Envelope for AABB<P> {
     ghost use Rattle.rstar_base.specs.BoxData.{box_data};
-    ghost use Rattle.rstar_base.specs.BoxEnvelopes.{box_laws};
-    ghost use Rattle.rstar_base.specs.BoxEq.{box_eq};
+    ghost use Rattle.rstar_base.specs.laws.BoxEnvelopes.{box_laws};
+    ghost use Rattle.rstar_base.specs.laws.BoxEq.{box_eq};
 
     type Point = P;
 

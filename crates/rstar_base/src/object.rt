@@ -7,7 +7,7 @@ ghost use Rattle.std.specs.List.{AllByRecursion};
 ghost use Rattle.rstar_base.specs.Boxes.{between_corners, IsBox};
 ghost use Rattle.rstar_base.specs.Points.{table, all_below, IsPoint};
 ghost use Rattle.rstar_base.specs.Elements.{Objects, Distances, ObjectLaws, DistanceLaws, IsDistanceUpTo, carried_objects, carried_distances};
-ghost use Rattle.rstar_base.specs.CarrierLaws.{carried_laws};
+ghost use Rattle.rstar_base.specs.laws.CarrierLaws.{carried_laws};
 ghost use Rattle.rstar_base.specs.Hulls.{hull};
 ghost use Rattle.rstar_base.specs.Orders.{IsSplitAt};
 

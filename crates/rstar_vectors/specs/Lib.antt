@@ -1,4 +1,3 @@
 pub mod Stretches
-pub mod StretchLaws
+pub mod laws
 pub mod Doors
-pub mod DoorsLaws

@@ -1,7 +1,7 @@
 //! An element type of a user's own: a place with two doors.
 
 ghost use Rattle.rstar_vectors.specs.Doors.{doors_objects, doors_distances};
-ghost use Rattle.rstar_vectors.specs.DoorsLaws.{doors_object_law, doors_laws};
+ghost use Rattle.rstar_vectors.specs.laws.DoorsLaws.{doors_object_law, doors_laws};
 
 use rstar_base::aabb::AABB;
 use rstar_base::envelope::Envelope;
@@ -33,7 +33,7 @@ impl<P: Point> RTreeObject for Doors<P> {
 impl<P: Point> PointDistance for Doors<P> {
     ghost distances = { doors_distances P.Scalar.high P.DIMENSIONS (λ d. P.coord d.front) (λ d. P.coord d.back) };
 
-    #[tactic(auto, using(crate::specs::DoorsLaws::lesser))]
+    #[tactic(auto, using(crate::specs::laws::DoorsLaws::lesser))]
     fn distance_2(&self, point: &P) -> P::Scalar {
         least(self.front.distance_2(point), self.back.distance_2(point))
     }

@@ -88,7 +88,7 @@ fn squared_nearer_end<S: RTreeNum>(from: S, to: S, at: S) -> S
 
 impl Envelope for Stretch {
     ghost use Rattle.rstar_vectors.specs.Stretches.{stretch_data};
-    ghost use Rattle.rstar_vectors.specs.StretchLaws.{stretch_laws, stretch_eq};
+    ghost use Rattle.rstar_vectors.specs.laws.StretchLaws.{stretch_laws, stretch_eq};
 
     type Point = [i64; 1];
 

@@ -2,7 +2,7 @@
 
 ghost use Rattle.std.specs.Prelude.{map, slice_set};
 ghost use Rattle.rstar_base.specs.Points.{list_coord};
-ghost use Rattle.rstar_base.specs.PointLemmas.{array-with, array-eq, array-long, array-forth};
+ghost use Rattle.rstar_base.specs.laws.PointLemmas.{array-with, array-eq, array-long, array-forth};
 
 use crate::places::place_in;
 use crate::point::{Point, RTreeNum};

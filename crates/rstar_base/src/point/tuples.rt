@@ -2,7 +2,7 @@
 
 ghost use Rattle.std.specs.Prelude.{[], ◌∷◌, pos, refl, slice_index_or};
 ghost use Rattle.rstar_base.specs.Points.{list_coord, after_write};
-ghost use Rattle.rstar_base.specs.TupleLemmas.{tuple-forth, tuple-with, tuple-eq};
+ghost use Rattle.rstar_base.specs.laws.TupleLemmas.{tuple-forth, tuple-with, tuple-eq};
 
 use crate::point::{Point, RTreeNum};
 

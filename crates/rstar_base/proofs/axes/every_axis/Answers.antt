@@ -1,5 +1,5 @@
 use Rattle.std.proofs.Common.{◌<◌, true, false, arith}
-use Rattle.rstar_base.specs.PointLemmas.{all_below-true, all_below-false}
+use Rattle.rstar_base.specs.laws.PointLemmas.{all_below-true, all_below-false}
 use Rattle.rstar_base.proofs.axes.every_axis.Goals as goal
 
 pub returns-then-not-test : goal.returns-then-not-test

@@ -1,6 +1,6 @@
 use Rattle.std.proofs.Common.{◌≡◌}
 use Rattle.rstar_base.specs.Scalars.{InRange}
-use Rattle.rstar_base.specs.PointLemmas.{callable, made_holds}
+use Rattle.rstar_base.specs.laws.PointLemmas.{callable, made_holds}
 use Rattle.rstar_base.proofs.axes.generated.Goals as goal
 
 pub generate-requires : goal.generate-requires

@@ -1,5 +1,5 @@
 use Rattle.std.proofs.Common.{◌≡◌, ◌<◌, ◌∙◌, sym, ap, arith, below_more, true, false}
-use Rattle.rstar_base.specs.PointLemmas.{all_below-true, all_below-false}
+use Rattle.rstar_base.specs.laws.PointLemmas.{all_below-true, all_below-false}
 use Rattle.rstar_base.specs.Segments.{dot}
 use Rattle.rstar_base.proofs.SegmentLemmas.{dot-next, fits-next}
 use Rattle.rstar_base.proofs.segments.checked_dot.Goals as goal

@@ -1,7 +1,7 @@
 use Rattle.std.specs.Prelude.{int_le}
 use Rattle.std.proofs.Common.{sym, ◌∙◌}
-use Rattle.rstar_base.specs.BoxLaws.{corners-same, corners-box}
-use Rattle.rstar_base.specs.RectangleLaws.{box_or_empty-upright}
+use Rattle.rstar_base.specs.laws.BoxLaws.{corners-same, corners-box}
+use Rattle.rstar_base.specs.laws.RectangleLaws.{box_or_empty-upright}
 use Rattle.rstar_base.proofs.Corners.{all_below-each, le_along}
 use Rattle.rstar_base.proofs.aabb.AABB.between.Goals as goal
 

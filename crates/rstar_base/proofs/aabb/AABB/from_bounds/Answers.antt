@@ -1,5 +1,5 @@
 use Rattle.std.specs.Prelude.{int_le}
-use Rattle.rstar_base.specs.BoxLaws.{corners-same, corners-box}
+use Rattle.rstar_base.specs.laws.BoxLaws.{corners-same, corners-box}
 use Rattle.rstar_base.proofs.Corners.{all_below-each, le_along}
 use Rattle.rstar_base.proofs.aabb.AABB.from_bounds.Goals as goal
 

@@ -1,4 +1,4 @@
-use Rattle.rstar_base.specs.BoxLaws.{corners-same, corners-box, min_max}
+use Rattle.rstar_base.specs.laws.BoxLaws.{corners-same, corners-box, min_max}
 use Rattle.rstar_base.proofs.aabb.AABB.from_corners.Goals as goal
 
 pub invariant_of-result : goal.invariant_of-result

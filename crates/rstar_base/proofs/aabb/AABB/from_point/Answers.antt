@@ -1,4 +1,4 @@
-use Rattle.rstar_base.specs.BoxLaws.{corners-same, corners-box, le_same}
+use Rattle.rstar_base.specs.laws.BoxLaws.{corners-same, corners-box, le_same}
 use Rattle.rstar_base.proofs.aabb.AABB.from_point.Goals as goal
 
 pub invariant_of-result : goal.invariant_of-result

@@ -3,8 +3,8 @@ use Rattle.std.specs.Borrow.{Bor}
 use Rattle.std.specs.Iterator.{EndsFrom}
 use Rattle.std.proofs.iter.Next as it
 use Rattle.rstar_base.specs.Boxes.{between_corners, merge_boxes, IsBox}
-use Rattle.rstar_base.specs.BoxLaws.{corners-same}
-use Rattle.rstar_base.specs.BoxEnvelopes.{box_laws}
+use Rattle.rstar_base.specs.laws.BoxLaws.{corners-same}
+use Rattle.rstar_base.specs.laws.BoxEnvelopes.{box_laws}
 use Rattle.rstar_base.proofs.Lists.{all-append}
 use Rattle.rstar_base.proofs.Hulls.{hull-push}
 use Rattle.rstar_base.proofs.aabb.AABB.from_points.Goals as goal

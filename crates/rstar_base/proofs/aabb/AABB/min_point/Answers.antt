@@ -1,5 +1,5 @@
 use Rattle.std.proofs.Common.{◌∙◌}
-use Rattle.rstar_base.specs.PointLemmas.{table-same}
+use Rattle.rstar_base.specs.laws.PointLemmas.{table-same}
 use Rattle.rstar_base.specs.Distances.{nearest_on_axis}
 use Rattle.rstar_base.proofs.Corners.{corners-nearest}
 use Rattle.rstar_base.proofs.aabb.AABB.min_point.Goals as goal

@@ -1,5 +1,5 @@
 use Rattle.std.proofs.Common.{sym, ap, ◌∙◌, List, ℤ, map}
-use Rattle.rstar_base.specs.PointLemmas.{table-seconds, table-same}
+use Rattle.rstar_base.specs.laws.PointLemmas.{table-seconds, table-same}
 use Rattle.rstar_base.proofs.aabb.AABB.upper.Goals as goal
 
 pub returns : goal.returns

@@ -1,6 +1,6 @@
 use Rattle.std.proofs.Common.{subst, sym, ◌∙◌, List, ℤ}
 use Rattle.rstar_base.specs.Boxes.{IsBox}
-use Rattle.rstar_base.specs.BoxLaws.{corners-same}
+use Rattle.rstar_base.specs.laws.BoxLaws.{corners-same}
 use Rattle.rstar_base.proofs.aabb.AABBClone.clone.Goals as goal
 
 pub invariant_of-result : goal.invariant_of-result

@@ -1,6 +1,6 @@
 use Rattle.std.proofs.Common.{◌∙◌, ◌+ℤ◌, pos, ap}
 use Rattle.std.specs.Prelude.{int_div}
-use Rattle.rstar_base.specs.PointLemmas.{table-same}
+use Rattle.rstar_base.specs.laws.PointLemmas.{table-same}
 use Rattle.rstar_base.specs.Measures.{box_center}
 use Rattle.rstar_base.proofs.Measures.{corners-center}
 use Rattle.rstar_base.proofs.aabb.AABBEnvelope.center.Goals as goal

@@ -1,6 +1,6 @@
 use Rattle.std.proofs.Common.{subst, sym, ◌∙◌, List, ℤ}
 use Rattle.rstar_base.specs.Boxes.{IsBox}
-use Rattle.rstar_base.specs.BoxLaws.{corners-empty_box, empty-box, low_le_high}
+use Rattle.rstar_base.specs.laws.BoxLaws.{corners-empty_box, empty-box, low_le_high}
 use Rattle.rstar_base.proofs.aabb.AABBEnvelope.new_empty.Goals as goal
 
 pub invariant_of-result : goal.invariant_of-result

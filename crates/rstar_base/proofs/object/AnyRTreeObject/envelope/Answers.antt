@@ -1,6 +1,6 @@
 use Rattle.std.proofs.Common.{◌∙◌, ℕ, subst, ◌<◌, refl}
 use Rattle.rstar_base.specs.Scalars.{InRange}
-use Rattle.rstar_base.specs.BoxLaws.{corners-same, corners-box, le_same}
+use Rattle.rstar_base.specs.laws.BoxLaws.{corners-same, corners-box, le_same}
 use Rattle.rstar_base.proofs.object.AnyRTreeObject.envelope.Goals as goal
 
 pub returns-clause-value : goal.returns-clause-value

@@ -1,5 +1,5 @@
 use Rattle.std.proofs.Common.{◌∙◌, ap, pos}
-use Rattle.rstar_base.specs.KeptLaws.{kept_distance-own}
+use Rattle.rstar_base.specs.laws.KeptLaws.{kept_distance-own}
 use Rattle.rstar_base.proofs.primitives.CachedEnvelopePointDistance.distance_2.Goals as goal
 
 pub returns-clause-own : goal.returns-clause-own

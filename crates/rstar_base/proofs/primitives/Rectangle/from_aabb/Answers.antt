@@ -1,6 +1,6 @@
 use Rattle.std.proofs.Common.{subst, List, ℤ}
 use Rattle.rstar_base.specs.Boxes.{IsBox}
-use Rattle.rstar_base.specs.RectangleLaws.{box_or_empty-same}
+use Rattle.rstar_base.specs.laws.RectangleLaws.{box_or_empty-same}
 use Rattle.rstar_base.proofs.primitives.Rectangle.from_aabb.Goals as goal
 
 pub returns : goal.returns

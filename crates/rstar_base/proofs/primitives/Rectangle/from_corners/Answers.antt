@@ -1,6 +1,6 @@
 use Rattle.std.proofs.Common.{ap, ◌∙◌}
 use Rattle.rstar_base.specs.Boxes.{is_empty_box}
-use Rattle.rstar_base.specs.RectangleLaws.{hull-filled}
+use Rattle.rstar_base.specs.laws.RectangleLaws.{hull-filled}
 use Rattle.rstar_base.proofs.primitives.Rectangle.from_corners.Goals as goal
 
 pub returns-clause-filled : goal.returns-clause-filled

@@ -1,5 +1,5 @@
 use Rattle.std.proofs.Common.{rules}
-use Rattle.rstar_vectors.specs.StretchLaws.{merged_stretch}
+use Rattle.rstar_vectors.specs.laws.StretchLaws.{merged_stretch}
 use Rattle.rstar_vectors.proofs.interval.StretchEnvelope.merged.Goals as goal
 
 pub invariant_of-result : goal.invariant_of-result

@@ -5,7 +5,7 @@ use Rattle.std.proofs.Math.Bool.{and_assoc}
 use Rattle.std.specs.List.{All}
 use Rattle.rstar_base.specs.Scalars.{InRange}
 use Rattle.rstar_base.specs.Points.{table, list_coord, after_write, IsPoint}
-use Rattle.rstar_base.specs.PointLemmas.{and_parts, and_both}
+use Rattle.rstar_base.specs.laws.PointLemmas.{and_parts, and_both}
 
 -- what a write of s at place i leaves of a list whose first place is k
 abbrev pub all_after_write : {S : Type 0} → ℕ → S → ℕ → List S → List S

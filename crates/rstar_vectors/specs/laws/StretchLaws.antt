@@ -10,7 +10,7 @@ use Rattle.std.proofs.Common.{ap, subst, arith, ◌∙◌}
 use Rattle.std.proofs.lemmas.Int.{ints, clamps, by_lt_z}
 use Rattle.rstar_base.specs.Scalars.{InRange}
 use Rattle.rstar_base.specs.Points.{IsPoint}
-use Rattle.rstar_base.specs.PointLemmas.{and_parts, and_both}
+use Rattle.rstar_base.specs.laws.PointLemmas.{and_parts, and_both}
 use Rattle.rstar_base.specs.Envelopes.{EnvelopeLaws}
 use Rattle.rstar_vectors.specs.Stretches.{low, high, greatest_number, length_between, gap_between, nearer_end, held_square, empty_stretch, IsStretch, merge_stretches, number_of, stretch_data}
 

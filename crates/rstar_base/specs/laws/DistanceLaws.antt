@@ -3,10 +3,10 @@ use Rattle.std.specs.Prelude.{◌≡◌, ◌*◌, ◌≤◌, ◌≤ℤ◌, ◌-�
 use Rattle.std.specs.Int.{int_min, int_max}
 use Rattle.std.proofs.Common.{refl, arith, sym, ◌∙◌}
 use Rattle.std.proofs.lemmas.Int.{ints, by_lt_z}
-use Rattle.rstar_base.specs.PointLemmas.{and_parts}
+use Rattle.rstar_base.specs.laws.PointLemmas.{and_parts}
 use Rattle.rstar_base.specs.Boxes.{merge_axis, merge_boxes, is_empty_box, contains_box}
-use Rattle.rstar_base.specs.BoxLaws.{or_parts, merge-long}
-use Rattle.rstar_base.specs.Leasts.{least-same, least-lesser}
+use Rattle.rstar_base.specs.laws.BoxLaws.{or_parts, merge-long}
+use Rattle.rstar_base.specs.laws.Leasts.{least-same, least-lesser}
 use Rattle.rstar_base.specs.Distances.{square_apart, distance_sum, box_distance, near_face, far_face, far_sum, faces_at, box_min_max}
 
 pub square_up : (m n : ℕ) → m ≤ n → m * m ≤ n * n

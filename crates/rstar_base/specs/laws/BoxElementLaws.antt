@@ -5,10 +5,10 @@ use Rattle.std.proofs.Common.{arith}
 use Rattle.std.proofs.lemmas.Int.{ints}
 use Rattle.rstar_base.specs.Points.{IsPoint}
 use Rattle.rstar_base.specs.Boxes.{is_empty_box}
-use Rattle.rstar_base.specs.BoxLaws.{or_parts}
+use Rattle.rstar_base.specs.laws.BoxLaws.{or_parts}
 use Rattle.rstar_base.specs.Distances.{square_apart, nearest_on_axis, distance_sum, near_face, far_sum, faces_at, box_distance, box_min_max}
-use Rattle.rstar_base.specs.DistanceLaws.{square_up}
-use Rattle.rstar_base.specs.Leasts.{least-above}
+use Rattle.rstar_base.specs.laws.DistanceLaws.{square_up}
+use Rattle.rstar_base.specs.laws.Leasts.{least-above}
 use Rattle.rstar_base.specs.BoxData.{box_data}
 use Rattle.rstar_base.specs.Elements.{DistanceLaws}
 use Rattle.rstar_base.specs.BoxElements.{box_objects, box_distances}

@@ -5,10 +5,10 @@ use Rattle.std.proofs.Common.{refl, arith, subst}
 use Rattle.std.proofs.lemmas.Int.{ints, clamps}
 use Rattle.rstar_base.specs.Points.{IsPoint}
 use Rattle.rstar_base.specs.Boxes.{is_empty_box, box_contains_point}
-use Rattle.rstar_base.specs.BoxLaws.{corners-upright, merge-box, merge-comm}
+use Rattle.rstar_base.specs.laws.BoxLaws.{corners-upright, merge-box, merge-comm}
 use Rattle.rstar_base.specs.Distances.{box_distance}
 use Rattle.rstar_base.specs.BoxData.{box_data}
-use Rattle.rstar_base.specs.BoxEnvelopes.{box_laws}
+use Rattle.rstar_base.specs.laws.BoxEnvelopes.{box_laws}
 use Rattle.rstar_base.specs.Elements.{ObjectLaws, DistanceLaws}
 use Rattle.rstar_base.specs.PointElements.{point_distance_laws}
 use Rattle.rstar_vectors.specs.Doors.{corner, doors_objects, doors_distances}

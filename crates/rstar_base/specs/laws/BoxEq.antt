@@ -5,7 +5,7 @@ use Rattle.std.proofs.Common.{refl, ap, arith, sym, ◌∙◌}
 use Rattle.std.proofs.lemmas.Int.{ints}
 use Rattle.std.proofs.lemmas.List.{length-map}
 use Rattle.rstar_base.specs.Points.{table, IsPoint}
-use Rattle.rstar_base.specs.PointLemmas.{and_parts, and_both}
+use Rattle.rstar_base.specs.laws.PointLemmas.{and_parts, and_both}
 use Rattle.rstar_base.specs.Scalars.{InRange}
 use Rattle.rstar_base.specs.Boxes.{in_range, all_in_range, IsBox}
 

@@ -1,7 +1,7 @@
 -- An element beside an envelope that is kept for it keeps the laws of elements.
 use Rattle.std.specs.Prelude.{◌≡◌, ◌≤◌, ℕ, ℤ, Bool, true, false, List, min, max, if◌then◌else◌}
 use Rattle.std.proofs.Common.{refl, arith}
-use Rattle.rstar_base.specs.PointLemmas.{and_parts}
+use Rattle.rstar_base.specs.laws.PointLemmas.{and_parts}
 use Rattle.rstar_base.specs.Envelopes.{Boxes}
 use Rattle.rstar_base.specs.Elements.{Objects, Distances, DistanceLaws}
 use Rattle.rstar_base.specs.KeptEnvelopes.{kept_distance, kept_objects, kept_distances}

@@ -5,7 +5,7 @@ use Rattle.std.specs.Prelude.{◌<◌, ◌<ℤ◌}
 use Rattle.std.proofs.Common.{refl, ap, arith, sym, ◌∙◌}
 use Rattle.std.proofs.lemmas.Int.{ints, clamps}
 use Rattle.rstar_base.specs.Points.{table, all_below}
-use Rattle.rstar_base.specs.PointLemmas.{and_parts, and_both}
+use Rattle.rstar_base.specs.laws.PointLemmas.{and_parts, and_both}
 use Rattle.rstar_base.specs.Scalars.{InRange}
 use Rattle.rstar_base.specs.Boxes.{between_corners, merge_boxes, is_empty_box, contains_box, box_contains_point, boxes_intersect, empty_box, in_range, all_in_range, IsBox}
 

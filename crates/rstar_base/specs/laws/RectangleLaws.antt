@@ -4,11 +4,11 @@ use Rattle.std.specs.Int.{int_min, int_max}
 use Rattle.std.proofs.Common.{refl, ap, arith, sym, ◌∙◌}
 use Rattle.rstar_base.specs.Points.{IsPoint, table}
 use Rattle.rstar_base.specs.Boxes.{between_corners, box_of_corners, is_upright, is_empty_box, empty_box, IsBox}
-use Rattle.rstar_base.specs.BoxLaws.{corners-empty, corners-upright, min_max, differ}
+use Rattle.rstar_base.specs.laws.BoxLaws.{corners-empty, corners-upright, min_max, differ}
 use Rattle.rstar_base.specs.BoxData.{box_data}
 use Rattle.rstar_base.specs.BoxElements.{box_objects, box_distances}
-use Rattle.rstar_base.specs.BoxElementLaws.{box_element_laws}
-use Rattle.rstar_base.specs.CarrierLaws.{carried_laws}
+use Rattle.rstar_base.specs.laws.BoxElementLaws.{box_element_laws}
+use Rattle.rstar_base.specs.laws.CarrierLaws.{carried_laws}
 use Rattle.rstar_base.specs.Elements.{DistanceLaws}
 use Rattle.rstar_base.specs.Rectangles.{box_or_empty, rectangle_objects, rectangle_distances}
 

@@ -6,13 +6,13 @@ use Rattle.std.proofs.lemmas.Int.{ints, clamps}
 use Rattle.std.proofs.lemmas.Bool.Decides.{nat_tests}
 use Rattle.std.proofs.Math.Nat.{div-le_of_le-mul, mul-le-mul_left, zero-div}
 use Rattle.rstar_base.specs.Points.{IsPoint}
-use Rattle.rstar_base.specs.PointLemmas.{and_parts, and_both}
+use Rattle.rstar_base.specs.laws.PointLemmas.{and_parts, and_both}
 use Rattle.rstar_base.specs.Boxes.{between_corners, box_of_corners, box_contains_point, is_empty_box}
-use Rattle.rstar_base.specs.BoxLaws.{or_parts, or_both}
+use Rattle.rstar_base.specs.laws.BoxLaws.{or_parts, or_both}
 use Rattle.rstar_base.specs.Sums.{sum_below}
 use Rattle.rstar_base.specs.Distances.{square_apart, nearest_on_axis, distance_sum, near_face, far_face, far_sum, faces_at, box_distance, box_min_max}
-use Rattle.rstar_base.specs.DistanceLaws.{square_up}
-use Rattle.rstar_base.specs.Leasts.{least-above}
+use Rattle.rstar_base.specs.laws.DistanceLaws.{square_up}
+use Rattle.rstar_base.specs.laws.Leasts.{least-above}
 use Rattle.rstar_base.specs.BoxData.{box_data}
 use Rattle.rstar_base.specs.Elements.{DistanceLaws}
 use Rattle.rstar_base.specs.Segments.{coordinate, point_apart, along, length_squared, interior, has_interior, nearer, nearest_of_segment, segment_distance, segment_objects, segment_distances}

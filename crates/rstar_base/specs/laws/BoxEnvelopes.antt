@@ -2,8 +2,8 @@
 use Rattle.std.specs.Prelude.{◌<ℤ◌, ℕ, ℤ, pos}
 use Rattle.rstar_base.specs.Points.{IsPoint}
 use Rattle.rstar_base.specs.Boxes.{merge_boxes}
-use Rattle.rstar_base.specs.BoxLaws.{merge-comm, merge-assoc, merge-unit, merge-empty-left, merge-empty-right, merge-box, empty-box, merge-contains, contains-refl, contains-trans, contains-point, contains-intersects, intersects-sym, intersects-self, low_le_high, long_same}
-use Rattle.rstar_base.specs.DistanceLaws.{box_distance-up, box_min_max-merge}
+use Rattle.rstar_base.specs.laws.BoxLaws.{merge-comm, merge-assoc, merge-unit, merge-empty-left, merge-empty-right, merge-box, empty-box, merge-contains, contains-refl, contains-trans, contains-point, contains-intersects, intersects-sym, intersects-self, low_le_high, long_same}
+use Rattle.rstar_base.specs.laws.DistanceLaws.{box_distance-up, box_min_max-merge}
 use Rattle.rstar_base.specs.BoxData.{box_data}
 use Rattle.rstar_base.specs.Envelopes.{EnvelopeLaws}
 

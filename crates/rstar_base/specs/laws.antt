@@ -1,0 +1,13 @@
+-- Laws of the definitions: lemmas that `impl`s cite, and so cannot stand in proofs/.
+pub mod PointLemmas
+pub mod TupleLemmas
+pub mod BoxLaws
+pub mod BoxEq
+pub mod Leasts
+pub mod DistanceLaws
+pub mod BoxEnvelopes
+pub mod CarrierLaws
+pub mod BoxElementLaws
+pub mod RectangleLaws
+pub mod SegmentLaws
+pub mod KeptLaws
