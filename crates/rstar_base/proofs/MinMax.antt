@@ -62,10 +62,6 @@ best_min_max high (suc n) l u p h =
     ∙ below_top top _ _ (least-most top (length b) (λ k. 0 + faces_at k b qs))
     ∙ least-same top (length b) (length b) (λ k. 0 + faces_at k b qs) (λ k. faces_at k b qs) refl (λ k. omega arith)
 
-pub no_axis : (high : ℤ) (n : ℕ) (l u p : ℕ → ℤ) → n ≡ 0 → box_min_max high (between_corners n l u) (table n p) ≡ 0
-no_axis high zero l u p h = refl
-no_axis high (suc n) l u p h = absurd (omega arith)
-
 pub above_zero : (n : ℕ) → (n ≡ 0 → ⊥) → 0 < n
 above_zero zero h = absurd (h refl)
 above_zero (suc n) h = omega arith

@@ -1,6 +1,6 @@
 -- What the functions on segments compute, over plain numbers.
 use Rattle.std.proofs.Common.{◌≡◌, ◌<ℤ◌, ◌≤ℤ◌, ◌+ℤ◌, ◌-ℤ◌, ◌*ℤ◌, ◌<◌, ◌+◌, ℤ, ℕ, suc, zero, pos, Bool, true, false, Option, Some, None, MatchOption, min, unsigned_abs, refl, ap, sym, ◌∙◌, arith, subst, add-one}
-use Rattle.std.specs.Prelude.{int_le, int_lt, int_div, nat_le, is_some, ◌&&◌, ◌↔◌, if◌then◌else◌, not}
+use Rattle.std.specs.Prelude.{int_le, int_lt, int_div, nat_le, is_some, ◌&&◌, ◌↔◌, if◌then◌else◌}
 use Rattle.std.specs.Int.{int_min, int_max}
 use Rattle.std.proofs.lemmas.Int.{ints}
 use Rattle.std.proofs.lemmas.Bool.Decides.{nat_tests}
@@ -283,6 +283,3 @@ corners_of-box low high n f g h k = corners-box low high n _ _
 
 pub still_ranged : (low high : ℤ) (n : ℕ) (f f' : ℕ → ℤ) → ((i : ℕ) → i < n → f' i ≡ f i) → ((i : ℕ) → i < n → InRange low high (f' i)) → (i : ℕ) → i < n → InRange low high (f i)
 still_ranged low high n f f' h k i l = subst (InRange low high) (h i l) (k i l)
-
-pub not_above-not : (x y : ℤ) (b : Bool) → b ≡ int_le x y → not b ≡ int_lt y x
-not_above-not x y b h = grind (arith, ints)

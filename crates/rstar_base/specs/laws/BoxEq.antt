@@ -9,46 +9,45 @@ use Rattle.rstar_base.specs.laws.PointLemmas.{and_parts, and_both}
 use Rattle.rstar_base.specs.Scalars.{InRange}
 use Rattle.rstar_base.specs.Boxes.{in_range, all_in_range, IsBox}
 
-lowers : List (ℤ × ℤ) → List ℤ
-lowers b = map (λ (x : ℤ × ℤ). x.0) b
+module _ (low high : ℤ) where
+  range_of : (z : ℤ) → in_range low high z ≡ true → InRange low high z
+  range_of z h =
+      let p = and_parts (int_le low z) (int_le z high) h in
+      let a : int_le low z ≡ true = p.0 in let b : int_le z high ≡ true = p.1 in
+      record { above = grind (arith, ints); below = grind (arith, ints) }
 
-range_of : (low high z : ℤ) → in_range low high z ≡ true → InRange low high z
-range_of low high z h =
-    let p = and_parts (int_le low z) (int_le z high) h in
-    let a : int_le low z ≡ true = p.0 in let b : int_le z high ≡ true = p.1 in
-    record { above = grind (arith, ints); below = grind (arith, ints) }
+  firsts-ranged : (b : List (ℤ × ℤ)) → all_in_range low high b ≡ true
+      → All (λ z. InRange low high z) (map (λ (x : ℤ × ℤ). x.0) b)
+  firsts-ranged [] h k d l = absurd (omega arith)
+  firsts-ranged (x ∷ xs) h zero d l =
+      range_of x.0
+      (and_parts (in_range low high x.0) (in_range low high x.1)
+      (and_parts (in_range low high x.0 && in_range low high x.1) (all_in_range low high xs) h).0).0
+  firsts-ranged (x ∷ xs) h (suc k) d l =
+      firsts-ranged xs
+      (and_parts (in_range low high x.0 && in_range low high x.1) (all_in_range low high xs) h).1 k d (omega arith)
 
-firsts-ranged : (low high : ℤ) (b : List (ℤ × ℤ)) → all_in_range low high b ≡ true
-    → All (λ z. InRange low high z) (map (λ (x : ℤ × ℤ). x.0) b)
-firsts-ranged low high [] h k d l = absurd (omega arith)
-firsts-ranged low high (x ∷ xs) h zero d l =
-    range_of low high x.0
-    (and_parts (in_range low high x.0) (in_range low high x.1)
-    (and_parts (in_range low high x.0 && in_range low high x.1) (all_in_range low high xs) h).0).0
-firsts-ranged low high (x ∷ xs) h (suc k) d l =
-    firsts-ranged low high xs
-    (and_parts (in_range low high x.0 && in_range low high x.1) (all_in_range low high xs) h).1 k d (omega arith)
+  seconds-ranged : (b : List (ℤ × ℤ)) → all_in_range low high b ≡ true
+      → All (λ z. InRange low high z) (map (λ (x : ℤ × ℤ). x.1) b)
+  seconds-ranged [] h k d l = absurd (omega arith)
+  seconds-ranged (x ∷ xs) h zero d l =
+      range_of x.1
+      (and_parts (in_range low high x.0) (in_range low high x.1)
+      (and_parts (in_range low high x.0 && in_range low high x.1) (all_in_range low high xs) h).0).1
+  seconds-ranged (x ∷ xs) h (suc k) d l =
+      seconds-ranged xs
+      (and_parts (in_range low high x.0 && in_range low high x.1) (all_in_range low high xs) h).1 k d (omega arith)
 
-seconds-ranged : (low high : ℤ) (b : List (ℤ × ℤ)) → all_in_range low high b ≡ true
-    → All (λ z. InRange low high z) (map (λ (x : ℤ × ℤ). x.1) b)
-seconds-ranged low high [] h k d l = absurd (omega arith)
-seconds-ranged low high (x ∷ xs) h zero d l =
-    range_of low high x.1
-    (and_parts (in_range low high x.0) (in_range low high x.1)
-    (and_parts (in_range low high x.0 && in_range low high x.1) (all_in_range low high xs) h).0).1
-seconds-ranged low high (x ∷ xs) h (suc k) d l =
-    seconds-ranged low high xs
-    (and_parts (in_range low high x.0 && in_range low high x.1) (all_in_range low high xs) h).1 k d (omega arith)
+module _ (low high : ℤ) (n : ℕ) where
+  firsts-point : (b : List (ℤ × ℤ)) → IsBox low high n b
+      → IsPoint low high n (map (λ (x : ℤ × ℤ). x.0) b)
+  firsts-point b h =
+      record { long = length-map b (λ (x : ℤ × ℤ). x.0) ∙ h.long; ranged = firsts-ranged low high b h.ranged }
 
-firsts-point : (low high : ℤ) (n : ℕ) (b : List (ℤ × ℤ)) → IsBox low high n b
-    → IsPoint low high n (map (λ (x : ℤ × ℤ). x.0) b)
-firsts-point low high n b h =
-    record { long = length-map b (λ (x : ℤ × ℤ). x.0) ∙ h.long; ranged = firsts-ranged low high b h.ranged }
-
-seconds-point : (low high : ℤ) (n : ℕ) (b : List (ℤ × ℤ)) → IsBox low high n b
-    → IsPoint low high n (map (λ (x : ℤ × ℤ). x.1) b)
-seconds-point low high n b h =
-    record { long = length-map b (λ (x : ℤ × ℤ). x.1) ∙ h.long; ranged = seconds-ranged low high b h.ranged }
+  seconds-point : (b : List (ℤ × ℤ)) → IsBox low high n b
+      → IsPoint low high n (map (λ (x : ℤ × ℤ). x.1) b)
+  seconds-point b h =
+      record { long = length-map b (λ (x : ℤ × ℤ). x.1) ∙ h.long; ranged = seconds-ranged low high b h.ranged }
 
 parts-same : (a b : List (ℤ × ℤ)) → map (λ (x : ℤ × ℤ). x.0) a ≡ map (λ (x : ℤ × ℤ). x.0) b
     → map (λ (x : ℤ × ℤ). x.1) a ≡ map (λ (x : ℤ × ℤ). x.1) b → a ≡ b

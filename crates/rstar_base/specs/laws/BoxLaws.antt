@@ -89,36 +89,37 @@ merge-long zero (x ∷ xs) (y ∷ ys) h k = absurd (omega arith)
 merge-long (suc n) (x ∷ xs) (y ∷ ys) h k =
     let ih : length (merge_boxes xs ys) ≡ n = merge-long n xs ys (omega arith) (omega arith) in omega arith
 
-range_min : (low high x y : ℤ) → in_range low high x ≡ true → in_range low high y ≡ true
-    → in_range low high (int_min x y) ≡ true
-range_min low high x y h k =
-    let p = and_parts (int_le low x) (int_le x high) h in let q = and_parts (int_le low y) (int_le y high) k in
-    and_both (int_le low (int_min x y)) (int_le (int_min x y) high)
-    (let a : int_le low x ≡ true = p.0 in let b : int_le low y ≡ true = q.0 in grind (arith, ints))
-    (le_trans _ x _ (min_le x y) p.1)
+module _ (low high : ℤ) where
+  range_min : (x y : ℤ) → in_range low high x ≡ true → in_range low high y ≡ true
+      → in_range low high (int_min x y) ≡ true
+  range_min x y h k =
+      let p = and_parts (int_le low x) (int_le x high) h in let q = and_parts (int_le low y) (int_le y high) k in
+      and_both (int_le low (int_min x y)) (int_le (int_min x y) high)
+      (let a : int_le low x ≡ true = p.0 in let b : int_le low y ≡ true = q.0 in grind (arith, ints))
+      (le_trans _ x _ (min_le x y) p.1)
 
-range_max : (low high x y : ℤ) → in_range low high x ≡ true → in_range low high y ≡ true
-    → in_range low high (int_max x y) ≡ true
-range_max low high x y h k =
-    let p = and_parts (int_le low x) (int_le x high) h in let q = and_parts (int_le low y) (int_le y high) k in
-    and_both (int_le low (int_max x y)) (int_le (int_max x y) high)
-    (le_trans _ x _ p.0 (le_max x y))
-    (let a : int_le x high ≡ true = p.1 in let b : int_le y high ≡ true = q.1 in grind (arith, ints))
+  range_max : (x y : ℤ) → in_range low high x ≡ true → in_range low high y ≡ true
+      → in_range low high (int_max x y) ≡ true
+  range_max x y h k =
+      let p = and_parts (int_le low x) (int_le x high) h in let q = and_parts (int_le low y) (int_le y high) k in
+      and_both (int_le low (int_max x y)) (int_le (int_max x y) high)
+      (le_trans _ x _ p.0 (le_max x y))
+      (let a : int_le x high ≡ true = p.1 in let b : int_le y high ≡ true = q.1 in grind (arith, ints))
 
-pub merge-ranged : (low high : ℤ) (a b : List (ℤ × ℤ)) → all_in_range low high a ≡ true → all_in_range low high b ≡ true
-    → all_in_range low high (merge_boxes a b) ≡ true
-merge-ranged low high [] b h k = refl
-merge-ranged low high (x ∷ xs) [] h k = refl
-merge-ranged low high (x ∷ xs) (y ∷ ys) h k =
-    let p = and_parts (in_range low high x.0 && in_range low high x.1) (all_in_range low high xs) h in
-    let q = and_parts (in_range low high y.0 && in_range low high y.1) (all_in_range low high ys) k in
-    let p' = and_parts (in_range low high x.0) (in_range low high x.1) p.0 in
-    let q' = and_parts (in_range low high y.0) (in_range low high y.1) q.0 in
-    and_both (in_range low high (int_min x.0 y.0) && in_range low high (int_max x.1 y.1))
-    (all_in_range low high (merge_boxes xs ys))
-    (and_both (in_range low high (int_min x.0 y.0)) (in_range low high (int_max x.1 y.1))
-    (range_min low high x.0 y.0 p'.0 q'.0) (range_max low high x.1 y.1 p'.1 q'.1))
-    (merge-ranged low high xs ys p.1 q.1)
+  pub merge-ranged : (a b : List (ℤ × ℤ)) → all_in_range low high a ≡ true → all_in_range low high b ≡ true
+      → all_in_range low high (merge_boxes a b) ≡ true
+  merge-ranged [] b h k = refl
+  merge-ranged (x ∷ xs) [] h k = refl
+  merge-ranged (x ∷ xs) (y ∷ ys) h k =
+      let p = and_parts (in_range low high x.0 && in_range low high x.1) (all_in_range low high xs) h in
+      let q = and_parts (in_range low high y.0 && in_range low high y.1) (all_in_range low high ys) k in
+      let p' = and_parts (in_range low high x.0) (in_range low high x.1) p.0 in
+      let q' = and_parts (in_range low high y.0) (in_range low high y.1) q.0 in
+      and_both (in_range low high (int_min x.0 y.0) && in_range low high (int_max x.1 y.1))
+      (all_in_range low high (merge_boxes xs ys))
+      (and_both (in_range low high (int_min x.0 y.0)) (in_range low high (int_max x.1 y.1))
+      (range_min x.0 y.0 p'.0 q'.0) (range_max x.1 y.1 p'.1 q'.1))
+      (merge-ranged xs ys p.1 q.1)
 
 pub merge-keeps : (a b : List (ℤ × ℤ)) → is_empty_box a ≡ false → is_empty_box (merge_boxes a b) ≡ false
 merge-keeps [] b h = refl
@@ -138,45 +139,46 @@ merge-empty-left a b h = not_false (is_empty_box a) (λ e. let k = merge-keeps a
 pub merge-empty-right : (a b : List (ℤ × ℤ)) → is_empty_box (merge_boxes a b) ≡ true → is_empty_box b ≡ true
 merge-empty-right a b h = merge-empty-left b a (sym (ap is_empty_box (merge-comm a b)) ∙ h)
 
-pub merge-unit : (low high : ℤ) (n : ℕ) (a : List (ℤ × ℤ)) → length a ≡ n → all_in_range low high a ≡ true
-    → merge_boxes (empty_box low high n) a ≡ a
-merge-unit low high zero [] h k = refl
-merge-unit low high zero (x ∷ xs) h k = absurd (omega arith)
-merge-unit low high (suc n) [] h k = absurd (omega arith)
-merge-unit low high (suc n) (x ∷ xs) h k =
-    let p = and_parts (in_range low high x.0 && in_range low high x.1) (all_in_range low high xs) k in
-    let p' = and_parts (in_range low high x.0) (in_range low high x.1) p.0 in
-    let s : int_min high x.0 ≡ x.0 = min_of_le high x.0 (and_parts (int_le low x.0) (int_le x.0 high) p'.0).1 in
-    let t : int_max low x.1 ≡ x.1 = max_of_le low x.1 (and_parts (int_le low x.1) (int_le x.1 high) p'.1).0 in
-    let ih : merge_boxes (empty_box low high n) xs ≡ xs =
-    merge-unit low high n xs (omega arith) p.1 in rw (s, t, ih) refl
+module _ (low high : ℤ) where
+  pub merge-unit : (n : ℕ) (a : List (ℤ × ℤ)) → length a ≡ n → all_in_range low high a ≡ true
+      → merge_boxes (empty_box low high n) a ≡ a
+  merge-unit zero [] h k = refl
+  merge-unit zero (x ∷ xs) h k = absurd (omega arith)
+  merge-unit (suc n) [] h k = absurd (omega arith)
+  merge-unit (suc n) (x ∷ xs) h k =
+      let p = and_parts (in_range low high x.0 && in_range low high x.1) (all_in_range low high xs) k in
+      let p' = and_parts (in_range low high x.0) (in_range low high x.1) p.0 in
+      let s : int_min high x.0 ≡ x.0 = min_of_le high x.0 (and_parts (int_le low x.0) (int_le x.0 high) p'.0).1 in
+      let t : int_max low x.1 ≡ x.1 = max_of_le low x.1 (and_parts (int_le low x.1) (int_le x.1 high) p'.1).0 in
+      let ih : merge_boxes (empty_box low high n) xs ≡ xs =
+      merge-unit n xs (omega arith) p.1 in rw (s, t, ih) refl
 
-pub merge-box : (low high : ℤ) (n : ℕ) (a b : List (ℤ × ℤ)) → IsBox low high n a → IsBox low high n b
-    → IsBox low high n (merge_boxes a b)
-merge-box low high n a b h k = record {
-  long = merge-long n a b h.long k.long;
-  ranged = merge-ranged low high a b h.ranged k.ranged;
-  shape = λ e.
-      let p : a ≡ empty_box low high n = h.shape (merge-empty-left a b e) in
-      let q : b ≡ empty_box low high n = k.shape (merge-empty-right a b e) in
-      ap (λ (w : List (ℤ × ℤ)). merge_boxes w b) p ∙ merge-unit low high n b k.long k.ranged ∙ q;
-}
+  pub merge-box : (n : ℕ) (a b : List (ℤ × ℤ)) → IsBox low high n a → IsBox low high n b
+      → IsBox low high n (merge_boxes a b)
+  merge-box n a b h k = record {
+    long = merge-long n a b h.long k.long;
+    ranged = merge-ranged low high a b h.ranged k.ranged;
+    shape = λ e.
+        let p : a ≡ empty_box low high n = h.shape (merge-empty-left a b e) in
+        let q : b ≡ empty_box low high n = k.shape (merge-empty-right a b e) in
+        ap (λ (w : List (ℤ × ℤ)). merge_boxes w b) p ∙ merge-unit n b k.long k.ranged ∙ q;
+  }
 
-pub empty-long : (low high : ℤ) (n : ℕ) → length (empty_box low high n) ≡ n
-empty-long low high zero = refl
-empty-long low high (suc n) = let ih = empty-long low high n in omega arith
+  pub empty-long : (n : ℕ) → length (empty_box low high n) ≡ n
+  empty-long zero = refl
+  empty-long (suc n) = let ih = empty-long n in omega arith
 
-pub empty-ranged : (low high : ℤ) (n : ℕ) → int_le low high ≡ true → all_in_range low high (empty_box low high n) ≡ true
-empty-ranged low high zero h = refl
-empty-ranged low high (suc n) h =
-    and_both (in_range low high high && in_range low high low) (all_in_range low high (empty_box low high n))
-    (and_both (in_range low high high) (in_range low high low)
-    (and_both (int_le low high) (int_le high high) h (le_refl high))
-    (and_both (int_le low low) (int_le low high) (le_refl low) h))
-    (empty-ranged low high n h)
+  pub empty-ranged : (n : ℕ) → int_le low high ≡ true → all_in_range low high (empty_box low high n) ≡ true
+  empty-ranged zero h = refl
+  empty-ranged (suc n) h =
+      and_both (in_range low high high && in_range low high low) (all_in_range low high (empty_box low high n))
+      (and_both (in_range low high high) (in_range low high low)
+      (and_both (int_le low high) (int_le high high) h (le_refl high))
+      (and_both (int_le low low) (int_le low high) (le_refl low) h))
+      (empty-ranged n h)
 
-pub empty-box : (low high : ℤ) (n : ℕ) → int_le low high ≡ true → IsBox low high n (empty_box low high n)
-empty-box low high n h = record { long = empty-long low high n; ranged = empty-ranged low high n h; shape = λ _. refl }
+  pub empty-box : (n : ℕ) → int_le low high ≡ true → IsBox low high n (empty_box low high n)
+  empty-box n h = record { long = empty-long n; ranged = empty-ranged n h; shape = λ _. refl }
 
 pub contains-refl : (a : List (ℤ × ℤ)) → contains_box a a ≡ true
 contains-refl [] = refl

@@ -45,22 +45,23 @@ branch : {A : Type 0} (c : Bool) (a b : A) (d : A) → (c ≡ true → a ≡ d) 
 branch true a b d h k = h refl
 branch false a b d h k = k refl
 
-pub box_or_empty-upright : (low high : ℤ) (n : ℕ) (l u : ℕ → ℤ) → is_upright n l u ≡ true
-    → box_or_empty low high n l u ≡ between_corners n l u
-box_or_empty-upright low high n l u h =
-    branch (is_upright n l u) (between_corners n l u) (empty_box low high n) (between_corners n l u)
-    (λ _. refl)
-    (λ e. absurd (differ (is_upright n l u) h e))
+module _ (low high : ℤ) (n : ℕ) (l u : ℕ → ℤ) where
+  pub box_or_empty-upright : is_upright n l u ≡ true
+      → box_or_empty low high n l u ≡ between_corners n l u
+  box_or_empty-upright h =
+      branch (is_upright n l u) (between_corners n l u) (empty_box low high n) (between_corners n l u)
+      (λ _. refl)
+      (λ e. absurd (differ (is_upright n l u) h e))
 
--- the rectangle with the corners of a box has that box
-pub box_or_empty-same : (low high : ℤ) (n : ℕ) (l u : ℕ → ℤ) (b : List (ℤ × ℤ)) → IsBox low high n b
-    → table n l ≡ map (λ (x : ℤ × ℤ). x.0) b → table n u ≡ map (λ (x : ℤ × ℤ). x.1) b
-    → box_or_empty low high n l u ≡ b
-box_or_empty-same low high n l u b h k m =
-    let same = corners-of n l u b h.long k m in
-    branch (is_upright n l u) (between_corners n l u) (empty_box low high n) b
-    (λ _. same)
-    (λ e. sym (h.shape (sym (ap is_empty_box same) ∙ sym (corners-empty n l u) ∙ ap not e)))
+  -- the rectangle with the corners of a box has that box
+  pub box_or_empty-same : (b : List (ℤ × ℤ)) → IsBox low high n b
+      → table n l ≡ map (λ (x : ℤ × ℤ). x.0) b → table n u ≡ map (λ (x : ℤ × ℤ). x.1) b
+      → box_or_empty low high n l u ≡ b
+  box_or_empty-same b h k m =
+      let same = corners-of n l u b h.long k m in
+      branch (is_upright n l u) (between_corners n l u) (empty_box low high n) b
+      (λ _. same)
+      (λ e. sym (h.shape (sym (ap is_empty_box same) ∙ sym (corners-empty n l u) ∙ ap not e)))
 
 -- the box of two points is not empty
 pub hull-filled : (n : ℕ) (p q : ℕ → ℤ) → is_empty_box (box_of_corners n p q) ≡ false

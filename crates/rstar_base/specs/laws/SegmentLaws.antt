@@ -8,11 +8,12 @@ use Rattle.std.proofs.Math.Nat.{div-le_of_le-mul, mul-le-mul_left, zero-div}
 use Rattle.rstar_base.specs.Points.{IsPoint}
 use Rattle.rstar_base.specs.laws.PointLemmas.{and_parts, and_both}
 use Rattle.rstar_base.specs.Boxes.{between_corners, box_of_corners, box_contains_point, is_empty_box}
-use Rattle.rstar_base.specs.laws.BoxLaws.{or_parts, or_both}
+use Rattle.rstar_base.specs.laws.BoxLaws.{or_parts}
 use Rattle.rstar_base.specs.Sums.{sum_below}
 use Rattle.rstar_base.specs.Distances.{square_apart, nearest_on_axis, distance_sum, near_face, far_face, far_sum, faces_at, box_distance, box_min_max}
 use Rattle.rstar_base.specs.laws.DistanceLaws.{square_up}
 use Rattle.rstar_base.specs.laws.Leasts.{least-above}
+use Rattle.rstar_base.specs.laws.RectangleLaws.{hull-filled}
 use Rattle.rstar_base.specs.BoxData.{box_data}
 use Rattle.rstar_base.specs.Elements.{DistanceLaws}
 use Rattle.rstar_base.specs.Segments.{coordinate, point_apart, along, length_squared, interior, has_interior, nearer, nearest_of_segment, segment_distance, segment_objects, segment_distances}
@@ -137,28 +138,29 @@ ends-between : (high : ℤ) (n : ℕ) (f g q : ℕ → ℤ)
     → AreBetween n (λ i. int_min (f i) (g i)) (λ i. int_max (f i) (g i)) (nearer high n q f g)
 ends-between high n f g q = nearer-between high n _ _ q f g (from-between n f g) (to-between n f g)
 
-nearest-between : (low high : ℤ) (n : ℕ) (f g q : ℕ → ℤ)
-    → AreBetween n (λ i. int_min (f i) (g i)) (λ i. int_max (f i) (g i)) (nearest_of_segment low high n f g q)
-unfolding AreBetween nearest_of_segment
-nearest-between low high n f g q i s =
-    by (has_interior low high n f g q) (λ e. let p = interior-after low high n f g q e in
-    nearer-between high n _ _ q _ _ (ends-between high n f g q) (interior-between n f g q p.0 p.1) i s)
-  where
-    by : (t : Bool)
-        → (t ≡ true → (int_min (f i) (g i) ≤ℤ nearer high n q (nearer high n q f g) (interior n f g q) i)
-        × (nearer high n q (nearer high n q f g) (interior n f g q) i ≤ℤ int_max (f i) (g i)))
-        → (int_min (f i) (g i) ≤ℤ
-        (if t then nearer high n q (nearer high n q f g) (interior n f g q) i else nearer high n q f g i))
-        × ((if t then nearer high n q (nearer high n q f g) (interior n f g q) i else nearer high n q f g i) ≤ℤ
-        int_max (f i) (g i))
-    by true h = h refl
-    by false h = ends-between high n f g q i s
+module _ (low high : ℤ) (n : ℕ) (f g : ℕ → ℤ) where
+  nearest-between : (q : ℕ → ℤ)
+      → AreBetween n (λ i. int_min (f i) (g i)) (λ i. int_max (f i) (g i)) (nearest_of_segment low high n f g q)
+  unfolding AreBetween nearest_of_segment
+  nearest-between q i s =
+      by (has_interior low high n f g q) (λ e. let p = interior-after low high n f g q e in
+      nearer-between high n _ _ q _ _ (ends-between high n f g q) (interior-between n f g q p.0 p.1) i s)
+    where
+      by : (t : Bool)
+          → (t ≡ true → (int_min (f i) (g i) ≤ℤ nearer high n q (nearer high n q f g) (interior n f g q) i)
+          × (nearer high n q (nearer high n q f g) (interior n f g q) i ≤ℤ int_max (f i) (g i)))
+          → (int_min (f i) (g i) ≤ℤ
+          (if t then nearer high n q (nearer high n q f g) (interior n f g q) i else nearer high n q f g i))
+          × ((if t then nearer high n q (nearer high n q f g) (interior n f g q) i else nearer high n q f g i) ≤ℤ
+          int_max (f i) (g i))
+      by true h = h refl
+      by false h = ends-between high n f g q i s
 
-pub segment-near : (low high : ℤ) (n : ℕ) (f g : ℕ → ℤ) (p : List ℤ)
-    → box_distance high (box_of_corners n f g) p ≤ segment_distance low high n f g p
-segment-near low high n f g p =
-    let h = box-nearer n (λ i. int_min (f i) (g i)) (λ i. int_max (f i) (g i)) _ p
-    (nearest-between low high n f g (coordinate p)) in omega (arith, h)
+  pub segment-near : (p : List ℤ)
+      → box_distance high (box_of_corners n f g) p ≤ segment_distance low high n f g p
+  segment-near p =
+      let h = box-nearer n (λ i. int_min (f i) (g i)) (λ i. int_max (f i) (g i)) _ p
+      (nearest-between (coordinate p)) in omega (arith, h)
 
 -- ---- the nearest point is no farther than either end
 
@@ -275,18 +277,13 @@ contains-at_zero (x ∷ xs) (q ∷ qs) l h k =
     let s : square_apart q (nearest_on_axis x q) ≡ 0 = omega arith in
     and_both _ _ (at-none x q e.0 (no-square _ s)) (contains-at_zero xs qs (omega arith) e.1 (omega arith))
 
-table_corners-upright : (n : ℕ) (f g : ℕ → ℤ) → is_empty_box (box_of_corners n f g) ≡ false
-table_corners-upright zero f g = refl
-table_corners-upright (suc n) f g =
-    or_both _ _ (grind (arith, ints)) (table_corners-upright n (λ i. f (suc i)) (λ i. g (suc i)))
-
 segment-contained : (low high : ℤ) (n : ℕ) (f g : ℕ → ℤ) (p : List ℤ) → pos 0 <ℤ high
     → length p ≡ length (box_of_corners n f g) → int_le (pos (segment_distance low high n f g p)) (pos 0) ≡ true
     → box_contains_point (box_of_corners n f g) p ≡ true
 segment-contained low high n f g p hh l h =
     let d = segment-near low high n f g p in
     let z = none-left (segment_distance low high n f g p) h in
-    contains-at_zero _ p l (table_corners-upright n f g) (omega (arith, ints, d, z))
+    contains-at_zero _ p l (hull-filled n f g) (omega (arith, ints, d, z))
   where
     none-left : (m : ℕ) → int_le (pos m) (pos 0) ≡ true → m ≡ 0
     none-left m h = grind (arith, ints)
