@@ -50,31 +50,30 @@ apply() {
   done <"$1"
 }
 
-# Says what the check whose output is $2 and whose status is $1 makes of an edit: a word, and the first error.
+# Says what the check whose output is $2 and whose status is $1 makes of an edit: a word, and why.
 verdict() {
-  local status=$1 said=$2 errors unread names
-  # What the prover cannot read, in place of a goal that it cannot prove.
-  unread='is not in scope|has no field|is no name|operand is missing|expected the end|cannot continue'
-  # What a proof file says of a name that the edit took away.
+  local status=$1 said=$2 told errors names unread
+  # What a proof file says of a name that the edit took away, and what is said of a text that does not read.
   names='^(\./)?proofs/.*(has no field|is not in scope|has no `|was not admitted)'
-  errors=$(grep -E '^\S+:[0-9]+:[0-9]+: error' "$said" || true)
+  unread='is not in scope|has no field|is no name|operand is missing|expected the end|cannot continue'
+  told=$(grep -E '^(note: )?\S+:[0-9]+:[0-9]+:' "$said" | grep -E ': error|^note: ' || true)
+  errors=$(grep -E '^(\./)?(src|specs)/\S+ error: ' <<<"$told" || true)
   if ((status == 0)); then
     echo "NOT REFUSED"
   elif ! grep -q '^logic=not-proved' "$said"; then
     echo "NOT TRIED: $(grep -m 1 error "$said" || tail -1 "$said")"
-  elif grep -E '^(\./)?(src|specs)/' <<<"$errors" | grep -qvE '^\S+ error: `' ||
-    grep -E '^(\./)?(src|specs)/' <<<"$errors" | sed 's/`[^`]*`//g' | grep -qE "$unread"; then
-    echo "NOT TRIED: it does not read: $(grep -m 1 -E '^(\./)?(src|specs)/' <<<"$errors")"
-  elif [[ $errors ]] && ! grep -qvE "$names" <<<"$errors"; then
-    echo "BY NAMES ALONE: $(head -1 <<<"$errors")"
+  elif [[ $errors ]] && { grep -qvE '^\S+ error: `' <<<"$errors" || sed 's/`[^`]*`//g' <<<"$errors" | grep -qE "$unread"; }; then
+    echo "NOT TRIED: it does not read: $(head -1 <<<"$errors")"
+  elif [[ $told ]] && ! grep -qvE "$names" <<<"$told"; then
+    echo "BY NAMES ALONE: $(head -1 <<<"$told")"
   else
-    echo "refused: $(grep -vE "$names" <<<"$errors" | head -1)"
+    echo "refused: $(grep -m 1 -vE "$names" <<<"$told")"
   fi
 }
 
 # Tries edits of the crate $1 in the copy $2 until none is left in the list.
 work() {
-  local name=$1 copy=$2 edit said status
+  local name=$1 copy=$2 edit said status why
   while edit=$(flock "$room/list" bash -c 'head -1 "$0"; sed -i 1d "$0"' "$room/list.$name") && [[ $edit ]]; do
     said=$copy/said status=0
     rm -rf "$copy/crates/$name/src"
