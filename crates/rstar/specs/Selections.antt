@@ -1,4 +1,6 @@
 -- What a selection gives, and what it counts.
+-- what makes a selection function lawful
+pub use Rattle.rstar_base.specs.Selections.{IsLawful}
 use Rattle.std.specs.Prelude.{◌≡◌, ◌≢◌, ℕ, zero, suc, ◌+◌, ◌≤◌, min, Bool, List, [], ◌∷◌, ◌++◌, map, if◌then◌else◌, ⊤, ◌⊎◌, Option, IfNone, vec_capacity}
 use Rattle.std.specs.List.{AllByRecursion, flat_map}
 use Rattle.std.specs.Borrow.{Bor}

@@ -9,10 +9,8 @@ use rstar_base::aabb::AABB;
 use rstar_base::envelope::Envelope;
 use rstar_base::object::RTreeObject;
 use rstar_base::point::Point;
-use rstar_base::primitives::{GeomWithData, Rectangle};
+use rstar_base::primitives::Rectangle;
 use std::alloc::{AllocError, Global};
-
-type Payloads = GeomWithData<Rectangle<[i64; 2]>, u64>;
 
 /// An element type of one's own.
 #[derive(Drop)]
@@ -102,27 +100,7 @@ fn first_inside<T: RTreeObject>(
     Ok(tree.locate_in_envelope(envelope)?.next())
 }
 
-/// The payloads of the rectangles inside an envelope, by a `for` at these very types.
-fn sum_of_payloads(tree: &RTree<Payloads>) -> Result<u64, AllocError>
-    requires { IsWholeTree ⟦<AABB<[i64; 2]> as Envelope>⟧.boxes ⟦<Payloads as RTreeObject>⟧.object ⟦<DefaultParams as RTreeParams>⟧.MAX_SIZE tree.now }
-{
-    let mut sum = 0u64;
-    for item in tree.locate_in_envelope(AABB::from_corners([0, 0], [9, 9]))? {
-        sum = sum.wrapping_add(item.data);
-    }
-    Ok(sum)
-}
-
-fn payloads(alloc: Global) -> Result<RTree<Payloads>, InsertError<Payloads>>
-    ensures { IfOk result (λ tree. IsWholeTree ⟦<AABB<[i64; 2]> as Envelope>⟧.boxes ⟦<Payloads as RTreeObject>⟧.object ⟦<DefaultParams as RTreeParams>⟧.MAX_SIZE tree) }
-{
-    let mut tree = RTree::new(alloc);
-    tree.insert(GeomWithData::new(Rectangle::from_corners([0, 0], [2, 2]), 7))?;
-    tree.insert(GeomWithData::new(Rectangle::from_corners([5, 5], [9, 9]), 8))?;
-    tree.insert(GeomWithData::new(Rectangle::from_corners([5, 5], [9, 10]), 9))?;
-    Ok(tree)
-}
-
+/// The IDs of the places inside an envelope, by a `for` at these very types.
 fn sum_of_ids(tree: &RTree<Place>) -> Result<u64, AllocError>
     requires { IsWholeTree ⟦<AABB<[i64; 2]> as Envelope>⟧.boxes ⟦<Place as RTreeObject>⟧.object ⟦<DefaultParams as RTreeParams>⟧.MAX_SIZE tree.now }
 {
@@ -152,13 +130,4 @@ fn sizes(rt: HostRuntime) {
         }
         Err(_) => assert!(rt; false),
     }
-}
-
-#[test]
-fn a_loop_at_rectangles(rt: HostRuntime) {
-    let Ok(tree) = payloads(rt.alloc()) else {
-        assert!(rt; false);
-        return;
-    };
-    assert!(rt; matches!(sum_of_payloads(&tree), Ok(15)));
 }

@@ -4,7 +4,7 @@ use Rattle.std.specs.Prelude.{cond, filter}
 use Rattle.std.specs.Ordering.{nat_cmp}
 use Rattle.std.specs.List.Sorted.{IsSortedByKey}
 use Rattle.std.proofs.lemmas.List.Sorted.{IsNonDecreasingBy-from_sort, IsPermutation-map}
-use Rattle.rstar_base.specs.Boxes.{contains_box}
+use Rattle.rstar.specs.Boxes.{contains_box}
 use Rattle.rstar_run.specs.Answers.{Lists, lies_in}
 
 -- what is passed and then shown is what is shown and then passed

@@ -2,7 +2,7 @@
 use Rattle.std.specs.Prelude.{◌≡◌, ℕ, ℤ, Bool, List, ◌∷◌, length, filter, map, pos, slice_index_or, vec_items}
 use Rattle.std.specs.Int.{int_min, int_max}
 use Rattle.std.specs.List.Sorted.{IsPermutation, IsNonDecreasing}
-use Rattle.rstar_base.specs.Boxes.{between_corners, contains_box}
+use Rattle.rstar.specs.Boxes.{between_corners, contains_box}
 use Rattle.rstar_run.specs.declared.command.Corners.{Corners}
 use Rattle.rstar_run.specs.declared.command.Command.{Command}
 use Rattle.rstar_run.specs.declared.command.Command.TheVariants.{Insert, In, Size}

@@ -1,6 +1,5 @@
 //! Insertion and splits: the shapes that fixed sequences of elements give.
 
-ghost use Rattle.std.specs.Prelude.{IfOk};
 ghost use Rattle.rstar.specs.Trees.{IsWholeTree};
 
 use rstar::algorithm::rstar::{RStarInsertionStrategy, split_children};
@@ -13,6 +12,7 @@ use rstar_base::aabb::AABB;
 use rstar_base::envelope::Envelope;
 use rstar_base::object::RTreeObject;
 use std::alloc::{AllocError, Global};
+use std::marker::Model;
 use std::test::Fail;
 
 /// The largest numbers that are lawful.
@@ -59,46 +59,86 @@ fn outlines(
     Ok(all)
 }
 
+/// Points in a tree, which is whole.
+#[derive(Drop)]
+pub(crate) struct Points {
+    tree: RTree<[i32; 2]>,
+}
+
+impl Model for Points {
+    ghost use Rattle.std.specs.Prelude.{ℤ, List};
+    ghost use Rattle.rstar.specs.Trees.{elements_in, IsWholeTree};
+
+    ghost Value = { List (List ℤ) };
+
+    ghost view = { λ s. elements_in s.tree };
+
+    ghost invariant = { λ s. IsWholeTree ⟦<AABB<[i32; 2]> as Envelope>⟧.boxes ⟦<[i32; 2] as RTreeObject>⟧.object ⟦<DefaultParams as RTreeParams>⟧.MAX_SIZE s.tree };
+}
+
+impl Points {
+    /// The points, inserted in this order.
+    pub(crate) fn inserted(
+        alloc: Global,
+        points: &[[i32; 2]],
+    ) -> Result<Points, InsertError<[i32; 2]>> {
+        let mut all = Points {
+            tree: RTree::new(alloc),
+        };
+        for point in points {
+            all.insert(*point)?;
+        }
+        Ok(all)
+    }
+
+    fn insert(&mut self, point: [i32; 2]) -> Result<(), InsertError<[i32; 2]>> {
+        self.tree.insert(point)
+    }
+
+    /// Inserts a point; where memory is refused, looks that nothing has changed, and asks once more.
+    fn insert_again(&mut self, point: [i32; 2]) -> bool {
+        let before = self.tree.size();
+        match self.tree.insert(point) {
+            Ok(()) => true,
+            Err(refused) => {
+                let same = refused.cause == InsertCause::NoMemory && self.tree.size() == before;
+                self.tree.insert(refused.element).is_ok() && same
+            }
+        }
+    }
+
+    /// The tree.
+    pub(crate) fn tree(&self) -> &RTree<[i32; 2]>
+        ensures { IsWholeTree ⟦<AABB<[i32; 2]> as Envelope>⟧.boxes ⟦<[i32; 2] as RTreeObject>⟧.object ⟦<DefaultParams as RTreeParams>⟧.MAX_SIZE result.now }
+    {
+        &self.tree
+    }
+}
+
 /// Seven points in two groups on a line, which lie under two parents.
-pub(crate) fn along_a_line(alloc: Global) -> Result<RTree<[i32; 2]>, InsertError<[i32; 2]>>
-    ensures { IfOk result (λ tree. IsWholeTree ⟦<AABB<[i32; 2]> as Envelope>⟧.boxes ⟦<[i32; 2] as RTreeObject>⟧.object ⟦<DefaultParams as RTreeParams>⟧.MAX_SIZE tree) }
-{
-    let mut tree = RTree::new(alloc);
-    tree.insert([0, 0])?;
-    tree.insert([1, 0])?;
-    tree.insert([2, 0])?;
-    tree.insert([100, 0])?;
-    tree.insert([101, 0])?;
-    tree.insert([102, 0])?;
-    tree.insert([103, 0])?;
-    Ok(tree)
-}
+pub(crate) const ALONG_A_LINE: [[i32; 2]; 7] = [
+    [0, 0],
+    [1, 0],
+    [2, 0],
+    [100, 0],
+    [101, 0],
+    [102, 0],
+    [103, 0],
+];
 
-fn two_heaps(alloc: Global) -> Result<RTree<[i32; 2]>, InsertError<[i32; 2]>> {
-    let mut tree = RTree::new(alloc);
-    tree.insert([12, 12])?;
-    tree.insert([0, 0])?;
-    tree.insert([10, 10])?;
-    tree.insert([2, 2])?;
-    tree.insert([11, 11])?;
-    tree.insert([3, 3])?;
-    tree.insert([1, 1])?;
-    Ok(tree)
-}
+const TWO_HEAPS: [[i32; 2]; 7] = [[12, 12], [0, 0], [10, 10], [2, 2], [11, 11], [3, 3], [1, 1]];
 
-fn nine_points(alloc: Global) -> Result<RTree<[i32; 2]>, InsertError<[i32; 2]>> {
-    let mut tree = RTree::new(alloc);
-    tree.insert([0, 0])?;
-    tree.insert([0, 1])?;
-    tree.insert([10, 0])?;
-    tree.insert([10, 1])?;
-    tree.insert([12, 0])?;
-    tree.insert([12, 10])?;
-    tree.insert([14, 10])?;
-    tree.insert([20, 0])?;
-    tree.insert([5, 2])?;
-    Ok(tree)
-}
+const NINE: [[i32; 2]; 9] = [
+    [0, 0],
+    [0, 1],
+    [10, 0],
+    [10, 1],
+    [12, 0],
+    [12, 10],
+    [14, 10],
+    [20, 0],
+    [5, 2],
+];
 
 fn ten_without_axes(alloc: Global) -> Result<RTree<[i32; 0]>, InsertError<[i32; 0]>> {
     let mut tree = RTree::default(alloc);
@@ -154,39 +194,58 @@ fn a_list_is_cut_by_overlap_and_area(rt: HostRuntime) -> Result<(), Fail> {
     Ok(())
 }
 
+/// How many children a node has, and the corners of its envelope.
+type Outline = (usize, [i32; 2], [i32; 2]);
+
+// Points, inserted in turn, and for both children of the root: how many children, and the envelope.
 #[test]
-fn seven_points_split_the_root(rt: HostRuntime) -> Result<(), Fail> {
-    let Ok(line) = along_a_line(rt.alloc()) else {
-        assert!(rt; false);
-        return Ok(());
-    };
-    let parts = outlines(rt.alloc(), line.root().children())?;
-    assert_eq!(rt; parts.len(), 2);
-    assert!(rt; parts.contains(&(3, AABB::from_corners([0, 0], [2, 0]))));
-    assert!(rt; parts.contains(&(4, AABB::from_corners([100, 0], [103, 0]))));
-    let Ok(heaps) = two_heaps(rt.alloc()) else {
-        assert!(rt; false);
-        return Ok(());
-    };
-    let parts = outlines(rt.alloc(), heaps.root().children())?;
-    assert_eq!(rt; parts.len(), 2);
-    assert!(rt; parts.contains(&(4, AABB::from_corners([0, 0], [3, 3]))));
-    assert!(rt; parts.contains(&(3, AABB::from_corners([10, 10], [12, 12]))));
+fn insertions_shape_the_tree(rt: HostRuntime) -> Result<(), Fail> {
+    let rows: [(&[[i32; 2]], Outline, Outline); 3] = [
+        (&ALONG_A_LINE, (3, [0, 0], [2, 0]), (4, [100, 0], [103, 0])),
+        (&TWO_HEAPS, (4, [0, 0], [3, 3]), (3, [10, 10], [12, 12])),
+        // The ninth point goes where the overlap grows least.
+        (&NINE, (5, [0, 0], [10, 2]), (4, [12, 0], [20, 10])),
+    ];
+    for (points, one, other) in rows {
+        let Ok(inserted) = Points::inserted(rt.alloc(), points) else {
+            assert!(rt; false);
+            return Ok(());
+        };
+        let tree = inserted.tree();
+        assert_eq!(rt; tree.size(), points.len());
+        let parts = outlines(rt.alloc(), tree.root().children())?;
+        assert_eq!(rt; parts.len(), 2);
+        for (count, lower, upper) in [one, other] {
+            assert!(rt;
+                parts.contains(&(count, AABB::from_corners(lower, upper))),
+                "{parts:?}"
+            );
+        }
+    }
     Ok(())
 }
 
+/// Ten insertions; `rt try --test --fail-alloc N` refuses the Nth allocation.
 #[test]
-fn an_element_goes_where_least_overlap_grows(rt: HostRuntime) -> Result<(), Fail> {
-    let Ok(tree) = nine_points(rt.alloc()) else {
-        assert!(rt; false);
-        return Ok(());
+fn a_refused_insertion_loses_nothing(rt: HostRuntime) {
+    let mut points = Points {
+        tree: RTree::new(rt.alloc()),
     };
-    assert_eq!(rt; tree.size(), 9);
-    let parts = outlines(rt.alloc(), tree.root().children())?;
-    assert_eq!(rt; parts.len(), 2);
-    assert!(rt; parts.contains(&(5, AABB::from_corners([0, 0], [10, 2]))));
-    assert!(rt; parts.contains(&(4, AABB::from_corners([12, 0], [20, 10]))));
-    Ok(())
+    for point in [
+        [0, 0],
+        [1, 9],
+        [2, 8],
+        [3, 7],
+        [4, 6],
+        [5, 5],
+        [6, 4],
+        [7, 3],
+        [8, 2],
+        [9, 1],
+    ] {
+        assert!(rt; points.insert_again(point));
+    }
+    assert_eq!(rt; points.tree().size(), 10);
 }
 
 #[test]

@@ -169,10 +169,25 @@ impl Envelope for Stretch {
 mod tests {
     use super::*;
     use rstar_base::envelope::copied_envelope;
-    use std::test::Fail;
+
+    // A stretch's ends, its distance and its min-max distance from 7, its center and its length.
+    #[test]
+    fn distances_and_measures(rt: HostRuntime) {
+        for (a, b, distance, min_max, center, length) in [
+            (4, 1, 9, 9, 2, 3),
+            (10, 12, 9, 9, 11, 2),
+            (1, 12, 0, 25, 6, 11),
+        ] {
+            let stretch = Stretch::new(a, b, 0);
+            assert_eq!(rt; stretch.distance_2(&[7]), distance);
+            assert_eq!(rt; stretch.min_max_dist_2(&[7]), min_max);
+            assert_eq!(rt; stretch.center(), [center]);
+            assert_eq!(rt; stretch.area(), length);
+        }
+    }
 
     #[test]
-    fn stretches_merge_with_their_levels(rt: HostRuntime) -> Result<(), Fail> {
+    fn stretches_merge_with_their_levels(rt: HostRuntime) {
         let low = Stretch::new(4, 1, 7);
         let high = Stretch::new(10, 12, 3);
         let both = low.merged(&high);
@@ -180,19 +195,12 @@ mod tests {
         assert_eq!(rt; both.level(), 7);
         assert_ne!(rt; both, Stretch::new(1, 12, 3));
         assert!(rt; both.contains_envelope(&high) && !low.intersects(&high));
-        assert_eq!(rt; low.distance_2(&[7]), 9);
-        assert_eq!(rt; high.min_max_dist_2(&[7]), 9);
-        assert_eq!(rt; both.distance_2(&[7]), 0);
-        assert_eq!(rt; both.min_max_dist_2(&[7]), 25);
-        assert_eq!(rt; both.center(), [6]);
-        assert_eq!(rt; both.area(), 11);
         assert_eq!(rt; low.intersection_area(&both), 3);
         assert_eq!(rt; both.axis_key(0), 1);
-        Ok(())
     }
 
     #[test]
-    fn the_empty_stretch_is_the_unit(rt: HostRuntime) -> Result<(), Fail> {
+    fn the_empty_stretch_is_the_unit(rt: HostRuntime) {
         let empty = Stretch::new_empty();
         assert!(rt; empty.is_empty());
         let mut all = copied_envelope(&empty);
@@ -200,6 +208,5 @@ mod tests {
         assert_eq!(rt; all, Stretch::new(i64::MIN, i64::MAX, 1));
         assert_eq!(rt; all.area(), i64::MAX);
         assert_eq!(rt; empty.area(), 0);
-        Ok(())
     }
 }

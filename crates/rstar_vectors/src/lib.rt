@@ -6,8 +6,7 @@ mod boxes;
 pub mod doors;
 #[cfg(test)]
 mod elements;
-#[cfg(test)]
-mod first;
+pub mod fences;
 #[cfg(test)]
 mod insertion;
 pub mod interval;

@@ -36,50 +36,67 @@ fn scalars_at_their_ends(rt: HostRuntime) -> Result<(), Fail> {
     Ok(())
 }
 
-#[test]
-fn half_sums_round_toward_zero(rt: HostRuntime) -> Result<(), Fail> {
-    assert_eq!(rt; (-3i8).half_sum(0), -1);
-    assert_eq!(rt; 127i8.half_sum(127), 127);
-    assert_eq!(rt; (-128i8).half_sum(-127), -127);
-    assert_eq!(rt; (-3i16).half_sum(0), -1);
-    assert_eq!(rt; (-3i32).half_sum(0), -1);
-    assert_eq!(rt; (-3i64).half_sum(0), -1);
-    assert_eq!(rt; (-3isize).half_sum(0), -1);
-    assert_eq!(rt; (-3i128).half_sum(0), -1);
-    assert_eq!(rt; 3i128.half_sum(-4), 0);
-    assert_eq!(rt; 4i128.half_sum(-3), 0);
-    assert_eq!(rt; (-3i128).half_sum(-4), -3);
-    assert_eq!(rt; 3i128.half_sum(4), 3);
-    Ok(())
+// Two scalars, and half of their sum.
+fn half_sums<S: RTreeNum>(rt: &impl Abort, rows: &[(S, S, S)]) {
+    for (a, b, half) in rows {
+        assert!(rt; a.half_sum(*b) == *half);
+    }
 }
 
 #[test]
-fn products_about_the_ends(rt: HostRuntime) -> Result<(), Fail> {
-    assert_eq!(rt; 11i8.clamped_mul(11), 121);
-    assert_eq!(rt; 12i8.clamped_mul(12), 127);
-    assert_eq!(rt; (-16i8).clamped_mul(8), -128);
-    assert_eq!(rt; (-11i8).clamped_mul(12), -128);
-    assert_eq!(rt; 181i16.clamped_mul(181), 32761);
-    assert_eq!(rt; 182i16.clamped_mul(182), 32767);
-    assert_eq!(rt; 46340i32.clamped_mul(46340), 2147395600);
-    assert_eq!(rt; 46341i32.clamped_mul(46341), 2147483647);
-    assert_eq!(rt; 2147483647i64.clamped_mul(2147483647), 4611686014132420609);
-    assert_eq!(rt; 2147483648i64.clamped_mul(2147483648), 4611686018427387904);
-    assert_eq!(rt;
-        (-2147483648i64).clamped_mul(2147483647),
-        -4611686016279904256
+fn half_sums_round_toward_zero(rt: HostRuntime) {
+    half_sums(&rt, &[(-3i8, 0, -1), (127, 127, 127), (-128, -127, -127)]);
+    half_sums(&rt, &[(-3i16, 0, -1)]);
+    half_sums(&rt, &[(-3i32, 0, -1)]);
+    half_sums(&rt, &[(-3i64, 0, -1)]);
+    half_sums(&rt, &[(-3isize, 0, -1)]);
+    half_sums(
+        &rt,
+        &[
+            (-3i128, 0, -1),
+            (3, -4, 0),
+            (4, -3, 0),
+            (-3, -4, -3),
+            (3, 4, 3),
+        ],
     );
-    assert_eq!(rt; 3037000499i64.clamped_mul(3037000499), 9223372030926249001);
-    assert_eq!(rt; 3037000500i64.clamped_mul(3037000500), 9223372036854775807);
-    assert_eq!(rt;
-        3037000500isize.clamped_mul(-3037000500),
-        -9223372036854775808
+}
+
+// Two scalars, and their product held between the ends.
+fn products<S: RTreeNum>(rt: &impl Abort, rows: &[(S, S, S)]) {
+    for (a, b, product) in rows {
+        assert!(rt; a.clamped_mul(*b) == *product);
+    }
+}
+
+#[test]
+fn products_about_the_ends(rt: HostRuntime) {
+    products(
+        &rt,
+        &[
+            (11i8, 11, 121),
+            (12, 12, 127),
+            (-16, 8, -128),
+            (-11, 12, -128),
+        ],
     );
-    assert_eq!(rt;
-        9223372036854775808i128.clamped_mul(4),
-        36893488147419103232
+    products(&rt, &[(181i16, 181, 32761), (182, 182, 32767)]);
+    products(
+        &rt,
+        &[(46340i32, 46340, 2147395600), (46341, 46341, 2147483647)],
     );
-    Ok(())
+    products(
+        &rt,
+        &[
+            (2147483647i64, 2147483647, 4611686014132420609),
+            (2147483648, 2147483648, 4611686018427387904),
+            (-2147483648, 2147483647, -4611686016279904256),
+            (3037000499, 3037000499, 9223372030926249001),
+            (3037000500, 3037000500, 9223372036854775807),
+        ],
+    );
+    products(&rt, &[(3037000500isize, -3037000500, -9223372036854775808)]);
+    products(&rt, &[(9223372036854775808i128, 4, 36893488147419103232)]);
 }
 
 // Reads every coordinate through the bound.

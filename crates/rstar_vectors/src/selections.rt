@@ -2,11 +2,11 @@
 
 ghost use Rattle.rstar.specs.Trees.{IsWholeTree};
 
-use crate::insertion::along_a_line;
+use crate::insertion::{ALONG_A_LINE, Points};
 use rstar::algorithm::selection_functions::{
     SelectAllFunc, SelectInEnvelopeFunction, SelectionFunction,
 };
-use rstar::{AABB, DefaultParams, Envelope, RTree, RTreeNode, RTreeObject, RTreeParams};
+use rstar::{AABB, DefaultParams, Envelope, RTree, RTreeObject, RTreeParams};
 use std::alloc::AllocError;
 use std::test::Fail;
 
@@ -31,18 +31,21 @@ fn inside(corner_1: [i32; 2], corner_2: [i32; 2]) -> SelectInEnvelopeFunction<[i
 
 #[test]
 fn a_selection_opens_what_its_question_reaches(rt: HostRuntime) -> Result<(), Fail> {
-    let tree = along_a_line(rt.alloc())?;
-    assert_eq!(rt; counts(&tree, SelectAllFunc)?, (7, 3));
-    assert_eq!(rt; counts(&tree, inside([0, 0], [2, 0]))?, (3, 2));
-    assert_eq!(rt; counts(&tree, inside([50, 0], [60, 0]))?, (0, 1));
-    assert_eq!(rt; counts(&tree, inside([200, 200], [201, 201]))?, (0, 0));
-    let empty: RTree<[i32; 2]> = RTree::new(rt.alloc());
-    assert_eq!(rt; counts(&empty, SelectAllFunc)?, (0, 0));
-    assert!(rt;
-        tree.root()
-            .children()
-            .iter()
-            .all(|child: &RTreeNode<[i32; 2]>| !child.is_leaf())
-    );
+    let line = Points::inserted(rt.alloc(), &ALONG_A_LINE)?;
+    let tree = line.tree();
+    assert_eq!(rt; counts(tree, SelectAllFunc)?, (7, 3));
+    // Two corners, the number of points inside, and the parents opened.
+    for (one, other, given, opened) in [
+        ([0, 0], [2, 0], 3, 2),
+        ([50, 0], [60, 0], 0, 1),
+        ([200, 200], [201, 201], 0, 0),
+    ] {
+        assert_eq!(rt; counts(tree, inside(one, other))?, (given, opened));
+    }
+    for child in tree.root().children() {
+        assert!(rt; !child.is_leaf());
+    }
+    let empty = Points::inserted(rt.alloc(), &[])?;
+    assert_eq!(rt; counts(empty.tree(), SelectAllFunc)?, (0, 0));
     Ok(())
 }

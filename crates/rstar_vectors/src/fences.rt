@@ -1,0 +1,150 @@
+//! A tree inside a struct of a user's own, which keeps it whole: the example of README.md. It names `rstar` alone.
+
+ghost use Rattle.std.specs.Prelude.{◌≡◌, ◌+◌, [], length, OnOk, OnErr};
+ghost use Rattle.rstar.specs.Boxes.{contains_box};
+ghost use Rattle.rstar.specs.Trees.{IsWholeTree};
+
+use rstar::primitives::{GeomWithData, Rectangle};
+use rstar::{AABB, DefaultParams, Envelope, InsertError, RTree, RTreeObject, RTreeParams};
+use std::alloc::{AllocError, Global};
+use std::marker::Model;
+
+/// A rectangle with the number of what it fences in.
+pub type Fence = GeomWithData<Rectangle<[i64; 2]>, u64>;
+
+/// Fences, in a tree.
+#[derive(Drop)]
+pub struct Fences {
+    tree: RTree<Fence>,
+}
+
+// Contracts see the list of the boxes and numbers. The tree is whole.
+impl Model for Fences {
+    ghost use Rattle.std.specs.Prelude.{ℕ, ℤ, List, map};
+    ghost use Rattle.rstar.specs.Trees.{elements_in, IsWholeTree};
+
+    ghost Value = { List (List (ℤ × ℤ) × ℕ) };
+
+    ghost view = { λ s. map (λ fence. (⟦<Fence as RTreeObject>⟧.object.box_of fence, fence.1)) (elements_in s.tree) };
+
+    ghost invariant = { λ s. IsWholeTree ⟦<AABB<[i64; 2]> as Envelope>⟧.boxes ⟦<Fence as RTreeObject>⟧.object ⟦<DefaultParams as RTreeParams>⟧.MAX_SIZE s.tree };
+}
+
+impl Fences {
+    /// No fence.
+    pub fn new(alloc: Global) -> Fences
+        ensures { result ≡ [] }
+    {
+        Fences {
+            tree: RTree::new(alloc),
+        }
+    }
+
+    /// One fence more, between two corners.
+    pub fn add(
+        &mut self,
+        number: u64,
+        one: [i64; 2],
+        other: [i64; 2],
+    ) -> Result<(), InsertError<Fence>>
+        ensures added { OnOk result (length self.new ≡ length self.old + 1) }
+        ensures unchanged { OnErr result (self.new ≡ self.old) }
+    {
+        let fence = Rectangle::from_corners(one, other);
+        self.tree.insert(Fence::new(fence, number))
+    }
+
+    /// How many fences there are.
+    pub fn len(&self) -> usize
+        ensures { result ≡ length self.now }
+    {
+        self.tree.size()
+    }
+
+    /// How many fences lie in a box.
+    pub fn count_in(&self, area: AABB<[i64; 2]>) -> Result<usize, AllocError> {
+        count_in(&self.tree, area)
+    }
+
+    /// The sum of the numbers of the fences in a box, held at the greatest `u64`.
+    pub fn sum_in(&self, area: AABB<[i64; 2]>) -> Result<u64, AllocError> {
+        sum_in(&self.tree, area)
+    }
+}
+
+/// How many elements of a tree lie in an envelope.
+fn count_in<T: RTreeObject>(tree: &RTree<T>, envelope: T::Envelope) -> Result<usize, AllocError>
+    requires { IsWholeTree T.Envelope.boxes T.object ⟦<DefaultParams as RTreeParams>⟧.MAX_SIZE tree.now }
+{
+    let mut count = 0usize;
+    for _ in tree.locate_in_envelope(envelope)? {
+        count = count.saturating_add(1);
+    }
+    Ok(count)
+}
+
+/// The sum of the numbers of a tree's fences in a box.
+fn sum_in(tree: &RTree<Fence>, area: AABB<[i64; 2]>) -> Result<u64, AllocError>
+    requires { IsWholeTree ⟦<AABB<[i64; 2]> as Envelope>⟧.boxes ⟦<Fence as RTreeObject>⟧.object ⟦<DefaultParams as RTreeParams>⟧.MAX_SIZE tree.now }
+{
+    let mut sum = 0u64;
+    for fence in tree.locate_in_envelope(area)? {
+        sum = sum.saturating_add(fence.data);
+    }
+    Ok(sum)
+}
+
+/// Whether a fence lies in a box, its edges included.
+pub fn lies_in(fence: &Fence, area: &AABB<[i64; 2]>) -> bool
+    ensures { result ≡ contains_box area.now (⟦<Fence as RTreeObject>⟧.object.box_of fence.now) }
+{
+    area.contains_envelope(&fence.envelope())
+}
+
+#[cfg(test)]
+mod tests {
+    use super::*;
+    use std::test::Fail;
+
+    /// A fence's number and two corners.
+    type Row = (u64, [i64; 2], [i64; 2]);
+
+    // Fences, the corners of a box, and the count and the sum of those in it. Equal rectangles with equal numbers
+    // count twice, and corners come in any order.
+    #[test]
+    fn fences_in_boxes(rt: HostRuntime) -> Result<(), Fail> {
+        let twice: [Row; 2] = [(7, [0, 0], [2, 2]), (7, [2, 2], [0, 0])];
+        let three: [Row; 3] = [
+            (7, [0, 0], [2, 2]),
+            (8, [5, 5], [9, 9]),
+            (9, [5, 5], [9, 10]),
+        ];
+        let rows: [(&[Row], [i64; 2], [i64; 2], usize, u64); 5] = [
+            (&[], [5, 5], [4, 4], 0, 0),
+            (&twice, [0, 0], [2, 2], 2, 14),
+            (&twice, [0, 0], [2, 1], 0, 0),
+            (&three, [0, 0], [9, 9], 2, 15),
+            (&three, [9, 10], [3, 3], 2, 17),
+        ];
+        for (list, one, other, count, sum) in rows {
+            let mut fences = Fences::new(rt.alloc());
+            for (number, a, b) in list {
+                assert!(rt; fences.add(*number, *a, *b).is_ok());
+            }
+            assert_eq!(rt; fences.len(), list.len());
+            let area = AABB::from_corners(one, other);
+            assert_eq!(rt; fences.count_in(area)?, count);
+            assert_eq!(rt; fences.sum_in(area)?, sum);
+        }
+        Ok(())
+    }
+
+    #[test]
+    fn a_fence_lies_in_a_box(rt: HostRuntime) {
+        let fence = Fence::new(Rectangle::from_corners([0, 0], [2, 2]), 7);
+        for (other, is_inside) in [([2, 2], true), ([2, 1], false)] {
+            let area = AABB::from_corners([0, 0], other);
+            assert_eq!(rt; lies_in(&fence, &area), is_inside);
+        }
+    }
+}
