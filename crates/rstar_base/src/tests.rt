@@ -1,3 +1,5 @@
+mod slabs;
+
 use crate::aabb::AABB;
 use crate::algorithm::selection_functions::{
     SelectAtPointFunction, SelectInEnvelopeFuncIntersecting, SelectInEnvelopeFunction,
