@@ -10,7 +10,9 @@ box_or_empty low high n l u = if is_upright n l u then between_corners n l u els
 
 -- a rectangle answers as the box between its corners does
 abbrev pub rectangle_objects : {R : Type 0} → ℤ → ℤ → ℕ → (R → ℕ → ℤ) → (R → ℕ → ℤ) → Objects R (List (ℤ × ℤ))
-rectangle_objects low high n lower upper = carried_objects (box_objects low high n) (λ r. box_or_empty low high n (lower r) (upper r))
+rectangle_objects low high n lower upper =
+    carried_objects (box_objects low high n) (λ r. box_or_empty low high n (lower r) (upper r))
 
 abbrev pub rectangle_distances : {R : Type 0} → ℤ → ℤ → ℕ → (R → ℕ → ℤ) → (R → ℕ → ℤ) → Distances R
-rectangle_distances low high n lower upper = carried_distances (box_distances high) (λ r. box_or_empty low high n (lower r) (upper r))
+rectangle_distances low high n lower upper =
+    carried_distances (box_distances high) (λ r. box_or_empty low high n (lower r) (upper r))

@@ -50,7 +50,8 @@ interior n from to q i = from i +ℤ int_div (direction from to i *ℤ along n f
 unfoldable pub has_interior : ℤ → ℤ → ℕ → (ℕ → ℤ) → (ℕ → ℤ) → (ℕ → ℤ) → Bool
 has_interior low high n from to q =
     ((difference_fits low high n to from && difference_fits low high n q from)
-    && (dot_fits low high n (direction from q) (direction from to) && dot_fits low high n (direction from to) (direction from to)))
+    && (dot_fits low high n (direction from q) (direction from to)
+    && dot_fits low high n (direction from to) (direction from to)))
     && ((int_lt (pos 0) (along n from to q) && int_lt (along n from to q) (length_squared n from to))
     && multiple_fits low high n (direction from to) (along n from to q))
 
@@ -61,11 +62,14 @@ nearer high n q a b i = if nat_le (point_apart high n a q) (point_apart high n b
 -- the first nearest of `from`, `to` and the interior point
 unfoldable pub nearest_of_segment : ℤ → ℤ → ℕ → (ℕ → ℤ) → (ℕ → ℤ) → (ℕ → ℤ) → ℕ → ℤ
 nearest_of_segment low high n from to q i =
-    if has_interior low high n from to q then nearer high n q (nearer high n q from to) (interior n from to q) i else nearer high n q from to i
+    if has_interior low high n from to q
+    then nearer high n q (nearer high n q from to) (interior n from to q) i
+    else nearer high n q from to i
 
 -- the distance of a segment: that of its nearest point
 abbrev pub segment_distance : ℤ → ℤ → ℕ → (ℕ → ℤ) → (ℕ → ℤ) → List ℤ → ℕ
-segment_distance low high n from to p = point_apart high n (nearest_of_segment low high n from to (coordinate p)) (coordinate p)
+segment_distance low high n from to p =
+    point_apart high n (nearest_of_segment low high n from to (coordinate p)) (coordinate p)
 
 -- segments as elements, given by the ends of each
 abbrev pub segment_objects : {L : Type 0} → ℤ → ℤ → ℕ → (L → ℕ → ℤ) → (L → ℕ → ℤ) → Objects L (List (ℤ × ℤ))

@@ -8,6 +8,8 @@ pub mod DistanceLaws
 pub mod BoxEnvelopes
 pub mod CarrierLaws
 pub mod BoxElementLaws
+pub mod PointElementLaws
 pub mod RectangleLaws
 pub mod SegmentLaws
 pub mod KeptLaws
+pub mod EqualElements

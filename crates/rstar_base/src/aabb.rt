@@ -26,12 +26,17 @@ use std::marker::Model;
 
 /// Whether `lower <= above` and `below <= upper` on every axis.
 pub(crate) fn bound<P: Point>(lower: &P, upper: &P, above: &P, below: &P) -> bool
-    ensures { result ≡ all_below P.DIMENSIONS (λ i. int_le (P.coord lower.now i) (P.coord above.now i) && int_le (P.coord below.now i) (P.coord upper.now i)) }
+    ensures { result
+        ≡ all_below P.DIMENSIONS
+        (λ i. int_le (P.coord lower.now i) (P.coord above.now i)
+        && int_le (P.coord below.now i) (P.coord upper.now i)) }
 {
     every_axis::<P, _>(
         |i: usize| -> bool
             requires { i < P.DIMENSIONS }
-            ensures { result ≡ (int_le (P.coord lower.entry.now i) (P.coord above.entry.now i) && int_le (P.coord below.entry.now i) (P.coord upper.entry.now i)) }
+            ensures { result
+                ≡ (int_le (P.coord lower.entry.now i) (P.coord above.entry.now i)
+                && int_le (P.coord below.entry.now i) (P.coord upper.entry.now i)) }
         { not_above(lower.nth(i), above.nth(i)) && not_above(below.nth(i), upper.nth(i)) },
     )
 }
@@ -50,12 +55,19 @@ pub fn upright<P: Point>(lower: &P, upper: &P) -> bool
 
 /// The clamped squared distance from a point to the nearest point between two corners.
 pub(crate) fn squared_distance<P: Point>(lower: &P, upper: &P, point: &P) -> P::Scalar
-    ensures { P.Scalar.value result ≡ pos (min (sum_below P.DIMENSIONS (λ i. square_apart (P.coord point.now i) (nearest_on_axis (P.coord lower.now i, P.coord upper.now i) (P.coord point.now i)))) (unsigned_abs P.Scalar.high)) }
+    ensures { P.Scalar.value result
+        ≡ pos (min (sum_below P.DIMENSIONS
+        (λ i. square_apart (P.coord point.now i)
+        (nearest_on_axis (P.coord lower.now i, P.coord upper.now i) (P.coord point.now i))))
+        (unsigned_abs P.Scalar.high)) }
 {
     clamped_sum::<P, _>(
         |i: usize| -> P::Scalar
             requires { i < P.DIMENSIONS }
-            ensures { P.Scalar.value result ≡ pos (min (square_apart (P.coord point.entry.now i) (nearest_on_axis (P.coord lower.entry.now i, P.coord upper.entry.now i) (P.coord point.entry.now i))) (unsigned_abs P.Scalar.high)) }
+            ensures { P.Scalar.value result
+                ≡ pos (min (square_apart (P.coord point.entry.now i)
+                (nearest_on_axis (P.coord lower.entry.now i, P.coord upper.entry.now i) (P.coord point.entry.now i)))
+                (unsigned_abs P.Scalar.high)) }
         {
             square_between(
                 point.nth(i),
@@ -67,44 +79,52 @@ pub(crate) fn squared_distance<P: Point>(lower: &P, upper: &P, point: &P) -> P::
 
 /// The point between two corners that is nearest to a point.
 pub(crate) fn nearest_between<P: Point>(lower: &P, upper: &P, point: &P) -> P
-    ensures { (i : ℕ) → i < P.DIMENSIONS → P.coord result i ≡ nearest_on_axis (P.coord lower.now i, P.coord upper.now i) (P.coord point.now i) }
+    ensures { (i : ℕ) → i < P.DIMENSIONS
+        → P.coord result i ≡ nearest_on_axis (P.coord lower.now i, P.coord upper.now i) (P.coord point.now i) }
 {
     generated(
         |i: usize| -> P::Scalar
             requires { i < P.DIMENSIONS }
-            ensures { P.Scalar.value result ≡ nearest_on_axis (P.coord lower.entry.now i, P.coord upper.entry.now i) (P.coord point.entry.now i) }
+            ensures { P.Scalar.value result
+                ≡ nearest_on_axis (P.coord lower.entry.now i, P.coord upper.entry.now i) (P.coord point.entry.now i) }
         { least(upper.nth(i), greatest(lower.nth(i), point.nth(i))) },
     )
 }
 
 /// The point moved up on every axis, held at the ends of the scalar.
 fn moved_up<P: Point>(p: &P, by: P::Scalar) -> P
-    ensures { (i : ℕ) → i < P.DIMENSIONS → P.coord result i ≡ between (P.coord p.now i +ℤ P.Scalar.value by) P.Scalar.low P.Scalar.high }
+    ensures { (i : ℕ) → i < P.DIMENSIONS
+        → P.coord result i ≡ between (P.coord p.now i +ℤ P.Scalar.value by) P.Scalar.low P.Scalar.high }
 {
     generated(
         |i: usize| -> P::Scalar
             requires { i < P.DIMENSIONS }
-            ensures { P.Scalar.value result ≡ between (P.coord p.entry.now i +ℤ P.Scalar.value by) P.Scalar.low P.Scalar.high }
+            ensures { P.Scalar.value result
+                ≡ between (P.coord p.entry.now i +ℤ P.Scalar.value by) P.Scalar.low P.Scalar.high }
         { p.nth(i).clamped_add(by) },
     )
 }
 
 /// The point moved down on every axis, held at the ends of the scalar.
 fn moved_down<P: Point>(p: &P, by: P::Scalar) -> P
-    ensures { (i : ℕ) → i < P.DIMENSIONS → P.coord result i ≡ between (P.coord p.now i -ℤ P.Scalar.value by) P.Scalar.low P.Scalar.high }
+    ensures { (i : ℕ) → i < P.DIMENSIONS
+        → P.coord result i ≡ between (P.coord p.now i -ℤ P.Scalar.value by) P.Scalar.low P.Scalar.high }
 {
     generated(
         |i: usize| -> P::Scalar
             requires { i < P.DIMENSIONS }
-            ensures { P.Scalar.value result ≡ between (P.coord p.entry.now i -ℤ P.Scalar.value by) P.Scalar.low P.Scalar.high }
+            ensures { P.Scalar.value result
+                ≡ between (P.coord p.entry.now i -ℤ P.Scalar.value by) P.Scalar.low P.Scalar.high }
         { p.nth(i).clamped_sub(by) },
     )
 }
 
 /// The clamped squares from a coordinate to the nearer and to the farther of two faces.
 fn faces<S: RTreeNum>(lower: S, upper: S, at: S) -> (S, S)
-    ensures near { S.value result.0 ≡ pos (min (near_face (S.value lower, S.value upper) (S.value at)) (unsigned_abs S.high)) }
-    ensures far { S.value result.1 ≡ pos (min (far_face (S.value lower, S.value upper) (S.value at)) (unsigned_abs S.high)) }
+    ensures near { S.value result.0
+        ≡ pos (min (near_face (S.value lower, S.value upper) (S.value at)) (unsigned_abs S.high)) }
+    ensures far { S.value result.1
+        ≡ pos (min (far_face (S.value lower, S.value upper) (S.value at)) (unsigned_abs S.high)) }
 {
     let a = square_between(at, lower);
     let b = square_between(at, upper);
@@ -113,7 +133,9 @@ fn faces<S: RTreeNum>(lower: S, upper: S, at: S) -> (S, S)
 
 /// The least over the axes of the clamped sum of the nearer face there and the farther faces elsewhere; 0 with no axis.
 pub(crate) fn min_max_distance<P: Point>(lower: &P, upper: &P, point: &P) -> P::Scalar
-    ensures { P.Scalar.value result ≡ pos (box_min_max P.Scalar.high (between_corners P.DIMENSIONS (P.coord lower.now) (P.coord upper.now)) (table P.DIMENSIONS (P.coord point.now))) }
+    ensures { P.Scalar.value result
+        ≡ pos (box_min_max P.Scalar.high (between_corners P.DIMENSIONS (P.coord lower.now) (P.coord upper.now))
+        (table P.DIMENSIONS (P.coord point.now))) }
 {
     let mut best = P::Scalar::max_value();
     // The farther faces of the axes so far.
@@ -139,31 +161,40 @@ fn extent_between<S: RTreeNum>(lower: S, upper: S) -> S
 
 /// The clamped product of the extents between two corners.
 pub(crate) fn extent_area<P: Point>(lower: &P, upper: &P) -> P::Scalar
-    ensures { P.Scalar.value result ≡ pos (min (product_below P.DIMENSIONS (λ i. extent (P.coord lower.now i, P.coord upper.now i))) (unsigned_abs P.Scalar.high)) }
+    ensures { P.Scalar.value result
+        ≡ pos (min (product_below P.DIMENSIONS (λ i. extent (P.coord lower.now i, P.coord upper.now i)))
+        (unsigned_abs P.Scalar.high)) }
 {
     clamped_product::<P, _>(
         |i: usize| -> P::Scalar
             requires { i < P.DIMENSIONS }
-            ensures { P.Scalar.value result ≡ pos (min (extent (P.coord lower.entry.now i, P.coord upper.entry.now i)) (unsigned_abs P.Scalar.high)) }
+            ensures { P.Scalar.value result
+                ≡ pos (min (extent (P.coord lower.entry.now i, P.coord upper.entry.now i))
+                (unsigned_abs P.Scalar.high)) }
         { extent_between(lower.nth(i), upper.nth(i)) },
     )
 }
 
 /// The clamped sum of the extents between two corners.
 pub(crate) fn extent_perimeter<P: Point>(lower: &P, upper: &P) -> P::Scalar
-    ensures { P.Scalar.value result ≡ pos (min (sum_below P.DIMENSIONS (λ i. extent (P.coord lower.now i, P.coord upper.now i))) (unsigned_abs P.Scalar.high)) }
+    ensures { P.Scalar.value result
+        ≡ pos (min (sum_below P.DIMENSIONS (λ i. extent (P.coord lower.now i, P.coord upper.now i)))
+        (unsigned_abs P.Scalar.high)) }
 {
     clamped_sum::<P, _>(
         |i: usize| -> P::Scalar
             requires { i < P.DIMENSIONS }
-            ensures { P.Scalar.value result ≡ pos (min (extent (P.coord lower.entry.now i, P.coord upper.entry.now i)) (unsigned_abs P.Scalar.high)) }
+            ensures { P.Scalar.value result
+                ≡ pos (min (extent (P.coord lower.entry.now i, P.coord upper.entry.now i))
+                (unsigned_abs P.Scalar.high)) }
         { extent_between(lower.nth(i), upper.nth(i)) },
     )
 }
 
 /// The point in the middle of two corners, its halves truncated toward zero.
 pub(crate) fn middle_point<P: Point>(lower: &P, upper: &P) -> P
-    ensures { (i : ℕ) → i < P.DIMENSIONS → P.coord result i ≡ int_div (P.coord lower.now i +ℤ P.coord upper.now i) (pos 2) }
+    ensures { (i : ℕ) → i < P.DIMENSIONS
+        → P.coord result i ≡ int_div (P.coord lower.now i +ℤ P.coord upper.now i) (pos 2) }
 {
     generated(
         |i: usize| -> P::Scalar
@@ -175,7 +206,9 @@ pub(crate) fn middle_point<P: Point>(lower: &P, upper: &P) -> P
 
 /// Whether two points have the same coordinates.
 pub(crate) fn same_coordinates<P: Point>(p: &P, q: &P) -> bool
-    ensures { result ≡ box_contains_point (between_corners P.DIMENSIONS (P.coord p.now) (P.coord p.now)) (table P.DIMENSIONS (P.coord q.now)) }
+    ensures { result
+        ≡ box_contains_point (between_corners P.DIMENSIONS (P.coord p.now) (P.coord p.now))
+        (table P.DIMENSIONS (P.coord q.now)) }
 {
     bound(p, p, q, q)
 }
@@ -203,11 +236,20 @@ impl<P: Point> Model for AABB<P> {
 
     ghost view = { λ b. between_corners P.DIMENSIONS (P.coord b.lower) (P.coord b.upper) };
 
-    ghost invariant = { λ b. (P.of_coords (table P.DIMENSIONS (P.coord b.lower)) ≡ b.lower) × (P.of_coords (table P.DIMENSIONS (P.coord b.upper)) ≡ b.upper) × IsBox P.Scalar.low P.Scalar.high P.DIMENSIONS (between_corners P.DIMENSIONS (P.coord b.lower) (P.coord b.upper)) };
+    ghost invariant = { λ b. (P.of_coords (table P.DIMENSIONS (P.coord b.lower)) ≡ b.lower)
+        × (P.of_coords (table P.DIMENSIONS (P.coord b.upper)) ≡ b.upper)
+        × IsBox P.Scalar.low P.Scalar.high P.DIMENSIONS
+        (between_corners P.DIMENSIONS (P.coord b.lower) (P.coord b.upper)) };
 
-    ghost inverse = { λ v. record { lower = P.of_coords (map (λ (x : ℤ × ℤ). x.0) v); upper = P.of_coords (map (λ (x : ℤ × ℤ). x.1) v) } };
+    ghost inverse = { λ v.
+        record { lower = P.of_coords (map (λ (x : ℤ × ℤ). x.0) v); upper = P.of_coords (map (λ (x : ℤ × ℤ). x.1) v) } };
 
-    ghost inverse_ok = { λ a h. rw (table-firsts P.DIMENSIONS (P.coord a.lower) (P.coord a.upper), table-seconds P.DIMENSIONS (P.coord a.lower) (P.coord a.upper), h.0, h.1) refl };
+    ghost inverse_ok = { λ a h. rw (
+      table-firsts P.DIMENSIONS (P.coord a.lower) (P.coord a.upper),
+      table-seconds P.DIMENSIONS (P.coord a.lower) (P.coord a.upper),
+      h.0,
+      h.1,
+    ) refl };
 }
 
 impl<P: Point> Clone for AABB<P> {
@@ -247,7 +289,8 @@ impl<P: Point> AABB<P> {
 
     /// The box between two corners; the empty box where the first lies above the second on some axis.
     pub(crate) fn between(lower: &P, upper: &P) -> Self
-        ensures { result ≡ box_or_empty P.Scalar.low P.Scalar.high P.DIMENSIONS (P.coord lower.now) (P.coord upper.now) }
+        ensures { result
+            ≡ box_or_empty P.Scalar.low P.Scalar.high P.DIMENSIONS (P.coord lower.now) (P.coord upper.now) }
     {
         if upright(lower, upper) {
             AABB {
@@ -259,8 +302,8 @@ impl<P: Point> AABB<P> {
         }
     }
 
-    /// The least box of all points that are at most `distance` from `center` on every axis, held inside the range of the scalar.
-    /// A negative distance counts as the positive one.
+    /// The least box of all points that are at most `distance` from `center` on every axis, held
+    /// inside the range of the scalar. A negative distance counts as the positive one.
     pub fn from_center(center: P, distance: P::Scalar) -> Self
         ensures { result ≡ box_of_corners P.DIMENSIONS
             (λ i. between (P.coord center i +ℤ P.Scalar.value distance) P.Scalar.low P.Scalar.high)
@@ -274,8 +317,10 @@ impl<P: Point> AABB<P> {
     where
         P: 'a,
         requires { IsFiniteIterable I.into_iter_gives I.IntoIter.can_next I.IntoIter.remaining i }
-        ensures { (s : I.IntoIter) × (points : List (Bor P)) × I.into_iter_gives i s × Drains I.IntoIter.next_gives s points
-            × (result ≡ hull (box_data P.Scalar.low P.Scalar.high P.DIMENSIONS) (λ p. between_corners P.DIMENSIONS (P.coord p.now) (P.coord p.now)) points) }
+        ensures { (s : I.IntoIter) × (points : List (Bor P)) × I.into_iter_gives i s
+            × Drains I.IntoIter.next_gives s points
+            × (result ≡ hull (box_data P.Scalar.low P.Scalar.high P.DIMENSIONS)
+            (λ p. between_corners P.DIMENSIONS (P.coord p.now) (P.coord p.now)) points) }
     {
         let mut hull = AABB::new_empty();
         let mut rest = i.into_iter();
@@ -299,16 +344,20 @@ impl<P: Point> AABB<P> {
         copied_point(&self.upper)
     }
 
-    /// The point of the box that is nearest to `point`, which is `point` itself where the box contains it.
+    /// The point of the box that is nearest to `point`, which is `point` itself where the box contains
+    /// it. For the empty box, which has no point, it is the upper corner: all least scalars.
     pub fn min_point(&self, point: &P) -> P
-        ensures { table P.DIMENSIONS (P.coord result) ≡ nearest_point self.now (table P.DIMENSIONS (P.coord point.now)) }
+        ensures { table P.DIMENSIONS (P.coord result)
+            ≡ nearest_point self.now (table P.DIMENSIONS (P.coord point.now)) }
     {
         nearest_between(&self.lower, &self.upper, point)
     }
 
-    /// The squared distance to the nearest point of the box, held at the greatest scalar.
+    /// The squared distance to `min_point`, the nearest point of the box, held at the greatest scalar;
+    /// for the empty box that to all least scalars.
     pub fn distance_2(&self, point: &P) -> P::Scalar
-        ensures { P.Scalar.value result ≡ pos (box_distance P.Scalar.high self.now (table P.DIMENSIONS (P.coord point.now))) }
+        ensures { P.Scalar.value result
+            ≡ pos (box_distance P.Scalar.high self.now (table P.DIMENSIONS (P.coord point.now))) }
     {
         Envelope::distance_2(self, point)
     }
@@ -400,5 +449,6 @@ impl<P: Point> Envelope for AABB<P> {
 
     ghost envelope_laws = { box_laws P.Scalar.low P.Scalar.high P.DIMENSIONS P.Scalar.low_law P.Scalar.high_law };
 
-    ghost eq_law = { λ a b h k. box_eq P.Scalar.low P.Scalar.high P.DIMENSIONS P.coord P.of_coords P.eq P.coords_of_law P.eq_law a b h k };
+    ghost eq_law = { λ a b h k. box_eq P.Scalar.low P.Scalar.high P.DIMENSIONS P.coord P.of_coords P.eq P.coords_of_law
+        P.eq_law a b h k };
 }

@@ -14,7 +14,8 @@ pub(crate) fn generated<P: Point, F: Fn(usize) -> P::Scalar + Drop>(f: F) -> P
     requires { (i : ℕ) → i < P.DIMENSIONS → F.pre f i }
     ensures coords { (to : ℕ → ℤ) → ((i : ℕ) (y : P.Scalar) → i < P.DIMENSIONS → F.post f i y → P.Scalar.value y ≡ to i)
         → (i : ℕ) → i < P.DIMENSIONS → P.coord result i ≡ to i }
-    ensures range { ((i : ℕ) (y : P.Scalar) → i < P.DIMENSIONS → F.post f i y → InRange P.Scalar.low P.Scalar.high (P.Scalar.value y))
+    ensures range { ((i : ℕ) (y : P.Scalar) → i < P.DIMENSIONS → F.post f i y
+        → InRange P.Scalar.low P.Scalar.high (P.Scalar.value y))
         → (i : ℕ) → i < P.DIMENSIONS → InRange P.Scalar.low P.Scalar.high (P.coord result i) }
     ensures whole { P.of_coords (table P.DIMENSIONS (P.coord result)) ≡ result }
 {
@@ -38,7 +39,9 @@ pub(crate) fn every_axis<P: Point, F: Fn(usize) -> bool + Drop>(test: F) -> bool
 /// The clamped sum of a number for each axis.
 pub(crate) fn clamped_sum<P: Point, F: Fn(usize) -> P::Scalar + Drop>(term: F) -> P::Scalar
     requires { (i : ℕ) → i < P.DIMENSIONS → F.pre term i }
-    ensures { (to : ℕ → ℕ) → ((i : ℕ) (y : P.Scalar) → i < P.DIMENSIONS → F.post term i y → P.Scalar.value y ≡ pos (min (to i) (unsigned_abs P.Scalar.high)))
+    ensures { (to : ℕ → ℕ)
+        → ((i : ℕ) (y : P.Scalar) → i < P.DIMENSIONS → F.post term i y
+        → P.Scalar.value y ≡ pos (min (to i) (unsigned_abs P.Scalar.high)))
         → P.Scalar.value result ≡ pos (min (sum_below P.DIMENSIONS to) (unsigned_abs P.Scalar.high)) }
 {
     let mut sum = P::Scalar::zero();
@@ -51,7 +54,9 @@ pub(crate) fn clamped_sum<P: Point, F: Fn(usize) -> P::Scalar + Drop>(term: F) -
 /// The clamped product of a number for each axis, none of them negative.
 pub(crate) fn clamped_product<P: Point, F: Fn(usize) -> P::Scalar + Drop>(factor: F) -> P::Scalar
     requires { (i : ℕ) → i < P.DIMENSIONS → F.pre factor i }
-    ensures { (to : ℕ → ℕ) → ((i : ℕ) (y : P.Scalar) → i < P.DIMENSIONS → F.post factor i y → P.Scalar.value y ≡ pos (min (to i) (unsigned_abs P.Scalar.high)))
+    ensures { (to : ℕ → ℕ)
+        → ((i : ℕ) (y : P.Scalar) → i < P.DIMENSIONS → F.post factor i y
+        → P.Scalar.value y ≡ pos (min (to i) (unsigned_abs P.Scalar.high)))
         → P.Scalar.value result ≡ pos (min (product_below P.DIMENSIONS to) (unsigned_abs P.Scalar.high)) }
 {
     let mut product = P::Scalar::one();

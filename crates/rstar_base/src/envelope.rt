@@ -12,8 +12,8 @@ use std::fmt::Debug;
 /// A tree skips what an envelope rules out, and is right to by the laws that the type proves
 /// (`envelope_laws`, `eq_law`): merging is commutative and associative, with the empty envelope as its
 /// unit; a merge contains both parts; where neither part is empty, it is no farther than either, and its
-/// `min_max_dist_2` is at least the lesser of theirs. `AABB` is the envelope of boxes; a type of a user's own proves the same laws.
-/// All distances are squared, and a call takes no memory.
+/// `min_max_dist_2` is at least the lesser of theirs. `AABB` is the envelope of boxes; a type of a
+/// user's own proves the same laws. All distances are squared, and a call takes no memory.
 pub trait Envelope: Clone + PartialEq + Debug + Drop {
     /// The type of its points.
     type Point: Point;
@@ -32,7 +32,8 @@ pub trait Envelope: Clone + PartialEq + Debug + Drop {
 
     /// Whether it contains a point.
     fn contains_point(&self, point: &Self::Point) -> bool
-        ensures test { result ≡ boxes.contains_point self.now (table Self.Point.DIMENSIONS (Self.Point.coord point.now)) }
+        ensures test { result
+            ≡ boxes.contains_point self.now (table Self.Point.DIMENSIONS (Self.Point.coord point.now)) }
         ensures own { boxes.IsValue self.now };
 
     /// Whether it contains an envelope, borders included.
@@ -57,13 +58,15 @@ pub trait Envelope: Clone + PartialEq + Debug + Drop {
 
     /// The squared distance to a point: no element that it covers is nearer.
     fn distance_2(&self, point: &Self::Point) -> <Self::Point as Point>::Scalar
-        ensures value { Self.Point.Scalar.value result ≡ pos (boxes.distance_2 self.now (table Self.Point.DIMENSIONS (Self.Point.coord point.now))) }
+        ensures value { Self.Point.Scalar.value result
+            ≡ pos (boxes.distance_2 self.now (table Self.Point.DIMENSIONS (Self.Point.coord point.now))) }
         ensures own { boxes.IsValue self.now };
 
     /// The squared distance within which an element lies, where the envelope is the merge of elements' envelopes
     /// (MINMAXDIST of Roussopoulos, Kelley and Vincent 1995).
     fn min_max_dist_2(&self, point: &Self::Point) -> <Self::Point as Point>::Scalar
-        ensures value { Self.Point.Scalar.value result ≡ pos (boxes.min_max_dist_2 self.now (table Self.Point.DIMENSIONS (Self.Point.coord point.now))) }
+        ensures value { Self.Point.Scalar.value result
+            ≡ pos (boxes.min_max_dist_2 self.now (table Self.Point.DIMENSIONS (Self.Point.coord point.now))) }
         ensures own { boxes.IsValue self.now };
 
     /// The size of what it covers, held at the greatest scalar.
@@ -92,7 +95,8 @@ pub trait Envelope: Clone + PartialEq + Debug + Drop {
         ensures value { Self.Point.Scalar.value result ≡ boxes.axis_key self.now axis }
         ensures own { boxes.IsValue self.now };
 
-    ghost envelope_laws: { EnvelopeLaws (IsPoint Self.Point.Scalar.low Self.Point.Scalar.high Self.Point.DIMENSIONS) boxes };
+    ghost envelope_laws: { EnvelopeLaws (IsPoint Self.Point.Scalar.low Self.Point.Scalar.high Self.Point.DIMENSIONS)
+        boxes };
 
     // `==` is equality of what is meant.
     ghost eq_law: { (a b : Self) → boxes.IsValue a → boxes.IsValue b → IsTrue (Self.eq a b) ↔ (a ≡ b) };

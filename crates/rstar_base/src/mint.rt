@@ -35,7 +35,8 @@ impl<S: RTreeNum> Point for Point2<S> {
 
     ghost coord = { λ p i. list_coord S.value S.zero (p.x ∷ p.y ∷ []) i };
 
-    ghost of_coords = { λ zs. record { x = S.of_value (slice_index_or zs 0 (pos 0)); y = S.of_value (slice_index_or zs 1 (pos 0)) } };
+    ghost of_coords = { λ zs.
+        record { x = S.of_value (slice_index_or zs 0 (pos 0)); y = S.of_value (slice_index_or zs 1 (pos 0)) } };
 
     ghost with = { λ p i s. record { x = after_write i s 0 p.x; y = after_write i s 1 p.y } };
 
@@ -65,7 +66,11 @@ impl<S: RTreeNum> Point for Point2<S> {
 
     ghost with_law = { λ p i s j _ _ l. tuple-with S.value S.zero (p.x ∷ p.y ∷ []) i s j l };
 
-    ghost eq_law = { λ p q _ _. tuple-eq S.eq S.value (λ a b. S.eq_law a b S.exact_law) p.x q.x (p.y ∷ []) (q.y ∷ []) refl };
+    ghost same_law = { λ p q.
+        (tuple-eq S.eq S.value (λ a b. S.eq_law a b S.exact_law) p.x q.x (p.y ∷ []) (q.y ∷ []) refl).0 };
+
+    ghost eq_law = { λ p q _ _. tuple-eq S.eq S.value (λ a b. S.eq_law a b S.exact_law) p.x q.x (p.y ∷ []) (q.y ∷ [])
+        refl };
 }
 
 impl<S: RTreeNum> Point for Point3<S> {
@@ -77,9 +82,15 @@ impl<S: RTreeNum> Point for Point3<S> {
 
     ghost coord = { λ p i. list_coord S.value S.zero (p.x ∷ p.y ∷ p.z ∷ []) i };
 
-    ghost of_coords = { λ zs. record { x = S.of_value (slice_index_or zs 0 (pos 0)); y = S.of_value (slice_index_or zs 1 (pos 0)); z = S.of_value (slice_index_or zs 2 (pos 0)) } };
+    ghost of_coords = { λ zs.
+        record {
+          x = S.of_value (slice_index_or zs 0 (pos 0));
+          y = S.of_value (slice_index_or zs 1 (pos 0));
+          z = S.of_value (slice_index_or zs 2 (pos 0));
+        } };
 
-    ghost with = { λ p i s. record { x = after_write i s 0 p.x; y = after_write i s 1 p.y; z = after_write i s 2 p.z } };
+    ghost with = { λ p i s.
+        record { x = after_write i s 0 p.x; y = after_write i s 1 p.y; z = after_write i s 2 p.z } };
 
     fn generate<F: FnMut(usize) -> S>(mut generator: F) -> Point3<S> {
         let x = generator(0);
@@ -109,6 +120,8 @@ impl<S: RTreeNum> Point for Point3<S> {
     ghost coords_of_law = { λ zs h. tuple-forth S.value S.of_value S.low S.high S.value_of_law 3 zs h };
 
     ghost with_law = { λ p i s j _ _ l. tuple-with S.value S.zero (p.x ∷ p.y ∷ p.z ∷ []) i s j l };
+
+    ghost same_law = { λ p q. (triple-eq S.eq S.value (λ a b. S.eq_law a b S.exact_law) p.x p.y p.z q.x q.y q.z).0 };
 
     ghost eq_law = { λ p q _ _. triple-eq S.eq S.value (λ a b. S.eq_law a b S.exact_law) p.x p.y p.z q.x q.y q.z };
 }

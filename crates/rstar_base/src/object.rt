@@ -4,9 +4,10 @@ ghost use Rattle.std.specs.Prelude.{◌≡◌, ◌<◌, ℕ, ℤ, List, Bool, tr
 ghost use Rattle.std.specs.Ordering.{int_cmp};
 ghost use Rattle.std.specs.List.Sorted.{IsPermutation, IsSortedByKey};
 ghost use Rattle.std.specs.List.{AllByRecursion};
-ghost use Rattle.rstar_base.specs.Boxes.{between_corners, IsBox};
 ghost use Rattle.rstar_base.specs.Points.{table, all_below, IsPoint};
-ghost use Rattle.rstar_base.specs.Elements.{Objects, Distances, ObjectLaws, DistanceLaws, IsDistanceUpTo, carried_objects, carried_distances};
+ghost use Rattle.rstar_base.specs.Elements.{Objects, Distances, ObjectLaws, DistanceLaws, EqualLaws, IsDistanceUpTo};
+ghost use Rattle.rstar_base.specs.Elements.{carried_objects, carried_distances};
+ghost use Rattle.rstar_base.specs.PointElements.{point_object};
 ghost use Rattle.rstar_base.specs.laws.CarrierLaws.{carried_laws};
 ghost use Rattle.rstar_base.specs.Hulls.{hull};
 ghost use Rattle.rstar_base.specs.Orders.{IsSplitAt};
@@ -57,12 +58,16 @@ pub trait PointDistance: RTreeObject {
         &self,
         point: &<Self::Envelope as Envelope>::Point,
     ) -> <<Self::Envelope as Envelope>::Point as Point>::Scalar
-        ensures { Self.Envelope.Point.Scalar.value result ≡ pos (distances.distance_2 self.now (table Self.Envelope.Point.DIMENSIONS (Self.Envelope.Point.coord point.now))) };
+        ensures { Self.Envelope.Point.Scalar.value result
+            ≡ pos (distances.distance_2 self.now
+            (table Self.Envelope.Point.DIMENSIONS (Self.Envelope.Point.coord point.now))) };
 
     /// Whether the element contains a point. For an element that contains exactly the points at
     /// distance 0 the body is a call of `contains_by_distance`.
     fn contains_point(&self, point: &<Self::Envelope as Envelope>::Point) -> bool
-        ensures { result ≡ distances.contains_point self.now (table Self.Envelope.Point.DIMENSIONS (Self.Envelope.Point.coord point.now)) };
+        ensures { result
+            ≡ distances.contains_point self.now
+            (table Self.Envelope.Point.DIMENSIONS (Self.Envelope.Point.coord point.now)) };
 
     /// The squared distance to a point where it is at most `max_distance_2`, and else `None`.
     ///
@@ -72,7 +77,9 @@ pub trait PointDistance: RTreeObject {
         point: &<Self::Envelope as Envelope>::Point,
         max_distance_2: <<Self::Envelope as Envelope>::Point as Point>::Scalar,
     ) -> Option<<<Self::Envelope as Envelope>::Point as Point>::Scalar>
-        ensures { IsDistanceUpTo Self.Envelope.Point.Scalar.value (Self.Envelope.Point.Scalar.value max_distance_2) (distances.distance_2 self.now (table Self.Envelope.Point.DIMENSIONS (Self.Envelope.Point.coord point.now))) result }
+        ensures { IsDistanceUpTo Self.Envelope.Point.Scalar.value (Self.Envelope.Point.Scalar.value max_distance_2)
+            (distances.distance_2 self.now (table Self.Envelope.Point.DIMENSIONS (Self.Envelope.Point.coord point.now)))
+            result }
     {
         // Does nothing but tell that the point's coordinates are in their range.
         known(point);
@@ -84,7 +91,15 @@ pub trait PointDistance: RTreeObject {
         up_to(distance_2, max_distance_2)
     }
 
-    ghost distance_laws: { DistanceLaws (IsPoint Self.Envelope.Point.Scalar.low Self.Envelope.Point.Scalar.high Self.Envelope.Point.DIMENSIONS) Self.Envelope.boxes Self.object distances };
+    ghost distance_laws: { DistanceLaws
+        (IsPoint Self.Envelope.Point.Scalar.low Self.Envelope.Point.Scalar.high Self.Envelope.Point.DIMENSIONS)
+        Self.Envelope.boxes Self.object distances };
+}
+
+/// Elements of which equal ones have equal envelopes, so that a search for an element can skip
+/// what its envelope rules out. It has no methods: to implement it is to prove the law.
+pub trait EqualEnvelopes: RTreeObject + PartialEq {
+    ghost equal_law: { EqualLaws Self.eq Self.object };
 }
 
 /// Whether a squared distance is at most 0. With `self.distance_2(point)` it is the body of
@@ -109,10 +124,7 @@ pub fn up_to<S: RTreeNum>(distance_2: S, max_distance_2: S) -> Option<S>
 impl<P: Point> RTreeObject for P {
     type Envelope = AABB<P>;
 
-    ghost object = { record {
-      IsValue = λ p. IsBox P.Scalar.low P.Scalar.high P.DIMENSIONS (between_corners P.DIMENSIONS (P.coord p) (P.coord p));
-      box_of = λ p. between_corners P.DIMENSIONS (P.coord p) (P.coord p);
-    } };
+    ghost object = { point_object P.Scalar.low P.Scalar.high P.DIMENSIONS P.coord };
 
     fn envelope(&self) -> AABB<P> {
         AABB::from_point(copied_point(self))
@@ -122,7 +134,8 @@ impl<P: Point> RTreeObject for P {
 }
 
 impl<P: Point> PointDistance for P {
-    ghost use Rattle.rstar_base.specs.PointElements.{point_distances, point_distance_laws};
+    ghost use Rattle.rstar_base.specs.PointElements.{point_distances};
+    ghost use Rattle.rstar_base.specs.laws.PointElementLaws.{point_distance_laws};
 
     ghost distances = { point_distances P.Scalar.high P.DIMENSIONS P.coord };
 
@@ -143,6 +156,12 @@ impl<P: Point> PointDistance for P {
     }
 
     ghost distance_laws = { point_distance_laws P.Scalar.low P.Scalar.high P.DIMENSIONS P.coord };
+}
+
+impl<P: Point> EqualEnvelopes for P {
+    ghost use Rattle.rstar_base.specs.laws.EqualElements.{point_equal};
+
+    ghost equal_law = { λ p q _ _ e. point_equal P.DIMENSIONS P.coord P.eq P.same_law p q e };
 }
 
 impl<T: RTreeObject> RTreeObject for Rc<T> {
@@ -180,6 +199,10 @@ impl<T: PointDistance> PointDistance for Rc<T> {
     }
 
     ghost distance_laws = { carried_laws T.Envelope.boxes T.object T.distances (λ t. t.value) T.distance_laws };
+}
+
+impl<T: EqualEnvelopes> EqualEnvelopes for Rc<T> {
+    ghost equal_law = { λ s t h k e. T.equal_law s.value t.value h k e };
 }
 
 /// The merge of the envelopes of all elements, each asked once; of none, the empty envelope.

@@ -18,15 +18,15 @@ pub trait RTreeParams {
 
     ghost REINSERTION_COUNT: { ℕ };
 
-    /// The fewest children of a parent that is not the root, where a tree is built by insertions alone: at least 1, and at
-    /// most half of `MAX_SIZE`, rounded up.
+    /// The fewest children of a parent that is not the root, where a tree is built by insertions
+    /// alone: at least 1, and at most half of `MAX_SIZE`, rounded up.
     const MIN_SIZE: usize;
 
     /// The most children of a parent: at least 4, and below the greatest `usize`.
     const MAX_SIZE: usize;
 
-    /// How many children of an overfull parent are taken out and inserted anew: fewer than `MAX_SIZE - MIN_SIZE`. With 0 an
-    /// overfull parent is split at once.
+    /// How many children of an overfull parent are taken out and inserted anew: fewer than
+    /// `MAX_SIZE - MIN_SIZE`. With 0 an overfull parent is split at once.
     const REINSERTION_COUNT: usize;
 
     ghost max_at_least_four: { 4 ≤ MAX_SIZE };
@@ -74,7 +74,8 @@ impl RTreeParams for DefaultParams {
 ///
 /// The bounds are laws of `RTreeParams`, so that for a lawful type only the axes can make it false.
 pub fn verify_parameters<T: RTreeObject, Params: RTreeParams>() -> bool
-    ensures { IsTrue result ↔ AreNodeSizes Params.MIN_SIZE Params.MAX_SIZE Params.REINSERTION_COUNT × (2 ≤ T.Envelope.Point.DIMENSIONS) }
+    ensures { IsTrue result ↔ AreNodeSizes Params.MIN_SIZE Params.MAX_SIZE Params.REINSERTION_COUNT
+        × (2 ≤ T.Envelope.Point.DIMENSIONS) }
 {
     let most = 4 <= Params::MAX_SIZE && Params::MAX_SIZE < usize::MAX;
     let fewest = 0 < Params::MIN_SIZE && Params::MIN_SIZE <= Params::MAX_SIZE.div_ceil(2);

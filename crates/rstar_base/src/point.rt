@@ -170,27 +170,48 @@ pub trait Point: Clone + PartialEq + Debug + Drop {
     /// The coordinate on an axis.
     fn nth(&self, index: usize) -> Self::Scalar
         requires { index < DIMENSIONS }
-        ensures { Self.Scalar.value result ≡ coord self.now index };
+        ensures value { Self.Scalar.value result ≡ coord self.now index }
+        ensures own { of_coords (table DIMENSIONS (coord self.now)) ≡ self.now };
 
     /// The place of the coordinate on an axis.
     fn nth_mut(&mut self, index: usize) -> &mut Self::Scalar
         requires { index < DIMENSIONS }
         ensures* writes_back { sem 𝓛 (Lends Self.row Self.Scalar.row self.entry result (with self.old index)) }
-        ensures value { Self.Scalar.value result.now ≡ coord self.old index };
+        ensures value { Self.Scalar.value result.now ≡ coord self.old index }
+        ensures own { of_coords (table DIMENSIONS (coord self.old)) ≡ self.old };
 
     // Each list of coordinates in the range is a point's.
-    ghost coords_of_law: { (zs : List ℤ) → IsPoint Self.Scalar.low Self.Scalar.high DIMENSIONS zs → table DIMENSIONS (coord (of_coords zs)) ≡ zs };
+    ghost coords_of_law: { (zs : List ℤ) → IsPoint Self.Scalar.low Self.Scalar.high DIMENSIONS zs
+        → table DIMENSIONS (coord (of_coords zs)) ≡ zs };
 
     // A write changes the coordinate on that axis and no other.
-    ghost with_law: { (p : Self) (i : ℕ) (s : Self.Scalar) (j : ℕ) → of_coords (table DIMENSIONS (coord p)) ≡ p → i < DIMENSIONS → j < DIMENSIONS
+    ghost with_law: { (p : Self) (i : ℕ) (s : Self.Scalar) (j : ℕ) → of_coords (table DIMENSIONS (coord p)) ≡ p
+        → i < DIMENSIONS → j < DIMENSIONS
         → coord (with p i s) j ≡ (if j == i then Self.Scalar.value s else coord p j) };
 
+    // Equal points have equal coordinates.
+    ghost same_law: { (p q : Self) → IsTrue (Self.eq p q) → table DIMENSIONS (coord p) ≡ table DIMENSIONS (coord q) };
+
     // Points are equal exactly where all coordinates are.
-    ghost eq_law: { (p q : Self) → of_coords (table DIMENSIONS (coord p)) ≡ p → of_coords (table DIMENSIONS (coord q)) ≡ q → IsTrue (Self.eq p q) ↔ (table DIMENSIONS (coord p) ≡ table DIMENSIONS (coord q)) };
+    ghost eq_law: { (p q : Self) → of_coords (table DIMENSIONS (coord p)) ≡ p
+        → of_coords (table DIMENSIONS (coord q)) ≡ q
+        → IsTrue (Self.eq p q) ↔ (table DIMENSIONS (coord p) ≡ table DIMENSIONS (coord q)) };
 }
 
-/// Does nothing: each point in hand is a value, and its coordinates are in the range.
+/// Does nothing: each point in hand has its coordinates in the range, and with an axis it is the
+/// point of its coordinates, so that `eq_law` speaks of it.
 pub fn known<P: Point>(p: &P)
+    ensures range { IsPoint P.Scalar.low P.Scalar.high P.DIMENSIONS (table P.DIMENSIONS (P.coord p.now)) }
+    ensures own { 0 < P.DIMENSIONS → P.of_coords (table P.DIMENSIONS (P.coord p.now)) ≡ p.now }
+{
+    in_range(p);
+    if P::DIMENSIONS > 0 {
+        let _first = p.nth(0);
+    }
+}
+
+// Does nothing but tell that the coordinates are in the range.
+fn in_range<P: Point>(p: &P)
     ensures { IsPoint P.Scalar.low P.Scalar.high P.DIMENSIONS (table P.DIMENSIONS (P.coord p.now)) }
 {
     let _copy = copied_point(p);

@@ -12,14 +12,17 @@ use num_traits::Zero;
 
 /// The clamped squared distance of two points.
 pub(crate) fn distance_between<P: Point>(a: &P, b: &P) -> P::Scalar
-    ensures { P.Scalar.value result ≡ pos (segment.point_apart P.Scalar.high P.DIMENSIONS (P.coord a.now) (P.coord b.now)) }
+    ensures { P.Scalar.value result
+        ≡ pos (segment.point_apart P.Scalar.high P.DIMENSIONS (P.coord a.now) (P.coord b.now)) }
 {
     squared_distance(a, a, b)
 }
 
 /// The nearer of two points, the first where neither is nearer.
 fn nearer<P: Point>(query_point: &P, a: &P, b: &P) -> P
-    ensures { (i : ℕ) → i < P.DIMENSIONS → P.coord result i ≡ segment.nearer P.Scalar.high P.DIMENSIONS (P.coord query_point.now) (P.coord a.now) (P.coord b.now) i }
+    ensures { (i : ℕ) → i < P.DIMENSIONS
+        → P.coord result i
+        ≡ segment.nearer P.Scalar.high P.DIMENSIONS (P.coord query_point.now) (P.coord a.now) (P.coord b.now) i }
 {
     if not_above(
         distance_between(a, query_point),
@@ -48,8 +51,11 @@ fn product_fits<S: RTreeNum>(a: S, b: S) -> bool
 /// The sum and a product, where both the product and the new sum fit.
 fn add_product<S: RTreeNum>(sum: S, a: S, b: S) -> Option<S>
     ensures { MatchOption result
-        ((in_range S.low S.high (S.value a *ℤ S.value b) && in_range S.low S.high (S.value sum +ℤ S.value a *ℤ S.value b)) ≡ false)
-        (λ s. ((in_range S.low S.high (S.value a *ℤ S.value b) && in_range S.low S.high (S.value sum +ℤ S.value a *ℤ S.value b)) ≡ true) × (S.value s ≡ S.value sum +ℤ S.value a *ℤ S.value b)) }
+        ((in_range S.low S.high (S.value a *ℤ S.value b)
+        && in_range S.low S.high (S.value sum +ℤ S.value a *ℤ S.value b)) ≡ false)
+        (λ s. ((in_range S.low S.high (S.value a *ℤ S.value b)
+        && in_range S.low S.high (S.value sum +ℤ S.value a *ℤ S.value b)) ≡ true)
+        × (S.value s ≡ S.value sum +ℤ S.value a *ℤ S.value b)) }
 {
     match a.checked_mul(&b) {
         Some(product) => sum.checked_add(&product),
@@ -79,12 +85,15 @@ fn step<S: RTreeNum>(from: S, dir: S, t: S, len: S) -> S
 fn checked_difference<P: Point>(to: &P, from: &P) -> Option<P>
     ensures { MatchOption result
         (segment.difference_fits P.Scalar.low P.Scalar.high P.DIMENSIONS (P.coord to.now) (P.coord from.now) ≡ false)
-        (λ d. (segment.difference_fits P.Scalar.low P.Scalar.high P.DIMENSIONS (P.coord to.now) (P.coord from.now) ≡ true) × ((i : ℕ) → i < P.DIMENSIONS → P.coord d i ≡ segment.direction (P.coord from.now) (P.coord to.now) i)) }
+        (λ d. (segment.difference_fits P.Scalar.low P.Scalar.high P.DIMENSIONS (P.coord to.now) (P.coord from.now)
+        ≡ true) × ((i : ℕ) → i < P.DIMENSIONS
+        → P.coord d i ≡ segment.direction (P.coord from.now) (P.coord to.now) i)) }
 {
     let fits = every_axis::<P, _>(
         |i: usize| -> bool
             requires { i < P.DIMENSIONS }
-            ensures { result ≡ in_range P.Scalar.low P.Scalar.high (P.coord to.entry.now i -ℤ P.coord from.entry.now i) }
+            ensures { result
+                ≡ in_range P.Scalar.low P.Scalar.high (P.coord to.entry.now i -ℤ P.coord from.entry.now i) }
         { difference_fits(to.nth(i), from.nth(i)) },
     );
     if fits {
@@ -96,12 +105,14 @@ fn checked_difference<P: Point>(to: &P, from: &P) -> Option<P>
 
 /// The difference of two points, clamped on every axis.
 fn clamped_difference<P: Point>(to: &P, from: &P) -> P
-    ensures { (i : ℕ) → i < P.DIMENSIONS → P.coord result i ≡ between (P.coord to.now i -ℤ P.coord from.now i) P.Scalar.low P.Scalar.high }
+    ensures { (i : ℕ) → i < P.DIMENSIONS
+        → P.coord result i ≡ between (P.coord to.now i -ℤ P.coord from.now i) P.Scalar.low P.Scalar.high }
 {
     generated(
         |i: usize| -> P::Scalar
             requires { i < P.DIMENSIONS }
-            ensures { P.Scalar.value result ≡ between (P.coord to.entry.now i -ℤ P.coord from.entry.now i) P.Scalar.low P.Scalar.high }
+            ensures { P.Scalar.value result
+                ≡ between (P.coord to.entry.now i -ℤ P.coord from.entry.now i) P.Scalar.low P.Scalar.high }
         { to.nth(i).clamped_sub(from.nth(i)) },
     )
 }
@@ -110,7 +121,8 @@ fn clamped_difference<P: Point>(to: &P, from: &P) -> P
 fn checked_dot<P: Point>(a: &P, b: &P) -> Option<P::Scalar>
     ensures { MatchOption result
         (segment.dot_fits P.Scalar.low P.Scalar.high P.DIMENSIONS (P.coord a.now) (P.coord b.now) ≡ false)
-        (λ s. (segment.dot_fits P.Scalar.low P.Scalar.high P.DIMENSIONS (P.coord a.now) (P.coord b.now) ≡ true) × (P.Scalar.value s ≡ segment.dot P.DIMENSIONS (P.coord a.now) (P.coord b.now))) }
+        (λ s. (segment.dot_fits P.Scalar.low P.Scalar.high P.DIMENSIONS (P.coord a.now) (P.coord b.now) ≡ true)
+        × (P.Scalar.value s ≡ segment.dot P.DIMENSIONS (P.coord a.now) (P.coord b.now))) }
 {
     let mut sum = P::Scalar::zero();
     for i in 0..P::DIMENSIONS {
@@ -124,7 +136,8 @@ fn checked_dot<P: Point>(a: &P, b: &P) -> Option<P::Scalar>
 
 /// Whether each multiple of the direction fits.
 fn multiple_fits<P: Point>(dir: &P, t: P::Scalar) -> bool
-    ensures { result ≡ segment.multiple_fits P.Scalar.low P.Scalar.high P.DIMENSIONS (P.coord dir.now) (P.Scalar.value t) }
+    ensures { result
+        ≡ segment.multiple_fits P.Scalar.low P.Scalar.high P.DIMENSIONS (P.coord dir.now) (P.Scalar.value t) }
 {
     every_axis::<P, _>(
         |i: usize| -> bool
@@ -138,8 +151,12 @@ fn multiple_fits<P: Point>(dir: &P, t: P::Scalar) -> bool
 fn stepped<P: Point>(from: &P, dir: &P, t: P::Scalar, len: P::Scalar) -> P
     requires after { pos 0 <ℤ P.Scalar.value t }
     requires before { P.Scalar.value t <ℤ P.Scalar.value len }
-    requires fits { segment.multiple_fits P.Scalar.low P.Scalar.high P.DIMENSIONS (P.coord dir.now) (P.Scalar.value t) ≡ true }
-    ensures { (i : ℕ) → i < P.DIMENSIONS → P.coord result i ≡ between (P.coord from.now i +ℤ int_div (P.coord dir.now i *ℤ P.Scalar.value t) (P.Scalar.value len)) P.Scalar.low P.Scalar.high }
+    requires fits { segment.multiple_fits P.Scalar.low P.Scalar.high P.DIMENSIONS (P.coord dir.now) (P.Scalar.value t)
+        ≡ true }
+    ensures { (i : ℕ) → i < P.DIMENSIONS
+        → P.coord result i
+        ≡ between (P.coord from.now i +ℤ int_div (P.coord dir.now i *ℤ P.Scalar.value t) (P.Scalar.value len))
+        P.Scalar.low P.Scalar.high }
 {
     generated(
         |i: usize| -> P::Scalar
@@ -147,7 +164,9 @@ fn stepped<P: Point>(from: &P, dir: &P, t: P::Scalar, len: P::Scalar) -> P
             requires after { pos 0 <ℤ P.Scalar.value t }
             requires before { P.Scalar.value t <ℤ P.Scalar.value len }
             requires fits { in_range P.Scalar.low P.Scalar.high (P.coord dir.now i *ℤ P.Scalar.value t) ≡ true }
-            ensures { P.Scalar.value result ≡ between (P.coord from.entry.now i +ℤ int_div (P.coord dir.entry.now i *ℤ P.Scalar.value t) (P.Scalar.value len)) P.Scalar.low P.Scalar.high }
+            ensures { P.Scalar.value result
+                ≡ between (P.coord from.entry.now i +ℤ int_div (P.coord dir.entry.now i *ℤ P.Scalar.value t)
+                (P.Scalar.value len)) P.Scalar.low P.Scalar.high }
         { step(from.nth(i), dir.nth(i), t, len) },
     )
 }
@@ -155,9 +174,13 @@ fn stepped<P: Point>(from: &P, dir: &P, t: P::Scalar, len: P::Scalar) -> P
 /// The interior point of a segment that is considered for a point, if there is one.
 fn interior_point<P: Point>(from: &P, to: &P, query_point: &P) -> Option<P>
     ensures { MatchOption result
-        (segment.has_interior P.Scalar.low P.Scalar.high P.DIMENSIONS (P.coord from.now) (P.coord to.now) (P.coord query_point.now) ≡ false)
-        (λ p. (segment.has_interior P.Scalar.low P.Scalar.high P.DIMENSIONS (P.coord from.now) (P.coord to.now) (P.coord query_point.now) ≡ true)
-        × ((i : ℕ) → i < P.DIMENSIONS → P.coord p i ≡ segment.interior P.DIMENSIONS (P.coord from.now) (P.coord to.now) (P.coord query_point.now) i)) }
+        (segment.has_interior P.Scalar.low P.Scalar.high P.DIMENSIONS (P.coord from.now) (P.coord to.now)
+        (P.coord query_point.now) ≡ false)
+        (λ p. (segment.has_interior P.Scalar.low P.Scalar.high P.DIMENSIONS (P.coord from.now) (P.coord to.now)
+        (P.coord query_point.now) ≡ true)
+        × ((i : ℕ) → i < P.DIMENSIONS
+        → P.coord p i
+        ≡ segment.interior P.DIMENSIONS (P.coord from.now) (P.coord to.now) (P.coord query_point.now) i)) }
 {
     // These do nothing but tell that the coordinates are in their range.
     known(from);
@@ -177,7 +200,10 @@ fn interior_point<P: Point>(from: &P, to: &P, query_point: &P) -> Option<P>
 
 /// The first nearest of the ends and the interior point.
 pub(crate) fn nearest_of_segment<P: Point>(from: &P, to: &P, query_point: &P) -> P
-    ensures { (i : ℕ) → i < P.DIMENSIONS → P.coord result i ≡ segment.nearest_of_segment P.Scalar.low P.Scalar.high P.DIMENSIONS (P.coord from.now) (P.coord to.now) (P.coord query_point.now) i }
+    ensures { (i : ℕ) → i < P.DIMENSIONS
+        → P.coord result i
+        ≡ segment.nearest_of_segment P.Scalar.low P.Scalar.high P.DIMENSIONS (P.coord from.now) (P.coord to.now)
+        (P.coord query_point.now) i }
 {
     let end = nearer(query_point, from, to);
     match interior_point(from, to, query_point) {

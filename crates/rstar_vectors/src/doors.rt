@@ -1,11 +1,11 @@
 //! An element type of a user's own: a place with two doors.
 
 ghost use Rattle.rstar_vectors.specs.Doors.{doors_objects, doors_distances};
-ghost use Rattle.rstar_vectors.specs.laws.DoorsLaws.{doors_object_law, doors_laws};
+ghost use Rattle.rstar_vectors.specs.laws.DoorsLaws.{doors_object_law, doors_laws, doors_equal};
 
 use rstar_base::aabb::AABB;
 use rstar_base::envelope::Envelope;
-use rstar_base::object::{PointDistance, RTreeObject};
+use rstar_base::object::{EqualEnvelopes, PointDistance, RTreeObject};
 use rstar_base::point::{Point, least};
 
 /// A place with two doors. It is as far away as its nearer door, and contains the points at which
@@ -21,13 +21,15 @@ pub struct Doors<P> {
 impl<P: Point> RTreeObject for Doors<P> {
     type Envelope = AABB<P>;
 
-    ghost object = { doors_objects P.Scalar.low P.Scalar.high P.DIMENSIONS (λ d. P.coord d.front) (λ d. P.coord d.back) };
+    ghost object = { doors_objects P.Scalar.low P.Scalar.high P.DIMENSIONS (λ d. P.coord d.front)
+        (λ d. P.coord d.back) };
 
     fn envelope(&self) -> AABB<P> {
         self.front.envelope().merged(&self.back.envelope())
     }
 
-    ghost object_law = { doors_object_law P.Scalar.low P.Scalar.high P.DIMENSIONS (λ d. P.coord d.front) (λ d. P.coord d.back) };
+    ghost object_law = { doors_object_law P.Scalar.low P.Scalar.high P.DIMENSIONS (λ d. P.coord d.front)
+        (λ d. P.coord d.back) };
 }
 
 impl<P: Point> PointDistance for Doors<P> {
@@ -42,7 +44,12 @@ impl<P: Point> PointDistance for Doors<P> {
         self.front.contains_point(point) || self.back.contains_point(point)
     }
 
-    ghost distance_laws = { doors_laws P.Scalar.low P.Scalar.high P.DIMENSIONS (λ d. P.coord d.front) (λ d. P.coord d.back) P.Scalar.low_law P.Scalar.high_law };
+    ghost distance_laws = { doors_laws P.Scalar.low P.Scalar.high P.DIMENSIONS (λ d. P.coord d.front)
+        (λ d. P.coord d.back) P.Scalar.low_law P.Scalar.high_law };
+}
+
+impl<P: Point> EqualEnvelopes for Doors<P> {
+    ghost equal_law = { λ a b _ _ e. doors_equal P.DIMENSIONS P.coord P.eq P.same_law a.front a.back b.front b.back e };
 }
 
 #[cfg(test)]

@@ -72,7 +72,8 @@ fn gap<S: RTreeNum>(from: S, to: S, at: S) -> S
 
 /// The square of the gap, held at the greatest scalar.
 fn squared_gap<S: RTreeNum>(from: S, to: S, at: S) -> S
-    ensures { S.value result ≡ pos (held_square (unsigned_abs S.high) (gap_between (S.value from) (S.value to) (S.value at))) }
+    ensures { S.value result
+        ≡ pos (held_square (unsigned_abs S.high) (gap_between (S.value from) (S.value to) (S.value at))) }
 {
     let gap = gap(from, to, at);
     gap.clamped_mul(gap)
@@ -80,7 +81,8 @@ fn squared_gap<S: RTreeNum>(from: S, to: S, at: S) -> S
 
 /// The square of the distance to the nearer end, held at the greatest scalar.
 fn squared_nearer_end<S: RTreeNum>(from: S, to: S, at: S) -> S
-    ensures { S.value result ≡ pos (held_square (unsigned_abs S.high) (nearer_end (S.value from) (S.value to) (S.value at))) }
+    ensures { S.value result
+        ≡ pos (held_square (unsigned_abs S.high) (nearer_end (S.value from) (S.value to) (S.value at))) }
 {
     let end = least(gap(from, from, at), gap(to, to, at));
     end.clamped_mul(end)

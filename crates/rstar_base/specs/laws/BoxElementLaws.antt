@@ -13,10 +13,12 @@ use Rattle.rstar_base.specs.BoxData.{box_data}
 use Rattle.rstar_base.specs.Elements.{DistanceLaws}
 use Rattle.rstar_base.specs.BoxElements.{box_objects, box_distances}
 
-to-lower : (x : ℤ × ℤ) (q : ℤ) → int_lt x.1 x.0 ≡ false → unsigned_abs (int_min x.1 (int_max x.0 q) -ℤ q) ≤ unsigned_abs (x.0 -ℤ q)
+to-lower : (x : ℤ × ℤ) (q : ℤ) → int_lt x.1 x.0 ≡ false
+    → unsigned_abs (int_min x.1 (int_max x.0 q) -ℤ q) ≤ unsigned_abs (x.0 -ℤ q)
 to-lower x q h = grind (arith, ints)
 
-to-upper : (x : ℤ × ℤ) (q : ℤ) → int_lt x.1 x.0 ≡ false → unsigned_abs (int_min x.1 (int_max x.0 q) -ℤ q) ≤ unsigned_abs (x.1 -ℤ q)
+to-upper : (x : ℤ × ℤ) (q : ℤ) → int_lt x.1 x.0 ≡ false
+    → unsigned_abs (int_min x.1 (int_max x.0 q) -ℤ q) ≤ unsigned_abs (x.1 -ℤ q)
 to-upper x q h = grind (arith, ints)
 
 -- the nearest number of an interval is no farther than either of its ends
@@ -46,15 +48,18 @@ distance-faces (suc k) (x ∷ xs) (q ∷ qs) h =
     let r = distance-faces k xs qs e.1 in omega (arith, n, r)
 
 -- the distance of a box is at most its min-max distance
-pub box_within : (high : ℤ) (b : List (ℤ × ℤ)) (p : List ℤ) → is_empty_box b ≡ false → box_distance high b p ≤ box_min_max high b p
+pub box_within : (high : ℤ) (b : List (ℤ × ℤ)) (p : List ℤ) → is_empty_box b ≡ false
+    → box_distance high b p ≤ box_min_max high b p
 box_within high [] p h = omega arith
 box_within high (x ∷ xs) p h =
-    least-above (unsigned_abs high) (distance_sum (x ∷ xs) p) (length (x ∷ xs)) (λ k. faces_at k (x ∷ xs) p) (λ k. distance-faces k (x ∷ xs) p h)
+    least-above (unsigned_abs high) (distance_sum (x ∷ xs) p) (length (x ∷ xs)) (λ k. faces_at k (x ∷ xs) p)
+    (λ k. distance-faces k (x ∷ xs) p h)
 
 same_le : (m : ℕ) → m ≤ m
 same_le m = omega arith
 
-pub box_element_laws : (low high : ℤ) (n : ℕ) → DistanceLaws (IsPoint low high n) (box_data low high n) (box_objects low high n) (box_distances high)
+pub box_element_laws : (low high : ℤ) (n : ℕ)
+    → DistanceLaws (IsPoint low high n) (box_data low high n) (box_objects low high n) (box_distances high)
 box_element_laws low high n = record {
   near = λ b p _ _ _. same_le (box_distance high b p);
   within = λ b p _ _ h. box_within high b p h;

@@ -7,7 +7,8 @@ use Rattle.rstar_base.specs.laws.DistanceLaws.{box_distance-up, box_min_max-merg
 use Rattle.rstar_base.specs.BoxData.{box_data}
 use Rattle.rstar_base.specs.Envelopes.{EnvelopeLaws}
 
-pub box_laws : (low high : ℤ) (n : ℕ) → low <ℤ pos 0 → pos 0 <ℤ high → EnvelopeLaws (IsPoint low high n) (box_data low high n)
+pub box_laws : (low high : ℤ) (n : ℕ) → low <ℤ pos 0 → pos 0 <ℤ high
+    → EnvelopeLaws (IsPoint low high n) (box_data low high n)
 box_laws low high n hl hh = record {
   empty_value = empty-box low high n (low_le_high _ _ hl hh);
   merge_value = λ a b h k. merge-box low high n a b h k;
@@ -23,6 +24,7 @@ box_laws low high n hl hh = record {
   contains_trans = λ a b c _ _ _ h k. contains-trans a b c h k;
   intersects_sym = λ a b _ _ h. intersects-sym a b h;
   contains_intersects = λ a b _ _ h e. contains-intersects a b b h (intersects-self b e);
-  merge_distance = λ a b p _ h k e. box_distance-up high (merge_boxes a b) a p (merge-contains a b (long_same low high n _ _ h k)) e;
+  merge_distance =
+      λ a b p _ h k e. box_distance-up high (merge_boxes a b) a p (merge-contains a b (long_same low high n _ _ h k)) e;
   merge_min_max = λ a b p _ h k e f. box_min_max-merge high a b p (long_same low high n _ _ h k) e f;
 }

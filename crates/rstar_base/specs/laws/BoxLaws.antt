@@ -79,7 +79,8 @@ merge-assoc (x ∷ xs) [] c = refl
 merge-assoc (x ∷ xs) (y ∷ ys) [] = refl
 merge-assoc (x ∷ xs) (y ∷ ys) (z ∷ zs) =
     let p = min_assoc x.0 y.0 z.0 in let q = max_assoc x.1 y.1 z.1 in
-    let ih : merge_boxes (merge_boxes xs ys) zs ≡ merge_boxes xs (merge_boxes ys zs) = merge-assoc xs ys zs in rw (p, q, ih) refl
+    let ih : merge_boxes (merge_boxes xs ys) zs ≡ merge_boxes xs (merge_boxes ys zs) =
+    merge-assoc xs ys zs in rw (p, q, ih) refl
 
 pub merge-long : (n : ℕ) (a b : List (ℤ × ℤ)) → length a ≡ n → length b ≡ n → length (merge_boxes a b) ≡ n
 merge-long n [] b h k = h
@@ -88,14 +89,16 @@ merge-long zero (x ∷ xs) (y ∷ ys) h k = absurd (omega arith)
 merge-long (suc n) (x ∷ xs) (y ∷ ys) h k =
     let ih : length (merge_boxes xs ys) ≡ n = merge-long n xs ys (omega arith) (omega arith) in omega arith
 
-range_min : (low high x y : ℤ) → in_range low high x ≡ true → in_range low high y ≡ true → in_range low high (int_min x y) ≡ true
+range_min : (low high x y : ℤ) → in_range low high x ≡ true → in_range low high y ≡ true
+    → in_range low high (int_min x y) ≡ true
 range_min low high x y h k =
     let p = and_parts (int_le low x) (int_le x high) h in let q = and_parts (int_le low y) (int_le y high) k in
     and_both (int_le low (int_min x y)) (int_le (int_min x y) high)
     (let a : int_le low x ≡ true = p.0 in let b : int_le low y ≡ true = q.0 in grind (arith, ints))
     (le_trans _ x _ (min_le x y) p.1)
 
-range_max : (low high x y : ℤ) → in_range low high x ≡ true → in_range low high y ≡ true → in_range low high (int_max x y) ≡ true
+range_max : (low high x y : ℤ) → in_range low high x ≡ true → in_range low high y ≡ true
+    → in_range low high (int_max x y) ≡ true
 range_max low high x y h k =
     let p = and_parts (int_le low x) (int_le x high) h in let q = and_parts (int_le low y) (int_le y high) k in
     and_both (int_le low (int_max x y)) (int_le (int_max x y) high)
@@ -111,8 +114,10 @@ merge-ranged low high (x ∷ xs) (y ∷ ys) h k =
     let q = and_parts (in_range low high y.0 && in_range low high y.1) (all_in_range low high ys) k in
     let p' = and_parts (in_range low high x.0) (in_range low high x.1) p.0 in
     let q' = and_parts (in_range low high y.0) (in_range low high y.1) q.0 in
-    and_both (in_range low high (int_min x.0 y.0) && in_range low high (int_max x.1 y.1)) (all_in_range low high (merge_boxes xs ys))
-    (and_both (in_range low high (int_min x.0 y.0)) (in_range low high (int_max x.1 y.1)) (range_min low high x.0 y.0 p'.0 q'.0) (range_max low high x.1 y.1 p'.1 q'.1))
+    and_both (in_range low high (int_min x.0 y.0) && in_range low high (int_max x.1 y.1))
+    (all_in_range low high (merge_boxes xs ys))
+    (and_both (in_range low high (int_min x.0 y.0)) (in_range low high (int_max x.1 y.1))
+    (range_min low high x.0 y.0 p'.0 q'.0) (range_max low high x.1 y.1 p'.1 q'.1))
     (merge-ranged low high xs ys p.1 q.1)
 
 pub merge-keeps : (a b : List (ℤ × ℤ)) → is_empty_box a ≡ false → is_empty_box (merge_boxes a b) ≡ false
@@ -122,7 +127,9 @@ merge-keeps (x ∷ xs) (y ∷ ys) h =
     let p = or_parts (int_lt x.1 x.0) (is_empty_box xs) h in
     let le : int_le x.0 x.1 ≡ true = le_of_not_lt x.1 x.0 p.0 in
     or_both (int_lt (int_max x.1 y.1) (int_min x.0 y.0)) (is_empty_box (merge_boxes xs ys))
-    (not_lt_of_le (int_max x.1 y.1) (int_min x.0 y.0) (le_trans (int_min x.0 y.0) x.0 (int_max x.1 y.1) (min_le x.0 y.0) (le_trans x.0 x.1 (int_max x.1 y.1) le (le_max x.1 y.1))))
+    (not_lt_of_le (int_max x.1 y.1) (int_min x.0 y.0)
+    (le_trans (int_min x.0 y.0) x.0 (int_max x.1 y.1) (min_le x.0 y.0)
+    (le_trans x.0 x.1 (int_max x.1 y.1) le (le_max x.1 y.1))))
     (merge-keeps xs ys p.1)
 
 pub merge-empty-left : (a b : List (ℤ × ℤ)) → is_empty_box (merge_boxes a b) ≡ true → is_empty_box a ≡ true
@@ -141,9 +148,11 @@ merge-unit low high (suc n) (x ∷ xs) h k =
     let p' = and_parts (in_range low high x.0) (in_range low high x.1) p.0 in
     let s : int_min high x.0 ≡ x.0 = min_of_le high x.0 (and_parts (int_le low x.0) (int_le x.0 high) p'.0).1 in
     let t : int_max low x.1 ≡ x.1 = max_of_le low x.1 (and_parts (int_le low x.1) (int_le x.1 high) p'.1).0 in
-    let ih : merge_boxes (empty_box low high n) xs ≡ xs = merge-unit low high n xs (omega arith) p.1 in rw (s, t, ih) refl
+    let ih : merge_boxes (empty_box low high n) xs ≡ xs =
+    merge-unit low high n xs (omega arith) p.1 in rw (s, t, ih) refl
 
-pub merge-box : (low high : ℤ) (n : ℕ) (a b : List (ℤ × ℤ)) → IsBox low high n a → IsBox low high n b → IsBox low high n (merge_boxes a b)
+pub merge-box : (low high : ℤ) (n : ℕ) (a b : List (ℤ × ℤ)) → IsBox low high n a → IsBox low high n b
+    → IsBox low high n (merge_boxes a b)
 merge-box low high n a b h k = record {
   long = merge-long n a b h.long k.long;
   ranged = merge-ranged low high a b h.ranged k.ranged;
@@ -161,7 +170,9 @@ pub empty-ranged : (low high : ℤ) (n : ℕ) → int_le low high ≡ true → a
 empty-ranged low high zero h = refl
 empty-ranged low high (suc n) h =
     and_both (in_range low high high && in_range low high low) (all_in_range low high (empty_box low high n))
-    (and_both (in_range low high high) (in_range low high low) (and_both (int_le low high) (int_le high high) h (le_refl high)) (and_both (int_le low low) (int_le low high) (le_refl low) h))
+    (and_both (in_range low high high) (in_range low high low)
+    (and_both (int_le low high) (int_le high high) h (le_refl high))
+    (and_both (int_le low low) (int_le low high) (le_refl low) h))
     (empty-ranged low high n h)
 
 pub empty-box : (low high : ℤ) (n : ℕ) → int_le low high ≡ true → IsBox low high n (empty_box low high n)
@@ -170,9 +181,11 @@ empty-box low high n h = record { long = empty-long low high n; ranged = empty-r
 pub contains-refl : (a : List (ℤ × ℤ)) → contains_box a a ≡ true
 contains-refl [] = refl
 contains-refl (x ∷ xs) =
-    and_both (int_le x.0 x.0 && int_le x.1 x.1) (contains_box xs xs) (and_both (int_le x.0 x.0) (int_le x.1 x.1) (le_refl x.0) (le_refl x.1)) (contains-refl xs)
+    and_both (int_le x.0 x.0 && int_le x.1 x.1) (contains_box xs xs)
+    (and_both (int_le x.0 x.0) (int_le x.1 x.1) (le_refl x.0) (le_refl x.1)) (contains-refl xs)
 
-pub contains-trans : (a b c : List (ℤ × ℤ)) → contains_box a b ≡ true → contains_box b c ≡ true → contains_box a c ≡ true
+pub contains-trans : (a b c : List (ℤ × ℤ)) → contains_box a b ≡ true → contains_box b c ≡ true
+    → contains_box a c ≡ true
 contains-trans [] [] c h k = k
 contains-trans [] (y ∷ ys) c h k = cc
 contains-trans (x ∷ xs) [] c h k = cc
@@ -183,16 +196,19 @@ contains-trans (x ∷ xs) (y ∷ ys) (z ∷ zs) h k =
     let p' = and_parts (int_le x.0 y.0) (int_le y.1 x.1) p.0 in
     let q' = and_parts (int_le y.0 z.0) (int_le z.1 y.1) q.0 in
     and_both (int_le x.0 z.0 && int_le z.1 x.1) (contains_box xs zs)
-    (and_both (int_le x.0 z.0) (int_le z.1 x.1) (le_trans x.0 y.0 z.0 p'.0 q'.0) (le_trans z.1 y.1 x.1 q'.1 p'.1)) (contains-trans xs ys zs p.1 q.1)
+    (and_both (int_le x.0 z.0) (int_le z.1 x.1) (le_trans x.0 y.0 z.0 p'.0 q'.0) (le_trans z.1 y.1 x.1 q'.1 p'.1))
+    (contains-trans xs ys zs p.1 q.1)
 
 pub merge-contains : (a b : List (ℤ × ℤ)) → length a ≡ length b → contains_box (merge_boxes a b) a ≡ true
 merge-contains [] b h = refl
 merge-contains (x ∷ xs) [] h = absurd (omega arith)
 merge-contains (x ∷ xs) (y ∷ ys) h =
     and_both (int_le (int_min x.0 y.0) x.0 && int_le x.1 (int_max x.1 y.1)) (contains_box (merge_boxes xs ys) xs)
-    (and_both (int_le (int_min x.0 y.0) x.0) (int_le x.1 (int_max x.1 y.1)) (min_le x.0 y.0) (le_max x.1 y.1)) (merge-contains xs ys (omega arith))
+    (and_both (int_le (int_min x.0 y.0) x.0) (int_le x.1 (int_max x.1 y.1)) (min_le x.0 y.0) (le_max x.1 y.1))
+    (merge-contains xs ys (omega arith))
 
-pub contains-point : (a b : List (ℤ × ℤ)) (p : List ℤ) → contains_box a b ≡ true → box_contains_point b p ≡ true → box_contains_point a p ≡ true
+pub contains-point : (a b : List (ℤ × ℤ)) (p : List ℤ) → contains_box a b ≡ true → box_contains_point b p ≡ true
+    → box_contains_point a p ≡ true
 contains-point [] [] p h k = k
 contains-point [] (y ∷ ys) p h k = cc
 contains-point (x ∷ xs) [] p h k = cc
@@ -203,9 +219,11 @@ contains-point (x ∷ xs) (y ∷ ys) (z ∷ zs) h k =
     let p' = and_parts (int_le x.0 y.0) (int_le y.1 x.1) p.0 in
     let q' = and_parts (int_le y.0 z) (int_le z y.1) q.0 in
     and_both (int_le x.0 z && int_le z x.1) (box_contains_point xs zs)
-    (and_both (int_le x.0 z) (int_le z x.1) (le_trans x.0 y.0 z p'.0 q'.0) (le_trans z y.1 x.1 q'.1 p'.1)) (contains-point xs ys zs p.1 q.1)
+    (and_both (int_le x.0 z) (int_le z x.1) (le_trans x.0 y.0 z p'.0 q'.0) (le_trans z y.1 x.1 q'.1 p'.1))
+    (contains-point xs ys zs p.1 q.1)
 
-pub contains-intersects : (a b c : List (ℤ × ℤ)) → contains_box a b ≡ true → boxes_intersect b c ≡ true → boxes_intersect a c ≡ true
+pub contains-intersects : (a b c : List (ℤ × ℤ)) → contains_box a b ≡ true → boxes_intersect b c ≡ true
+    → boxes_intersect a c ≡ true
 contains-intersects [] [] c h k = k
 contains-intersects [] (y ∷ ys) c h k = cc
 contains-intersects (x ∷ xs) [] c h k = cc
@@ -216,7 +234,8 @@ contains-intersects (x ∷ xs) (y ∷ ys) (z ∷ zs) h k =
     let p' = and_parts (int_le x.0 y.0) (int_le y.1 x.1) p.0 in
     let q' = and_parts (int_le y.0 z.1) (int_le z.0 y.1) q.0 in
     and_both (int_le x.0 z.1 && int_le z.0 x.1) (boxes_intersect xs zs)
-    (and_both (int_le x.0 z.1) (int_le z.0 x.1) (le_trans x.0 y.0 z.1 p'.0 q'.0) (le_trans z.0 y.1 x.1 q'.1 p'.1)) (contains-intersects xs ys zs p.1 q.1)
+    (and_both (int_le x.0 z.1) (int_le z.0 x.1) (le_trans x.0 y.0 z.1 p'.0 q'.0) (le_trans z.0 y.1 x.1 q'.1 p'.1))
+    (contains-intersects xs ys zs p.1 q.1)
 
 pub intersects-sym : (a b : List (ℤ × ℤ)) → boxes_intersect a b ≡ true → boxes_intersect b a ≡ true
 intersects-sym [] [] h = h
@@ -225,14 +244,16 @@ intersects-sym (x ∷ xs) [] h = h
 intersects-sym (x ∷ xs) (y ∷ ys) h =
     let p = and_parts (int_le x.0 y.1 && int_le y.0 x.1) (boxes_intersect xs ys) h in
     let p' = and_parts (int_le x.0 y.1) (int_le y.0 x.1) p.0 in
-    and_both (int_le y.0 x.1 && int_le x.0 y.1) (boxes_intersect ys xs) (and_both (int_le y.0 x.1) (int_le x.0 y.1) p'.1 p'.0) (intersects-sym xs ys p.1)
+    and_both (int_le y.0 x.1 && int_le x.0 y.1) (boxes_intersect ys xs)
+    (and_both (int_le y.0 x.1) (int_le x.0 y.1) p'.1 p'.0) (intersects-sym xs ys p.1)
 
 pub intersects-self : (a : List (ℤ × ℤ)) → is_empty_box a ≡ false → boxes_intersect a a ≡ true
 intersects-self [] h = refl
 intersects-self (x ∷ xs) h =
     let p = or_parts (int_lt x.1 x.0) (is_empty_box xs) h in
     let le : int_le x.0 x.1 ≡ true = le_of_not_lt x.1 x.0 p.0 in
-    and_both (int_le x.0 x.1 && int_le x.0 x.1) (boxes_intersect xs xs) (and_both (int_le x.0 x.1) (int_le x.0 x.1) le le) (intersects-self xs p.1)
+    and_both (int_le x.0 x.1 && int_le x.0 x.1) (boxes_intersect xs xs)
+    (and_both (int_le x.0 x.1) (int_le x.0 x.1) le le) (intersects-self xs p.1)
 
 -- ---- boxes between corners
 
@@ -243,37 +264,43 @@ corners-same (suc n) l u l' u' h k =
     let p : l zero ≡ l' zero = h zero (omega arith) in
     let q : u zero ≡ u' zero = k zero (omega arith) in
     let ih : between_corners n (λ i. l (suc i)) (λ i. u (suc i)) ≡ between_corners n (λ i. l' (suc i)) (λ i. u' (suc i))
-    = corners-same n (λ i. l (suc i)) (λ i. u (suc i)) (λ i. l' (suc i)) (λ i. u' (suc i)) (λ i s. h (suc i) (omega arith)) (λ i s. k (suc i) (omega arith)) in
+    = corners-same n (λ i. l (suc i)) (λ i. u (suc i)) (λ i. l' (suc i)) (λ i. u' (suc i))
+    (λ i s. h (suc i) (omega arith)) (λ i s. k (suc i) (omega arith)) in
     rw (p, q, ih) refl
 
 corners-merged : (n : ℕ) (l u l' u' : ℕ → ℤ)
-    → merge_boxes (between_corners n l u) (between_corners n l' u') ≡ between_corners n (λ i. int_min (l i) (l' i)) (λ i. int_max (u i) (u' i))
+    → merge_boxes (between_corners n l u) (between_corners n l' u')
+    ≡ between_corners n (λ i. int_min (l i) (l' i)) (λ i. int_max (u i) (u' i))
 corners-merged zero l u l' u' = refl
 corners-merged (suc n) l u l' u' =
     ap (λ (w : List (ℤ × ℤ)). (int_min (l zero) (l' zero), int_max (u zero) (u' zero)) ∷ w)
     (corners-merged n (λ i. l (suc i)) (λ i. u (suc i)) (λ i. l' (suc i)) (λ i. u' (suc i)))
 
-pub corners-merge : (n : ℕ) (l u l' u' s t : ℕ → ℤ) → ((i : ℕ) → i < n → s i ≡ int_min (l i) (l' i)) → ((i : ℕ) → i < n → t i ≡ int_max (u i) (u' i))
+pub corners-merge : (n : ℕ) (l u l' u' s t : ℕ → ℤ) → ((i : ℕ) → i < n → s i ≡ int_min (l i) (l' i))
+    → ((i : ℕ) → i < n → t i ≡ int_max (u i) (u' i))
     → between_corners n s t ≡ merge_boxes (between_corners n l u) (between_corners n l' u')
 corners-merge n l u l' u' s t h k =
     corners-same n s t (λ i. int_min (l i) (l' i)) (λ i. int_max (u i) (u' i)) h k ∙ sym (corners-merged n l u l' u')
 
 pub corners-contain : (n : ℕ) (l u l' u' : ℕ → ℤ)
-    → all_below n (λ i. int_le (l i) (l' i) && int_le (u' i) (u i)) ≡ contains_box (between_corners n l u) (between_corners n l' u')
+    → all_below n (λ i. int_le (l i) (l' i) && int_le (u' i) (u i))
+    ≡ contains_box (between_corners n l u) (between_corners n l' u')
 corners-contain zero l u l' u' = refl
 corners-contain (suc n) l u l' u' =
     ap (λ (w : Bool). (int_le (l zero) (l' zero) && int_le (u' zero) (u zero)) && w)
     (corners-contain n (λ i. l (suc i)) (λ i. u (suc i)) (λ i. l' (suc i)) (λ i. u' (suc i)))
 
 pub corners-intersect : (n : ℕ) (l u l' u' : ℕ → ℤ)
-    → all_below n (λ i. int_le (l i) (u' i) && int_le (l' i) (u i)) ≡ boxes_intersect (between_corners n l u) (between_corners n l' u')
+    → all_below n (λ i. int_le (l i) (u' i) && int_le (l' i) (u i))
+    ≡ boxes_intersect (between_corners n l u) (between_corners n l' u')
 corners-intersect zero l u l' u' = refl
 corners-intersect (suc n) l u l' u' =
     ap (λ (w : Bool). (int_le (l zero) (u' zero) && int_le (l' zero) (u zero)) && w)
     (corners-intersect n (λ i. l (suc i)) (λ i. u (suc i)) (λ i. l' (suc i)) (λ i. u' (suc i)))
 
 pub corners-point : (n : ℕ) (l u p : ℕ → ℤ)
-    → all_below n (λ i. int_le (l i) (p i) && int_le (p i) (u i)) ≡ box_contains_point (between_corners n l u) (table n p)
+    → all_below n (λ i. int_le (l i) (p i) && int_le (p i) (u i))
+    ≡ box_contains_point (between_corners n l u) (table n p)
 corners-point zero l u p = refl
 corners-point (suc n) l u p =
     ap (λ (w : Bool). (int_le (l zero) (p zero) && int_le (p zero) (u zero)) && w)
@@ -282,23 +309,30 @@ corners-point (suc n) l u p =
 le_lt : (x y : ℤ) (b c : Bool) → not b ≡ c → not (int_le x y && b) ≡ (int_lt y x || c)
 le_lt x y b c h = grind (arith, ints)
 
-pub corners-empty : (n : ℕ) (l u : ℕ → ℤ) → not (all_below n (λ i. int_le (l i) (u i))) ≡ is_empty_box (between_corners n l u)
+pub corners-empty : (n : ℕ) (l u : ℕ → ℤ)
+    → not (all_below n (λ i. int_le (l i) (u i))) ≡ is_empty_box (between_corners n l u)
 corners-empty zero l u = refl
 corners-empty (suc n) l u =
-    le_lt (l zero) (u zero) (all_below n (λ i. int_le (l (suc i)) (u (suc i)))) (is_empty_box (between_corners n (λ i. l (suc i)) (λ i. u (suc i))))
+    le_lt (l zero) (u zero) (all_below n (λ i. int_le (l (suc i)) (u (suc i))))
+    (is_empty_box (between_corners n (λ i. l (suc i)) (λ i. u (suc i))))
     (corners-empty n (λ i. l (suc i)) (λ i. u (suc i)))
 
 -- a box between corners that are in the range and not inverted
-pub corners-ranged : (low high : ℤ) (n : ℕ) (l u : ℕ → ℤ) → ((i : ℕ) → i < n → InRange low high (l i)) → ((i : ℕ) → i < n → InRange low high (u i))
+pub corners-ranged : (low high : ℤ) (n : ℕ) (l u : ℕ → ℤ) → ((i : ℕ) → i < n → InRange low high (l i))
+    → ((i : ℕ) → i < n → InRange low high (u i))
     → all_in_range low high (between_corners n l u) ≡ true
 corners-ranged low high zero l u h k = refl
 corners-ranged low high (suc n) l u h k =
     let a = h zero (omega arith) in let b = k zero (omega arith) in
-    and_both (in_range low high (l zero) && in_range low high (u zero)) (all_in_range low high (between_corners n (λ i. l (suc i)) (λ i. u (suc i))))
-    (and_both (in_range low high (l zero)) (in_range low high (u zero)) (ranged low high (l zero) a) (ranged low high (u zero) b))
-    (corners-ranged low high n (λ i. l (suc i)) (λ i. u (suc i)) (λ i s. h (suc i) (omega arith)) (λ i s. k (suc i) (omega arith)))
+    and_both (in_range low high (l zero) && in_range low high (u zero))
+    (all_in_range low high (between_corners n (λ i. l (suc i)) (λ i. u (suc i))))
+    (and_both (in_range low high (l zero)) (in_range low high (u zero)) (ranged low high (l zero) a)
+    (ranged low high (u zero) b))
+    (corners-ranged low high n (λ i. l (suc i)) (λ i. u (suc i)) (λ i s. h (suc i) (omega arith))
+    (λ i s. k (suc i) (omega arith)))
 
-pub corners-upright : (n : ℕ) (l u : ℕ → ℤ) → ((i : ℕ) → i < n → int_le (l i) (u i) ≡ true) → is_empty_box (between_corners n l u) ≡ false
+pub corners-upright : (n : ℕ) (l u : ℕ → ℤ) → ((i : ℕ) → i < n → int_le (l i) (u i) ≡ true)
+    → is_empty_box (between_corners n l u) ≡ false
 corners-upright zero l u h = refl
 corners-upright (suc n) l u h =
     or_both (int_lt (u zero) (l zero)) (is_empty_box (between_corners n (λ i. l (suc i)) (λ i. u (suc i))))
@@ -309,7 +343,8 @@ pub corners-long : (n : ℕ) (l u : ℕ → ℤ) → length (between_corners n l
 corners-long zero l u = refl
 corners-long (suc n) l u = let ih = corners-long n (λ i. l (suc i)) (λ i. u (suc i)) in omega arith
 
-pub corners-box : (low high : ℤ) (n : ℕ) (l u : ℕ → ℤ) → ((i : ℕ) → i < n → InRange low high (l i)) → ((i : ℕ) → i < n → InRange low high (u i))
+pub corners-box : (low high : ℤ) (n : ℕ) (l u : ℕ → ℤ) → ((i : ℕ) → i < n → InRange low high (l i))
+    → ((i : ℕ) → i < n → InRange low high (u i))
     → ((i : ℕ) → i < n → int_le (l i) (u i) ≡ true) → IsBox low high n (between_corners n l u)
 corners-box low high n l u h k o = record {
   long = corners-long n l u;
@@ -322,14 +357,17 @@ le_same a b z h k = grind (arith, ints)
 
 pub min_max : (a b x y : ℤ) → a ≡ int_min x y → b ≡ int_max x y → int_le a b ≡ true
 min_max a b x y h k =
-    let e : int_le (int_min x y) (int_max x y) ≡ true = le_trans (int_min x y) x (int_max x y) (min_le x y) (le_max x y) in cc
+    let e : int_le (int_min x y) (int_max x y) ≡ true =
+    le_trans (int_min x y) x (int_max x y) (min_le x y) (le_max x y) in cc
 
 pub low_le_high : (low high : ℤ) → low <ℤ pos 0 → pos 0 <ℤ high → int_le low high ≡ true
 low_le_high low high h k = grind (arith, ints)
 
-pub long_same : (low high : ℤ) (n : ℕ) (a b : List (ℤ × ℤ)) → IsBox low high n a → IsBox low high n b → length a ≡ length b
+pub long_same : (low high : ℤ) (n : ℕ) (a b : List (ℤ × ℤ)) → IsBox low high n a → IsBox low high n b
+    → length a ≡ length b
 long_same low high n a b h k = h.long ∙ sym k.long
 
-pub corners-empty_box : (low high : ℤ) (n : ℕ) (l u : ℕ → ℤ) → ((i : ℕ) → i < n → l i ≡ high) → ((i : ℕ) → i < n → u i ≡ low)
+pub corners-empty_box : (low high : ℤ) (n : ℕ) (l u : ℕ → ℤ) → ((i : ℕ) → i < n → l i ≡ high)
+    → ((i : ℕ) → i < n → u i ≡ low)
     → between_corners n l u ≡ empty_box low high n
 corners-empty_box low high n l u h k = corners-same n l u (λ _. high) (λ _. low) h k

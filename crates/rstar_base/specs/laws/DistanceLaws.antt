@@ -22,7 +22,8 @@ to_le x y h = grind (arith, ints)
 to_up : (x y : ℤ) → int_lt x y ≡ false → y ≤ℤ x
 to_up x y h = grind (arith, ints)
 
-pub distance-up : (a b : List (ℤ × ℤ)) (p : List ℤ) → contains_box a b ≡ true → is_empty_box b ≡ false → distance_sum a p ≤ distance_sum b p
+pub distance-up : (a b : List (ℤ × ℤ)) (p : List ℤ) → contains_box a b ≡ true → is_empty_box b ≡ false
+    → distance_sum a p ≤ distance_sum b p
 distance-up [] b p h k = omega arith
 distance-up (x ∷ xs) [] p h k = cc
 distance-up (x ∷ xs) (y ∷ ys) [] h k = omega arith
@@ -47,7 +48,8 @@ near_merge x y q =
     let u = cond_either (square_apart q) (int_lt y.1 x.1) x.1 y.1 in
     omega (arith, l, u)
 
-abs_within : (m z n q : ℤ) → m ≤ℤ z → z ≤ℤ n → unsigned_abs (z -ℤ q) ≤ max (unsigned_abs (m -ℤ q)) (unsigned_abs (n -ℤ q))
+abs_within : (m z n q : ℤ) → m ≤ℤ z → z ≤ℤ n
+    → unsigned_abs (z -ℤ q) ≤ max (unsigned_abs (m -ℤ q)) (unsigned_abs (n -ℤ q))
 abs_within m z n q h k = grind (arith, ints)
 
 square_within : (a b c : ℕ) → a ≤ max b c → a * a ≤ max (b * b) (c * c)
@@ -80,7 +82,8 @@ far_left x y q h = far_up (merge_axis x y) x q (merge_left x.0 y.0) h (merge_lef
 far_right : (x y : ℤ × ℤ) (q : ℤ) → y.0 ≤ℤ y.1 → far_face y q ≤ far_face (merge_axis x y) q
 far_right x y q h = far_up (merge_axis x y) y q (merge_right x.0 y.0) h (merge_right-up x.1 y.1)
 
-far_sum-merge : (a b : List (ℤ × ℤ)) (p : List ℤ) → length a ≡ length b → is_empty_box a ≡ false → is_empty_box b ≡ false
+far_sum-merge : (a b : List (ℤ × ℤ)) (p : List ℤ) → length a ≡ length b → is_empty_box a ≡ false
+    → is_empty_box b ≡ false
     → (far_sum a p ≤ far_sum (merge_boxes a b) p) × (far_sum b p ≤ far_sum (merge_boxes a b) p)
 far_sum-merge [] [] p l h k = (omega arith, omega arith)
 far_sum-merge [] (y ∷ ys) p l h k = absurd (omega arith)
@@ -94,7 +97,8 @@ far_sum-merge (x ∷ xs) (y ∷ ys) (q ∷ qs) l h k =
     let r = far_sum-merge xs ys qs (omega arith) e.1 f.1 in
     (omega (arith, s, r.0), omega (arith, t, r.1))
 
-faces-merge : (k : ℕ) (a b : List (ℤ × ℤ)) (p : List ℤ) → length a ≡ length b → is_empty_box a ≡ false → is_empty_box b ≡ false
+faces-merge : (k : ℕ) (a b : List (ℤ × ℤ)) (p : List ℤ) → length a ≡ length b → is_empty_box a ≡ false
+    → is_empty_box b ≡ false
     → min (faces_at k a p) (faces_at k b p) ≤ faces_at k (merge_boxes a b) p
 faces-merge k [] [] p l h m = omega arith
 faces-merge k [] (y ∷ ys) p l h m = absurd (omega arith)
@@ -112,7 +116,8 @@ faces-merge (suc k) (x ∷ xs) (y ∷ ys) (q ∷ qs) l h m =
     let t = far_right x y q (to_up y.1 y.0 f.0) in
     let r = faces-merge k xs ys qs (omega arith) e.1 f.1 in omega (arith, s, t, r)
 
-pub box_min_max-merge : (high : ℤ) (a b : List (ℤ × ℤ)) (p : List ℤ) → length a ≡ length b → is_empty_box a ≡ false → is_empty_box b ≡ false
+pub box_min_max-merge : (high : ℤ) (a b : List (ℤ × ℤ)) (p : List ℤ) → length a ≡ length b → is_empty_box a ≡ false
+    → is_empty_box b ≡ false
     → min (box_min_max high a p) (box_min_max high b p) ≤ box_min_max high (merge_boxes a b) p
 box_min_max-merge high [] [] p l h k = omega arith
 box_min_max-merge high [] (y ∷ ys) p l h k = absurd (omega arith)
@@ -125,5 +130,6 @@ box_min_max-merge high (x ∷ xs) (y ∷ ys) p l h k =
     let m = merge-long (length a) a b refl (sym l) in
     let f = least-same top (length a) n (λ i. faces_at i a p) (λ i. faces_at i a p) (sym m) (λ _. refl) in
     let g = least-same top (length b) n (λ i. faces_at i b p) (λ i. faces_at i b p) (sym l ∙ sym m) (λ _. refl) in
-    let r = least-lesser top n (λ i. faces_at i a p) (λ i. faces_at i b p) (λ i. faces_at i (merge_boxes a b) p) (λ i. faces-merge i a b p l h k) in
+    let r = least-lesser top n (λ i. faces_at i a p) (λ i. faces_at i b p) (λ i. faces_at i (merge_boxes a b) p)
+    (λ i. faces-merge i a b p l h k) in
     omega (arith, f, g, r)

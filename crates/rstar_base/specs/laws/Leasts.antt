@@ -24,8 +24,10 @@ least-same top (suc m) (suc n) f g e h =
     let r = least-same top m n (λ i. f (suc i)) (λ i. g (suc i)) (omega arith) (λ k. h (suc k)) in omega (arith, z, r)
 
 -- where each value of h is at least the lesser of those of f and g, so is the least
-pub least-lesser : (top n : ℕ) (f g h : ℕ → ℕ) → ((k : ℕ) → min (f k) (g k) ≤ h k) → min (least_below top n f) (least_below top n g) ≤ least_below top n h
+pub least-lesser : (top n : ℕ) (f g h : ℕ → ℕ) → ((k : ℕ) → min (f k) (g k) ≤ h k)
+    → min (least_below top n f) (least_below top n g) ≤ least_below top n h
 least-lesser top zero f g h l = omega arith
 least-lesser top (suc n) f g h l =
     let z = l zero in
-    let r = least-lesser top n (λ i. f (suc i)) (λ i. g (suc i)) (λ i. h (suc i)) (λ k. l (suc k)) in omega (arith, z, r)
+    let r = least-lesser top n (λ i. f (suc i)) (λ i. g (suc i)) (λ i. h (suc i)) (λ k. l (suc k)) in
+    omega (arith, z, r)

@@ -1,5 +1,5 @@
 -- Lemmas on points: the calls of `generate`, tests on every axis, arrays, tables.
-use Rattle.std.specs.Prelude.{◌==◌, slice_set, if◌then◌else◌, ◌≡◌, ◌+◌, ◌<◌, ◌≤◌, ◌&&◌, ◌↔◌, ℕ, ℤ, Bool, zero, suc, true, false, List, [], ◌∷◌, Some, length, slice_index_or, IsTrue, map}
+use Rattle.std.specs.Prelude.{◌==◌, pos, slice_set, if◌then◌else◌, ◌≡◌, ◌+◌, ◌<◌, ◌≤◌, ◌&&◌, ◌↔◌, ℕ, ℤ, Bool, zero, suc, true, false, List, [], ◌∷◌, Some, length, slice_index_or, IsTrue, map}
 use Rattle.std.specs.Array.{index_steps, IsFromFnResultFrom}
 use Rattle.std.specs.Iterator.{CallableAtEachTurn, Yields}
 use Rattle.std.specs.List.{FoldsTo, All}
@@ -50,7 +50,8 @@ module _ {F S : Type 0} (step : F → ℕ → S → F → Type 0) where
   callable_always pre f all i zero e h k = tt
   callable_always pre f all i (suc n) e h k = (
     h i (omega arith),
-    λ y q s. subst (λ (r : F). CallableFrom step pre r (i + 1) n) (sym (k i y q (omega arith) s)) (callable_always pre f all (i + 1) n (omega arith) h k),
+    λ y q s. subst (λ (r : F). CallableFrom step pre r (i + 1) n) (sym (k i y q (omega arith) s))
+        (callable_always pre f all (i + 1) n (omega arith) h k),
   )
 
   pub callable : (pre : F → ℕ → Type 0) (f : F) (n : ℕ) → ((k : ℕ) → k < n → pre f k)
@@ -107,7 +108,8 @@ all_below-false (suc n) (suc k) t l h =
 
 -- what `from_fn` says of the array that it made
 pub made_from : {F S : Type 0} (g : Mut F (ℕ × Unit {0}) S) (value : S → ℤ) (z : S) (whole : List S) (f : F) (i n : ℕ)
-    → IsFromFnResultFrom g f whole i n → MadeFrom (λ p k y q. Called g p (k, tt) y q) value (λ k. value (slice_index_or whole k z)) f i n
+    → IsFromFnResultFrom g f whole i n
+    → MadeFrom (λ p k y q. Called g p (k, tt) y q) value (λ k. value (slice_index_or whole k z)) f i n
 made_from g value z whole f i zero m = tt
 made_from g value z whole f i (suc n) m =
     (m.0, m.1, m.3, ap value (m.2.1 z), made_from g value z whole m.0 (i + 1) n m.4)
@@ -120,7 +122,8 @@ array-with value d p i s j l =
       | inr e ↦ rw e.0 (ap value (get_or-set_other p i j s d e.1))
     ]
 
-module _ {S : Type 0} (eq : S → S → Bool) (value : S → ℤ) (law : (a b : S) → IsTrue (eq a b) ↔ (value a ≡ value b)) where
+module _ {S : Type 0} (eq : S → S → Bool) (value : S → ℤ)
+    (law : (a b : S) → IsTrue (eq a b) ↔ (value a ≡ value b)) where
   pub array-eq : (z : S) (n : ℕ) (xs ys : List S) → length xs ≡ n → length ys ≡ n
       → IsTrue (pointwise eq xs ys) ↔ (table n (list_coord value z xs) ≡ table n (list_coord value z ys))
   array-eq z zero [] [] h k = ((λ _. refl), λ _. refl)
@@ -140,6 +143,18 @@ module _ {S : Type 0} (eq : S → S → Bool) (value : S → ℤ) (law : (a b : 
             and_both (eq x y) (pointwise eq xs ys) ((law x y).1 f) (ih.1 t),
       )
 
+  -- with no word on the lengths
+  pub array-same : (z : S) (n : ℕ) (xs ys : List S) → IsTrue (pointwise eq xs ys)
+      → table n (list_coord value z xs) ≡ table n (list_coord value z ys)
+  array-same z zero xs ys e = refl
+  array-same z (suc n) [] [] e = refl
+  array-same z (suc n) [] (y ∷ ys) e = cc
+  array-same z (suc n) (x ∷ xs) [] e = cc
+  array-same z (suc n) (x ∷ xs) (y ∷ ys) e =
+      let p = and_parts (eq x y) (pointwise eq xs ys) e in
+      let f : value x ≡ value y = (law x y).0 p.0 in
+      let t : table n (list_coord value z xs) ≡ table n (list_coord value z ys) = array-same z n xs ys p.1 in cc
+
 module _ {S : Type 0} (value : S → ℤ) (of : ℤ → S) (law : (x : S) → of (value x) ≡ x) where
   pub array-back : (z : S) (n : ℕ) (xs : List S) → length xs ≡ n → map of (table n (list_coord value z xs)) ≡ xs
   array-back z zero [] h = refl
@@ -149,7 +164,8 @@ module _ {S : Type 0} (value : S → ℤ) (of : ℤ → S) (law : (x : S) → of
       let e : of (value x) ≡ x = law x in
       let ih : map of (table n (list_coord value z xs)) ≡ xs = array-back z n xs (omega arith) in cc
 
-module _ {S : Type 0} (value : S → ℤ) (of : ℤ → S) (low high : ℤ) (law : (z : ℤ) → InRange low high z → value (of z) ≡ z) where
+module _ {S : Type 0} (value : S → ℤ) (of : ℤ → S) (low high : ℤ)
+    (law : (z : ℤ) → InRange low high z → value (of z) ≡ z) where
   pub array-forth : (d : S) (n : ℕ) (zs : List ℤ) → length zs ≡ n → All (λ z. InRange low high z) zs
       → table n (list_coord value d (map of zs)) ≡ zs
   array-forth d zero [] h r = refl
@@ -157,7 +173,8 @@ module _ {S : Type 0} (value : S → ℤ) (of : ℤ → S) (low high : ℤ) (law
   array-forth d (suc n) [] h r = absurd (omega arith)
   array-forth d (suc n) (z ∷ zs) h r =
       let a : value (of z) ≡ z = law z (r 0 z (omega arith)) in
-      let ih : table n (list_coord value d (map of zs)) ≡ zs = array-forth d n zs (omega arith) (λ k e l. r (suc k) e (omega arith)) in cc
+      let ih : table n (list_coord value d (map of zs)) ≡ zs =
+      array-forth d n zs (omega arith) (λ k e l. r (suc k) e (omega arith)) in cc
 
 pub table-long : {A : Type 0} (n : ℕ) (f : ℕ → A) → length (table n f) ≡ n
 table-long zero f = refl
@@ -175,13 +192,27 @@ pub table-seconds : (n : ℕ) (f g : ℕ → ℤ) → map (λ (x : ℤ × ℤ). 
 table-seconds zero f g = refl
 table-seconds (suc n) f g = ap (λ (l : List ℤ). g zero ∷ l) (table-seconds n (λ i. f (suc i)) (λ i. g (suc i)))
 
-pub table-same : (n : ℕ) (f h : ℕ → ℤ) → ((i : ℕ) → i < n → f i ≡ h i) → table n f ≡ table n h
+pub table-same : {A : Type 0} (n : ℕ) (f h : ℕ → A) → ((i : ℕ) → i < n → f i ≡ h i) → table n f ≡ table n h
 table-same zero f h e = refl
 table-same (suc n) f h e =
     let p : f zero ≡ h zero = e zero (omega arith) in
-    let ih : table n (λ i. f (suc i)) ≡ table n (λ i. h (suc i)) = table-same n (λ i. f (suc i)) (λ i. h (suc i)) (λ i l. e (suc i) (omega arith)) in cc
+    let ih : table n (λ i. f (suc i)) ≡ table n (λ i. h (suc i)) =
+    table-same n (λ i. f (suc i)) (λ i. h (suc i)) (λ i l. e (suc i) (omega arith)) in cc
 
 pub table-get : {A : Type 0} (n : ℕ) (f : ℕ → A) (i : ℕ) (d : A) → i < n → slice_index_or (table n f) i d ≡ f i
 table-get zero f i d l = absurd (omega arith)
 table-get (suc n) f zero d l = refl
 table-get (suc n) f (suc i) d l = table-get n (λ k. f (suc k)) i d (omega arith)
+
+-- equal tables are equal at each place
+pub table-each : (n : ℕ) (f h : ℕ → ℤ) → table n f ≡ table n h → (i : ℕ) → i < n → f i ≡ h i
+table-each n f h e i l =
+    sym (table-get n f i (pos 0) l) ∙ ap (λ (t : List ℤ). slice_index_or t i (pos 0)) e ∙ table-get n h i (pos 0) l
+
+pub all_below-same : (n : ℕ) (f h : ℕ → Bool) → ((i : ℕ) → i < n → f i ≡ h i) → all_below n f ≡ all_below n h
+all_below-same zero f h e = refl
+all_below-same (suc n) f h e =
+    let p : f zero ≡ h zero = e zero (omega arith) in
+    let ih : all_below n (λ i. f (suc i)) ≡ all_below n (λ i. h (suc i)) =
+    all_below-same n (λ i. f (suc i)) (λ i. h (suc i)) (λ i l. e (suc i) (omega arith)) in
+    rw (p, ih) refl

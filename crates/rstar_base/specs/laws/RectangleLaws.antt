@@ -13,9 +13,11 @@ use Rattle.rstar_base.specs.Elements.{DistanceLaws}
 use Rattle.rstar_base.specs.Rectangles.{box_or_empty, rectangle_objects, rectangle_distances}
 
 pub rectangle_laws : {R : Type 0} (low high : ℤ) (n : ℕ) (lower upper : R → ℕ → ℤ)
-    → DistanceLaws (IsPoint low high n) (box_data low high n) (rectangle_objects low high n lower upper) (rectangle_distances low high n lower upper)
+    → DistanceLaws (IsPoint low high n) (box_data low high n) (rectangle_objects low high n lower upper)
+    (rectangle_distances low high n lower upper)
 rectangle_laws low high n lower upper =
-    carried_laws (box_data low high n) (box_objects low high n) (box_distances high) (λ r. box_or_empty low high n (lower r) (upper r)) (box_element_laws low high n)
+    carried_laws (box_data low high n) (box_objects low high n) (box_distances high)
+    (λ r. box_or_empty low high n (lower r) (upper r)) (box_element_laws low high n)
 
 abbrev first_of : ℤ → List ℤ → ℤ
 first_of d [] = d
@@ -26,7 +28,8 @@ rest_of [] = []
 rest_of (x ∷ xs) = xs
 
 -- a box is between its corners
-pub corners-of : (n : ℕ) (l u : ℕ → ℤ) (b : List (ℤ × ℤ)) → length b ≡ n → table n l ≡ map (λ (x : ℤ × ℤ). x.0) b → table n u ≡ map (λ (x : ℤ × ℤ). x.1) b
+pub corners-of : (n : ℕ) (l u : ℕ → ℤ) (b : List (ℤ × ℤ)) → length b ≡ n → table n l ≡ map (λ (x : ℤ × ℤ). x.0) b
+    → table n u ≡ map (λ (x : ℤ × ℤ). x.1) b
     → between_corners n l u ≡ b
 corners-of zero l u [] h k m = refl
 corners-of zero l u (x ∷ xs) h k m = absurd (omega arith)
@@ -34,21 +37,24 @@ corners-of (suc n) l u [] h k m = absurd (omega arith)
 corners-of (suc n) l u (x ∷ xs) h k m =
     let p : l zero ≡ x.0 = ap (first_of (l zero)) k in
     let q : u zero ≡ x.1 = ap (first_of (u zero)) m in
-    let ih : between_corners n (λ i. l (suc i)) (λ i. u (suc i)) ≡ xs = corners-of n (λ i. l (suc i)) (λ i. u (suc i)) xs (omega arith) (ap rest_of k) (ap rest_of m) in
+    let ih : between_corners n (λ i. l (suc i)) (λ i. u (suc i)) ≡ xs =
+    corners-of n (λ i. l (suc i)) (λ i. u (suc i)) xs (omega arith) (ap rest_of k) (ap rest_of m) in
     rw (p, q, ih) refl
 
 branch : {A : Type 0} (c : Bool) (a b : A) (d : A) → (c ≡ true → a ≡ d) → (c ≡ false → b ≡ d) → (if c then a else b) ≡ d
 branch true a b d h k = h refl
 branch false a b d h k = k refl
 
-pub box_or_empty-upright : (low high : ℤ) (n : ℕ) (l u : ℕ → ℤ) → is_upright n l u ≡ true → box_or_empty low high n l u ≡ between_corners n l u
+pub box_or_empty-upright : (low high : ℤ) (n : ℕ) (l u : ℕ → ℤ) → is_upright n l u ≡ true
+    → box_or_empty low high n l u ≡ between_corners n l u
 box_or_empty-upright low high n l u h =
     branch (is_upright n l u) (between_corners n l u) (empty_box low high n) (between_corners n l u)
     (λ _. refl)
     (λ e. absurd (differ (is_upright n l u) h e))
 
 -- the rectangle with the corners of a box has that box
-pub box_or_empty-same : (low high : ℤ) (n : ℕ) (l u : ℕ → ℤ) (b : List (ℤ × ℤ)) → IsBox low high n b → table n l ≡ map (λ (x : ℤ × ℤ). x.0) b → table n u ≡ map (λ (x : ℤ × ℤ). x.1) b
+pub box_or_empty-same : (low high : ℤ) (n : ℕ) (l u : ℕ → ℤ) (b : List (ℤ × ℤ)) → IsBox low high n b
+    → table n l ≡ map (λ (x : ℤ × ℤ). x.0) b → table n u ≡ map (λ (x : ℤ × ℤ). x.1) b
     → box_or_empty low high n l u ≡ b
 box_or_empty-same low high n l u b h k m =
     let same = corners-of n l u b h.long k m in
@@ -58,4 +64,5 @@ box_or_empty-same low high n l u b h k m =
 
 -- the box of two points is not empty
 pub hull-filled : (n : ℕ) (p q : ℕ → ℤ) → is_empty_box (box_of_corners n p q) ≡ false
-hull-filled n p q = corners-upright n (λ i. int_min (p i) (q i)) (λ i. int_max (p i) (q i)) (λ i _. min_max _ _ (p i) (q i) refl refl)
+hull-filled n p q =
+    corners-upright n (λ i. int_min (p i) (q i)) (λ i. int_max (p i) (q i)) (λ i _. min_max _ _ (p i) (q i) refl refl)

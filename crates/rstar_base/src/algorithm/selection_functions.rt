@@ -5,7 +5,7 @@ ghost use Rattle.rstar_base.specs.Points.{table};
 ghost use Rattle.rstar_base.specs.Selections.{IsLawful};
 
 use crate::envelope::Envelope;
-use crate::object::{Distance, PointDistance, PointOf, RTreeObject};
+use crate::object::{Distance, EqualEnvelopes, PointDistance, PointOf, RTreeObject};
 use crate::point::{known, not_above};
 
 /// Which parents a search opens, and which elements it gives.
@@ -199,5 +199,42 @@ impl<T: PointDistance> SelectionFunction<T> for SelectWithinDistanceFunction<T> 
     fn should_unpack_leaf(&self, leaf: &T) -> bool {
         leaf.distance_2_if_less_or_equal(&self.circle_origin, self.squared_max_distance)
             .is_some()
+    }
+}
+
+/// Gives the elements that equal an element.
+#[derive(Drop)]
+pub struct SelectEqualsFunction<'a, T: EqualEnvelopes> {
+    object_to_remove: &'a T,
+}
+
+impl<'a, T: EqualEnvelopes> SelectEqualsFunction<'a, T> {
+    /// Selects what equals the element, by `==`, and opens the parents whose envelopes contain its
+    /// envelope: those of equal elements are equal.
+    pub fn new(object_to_remove: &'a T) -> Self
+        ensures accepts { ⟦<SelectEqualsFunction<'a, T> as SelectionFunction<T>>⟧.accepts result
+            ≡ (λ e. T.Envelope.boxes.contains e (T.object.box_of object_to_remove.now)) }
+        ensures selects { ⟦<SelectEqualsFunction<'a, T> as SelectionFunction<T>>⟧.selects result
+            ≡ (λ t. T.eq t object_to_remove.now) }
+        ensures lawful { IsLawful T.Envelope.boxes T.object
+            (⟦<SelectEqualsFunction<'a, T> as SelectionFunction<T>>⟧.accepts result)
+            (⟦<SelectEqualsFunction<'a, T> as SelectionFunction<T>>⟧.selects result) }
+    {
+        let _known = object_to_remove.envelope();
+        SelectEqualsFunction { object_to_remove }
+    }
+}
+
+impl<'a, T: EqualEnvelopes> SelectionFunction<T> for SelectEqualsFunction<'a, T> {
+    ghost accepts = { λ f e. T.Envelope.boxes.contains e (T.object.box_of f.object_to_remove.now) };
+
+    ghost selects = { λ f t. T.eq t f.object_to_remove.now };
+
+    fn should_unpack_parent(&self, envelope: &T::Envelope) -> bool {
+        envelope.contains_envelope(&self.object_to_remove.envelope())
+    }
+
+    fn should_unpack_leaf(&self, leaf: &T) -> bool {
+        leaf == self.object_to_remove
     }
 }

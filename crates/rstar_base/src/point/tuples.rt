@@ -42,6 +42,8 @@ impl<S: RTreeNum> Point for (S,) {
 
     ghost with_law = { λ p i s j _ _ l. tuple-with S.value S.zero (p.0 ∷ []) i s j l };
 
+    ghost same_law = { λ p q. (tuple-eq S.eq S.value (λ a b. S.eq_law a b S.exact_law) p.0 q.0 ([]) ([]) refl).0 };
+
     ghost eq_law = { λ p q _ _. tuple-eq S.eq S.value (λ a b. S.eq_law a b S.exact_law) p.0 q.0 ([]) ([]) refl };
 }
 
@@ -84,7 +86,11 @@ impl<S: RTreeNum> Point for (S, S) {
 
     ghost with_law = { λ p i s j _ _ l. tuple-with S.value S.zero (p.0 ∷ p.1 ∷ []) i s j l };
 
-    ghost eq_law = { λ p q _ _. tuple-eq S.eq S.value (λ a b. S.eq_law a b S.exact_law) p.0 q.0 (p.1 ∷ []) (q.1 ∷ []) refl };
+    ghost same_law = { λ p q.
+        (tuple-eq S.eq S.value (λ a b. S.eq_law a b S.exact_law) p.0 q.0 (p.1 ∷ []) (q.1 ∷ []) refl).0 };
+
+    ghost eq_law = { λ p q _ _. tuple-eq S.eq S.value (λ a b. S.eq_law a b S.exact_law) p.0 q.0 (p.1 ∷ []) (q.1 ∷ [])
+        refl };
 }
 
 impl<S: RTreeNum> Point for (S, S, S) {
@@ -96,7 +102,11 @@ impl<S: RTreeNum> Point for (S, S, S) {
 
     ghost coord = { λ p i. list_coord S.value S.zero (p.0 ∷ p.1 ∷ p.2 ∷ []) i };
 
-    ghost of_coords = { λ zs. (S.of_value (slice_index_or zs 0 (pos 0)), S.of_value (slice_index_or zs 1 (pos 0)), S.of_value (slice_index_or zs 2 (pos 0))) };
+    ghost of_coords = { λ zs. (
+      S.of_value (slice_index_or zs 0 (pos 0)),
+      S.of_value (slice_index_or zs 1 (pos 0)),
+      S.of_value (slice_index_or zs 2 (pos 0)),
+    ) };
 
     ghost with = { λ p i s. (after_write i s 0 p.0, after_write i s 1 p.1, after_write i s 2 p.2) };
 
@@ -129,7 +139,11 @@ impl<S: RTreeNum> Point for (S, S, S) {
 
     ghost with_law = { λ p i s j _ _ l. tuple-with S.value S.zero (p.0 ∷ p.1 ∷ p.2 ∷ []) i s j l };
 
-    ghost eq_law = { λ p q _ _. tuple-eq S.eq S.value (λ a b. S.eq_law a b S.exact_law) p.0 q.0 (p.1 ∷ p.2 ∷ []) (q.1 ∷ q.2 ∷ []) refl };
+    ghost same_law = { λ p q.
+        (tuple-eq S.eq S.value (λ a b. S.eq_law a b S.exact_law) p.0 q.0 (p.1 ∷ p.2 ∷ []) (q.1 ∷ q.2 ∷ []) refl).0 };
+
+    ghost eq_law = { λ p q _ _. tuple-eq S.eq S.value (λ a b. S.eq_law a b S.exact_law) p.0 q.0 (p.1 ∷ p.2 ∷ [])
+        (q.1 ∷ q.2 ∷ []) refl };
 }
 
 impl<S: RTreeNum> Point for (S, S, S, S) {
@@ -141,9 +155,15 @@ impl<S: RTreeNum> Point for (S, S, S, S) {
 
     ghost coord = { λ p i. list_coord S.value S.zero (p.0 ∷ p.1 ∷ p.2 ∷ p.3 ∷ []) i };
 
-    ghost of_coords = { λ zs. (S.of_value (slice_index_or zs 0 (pos 0)), S.of_value (slice_index_or zs 1 (pos 0)), S.of_value (slice_index_or zs 2 (pos 0)), S.of_value (slice_index_or zs 3 (pos 0))) };
+    ghost of_coords = { λ zs. (
+      S.of_value (slice_index_or zs 0 (pos 0)),
+      S.of_value (slice_index_or zs 1 (pos 0)),
+      S.of_value (slice_index_or zs 2 (pos 0)),
+      S.of_value (slice_index_or zs 3 (pos 0)),
+    ) };
 
-    ghost with = { λ p i s. (after_write i s 0 p.0, after_write i s 1 p.1, after_write i s 2 p.2, after_write i s 3 p.3) };
+    ghost with = { λ p i s.
+        (after_write i s 0 p.0, after_write i s 1 p.1, after_write i s 2 p.2, after_write i s 3 p.3) };
 
     fn generate<F: FnMut(usize) -> S>(mut generator: F) -> (S, S, S, S) {
         let a = generator(0);
@@ -177,7 +197,12 @@ impl<S: RTreeNum> Point for (S, S, S, S) {
 
     ghost with_law = { λ p i s j _ _ l. tuple-with S.value S.zero (p.0 ∷ p.1 ∷ p.2 ∷ p.3 ∷ []) i s j l };
 
-    ghost eq_law = { λ p q _ _. tuple-eq S.eq S.value (λ a b. S.eq_law a b S.exact_law) p.0 q.0 (p.1 ∷ p.2 ∷ p.3 ∷ []) (q.1 ∷ q.2 ∷ q.3 ∷ []) refl };
+    ghost same_law = { λ p q.
+        (tuple-eq S.eq S.value (λ a b. S.eq_law a b S.exact_law) p.0 q.0 (p.1 ∷ p.2 ∷ p.3 ∷ []) (q.1 ∷ q.2 ∷ q.3 ∷ [])
+        refl).0 };
+
+    ghost eq_law = { λ p q _ _. tuple-eq S.eq S.value (λ a b. S.eq_law a b S.exact_law) p.0 q.0 (p.1 ∷ p.2 ∷ p.3 ∷ [])
+        (q.1 ∷ q.2 ∷ q.3 ∷ []) refl };
 }
 
 impl<S: RTreeNum> Point for (S, S, S, S, S) {
@@ -189,9 +214,21 @@ impl<S: RTreeNum> Point for (S, S, S, S, S) {
 
     ghost coord = { λ p i. list_coord S.value S.zero (p.0 ∷ p.1 ∷ p.2 ∷ p.3 ∷ p.4 ∷ []) i };
 
-    ghost of_coords = { λ zs. (S.of_value (slice_index_or zs 0 (pos 0)), S.of_value (slice_index_or zs 1 (pos 0)), S.of_value (slice_index_or zs 2 (pos 0)), S.of_value (slice_index_or zs 3 (pos 0)), S.of_value (slice_index_or zs 4 (pos 0))) };
+    ghost of_coords = { λ zs. (
+      S.of_value (slice_index_or zs 0 (pos 0)),
+      S.of_value (slice_index_or zs 1 (pos 0)),
+      S.of_value (slice_index_or zs 2 (pos 0)),
+      S.of_value (slice_index_or zs 3 (pos 0)),
+      S.of_value (slice_index_or zs 4 (pos 0)),
+    ) };
 
-    ghost with = { λ p i s. (after_write i s 0 p.0, after_write i s 1 p.1, after_write i s 2 p.2, after_write i s 3 p.3, after_write i s 4 p.4) };
+    ghost with = { λ p i s. (
+      after_write i s 0 p.0,
+      after_write i s 1 p.1,
+      after_write i s 2 p.2,
+      after_write i s 3 p.3,
+      after_write i s 4 p.4,
+    ) };
 
     fn generate<F: FnMut(usize) -> S>(mut generator: F) -> (S, S, S, S, S) {
         let a = generator(0);
@@ -228,7 +265,12 @@ impl<S: RTreeNum> Point for (S, S, S, S, S) {
 
     ghost with_law = { λ p i s j _ _ l. tuple-with S.value S.zero (p.0 ∷ p.1 ∷ p.2 ∷ p.3 ∷ p.4 ∷ []) i s j l };
 
-    ghost eq_law = { λ p q _ _. tuple-eq S.eq S.value (λ a b. S.eq_law a b S.exact_law) p.0 q.0 (p.1 ∷ p.2 ∷ p.3 ∷ p.4 ∷ []) (q.1 ∷ q.2 ∷ q.3 ∷ q.4 ∷ []) refl };
+    ghost same_law = { λ p q.
+        (tuple-eq S.eq S.value (λ a b. S.eq_law a b S.exact_law) p.0 q.0 (p.1 ∷ p.2 ∷ p.3 ∷ p.4 ∷ [])
+        (q.1 ∷ q.2 ∷ q.3 ∷ q.4 ∷ []) refl).0 };
+
+    ghost eq_law = { λ p q _ _. tuple-eq S.eq S.value (λ a b. S.eq_law a b S.exact_law) p.0 q.0
+        (p.1 ∷ p.2 ∷ p.3 ∷ p.4 ∷ []) (q.1 ∷ q.2 ∷ q.3 ∷ q.4 ∷ []) refl };
 }
 
 impl<S: RTreeNum> Point for (S, S, S, S, S, S) {
@@ -240,9 +282,23 @@ impl<S: RTreeNum> Point for (S, S, S, S, S, S) {
 
     ghost coord = { λ p i. list_coord S.value S.zero (p.0 ∷ p.1 ∷ p.2 ∷ p.3 ∷ p.4 ∷ p.5 ∷ []) i };
 
-    ghost of_coords = { λ zs. (S.of_value (slice_index_or zs 0 (pos 0)), S.of_value (slice_index_or zs 1 (pos 0)), S.of_value (slice_index_or zs 2 (pos 0)), S.of_value (slice_index_or zs 3 (pos 0)), S.of_value (slice_index_or zs 4 (pos 0)), S.of_value (slice_index_or zs 5 (pos 0))) };
+    ghost of_coords = { λ zs. (
+      S.of_value (slice_index_or zs 0 (pos 0)),
+      S.of_value (slice_index_or zs 1 (pos 0)),
+      S.of_value (slice_index_or zs 2 (pos 0)),
+      S.of_value (slice_index_or zs 3 (pos 0)),
+      S.of_value (slice_index_or zs 4 (pos 0)),
+      S.of_value (slice_index_or zs 5 (pos 0)),
+    ) };
 
-    ghost with = { λ p i s. (after_write i s 0 p.0, after_write i s 1 p.1, after_write i s 2 p.2, after_write i s 3 p.3, after_write i s 4 p.4, after_write i s 5 p.5) };
+    ghost with = { λ p i s. (
+      after_write i s 0 p.0,
+      after_write i s 1 p.1,
+      after_write i s 2 p.2,
+      after_write i s 3 p.3,
+      after_write i s 4 p.4,
+      after_write i s 5 p.5,
+    ) };
 
     fn generate<F: FnMut(usize) -> S>(mut generator: F) -> (S, S, S, S, S, S) {
         let a = generator(0);
@@ -282,7 +338,12 @@ impl<S: RTreeNum> Point for (S, S, S, S, S, S) {
 
     ghost with_law = { λ p i s j _ _ l. tuple-with S.value S.zero (p.0 ∷ p.1 ∷ p.2 ∷ p.3 ∷ p.4 ∷ p.5 ∷ []) i s j l };
 
-    ghost eq_law = { λ p q _ _. tuple-eq S.eq S.value (λ a b. S.eq_law a b S.exact_law) p.0 q.0 (p.1 ∷ p.2 ∷ p.3 ∷ p.4 ∷ p.5 ∷ []) (q.1 ∷ q.2 ∷ q.3 ∷ q.4 ∷ q.5 ∷ []) refl };
+    ghost same_law = { λ p q.
+        (tuple-eq S.eq S.value (λ a b. S.eq_law a b S.exact_law) p.0 q.0 (p.1 ∷ p.2 ∷ p.3 ∷ p.4 ∷ p.5 ∷ [])
+        (q.1 ∷ q.2 ∷ q.3 ∷ q.4 ∷ q.5 ∷ []) refl).0 };
+
+    ghost eq_law = { λ p q _ _. tuple-eq S.eq S.value (λ a b. S.eq_law a b S.exact_law) p.0 q.0
+        (p.1 ∷ p.2 ∷ p.3 ∷ p.4 ∷ p.5 ∷ []) (q.1 ∷ q.2 ∷ q.3 ∷ q.4 ∷ q.5 ∷ []) refl };
 }
 
 impl<S: RTreeNum> Point for (S, S, S, S, S, S, S) {
@@ -294,9 +355,25 @@ impl<S: RTreeNum> Point for (S, S, S, S, S, S, S) {
 
     ghost coord = { λ p i. list_coord S.value S.zero (p.0 ∷ p.1 ∷ p.2 ∷ p.3 ∷ p.4 ∷ p.5 ∷ p.6 ∷ []) i };
 
-    ghost of_coords = { λ zs. (S.of_value (slice_index_or zs 0 (pos 0)), S.of_value (slice_index_or zs 1 (pos 0)), S.of_value (slice_index_or zs 2 (pos 0)), S.of_value (slice_index_or zs 3 (pos 0)), S.of_value (slice_index_or zs 4 (pos 0)), S.of_value (slice_index_or zs 5 (pos 0)), S.of_value (slice_index_or zs 6 (pos 0))) };
+    ghost of_coords = { λ zs. (
+      S.of_value (slice_index_or zs 0 (pos 0)),
+      S.of_value (slice_index_or zs 1 (pos 0)),
+      S.of_value (slice_index_or zs 2 (pos 0)),
+      S.of_value (slice_index_or zs 3 (pos 0)),
+      S.of_value (slice_index_or zs 4 (pos 0)),
+      S.of_value (slice_index_or zs 5 (pos 0)),
+      S.of_value (slice_index_or zs 6 (pos 0)),
+    ) };
 
-    ghost with = { λ p i s. (after_write i s 0 p.0, after_write i s 1 p.1, after_write i s 2 p.2, after_write i s 3 p.3, after_write i s 4 p.4, after_write i s 5 p.5, after_write i s 6 p.6) };
+    ghost with = { λ p i s. (
+      after_write i s 0 p.0,
+      after_write i s 1 p.1,
+      after_write i s 2 p.2,
+      after_write i s 3 p.3,
+      after_write i s 4 p.4,
+      after_write i s 5 p.5,
+      after_write i s 6 p.6,
+    ) };
 
     fn generate<F: FnMut(usize) -> S>(mut generator: F) -> (S, S, S, S, S, S, S) {
         let a = generator(0);
@@ -337,9 +414,15 @@ impl<S: RTreeNum> Point for (S, S, S, S, S, S, S) {
 
     ghost coords_of_law = { λ zs h. tuple-forth S.value S.of_value S.low S.high S.value_of_law 7 zs h };
 
-    ghost with_law = { λ p i s j _ _ l. tuple-with S.value S.zero (p.0 ∷ p.1 ∷ p.2 ∷ p.3 ∷ p.4 ∷ p.5 ∷ p.6 ∷ []) i s j l };
+    ghost with_law = { λ p i s j _ _ l. tuple-with S.value S.zero (p.0 ∷ p.1 ∷ p.2 ∷ p.3 ∷ p.4 ∷ p.5 ∷ p.6 ∷ []) i s j
+        l };
 
-    ghost eq_law = { λ p q _ _. tuple-eq S.eq S.value (λ a b. S.eq_law a b S.exact_law) p.0 q.0 (p.1 ∷ p.2 ∷ p.3 ∷ p.4 ∷ p.5 ∷ p.6 ∷ []) (q.1 ∷ q.2 ∷ q.3 ∷ q.4 ∷ q.5 ∷ q.6 ∷ []) refl };
+    ghost same_law = { λ p q.
+        (tuple-eq S.eq S.value (λ a b. S.eq_law a b S.exact_law) p.0 q.0 (p.1 ∷ p.2 ∷ p.3 ∷ p.4 ∷ p.5 ∷ p.6 ∷ [])
+        (q.1 ∷ q.2 ∷ q.3 ∷ q.4 ∷ q.5 ∷ q.6 ∷ []) refl).0 };
+
+    ghost eq_law = { λ p q _ _. tuple-eq S.eq S.value (λ a b. S.eq_law a b S.exact_law) p.0 q.0
+        (p.1 ∷ p.2 ∷ p.3 ∷ p.4 ∷ p.5 ∷ p.6 ∷ []) (q.1 ∷ q.2 ∷ q.3 ∷ q.4 ∷ q.5 ∷ q.6 ∷ []) refl };
 }
 
 impl<S: RTreeNum> Point for (S, S, S, S, S, S, S, S) {
@@ -351,9 +434,27 @@ impl<S: RTreeNum> Point for (S, S, S, S, S, S, S, S) {
 
     ghost coord = { λ p i. list_coord S.value S.zero (p.0 ∷ p.1 ∷ p.2 ∷ p.3 ∷ p.4 ∷ p.5 ∷ p.6 ∷ p.7 ∷ []) i };
 
-    ghost of_coords = { λ zs. (S.of_value (slice_index_or zs 0 (pos 0)), S.of_value (slice_index_or zs 1 (pos 0)), S.of_value (slice_index_or zs 2 (pos 0)), S.of_value (slice_index_or zs 3 (pos 0)), S.of_value (slice_index_or zs 4 (pos 0)), S.of_value (slice_index_or zs 5 (pos 0)), S.of_value (slice_index_or zs 6 (pos 0)), S.of_value (slice_index_or zs 7 (pos 0))) };
+    ghost of_coords = { λ zs. (
+      S.of_value (slice_index_or zs 0 (pos 0)),
+      S.of_value (slice_index_or zs 1 (pos 0)),
+      S.of_value (slice_index_or zs 2 (pos 0)),
+      S.of_value (slice_index_or zs 3 (pos 0)),
+      S.of_value (slice_index_or zs 4 (pos 0)),
+      S.of_value (slice_index_or zs 5 (pos 0)),
+      S.of_value (slice_index_or zs 6 (pos 0)),
+      S.of_value (slice_index_or zs 7 (pos 0)),
+    ) };
 
-    ghost with = { λ p i s. (after_write i s 0 p.0, after_write i s 1 p.1, after_write i s 2 p.2, after_write i s 3 p.3, after_write i s 4 p.4, after_write i s 5 p.5, after_write i s 6 p.6, after_write i s 7 p.7) };
+    ghost with = { λ p i s. (
+      after_write i s 0 p.0,
+      after_write i s 1 p.1,
+      after_write i s 2 p.2,
+      after_write i s 3 p.3,
+      after_write i s 4 p.4,
+      after_write i s 5 p.5,
+      after_write i s 6 p.6,
+      after_write i s 7 p.7,
+    ) };
 
     fn generate<F: FnMut(usize) -> S>(mut generator: F) -> (S, S, S, S, S, S, S, S) {
         let a = generator(0);
@@ -397,9 +498,15 @@ impl<S: RTreeNum> Point for (S, S, S, S, S, S, S, S) {
 
     ghost coords_of_law = { λ zs h. tuple-forth S.value S.of_value S.low S.high S.value_of_law 8 zs h };
 
-    ghost with_law = { λ p i s j _ _ l. tuple-with S.value S.zero (p.0 ∷ p.1 ∷ p.2 ∷ p.3 ∷ p.4 ∷ p.5 ∷ p.6 ∷ p.7 ∷ []) i s j l };
+    ghost with_law = { λ p i s j _ _ l. tuple-with S.value S.zero (p.0 ∷ p.1 ∷ p.2 ∷ p.3 ∷ p.4 ∷ p.5 ∷ p.6 ∷ p.7 ∷ []) i
+        s j l };
 
-    ghost eq_law = { λ p q _ _. tuple-eq S.eq S.value (λ a b. S.eq_law a b S.exact_law) p.0 q.0 (p.1 ∷ p.2 ∷ p.3 ∷ p.4 ∷ p.5 ∷ p.6 ∷ p.7 ∷ []) (q.1 ∷ q.2 ∷ q.3 ∷ q.4 ∷ q.5 ∷ q.6 ∷ q.7 ∷ []) refl };
+    ghost same_law = { λ p q.
+        (tuple-eq S.eq S.value (λ a b. S.eq_law a b S.exact_law) p.0 q.0 (p.1 ∷ p.2 ∷ p.3 ∷ p.4 ∷ p.5 ∷ p.6 ∷ p.7 ∷ [])
+        (q.1 ∷ q.2 ∷ q.3 ∷ q.4 ∷ q.5 ∷ q.6 ∷ q.7 ∷ []) refl).0 };
+
+    ghost eq_law = { λ p q _ _. tuple-eq S.eq S.value (λ a b. S.eq_law a b S.exact_law) p.0 q.0
+        (p.1 ∷ p.2 ∷ p.3 ∷ p.4 ∷ p.5 ∷ p.6 ∷ p.7 ∷ []) (q.1 ∷ q.2 ∷ q.3 ∷ q.4 ∷ q.5 ∷ q.6 ∷ q.7 ∷ []) refl };
 }
 
 impl<S: RTreeNum> Point for (S, S, S, S, S, S, S, S, S) {
@@ -411,9 +518,29 @@ impl<S: RTreeNum> Point for (S, S, S, S, S, S, S, S, S) {
 
     ghost coord = { λ p i. list_coord S.value S.zero (p.0 ∷ p.1 ∷ p.2 ∷ p.3 ∷ p.4 ∷ p.5 ∷ p.6 ∷ p.7 ∷ p.8 ∷ []) i };
 
-    ghost of_coords = { λ zs. (S.of_value (slice_index_or zs 0 (pos 0)), S.of_value (slice_index_or zs 1 (pos 0)), S.of_value (slice_index_or zs 2 (pos 0)), S.of_value (slice_index_or zs 3 (pos 0)), S.of_value (slice_index_or zs 4 (pos 0)), S.of_value (slice_index_or zs 5 (pos 0)), S.of_value (slice_index_or zs 6 (pos 0)), S.of_value (slice_index_or zs 7 (pos 0)), S.of_value (slice_index_or zs 8 (pos 0))) };
+    ghost of_coords = { λ zs. (
+      S.of_value (slice_index_or zs 0 (pos 0)),
+      S.of_value (slice_index_or zs 1 (pos 0)),
+      S.of_value (slice_index_or zs 2 (pos 0)),
+      S.of_value (slice_index_or zs 3 (pos 0)),
+      S.of_value (slice_index_or zs 4 (pos 0)),
+      S.of_value (slice_index_or zs 5 (pos 0)),
+      S.of_value (slice_index_or zs 6 (pos 0)),
+      S.of_value (slice_index_or zs 7 (pos 0)),
+      S.of_value (slice_index_or zs 8 (pos 0)),
+    ) };
 
-    ghost with = { λ p i s. (after_write i s 0 p.0, after_write i s 1 p.1, after_write i s 2 p.2, after_write i s 3 p.3, after_write i s 4 p.4, after_write i s 5 p.5, after_write i s 6 p.6, after_write i s 7 p.7, after_write i s 8 p.8) };
+    ghost with = { λ p i s. (
+      after_write i s 0 p.0,
+      after_write i s 1 p.1,
+      after_write i s 2 p.2,
+      after_write i s 3 p.3,
+      after_write i s 4 p.4,
+      after_write i s 5 p.5,
+      after_write i s 6 p.6,
+      after_write i s 7 p.7,
+      after_write i s 8 p.8,
+    ) };
 
     fn generate<F: FnMut(usize) -> S>(mut generator: F) -> (S, S, S, S, S, S, S, S, S) {
         let a = generator(0);
@@ -460,9 +587,17 @@ impl<S: RTreeNum> Point for (S, S, S, S, S, S, S, S, S) {
 
     ghost coords_of_law = { λ zs h. tuple-forth S.value S.of_value S.low S.high S.value_of_law 9 zs h };
 
-    ghost with_law = { λ p i s j _ _ l. tuple-with S.value S.zero (p.0 ∷ p.1 ∷ p.2 ∷ p.3 ∷ p.4 ∷ p.5 ∷ p.6 ∷ p.7 ∷ p.8 ∷ []) i s j l };
+    ghost with_law = { λ p i s j _ _ l. tuple-with S.value S.zero
+        (p.0 ∷ p.1 ∷ p.2 ∷ p.3 ∷ p.4 ∷ p.5 ∷ p.6 ∷ p.7 ∷ p.8 ∷ []) i s j l };
 
-    ghost eq_law = { λ p q _ _. tuple-eq S.eq S.value (λ a b. S.eq_law a b S.exact_law) p.0 q.0 (p.1 ∷ p.2 ∷ p.3 ∷ p.4 ∷ p.5 ∷ p.6 ∷ p.7 ∷ p.8 ∷ []) (q.1 ∷ q.2 ∷ q.3 ∷ q.4 ∷ q.5 ∷ q.6 ∷ q.7 ∷ q.8 ∷ []) refl };
+    ghost same_law = { λ p q.
+        (tuple-eq S.eq S.value (λ a b. S.eq_law a b S.exact_law) p.0 q.0
+        (p.1 ∷ p.2 ∷ p.3 ∷ p.4 ∷ p.5 ∷ p.6 ∷ p.7 ∷ p.8 ∷ []) (q.1 ∷ q.2 ∷ q.3 ∷ q.4 ∷ q.5 ∷ q.6 ∷ q.7 ∷ q.8 ∷ [])
+        refl).0 };
+
+    ghost eq_law = { λ p q _ _. tuple-eq S.eq S.value (λ a b. S.eq_law a b S.exact_law) p.0 q.0
+        (p.1 ∷ p.2 ∷ p.3 ∷ p.4 ∷ p.5 ∷ p.6 ∷ p.7 ∷ p.8 ∷ []) (q.1 ∷ q.2 ∷ q.3 ∷ q.4 ∷ q.5 ∷ q.6 ∷ q.7 ∷ q.8 ∷ [])
+        refl };
 }
 
 impl<S: RTreeNum> Point for (S, S, S, S, S, S, S, S, S, S) {
@@ -472,11 +607,34 @@ impl<S: RTreeNum> Point for (S, S, S, S, S, S, S, S, S, S) {
 
     ghost DIMENSIONS = { 10 };
 
-    ghost coord = { λ p i. list_coord S.value S.zero (p.0 ∷ p.1 ∷ p.2 ∷ p.3 ∷ p.4 ∷ p.5 ∷ p.6 ∷ p.7 ∷ p.8 ∷ p.9 ∷ []) i };
+    ghost coord = { λ p i. list_coord S.value S.zero (p.0 ∷ p.1 ∷ p.2 ∷ p.3 ∷ p.4 ∷ p.5 ∷ p.6 ∷ p.7 ∷ p.8 ∷ p.9 ∷ [])
+        i };
 
-    ghost of_coords = { λ zs. (S.of_value (slice_index_or zs 0 (pos 0)), S.of_value (slice_index_or zs 1 (pos 0)), S.of_value (slice_index_or zs 2 (pos 0)), S.of_value (slice_index_or zs 3 (pos 0)), S.of_value (slice_index_or zs 4 (pos 0)), S.of_value (slice_index_or zs 5 (pos 0)), S.of_value (slice_index_or zs 6 (pos 0)), S.of_value (slice_index_or zs 7 (pos 0)), S.of_value (slice_index_or zs 8 (pos 0)), S.of_value (slice_index_or zs 9 (pos 0))) };
+    ghost of_coords = { λ zs. (
+      S.of_value (slice_index_or zs 0 (pos 0)),
+      S.of_value (slice_index_or zs 1 (pos 0)),
+      S.of_value (slice_index_or zs 2 (pos 0)),
+      S.of_value (slice_index_or zs 3 (pos 0)),
+      S.of_value (slice_index_or zs 4 (pos 0)),
+      S.of_value (slice_index_or zs 5 (pos 0)),
+      S.of_value (slice_index_or zs 6 (pos 0)),
+      S.of_value (slice_index_or zs 7 (pos 0)),
+      S.of_value (slice_index_or zs 8 (pos 0)),
+      S.of_value (slice_index_or zs 9 (pos 0)),
+    ) };
 
-    ghost with = { λ p i s. (after_write i s 0 p.0, after_write i s 1 p.1, after_write i s 2 p.2, after_write i s 3 p.3, after_write i s 4 p.4, after_write i s 5 p.5, after_write i s 6 p.6, after_write i s 7 p.7, after_write i s 8 p.8, after_write i s 9 p.9) };
+    ghost with = { λ p i s. (
+      after_write i s 0 p.0,
+      after_write i s 1 p.1,
+      after_write i s 2 p.2,
+      after_write i s 3 p.3,
+      after_write i s 4 p.4,
+      after_write i s 5 p.5,
+      after_write i s 6 p.6,
+      after_write i s 7 p.7,
+      after_write i s 8 p.8,
+      after_write i s 9 p.9,
+    ) };
 
     fn generate<F: FnMut(usize) -> S>(mut generator: F) -> (S, S, S, S, S, S, S, S, S, S) {
         let a = generator(0);
@@ -526,7 +684,15 @@ impl<S: RTreeNum> Point for (S, S, S, S, S, S, S, S, S, S) {
 
     ghost coords_of_law = { λ zs h. tuple-forth S.value S.of_value S.low S.high S.value_of_law 10 zs h };
 
-    ghost with_law = { λ p i s j _ _ l. tuple-with S.value S.zero (p.0 ∷ p.1 ∷ p.2 ∷ p.3 ∷ p.4 ∷ p.5 ∷ p.6 ∷ p.7 ∷ p.8 ∷ p.9 ∷ []) i s j l };
+    ghost with_law = { λ p i s j _ _ l. tuple-with S.value S.zero
+        (p.0 ∷ p.1 ∷ p.2 ∷ p.3 ∷ p.4 ∷ p.5 ∷ p.6 ∷ p.7 ∷ p.8 ∷ p.9 ∷ []) i s j l };
 
-    ghost eq_law = { λ p q _ _. tuple-eq S.eq S.value (λ a b. S.eq_law a b S.exact_law) p.0 q.0 (p.1 ∷ p.2 ∷ p.3 ∷ p.4 ∷ p.5 ∷ p.6 ∷ p.7 ∷ p.8 ∷ p.9 ∷ []) (q.1 ∷ q.2 ∷ q.3 ∷ q.4 ∷ q.5 ∷ q.6 ∷ q.7 ∷ q.8 ∷ q.9 ∷ []) refl };
+    ghost same_law = { λ p q.
+        (tuple-eq S.eq S.value (λ a b. S.eq_law a b S.exact_law) p.0 q.0
+        (p.1 ∷ p.2 ∷ p.3 ∷ p.4 ∷ p.5 ∷ p.6 ∷ p.7 ∷ p.8 ∷ p.9 ∷ [])
+        (q.1 ∷ q.2 ∷ q.3 ∷ q.4 ∷ q.5 ∷ q.6 ∷ q.7 ∷ q.8 ∷ q.9 ∷ []) refl).0 };
+
+    ghost eq_law = { λ p q _ _. tuple-eq S.eq S.value (λ a b. S.eq_law a b S.exact_law) p.0 q.0
+        (p.1 ∷ p.2 ∷ p.3 ∷ p.4 ∷ p.5 ∷ p.6 ∷ p.7 ∷ p.8 ∷ p.9 ∷ [])
+        (q.1 ∷ q.2 ∷ q.3 ∷ q.4 ∷ q.5 ∷ q.6 ∷ q.7 ∷ q.8 ∷ q.9 ∷ []) refl };
 }

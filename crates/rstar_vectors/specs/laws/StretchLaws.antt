@@ -57,7 +57,8 @@ comm a b =
 
 assoc : (a b c : ℤ × ℤ × ℕ) → merge_stretches (merge_stretches a b) c ≡ merge_stretches a (merge_stretches b c)
 assoc a b c =
-    let p = least_assoc a.0 b.0 c.0 in let q = greatest_assoc a.1 b.1 c.1 in let r = level_assoc a.2 b.2 c.2 in rw (p, q, r) refl
+    let p = least_assoc a.0 b.0 c.0 in let q =
+    greatest_assoc a.1 b.1 c.1 in let r = level_assoc a.2 b.2 c.2 in rw (p, q, r) refl
 
 unit : (a : ℤ × ℤ × ℕ) → IsStretch a → merge_stretches empty_stretch a ≡ a
 unit a h =
@@ -83,17 +84,26 @@ in_range : (z : ℤ) → low ≤ℤ z → z ≤ℤ high → InRange low high z
 in_range z h k = record { above = h; below = k }
 
 empty-stretch : IsStretch empty_stretch
-empty-stretch = record { first = in_range high (omega (arith, ints)) (omega (arith, ints)); last = in_range low (omega (arith, ints)) (omega (arith, ints)); shape = λ _. refl }
+empty-stretch =
+    record {
+      first =
+          in_range high (omega (arith, ints)) (omega (arith, ints));
+      last =
+          in_range low (omega (arith, ints)) (omega (arith, ints));
+      shape = λ _. refl;
+    }
 
 within : (a b c d : ℤ) → (int_le (int_min a b) a && int_le c (int_max c d)) ≡ true
 within a b c d = grind (arith, ints)
 
-around_point : (a b c d q : ℤ) → (int_le a q && int_le q c) ≡ true → (int_le (int_min a b) q && int_le q (int_max c d)) ≡ true
+around_point : (a b c d q : ℤ) → (int_le a q && int_le q c) ≡ true
+    → (int_le (int_min a b) q && int_le q (int_max c d)) ≡ true
 around_point a b c d q h = let p = and_parts (int_le a q) (int_le q c) h in
     let l : int_le a q ≡ true = p.0 in let r : int_le q c ≡ true = p.1 in
     and_both (int_le (int_min a b) q) (int_le q (int_max c d)) (grind (arith, ints)) (grind (arith, ints))
 
-meets : (a b c d x y : ℤ) → (int_le a y && int_le x c) ≡ true → (int_le (int_min a b) y && int_le x (int_max c d)) ≡ true
+meets : (a b c d x y : ℤ) → (int_le a y && int_le x c) ≡ true
+    → (int_le (int_min a b) y && int_le x (int_max c d)) ≡ true
 meets a b c d x y h = let p = and_parts (int_le a y) (int_le x c) h in
     let l : int_le a y ≡ true = p.0 in let r : int_le x c ≡ true = p.1 in
     and_both (int_le (int_min a b) y) (int_le x (int_max c d)) (grind (arith, ints)) (grind (arith, ints))
@@ -141,7 +151,8 @@ end_up a b c d q =
     let u = either (λ z. gap_between z z q) (int_lt d c) c d in
     omega (arith, l, u)
 
-held_least : (m n k : ℕ) → min m n ≤ k → min (held_square greatest_number m) (held_square greatest_number n) ≤ held_square greatest_number k
+held_least : (m n k : ℕ) → min m n ≤ k
+    → min (held_square greatest_number m) (held_square greatest_number n) ≤ held_square greatest_number k
 held_least m n k h =
     by_lt_z (pos m) (pos n)
     (λ l. let s = held_up m k (omega (arith, ints)) in omega (arith, s))
@@ -173,7 +184,8 @@ eq_parts a b h =
 
 parts_eq : (a b : ℤ × ℤ × ℕ) → a ≡ b → IsTrue (int_eq a.0 b.0 && (int_eq a.1 b.1 && eqb a.2 b.2))
 parts_eq a b e = subst (λ w. IsTrue (int_eq a.0 w.0 && (int_eq a.1 w.1 && eqb a.2 w.2))) e
-    (and_both (int_eq a.0 a.0) (int_eq a.1 a.1 && eqb a.2 a.2) (int_itself a.0) (and_both (int_eq a.1 a.1) (eqb a.2 a.2) (int_itself a.1) (nat_itself a.2)))
+    (and_both (int_eq a.0 a.0) (int_eq a.1 a.1 && eqb a.2 a.2) (int_itself a.0)
+    (and_both (int_eq a.1 a.1) (eqb a.2 a.2) (int_itself a.1) (nat_itself a.2)))
 
 pub stretch_eq : (a b : ℤ × ℤ × ℕ) → IsTrue (int_eq a.0 b.0 && (int_eq a.1 b.1 && eqb a.2 b.2)) ↔ (a ≡ b)
 stretch_eq a b = (eq_parts a b, parts_eq a b)

@@ -1,6 +1,7 @@
 use Rattle.std.proofs.Common.{◌≡◌, ◌<◌, ◌+◌, ◌∙◌, ℕ, refl, ap, sym, pos, min, unsigned_abs, arith}
 use Rattle.rstar_base.specs.Distances.{near_face, far_face}
-use Rattle.rstar_base.specs.Sums.{sum_below, sum_below-more}
+use Rattle.rstar_base.specs.Sums.{sum_below}
+use Rattle.rstar_base.proofs.Sums.{sum_below-more}
 use Rattle.rstar_base.proofs.MinMax.{best_from, best_from-more, best_min_max, above_zero, least_clamped}
 use Rattle.rstar_base.proofs.Squares.{clamped_more}
 use Rattle.rstar_base.proofs.aabb.min_max_distance.Goals as goal
@@ -16,8 +17,8 @@ loop-i-preserved g c =
     let far : ℕ → ℕ = λ j. far_face (k c.args.lower.now j, k c.args.upper.now j) (k c.args.point.now j) in
     let ll = g.met.P.Scalar.RTreeNum.low_law in
     let hl = g.met.P.Scalar.RTreeNum.high_law in
-    let n : g.P.Scalar.Number.value c.faces-near.result.0 ≡ pos (min (near i) top) = rw (← c.nth.ensures, ← c.nth-in-loop-i.ensures, ← c.nth-in-loop-i-2.ensures) c.faces-near.ensures.near in
-    let f : g.P.Scalar.Number.value c.faces-near.result.1 ≡ pos (min (far i) top) = rw (← c.nth.ensures, ← c.nth-in-loop-i.ensures, ← c.nth-in-loop-i-2.ensures) c.faces-near.ensures.far in
+    let n : g.P.Scalar.Number.value c.faces-near.result.0 ≡ pos (min (near i) top) = rw (← c.nth.ensures.value, ← c.nth-in-loop-i.ensures.value, ← c.nth-in-loop-i-2.ensures.value) c.faces-near.ensures.near in
+    let f : g.P.Scalar.Number.value c.faces-near.result.1 ≡ pos (min (far i) top) = rw (← c.nth.ensures.value, ← c.nth-in-loop-i.ensures.value, ← c.nth-in-loop-i-2.ensures.value) c.faces-near.ensures.far in
     let b = best_from top 0 i near far in
     let s = sum_below i far in
     let x = clamped_more low high _ _ _ b (far i) (b + far i) ll hl c.loop-i.invariant.best f c.clamped_add.ensures refl in

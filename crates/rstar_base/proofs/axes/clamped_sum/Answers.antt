@@ -1,5 +1,6 @@
 use Rattle.std.proofs.Common.{◌≡◌, ◌∙◌, arith, refl, ap, pos, min, unsigned_abs}
-use Rattle.rstar_base.specs.Sums.{sum_below, sum_below-more}
+use Rattle.rstar_base.specs.Sums.{sum_below}
+use Rattle.rstar_base.proofs.Sums.{sum_below-more}
 use Rattle.rstar_base.proofs.Squares.{clamped_more}
 use Rattle.rstar_base.proofs.axes.clamped_sum.Goals as goal
 

@@ -43,5 +43,5 @@ returns g c =
       all_fit _ _ _ _ _ _ (k c.in_ok-dir.dir) (k c.in_ok-offset.offset) c.in_ok-dir.ensures.1 c.in_ok-offset.ensures.1 _ _ c.in_ok-t.ensures.1 c.in_ok-len.ensures.1
           c.in_ok-dir.ensures.0 c.in_ok-offset.ensures.0 c.in_ok-t.ensures.0 c.in_ok-len.ensures.0 inside (sym c.multiple_fits.ensures ∙ c.if-not-multiple_fits.false),
       λ i l. c.stepped.ensures i l
-          ∙ stepped-interior _ _ _ _ _ _ (k c.in_ok-dir.dir) (k c.in_ok-offset.offset) c.in_ok-dir.ensures.1 c.in_ok-offset.ensures.1 _ _ c.in_ok-t.ensures.1 c.in_ok-len.ensures.1 p.0 p.1 c.known.ensures c.known-2.ensures i l,
+          ∙ stepped-interior _ _ _ _ _ _ (k c.in_ok-dir.dir) (k c.in_ok-offset.offset) c.in_ok-dir.ensures.1 c.in_ok-offset.ensures.1 _ _ c.in_ok-t.ensures.1 c.in_ok-len.ensures.1 p.0 p.1 c.known.ensures.range c.known-2.ensures.range i l,
     )

@@ -10,6 +10,6 @@ pub returns-clause-lawful : goal.returns-clause-lawful
 returns-clause-lawful g c = λ t e value ok selected full.
     let laws = g.met.T.Envelope.Envelope.envelope_laws in
     let box = g.met.T.RTreeObject.object_law t value in
-    let near = g.met.T.PointDistance.distance_laws.near t _ c.known.ensures value full in
-    let merged = laws.merge_distance _ e _ c.known.ensures box ok full in
+    let near = g.met.T.PointDistance.distance_laws.near t _ c.known.ensures.range value full in
+    let merged = laws.merge_distance _ e _ c.known.ensures.range box ok full in
     nearer_within _ _ _ merged (nearer_within _ _ _ near selected)

@@ -1,7 +1,7 @@
 use Rattle.std.proofs.Common.{subst}
 use Rattle.rstar_base.specs.Scalars.{InRange}
 use Rattle.rstar_base.proofs.Ranges.{table-point}
-use Rattle.rstar_base.proofs.point.known.Goals as goal
+use Rattle.rstar_base.proofs.point.in_range.Goals as goal
 
 pub returns : goal.returns
 returns g c =

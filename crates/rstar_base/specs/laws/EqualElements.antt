@@ -1,0 +1,42 @@
+-- Equal points, rectangles and lines have equal boxes.
+use Rattle.std.specs.Prelude.{◌≡◌, ◌&&◌, IsTrue, ℕ, ℤ, Bool}
+use Rattle.std.proofs.Common.{refl}
+use Rattle.rstar_base.specs.Points.{table}
+use Rattle.rstar_base.specs.laws.PointLemmas.{and_parts, table-same, table-each, all_below-same}
+use Rattle.rstar_base.specs.Boxes.{between_corners, box_of_corners, is_upright}
+use Rattle.rstar_base.specs.Rectangles.{box_or_empty}
+
+-- ---- what is made of the same two lists of coordinates
+
+module _ (n : ℕ) (l u k v : ℕ → ℤ) (e : table n l ≡ table n k) (f : table n u ≡ table n v) where
+  pub between-same : between_corners n l u ≡ between_corners n k v
+  between-same = table-same n _ _ (λ i h. rw (table-each n l k e i h, table-each n u v f i h) refl)
+
+  upright-same : is_upright n l u ≡ is_upright n k v
+  upright-same = all_below-same n _ _ (λ i h. rw (table-each n l k e i h, table-each n u v f i h) refl)
+
+  pub box_or_empty-equal : (low high : ℤ) → box_or_empty low high n l u ≡ box_or_empty low high n k v
+  box_or_empty-equal low high = rw (upright-same, between-same) refl
+
+  pub corners-same : box_of_corners n l u ≡ box_of_corners n k v
+  corners-same = table-same n _ _ (λ i h. rw (table-each n l k e i h, table-each n u v f i h) refl)
+
+-- ---- points, and what is made of two of them
+
+module _ {P : Type 0} (n : ℕ) (coord : P → ℕ → ℤ) (eq : P → P → Bool)
+    (same : (p q : P) → IsTrue (eq p q) → table n (coord p) ≡ table n (coord q)) where
+  pub point_equal : (p q : P) → IsTrue (eq p q)
+      → between_corners n (coord p) (coord p) ≡ between_corners n (coord q) (coord q)
+  point_equal p q e = between-same n (coord p) (coord p) (coord q) (coord q) (same p q e) (same p q e)
+
+  pub rectangle_equal : (low high : ℤ) (a b c d : P) → IsTrue (eq a c && eq b d)
+      → box_or_empty low high n (coord a) (coord b) ≡ box_or_empty low high n (coord c) (coord d)
+  rectangle_equal low high a b c d e =
+      let p = and_parts (eq a c) (eq b d) e in
+      box_or_empty-equal n (coord a) (coord b) (coord c) (coord d) (same a c p.0) (same b d p.1) low high
+
+  pub line_equal : (a b c d : P) → IsTrue (eq a c && eq b d)
+      → box_of_corners n (coord a) (coord b) ≡ box_of_corners n (coord c) (coord d)
+  line_equal a b c d e =
+      let p = and_parts (eq a c) (eq b d) e in
+      corners-same n (coord a) (coord b) (coord c) (coord d) (same a c p.0) (same b d p.1)
