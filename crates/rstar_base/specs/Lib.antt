@@ -16,5 +16,7 @@ pub mod Rectangles
 pub mod Orders
 pub mod Segments
 pub mod Selections
+pub mod Clusters
+pub mod Slabs
 pub mod KeptEnvelopes
 pub mod laws

@@ -4,10 +4,12 @@
 pub mod aabb;
 pub mod algorithm;
 mod axes;
+pub mod clusters;
 pub mod envelope;
 pub mod mint;
 pub mod object;
 pub mod params;
+mod partition;
 mod places;
 pub mod point;
 pub mod primitives;

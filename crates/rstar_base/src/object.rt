@@ -15,6 +15,7 @@ ghost use Rattle.rstar_base.specs.Orders.{IsSplitAt};
 use crate::aabb::{AABB, same_coordinates, squared_distance};
 use crate::axes::copied_point;
 use crate::envelope::Envelope;
+use crate::partition::partition_by_selection;
 use crate::point::{Point, RTreeNum, known, not_above};
 use std::cmp::Ordering;
 use std::rc::Rc;
@@ -249,5 +250,5 @@ pub fn partition_envelopes<T: RTreeObject>(axis: usize, list: &mut [T], k: usize
     ensures same { IsPermutation list.old list.new }
     ensures split { IsSplitAt (λ t. T.Envelope.boxes.axis_key (T.object.box_of t) axis) k list.new }
 {
-    sort_envelopes(axis, list);
+    partition_by_selection(axis, list, k);
 }

@@ -1,13 +1,21 @@
-//! What generic code knows of points and of equal elements, and its callers at concrete types.
+//! What generic code knows of points and of equal elements, what selections ask, and callers of
+//! these at concrete types.
 
 ghost use Rattle.std.specs.Prelude.{◌≡◌, ◌<◌, ◌↔◌, ◌==◌, ℕ, IsTrue, if◌then◌else◌};
 ghost use Rattle.rstar_base.specs.Points.{table};
 
+mod slabs;
+
+use crate::aabb::AABB;
+use crate::algorithm::selection_functions::{
+    SelectAtPointFunction, SelectEqualsFunction, SelectInEnvelopeFuncIntersecting,
+    SelectInEnvelopeFunction, SelectWithinDistanceFunction, SelectionFunction,
+};
 use crate::envelope::Envelope;
 use crate::mint::Point2;
 use crate::object::{EqualEnvelopes, RTreeObject};
 use crate::point::{Point, known};
-use crate::primitives::{GeomWithData, Rectangle};
+use crate::primitives::{GeomWithData, Line, Rectangle};
 use std::alloc::{AllocError, Global};
 
 type Place = GeomWithData<Rectangle<[i64; 2]>, u64>;
@@ -124,4 +132,65 @@ fn a_place_has_the_envelope_of_its_rectangle(rt: HostRuntime) -> Result<(), Allo
     assert!(rt; kept[0].envelope() == wanted.envelope());
     assert_eq!(rt; kept[0].data, 7);
     Ok(())
+}
+
+type Segment = Line<[i64; 2]>;
+
+// Whether a function opens a parent of this element alone, and whether it gives the element.
+fn asked<T: RTreeObject, F: SelectionFunction<T>>(func: F, element: &T) -> (bool, bool) {
+    (
+        func.should_unpack_parent(&element.envelope()),
+        func.should_unpack_leaf(element),
+    )
+}
+
+// What is opened and given in the box from [0, 0] to [4, 4], of what meets it, of what contains
+// [1, 3], of what is within 2 of it, and of what equals the line from [0, 0] to [4, 4].
+fn asked_all(segment: &Segment) -> [(bool, bool); 5] {
+    [
+        asked(
+            SelectInEnvelopeFunction::new(AABB::from_corners([0, 0], [4, 4])),
+            segment,
+        ),
+        asked(
+            SelectInEnvelopeFuncIntersecting::new(AABB::from_corners([0, 0], [4, 4])),
+            segment,
+        ),
+        asked(SelectAtPointFunction::new([1, 3]), segment),
+        asked(SelectWithinDistanceFunction::new([1, 3], 2), segment),
+        asked(
+            SelectEqualsFunction::new(&Line::new([0, 0], [4, 4])),
+            segment,
+        ),
+    ]
+}
+
+#[test]
+fn selections_open_and_give_what_they_ask_for(rt: HostRuntime) {
+    let both = (true, true);
+    let opened = (true, false);
+    let neither = (false, false);
+    let rows: [(Segment, [(bool, bool); 5]); 6] = [
+        (Line::new([0, 0], [4, 4]), [both, both, opened, both, both]),
+        (
+            Line::new([4, 4], [0, 0]),
+            [both, both, opened, both, opened],
+        ),
+        (
+            Line::new([0, 0], [2, 6]),
+            [opened, both, both, both, neither],
+        ),
+        (
+            Line::new([1, 4], [1, 9]),
+            [opened, both, neither, both, neither],
+        ),
+        (Line::new([0, 2], [2, 4]), [both, both, both, both, neither]),
+        (
+            Line::new([5, 0], [9, 3]),
+            [neither, neither, neither, neither, neither],
+        ),
+    ];
+    for (segment, wanted) in rows.iter() {
+        assert!(rt; asked_all(segment) == *wanted);
+    }
 }

@@ -1,0 +1,65 @@
+-- Slabs of a list of elements, and lists around a pivot.
+use Rattle.std.specs.Prelude.{◌≡◌, ◌≢◌, ℕ, ℤ, ◌++◌, ◌<◌, ◌≤◌, ◌≤ℤ◌, List, [], All, length, min, slice_index_or, IsPermutation, Option, Result, MatchOption, MatchResult}
+use Rattle.std.specs.Int.{div_ceil}
+use Rattle.std.specs.Global.{Vec}
+use Rattle.std.specs.declared.alloc.AllocError.{AllocError}
+use Rattle.rstar_base.specs.declared.clusters.ClusterGroupIterator.{ClusterGroupIterator}
+
+-- no element of the first list has a greater key than any of the second
+abbrev pub NoneAbove : {T : Type 0} → (T → ℤ) → List T → List T → Type 0
+NoneAbove key xs ys = All (λ x. All (λ y. key x ≤ℤ key y) ys) xs
+
+-- ---- lists around a pivot
+
+-- before `high` no key is greater than the pivot, and from `low` on none is smaller
+pub record IsAround {T : Type 0} (key : T → ℤ) (pivot : ℤ) (low high : ℕ) (xs : List T) : Type 0 where
+  pub at_most : (i : ℕ) (d : T) → i < high → key (slice_index_or xs i d) ≤ℤ pivot
+  pub at_least : (i : ℕ) (d : T) → low ≤ i → i < length xs → pivot ≤ℤ key (slice_index_or xs i d)
+
+-- the same while elements between `at` and `more` are still to be placed
+pub record IsAroundSoFar {T : Type 0} (key : T → ℤ) (pivot : ℤ) (less at more : ℕ) (xs : List T) : Type 0 where
+  pub order : less ≤ at
+  pub left : at ≤ more
+  pub within : more ≤ length xs
+  pub at_most : (i : ℕ) (d : T) → i < at → key (slice_index_or xs i d) ≤ℤ pivot
+  pub middle : (i : ℕ) (d : T) → less ≤ i → i < at → pivot ≤ℤ key (slice_index_or xs i d)
+  pub at_least : (i : ℕ) (d : T) → more ≤ i → i < length xs → pivot ≤ℤ key (slice_index_or xs i d)
+
+-- ---- slabs
+
+-- what an iterator of slabs has left, how many elements its slabs have, and its axis
+abbrev pub elements_left : {T : Type 0} → ClusterGroupIterator T → List T
+elements_left it = it.remaining.items
+
+abbrev pub slab_size_of : {T : Type 0} → ClusterGroupIterator T → ℕ
+slab_size_of it = it.slab_size
+
+abbrev pub dimension_of : {T : Type 0} → ClusterGroupIterator T → ℕ
+dimension_of it = it.cluster_dimension
+
+-- how many slabs are to come
+abbrev pub slabs_left : {T : Type 0} → ClusterGroupIterator T → ℕ
+slabs_left it = div_ceil (length (elements_left it)) (slab_size_of it)
+
+-- its slabs have elements, and it has an axis
+abbrev pub IsCutting : {T : Type 0} → ℕ → ClusterGroupIterator T → Type 0
+IsCutting axes it = (0 < slab_size_of it) × (dimension_of it < axes)
+
+-- A slab of s elements, or of all where there are fewer, was taken off a list: those of the greatest keys.
+pub record IsSlabOf {T : Type 0} (key : T → ℤ) (s : ℕ) (before slab after : List T) : Type 0 where
+  pub same : IsPermutation before (after ++ slab)
+  pub size : length slab ≡ min s (length before)
+  pub parted : NoneAbove key after slab
+
+-- What a call of `next` gives: a slab while elements are left. A refusal, never of the last slab, drops the rest.
+abbrev pub GivesSlab : {T : Type 0} → (T → ℤ) → ℕ → List T → Option (Result (Vec T) AllocError) → List T → Type 0
+GivesSlab key s before result after =
+    MatchOption result
+    ((before ≡ []) × (after ≡ []))
+    (λ given. (before ≢ []) × MatchResult given (λ slab. IsSlabOf key s before slab.items after) (λ _. (s < length before) × (after ≡ [])))
+
+-- The same of the iterator, by the keys on its axis. The size of the slabs and the axis stay.
+abbrev pub GivesNextSlab : {T : Type 0} → (T → ℕ → ℤ) → ClusterGroupIterator T → Option (Result (Vec T) AllocError) → ClusterGroupIterator T → Type 0
+GivesNextSlab key old result new =
+    GivesSlab (λ t. key t (dimension_of old)) (slab_size_of old) (elements_left old) result (elements_left new)
+    × (slab_size_of new ≡ slab_size_of old) × (dimension_of new ≡ dimension_of old)
