@@ -18,3 +18,4 @@ pub mod Segments
 pub mod Selections
 pub mod KeptEnvelopes
 pub mod laws
+pub mod SmallHeaps

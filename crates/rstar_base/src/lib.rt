@@ -5,6 +5,7 @@ pub mod aabb;
 pub mod algorithm;
 mod axes;
 pub mod envelope;
+pub mod heap;
 pub mod mint;
 pub mod object;
 pub mod params;
