@@ -20,3 +20,4 @@ pub mod Clusters
 pub mod Slabs
 pub mod KeptEnvelopes
 pub mod laws
+pub mod SmallHeaps
