@@ -5,15 +5,14 @@ ghost use Rattle.std.specs.Result.{IsErrAnd};
 ghost use Rattle.std.specs.List.Sorted.{IsPermutation};
 ghost use Rattle.rstar_base.specs.Selections.{IsLawful};
 ghost use Rattle.rstar.specs.Selections.{IsPartOf, to_come, IsWalking, root_walked, question_of};
-ghost use Rattle.rstar.specs.Heights.{levels_below, height_of, spare_lists};
+ghost use Rattle.rstar.specs.Heights.{height_of, spare_lists};
 ghost use Rattle.rstar.specs.Kept.{HasRoom};
-ghost use Rattle.rstar.specs.Nodes.{children_of};
 ghost use Rattle.rstar.specs.Shapes.{IsSized};
 ghost use Rattle.rstar.specs.Trees.{root_of, size_of, elements_in, IsUnchanged, IsWholeTree};
 
 use crate::algorithm::rstar::RStarInsertionStrategy;
 use crate::algorithm::rstar::insertion::insert_at_root;
-use crate::algorithm::rstar::preparation::{levels_of, lists_wanted, top_up};
+use crate::algorithm::rstar::preparation::{lists_wanted, top_up};
 use crate::iterators::{LocateInEnvelope, RTreeIterator, SelectionIterator};
 use crate::node::{ParentNode, RTreeNode};
 use crate::params::{InsertCause, InsertError, InsertionStrategy};
@@ -35,6 +34,8 @@ use std::marker::PhantomData;
 pub struct RTree<T: RTreeObject, Params: RTreeParams = DefaultParams> {
     root: ParentNode<T>,
     size: usize,
+    // The levels of parents below the root; all leaves lie below the last of them.
+    levels: usize,
     // No parent has more children than this, which is at least `MAX_SIZE`.
     widest: usize,
     // Empty child lists, for the parents that an insertion makes.
@@ -70,6 +71,7 @@ impl<T: RTreeObject, Params: RTreeParams> RTree<T, Params> {
     }
 
     /// The empty tree, of any number of dimensions. It takes no memory yet.
+    #[tactic(auto, unfolding(crate::specs::Trees::IsWholeTree))]
     pub fn default(alloc: Global) -> Self
         ensures none { elements_in result ≡ [] }
         ensures whole { IsWholeTree T.Envelope.boxes T.object Params.MAX_SIZE result }
@@ -81,6 +83,7 @@ impl<T: RTreeObject, Params: RTreeParams> RTree<T, Params> {
                 envelope: T::Envelope::new_empty(),
             },
             size: 0,
+            levels: 0,
             widest: Params::MAX_SIZE,
             spares: Vec::new(alloc),
             params: PhantomData,
@@ -95,6 +98,7 @@ impl<T: RTreeObject, Params: RTreeParams> RTree<T, Params> {
     }
 
     /// The number of elements, equal ones counted each.
+    #[tactic(auto, unfolding(crate::specs::Trees::IsWholeTree))]
     pub fn size(&self) -> usize
         ensures shown { result ≡ size_of self.now }
         ensures counted { IsWholeTree T.Envelope.boxes T.object Params.MAX_SIZE self.now → result ≡ length (elements_in self.now) }
@@ -133,6 +137,7 @@ impl<T: RTreeObject, Params: RTreeParams> RTree<T, Params> {
     ///
     /// It opens the parents that the function accepts. It is refused where the allocator refuses the path, one place for
     /// each level.
+    #[tactic(auto, unfolding(crate::specs::Trees::IsWholeTree))]
     pub fn locate_with_selection_function<Func: SelectionFunction<T>>(
         &self,
         func: Func,
@@ -170,49 +175,22 @@ impl<T: RTreeObject, Params: RTreeParams> RTree<T, Params> {
         RStarInsertionStrategy::insert(self, t)
     }
 
-    /// The body of the strategy: memory first, then the element.
-    pub(crate) fn insert_prepared(&mut self, t: T) -> Result<(), InsertError<T>>
-        requires whole { IsWholeTree T.Envelope.boxes T.object Params.MAX_SIZE self.old }
-        requires element { T.Envelope.boxes.is_empty (T.object.box_of t) ≡ false }
-        ensures added { OnOk result (IsPermutation (t ∷ elements_in self.old) (elements_in self.new)) }
-        ensures counted { OnOk result (size_of self.new ≡ size_of self.old + 1) }
-        ensures handed_back { IfErr result (λ refused. refused.element ≡ t) }
-        ensures unchanged { OnErr result (IsUnchanged self.old self.new) }
-        ensures too_many { IsErrAnd result (λ refused. refused.cause ≡ InsertCause.TooMany)
-            ↔ ((size_of self.old ≡ usize.MAX) ⊎ (usize.MAX < spare_lists Params.REINSERTION_COUNT (height_of (root_of self.old)))) }
-        ensures whole { IsWholeTree T.Envelope.boxes T.object Params.MAX_SIZE self.new }
-        ensures sized { IsSized Params.MIN_SIZE Params.MAX_SIZE (root_of self.old) → IsSized Params.MIN_SIZE Params.MAX_SIZE (root_of self.new) }
-    {
-        let levels = levels_of(&self.root);
-        let Some(wanted) = self.lists_to_prepare(levels) else {
-            return Err(InsertError {
-                element: t,
-                cause: InsertCause::TooMany,
-            });
-        };
-        let Ok(()) = self.prepare(wanted) else {
-            return Err(InsertError {
-                element: t,
-                cause: InsertCause::NoMemory,
-            });
-        };
-        self.insert_at_levels(t, levels);
-        Ok(())
-    }
-
     /// How many spare lists an insertion wants, and `None` where the tree cannot count one element more, or not them.
-    fn lists_to_prepare(&self, levels: usize) -> Option<usize>
-        ensures some { IfSome result (λ n. (n ≡ spare_lists Params.REINSERTION_COUNT (1 + levels)) × (self.now.size < usize.MAX)) }
-        ensures none { IfNone result ((self.now.size ≡ usize.MAX) ⊎ (usize.MAX < spare_lists Params.REINSERTION_COUNT (1 + levels))) }
+    #[tactic(auto, unfolding(crate::specs::Trees::IsWholeTree))]
+    pub(crate) fn lists_to_prepare(&self) -> Option<usize>
+        requires { IsWholeTree T.Envelope.boxes T.object Params.MAX_SIZE self.now }
+        ensures some { IfSome result (λ n. (n ≡ spare_lists Params.REINSERTION_COUNT (height_of (root_of self.now))) × (size_of self.now < usize.MAX)) }
+        ensures none { IfNone result ((size_of self.now ≡ usize.MAX) ⊎ (usize.MAX < spare_lists Params.REINSERTION_COUNT (height_of (root_of self.now)))) }
     {
         if self.size == usize::MAX {
             return None;
         }
-        lists_wanted::<Params>(levels)
+        lists_wanted::<Params>(self.levels)
     }
 
-    /// Takes the memory of an insertion: spare lists, and room in an empty root's list.
-    fn prepare(&mut self, wanted: usize) -> Result<(), AllocError>
+    /// Takes the memory of an insertion: so many spare lists, and room in an empty root's list.
+    #[tactic(auto, unfolding(crate::specs::Trees::IsWholeTree))]
+    pub(crate) fn prepare(&mut self, wanted: usize) -> Result<(), AllocError>
         requires whole { IsWholeTree T.Envelope.boxes T.object Params.MAX_SIZE self.old }
         ensures unchanged { IsUnchanged self.old self.new }
         ensures whole { IsWholeTree T.Envelope.boxes T.object Params.MAX_SIZE self.new }
@@ -228,19 +206,25 @@ impl<T: RTreeObject, Params: RTreeParams> RTree<T, Params> {
     }
 
     /// Inserts an element where the memory is prepared.
-    fn insert_at_levels(&mut self, t: T, levels: usize)
+    #[tactic(auto, unfolding(crate::specs::Trees::IsWholeTree))]
+    pub(crate) fn insert_prepared(&mut self, t: T)
         requires whole { IsWholeTree T.Envelope.boxes T.object Params.MAX_SIZE self.old }
         requires element { T.Envelope.boxes.is_empty (T.object.box_of t) ≡ false }
-        requires levels { levels ≡ levels_below (children_of (root_of self.old)) }
         requires room { HasRoom Params.MAX_SIZE self.old.root.children }
-        requires enough { levels + 1 < vec_len self.old.spares }
-        requires count { self.old.size < usize.MAX }
+        requires enough { spare_lists Params.REINSERTION_COUNT (height_of (root_of self.old)) ≤ vec_len self.old.spares }
+        requires count { size_of self.old < usize.MAX }
         ensures added { IsPermutation (t ∷ elements_in self.old) (elements_in self.new) }
         ensures counted { size_of self.new ≡ size_of self.old + 1 }
         ensures whole { IsWholeTree T.Envelope.boxes T.object Params.MAX_SIZE self.new }
         ensures sized { IsSized Params.MIN_SIZE Params.MAX_SIZE (root_of self.old) → IsSized Params.MIN_SIZE Params.MAX_SIZE (root_of self.new) }
     {
-        insert_at_root::<T, Params>(&mut self.root, t, levels, self.widest, &mut self.spares);
+        self.levels = insert_at_root::<T, Params>(
+            &mut self.root,
+            t,
+            self.levels,
+            self.widest,
+            &mut self.spares,
+        );
         self.size += 1;
     }
 }

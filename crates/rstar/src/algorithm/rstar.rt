@@ -11,7 +11,7 @@ mod split;
 
 use crate::algorithm::rstar::split::split_in_place;
 use crate::node::RTreeNode;
-use crate::params::{InsertError, InsertionStrategy};
+use crate::params::{InsertCause, InsertError, InsertionStrategy};
 use crate::rtree::RTree;
 use rstar_base::envelope::Envelope;
 use rstar_base::object::RTreeObject;
@@ -26,7 +26,20 @@ impl InsertionStrategy for RStarInsertionStrategy {
         tree: &mut RTree<T, Params>,
         t: T,
     ) -> Result<(), InsertError<T>> {
-        tree.insert_prepared(t)
+        let Some(wanted) = tree.lists_to_prepare() else {
+            return Err(InsertError {
+                element: t,
+                cause: InsertCause::TooMany,
+            });
+        };
+        let Ok(()) = tree.prepare(wanted) else {
+            return Err(InsertError {
+                element: t,
+                cause: InsertCause::NoMemory,
+            });
+        };
+        tree.insert_prepared(t);
+        Ok(())
     }
 }
 
