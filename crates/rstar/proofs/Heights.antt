@@ -5,7 +5,7 @@ use Rattle.rstar.specs.declared.node.ParentNode.{ParentNode}
 use Rattle.rstar.specs.Nodes.{fold_tree}
 use Rattle.rstar.specs.Shapes.{AreTrees}
 use Rattle.rstar.specs.Heights.{levels, levels_below}
-use Rattle.rstar.specs.Selections.{IsLevel}
+use Rattle.rstar.specs.Walks.{IsLevel}
 use Rattle.std.specs.List.{AllByRecursion}
 use Rattle.std.specs.Prelude.{⊤}
 use Rattle.rstar.specs.Nodes.{children_of}

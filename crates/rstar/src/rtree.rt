@@ -1,10 +1,10 @@
 //! The tree.
 
-ghost use Rattle.std.specs.Prelude.{◌≡◌, ◌⊎◌, ◌↔◌, ◌∷◌, ◌+◌, ◌<◌, ◌≤◌, [], false, length, OnOk, OnErr, IfOk, IfErr, IfSome, IfNone, filter, vec_len};
+ghost use Rattle.std.specs.Prelude.{◌≡◌, ◌⊎◌, ◌↔◌, ◌∷◌, ◌+◌, ◌<◌, ◌≤◌, [], true, false, length, OnOk, OnErr, IsOk, IfOk, IfErr, IfSome, IfNone, filter, vec_len};
 ghost use Rattle.std.specs.Result.{IsErrAnd};
 ghost use Rattle.std.specs.List.Sorted.{IsPermutation};
 ghost use Rattle.rstar_base.specs.Selections.{IsLawful};
-ghost use Rattle.rstar.specs.Selections.{IsPartOf, to_come, IsWalking, root_walked, question_of};
+ghost use Rattle.rstar.specs.Selections.{IsPartOf, to_come, question_of, IsMade, IsWalking};
 ghost use Rattle.rstar.specs.Heights.{height_of, spare_lists};
 ghost use Rattle.rstar.specs.Kept.{HasRoom};
 ghost use Rattle.rstar.specs.Shapes.{IsSized};
@@ -106,37 +106,45 @@ impl<T: RTreeObject, Params: RTreeParams> RTree<T, Params> {
         self.size
     }
 
-    /// All elements, in some order. It is refused where the allocator refuses the path, one place for each level.
+    /// All elements, in some order.
+    ///
+    /// It is refused where the allocator refuses the path of a tree of more than 13 levels of parents.
     pub fn iter(&self) -> Result<RTreeIterator<'_, T>, AllocError>
         requires { IsWholeTree T.Envelope.boxes T.object Params.MAX_SIZE self.now }
-        ensures all { IfOk result (λ it. to_come ⟦<SelectAllFunc as SelectionFunction<T>>⟧.accepts ⟦<SelectAllFunc as SelectionFunction<T>>⟧.selects it ≡ elements_in self.now) }
+        ensures all { IfOk result (λ it. to_come ⟦<SelectAllFunc as SelectionFunction<T>>⟧.accepts
+            ⟦<SelectAllFunc as SelectionFunction<T>>⟧.selects it ≡ elements_in self.now) }
+        ensures made { IfOk result (λ it. IsMade ⟦<SelectAllFunc as SelectionFunction<T>>⟧.accepts (root_of self.now)
+            (λ e. true) it) }
         ensures walking { IfOk result (λ it. IsWalking ⟦<SelectAllFunc as SelectionFunction<T>>⟧.accepts it) }
-        ensures root { IfOk result (λ it. root_walked it ≡ root_of self.now) }
+        ensures near { height_of (root_of self.now) ≤ 13 → IsOk result }
     {
         self.locate_with_selection_function(SelectAllFunc)
     }
 
     /// The elements whose envelopes an envelope contains, in some order. Its borders belong to it.
     ///
-    /// It opens the parents whose envelopes intersect it. It is refused where the allocator refuses the path, one place
-    /// for each level.
+    /// It opens the parents whose envelopes intersect it. It is refused where the allocator refuses the path of a tree
+    /// of more than 13 levels of parents.
     pub fn locate_in_envelope(
         &self,
         envelope: T::Envelope,
     ) -> Result<LocateInEnvelope<'_, T>, AllocError>
         requires { IsWholeTree T.Envelope.boxes T.object Params.MAX_SIZE self.now }
-        ensures all { IfOk result (λ it. to_come ⟦<SelectInEnvelopeFunction<T> as SelectionFunction<T>>⟧.accepts ⟦<SelectInEnvelopeFunction<T> as SelectionFunction<T>>⟧.selects it
+        ensures all { IfOk result (λ it. to_come ⟦<SelectInEnvelopeFunction<T> as SelectionFunction<T>>⟧.accepts
+            ⟦<SelectInEnvelopeFunction<T> as SelectionFunction<T>>⟧.selects it
             ≡ filter (λ t. T.Envelope.boxes.contains envelope (T.object.box_of t)) (elements_in self.now)) }
+        ensures made { IfOk result (λ it. IsMade ⟦<SelectInEnvelopeFunction<T> as SelectionFunction<T>>⟧.accepts
+            (root_of self.now) (λ e. T.Envelope.boxes.intersects envelope e) it) }
         ensures walking { IfOk result (λ it. IsWalking ⟦<SelectInEnvelopeFunction<T> as SelectionFunction<T>>⟧.accepts it) }
-        ensures root { IfOk result (λ it. root_walked it ≡ root_of self.now) }
+        ensures near { height_of (root_of self.now) ≤ 13 → IsOk result }
     {
         self.locate_with_selection_function(SelectInEnvelopeFunction::new(envelope))
     }
 
     /// The elements that a function selects, in some order. A function that is not lawful may miss some.
     ///
-    /// It opens the parents that the function accepts. It is refused where the allocator refuses the path, one place for
-    /// each level.
+    /// It opens the parents that the function accepts. It is refused where the allocator refuses the path of a tree of
+    /// more than 13 levels of parents.
     #[tactic(auto, unfolding(crate::specs::Trees::IsWholeTree))]
     pub fn locate_with_selection_function<Func: SelectionFunction<T>>(
         &self,
@@ -145,12 +153,14 @@ impl<T: RTreeObject, Params: RTreeParams> RTree<T, Params> {
         requires { IsWholeTree T.Envelope.boxes T.object Params.MAX_SIZE self.now }
         ensures all { IfOk result (λ it. IsLawful T.Envelope.boxes T.object (Func.accepts func) (Func.selects func)
             → to_come Func.accepts Func.selects it ≡ filter (Func.selects func) (elements_in self.now)) }
-        ensures part { IfOk result (λ it. IsPartOf (to_come Func.accepts Func.selects it) (filter (Func.selects func) (elements_in self.now))) }
-        ensures walking { IfOk result (λ it. IsWalking Func.accepts it) }
-        ensures root { IfOk result (λ it. root_walked it ≡ root_of self.now) }
+        ensures part { IfOk result (λ it. IsPartOf (to_come Func.accepts Func.selects it)
+            (filter (Func.selects func) (elements_in self.now))) }
         ensures question { IfOk result (λ it. question_of it ≡ func) }
+        ensures made { IfOk result (λ it. IsMade Func.accepts (root_of self.now) (Func.accepts func) it) }
+        ensures walking { IfOk result (λ it. IsWalking Func.accepts it) }
+        ensures near { height_of (root_of self.now) ≤ 13 → IsOk result }
     {
-        SelectionIterator::new(&self.root, func)
+        SelectionIterator::new(&self.root, self.levels, func)
     }
 
     /// Adds an element, whose envelope is not empty, by `RStarInsertionStrategy`. Equal elements may be added, and are counted.
