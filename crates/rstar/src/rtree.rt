@@ -7,6 +7,7 @@ ghost use Rattle.rstar_base.specs.Selections.{IsLawful};
 ghost use Rattle.rstar.specs.Selections.{IsPartOf, to_come, IsWalking, root_walked, question_of};
 ghost use Rattle.rstar.specs.Heights.{height_of, spare_lists};
 ghost use Rattle.rstar.specs.Kept.{HasRoom};
+ghost use Rattle.rstar.specs.Nodes.{children_of};
 ghost use Rattle.rstar.specs.Shapes.{IsSized};
 ghost use Rattle.rstar.specs.Trees.{root_of, size_of, elements_in, IsUnchanged, IsWholeTree};
 
@@ -193,6 +194,7 @@ impl<T: RTreeObject, Params: RTreeParams> RTree<T, Params> {
     pub(crate) fn prepare(&mut self, wanted: usize) -> Result<(), AllocError>
         requires whole { IsWholeTree T.Envelope.boxes T.object Params.MAX_SIZE self.old }
         ensures unchanged { IsUnchanged self.old self.new }
+        ensures same { children_of (root_of self.new) ≡ children_of (root_of self.old) }
         ensures whole { IsWholeTree T.Envelope.boxes T.object Params.MAX_SIZE self.new }
         ensures room { OnOk result (HasRoom Params.MAX_SIZE self.new.root.children) }
         ensures enough { OnOk result (wanted ≤ vec_len self.new.spares) }
