@@ -12,8 +12,8 @@ ghost use Rattle.rstar.specs.Shapes.{IsSized};
 ghost use Rattle.rstar.specs.Trees.{root_of, size_of, elements_in, IsUnchanged, IsWholeTree};
 
 use crate::algorithm::rstar::RStarInsertionStrategy;
-use crate::algorithm::rstar::insertion::insert_at_root;
 use crate::algorithm::rstar::preparation::{lists_wanted, top_up};
+use crate::algorithm::rstar::reinsertion::insert_with_reinsertion;
 use crate::iterators::{LocateInEnvelope, RTreeIterator, SelectionIterator};
 use crate::node::{ParentNode, RTreeNode};
 use crate::params::{InsertCause, InsertError, InsertionStrategy};
@@ -220,7 +220,7 @@ impl<T: RTreeObject, Params: RTreeParams> RTree<T, Params> {
         ensures whole { IsWholeTree T.Envelope.boxes T.object Params.MAX_SIZE self.new }
         ensures sized { IsSized Params.MIN_SIZE Params.MAX_SIZE (root_of self.old) → IsSized Params.MIN_SIZE Params.MAX_SIZE (root_of self.new) }
     {
-        self.levels = insert_at_root::<T, Params>(
+        self.levels = insert_with_reinsertion::<T, Params>(
             &mut self.root,
             t,
             self.levels,
