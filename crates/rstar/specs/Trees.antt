@@ -7,7 +7,8 @@ use Rattle.rstar_base.specs.Envelopes.{Boxes}
 use Rattle.rstar_base.specs.Elements.{Objects}
 use Rattle.rstar.specs.declared.node.ParentNode.{ParentNode}
 use Rattle.rstar.specs.declared.rtree.RTree.{RTree}
-use Rattle.rstar.specs.Nodes.{children_of, envelope_of, elements_of, envelopes_of, IsWhole}
+use Rattle.rstar.specs.Nodes.{children_of, elements_of, envelopes_of, IsWhole}
+use Rattle.rstar.specs.Shown.{shown_root}
 use Rattle.rstar.specs.Shapes.{AreTrees, IsAny}
 use Rattle.rstar.specs.Heights.{levels_below}
 use Rattle.rstar.specs.Kept.{HasRoom, IsRoomy, IsSpare}
@@ -30,8 +31,7 @@ envelopes_in tree = envelopes_of (root_of tree)
 
 -- the tree shows the same nodes, and so the same elements and envelopes, and the same size
 pub record IsUnchanged {T D E P S X : Type 0} (old new : RTree T D E P S X) : Type 0 where
-  pub children : children_of (root_of new) ≡ children_of (root_of old)
-  pub envelope : envelope_of (root_of new) ≡ envelope_of (root_of old)
+  pub shown : shown_root (root_of new) ≡ shown_root (root_of old)
   pub size : size_of new ≡ size_of old
   pub elements : elements_in new ≡ elements_in old
   pub envelopes : envelopes_in new ≡ envelopes_in old

@@ -7,12 +7,13 @@ ghost use Rattle.rstar_base.specs.Selections.{IsLawful};
 ghost use Rattle.rstar.specs.Selections.{IsPartOf, to_come, question_of, IsMade, IsWalking};
 ghost use Rattle.rstar.specs.Heights.{height_of, spare_lists};
 ghost use Rattle.rstar.specs.Kept.{HasRoom};
+ghost use Rattle.rstar.specs.Nodes.{children_of};
 ghost use Rattle.rstar.specs.Shapes.{IsSized};
 ghost use Rattle.rstar.specs.Trees.{root_of, size_of, elements_in, IsUnchanged, IsWholeTree};
 
 use crate::algorithm::rstar::RStarInsertionStrategy;
-use crate::algorithm::rstar::insertion::insert_at_root;
 use crate::algorithm::rstar::preparation::{lists_wanted, top_up};
+use crate::algorithm::rstar::reinsertion::insert_with_reinsertion;
 use crate::iterators::{LocateInEnvelope, RTreeIterator, SelectionIterator};
 use crate::node::{ParentNode, RTreeNode};
 use crate::params::{InsertCause, InsertError, InsertionStrategy};
@@ -203,6 +204,7 @@ impl<T: RTreeObject, Params: RTreeParams> RTree<T, Params> {
     pub(crate) fn prepare(&mut self, wanted: usize) -> Result<(), AllocError>
         requires whole { IsWholeTree T.Envelope.boxes T.object Params.MAX_SIZE self.old }
         ensures unchanged { IsUnchanged self.old self.new }
+        ensures same { children_of (root_of self.new) ≡ children_of (root_of self.old) }
         ensures whole { IsWholeTree T.Envelope.boxes T.object Params.MAX_SIZE self.new }
         ensures room { OnOk result (HasRoom Params.MAX_SIZE self.new.root.children) }
         ensures enough { OnOk result (wanted ≤ vec_len self.new.spares) }
@@ -228,7 +230,7 @@ impl<T: RTreeObject, Params: RTreeParams> RTree<T, Params> {
         ensures whole { IsWholeTree T.Envelope.boxes T.object Params.MAX_SIZE self.new }
         ensures sized { IsSized Params.MIN_SIZE Params.MAX_SIZE (root_of self.old) → IsSized Params.MIN_SIZE Params.MAX_SIZE (root_of self.new) }
     {
-        self.levels = insert_at_root::<T, Params>(
+        self.levels = insert_with_reinsertion::<T, Params>(
             &mut self.root,
             t,
             self.levels,

@@ -5,8 +5,9 @@ ghost use Rattle.rstar.specs.Cuts.{IsArrangement, IsLeastCut};
 ghost use Rattle.rstar.specs.Nodes.{node_box};
 
 mod choose;
-pub(crate) mod insertion;
+mod insertion;
 pub(crate) mod preparation;
+pub(crate) mod reinsertion;
 mod split;
 
 use crate::algorithm::rstar::split::split_in_place;
