@@ -1,10 +1,12 @@
 //! Which parents a search opens, and which elements it gives.
 
-ghost use Rattle.std.specs.Prelude.{◌≡◌, Bool, true};
+ghost use Rattle.std.specs.Prelude.{◌≡◌, Bool, true, pos, int_le};
+ghost use Rattle.rstar_base.specs.Points.{table};
 ghost use Rattle.rstar_base.specs.Selections.{IsLawful};
 
 use crate::envelope::Envelope;
-use crate::object::RTreeObject;
+use crate::object::{Distance, PointDistance, PointOf, RTreeObject};
+use crate::point::{known, not_above};
 
 /// Which parents a search opens, and which elements it gives.
 ///
@@ -75,5 +77,127 @@ impl<T: RTreeObject> SelectionFunction<T> for SelectInEnvelopeFunction<T> {
 
     fn should_unpack_leaf(&self, leaf: &T) -> bool {
         self.envelope.contains_envelope(&leaf.envelope())
+    }
+}
+
+/// Gives the elements whose envelopes an envelope intersects.
+#[derive(Drop)]
+pub struct SelectInEnvelopeFuncIntersecting<T: RTreeObject> {
+    envelope: T::Envelope,
+}
+
+impl<T: RTreeObject> SelectInEnvelopeFuncIntersecting<T> {
+    /// Selects what the envelope intersects, and opens the parents that it intersects.
+    pub fn new(envelope: T::Envelope) -> Self
+        ensures accepts { ⟦<SelectInEnvelopeFuncIntersecting<T> as SelectionFunction<T>>⟧.accepts result
+            ≡ (λ e. T.Envelope.boxes.intersects envelope e) }
+        ensures selects { ⟦<SelectInEnvelopeFuncIntersecting<T> as SelectionFunction<T>>⟧.selects result
+            ≡ (λ t. T.Envelope.boxes.intersects envelope (T.object.box_of t)) }
+        ensures lawful { IsLawful T.Envelope.boxes T.object
+            (⟦<SelectInEnvelopeFuncIntersecting<T> as SelectionFunction<T>>⟧.accepts result)
+            (⟦<SelectInEnvelopeFuncIntersecting<T> as SelectionFunction<T>>⟧.selects result) }
+    {
+        let _known = envelope.is_empty();
+        SelectInEnvelopeFuncIntersecting { envelope }
+    }
+}
+
+impl<T: RTreeObject> SelectionFunction<T> for SelectInEnvelopeFuncIntersecting<T> {
+    ghost accepts = { λ f e. T.Envelope.boxes.intersects f.envelope e };
+
+    ghost selects = { λ f t. T.Envelope.boxes.intersects f.envelope (T.object.box_of t) };
+
+    fn should_unpack_parent(&self, parent_envelope: &T::Envelope) -> bool {
+        self.envelope.intersects(parent_envelope)
+    }
+
+    fn should_unpack_leaf(&self, leaf: &T) -> bool {
+        self.envelope.intersects(&leaf.envelope())
+    }
+}
+
+/// Gives the elements that contain a point.
+#[derive(Drop)]
+pub struct SelectAtPointFunction<T: RTreeObject> {
+    point: PointOf<T>,
+}
+
+impl<T: PointDistance> SelectAtPointFunction<T> {
+    /// Selects what contains the point, by `contains_point`, and opens the parents whose envelopes
+    /// contain it.
+    pub fn new(point: PointOf<T>) -> Self
+        ensures accepts { ⟦<SelectAtPointFunction<T> as SelectionFunction<T>>⟧.accepts result
+            ≡ (λ e. T.Envelope.boxes.contains_point e (table T.Envelope.Point.DIMENSIONS (T.Envelope.Point.coord point))) }
+        ensures selects { ⟦<SelectAtPointFunction<T> as SelectionFunction<T>>⟧.selects result
+            ≡ (λ t. T.distances.contains_point t (table T.Envelope.Point.DIMENSIONS (T.Envelope.Point.coord point))) }
+        ensures lawful { IsLawful T.Envelope.boxes T.object
+            (⟦<SelectAtPointFunction<T> as SelectionFunction<T>>⟧.accepts result)
+            (⟦<SelectAtPointFunction<T> as SelectionFunction<T>>⟧.selects result) }
+    {
+        // Does nothing but tell that the point's coordinates are in their range.
+        known(&point);
+        SelectAtPointFunction { point }
+    }
+}
+
+impl<T: PointDistance> SelectionFunction<T> for SelectAtPointFunction<T> {
+    ghost accepts = { λ f e. T.Envelope.boxes.contains_point e (table T.Envelope.Point.DIMENSIONS (T.Envelope.Point.coord f.point)) };
+
+    ghost selects = { λ f t. T.distances.contains_point t (table T.Envelope.Point.DIMENSIONS (T.Envelope.Point.coord f.point)) };
+
+    fn should_unpack_parent(&self, envelope: &T::Envelope) -> bool {
+        envelope.contains_point(&self.point)
+    }
+
+    fn should_unpack_leaf(&self, leaf: &T) -> bool {
+        leaf.contains_point(&self.point)
+    }
+}
+
+/// Gives the elements within a distance of a point.
+#[derive(Drop)]
+pub struct SelectWithinDistanceFunction<T: RTreeObject> {
+    circle_origin: PointOf<T>,
+    squared_max_distance: Distance<T>,
+}
+
+impl<T: PointDistance> SelectWithinDistanceFunction<T> {
+    /// Selects what is at most `squared_max_distance` away from the point, and opens the parents
+    /// whose envelopes are. The distance is squared.
+    pub fn new(circle_origin: PointOf<T>, squared_max_distance: Distance<T>) -> Self
+        ensures accepts { ⟦<SelectWithinDistanceFunction<T> as SelectionFunction<T>>⟧.accepts result
+            ≡ (λ e. int_le (pos (T.Envelope.boxes.distance_2 e
+            (table T.Envelope.Point.DIMENSIONS (T.Envelope.Point.coord circle_origin))))
+            (T.Envelope.Point.Scalar.value squared_max_distance)) }
+        ensures selects { ⟦<SelectWithinDistanceFunction<T> as SelectionFunction<T>>⟧.selects result
+            ≡ (λ t. int_le (pos (T.distances.distance_2 t
+            (table T.Envelope.Point.DIMENSIONS (T.Envelope.Point.coord circle_origin))))
+            (T.Envelope.Point.Scalar.value squared_max_distance)) }
+        ensures lawful { IsLawful T.Envelope.boxes T.object
+            (⟦<SelectWithinDistanceFunction<T> as SelectionFunction<T>>⟧.accepts result)
+            (⟦<SelectWithinDistanceFunction<T> as SelectionFunction<T>>⟧.selects result) }
+    {
+        // Does nothing but tell that the point's coordinates are in their range.
+        known(&circle_origin);
+        SelectWithinDistanceFunction {
+            circle_origin,
+            squared_max_distance,
+        }
+    }
+}
+
+impl<T: PointDistance> SelectionFunction<T> for SelectWithinDistanceFunction<T> {
+    ghost accepts = { λ f e. int_le (pos (T.Envelope.boxes.distance_2 e (table T.Envelope.Point.DIMENSIONS (T.Envelope.Point.coord f.circle_origin)))) (T.Envelope.Point.Scalar.value f.squared_max_distance) };
+
+    ghost selects = { λ f t. int_le (pos (T.distances.distance_2 t (table T.Envelope.Point.DIMENSIONS (T.Envelope.Point.coord f.circle_origin)))) (T.Envelope.Point.Scalar.value f.squared_max_distance) };
+
+    fn should_unpack_parent(&self, envelope: &T::Envelope) -> bool {
+        let distance_2 = envelope.distance_2(&self.circle_origin);
+        not_above(distance_2, self.squared_max_distance)
+    }
+
+    fn should_unpack_leaf(&self, leaf: &T) -> bool {
+        leaf.distance_2_if_less_or_equal(&self.circle_origin, self.squared_max_distance)
+            .is_some()
     }
 }
