@@ -5,7 +5,8 @@ use Rattle.std.specs.Iterator.{Yields}
 use Rattle.std.proofs.lemmas.Iterator.{YieldsList}
 use Rattle.std.proofs.lemmas.Iterator.Consumers.{YieldsList-from_shown, YieldsList-end}
 use Rattle.rstar.specs.declared.iterators.SelectionIterator.{SelectionIterator}
-use Rattle.rstar.specs.Selections.{to_come, GivesNext}
+use Rattle.rstar.specs.declared.node.ParentNode.{ParentNode}
+use Rattle.rstar.specs.Selections.{to_come, IsMade, GivesNext}
 
 pub selection_list : {T F E P S X : Type 0} {accepts : F → E → Bool} {selects : F → T → Bool} {it : SelectionIterator T F E P S X} (xs : List T)
     → to_come accepts selects it ≡ xs → YieldsList (GivesNext accepts selects) (λ (x : Bor T). x.now) it xs
@@ -18,3 +19,8 @@ pub selection_end : {T F E P S X : Type 0} {accepts : F → E → Bool} {selects
     → to_come accepts selects it ≡ xs → (ys : List (Bor T)) (t : SelectionIterator T F E P S X) → Yields (GivesNext accepts selects) it ys t
     → (u : SelectionIterator T F E P S X) → GivesNext accepts selects t None u → map (λ (x : Bor T). x.now) ys ≡ xs
 selection_end it xs e ys t y u last = (YieldsList-end (selection_list {it = it} xs e) ys t y None u refl last).0
+
+-- the same iterator, its question by another name
+pub made_asking : {T F E P S X : Type 0} {accepts : F → E → Bool} {over : ParentNode T E P S X} {asked same : E → Bool} → asked ≡ same
+    → (it : SelectionIterator T F E P S X) → IsMade accepts over asked it → IsMade accepts over same it
+made_asking {accepts = accepts} {over} e it made = subst (λ asked. IsMade accepts over asked it) e made

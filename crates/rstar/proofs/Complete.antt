@@ -9,8 +9,8 @@ use Rattle.rstar_base.specs.Selections.{IsLawful}
 use Rattle.rstar_base.proofs.Hulls.{hull-value}
 use Rattle.rstar.specs.declared.node.RTreeNode.{RTreeNode}
 use Rattle.rstar.specs.declared.node.ParentNode.{ParentNode}
-use Rattle.rstar.specs.Nodes.{given, elements, all_elements, elements_of, children_of, envelope_of, IsTree, IsElement, IsInner, AreWhole, IsWhole}
-use Rattle.rstar.specs.Selections.{all_given, given_from_root, IsPartOf}
+use Rattle.rstar.specs.Nodes.{given, all_given, given_of, elements, all_elements, elements_of, children_of, envelope_of, IsTree, IsElement, IsInner, AreWhole, IsWhole}
+use Rattle.rstar.specs.Selections.{IsPartOf}
 use Rattle.rstar.proofs.Rows.{is_leaf, is_parent, elements-Leaf, elements-Parent, given-Leaf, given-Parent}
 use Rattle.rstar.proofs.Trees.{all_sound, values-of}
 
@@ -57,7 +57,7 @@ module _ {T E P S X : Type 0} (v : Boxes E) (o : Objects T E) (accepts : E → B
       (subst (λ (ts : List T). IsPartOf ts (filter selects (elements_of p.0))) (sym e)
       (part-if (accepts (envelope_of p.0)) _ _ (part-each h (part-node h) (children_of p.0) p.2.1)))
 
-  pub part-root : (root : ParentNode T E P S X) → IsWhole v o root → IsPartOf (given_from_root accepts selects root) (filter selects (elements_of root))
+  pub part-root : (root : ParentNode T E P S X) → IsWhole v o root → IsPartOf (given_of accepts selects root) (filter selects (elements_of root))
   part-root root whole = part-if (accepts (envelope_of root)) _ _ (part-each whole.height (part-node whole.height) (children_of root) whole.below)
 
 -- ---- a lawful function: all that is selected is given
@@ -112,7 +112,7 @@ module _ {T E : Type 0} {IsPoint : List ℤ → Type 0} {v : Boxes E} {o : Objec
         (all_sound v o h (children_of p.0) p.2.1) p.2.0.0 refl (all-each h (all-node h) (children_of p.0) p.2.1)
         ∙ sym (ap (filter selects) (ap elements p.1 ∙ elements-Parent p.0))
 
-    pub all-root : (root : ParentNode T E P S X) → IsWhole v o root → given_from_root accepts selects root ≡ filter selects (elements_of root)
+    pub all-root : (root : ParentNode T E P S X) → IsWhole v o root → given_of accepts selects root ≡ filter selects (elements_of root)
     all-root root whole =
         all-if (elements_of root) (all_given accepts selects (children_of root)) (envelope_of root) (accepts (envelope_of root))
         (all_sound v o whole.height (children_of root) whole.below) whole.tight refl (all-each whole.height (all-node whole.height) (children_of root) whole.below)

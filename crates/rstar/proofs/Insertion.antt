@@ -11,7 +11,7 @@ use Rattle.rstar_base.proofs.Hulls.{hull-value, hull_along, merge_empty_right}
 use Rattle.rstar.specs.declared.node.RTreeNode.{RTreeNode, Leaf, Parent}
 use Rattle.rstar.specs.declared.node.ParentNode.{ParentNode}
 use Rattle.rstar.specs.Nodes.{elements, all_elements, node_box, IsTree, IsElement, IsInner, AreWhole}
-use Rattle.rstar.specs.Shapes.{AreTrees, IsParentTree, IsAny, HasSize, IsSized}
+use Rattle.rstar.specs.Shapes.{AreTrees, IsParentTree, IsAny, HasSize}
 use Rattle.rstar.specs.Kept.{HasRoom, IsKeptInner, IsFit, AreKept, IsKeptTree, second_children, as_node, IsSizedAfter}
 use Rattle.rstar.proofs.Places.{all_set, all_get}
 use Rattle.rstar.proofs.Rows.{elements-Leaf, elements-Parent, node_box-Parent, is_leaf, is_parent, parent_of, no_parent, IsLeafOf-Leaf, IsParentOf-Parent}
@@ -218,10 +218,10 @@ module _ {T E P S X : Type 0} (min max : ℕ) (positive : 0 < min) where
       (are_trees (HasSize min max) IsAny h r above done.second_sized)
 
   -- a root above two sized parts
-  pub sized_root : (h : ℕ) (a b p : ParentNode T E P S X) → AreTrees (HasSize min max) IsAny h a.children.items → min ≤ length a.children.items → length a.children.items ≤ max
-      → IsParentTree (HasSize min max) IsAny h b → p.children.items ≡ Parent a ∷ Parent b ∷ [] → 2 ≤ max → IsSized min max p
-  sized_root h a b p first low high second are wide = record {
-    height = suc h;
-    most = rw are (omega arith);
-    below = rw are (IsParentOf-Parent _ a ((low, high), first), (IsParentOf-Parent _ b second, tt));
-  }
+  pub sized_above : (h : ℕ) (a b p : ParentNode T E P S X) → AreTrees (HasSize min max) IsAny h a.children.items → min ≤ length a.children.items → length a.children.items ≤ max
+      → IsParentTree (HasSize min max) IsAny h b → p.children.items ≡ Parent a ∷ Parent b ∷ [] → 2 ≤ max
+      → AreTrees (HasSize min max) IsAny (h + 1) p.children.items × (vec_len p.children ≤ max)
+  sized_above h a b p first low high second are wide =
+      let trees : AreTrees (HasSize min max) IsAny (h + 1) (Parent a ∷ Parent b ∷ []) = rw add-one (IsParentOf-Parent _ a ((low, high), first), (IsParentOf-Parent _ b second, tt)) in
+      let two = ap length are in
+      (rw are trees, omega (arith, two, p.children.ok.0))

@@ -3,6 +3,7 @@ pub mod Trees
 pub mod Counts
 pub mod Places
 pub mod Insertion
+pub mod Reinsertion
 pub mod Cuts
 pub mod Walks
 pub mod Complete

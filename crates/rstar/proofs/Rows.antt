@@ -6,9 +6,8 @@ use Rattle.rstar.specs.declared.node.RTreeNode.TheVariants.{outs-Parent, outs-Le
 use Rattle.rstar.specs.declared.node.RTreeNode.TheOpen as layer
 use Rattle.rstar.specs.declared.node.RTreeNode.TheBlock.{hidden-the_row-RTreeNode-0}
 use Rattle.rstar.specs.declared.node.ParentNode.{ParentNode}
-use Rattle.rstar.specs.Steps.{steps}
-use Rattle.rstar.specs.Selections.{all_given, all_reach}
-use Rattle.rstar.specs.Nodes.{children_of, fold_tree, fold_row, joined, total, elements, parents, far, reach, given, all_elements, all_parents, all_far, node_box, node_distance, IsLeafOf, IsParentOf, IsLeafLayer, IsParentLayer}
+use Rattle.rstar.specs.Walks.{steps}
+use Rattle.rstar.specs.Nodes.{children_of, fold_tree, fold_row, joined, total, elements, parents, far, reach, given, all_reach, all_given, all_elements, all_parents, all_far, node_box, node_distance, IsLeafOf, IsParentOf, IsLeafLayer, IsParentLayer}
 
 pub joined-map : {A B : Type 0} (f : A → List B) (xs : List A) → joined (map f xs) ≡ flat_map f xs
 joined-map f [] = refl

@@ -5,9 +5,8 @@ use Rattle.std.specs.List.{AllByRecursion}
 use Rattle.std.specs.Borrow.{Bor}
 use Rattle.rstar.specs.declared.node.RTreeNode.{RTreeNode, Leaf, Parent}
 use Rattle.rstar.specs.declared.node.ParentNode.{ParentNode}
-use Rattle.rstar.specs.Nodes.{total, reach, given, children_of, envelope_of, IsTree}
-use Rattle.rstar.specs.Selections.{usize_max, all_given, all_reach, reach_below, reach_from_root, given_from_slices, reach_from_slices, IsLevel, AreSlices, IsUnderWay}
-use Rattle.rstar.specs.Steps.{steps, steps_of}
+use Rattle.rstar.specs.Nodes.{total, reach, given, all_given, all_reach, reach_below, reach_of, children_of, envelope_of, IsTree}
+use Rattle.rstar.specs.Walks.{usize_max, given_from_slices, reach_from_slices, IsLevel, AreSlices, IsUnderWay, steps, steps_of}
 use Rattle.rstar_base.proofs.Lists.{all_map}
 use Rattle.rstar.proofs.Rows.{given-Leaf, reach-Leaf, steps-Leaf, given-Parent, reach-Parent, steps-Parent, parent_of, no_leaf, no_parent, is_leaf, is_parent, IsLeafOf-Leaf, IsParentOf-Parent}
 
@@ -234,7 +233,7 @@ module _ {T E P S X : Type 0} where
       (IsParentOf-Parent _ p.0 (f p.0 p.2.0, all_map (IsTree Q R h) (IsTree Q' R' h) (tree-weaker Q Q' R R' f k h) (children_of p.0) p.2.1))
 
   pub way-none : (accepts : E → Bool) (root : ParentNode T E P S X) (path : Slices T E P S X) (nodes : Bor (List (RTreeNode T E P S X))) (room : ℕ)
-      → path ≡ [] → nodes.now ≡ [] → reach_from_root accepts root ≡ 0 → IsUnderWay accepts root (path ++ nodes ∷ []) room 0
+      → path ≡ [] → nodes.now ≡ [] → reach_of accepts root ≡ 0 → IsUnderWay accepts root (path ++ nodes ∷ []) room 0
   way-none accepts root path nodes room empty none nothing =
       let one : path ++ nodes ∷ [] ≡ nodes ∷ [] = ap (λ (l : Slices T E P S X). l ++ nodes ∷ []) empty in
       let e1 : reach_from_slices accepts (path ++ nodes ∷ []) ≡ 0 + all_reach accepts nodes.now = ap (reach_from_slices accepts) one in
@@ -248,7 +247,7 @@ module _ {T E P S X : Type 0} where
         all = omega arith;
       }
 
-  reach-asked : (accepts : E → Bool) (e : E) (ns : List (RTreeNode T E P S X)) → ns ≢ [] → accepts e ≡ true → reach_below accepts e ns ≡ 1 + all_reach accepts ns
+  pub reach-asked : (accepts : E → Bool) (e : E) (ns : List (RTreeNode T E P S X)) → ns ≢ [] → accepts e ≡ true → reach_below accepts e ns ≡ 1 + all_reach accepts ns
   reach-asked accepts e [] some h = absurd (some refl)
   reach-asked accepts e (n ∷ ns) some h = ap (λ (b : Bool). if b then 1 + all_reach accepts (n ∷ ns) else 0) h
 
@@ -263,7 +262,7 @@ module _ {T E P S X : Type 0} where
       let one : path ++ nodes ∷ [] ≡ nodes ∷ [] = ap (λ (l : Slices T E P S X). l ++ nodes ∷ []) empty in
       let e1 : reach_from_slices accepts (path ++ nodes ∷ []) ≡ 0 + all_reach accepts nodes.now = ap (reach_from_slices accepts) one in
       let e2 : all_reach accepts nodes.now ≡ all_reach accepts (children_of root) = ap (all_reach accepts) same in
-      let e3 : reach_from_root accepts root ≡ 1 + all_reach accepts (children_of root) = reach-asked accepts (envelope_of root) (children_of root) some accepted in
+      let e3 : reach_of accepts root ≡ 1 + all_reach accepts (children_of root) = reach-asked accepts (envelope_of root) (children_of root) some accepted in
       record {
         height = h + 1;
         fits = omega (arith, fits);
@@ -289,13 +288,13 @@ some-items (x ∷ xs) n b p q r = λ e. cc
 -- ---- the counts of a walk, at the same root and question
 
 module _ {T F E P S X : Type 0} (accepts : F → E → Bool) (f f' : F) (r r' : ParentNode T E P S X) where
-  same-reach : f ≡ f' → r ≡ r' → reach_from_root (accepts f) r ≡ reach_from_root (accepts f') r'
-  same-reach e e' = ap (λ q. reach_from_root (accepts q) r) e ∙ ap (reach_from_root (accepts f')) e'
+  same-reach : f ≡ f' → r ≡ r' → reach_of (accepts f) r ≡ reach_of (accepts f') r'
+  same-reach e e' = ap (λ q. reach_of (accepts q) r) e ∙ ap (reach_of (accepts f')) e'
 
-  pub way-at_most : {slices : Slices T E P S X} {room opened : ℕ} → f ≡ f' → r ≡ r' → IsUnderWay (accepts f) r slices room opened → opened ≤ reach_from_root (accepts f') r'
+  pub way-at_most : {slices : Slices T E P S X} {room opened : ℕ} → f ≡ f' → r ≡ r' → IsUnderWay (accepts f) r slices room opened → opened ≤ reach_of (accepts f') r'
   way-at_most e e' way = let same = same-reach e e' in omega (arith, way.all, way.counted)
 
   pub way-ended : {slices : Slices T E P S X} {room opened : ℕ} → f ≡ f' → r ≡ r' → reach_from_slices (accepts f) slices ≡ 0 → IsUnderWay (accepts f) r slices room opened
-      → opened ≡ min (reach_from_root (accepts f') r') usize_max
+      → opened ≡ min (reach_of (accepts f') r') usize_max
   way-ended e e' nothing way =
-      way.counted ∙ ap (λ n. min n usize_max) (let n : way.count ≡ reach_from_root (accepts f) r = omega (arith, way.all) in n ∙ same-reach e e')
+      way.counted ∙ ap (λ n. min n usize_max) (let n : way.count ≡ reach_of (accepts f) r = omega (arith, way.all) in n ∙ same-reach e e')

@@ -1,5 +1,5 @@
 -- From what a tree keeps to what an insertion asks, and back.
-use Rattle.std.proofs.Common.{◌≡◌, ◌≢◌, ℕ, zero, suc, ◌+◌, ◌*◌, ◌<◌, ◌≤◌, List, [], ◌∷◌, length, max, min, ⊎_elim, ◌⊎◌, refl, ap, sym, ◌∙◌, subst, arith}
+use Rattle.std.proofs.Common.{◌≡◌, ◌≢◌, ℕ, zero, suc, ◌+◌, ◌*◌, ◌<◌, ◌≤◌, List, [], ◌∷◌, length, max, min, refl, ap, sym, ◌∙◌, subst, arith}
 use Rattle.rstar_base.specs.Envelopes.{Boxes}
 use Rattle.rstar_base.specs.Elements.{Objects}
 use Rattle.rstar.specs.declared.node.RTreeNode.{RTreeNode}
@@ -7,7 +7,7 @@ use Rattle.rstar.specs.declared.node.ParentNode.{ParentNode}
 use Rattle.rstar.specs.Nodes.{IsTree, IsElement, IsInner, AreWhole, children_of}
 use Rattle.rstar.specs.Shapes.{AreTrees, IsAny, HasSize, IsSized}
 use Rattle.rstar.specs.Heights.{levels_below, spare_lists}
-use Rattle.rstar.specs.Kept.{IsRoomy, IsKeptInner, AreKept}
+use Rattle.rstar.specs.Kept.{IsRoomy, IsKeptInner, AreKept, IsKeptTree}
 use Rattle.rstar.proofs.Heights.{levels_are}
 use Rattle.rstar.proofs.Rows.{is_parent, parent_of, IsParentOf-Parent}
 use Rattle.rstar.proofs.Insertion.{trees_map}
@@ -35,6 +35,12 @@ module _ {T E P S X : Type 0} (v : Boxes E) (o : Objects T E) (max widest : ℕ)
   kept_at h n [] is w r = tt
   kept_at h n (m ∷ ms) is w r =
       subst (λ (k : ℕ). AreKept v o max widest k (m ∷ ms)) (sym (is ∙ levels_are (IsInner v o) (IsElement v o) (λ p q. q.1) h (m ∷ ms) (λ none. cc) w)) (all_kept h (tree_kept h) (m ∷ ms) w r)
+
+  -- the levels of a kept tree
+  pub levels_kept : (h : ℕ) (p : ParentNode T E P S X) → IsKeptTree v o max widest h p → h ≡ levels_below p.children.items
+  levels_kept h p kept = sym (levels_are (IsKeptInner v o max widest) (IsElement v o) (λ q k. some_child q k.1) h p.children.items (some_child p kept.0.1) kept.1) where
+    some_child : (q : ParentNode T E P S X) → 0 < length q.children.items → q.children.items ≢ []
+    some_child q some none = let long = ap length none in absurd (omega (arith, long, some))
 
   -- what is kept of room
   pub rooms_of : (h : ℕ) (ns : List (RTreeNode T E P S X)) → AreKept v o max widest h ns → AreTrees (IsRoomy max widest) IsAny h ns
@@ -65,12 +71,3 @@ times_one (suc m) n h = grind arith
 pub enough_lists : (reinserted levels wanted have : ℕ) → wanted ≡ spare_lists reinserted (1 + levels) → wanted ≤ have → levels + 1 < have
 enough_lists reinserted levels wanted have is fits =
     let all = times_one (max 1 reinserted) (1 + levels + reinserted + 2) (omega arith) in omega arith
-
--- a number of lists that a `usize` counts was not cut off, and is no reason to refuse
-pub counted_lists : (reinserted below levels wanted size top : ℕ) → levels ≡ min below top → wanted ≡ spare_lists reinserted (1 + levels) → wanted ≤ top → size < top
-    → (size ≡ top) ⊎ (top < spare_lists reinserted (1 + below)) → ⊥
-counted_lists reinserted below levels wanted size top cut is fits room bad =
-    let low = enough_lists reinserted levels wanted wanted is (omega arith) in
-    let same : levels ≡ below = omega arith in
-    let lists : wanted ≡ spare_lists reinserted (1 + below) = is ∙ ap (λ n. spare_lists reinserted (1 + n)) same in
-    ⊎_elim (λ full. omega arith) (λ many. omega (arith, lists, many)) bad

@@ -1,6 +1,6 @@
 -- What a node holds, and when it is whole.
 -- T is the element's type, E its envelope's, P its point's, S its scalar's, X what a scalar's text is refused with.
-use Rattle.std.specs.Prelude.{◌≡◌, ◌≢◌, ℕ, zero, suc, ◌+◌, Bool, true, false, List, [], ◌∷◌, ◌++◌, sum_by, if◌then◌else◌, nat_lt}
+use Rattle.std.specs.Prelude.{◌≡◌, ◌≢◌, ℕ, zero, suc, ◌+◌, Bool, true, false, List, [], ◌∷◌, ◌++◌, map, sum_by, if◌then◌else◌, nat_lt}
 use Rattle.std.specs.List.{AllByRecursion, flat_map}
 use Rattle.rstar_base.specs.Envelopes.{Boxes}
 use Rattle.rstar_base.specs.Elements.{Objects}
@@ -87,6 +87,14 @@ all_parents ns = sum_by parents ns
 abbrev pub all_far : {T E P S X : Type 0} → (E → ℕ) → ℕ → List (RTreeNode T E P S X) → ℕ
 all_far dist d ns = sum_by (far dist d) ns
 
+abbrev pub all_reach : {T E P S X : Type 0} → (E → Bool) → List (RTreeNode T E P S X) → ℕ
+all_reach accepts ns = total (map (reach accepts) ns)
+
+abbrev pub all_given : {T E P S X : Type 0} → (E → Bool) → (T → Bool) → List (RTreeNode T E P S X) → List T
+all_given accepts selects ns = flat_map (given accepts selects) ns
+
+-- ---- the same of a root
+
 -- the elements below a parent
 abbrev pub elements_of : {T E P S X : Type 0} → ParentNode T E P S X → List T
 elements_of p = all_elements (children_of p)
@@ -94,6 +102,26 @@ elements_of p = all_elements (children_of p)
 -- the envelopes of a parent and of the parents below it
 abbrev pub envelopes_of : {T E P S X : Type 0} → ParentNode T E P S X → List E
 envelopes_of p = envelope_of p ∷ flat_map envelopes (children_of p)
+
+-- the number of parents, the root among them
+abbrev pub parents_of : {T E P S X : Type 0} → ParentNode T E P S X → ℕ
+parents_of root = 1 + all_parents (children_of root)
+
+-- how many of them have an envelope whose distance is above d
+abbrev pub far_of : {T E P S X : Type 0} → (E → ℕ) → ℕ → ParentNode T E P S X → ℕ
+far_of dist d root = (if nat_lt d (dist (envelope_of root)) then 1 else 0) + all_far dist d (children_of root)
+
+-- how many parents are reached: those that are accepted, with all above them; an empty root is never asked
+abbrev pub reach_below : {T E P S X : Type 0} → (E → Bool) → E → List (RTreeNode T E P S X) → ℕ
+reach_below accepts e [] = 0
+reach_below accepts e (n ∷ ns) = if accepts e then 1 + all_reach accepts (n ∷ ns) else 0
+
+abbrev pub reach_of : {T E P S X : Type 0} → (E → Bool) → ParentNode T E P S X → ℕ
+reach_of accepts root = reach_below accepts (envelope_of root) (children_of root)
+
+-- what a walk below the accepted parents gives
+abbrev pub given_of : {T E P S X : Type 0} → (E → Bool) → (T → Bool) → ParentNode T E P S X → List T
+given_of accepts selects root = if accepts (envelope_of root) then all_given accepts selects (children_of root) else []
 
 -- ---- shapes
 

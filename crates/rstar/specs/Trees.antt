@@ -1,13 +1,16 @@
 -- What a tree shows, and what it keeps.
--- T is the element's type, D the type of the node sizes, E its envelope's, P its point's, S its scalar's, X what a scalar's text is refused with.
+-- T is the element's type, D the type of the node sizes, E its envelope's, P its point's, S its scalar's, X what a
+-- scalar's text is refused with.
 use Rattle.std.specs.Prelude.{◌≡◌, ◌≢◌, ◌+◌, ◌<◌, ◌≤◌, ◌^◌, ℕ, List, [], length}
 use Rattle.std.specs.List.{AllByRecursion}
 use Rattle.rstar_base.specs.Envelopes.{Boxes}
 use Rattle.rstar_base.specs.Elements.{Objects}
 use Rattle.rstar.specs.declared.node.ParentNode.{ParentNode}
 use Rattle.rstar.specs.declared.rtree.RTree.{RTree}
-use Rattle.rstar.specs.Nodes.{children_of, envelope_of, elements_of, envelopes_of, IsWhole}
+use Rattle.rstar.specs.Nodes.{children_of, elements_of, envelopes_of, IsWhole}
+use Rattle.rstar.specs.Shown.{shown_root}
 use Rattle.rstar.specs.Shapes.{AreTrees, IsAny}
+use Rattle.rstar.specs.Heights.{levels_below}
 use Rattle.rstar.specs.Kept.{HasRoom, IsRoomy, IsSpare}
 
 -- what `root` shows
@@ -28,18 +31,20 @@ envelopes_in tree = envelopes_of (root_of tree)
 
 -- the tree shows the same nodes, and so the same elements and envelopes, and the same size
 pub record IsUnchanged {T D E P S X : Type 0} (old new : RTree T D E P S X) : Type 0 where
-  pub children : children_of (root_of new) ≡ children_of (root_of old)
-  pub envelope : envelope_of (root_of new) ≡ envelope_of (root_of old)
+  pub shown : shown_root (root_of new) ≡ shown_root (root_of old)
   pub size : size_of new ≡ size_of old
   pub elements : elements_in new ≡ elements_in old
   pub envelopes : envelopes_in new ≡ envelopes_in old
 
 module _ {T D E P S X : Type 0} (v : Boxes E) (o : Objects T E) (max : ℕ) where
-  -- a whole tree: a whole root, whose elements are counted; and the room that makes insertions safe, where `max` is the
-  -- most children of a parent
-  pub record IsWholeTree (tree : RTree T D E P S X) : Type 0 where
+  -- a whole root, whose elements and levels are counted; and the room that makes insertions safe, where `max` is the most
+  -- children of a parent
+  pub record WholeTree (tree : RTree T D E P S X) : Type 0 where
     pub root_whole : IsWhole v o (root_of tree)
     pub counted : size_of tree ≡ length (elements_in tree)
+    -- the levels of parents below the root, which a `usize` counts
+    pub leveled : tree.levels ≡ levels_below (children_of (root_of tree))
+    pub low : tree.levels < 2 ^ 64
     -- no parent has more children than the tree's bound, which is at least `max` and can be counted past
     pub wide : max ≤ tree.widest
     pub wide_fits : tree.widest + 1 < 2 ^ 64
@@ -49,3 +54,7 @@ module _ {T D E P S X : Type 0} (v : Boxes E) (o : Objects T E) (max : ℕ) wher
     pub rooms : AreTrees (IsRoomy max tree.widest) IsAny root_whole.height (children_of (root_of tree))
     -- and so can each spare list, one more than the bound
     pub spares : AllByRecursion (IsSpare tree.widest) tree.spares.items
+
+  -- a whole tree; callers need no more than the word
+  unfoldable pub IsWholeTree : RTree T D E P S X → Type 0
+  IsWholeTree tree = WholeTree tree

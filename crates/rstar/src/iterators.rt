@@ -1,13 +1,14 @@
 //! Iterators over what a tree holds: walks that open the parents that a question accepts, and no other.
 
-ghost use Rattle.std.specs.Prelude.{◌≡◌, ◌≢◌, ◌≤◌, ℕ, [], IfOk, vec_capacity};
-ghost use Rattle.std.specs.List.{AllByRecursion};
+ghost use Rattle.std.specs.Prelude.{◌≡◌, ◌≤◌, IsOk, IfOk};
 ghost use Rattle.std.specs.Iterator.{item_count};
-ghost use Rattle.rstar.specs.Nodes.{children_of, IsWhole};
-ghost use Rattle.rstar.specs.Selections.{given_from_root, root_walked, question_of, opened_by, to_come, IsLevel, HasItsWay, IsWalking, GivesNext};
-ghost use Rattle.rstar.specs.Steps.{IsStep};
+ghost use Rattle.rstar.specs.Heights.{levels_below};
+ghost use Rattle.rstar.specs.Nodes.{children_of, given_of, IsWhole};
+ghost use Rattle.rstar.specs.Selections.{question_of, opened_by, to_come, IsMade, IsWalking, GivesNext};
+ghost use Rattle.rstar.specs.Walks.{HasItsWay, IsStep};
 
 use crate::node::{ParentNode, RTreeNode};
+use crate::path::Path;
 use rstar_base::algorithm::selection_functions::{
     SelectAllFunc, SelectInEnvelopeFunction, SelectionFunction,
 };
@@ -25,7 +26,7 @@ pub struct SelectionIterator<'a, T: RTreeObject, Func: SelectionFunction<T>> {
     func: Func,
     // The nodes that are being read, and below them in the path those that were left for them.
     nodes: &'a [RTreeNode<T>],
-    path: Vec<&'a [RTreeNode<T>]>,
+    path: Path<&'a [RTreeNode<T>]>,
     opened: usize,
 }
 
@@ -45,44 +46,30 @@ enum Step<'a, T> {
     Ended,
 }
 
-/// An empty path, with room for one slice for each level of parents below the root.
-fn empty_path<'a, T: RTreeObject>(
-    root: &'a ParentNode<T>,
-) -> Result<Vec<&'a [RTreeNode<T>]>, AllocError>
-    ensures empty { IfOk result (λ path. path.items ≡ []) }
-    ensures room { IfOk result (λ path. (h : ℕ) → AllByRecursion (IsLevel h) (children_of root.now) → children_of root.now ≢ [] → h ≤ vec_capacity path) }
-{
-    let mut path = Vec::new(*root.children.allocator());
-    let mut nodes = root.children.as_slice();
-    while let Some((first, _rest)) = nodes.split_first() {
-        match first {
-            RTreeNode::Leaf(_) => break,
-            RTreeNode::Parent(below) => {
-                path.push(nodes)?;
-                nodes = below.children.as_slice();
-            }
-        }
-    }
-    path.clear();
-    Ok(path)
-}
-
 impl<'a, T: RTreeObject, Func: SelectionFunction<T>> SelectionIterator<'a, T, Func> {
-    /// A selection below a root.
+    /// A selection below a root, with so many levels of parents below it.
     #[tactic(auto, unfolding(crate::specs::Selections::to_come, crate::specs::Selections::IsWalking))]
-    pub(crate) fn new(root: &'a ParentNode<T>, func: Func) -> Result<Self, AllocError>
-        requires { IsWhole T.Envelope.boxes T.object root.now }
-        ensures gives { IfOk result (λ it. to_come Func.accepts Func.selects it ≡ given_from_root (Func.accepts func) (Func.selects func) root.now) }
-        ensures walking { IfOk result (λ it. IsWalking Func.accepts it) }
-        ensures root { IfOk result (λ it. root_walked it ≡ root.now) }
+    pub(crate) fn new(
+        root: &'a ParentNode<T>,
+        levels: usize,
+        func: Func,
+    ) -> Result<Self, AllocError>
+        requires whole { IsWhole T.Envelope.boxes T.object root.now }
+        requires levels { levels ≡ levels_below (children_of root.now) }
+        ensures gives { IfOk result (λ it. to_come Func.accepts Func.selects it
+            ≡ given_of (Func.accepts func) (Func.selects func) root.now) }
         ensures question { IfOk result (λ it. question_of it ≡ func) }
+        ensures made { IfOk result (λ it. IsMade Func.accepts root.now (Func.accepts func) it) }
+        ensures walking { IfOk result (λ it. IsWalking Func.accepts it) }
+        ensures near { levels ≤ 12 → IsOk result }
     {
-        let path = empty_path(root)?;
+        let none = &root.children[..0];
+        let path = Path::with_room(*root.children.allocator(), none, levels)?;
         if root.children.is_empty() || !func.should_unpack_parent(&root.envelope) {
             return Ok(SelectionIterator {
                 root,
                 func,
-                nodes: &root.children[..0],
+                nodes: none,
                 path,
                 opened: 0,
             });

@@ -5,6 +5,7 @@ pub mod algorithm;
 pub mod iterators;
 pub mod node;
 pub mod params;
+mod path;
 pub mod rtree;
 
 pub use crate::algorithm::rstar::RStarInsertionStrategy;

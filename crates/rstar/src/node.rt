@@ -9,7 +9,7 @@ use rstar_base::object::{RTreeObject, envelope_of_all};
 
 /// A node of a tree: one element, or a parent.
 #[cycle(node)]
-#[derive(Drop)]
+#[derive(Debug, Drop)]
 pub enum RTreeNode<T: RTreeObject> {
     /// One element.
     Leaf(T),
@@ -34,7 +34,7 @@ impl<T: RTreeObject> RTreeNode<T> {
 ///
 /// The root of a tree is one. Only the tree makes and changes parents.
 #[cycle(node)]
-#[derive(Drop)]
+#[derive(Debug, Drop)]
 pub struct ParentNode<T: RTreeObject> {
     pub(crate) children: Vec<RTreeNode<T>>,
     pub(crate) envelope: T::Envelope,

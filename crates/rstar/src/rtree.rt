@@ -1,19 +1,19 @@
 //! The tree.
 
-ghost use Rattle.std.specs.Prelude.{◌≡◌, ◌⊎◌, ◌↔◌, ◌∷◌, ◌+◌, ◌<◌, ◌≤◌, [], false, length, OnOk, OnErr, IfOk, IfErr, IfSome, IfNone, filter, vec_len};
+ghost use Rattle.std.specs.Prelude.{◌≡◌, ◌⊎◌, ◌↔◌, ◌∷◌, ◌+◌, ◌<◌, ◌≤◌, [], true, false, length, OnOk, OnErr, IsOk, IfOk, IfErr, IfSome, IfNone, filter, vec_len};
 ghost use Rattle.std.specs.Result.{IsErrAnd};
 ghost use Rattle.std.specs.List.Sorted.{IsPermutation};
 ghost use Rattle.rstar_base.specs.Selections.{IsLawful};
-ghost use Rattle.rstar.specs.Selections.{IsPartOf, to_come, IsWalking, root_walked, question_of};
-ghost use Rattle.rstar.specs.Heights.{levels_below, height_of, spare_lists};
+ghost use Rattle.rstar.specs.Selections.{IsPartOf, to_come, question_of, IsMade, IsWalking};
+ghost use Rattle.rstar.specs.Heights.{height_of, spare_lists};
 ghost use Rattle.rstar.specs.Kept.{HasRoom};
 ghost use Rattle.rstar.specs.Nodes.{children_of};
 ghost use Rattle.rstar.specs.Shapes.{IsSized};
 ghost use Rattle.rstar.specs.Trees.{root_of, size_of, elements_in, IsUnchanged, IsWholeTree};
 
 use crate::algorithm::rstar::RStarInsertionStrategy;
-use crate::algorithm::rstar::insertion::insert_at_root;
-use crate::algorithm::rstar::preparation::{levels_of, lists_wanted, top_up};
+use crate::algorithm::rstar::preparation::{lists_wanted, top_up};
+use crate::algorithm::rstar::reinsertion::insert_with_reinsertion;
 use crate::iterators::{LocateInEnvelope, RTreeIterator, SelectionIterator};
 use crate::node::{ParentNode, RTreeNode};
 use crate::params::{InsertCause, InsertError, InsertionStrategy};
@@ -35,6 +35,8 @@ use std::marker::PhantomData;
 pub struct RTree<T: RTreeObject, Params: RTreeParams = DefaultParams> {
     root: ParentNode<T>,
     size: usize,
+    // The levels of parents below the root; all leaves lie below the last of them.
+    levels: usize,
     // No parent has more children than this, which is at least `MAX_SIZE`.
     widest: usize,
     // Empty child lists, for the parents that an insertion makes.
@@ -70,6 +72,7 @@ impl<T: RTreeObject, Params: RTreeParams> RTree<T, Params> {
     }
 
     /// The empty tree, of any number of dimensions. It takes no memory yet.
+    #[tactic(auto, unfolding(crate::specs::Trees::IsWholeTree))]
     pub fn default(alloc: Global) -> Self
         ensures none { elements_in result ≡ [] }
         ensures whole { IsWholeTree T.Envelope.boxes T.object Params.MAX_SIZE result }
@@ -81,6 +84,7 @@ impl<T: RTreeObject, Params: RTreeParams> RTree<T, Params> {
                 envelope: T::Envelope::new_empty(),
             },
             size: 0,
+            levels: 0,
             widest: Params::MAX_SIZE,
             spares: Vec::new(alloc),
             params: PhantomData,
@@ -95,6 +99,7 @@ impl<T: RTreeObject, Params: RTreeParams> RTree<T, Params> {
     }
 
     /// The number of elements, equal ones counted each.
+    #[tactic(auto, unfolding(crate::specs::Trees::IsWholeTree))]
     pub fn size(&self) -> usize
         ensures shown { result ≡ size_of self.now }
         ensures counted { IsWholeTree T.Envelope.boxes T.object Params.MAX_SIZE self.now → result ≡ length (elements_in self.now) }
@@ -102,37 +107,46 @@ impl<T: RTreeObject, Params: RTreeParams> RTree<T, Params> {
         self.size
     }
 
-    /// All elements, in some order. It is refused where the allocator refuses the path, one place for each level.
+    /// All elements, in some order.
+    ///
+    /// It is refused where the allocator refuses the path of a tree of more than 13 levels of parents.
     pub fn iter(&self) -> Result<RTreeIterator<'_, T>, AllocError>
         requires { IsWholeTree T.Envelope.boxes T.object Params.MAX_SIZE self.now }
-        ensures all { IfOk result (λ it. to_come ⟦<SelectAllFunc as SelectionFunction<T>>⟧.accepts ⟦<SelectAllFunc as SelectionFunction<T>>⟧.selects it ≡ elements_in self.now) }
+        ensures all { IfOk result (λ it. to_come ⟦<SelectAllFunc as SelectionFunction<T>>⟧.accepts
+            ⟦<SelectAllFunc as SelectionFunction<T>>⟧.selects it ≡ elements_in self.now) }
+        ensures made { IfOk result (λ it. IsMade ⟦<SelectAllFunc as SelectionFunction<T>>⟧.accepts (root_of self.now)
+            (λ e. true) it) }
         ensures walking { IfOk result (λ it. IsWalking ⟦<SelectAllFunc as SelectionFunction<T>>⟧.accepts it) }
-        ensures root { IfOk result (λ it. root_walked it ≡ root_of self.now) }
+        ensures near { height_of (root_of self.now) ≤ 13 → IsOk result }
     {
         self.locate_with_selection_function(SelectAllFunc)
     }
 
     /// The elements whose envelopes an envelope contains, in some order. Its borders belong to it.
     ///
-    /// It opens the parents whose envelopes intersect it. It is refused where the allocator refuses the path, one place
-    /// for each level.
+    /// It opens the parents whose envelopes intersect it. It is refused where the allocator refuses the path of a tree
+    /// of more than 13 levels of parents.
     pub fn locate_in_envelope(
         &self,
         envelope: T::Envelope,
     ) -> Result<LocateInEnvelope<'_, T>, AllocError>
         requires { IsWholeTree T.Envelope.boxes T.object Params.MAX_SIZE self.now }
-        ensures all { IfOk result (λ it. to_come ⟦<SelectInEnvelopeFunction<T> as SelectionFunction<T>>⟧.accepts ⟦<SelectInEnvelopeFunction<T> as SelectionFunction<T>>⟧.selects it
+        ensures all { IfOk result (λ it. to_come ⟦<SelectInEnvelopeFunction<T> as SelectionFunction<T>>⟧.accepts
+            ⟦<SelectInEnvelopeFunction<T> as SelectionFunction<T>>⟧.selects it
             ≡ filter (λ t. T.Envelope.boxes.contains envelope (T.object.box_of t)) (elements_in self.now)) }
+        ensures made { IfOk result (λ it. IsMade ⟦<SelectInEnvelopeFunction<T> as SelectionFunction<T>>⟧.accepts
+            (root_of self.now) (λ e. T.Envelope.boxes.intersects envelope e) it) }
         ensures walking { IfOk result (λ it. IsWalking ⟦<SelectInEnvelopeFunction<T> as SelectionFunction<T>>⟧.accepts it) }
-        ensures root { IfOk result (λ it. root_walked it ≡ root_of self.now) }
+        ensures near { height_of (root_of self.now) ≤ 13 → IsOk result }
     {
         self.locate_with_selection_function(SelectInEnvelopeFunction::new(envelope))
     }
 
     /// The elements that a function selects, in some order. A function that is not lawful may miss some.
     ///
-    /// It opens the parents that the function accepts. It is refused where the allocator refuses the path, one place for
-    /// each level.
+    /// It opens the parents that the function accepts. It is refused where the allocator refuses the path of a tree of
+    /// more than 13 levels of parents.
+    #[tactic(auto, unfolding(crate::specs::Trees::IsWholeTree))]
     pub fn locate_with_selection_function<Func: SelectionFunction<T>>(
         &self,
         func: Func,
@@ -140,12 +154,14 @@ impl<T: RTreeObject, Params: RTreeParams> RTree<T, Params> {
         requires { IsWholeTree T.Envelope.boxes T.object Params.MAX_SIZE self.now }
         ensures all { IfOk result (λ it. IsLawful T.Envelope.boxes T.object (Func.accepts func) (Func.selects func)
             → to_come Func.accepts Func.selects it ≡ filter (Func.selects func) (elements_in self.now)) }
-        ensures part { IfOk result (λ it. IsPartOf (to_come Func.accepts Func.selects it) (filter (Func.selects func) (elements_in self.now))) }
-        ensures walking { IfOk result (λ it. IsWalking Func.accepts it) }
-        ensures root { IfOk result (λ it. root_walked it ≡ root_of self.now) }
+        ensures part { IfOk result (λ it. IsPartOf (to_come Func.accepts Func.selects it)
+            (filter (Func.selects func) (elements_in self.now))) }
         ensures question { IfOk result (λ it. question_of it ≡ func) }
+        ensures made { IfOk result (λ it. IsMade Func.accepts (root_of self.now) (Func.accepts func) it) }
+        ensures walking { IfOk result (λ it. IsWalking Func.accepts it) }
+        ensures near { height_of (root_of self.now) ≤ 13 → IsOk result }
     {
-        SelectionIterator::new(&self.root, func)
+        SelectionIterator::new(&self.root, self.levels, func)
     }
 
     /// Adds an element, whose envelope is not empty, by `RStarInsertionStrategy`. Equal elements may be added, and are counted.
@@ -170,51 +186,25 @@ impl<T: RTreeObject, Params: RTreeParams> RTree<T, Params> {
         RStarInsertionStrategy::insert(self, t)
     }
 
-    /// The body of the strategy: memory first, then the element.
-    pub(crate) fn insert_prepared(&mut self, t: T) -> Result<(), InsertError<T>>
-        requires whole { IsWholeTree T.Envelope.boxes T.object Params.MAX_SIZE self.old }
-        requires element { T.Envelope.boxes.is_empty (T.object.box_of t) ≡ false }
-        ensures added { OnOk result (IsPermutation (t ∷ elements_in self.old) (elements_in self.new)) }
-        ensures counted { OnOk result (size_of self.new ≡ size_of self.old + 1) }
-        ensures handed_back { IfErr result (λ refused. refused.element ≡ t) }
-        ensures unchanged { OnErr result (IsUnchanged self.old self.new) }
-        ensures too_many { IsErrAnd result (λ refused. refused.cause ≡ InsertCause.TooMany)
-            ↔ ((size_of self.old ≡ usize.MAX) ⊎ (usize.MAX < spare_lists Params.REINSERTION_COUNT (height_of (root_of self.old)))) }
-        ensures whole { IsWholeTree T.Envelope.boxes T.object Params.MAX_SIZE self.new }
-        ensures sized { IsSized Params.MIN_SIZE Params.MAX_SIZE (root_of self.old) → IsSized Params.MIN_SIZE Params.MAX_SIZE (root_of self.new) }
-    {
-        let levels = levels_of(&self.root);
-        let Some(wanted) = self.lists_to_prepare(levels) else {
-            return Err(InsertError {
-                element: t,
-                cause: InsertCause::TooMany,
-            });
-        };
-        let Ok(()) = self.prepare(wanted) else {
-            return Err(InsertError {
-                element: t,
-                cause: InsertCause::NoMemory,
-            });
-        };
-        self.insert_at_levels(t, levels);
-        Ok(())
-    }
-
     /// How many spare lists an insertion wants, and `None` where the tree cannot count one element more, or not them.
-    fn lists_to_prepare(&self, levels: usize) -> Option<usize>
-        ensures some { IfSome result (λ n. (n ≡ spare_lists Params.REINSERTION_COUNT (1 + levels)) × (self.now.size < usize.MAX)) }
-        ensures none { IfNone result ((self.now.size ≡ usize.MAX) ⊎ (usize.MAX < spare_lists Params.REINSERTION_COUNT (1 + levels))) }
+    #[tactic(auto, unfolding(crate::specs::Trees::IsWholeTree))]
+    pub(crate) fn lists_to_prepare(&self) -> Option<usize>
+        requires { IsWholeTree T.Envelope.boxes T.object Params.MAX_SIZE self.now }
+        ensures some { IfSome result (λ n. (n ≡ spare_lists Params.REINSERTION_COUNT (height_of (root_of self.now))) × (size_of self.now < usize.MAX)) }
+        ensures none { IfNone result ((size_of self.now ≡ usize.MAX) ⊎ (usize.MAX < spare_lists Params.REINSERTION_COUNT (height_of (root_of self.now)))) }
     {
         if self.size == usize::MAX {
             return None;
         }
-        lists_wanted::<Params>(levels)
+        lists_wanted::<Params>(self.levels)
     }
 
-    /// Takes the memory of an insertion: spare lists, and room in an empty root's list.
-    fn prepare(&mut self, wanted: usize) -> Result<(), AllocError>
+    /// Takes the memory of an insertion: so many spare lists, and room in an empty root's list.
+    #[tactic(auto, unfolding(crate::specs::Trees::IsWholeTree))]
+    pub(crate) fn prepare(&mut self, wanted: usize) -> Result<(), AllocError>
         requires whole { IsWholeTree T.Envelope.boxes T.object Params.MAX_SIZE self.old }
         ensures unchanged { IsUnchanged self.old self.new }
+        ensures same { children_of (root_of self.new) ≡ children_of (root_of self.old) }
         ensures whole { IsWholeTree T.Envelope.boxes T.object Params.MAX_SIZE self.new }
         ensures room { OnOk result (HasRoom Params.MAX_SIZE self.new.root.children) }
         ensures enough { OnOk result (wanted ≤ vec_len self.new.spares) }
@@ -228,19 +218,25 @@ impl<T: RTreeObject, Params: RTreeParams> RTree<T, Params> {
     }
 
     /// Inserts an element where the memory is prepared.
-    fn insert_at_levels(&mut self, t: T, levels: usize)
+    #[tactic(auto, unfolding(crate::specs::Trees::IsWholeTree))]
+    pub(crate) fn insert_prepared(&mut self, t: T)
         requires whole { IsWholeTree T.Envelope.boxes T.object Params.MAX_SIZE self.old }
         requires element { T.Envelope.boxes.is_empty (T.object.box_of t) ≡ false }
-        requires levels { levels ≡ levels_below (children_of (root_of self.old)) }
         requires room { HasRoom Params.MAX_SIZE self.old.root.children }
-        requires enough { levels + 1 < vec_len self.old.spares }
-        requires count { self.old.size < usize.MAX }
+        requires enough { spare_lists Params.REINSERTION_COUNT (height_of (root_of self.old)) ≤ vec_len self.old.spares }
+        requires count { size_of self.old < usize.MAX }
         ensures added { IsPermutation (t ∷ elements_in self.old) (elements_in self.new) }
         ensures counted { size_of self.new ≡ size_of self.old + 1 }
         ensures whole { IsWholeTree T.Envelope.boxes T.object Params.MAX_SIZE self.new }
         ensures sized { IsSized Params.MIN_SIZE Params.MAX_SIZE (root_of self.old) → IsSized Params.MIN_SIZE Params.MAX_SIZE (root_of self.new) }
     {
-        insert_at_root::<T, Params>(&mut self.root, t, levels, self.widest, &mut self.spares);
+        self.levels = insert_with_reinsertion::<T, Params>(
+            &mut self.root,
+            t,
+            self.levels,
+            self.widest,
+            &mut self.spares,
+        );
         self.size += 1;
     }
 }

@@ -5,13 +5,14 @@ ghost use Rattle.rstar.specs.Cuts.{IsArrangement, IsLeastCut};
 ghost use Rattle.rstar.specs.Nodes.{node_box};
 
 mod choose;
-pub(crate) mod insertion;
+mod insertion;
 pub(crate) mod preparation;
+pub(crate) mod reinsertion;
 mod split;
 
 use crate::algorithm::rstar::split::split_in_place;
 use crate::node::RTreeNode;
-use crate::params::{InsertError, InsertionStrategy};
+use crate::params::{InsertCause, InsertError, InsertionStrategy};
 use crate::rtree::RTree;
 use rstar_base::envelope::Envelope;
 use rstar_base::object::RTreeObject;
@@ -26,7 +27,20 @@ impl InsertionStrategy for RStarInsertionStrategy {
         tree: &mut RTree<T, Params>,
         t: T,
     ) -> Result<(), InsertError<T>> {
-        tree.insert_prepared(t)
+        let Some(wanted) = tree.lists_to_prepare() else {
+            return Err(InsertError {
+                element: t,
+                cause: InsertCause::TooMany,
+            });
+        };
+        let Ok(()) = tree.prepare(wanted) else {
+            return Err(InsertError {
+                element: t,
+                cause: InsertCause::NoMemory,
+            });
+        };
+        tree.insert_prepared(t);
+        Ok(())
     }
 }
 

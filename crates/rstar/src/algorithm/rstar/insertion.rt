@@ -1,12 +1,12 @@
 //! Insertion below a root whose memory was prepared: nothing here takes memory, and nothing can fail.
 
-ghost use Rattle.std.specs.Prelude.{◌≡◌, ℕ, ◌+◌, ◌<◌, ◌≤◌, [], ◌∷◌, ◌++◌, false, length, vec_len, vec_capacity, IfSome, IfNone};
+ghost use Rattle.std.specs.Prelude.{◌≡◌, ◌+◌, ◌<◌, ◌≤◌, [], ◌∷◌, ◌++◌, false, length, vec_len, vec_capacity, IfSome, IfNone};
 ghost use Rattle.std.specs.List.{AllByRecursion};
 ghost use Rattle.std.specs.List.Sorted.{IsPermutation};
 ghost use Rattle.rstar_base.specs.Hulls.{hull};
 ghost use Rattle.rstar.specs.declared.node.RTreeNode.{Parent};
 ghost use Rattle.rstar.specs.Nodes.{node_box, all_elements};
-ghost use Rattle.rstar.specs.Shapes.{AreTrees, IsAny, HasSize, IsSized};
+ghost use Rattle.rstar.specs.Shapes.{AreTrees, IsAny, HasSize};
 ghost use Rattle.rstar.specs.Kept.{HasRoom, IsRoomy, IsSpare, IsKept, IsFit, AreKept, IsKeptTree, IsSizedAfter, second_children, as_node};
 
 use crate::algorithm::rstar::choose::choose_subtree;
@@ -164,14 +164,14 @@ fn grow_root<T: RTreeObject, Params: RTreeParams>(
 }
 
 /// Inserts an element from the root, whose children are trees of `levels` levels of parents. The root grows a level
-/// where it is split.
+/// where it is split. The answer is the number of levels afterwards.
 pub(crate) fn insert_at_root<T: RTreeObject, Params: RTreeParams>(
     root: &mut ParentNode<T>,
     t: T,
     levels: usize,
     widest: usize,
     spares: &mut Vec<Vec<RTreeNode<T>>>,
-)
+) -> usize
     requires root { IsKept T.Envelope.boxes T.object Params.MAX_SIZE widest root.old }
     requires below { AreKept T.Envelope.boxes T.object Params.MAX_SIZE widest levels root.old.children.items }
     requires some { 0 < levels → 0 < vec_len root.old.children }
@@ -180,11 +180,18 @@ pub(crate) fn insert_at_root<T: RTreeObject, Params: RTreeParams>(
     requires spares { AllByRecursion (IsSpare widest) spares.old.items }
     requires enough { levels + 1 < vec_len spares.old }
     ensures bag { IsPermutation (t ∷ all_elements root.old.children.items) (all_elements root.new.children.items) }
-    ensures whole { (h : ℕ) × IsKeptTree T.Envelope.boxes T.object Params.MAX_SIZE widest h root.new }
-    ensures sized { AreTrees (HasSize Params.MIN_SIZE Params.MAX_SIZE) IsAny levels root.old.children.items → vec_len root.old.children ≤ Params.MAX_SIZE → IsSized Params.MIN_SIZE Params.MAX_SIZE root.new }
+    ensures kept { IsKeptTree T.Envelope.boxes T.object Params.MAX_SIZE widest result root.new }
+    ensures sized { AreTrees (HasSize Params.MIN_SIZE Params.MAX_SIZE) IsAny levels root.old.children.items → vec_len root.old.children ≤ Params.MAX_SIZE
+        → AreTrees (HasSize Params.MIN_SIZE Params.MAX_SIZE) IsAny result root.new.children.items × (vec_len root.new.children ≤ Params.MAX_SIZE) }
+    ensures grown { result ≤ levels + 1 }
     ensures spares { AllByRecursion (IsSpare widest) spares.new.items }
+    ensures used { vec_len spares.old ≤ vec_len spares.new + result + 1 }
 {
-    if let Some(second) = insert_below::<T, Params>(root, t, levels, widest, spares) {
-        grow_root::<T, Params>(root, second, widest, spares);
+    match insert_below::<T, Params>(root, t, levels, widest, spares) {
+        None => levels,
+        Some(second) => {
+            grow_root::<T, Params>(root, second, widest, spares);
+            levels + 1
+        }
     }
 }

@@ -1,32 +1,14 @@
 //! The memory of an insertion, which is taken before the first change.
 
-ghost use Rattle.std.specs.Prelude.{◌≡◌, ◌+◌, ◌<◌, ◌≤◌, ◌^◌, min, OnOk, IfSome, IfNone, vec_len};
+ghost use Rattle.std.specs.Prelude.{◌≡◌, ◌+◌, ◌<◌, ◌≤◌, OnOk, IfSome, IfNone, vec_len};
 ghost use Rattle.std.specs.List.{AllByRecursion};
-ghost use Rattle.rstar.specs.Heights.{levels_below, spare_lists};
+ghost use Rattle.rstar.specs.Heights.{spare_lists};
 ghost use Rattle.rstar.specs.Kept.{IsSpare};
 
-use crate::node::{ParentNode, RTreeNode};
+use crate::node::RTreeNode;
 use rstar_base::object::RTreeObject;
 use rstar_base::params::RTreeParams;
 use std::alloc::{AllocError, Global};
-
-/// The levels of parents below a root, held at the greatest `usize`.
-pub(crate) fn levels_of<T: RTreeObject>(root: &ParentNode<T>) -> usize
-    ensures { result ≡ min (levels_below root.now.children.items) usize.MAX }
-{
-    let mut nodes = root.children.as_slice();
-    let mut levels = 0usize;
-    while let Some((first, _rest)) = nodes.split_first() {
-        match first {
-            RTreeNode::Leaf(_) => break,
-            RTreeNode::Parent(below) => {
-                nodes = below.children.as_slice();
-                levels = levels.saturating_add(1);
-            }
-        }
-    }
-    levels
-}
 
 /// How many spare lists an insertion wants below a root with so many levels of parents, where a `usize` counts them.
 pub(crate) fn lists_wanted<Params: RTreeParams>(levels: usize) -> Option<usize>

@@ -10,7 +10,7 @@ use rstar_base::params::RTreeParams;
 use rstar_base::point::{Point, RTreeNum};
 
 /// Moves what lies from `at` on into the spare list, in its order. It takes no memory.
-fn cut_at<A: Drop>(list: &mut Vec<A>, at: usize, spare: &mut Vec<A>)
+pub(crate) fn cut_at<A: Drop>(list: &mut Vec<A>, at: usize, spare: &mut Vec<A>)
     requires within { at ≤ vec_len list.old }
     requires empty { spare.old.items ≡ [] }
     requires room { vec_len list.old ≤ vec_capacity spare.old + at }

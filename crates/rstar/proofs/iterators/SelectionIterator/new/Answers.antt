@@ -1,9 +1,11 @@
-use Rattle.std.proofs.Common.{◌≡◌, ◌∙◌, sym, ap, refl, ◌≢◌, []}
-use Rattle.std.specs.Prelude.{⊤}
-use Rattle.rstar.specs.Nodes.{children_of, envelope_of, IsInner, IsElement}
-use Rattle.rstar.specs.Selections.{IsLevel, IsWalking, reach_from_root, reach_below}
+use Rattle.std.proofs.Common.{◌≡◌, ◌∙◌, sym, ap, refl, subst, arith, ◌≢◌, []}
+use Rattle.std.specs.Prelude.{⊤, ◌≤◌}
+use Rattle.rstar.specs.Nodes.{children_of, envelope_of, reach_of, reach_below, IsInner, IsElement}
+use Rattle.rstar.specs.Selections.{IsWalking}
+use Rattle.rstar.specs.Walks.{IsLevel}
 use Rattle.rstar_base.proofs.Lists.{all_map}
-use Rattle.rstar.proofs.Walks.{tree-weaker, way-none, way-start, reach-refused, no-items, some-items}
+use Rattle.rstar.proofs.Heights.{levels_are}
+use Rattle.rstar.proofs.Walks.{tree-weaker, way-none, way-start, reach-asked, reach-refused, no-items, some-items}
 use Rattle.rstar.proofs.iterators.SelectionIterator.new.Goals as goal
 use Rattle.rstar.proofs.iterators.SelectionIterator.new.Goals.{then-is_empty-via-then-is_empty, then-is_empty-via-else-is_empty+then-not-should_unpack_parent}
 
@@ -12,9 +14,11 @@ unfolding IsWalking
 returns-then-is_empty-clause-walking g c =
     let accepts = g.Func.SelectionFunction.accepts c.args.func in
     let root = c.args.root.now in
-    let nothing : reach_from_root accepts root ≡ 0 = elim c.then-is_empty.branch [
-      | then-is_empty-via-then-is_empty w ↦ ap (reach_below accepts (envelope_of root)) (no-items (children_of root) _ _ c.is_empty.ensures w.if-is_empty.true root.children.ok.0)
-      | then-is_empty-via-else-is_empty+then-not-should_unpack_parent w ↦ reach-refused accepts (envelope_of root) (children_of root) (sym w.should_unpack_parent.ensures ∙ w.if-not-should_unpack_parent.true)
+    let nothing : reach_of accepts root ≡ 0 = elim c.then-is_empty.branch [
+      | then-is_empty-via-then-is_empty w ↦
+          ap (reach_below accepts (envelope_of root)) (no-items (children_of root) _ _ c.is_empty.ensures w.if-is_empty.true root.children.ok.0)
+      | then-is_empty-via-else-is_empty+then-not-should_unpack_parent w ↦
+          reach-refused accepts (envelope_of root) (children_of root) (sym w.should_unpack_parent.ensures ∙ w.if-not-should_unpack_parent.true)
     ] in
     way-none accepts root c.in_ok-path.path.items _ _ c.in_ok-path.ensures.empty refl nothing
 
@@ -25,8 +29,18 @@ returns-clause-walking g c =
     let v = g.T.Envelope.Envelope.boxes in
     let o = g.T.RTreeObject.object in
     let root = c.args.root.now in
-    let h = c.requires.height in
+    let h = c.requires.whole.height in
     let some = some-items (children_of root) _ _ c.is_empty.ensures c.if-is_empty.false root.children.ok.0 in
-    let levels = all_map _ (IsLevel h) (tree-weaker (IsInner v o) (λ p. children_of p ≢ []) (IsElement v o) (λ t. ⊤) (λ p q. q.1) (λ t q. tt) h) (children_of root) c.requires.below in
+    let inner : (p : _) → IsInner v o p → children_of p ≢ [] = λ p q. q.1 in
+    let levels = all_map _ (IsLevel h) (tree-weaker (IsInner v o) (λ p. children_of p ≢ []) (IsElement v o) (λ t. ⊤) inner (λ t q. tt) h) (children_of root) c.requires.whole.below in
+    let deep = c.requires.levels ∙ levels_are (IsInner v o) (IsElement v o) inner h (children_of root) some c.requires.whole.below in
     way-start accepts root c.in_ok-path.path.items c.as_slice.result _ h c.in_ok-path.ensures.empty c.as_slice.ensures.value some
-    (sym c.should_unpack_parent.ensures ∙ c.if-not-should_unpack_parent.false) levels (c.in_ok-path.ensures.room h levels some)
+    (sym c.should_unpack_parent.ensures ∙ c.if-not-should_unpack_parent.false) levels (subst (λ n. n ≤ c.in_ok-path.path.capacity) deep c.in_ok-path.ensures.room)
+
+pub returns-clause-made : goal.returns-clause-made
+returns-clause-made g c =
+    let accepts = g.Func.SelectionFunction.accepts c.args.func in
+    let root = c.args.root.now in
+    let some = some-items (children_of root) _ _ c.is_empty.ensures c.if-is_empty.false root.children.ok.0 in
+    let asked = reach-asked accepts (envelope_of root) (children_of root) some (sym c.should_unpack_parent.ensures ∙ c.if-not-should_unpack_parent.false) in
+    record { root = refl; question = refl; opened = omega arith; at_most = omega arith }

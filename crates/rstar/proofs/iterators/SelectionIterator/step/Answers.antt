@@ -1,6 +1,6 @@
 use Rattle.std.proofs.Common.{◌∷◌, ◌++◌, [], ◌∙◌, ap, sym, refl, arith, length-append}
 use Rattle.rstar.proofs.Walks.{IsTaken, IsDropped, nil-length, way-take, way-opened, way-drop, given-leaf, given-passed, given-opened, given-drop, reach-leaf, reach-passed, nearer-leaf, nearer-passed, nearer-opened, nearer-drop, room-opened}
-use Rattle.rstar.specs.Selections.{slices_of}
+use Rattle.rstar.specs.Walks.{slices_of}
 use Rattle.rstar.proofs.iterators.SelectionIterator.step.Goals as goal
 
 pub returns-in_default : goal.returns-in_default
@@ -9,9 +9,9 @@ returns-in_default g c =
     let selects = g.Func.SelectionFunction.selects c.args.self.now.func in
     let none = nil-length c.args.self.now.nodes.now c.in_default.ensures.cases in
     let dropped : IsDropped (slices_of c.args.self.now) (c.pop.new.self.items ++ c.in-Some-pop.above ∷ []) =
-    record { nodes = c.args.self.now.nodes; is = ap (λ l. l ++ c.args.self.now.nodes ∷ []) c.in-Some-pop.ensures.items; none = none } in
+    record { nodes = c.args.self.now.nodes; is = ap (λ l. l ++ c.args.self.now.nodes ∷ []) c.in-Some-pop.ensures.some; none = none } in
     record {
-      walking = way-drop accepts c.args.self.now.root.now dropped c.in-Some-pop.ensures.capacity c.requires;
+      walking = way-drop accepts c.args.self.now.root.now dropped c.pop.ensures.capacity c.requires;
       root = refl;
       question = refl;
       given = given-drop accepts selects dropped;
@@ -26,7 +26,6 @@ push_reserved-requires g c =
     record { left = c.args.self.now.path.items; nodes = c.args.self.now.nodes; rest = c.in-Some.rest; is = refl; first = c.in-Some.ensures.cases.0; more = refl } in
     let room = room-opened accepts c.args.self.now.root.now c.in-Parent.parent taken c.in-Parent.is c.requires in
     let long = length-append c.args.self.now.path.items (c.in-Some.rest ∷ []) in
-    let same = c.args.self.now.path.ok.0 in
     omega arith
 
 pub returns-then-should_unpack_leaf : goal.returns-then-should_unpack_leaf

@@ -1,27 +1,55 @@
-use Rattle.std.proofs.Common.{◌≤◌, arith, vec_len}
-use Rattle.rstar.specs.Heights.{levels_below}
-use Rattle.rstar.specs.Trees.{root_of}
-use Rattle.rstar.proofs.WholeTrees.{sized_along, enough_lists, counted_lists}
+use Rattle.std.proofs.Common.{◌≡◌, ◌+◌, ◌∷◌, ◌≤◌, length, sym, subst, arith, vec_len}
+use Rattle.std.proofs.lemmas.List.Sorted.{length_permutation}
+use Rattle.rstar.specs.Nodes.{all_elements}
+use Rattle.rstar.specs.Trees.{IsWholeTree}
+use Rattle.rstar.specs.Heights.{spare_lists}
+use Rattle.rstar.proofs.Insertion.{whole_of_kept}
+use Rattle.rstar.proofs.WholeTrees.{kept_at, rooms_of, sized_at, levels_kept}
 use Rattle.rstar.proofs.rtree.RTree.insert_prepared.Goals as goal
 
-pub insert_at_levels-requires-clause-enough : goal.insert_at_levels-requires-clause-enough
-insert_at_levels-requires-clause-enough g c =
-    enough_lists g.Params.RTreeParams.REINSERTION_COUNT c.levels_of-levels.result c.in-Some.wanted (vec_len c.prepare.new.self.spares) c.in-Some.ensures.some.0 c.in-Ok.ensures.enough
+pub insert_with_reinsertion-self-requires-clause-below : goal.insert_with_reinsertion-self-requires-clause-below
+unfolding IsWholeTree
+insert_with_reinsertion-self-requires-clause-below g c =
+    let whole = c.requires.whole in
+    kept_at g.T.Envelope.Envelope.boxes g.T.RTreeObject.object g.Params.RTreeParams.MAX_SIZE c.args.self.now.widest whole.root_whole.height c.args.self.now.levels c.args.self.now.root.children.items
+    whole.leveled whole.root_whole.below whole.rooms
+
+pub insert_with_reinsertion-self-requires-clause-enough : goal.insert_with_reinsertion-self-requires-clause-enough
+unfolding IsWholeTree
+insert_with_reinsertion-self-requires-clause-enough g c =
+    subst (λ n. spare_lists g.Params.RTreeParams.REINSERTION_COUNT (1 + n) ≤ vec_len c.args.self.now.spares) (sym c.requires.whole.leveled) c.requires.enough
+
+pub returns-clause-whole : goal.returns-clause-whole
+unfolding IsWholeTree
+returns-clause-whole g c =
+    let whole = c.requires.whole in
+    let h = c.insert_with_reinsertion-self.result in
+    let after = c.insert_with_reinsertion-self.ensures.kept in
+    let children = c.insert_with_reinsertion-self.new.root.children.items in
+    let same : length (all_elements children) ≡ length (c.args.t ∷ all_elements c.args.self.now.root.children.items) = length_permutation _ _ c.insert_with_reinsertion-self.ensures.bag in
+    let counted : c.args.self.now.size ≡ length (all_elements c.args.self.now.root.children.items) = whole.counted in
+    record {
+      root_whole = record {
+        height = h;
+        tight = after.0.0.tight;
+        below = whole_of_kept g.met.T.Envelope.Envelope.envelope_laws g.met.T.RTreeObject.object_law g.Params.RTreeParams.MAX_SIZE c.args.self.now.widest h children after.1;
+      };
+      counted = omega (arith, same, counted);
+      leveled = levels_kept g.T.Envelope.Envelope.boxes g.T.RTreeObject.object g.Params.RTreeParams.MAX_SIZE c.args.self.now.widest h c.insert_with_reinsertion-self.new.root after;
+      low = omega arith;
+      wide = whole.wide;
+      wide_fits = whole.wide_fits;
+      narrow = after.0.0.roomy.narrow;
+      root_room = λ some. after.0.0.roomy.room;
+      rooms = rooms_of g.T.Envelope.Envelope.boxes g.T.RTreeObject.object g.Params.RTreeParams.MAX_SIZE c.args.self.now.widest h children after.1;
+      spares = c.insert_with_reinsertion-self.ensures.spares;
+    }
 
 pub returns-clause-sized : goal.returns-clause-sized
+unfolding IsWholeTree
 returns-clause-sized g c = λ sized.
-    c.insert_at_levels.ensures.sized
-    (sized_along g.Params.RTreeParams.MIN_SIZE g.Params.RTreeParams.MAX_SIZE (root_of c.args.self.now) (root_of c.prepare.new.self) c.prepare.ensures.unchanged.children sized)
-
-pub returns-in_default-prepare-clause-sized : goal.returns-in_default-prepare-clause-sized
-returns-in_default-prepare-clause-sized g c = λ sized.
-    sized_along g.Params.RTreeParams.MIN_SIZE g.Params.RTreeParams.MAX_SIZE (root_of c.args.self.now) (root_of c.prepare.new.self) c.prepare.ensures.unchanged.children sized
-
-pub returns-clause-too_many : goal.returns-clause-too_many
-returns-clause-too_many g c =
-    let some = c.in-Some.ensures.some in
-    let fits : c.in-Some.wanted ≤ 18446744073709551615 = omega arith in (
-      λ no. absurd no,
-      λ bad. counted_lists g.Params.RTreeParams.REINSERTION_COUNT (levels_below c.args.self.now.root.children.items) c.levels_of-levels.result c.in-Some.wanted c.args.self.now.size 18446744073709551615
-          c.levels_of-levels.ensures some.0 fits some.1 bad,
-    )
+    let after = c.insert_with_reinsertion-self.ensures.sized
+    (sized_at g.Params.RTreeParams.MIN_SIZE g.Params.RTreeParams.MAX_SIZE g.Params.RTreeParams.min_positive sized.height c.args.self.now.levels c.args.self.now.root.children.items c.requires.whole.leveled sized.below)
+    (omega (arith, sized.most, c.args.self.now.root.children.ok.0)) in
+    let most = after.1 in
+    record { height = c.insert_with_reinsertion-self.result; most = omega (arith, most, c.insert_with_reinsertion-self.new.root.children.ok.0); below = after.0 }

@@ -1,6 +1,6 @@
-use Rattle.std.proofs.Common.{◌+◌, ◌∙◌, ap, arith}
+use Rattle.std.proofs.Common.{◌∙◌, ap, arith}
 use Rattle.rstar.specs.Nodes.{all_elements}
-use Rattle.rstar.proofs.Insertion.{two_parents, root_grown, sized_root}
+use Rattle.rstar.proofs.Insertion.{two_parents, root_grown, sized_above}
 use Rattle.rstar.proofs.algorithm.rstar.insertion.insert_at_root.Goals as goal
 
 pub returns-in-Some-clause-bag : goal.returns-in-Some-clause-bag
@@ -8,20 +8,19 @@ returns-in-Some-clause-bag g c =
     let same = ap all_elements c.grow_root.ensures.children ∙ two_parents c.insert_below.new.node c.in-Some.second in
     rw same c.in-Some.ensures.bag
 
-pub returns-in-Some-clause-whole : goal.returns-in-Some-clause-whole
-returns-in-Some-clause-whole g c = (
-  c.args.levels + 1,
-  root_grown g.met.T.Envelope.Envelope.envelope_laws g.met.T.RTreeObject.object_law g.Params.RTreeParams.MAX_SIZE c.args.widest c.args.levels c.insert_below.new.node c.in-Some.second c.grow_root.new.root
-      c.in-Some.ensures.first c.in-Some.ensures.second c.grow_root.ensures.children c.grow_root.ensures.envelope c.grow_root.ensures.room (omega (arith, g.Params.RTreeParams.max_at_least_four)),
-)
+pub returns-in-Some-clause-kept : goal.returns-in-Some-clause-kept
+returns-in-Some-clause-kept g c =
+    root_grown g.met.T.Envelope.Envelope.envelope_laws g.met.T.RTreeObject.object_law g.Params.RTreeParams.MAX_SIZE c.args.widest c.args.levels c.insert_below.new.node c.in-Some.second c.grow_root.new.root
+    c.in-Some.ensures.first c.in-Some.ensures.second c.grow_root.ensures.children c.grow_root.ensures.envelope c.grow_root.ensures.room (omega (arith, g.Params.RTreeParams.max_at_least_four))
 
 pub returns-in-Some-clause-sized : goal.returns-in-Some-clause-sized
 returns-in-Some-clause-sized g c = λ trees few.
     let after = c.in-Some.ensures.sized trees few in
-    sized_root g.Params.RTreeParams.MIN_SIZE g.Params.RTreeParams.MAX_SIZE g.Params.RTreeParams.min_positive c.args.levels c.insert_below.new.node c.in-Some.second c.grow_root.new.root
+    sized_above g.Params.RTreeParams.MIN_SIZE g.Params.RTreeParams.MAX_SIZE g.Params.RTreeParams.min_positive c.args.levels c.insert_below.new.node c.in-Some.second c.grow_root.new.root
     after.below after.cut_least after.most after.second_sized c.grow_root.ensures.children (omega (arith, g.Params.RTreeParams.max_at_least_four))
 
-pub returns-in_default-clause-sized : goal.returns-in_default-clause-sized
-returns-in_default-clause-sized g c = λ trees few.
-    let after = c.insert_below.ensures.sized trees few in
-    record { height = c.args.levels; most = after.most; below = after.below }
+pub returns-in-None-clause-sized : goal.returns-in-None-clause-sized
+returns-in-None-clause-sized g c = λ trees few.
+    let after = c.in-None.ensures.sized trees few in
+    let most = after.most in
+    (after.below, omega (arith, most, c.insert_below.new.node.children.ok.0))

@@ -1,0 +1,84 @@
+use Rattle.std.proofs.Common.{◌≡◌, ◌++◌, ◌∷◌, [], ap, ◌∙◌, arith, rules, append-nil, vec_len, None}
+use Rattle.std.proofs.lemmas.List.{nil_from_length}
+use Rattle.rstar.specs.declared.node.RTreeNode.{Leaf, Parent}
+use Rattle.rstar.specs.declared.node.RTreeNode.TheVariants.{outs-Parent}
+use Rattle.rstar.specs.Nodes.{IsElement}
+use Rattle.rstar.specs.Kept.{IsKeptInner}
+use Rattle.rstar.proofs.Insertion.{leaf_added, hull_grown, child_at, tree_at, sized_leaf, sized_child, no_leaf_above}
+use Rattle.rstar.proofs.Reinsertion.{leaf_handed, child_handed, made_anew, sized_kept}
+use Rattle.rstar.proofs.algorithm.rstar.reinsertion.+first.Goals as goal
+
+-- ---- below a node
+
+pub insert_first-add_leaf-requires-clause-covered : goal.insert_first-add_leaf-requires-clause-covered
+insert_first-add_leaf-requires-clause-covered g t c =
+    let grown = leaf_added g.met.T.Envelope.Envelope.envelope_laws g.met.T.RTreeObject.object_law g.Params.RTreeParams.MAX_SIZE c.args.widest c.args.levels c.args.t c.args.node.now.children.items c.if-levels-eq0.true (c.envelope-envelope.ensures.own, c.requires.element) c.requires.below in
+    (hull_grown g.met.T.Envelope.Envelope.envelope_laws g.met.T.RTreeObject.object_law g.Params.RTreeParams.MAX_SIZE c.args.widest c.args.levels c.args.t c.args.node.now.children.items _ c.args.node.now.envelope c.merge.new.self c.requires.below c.requires.node.tight c.envelope-envelope.ensures.own (c.merge.ensures.merged ∙ ap (g.T.Envelope.Envelope.boxes.merge c.args.node.now.envelope) c.envelope-envelope.ensures.value) grown.0 grown.1).1
+
+pub insert_first-returns-then-levels-eq0-clause-bag : goal.insert_first-returns-then-levels-eq0-clause-bag
+insert_first-returns-then-levels-eq0-clause-bag g t c =
+    let grown = leaf_added g.met.T.Envelope.Envelope.envelope_laws g.met.T.RTreeObject.object_law g.Params.RTreeParams.MAX_SIZE c.args.widest c.args.levels c.args.t c.args.node.now.children.items c.if-levels-eq0.true (c.envelope-envelope.ensures.own, c.requires.element) c.requires.below in
+    (leaf_handed g.met.T.Envelope.Envelope.envelope_laws g.met.T.RTreeObject.object_law g.Params.RTreeParams.MAX_SIZE c.args.widest c.args.levels c.args.t c.args.node.now.children.items (c.args.node.now.children.items ++ Leaf c.args.t ∷ []) c.add_leaf.new.handed.items c.add_leaf.new.node c.if-levels-eq0.true grown.0 grown.1 c.add_leaf.ensures.same c.add_leaf.ensures.fit).0
+
+pub insert_first-returns-then-levels-eq0-clause-kept : goal.insert_first-returns-then-levels-eq0-clause-kept
+insert_first-returns-then-levels-eq0-clause-kept g t c =
+    let grown = leaf_added g.met.T.Envelope.Envelope.envelope_laws g.met.T.RTreeObject.object_law g.Params.RTreeParams.MAX_SIZE c.args.widest c.args.levels c.args.t c.args.node.now.children.items c.if-levels-eq0.true (c.envelope-envelope.ensures.own, c.requires.element) c.requires.below in
+    (leaf_handed g.met.T.Envelope.Envelope.envelope_laws g.met.T.RTreeObject.object_law g.Params.RTreeParams.MAX_SIZE c.args.widest c.args.levels c.args.t c.args.node.now.children.items (c.args.node.now.children.items ++ Leaf c.args.t ∷ []) c.add_leaf.new.handed.items c.add_leaf.new.node c.if-levels-eq0.true grown.0 grown.1 c.add_leaf.ensures.same c.add_leaf.ensures.fit).1
+
+pub insert_first-returns-then-levels-eq0-clause-leaves : goal.insert_first-returns-then-levels-eq0-clause-leaves
+insert_first-returns-then-levels-eq0-clause-leaves g t c =
+    let grown = leaf_added g.met.T.Envelope.Envelope.envelope_laws g.met.T.RTreeObject.object_law g.Params.RTreeParams.MAX_SIZE c.args.widest c.args.levels c.args.t c.args.node.now.children.items c.if-levels-eq0.true (c.envelope-envelope.ensures.own, c.requires.element) c.requires.below in
+    (leaf_handed g.met.T.Envelope.Envelope.envelope_laws g.met.T.RTreeObject.object_law g.Params.RTreeParams.MAX_SIZE c.args.widest c.args.levels c.args.t c.args.node.now.children.items (c.args.node.now.children.items ++ Leaf c.args.t ∷ []) c.add_leaf.new.handed.items c.add_leaf.new.node c.if-levels-eq0.true grown.0 grown.1 c.add_leaf.ensures.same c.add_leaf.ensures.fit).2
+
+pub insert_first-returns-then-levels-eq0-clause-sized : goal.insert_first-returns-then-levels-eq0-clause-sized
+insert_first-returns-then-levels-eq0-clause-sized g t c = λ trees few.
+    sized_kept g.Params.RTreeParams.MIN_SIZE g.Params.RTreeParams.MAX_SIZE c.args.levels (vec_len c.args.node.now.children) (c.args.node.now.children.items ++ Leaf c.args.t ∷ []) c.add_leaf.new.handed.items c.add_leaf.new.node
+    (sized_leaf g.Params.RTreeParams.MIN_SIZE g.Params.RTreeParams.MAX_SIZE g.Params.RTreeParams.min_positive c.args.levels c.args.t c.args.node.now.children.items c.if-levels-eq0.true trees) c.add_leaf.ensures.same (c.add_leaf.ensures.most few) c.add_leaf.ensures.least
+
+pub insert_first-returns-then-not-is_empty-clause-kept : goal.insert_first-returns-then-not-is_empty-clause-kept
+insert_first-returns-then-not-is_empty-clause-kept g t c =
+    let roomy = c.requires.node.roomy in
+    let length = c.insert_first_in_child.ensures.length in
+    let capacity = c.insert_first_in_child.ensures.capacity in
+    let some = c.requires.some (omega arith) in
+    let is = rw c.deref-then-not-is_empty.ensures.value at c.envelope_for_children.ensures in
+    let tight = made_anew g.met.T.Envelope.Envelope.envelope_laws g.met.T.RTreeObject.object_law g.Params.RTreeParams.MAX_SIZE c.args.widest c.args.levels c.insert_first_in_child.new.children.items c.envelope_for_children.result c.insert_first_in_child.ensures.below is in
+    ((record { tight = tight; roomy = record { narrow = omega (arith, c.insert_first_in_child.new.children.ok.0, c.args.node.now.children.ok.0); room = (omega arith, omega arith) } }, omega (arith, c.insert_first_in_child.new.children.ok.0)), c.insert_first_in_child.ensures.below)
+
+pub insert_first-returns-clause-kept : goal.insert_first-returns-clause-kept
+insert_first-returns-clause-kept g t c =
+    let roomy = c.requires.node.roomy in
+    let length = c.insert_first_in_child.ensures.length in
+    let capacity = c.insert_first_in_child.ensures.capacity in
+    let some = c.requires.some (omega arith) in
+    let zero : vec_len c.insert_first_in_child.new.handed ≡ 0 = search rules in
+    let none = nil_from_length c.insert_first_in_child.new.handed.items (omega (arith, zero, c.insert_first_in_child.new.handed.ok.0)) in
+    let bag = rw (none, append-nil) at c.insert_first_in_child.ensures.bag in
+    let tight = (hull_grown g.met.T.Envelope.Envelope.envelope_laws g.met.T.RTreeObject.object_law g.Params.RTreeParams.MAX_SIZE c.args.widest c.args.levels c.args.t c.args.node.now.children.items c.insert_first_in_child.new.children.items c.args.node.now.envelope c.merge.new.self c.requires.below c.requires.node.tight c.envelope-envelope.ensures.own (c.merge.ensures.merged ∙ ap (g.T.Envelope.Envelope.boxes.merge c.args.node.now.envelope) c.envelope-envelope.ensures.value) bag c.insert_first_in_child.ensures.below).0 in
+    ((record { tight = tight; roomy = record { narrow = omega (arith, c.insert_first_in_child.new.children.ok.0, c.args.node.now.children.ok.0); room = (omega arith, omega arith) } }, omega (arith, c.insert_first_in_child.new.children.ok.0)), c.insert_first_in_child.ensures.below)
+
+-- ---- in a child
+
+pub insert_first_in_child-insert_first-requires : goal.insert_first_in_child-insert_first-requires
+insert_first_in_child-insert_first-requires g t c κs within =
+    let tree = child_at (IsKeptInner g.T.Envelope.Envelope.boxes g.T.RTreeObject.object g.Params.RTreeParams.MAX_SIZE c.args.widest) (IsElement g.T.Envelope.Envelope.boxes g.T.RTreeObject.object) c.args.levels c.args.children.now.items c.args.index (Parent c.in-Parent.child) (omega (arith, c.args.children.now.ok.0)) (rw c.in-Parent.is at c.index_mut.ensures.value) c.requires.below in
+    let at = tree_at (IsKeptInner g.T.Envelope.Envelope.boxes g.T.RTreeObject.object g.Params.RTreeParams.MAX_SIZE c.args.widest) (IsElement g.T.Envelope.Envelope.boxes g.T.RTreeObject.object) c.args.levels c.in-Parent.child c.requires.above tree in
+    rw c.in-Parent.child-is (omega arith, (within.0, (within.1.0, (within.1.1.0, (within.1.1.1.0, (within.1.1.1.1.0, (within.1.1.1.1.1, (at.0.0, (at.1, (λ _. omega (arith, at.0.1, c.in-Parent.child.children.ok.0), (c.requires.element, (c.requires.wide, (c.requires.reinserts, c.requires.spare)))))))))))))
+
+pub insert_first_in_child-unreachable-requires : goal.insert_first_in_child-unreachable-requires
+insert_first_in_child-unreachable-requires g t c =
+    no_leaf_above (IsKeptInner g.T.Envelope.Envelope.boxes g.T.RTreeObject.object g.Params.RTreeParams.MAX_SIZE c.args.widest) (IsElement g.T.Envelope.Envelope.boxes g.T.RTreeObject.object) c.args.levels c.in-Leaf.field-0 c.requires.above (child_at (IsKeptInner g.T.Envelope.Envelope.boxes g.T.RTreeObject.object g.Params.RTreeParams.MAX_SIZE c.args.widest) (IsElement g.T.Envelope.Envelope.boxes g.T.RTreeObject.object) c.args.levels c.args.children.now.items c.args.index (Leaf c.in-Leaf.field-0) (omega (arith, c.args.children.now.ok.0)) (rw c.in-Leaf.is at c.index_mut.ensures.value) c.requires.below)
+
+pub insert_first_in_child-returns-clause-bag : goal.insert_first_in_child-returns-clause-bag
+insert_first_in_child-returns-clause-bag g t c =
+    let grown = child_handed g.met.T.Envelope.Envelope.envelope_laws g.met.T.RTreeObject.object_law g.Params.RTreeParams.MAX_SIZE c.args.widest c.args.levels c.args.t c.args.children.now.items c.args.index c.in-Parent.child c.insert_first.new.node c.insert_first.new.handed.items c.requires.above (omega (arith, c.args.children.now.ok.0)) (rw c.in-Parent.is at c.index_mut.ensures.value) c.requires.below (rw c.in-Parent.child-is at c.insert_first.ensures.bag) c.insert_first.ensures.kept in
+    simp (c.in-Parent.is, outs-Parent) grown.0
+
+pub insert_first_in_child-returns-clause-below : goal.insert_first_in_child-returns-clause-below
+insert_first_in_child-returns-clause-below g t c =
+    let grown = child_handed g.met.T.Envelope.Envelope.envelope_laws g.met.T.RTreeObject.object_law g.Params.RTreeParams.MAX_SIZE c.args.widest c.args.levels c.args.t c.args.children.now.items c.args.index c.in-Parent.child c.insert_first.new.node c.insert_first.new.handed.items c.requires.above (omega (arith, c.args.children.now.ok.0)) (rw c.in-Parent.is at c.index_mut.ensures.value) c.requires.below (rw c.in-Parent.child-is at c.insert_first.ensures.bag) c.insert_first.ensures.kept in
+    simp (c.in-Parent.is, outs-Parent) grown.1
+
+pub insert_first_in_child-returns-clause-sized : goal.insert_first_in_child-returns-clause-sized
+insert_first_in_child-returns-clause-sized g t c =
+    simp (c.in-Parent.is, outs-Parent) (λ trees. rw append-nil at (sized_child g.Params.RTreeParams.MIN_SIZE g.Params.RTreeParams.MAX_SIZE g.Params.RTreeParams.min_positive c.args.levels c.args.children.now.items c.args.index c.in-Parent.child c.insert_first.new.node None c.requires.above (omega (arith, c.args.children.now.ok.0)) (rw c.in-Parent.is at c.index_mut.ensures.value) trees (rw c.in-Parent.child-is at c.insert_first.ensures.sized)))

@@ -1,0 +1,24 @@
+use Rattle.std.proofs.Common.{◌≡◌, ◌+◌, ◌*◌, ◌≤◌, ◌++◌, vec_len, vec_capacity}
+use Rattle.std.specs.List.{AllByRecursion}
+use Rattle.std.specs.List.Sorted.{IsPermutation}
+use Rattle.rstar.specs.Nodes.{all_elements}
+use Rattle.rstar.specs.Shapes.{AreTrees, IsAny, HasSize}
+use Rattle.rstar.specs.Kept.{IsSpare, AreKept, IsKeptTree}
+use Rattle.rstar.proofs.algorithm.rstar.reinsertion.insert_again.Given as goal
+
+abbrev pub invariant-loop-leaf : goal.invariant-loop-leaf
+invariant-loop-leaf g l = record {
+  bag : IsPermutation (all_elements l.initial.root.children.items ++ all_elements l.initial.handed.items) (all_elements l.root.children.items ++ all_elements l.handed.items);
+  kept : IsKeptTree g.T.Envelope.Envelope.boxes g.T.RTreeObject.object g.Params.RTreeParams.MAX_SIZE l.widest l.current l.root;
+  leaves : AreKept g.T.Envelope.Envelope.boxes g.T.RTreeObject.object g.Params.RTreeParams.MAX_SIZE l.widest 0 l.handed.items;
+  sized : AreTrees (HasSize g.Params.RTreeParams.MIN_SIZE g.Params.RTreeParams.MAX_SIZE) IsAny l.levels l.initial.root.children.items → vec_len l.initial.root.children ≤ g.Params.RTreeParams.MAX_SIZE
+      → AreTrees (HasSize g.Params.RTreeParams.MIN_SIZE g.Params.RTreeParams.MAX_SIZE) IsAny l.current l.root.children.items × (vec_len l.root.children ≤ g.Params.RTreeParams.MAX_SIZE);
+  spares : AllByRecursion (IsSpare l.widest) l.spares.items;
+  -- the root grew at most once for each leaf that went in
+  grown : l.current + vec_len l.handed ≤ l.levels + vec_len l.initial.handed;
+  enough : vec_len l.handed * (l.levels + vec_len l.initial.handed + 1) ≤ vec_len l.spares;
+  capacity : vec_capacity l.handed ≡ vec_capacity l.initial.handed;
+}
+
+abbrev pub decreases-loop-leaf : goal.decreases-loop-leaf
+decreases-loop-leaf g l = vec_len l.handed

@@ -1,0 +1,28 @@
+use Rattle.std.proofs.Common.{◌≡◌, ◌+◌, ◌≤◌, ◌∷◌, [], subst, arith, vec_len}
+use Rattle.std.specs.List.{AllByRecursion}
+use Rattle.std.proofs.lemmas.List.Sorted.{IsPermutation-trans}
+use Rattle.rstar.specs.Heights.{spare_lists}
+use Rattle.rstar.specs.Kept.{IsSpare}
+use Rattle.rstar_base.proofs.Lists.{all-append, all_second}
+use Rattle.rstar.proofs.Reinsertion.{enough_again}
+use Rattle.rstar.proofs.algorithm.rstar.reinsertion.insert_with_reinsertion.Goals as goal
+
+pub insert_again-grown-requires-clause-enough : goal.insert_again-grown-requires-clause-enough
+insert_again-grown-requires-clause-enough g c =
+    let len : vec_len c.args.spares.now ≡ vec_len c.pop.new.self + 1 = omega (arith, c.in-Some.ensures.len) in
+    enough_again g.Params.RTreeParams.REINSERTION_COUNT c.args.levels (vec_len c.insert_first.new.handed) (vec_len c.pop.new.self) (omega arith) c.insert_first.ensures.count
+    (subst (λ n. spare_lists g.Params.RTreeParams.REINSERTION_COUNT (1 + c.args.levels) ≤ n) len c.requires.enough)
+
+pub returns-then-len-capacity-clause-bag : goal.returns-then-len-capacity-clause-bag
+returns-then-len-capacity-clause-bag g c = IsPermutation-trans _ _ _ c.insert_first.ensures.bag c.insert_again-grown.ensures.bag
+
+pub returns-else-len-capacity-clause-bag : goal.returns-else-len-capacity-clause-bag
+returns-else-len-capacity-clause-bag g c = IsPermutation-trans _ _ _ c.insert_first.ensures.bag c.insert_again-grown.ensures.bag
+
+pub returns-then-len-capacity-clause-spares : goal.returns-then-len-capacity-clause-spares
+returns-then-len-capacity-clause-spares g c =
+    let spare = (all_second (IsSpare c.args.widest) c.pop.new.self.items (c.in-Some.handed ∷ []) (subst (AllByRecursion (IsSpare c.args.widest)) c.in-Some.ensures.items c.requires.spares)).0 in
+    let first = c.insert_first.ensures.capacity in
+    let again = c.insert_again-grown.ensures.capacity in
+    rw c.push_reserved.ensures.items (all-append (IsSpare c.args.widest) c.insert_again-grown.new.spares.items (c.insert_again-grown.new.handed ∷ []) c.insert_again-grown.ensures.spares
+    ((c.insert_again-grown.ensures.none, omega (arith, spare.1, first, again)), tt))

@@ -1,0 +1,103 @@
+-- The inside of a walk: the slices of nodes that are still to be read, and one step.
+use Rattle.std.specs.Prelude.{◌≡◌, ◌≢◌, ℕ, zero, suc, ◌+◌, ◌≤◌, ◌<◌, min, Bool, List, [], ◌∷◌, ◌++◌, map, ⊤}
+use Rattle.std.specs.List.{AllByRecursion}
+use Rattle.std.specs.Borrow.{Bor}
+use Rattle.rstar.specs.declared.node.RTreeNode.{RTreeNode}
+use Rattle.rstar.specs.declared.node.ParentNode.{ParentNode}
+use Rattle.rstar.specs.declared.iterators.SelectionIterator.{SelectionIterator}
+use Rattle.rstar.specs.declared.iterators.Step.{Step}
+use Rattle.rstar.specs.declared.iterators.Step.TheVariants.{Found, Passed, Ended}
+use Rattle.rstar.specs.Nodes.{total, fold_tree, all_given, all_reach, reach_of, children_of, IsTree}
+
+-- the greatest count that a `usize` holds
+abbrev pub usize_max : ℕ
+usize_max = 18446744073709551615
+
+-- ---- slices, the last of them read first
+
+-- what is given from them
+abbrev pub given_from_slices : {T E P S X : Type 0}
+    → (E → Bool) → (T → Bool) → List (Bor (List (RTreeNode T E P S X))) → List T
+given_from_slices accepts selects [] = []
+given_from_slices accepts selects (nodes ∷ slices) =
+    given_from_slices accepts selects slices ++ all_given accepts selects nodes.now
+
+-- how many parents are opened from there
+abbrev pub reach_from_slices : {T E P S X : Type 0} → (E → Bool) → List (Bor (List (RTreeNode T E P S X))) → ℕ
+reach_from_slices accepts [] = 0
+reach_from_slices accepts (nodes ∷ slices) = reach_from_slices accepts slices + all_reach accepts nodes.now
+
+-- all leaves lie this many levels below the node, and no parent is without children
+abbrev pub IsLevel : {T E P S X : Type 0} → ℕ → RTreeNode T E P S X → Type 0
+IsLevel h n = IsTree (λ p. children_of p ≢ []) (λ t. ⊤) h n
+
+-- each slice holds nodes one level below those of the slice before it, from level h - 1 on
+abbrev pub AreSlices : {T E P S X : Type 0} → ℕ → List (Bor (List (RTreeNode T E P S X))) → Type 0
+AreSlices h [] = ⊤
+AreSlices zero (nodes ∷ slices) = ⊥
+AreSlices (suc h) (nodes ∷ slices) = AllByRecursion (IsLevel h) nodes.now × AreSlices h slices
+
+-- slices with room for all above the last; the parents opened and those still to be opened are all that are reached from
+-- the root
+pub record IsUnderWay {T E P S X : Type 0} (accepts : E → Bool) (root : ParentNode T E P S X)
+    (slices : List (Bor (List (RTreeNode T E P S X)))) (room opened : ℕ) : Type 0 where
+  pub height : ℕ
+  pub fits : height ≤ room + 1
+  pub levels : AreSlices height slices
+  pub count : ℕ
+  pub counted : opened ≡ min count usize_max
+  pub all : count + reach_from_slices accepts slices ≡ reach_of accepts root
+
+-- ---- the slices of an iterator
+
+-- those that are not read to their end, the one that is being read last
+abbrev pub slices_of : {T F E P S X : Type 0}
+    → SelectionIterator T F E P S X → List (Bor (List (RTreeNode T E P S X)))
+slices_of it = it.path.items ++ it.nodes ∷ []
+
+-- what they give, and that they are on their way
+abbrev pub given_by : {T F E P S X : Type 0}
+    → (F → E → Bool) → (F → T → Bool) → SelectionIterator T F E P S X → List T
+given_by accepts selects it = given_from_slices (accepts it.func) (selects it.func) (slices_of it)
+
+abbrev pub HasItsWay : {T F E P S X : Type 0} → (F → E → Bool) → SelectionIterator T F E P S X → Type 0
+HasItsWay accepts it = IsUnderWay (accepts it.func) it.root.now (slices_of it) it.path.capacity it.opened
+
+-- ---- steps
+
+-- how many steps a node takes: a leaf one, a parent two and its children's
+unfoldable pub steps : {T E P S X : Type 0} → RTreeNode T E P S X → ℕ
+steps n = fold_tree (λ t. 1) (λ e below. 2 + total below) n
+
+-- how many steps slices take, each one more for its end
+abbrev pub steps_of : {T E P S X : Type 0} → List (Bor (List (RTreeNode T E P S X))) → ℕ
+steps_of [] = 0
+steps_of (nodes ∷ slices) = steps_of slices + (1 + total (map steps nodes.now))
+
+-- what a step did to the elements that are to come
+abbrev pub IsGiven : {T : Type 0} → List T → Step T → List T → Type 0
+IsGiven old (Found t) new = old ≡ t.now ∷ new
+IsGiven old Passed new = old ≡ new
+IsGiven old Ended new = (old ≡ []) × (new ≡ [])
+
+-- what it did to the steps that are to come
+abbrev pub IsNearer : {T : Type 0} → ℕ → Step T → ℕ → Type 0
+IsNearer old (Found t) new = Unit {0}
+IsNearer old Passed new = new < old
+IsNearer old Ended new = Unit {0}
+
+-- at the end no parent is left to open
+abbrev pub IsOver : {T : Type 0} → Step T → ℕ → Type 0
+IsOver (Found t) left = Unit {0}
+IsOver Passed left = Unit {0}
+IsOver Ended left = left ≡ 0
+
+-- a step keeps the walk, its root and its question, and goes on
+pub record IsStep {T F E P S X : Type 0} (accepts : F → E → Bool) (selects : F → T → Bool)
+    (old : SelectionIterator T F E P S X) (r : Step T) (new : SelectionIterator T F E P S X) : Type 0 where
+  pub walking : HasItsWay accepts new
+  pub root : new.root.now ≡ old.root.now
+  pub question : new.func ≡ old.func
+  pub given : IsGiven (given_by accepts selects old) r (given_by accepts selects new)
+  pub nearer : IsNearer (steps_of (slices_of old)) r (steps_of (slices_of new))
+  pub over : IsOver r (reach_from_slices (accepts new.func) (slices_of new))

@@ -1,0 +1,229 @@
+//! Forced reinsertion: a lowest parent that has too many children hands some out, and they go in again from the root. All
+//! memory was prepared: nothing here takes any, and nothing can fail.
+
+ghost use Rattle.std.specs.Prelude.{◌≡◌, ◌+◌, ◌*◌, ◌<◌, ◌≤◌, [], ◌∷◌, ◌++◌, false, length, vec_len, vec_capacity, None};
+ghost use Rattle.std.specs.List.{AllByRecursion};
+ghost use Rattle.std.specs.List.Sorted.{IsPermutation};
+ghost use Rattle.rstar_base.specs.Hulls.{hull};
+ghost use Rattle.rstar.specs.declared.node.RTreeNode.{Leaf};
+ghost use Rattle.rstar.specs.Heights.{spare_lists};
+ghost use Rattle.rstar.specs.Nodes.{node_box, all_elements};
+ghost use Rattle.rstar.specs.Shapes.{AreTrees, IsAny, HasSize};
+ghost use Rattle.rstar.specs.Kept.{IsRoomy, IsSpare, IsKept, IsFit, AreKept, IsKeptTree, IsSizedAfter};
+
+use crate::algorithm::rstar::choose::choose_subtree;
+use crate::algorithm::rstar::insertion::insert_at_root;
+use crate::algorithm::rstar::split::cut_at;
+use crate::node::{ParentNode, RTreeNode, envelope_for_children};
+use rstar_base::envelope::Envelope;
+use rstar_base::object::{Distance, PointDistance, PointOf, RTreeObject};
+use rstar_base::params::RTreeParams;
+use std::cmp::Ordering;
+
+/// The squared distance from an element's centre to a point.
+fn centre_distance<T: RTreeObject>(t: &T, point: &PointOf<T>) -> Distance<T> {
+    t.envelope().center().distance_2(point)
+}
+
+/// How two elements compare by the distance from their centres to a point.
+fn compare_centres<T: RTreeObject>(point: &PointOf<T>, a: &T, b: &T) -> Ordering {
+    centre_distance(a, point).cmp(&centre_distance(b, point))
+}
+
+/// Puts the elements in an order that rises by the distance from their centres to a point. It takes no memory.
+fn sort_by_distance<T: RTreeObject>(list: &mut [T], point: &PointOf<T>)
+    ensures { IsPermutation list.old list.new }
+{
+    list.sort_unstable_by(|a: &T, b: &T| -> Ordering { compare_centres(point, a, b) });
+}
+
+/// Hands out the `REINSERTION_COUNT` children whose centres lie farthest from the node's centre, the farthest one last.
+fn hand_out<T: RTreeObject, Params: RTreeParams>(
+    node: &mut ParentNode<T>,
+    handed: &mut Vec<RTreeNode<T>>,
+)
+    requires many { Params.MAX_SIZE < vec_len node.old.children }
+    requires none { handed.old.items ≡ [] }
+    requires room { Params.REINSERTION_COUNT ≤ vec_capacity handed.old }
+    ensures same { IsPermutation node.old.children.items (node.new.children.items ++ handed.new.items) }
+    ensures merged { node.new.envelope ≡ hull T.Envelope.boxes (node_box T.object.box_of) node.new.children.items }
+    ensures count { vec_len handed.new ≡ Params.REINSERTION_COUNT }
+    ensures lengths { vec_len node.new.children + Params.REINSERTION_COUNT ≡ vec_len node.old.children }
+    ensures capacity { vec_capacity node.new.children ≡ vec_capacity node.old.children }
+    ensures handed_capacity { vec_capacity handed.old ≤ vec_capacity handed.new }
+{
+    let centre = node.envelope.center();
+    sort_by_distance(&mut node.children, &centre);
+    let kept = node.children.len() - Params::REINSERTION_COUNT;
+    cut_at(&mut node.children, kept, handed);
+    node.envelope = envelope_for_children(&node.children);
+}
+
+/// Adds a leaf that the node's envelope covers already. An overflow hands children out.
+fn add_leaf<T: RTreeObject, Params: RTreeParams>(
+    node: &mut ParentNode<T>,
+    t: T,
+    widest: usize,
+    handed: &mut Vec<RTreeNode<T>>,
+)
+    requires covered { node.old.envelope ≡ hull T.Envelope.boxes (node_box T.object.box_of) (node.old.children.items ++ Leaf t ∷ []) }
+    requires roomy { IsRoomy Params.MAX_SIZE widest node.old }
+    requires wide { Params.MAX_SIZE ≤ widest }
+    requires reinserts { 0 < Params.REINSERTION_COUNT }
+    requires spare { IsSpare widest handed.old }
+    ensures same { IsPermutation (node.old.children.items ++ Leaf t ∷ []) (node.new.children.items ++ handed.new.items) }
+    ensures fit { IsFit T.Envelope.boxes T.object Params.MAX_SIZE widest node.new }
+    ensures count { vec_len handed.new ≤ Params.REINSERTION_COUNT }
+    ensures least { Params.MIN_SIZE ≤ vec_len node.old.children → Params.MIN_SIZE ≤ vec_len node.new.children }
+    ensures most { vec_len node.old.children ≤ Params.MAX_SIZE → vec_len node.new.children ≤ Params.MAX_SIZE }
+    ensures capacity { vec_capacity handed.old ≤ vec_capacity handed.new }
+{
+    let Ok(()) = node.children.push(RTreeNode::Leaf(t)) else {
+        unreachable!()
+    };
+    if Params::MAX_SIZE < node.children.len() {
+        hand_out::<T, Params>(node, handed);
+    }
+}
+
+/// Inserts an element below the node, whose children are trees of `levels` levels of parents, and splits none: where the
+/// lowest parent has too many children then, it hands some out.
+#[cycle(first)]
+fn insert_first<T: RTreeObject, Params: RTreeParams>(
+    node: &mut ParentNode<T>,
+    t: T,
+    levels: usize,
+    widest: usize,
+    handed: &mut Vec<RTreeNode<T>>,
+)
+    requires node { IsKept T.Envelope.boxes T.object Params.MAX_SIZE widest node.old }
+    requires below { AreKept T.Envelope.boxes T.object Params.MAX_SIZE widest levels node.old.children.items }
+    requires some { 0 < levels → 0 < vec_len node.old.children }
+    requires element { T.Envelope.boxes.is_empty (T.object.box_of t) ≡ false }
+    requires wide { Params.MAX_SIZE ≤ widest }
+    requires reinserts { 0 < Params.REINSERTION_COUNT }
+    requires spare { IsSpare widest handed.old }
+    ensures bag { IsPermutation (t ∷ all_elements node.old.children.items) (all_elements node.new.children.items ++ all_elements handed.new.items) }
+    ensures kept { IsKeptTree T.Envelope.boxes T.object Params.MAX_SIZE widest levels node.new }
+    ensures leaves { AreKept T.Envelope.boxes T.object Params.MAX_SIZE widest 0 handed.new.items }
+    ensures count { vec_len handed.new ≤ Params.REINSERTION_COUNT }
+    ensures sized { AreTrees (HasSize Params.MIN_SIZE Params.MAX_SIZE) IsAny levels node.old.children.items → vec_len node.old.children ≤ Params.MAX_SIZE
+        → IsSizedAfter Params.MIN_SIZE Params.MAX_SIZE levels (vec_len node.old.children) node.new None }
+    ensures capacity { vec_capacity handed.old ≤ vec_capacity handed.new }
+{
+    let envelope = t.envelope();
+    node.envelope.merge(&envelope);
+    if levels == 0 {
+        add_leaf::<T, Params>(node, t, widest, handed);
+        return;
+    }
+    let index = choose_subtree(&node.children, &envelope, levels == 1);
+    insert_first_in_child::<T, Params>(&mut node.children, index, t, levels, widest, handed);
+    if !handed.is_empty() {
+        node.envelope = envelope_for_children(&node.children);
+    }
+}
+
+/// Inserts an element into one of some trees of `levels` levels of parents, and splits none.
+#[cycle(first)]
+fn insert_first_in_child<T: RTreeObject, Params: RTreeParams>(
+    children: &mut Vec<RTreeNode<T>>,
+    index: usize,
+    t: T,
+    levels: usize,
+    widest: usize,
+    handed: &mut Vec<RTreeNode<T>>,
+)
+    requires index { index < vec_len children.old }
+    requires above { 0 < levels }
+    requires below { AreKept T.Envelope.boxes T.object Params.MAX_SIZE widest levels children.old.items }
+    requires element { T.Envelope.boxes.is_empty (T.object.box_of t) ≡ false }
+    requires wide { Params.MAX_SIZE ≤ widest }
+    requires reinserts { 0 < Params.REINSERTION_COUNT }
+    requires spare { IsSpare widest handed.old }
+    ensures bag { IsPermutation (t ∷ all_elements children.old.items) (all_elements children.new.items ++ all_elements handed.new.items) }
+    ensures below { AreKept T.Envelope.boxes T.object Params.MAX_SIZE widest levels children.new.items }
+    ensures leaves { AreKept T.Envelope.boxes T.object Params.MAX_SIZE widest 0 handed.new.items }
+    ensures count { vec_len handed.new ≤ Params.REINSERTION_COUNT }
+    ensures sized { AreTrees (HasSize Params.MIN_SIZE Params.MAX_SIZE) IsAny levels children.old.items → AreTrees (HasSize Params.MIN_SIZE Params.MAX_SIZE) IsAny levels children.new.items }
+    ensures length { vec_len children.new ≡ vec_len children.old }
+    ensures capacity { vec_capacity children.new ≡ vec_capacity children.old }
+    ensures handed_capacity { vec_capacity handed.old ≤ vec_capacity handed.new }
+{
+    match &mut children[index] {
+        RTreeNode::Parent(child) => {
+            insert_first::<T, Params>(child, t, levels - 1, widest, handed)
+        }
+        RTreeNode::Leaf(_) => unreachable!(),
+    }
+}
+
+/// Inserts each leaf of a list from the root, whose children are trees of `levels` levels of parents: the last leaf first.
+/// The list is empty then. The answer is the number of levels afterwards.
+fn insert_again<T: RTreeObject, Params: RTreeParams>(
+    root: &mut ParentNode<T>,
+    handed: &mut Vec<RTreeNode<T>>,
+    levels: usize,
+    widest: usize,
+    spares: &mut Vec<Vec<RTreeNode<T>>>,
+) -> usize
+    requires root { IsKeptTree T.Envelope.boxes T.object Params.MAX_SIZE widest levels root.old }
+    requires leaves { AreKept T.Envelope.boxes T.object Params.MAX_SIZE widest 0 handed.old.items }
+    requires wide { Params.MAX_SIZE ≤ widest }
+    requires spares { AllByRecursion (IsSpare widest) spares.old.items }
+    requires enough { vec_len handed.old * (levels + vec_len handed.old + 1) ≤ vec_len spares.old }
+    ensures bag { IsPermutation (all_elements root.old.children.items ++ all_elements handed.old.items) (all_elements root.new.children.items) }
+    ensures kept { IsKeptTree T.Envelope.boxes T.object Params.MAX_SIZE widest result root.new }
+    ensures sized { AreTrees (HasSize Params.MIN_SIZE Params.MAX_SIZE) IsAny levels root.old.children.items → vec_len root.old.children ≤ Params.MAX_SIZE
+        → AreTrees (HasSize Params.MIN_SIZE Params.MAX_SIZE) IsAny result root.new.children.items × (vec_len root.new.children ≤ Params.MAX_SIZE) }
+    ensures spares { AllByRecursion (IsSpare widest) spares.new.items }
+    ensures none { handed.new.items ≡ [] }
+    ensures capacity { vec_capacity handed.new ≡ vec_capacity handed.old }
+{
+    let mut current = levels;
+    while let Some(leaf) = handed.pop() {
+        let RTreeNode::Leaf(t) = leaf else {
+            unreachable!()
+        };
+        current = insert_at_root::<T, Params>(root, t, current, widest, spares);
+    }
+    current
+}
+
+/// Inserts an element from the root, whose children are trees of `levels` levels of parents. With `REINSERTION_COUNT`
+/// above 0 the first overflow hands children of its parent out, which then go in again; every other overflow is split. The
+/// answer is the number of levels afterwards.
+pub(crate) fn insert_with_reinsertion<T: RTreeObject, Params: RTreeParams>(
+    root: &mut ParentNode<T>,
+    t: T,
+    levels: usize,
+    widest: usize,
+    spares: &mut Vec<Vec<RTreeNode<T>>>,
+) -> usize
+    requires root { IsKept T.Envelope.boxes T.object Params.MAX_SIZE widest root.old }
+    requires below { AreKept T.Envelope.boxes T.object Params.MAX_SIZE widest levels root.old.children.items }
+    requires some { 0 < levels → 0 < vec_len root.old.children }
+    requires element { T.Envelope.boxes.is_empty (T.object.box_of t) ≡ false }
+    requires wide { Params.MAX_SIZE ≤ widest }
+    requires spares { AllByRecursion (IsSpare widest) spares.old.items }
+    requires enough { spare_lists Params.REINSERTION_COUNT (1 + levels) ≤ vec_len spares.old }
+    ensures bag { IsPermutation (t ∷ all_elements root.old.children.items) (all_elements root.new.children.items) }
+    ensures kept { IsKeptTree T.Envelope.boxes T.object Params.MAX_SIZE widest result root.new }
+    ensures sized { AreTrees (HasSize Params.MIN_SIZE Params.MAX_SIZE) IsAny levels root.old.children.items → vec_len root.old.children ≤ Params.MAX_SIZE
+        → AreTrees (HasSize Params.MIN_SIZE Params.MAX_SIZE) IsAny result root.new.children.items × (vec_len root.new.children ≤ Params.MAX_SIZE) }
+    ensures spares { AllByRecursion (IsSpare widest) spares.new.items }
+{
+    if Params::REINSERTION_COUNT == 0 {
+        return insert_at_root::<T, Params>(root, t, levels, widest, spares);
+    }
+    let Some(mut handed) = spares.pop() else {
+        unreachable!()
+    };
+    insert_first::<T, Params>(root, t, levels, widest, &mut handed);
+    let grown = insert_again::<T, Params>(root, &mut handed, levels, widest, spares);
+    // The list that is empty again goes back to its place, which is still there.
+    if spares.len() < spares.capacity() {
+        spares.push_reserved(handed);
+    }
+    grown
+}

@@ -1,0 +1,160 @@
+//! Paths of walks: lists that lie in the value itself up to twelve items.
+
+ghost use Rattle.std.specs.Prelude.{◌≡◌, ◌<◌, ◌≤◌, [], ◌∷◌, ◌++◌, length, IsOk, IfOk, IfNone, IfSome, slice_set, slice_index_or};
+ghost use Rattle.rstar.specs.Paths.{near_items};
+
+use std::alloc::{AllocError, Global};
+use std::marker::Model;
+
+/// How many items lie in a path itself.
+const NEAR: usize = 12;
+
+/// Twelve places. They are fields and no array, since a function that is generic over what lies inline beside an array
+/// would have to bound its size.
+#[derive(Clone, Copy)]
+struct Near<X> {
+    p0: X,
+    p1: X,
+    p2: X,
+    p3: X,
+    p4: X,
+    p5: X,
+    p6: X,
+    p7: X,
+    p8: X,
+    p9: X,
+    p10: X,
+    p11: X,
+}
+
+impl<X: Copy> Near<X> {
+    /// The item at a place.
+    fn get(&self, place: usize) -> X
+        requires { place < 12 }
+        ensures { result ≡ slice_index_or (near_items self.now) place result }
+    {
+        match place {
+            0 => self.p0,
+            1 => self.p1,
+            2 => self.p2,
+            3 => self.p3,
+            4 => self.p4,
+            5 => self.p5,
+            6 => self.p6,
+            7 => self.p7,
+            8 => self.p8,
+            9 => self.p9,
+            10 => self.p10,
+            _ => self.p11,
+        }
+    }
+
+    /// Writes the item at a place.
+    fn set(&mut self, place: usize, item: X)
+        requires { place < 12 }
+        ensures { near_items self.new ≡ slice_set (near_items self.old) place item }
+    {
+        match place {
+            0 => self.p0 = item,
+            1 => self.p1 = item,
+            2 => self.p2 = item,
+            3 => self.p3 = item,
+            4 => self.p4 = item,
+            5 => self.p5 = item,
+            6 => self.p6 = item,
+            7 => self.p7 = item,
+            8 => self.p8 = item,
+            9 => self.p9 = item,
+            10 => self.p10 = item,
+            _ => self.p11 = item,
+        }
+    }
+}
+
+/// What a walk left on its way down, an item for each level, the lowest last.
+///
+/// Up to twelve items lie in the path itself, and only those of deeper ways in an allocation.
+#[derive(Drop)]
+pub(crate) struct Path<X> {
+    near: Near<X>,
+    len: usize,
+    far: Vec<X>,
+}
+
+impl<X> Model for Path<X> {
+    ghost use Rattle.std.specs.Prelude.{◌≡◌, ◌+◌, ◌<◌, ◌≤◌, [], ◌++◌, take, vec_capacity};
+    ghost use Rattle.rstar.specs.Paths.{Path as Items, path_code, near_items};
+
+    ghost Value = { Items X };
+
+    ghost coded = { path_code X.code };
+
+    ghost view = { λ p. record { items = take p.len (near_items p.near) ++ p.far.items; capacity = 12 + vec_capacity p.far } };
+
+    ghost invariant = { λ p. (p.len ≤ 12) × (p.len < 12 → p.far.items ≡ []) };
+}
+
+impl<X: Copy> Path<X> {
+    /// An empty path with room for so many items. Up to twelve take no memory.
+    pub(crate) fn with_room(alloc: Global, blank: X, room: usize) -> Result<Self, AllocError>
+        ensures empty { IfOk result (λ path. path.items ≡ []) }
+        ensures room { IfOk result (λ path. room ≤ path.capacity) }
+        ensures near { room ≤ 12 → IsOk result }
+    {
+        let far = if room > NEAR {
+            Vec::with_capacity(alloc, room - NEAR)?
+        } else {
+            Vec::new(alloc)
+        };
+        Ok(Path {
+            near: Near {
+                p0: blank,
+                p1: blank,
+                p2: blank,
+                p3: blank,
+                p4: blank,
+                p5: blank,
+                p6: blank,
+                p7: blank,
+                p8: blank,
+                p9: blank,
+                p10: blank,
+                p11: blank,
+            },
+            len: 0,
+            far,
+        })
+    }
+
+    /// Puts an item behind the others, for which there is room.
+    pub(crate) fn push_reserved(&mut self, item: X)
+        requires { length self.old.items < self.old.capacity }
+        ensures items { self.new.items ≡ self.old.items ++ item ∷ [] }
+        ensures capacity { self.new.capacity ≡ self.old.capacity }
+    {
+        if self.len < NEAR {
+            self.near.set(self.len, item);
+            self.len += 1;
+        } else {
+            self.far.push_reserved(item);
+        }
+    }
+
+    /// Takes the last item.
+    pub(crate) fn pop(&mut self) -> Option<X>
+        ensures some { IfSome result (λ item. self.old.items ≡ self.new.items ++ item ∷ []) }
+        ensures none { IfNone result ((self.old.items ≡ []) × (self.new.items ≡ [])) }
+        ensures capacity { self.new.capacity ≡ self.old.capacity }
+    {
+        if self.len == NEAR {
+            if let Some(item) = self.far.pop() {
+                return Some(item);
+            }
+        }
+        if self.len == 0 {
+            return None;
+        }
+        self.len -= 1;
+        Some(self.near.get(self.len))
+    }
+}
