@@ -45,7 +45,7 @@ impl RTreeParams for Huge {
 }
 
 /// For each child how many children it has, none for a leaf, and its envelope.
-fn outlines(
+pub(crate) fn outlines(
     alloc: Global,
     nodes: &[RTreeNode<[i32; 2]>],
 ) -> Result<Vec<(usize, AABB<[i32; 2]>)>, AllocError> {
@@ -74,7 +74,10 @@ pub(crate) fn along_a_line(alloc: Global) -> Result<RTree<[i32; 2]>, InsertError
     Ok(tree)
 }
 
-fn two_heaps(alloc: Global) -> Result<RTree<[i32; 2]>, InsertError<[i32; 2]>> {
+/// Seven points in two groups on a diagonal.
+pub(crate) fn two_heaps(alloc: Global) -> Result<RTree<[i32; 2]>, InsertError<[i32; 2]>>
+    ensures { IfOk result (λ tree. IsWholeTree ⟦<AABB<[i32; 2]> as Envelope>⟧.boxes ⟦<[i32; 2] as RTreeObject>⟧.object ⟦<DefaultParams as RTreeParams>⟧.MAX_SIZE tree) }
+{
     let mut tree = RTree::new(alloc);
     tree.insert([12, 12])?;
     tree.insert([0, 0])?;

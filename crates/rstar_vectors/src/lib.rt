@@ -14,4 +14,6 @@ pub mod interval;
 #[cfg(test)]
 mod points;
 #[cfg(test)]
+mod reinsertion;
+#[cfg(test)]
 mod selections;
