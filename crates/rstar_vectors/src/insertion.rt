@@ -45,7 +45,7 @@ impl RTreeParams for Huge {
 }
 
 /// For each child how many children it has, none for a leaf, and its envelope.
-fn outlines(
+pub(crate) fn outlines(
     alloc: Global,
     nodes: &[RTreeNode<[i32; 2]>],
 ) -> Result<Vec<(usize, AABB<[i32; 2]>)>, AllocError> {
@@ -128,6 +128,21 @@ pub(crate) const ALONG_A_LINE: [[i32; 2]; 7] = [
 
 const TWO_HEAPS: [[i32; 2]; 7] = [[12, 12], [0, 0], [10, 10], [2, 2], [11, 11], [3, 3], [1, 1]];
 
+// The two heaps, and four points between and beside them.
+const ELEVEN: [[i32; 2]; 11] = [
+    [12, 12],
+    [0, 0],
+    [10, 10],
+    [2, 2],
+    [11, 11],
+    [3, 3],
+    [1, 1],
+    [6, 6],
+    [8, 8],
+    [1, 2],
+    [2, 1],
+];
+
 const NINE: [[i32; 2]; 9] = [
     [0, 0],
     [0, 1],
@@ -200,11 +215,13 @@ type Outline = (usize, [i32; 2], [i32; 2]);
 // Points, inserted in turn, and for both children of the root: how many children, and the envelope.
 #[test]
 fn insertions_shape_the_tree(rt: HostRuntime) -> Result<(), Fail> {
-    let rows: [(&[[i32; 2]], Outline, Outline); 3] = [
+    let rows: [(&[[i32; 2]], Outline, Outline); 4] = [
         (&ALONG_A_LINE, (3, [0, 0], [2, 0]), (4, [100, 0], [103, 0])),
         (&TWO_HEAPS, (4, [0, 0], [3, 3]), (3, [10, 10], [12, 12])),
         // The ninth point goes where the overlap grows least.
         (&NINE, (5, [0, 0], [10, 2]), (4, [12, 0], [20, 10])),
+        // The farthest children go in again: `[0, 0]` and `[6, 6]` are handed out.
+        (&ELEVEN, (6, [0, 0], [3, 3]), (5, [6, 6], [12, 12])),
     ];
     for (points, one, other) in rows {
         let Ok(inserted) = Points::inserted(rt.alloc(), points) else {

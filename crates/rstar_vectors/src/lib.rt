@@ -13,4 +13,6 @@ pub mod interval;
 #[cfg(test)]
 mod points;
 #[cfg(test)]
+mod reinsertion;
+#[cfg(test)]
 mod selections;
