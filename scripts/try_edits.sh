@@ -3,10 +3,10 @@
 #
 #     scripts/try_edits.sh [NAME..]        JOBS=2 scripts/try_edits.sh rstar
 #
-# The gate tries those of must-fail/ alone; these are run when what they speak of changes. Each crate is proved first, over
-# what earlier checks kept in its out/. Then as many copies as there are processors (or JOBS) try the edits side by side,
-# each over its own copy of that work. An edit has the form of the gate's: a line `file: PATH`, then pairs of lines
-# `old: TEXT` and `new: TEXT`. The status is 1 where an edit was not refused.
+# The gate tries those of must-fail/ alone; these are run when what they speak of changes. Each crate is proved first,
+# over what earlier checks kept in its out/. Then as many copies as there are processors (or JOBS) try the edits side by
+# side, each over its own copy of that work. An edit has the form of the gate's: a line `file: PATH`, then pairs of
+# lines `old: TEXT` and `new: TEXT`. The status is 1 where an edit was not refused.
 set -euo pipefail
 shopt -s nullglob
 cd "$(dirname "$0")/.."
@@ -28,7 +28,7 @@ copy_for() {
   cp -a "crates/$name/out/incremental" "$to/crates/$name/out"
 }
 
-# Makes the replacements of the edit $1 in the folder at hand; fails with a reason where a text does not stand there once.
+# Makes the replacements of the edit $1 in the folder at hand; fails with a reason where a text does not stand once.
 apply() {
   local line file='' old='' new text rest
   while IFS= read -r line; do
@@ -62,7 +62,7 @@ verdict() {
     echo "NOT REFUSED"
   elif ! grep -q '^logic=not-proved' "$said"; then
     echo "NOT TRIED: $(grep -m 1 error "$said" || tail -1 "$said")"
-  elif [[ $errors ]] && { grep -qvE '^\S+ error: `' <<<"$errors" || sed 's/`[^`]*`//g' <<<"$errors" | grep -qE "$unread"; }; then
+  elif grep -qE "^\S+ error: [^\`]|$unread" <<<"$(sed 's/`[^`]*`/`/g' <<<"$errors")"; then
     echo "NOT TRIED: it does not read: $(head -1 <<<"$errors")"
   elif [[ $told ]] && ! grep -qvE "$names" <<<"$told"; then
     echo "BY NAMES ALONE: $(head -1 <<<"$told")"
