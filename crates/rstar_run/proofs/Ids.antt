@@ -1,11 +1,10 @@
--- The IDs that a box lists.
+-- The IDs of the rectangles that pass a test.
 use Rattle.std.proofs.Common.{◌≡◌, ◌∙◌, ◌∷◌, [], ℕ, ℤ, Bool, true, false, List, map, ap, refl, IsPermutation, subst}
 use Rattle.std.specs.Prelude.{cond, filter}
 use Rattle.std.specs.Ordering.{nat_cmp}
 use Rattle.std.specs.List.Sorted.{IsSortedByKey}
 use Rattle.std.proofs.lemmas.List.Sorted.{IsNonDecreasingBy-from_sort, IsPermutation-map}
-use Rattle.rstar.specs.Boxes.{contains_box}
-use Rattle.rstar_run.specs.Answers.{Lists, lies_in}
+use Rattle.rstar_run.specs.Answers.{Lists}
 
 -- what is passed and then shown is what is shown and then passed
 passed_by : {X Y : Type 0} (f : X → Y) (b : Bool) (x : X) (ys : List X) (zs : List Y) → map f ys ≡ zs → map f (cond b (x ∷ ys) ys) ≡ cond b (f x ∷ zs) zs
@@ -25,17 +24,17 @@ module _ {R : Type 0} (box : R × ℕ → List (ℤ × ℤ)) where
   same_ids [] = refl
   same_ids (r ∷ rs) = ap (λ ids. r.1 ∷ ids) (same_ids rs)
 
-  -- the IDs that were found, sorted
-  pub listed : (outer b : List (ℤ × ℤ)) (held : List (R × ℕ)) (old : List (List (ℤ × ℤ) × ℕ)) (found ids : List ℕ)
-      → outer ≡ b → map seen held ≡ old → found ≡ map (λ (r : R × ℕ). r.1) (filter (λ r. contains_box outer (box r)) held)
-      → IsPermutation found ids → IsSortedByKey (λ n. n) nat_cmp ids → Lists (lies_in b) old ids
-  listed outer b held old found ids o h f p s =
-      let same : found ≡ map (λ (r : List (ℤ × ℤ) × ℕ). r.1) (filter (lies_in b) old)
-      = f ∙ ap (λ (x : List (ℤ × ℤ)). map (λ (r : R × ℕ). r.1) (filter (λ r. contains_box x (box r)) held)) o
-      ∙ same_ids (filter (λ r. lies_in b (seen r)) held)
-      ∙ ap (map (λ (r : List (ℤ × ℤ) × ℕ). r.1)) (map-passed seen (lies_in b) held)
-      ∙ ap (λ (rs : List (List (ℤ × ℤ) × ℕ)). map (λ (r : List (ℤ × ℤ) × ℕ). r.1) (filter (lies_in b) rs)) h in
-      record { just_those = subst (λ (xs : List ℕ). IsPermutation xs ids) same p; ascending = IsNonDecreasingBy-from_sort (λ n. n) ids s }
+  -- the IDs of those that were found by any test, sorted
+  pub listed : (test shown : List (ℤ × ℤ) × ℕ → Bool) (held : List (R × ℕ)) (old : List (List (ℤ × ℤ) × ℕ)) (found ids : List ℕ)
+      → test ≡ shown → map seen held ≡ old → found ≡ map (λ (r : R × ℕ). r.1) (filter (λ r. test (seen r)) held)
+      → IsPermutation found ids → IsSortedByKey (λ n. n) nat_cmp ids → Lists shown old ids
+  listed test shown held old found ids e h f p s =
+      let same : found ≡ map (λ (r : List (ℤ × ℤ) × ℕ). r.1) (filter test old)
+      = f ∙ same_ids (filter (λ r. test (seen r)) held)
+      ∙ ap (map (λ (r : List (ℤ × ℤ) × ℕ). r.1)) (map-passed seen test held)
+      ∙ ap (λ (rs : List (List (ℤ × ℤ) × ℕ)). map (λ (r : List (ℤ × ℤ) × ℕ). r.1) (filter test rs)) h in
+      subst (λ (t : List (ℤ × ℤ) × ℕ → Bool). Lists t old ids) e
+      (record { just_those = subst (λ (xs : List ℕ). IsPermutation xs ids) same p; ascending = IsNonDecreasingBy-from_sort (λ n. n) ids s })
 
   -- what is added is seen as its box and its ID
   pub added_seen : (r : R × ℕ) (held new : List (R × ℕ)) (b : List (ℤ × ℤ)) (id : ℕ) (old : List (List (ℤ × ℤ) × ℕ))

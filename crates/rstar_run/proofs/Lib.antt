@@ -3,4 +3,6 @@ pub mod Pieces
 pub mod Commands
 pub mod Selections
 pub mod Ids
-pub mod Ends
+pub mod Prints
+pub mod Reading
+pub mod Runs

@@ -3,3 +3,7 @@ pub mod Words
 pub mod Grammar
 pub mod Answers
 pub mod Statuses
+pub mod Texts
+pub mod Prints
+pub mod Lines
+pub mod Runs

@@ -1,5 +1,5 @@
 -- How a run ended, as a status.
-use Rattle.std.specs.Prelude.{◌≡◌, ℕ, Result, Ok, Err}
+use Rattle.std.specs.Prelude.{ℕ, Result, Ok, Err}
 use Rattle.rstar_run.specs.declared.program.Stop.{Stop}
 use Rattle.rstar_run.specs.declared.program.Stop.TheVariants.{Line, Memory, Input, Output}
 
@@ -10,7 +10,3 @@ status_of (Err (Line _)) = 2
 status_of (Err Memory) = 3
 status_of (Err Input) = 4
 status_of (Err Output) = 4
-
--- the status of some end
-abbrev pub IsStatus : ℕ → Type 0
-IsStatus n = (ended : Result (Unit {0}) Stop) × (n ≡ status_of ended)

@@ -1,13 +1,15 @@
 //! Answers, and their text.
 
-ghost use Rattle.std.specs.Prelude.{◌≡◌, IfOk, IfErr};
+ghost use Rattle.std.specs.Prelude.{◌≡◌, ◌++◌, codes, IfOk, IfErr, OnOk};
 ghost use Rattle.rstar_run.specs.Answers.{Answers};
+ghost use Rattle.rstar_run.specs.Prints.{AppendsFront, Prints};
+ghost use Rattle.rstar_run.specs.Texts.{list_text, text_of};
 
 use super::command::Command;
+use super::print::Printer;
 use super::program::Stop;
 use super::store::Store;
 use std::alloc::Global;
-use std::io;
 use std::io::Write;
 
 /// What a command answers.
@@ -33,20 +35,45 @@ pub fn answer(alloc: Global, store: &mut Store, command: &Command) -> Result<Rep
     }
 }
 
-/// Writes the line of an answer: a list with single spaces, `-` where it is empty.
-pub fn write_reply<W: Write>(output: &mut W, reply: &Reply) -> io::Result<()> {
+/// Prints the line of an answer.
+pub fn print_reply<W: Write>(
+    printer: &mut Printer,
+    output: &mut W,
+    reply: &Reply,
+) -> Result<(), Stop>
+    ensures all { OnOk result (Prints (W.contents output.old) (W.contents output.new)
+        printer.old.held.items (text_of reply.now) printer.new.held.items) }
+    ensures front { AppendsFront (W.contents output.old) (W.contents output.new)
+        (printer.old.held.items ++ text_of reply.now) }
+    ensures stop { IfErr result (λ stop. stop ≡ Stop.Output) }
+{
     match reply {
-        Reply::Done => output.write_all(b"ok\n"),
-        Reply::Size(size) => writeln!(output, "{size}"),
-        Reply::Ids(ids) => match ids.as_slice() {
-            [] => output.write_all(b"-\n"),
-            [first, rest @ ..] => {
-                write!(output, "{first}")?;
-                for id in rest {
-                    write!(output, " {id}")?;
-                }
-                output.write_all(b"\n")
+        Reply::Done => printer.put(output, b"ok\n"),
+        Reply::Size(size) => {
+            printer.put_number(output, *size as u64)?;
+            printer.put(output, b"\n")
+        }
+        Reply::Ids(ids) => print_list(printer, output, ids.as_slice()),
+    }
+}
+
+/// Prints a line of numbers with single spaces, `-` where there is none.
+fn print_list<W: Write>(printer: &mut Printer, output: &mut W, numbers: &[u64]) -> Result<(), Stop>
+    ensures all { OnOk result (Prints (W.contents output.old) (W.contents output.new)
+        printer.old.held.items (list_text numbers.now ++ codes "\n") printer.new.held.items) }
+    ensures front { AppendsFront (W.contents output.old) (W.contents output.new)
+        (printer.old.held.items ++ (list_text numbers.now ++ codes "\n")) }
+    ensures stop { IfErr result (λ stop. stop ≡ Stop.Output) }
+{
+    match numbers {
+        [] => printer.put(output, b"-\n"),
+        [first, rest @ ..] => {
+            printer.put_number(output, *first)?;
+            for number in rest {
+                printer.put(output, b" ")?;
+                printer.put_number(output, *number)?;
             }
-        },
+            printer.put(output, b"\n")
+        }
     }
 }

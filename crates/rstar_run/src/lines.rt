@@ -1,6 +1,8 @@
 //! The lines of an input.
 
-ghost use Rattle.std.specs.Prelude.{◌≡◌};
+ghost use Rattle.std.specs.Prelude.{◌≡◌, ◌+◌, ◌⊎◌, Ok, true, false, IfOk, IfErr};
+ghost use Rattle.std.specs.Io.KnownBytes.{IsAtEnd};
+ghost use Rattle.rstar_run.specs.Lines.{bytes_left, TakesLine};
 ghost use Rattle.rstar_run.specs.Words.{without_end};
 
 use super::program::Stop;
@@ -8,64 +10,87 @@ use super::words::without_end;
 use memchr::memchr;
 use std::alloc::Global;
 use std::io;
-use std::io::{BufRead, BufReader, Error, ErrorKind, Read, Write};
+use std::io::{BufRead, BufReader, Error, ErrorKind, Read};
 
-/// Reads lines into one buffer.
+/// Reads as `R` does, but that no failed read looks like a refused allocation.
 #[derive(Drop)]
-pub struct Lines<R> {
-    reader: BufReader<R>,
-    line: Vec<u8>,
+pub struct Source<R>(R);
+
+impl<R: Read> Read for Source<R> {
+    ghost remaining = { λ source. R.remaining source.0 };
+
+    fn read(&mut self, buf: &mut [u8]) -> io::Result<usize> {
+        match self.0.read(buf) {
+            Ok(count) => Ok(count),
+            Err(e) => match e.kind() {
+                ErrorKind::OutOfMemory => Err(Error::from(ErrorKind::Other)),
+                _ => Err(e),
+            },
+        }
+    }
 }
 
-fn input_stop(e: Error) -> Stop {
+/// Reads lines into one buffer, and counts them.
+#[derive(Drop)]
+pub struct Lines<R> {
+    reader: BufReader<Source<R>>,
+    line: Vec<u8>,
+    number: u64,
+}
+
+/// Why a line could not be read. Out of memory is the buffer for the line alone.
+fn input_stop(e: Error) -> Stop
+    ensures { (result ≡ Stop.Memory) ⊎ (result ≡ Stop.Input) }
+{
     match e.kind() {
         ErrorKind::OutOfMemory => Stop::Memory,
         _ => Stop::Input,
     }
 }
 
-/// Takes what is there of a line. True at its end, or that of the input.
-fn take_part<B: BufRead>(reader: &mut B, line: &mut Vec<u8>) -> Result<bool, Stop> {
-    let held = match reader.fill_buf() {
-        Ok(held) => held,
-        Err(e) => {
-            return match e.kind() {
-                ErrorKind::Interrupted => Ok(false),
-                _ => Err(input_stop(e)),
-            };
-        }
-    };
-    let (part, is_end) = match memchr(b'\n', held) {
-        Some(at) => (&held[..at + 1], true),
-        None => (held, held.is_empty()),
-    };
-    let count = part.len();
-    line.extend_from_slice(part)?;
-    reader.consume(count);
-    Ok(is_end)
-}
-
 impl<R: Read + Drop> Lines<R> {
-    pub fn new(alloc: Global, input: R) -> io::Result<Lines<R>> {
-        Ok(Lines {
-            reader: BufReader::new(alloc, input)?,
-            line: Vec::new(alloc),
-        })
+    /// No line is read yet.
+    pub fn new(alloc: Global, input: R) -> Result<Lines<R>, Stop>
+        ensures left { IfOk result (λ lines. bytes_left R.remaining lines ≡ R.remaining input) }
+        ensures number { IfOk result (λ lines. lines.number ≡ 0) }
+        ensures stop { IfErr result (λ stop. stop ≡ Stop.Memory) }
+    {
+        match BufReader::new(alloc, Source(input)) {
+            Ok(reader) => Ok(Lines {
+                reader,
+                line: Vec::new(alloc),
+                number: 0,
+            }),
+            Err(_) => Err(Stop::Memory),
+        }
     }
 
-    /// Reads the next line. False at the end of the input. Whenever it has to wait for more input,
-    /// what was written is flushed first.
-    pub fn advance<W: Write>(&mut self, output: &mut W) -> Result<bool, Stop> {
+    /// Whether the next line is there to its end, so that no read has to wait for it.
+    pub fn has_next(&self) -> bool {
+        memchr(b'\n', self.reader.buffer()).is_some()
+    }
+
+    /// Reads the next line. False at the end of the input.
+    pub fn advance(&mut self) -> Result<bool, Stop>
+        ensures line { result ≡ Ok true → TakesLine (bytes_left R.remaining self.old)
+            (bytes_left R.remaining self.new) self.new.line.items }
+        ensures number { result ≡ Ok true → self.new.number ≡ self.old.number + 1 }
+        ensures end { result ≡ Ok false → IsAtEnd (bytes_left R.remaining self.old) }
+        ensures stop { IfErr result (λ stop. (stop ≡ Stop.Memory) ⊎ (stop ≡ Stop.Input)) }
+    {
         self.line.clear();
-        for _ in 0..u64::MAX {
-            if self.reader.buffer().is_empty() && output.flush().is_err() {
-                return Err(Stop::Output);
-            }
-            if take_part(&mut self.reader, &mut self.line)? {
-                break;
-            }
+        match self.reader.read_until(b'\n', &mut self.line) {
+            Ok(0) => Ok(false),
+            Ok(_) => match self.number.checked_add(1) {
+                Some(number) => {
+                    self.number = number;
+                    Ok(true)
+                }
+                // More lines than can be numbered.
+                None => Err(Stop::Input),
+            },
+            Err(e) => Err(input_stop(e)),
         }
-        Ok(!self.line.is_empty())
     }
 
     /// The line that was read last, without its end.
@@ -73,5 +98,12 @@ impl<R: Read + Drop> Lines<R> {
         ensures { result.now ≡ without_end self.now.line.items }
     {
         without_end(&self.line)
+    }
+
+    /// How many lines were read, blank ones too.
+    pub fn number(&self) -> u64
+        ensures { result ≡ self.now.number }
+    {
+        self.number
     }
 }

@@ -5,6 +5,7 @@ mod answers;
 mod command;
 mod lines;
 mod number;
+mod print;
 mod program;
 mod store;
 #[cfg(test)]
@@ -15,5 +16,6 @@ use std::io;
 use std::process::ExitCode;
 
 fn main(rt: HostRuntime) -> ExitCode {
-    ExitCode::from(program::run(rt.alloc(), rt.reader(), io::writer(&rt)))
+    let mut output = io::writer(&rt);
+    ExitCode::from(program::run(rt.alloc(), rt.reader(), &mut output))
 }

@@ -1,16 +1,22 @@
 //! Lines in, lines out.
 
-ghost use Rattle.std.specs.Prelude.{◌≡◌, ◌⊎◌};
-ghost use Rattle.rstar_run.specs.Statuses.{status_of, IsStatus};
+ghost use Rattle.std.specs.Prelude.{◌≡◌, ◌+◌, ◌++◌, ℕ, List, [], Ok, Err, true, IsErr, OnOk, IfErr};
+ghost use Rattle.std.specs.Io.KnownBytes.{Appends, Keeps};
+ghost use Rattle.rstar_run.specs.Lines.{bytes_left};
+ghost use Rattle.rstar_run.specs.Prints.{AppendsFront, Prints, Printed};
+ghost use Rattle.rstar_run.specs.Runs.{Turn, Run, Ran};
+ghost use Rattle.rstar_run.specs.Statuses.{status_of};
+ghost use Rattle.rstar_run.specs.Texts.{end_text, stop_text};
 ghost use Rattle.rstar_run.specs.declared.program.Stop.TheVariants.{Memory};
 
-use super::answers::{answer, write_reply};
+use super::answers::{answer, print_reply};
 use super::command::{Line, parse_line};
 use super::lines::Lines;
+use super::print::Printer;
 use super::store::Store;
 use rstar::InsertError;
 use std::alloc::{AllocError, Global};
-use std::io::{BufWriter, Read, Write};
+use std::io::{Read, Write};
 
 /// Why a run ends before its input does.
 #[derive(Clone, Copy, Debug, PartialEq, Eq)]
@@ -41,67 +47,137 @@ impl<T: Drop> From<InsertError<T>> for Stop {
     }
 }
 
+/// Before the next line is read: where that may have to wait, what was printed is written first.
+fn show_before_reading<R: Read + Drop, W: Write>(
+    lines: &Lines<R>,
+    printer: &mut Printer,
+    output: &mut W,
+) -> Result<(), Stop>
+    ensures all { OnOk result (Prints (W.contents output.old) (W.contents output.new)
+        printer.old.held.items [] printer.new.held.items) }
+    ensures front { AppendsFront (W.contents output.old) (W.contents output.new) printer.old.held.items }
+    ensures stop { IfErr result (λ stop. stop ≡ Stop.Output) }
+{
+    if lines.has_next() {
+        return Ok(());
+    }
+    printer.flush(output)
+}
+
+/// Reads the next line and answers it. False at the end of the input.
+fn answer_next<R: Read + Drop, W: Write>(
+    alloc: Global,
+    lines: &mut Lines<R>,
+    store: &mut Store,
+    printer: &mut Printer,
+    output: &mut W,
+) -> Result<bool, Stop>
+    ensures turn { Turn (bytes_left R.remaining lines.old) (bytes_left R.remaining lines.new) lines.old.number
+        store.old store.new (W.contents output.old) (W.contents output.new) printer.old.held.items
+        printer.new.held.items result }
+    ensures number { result ≡ Ok true → lines.new.number ≡ lines.old.number + 1 }
+{
+    show_before_reading(lines, printer, output)?;
+    if !lines.advance()? {
+        return Ok(false);
+    }
+    match parse_line(lines.text()) {
+        Line::Blank => Ok(true),
+        Line::Bad => Err(Stop::Line(lines.number())),
+        Line::Command(command) => {
+            let reply = answer(alloc, store, &command)?;
+            print_reply(printer, output, &reply)?;
+            Ok(true)
+        }
+    }
+}
+
 /// Answers each line of the input.
 fn answer_all<R: Read + Drop, W: Write>(
     alloc: Global,
     input: R,
+    printer: &mut Printer,
     output: &mut W,
-) -> Result<(), Stop> {
-    let mut lines = match Lines::new(alloc, input) {
-        Ok(lines) => lines,
-        Err(_) => return Err(Stop::Memory),
-    };
+) -> Result<(), Stop>
+    ensures { (said : List ℕ) × Run (R.remaining input) result said × Printed result (W.contents output.old)
+        (W.contents output.new) printer.old.held.items said printer.new.held.items }
+{
+    let mut lines = Lines::new(alloc, input)?;
     let mut store = Store::new(alloc);
-    for number in 1..u64::MAX {
-        if !lines.advance(output)? {
+    for _ in 0..u64::MAX {
+        if !answer_next(alloc, &mut lines, &mut store, printer, output)? {
             return Ok(());
-        }
-        match parse_line(lines.text()) {
-            Line::Blank => {}
-            Line::Bad => return Err(Stop::Line(number)),
-            Line::Command(command) => {
-                let reply = answer(alloc, &mut store, &command)?;
-                if write_reply(output, &reply).is_err() {
-                    return Err(Stop::Output);
-                }
-            }
         }
     }
     // More lines than can be numbered.
     Err(Stop::Input)
 }
 
-/// Says why a run ended, and gives its status.
-fn report<W: Write>(ended: Result<(), Stop>, output: &mut W) -> u8
-    ensures { (result ≡ status_of ended) ⊎ (result ≡ status_of (Err Stop.Output)) }
+/// Prints why a run stopped. After a failed write no further one is tried.
+fn print_stop<W: Write>(printer: &mut Printer, output: &mut W, stop: Stop) -> Result<(), Stop>
+    ensures all { OnOk result (Prints (W.contents output.old) (W.contents output.new)
+        printer.old.held.items (stop_text stop) printer.new.held.items) }
+    ensures front { AppendsFront (W.contents output.old) (W.contents output.new)
+        (printer.old.held.items ++ stop_text stop) }
+    ensures silent { stop ≡ Stop.Output → IsErr result × Keeps (W.contents output.old) (W.contents output.new) }
 {
-    let (status, written) = match ended {
-        Ok(()) => (0, Ok(())),
-        Err(Stop::Line(number)) => (2, writeln!(output, "error: line {number}")),
-        Err(Stop::Memory) => (3, output.write_all(b"error: memory\n")),
-        Err(Stop::Input) => (4, output.write_all(b"error: input\n")),
-        Err(Stop::Output) => return 4,
-    };
-    if written.is_err() || output.flush().is_err() {
-        return 4;
+    match stop {
+        Stop::Line(number) => {
+            printer.put(output, b"error: line ")?;
+            printer.put_number(output, number)?;
+            printer.put(output, b"\n")
+        }
+        Stop::Memory => printer.put(output, b"error: memory\n"),
+        Stop::Input => printer.put(output, b"error: input\n"),
+        Stop::Output => Err(Stop::Output),
     }
-    status
+}
+
+/// Prints why a run ended before its input did, and writes all that was printed.
+fn close<W: Write>(
+    printer: &mut Printer,
+    output: &mut W,
+    ended: Result<(), Stop>,
+) -> Result<(), Stop>
+    ensures all { OnOk result (Appends (W.contents output.old) (W.contents output.new)
+        (printer.old.held.items ++ end_text ended)) }
+    ensures front { AppendsFront (W.contents output.old) (W.contents output.new)
+        (printer.old.held.items ++ end_text ended) }
+    ensures silent { ended ≡ Err Stop.Output → IsErr result × Keeps (W.contents output.old) (W.contents output.new) }
+{
+    match ended {
+        Ok(()) => printer.flush(output),
+        Err(stop) => {
+            print_stop(printer, output, stop)?;
+            printer.flush(output)
+        }
+    }
+}
+
+/// The status of a run that ended so.
+fn status(ended: Result<(), Stop>) -> u8
+    ensures { result ≡ status_of ended }
+{
+    match ended {
+        Ok(()) => 0,
+        Err(Stop::Line(_)) => 2,
+        Err(Stop::Memory) => 3,
+        Err(Stop::Input | Stop::Output) => 4,
+    }
 }
 
 /// Answers each line of the input on the output, and gives the status: 0 at the end of the input,
 /// 2 after a bad line, 3 where memory was refused, 4 where a read or a write failed.
 ///
-/// The answers to the lines before are written in each case but a failed write, and behind them
-/// `error: line N`, `error: memory` or `error: input`.
-pub fn run<R: Read + Drop, W: Write + Drop>(alloc: Global, input: R, mut output: W) -> u8
-    ensures { IsStatus result }
+/// What stands on the output then is the answers to the lines before, and behind them
+/// `error: line N`, `error: memory` or `error: input`; where a write failed, a front of that.
+pub fn run<R: Read + Drop, W: Write>(alloc: Global, input: R, output: &mut W) -> u8
+    ensures { Ran (R.remaining input) (W.contents output.old) (W.contents output.new) result }
 {
-    if let Ok(mut buffered) = BufWriter::new(alloc, &mut output) {
-        let ended = answer_all(alloc, input, &mut buffered);
-        let status = report(ended, &mut buffered);
-        // Dropping it would write once more what could not be written.
-        let (_, _) = buffered.into_parts();
-        return status;
+    let mut printer = Printer::new();
+    let ended = answer_all(alloc, input, &mut printer, output);
+    match close(&mut printer, output, ended) {
+        Ok(()) => status(ended),
+        Err(_) => 4,
     }
-    report(Err(Stop::Memory), &mut output)
 }

@@ -1,10 +1,23 @@
-//! Whole runs: over texts, over a reader that fails or waits, and over a writer that fails.
+//! Whole runs: over texts, over a tree of three levels, over a reader that fails or waits, and over
+//! a writer that fails.
+
+ghost use Rattle.std.specs.Prelude.{Some};
+ghost use Rattle.rstar_run.specs.Runs.{Ran};
 
 use super::program::run;
+use std::alloc::Global;
 use std::cell::Cell;
 use std::io;
 use std::io::{Cursor, Error, ErrorKind, Read, Write};
 use std::process::Abort;
+use std::test::Fail;
+
+/// What the contract of a run says of bytes in memory.
+fn run_on_bytes(alloc: Global, input: &[u8], output: &mut Vec<u8>) -> u8
+    ensures { Ran (Some input.now) (Some output.old.items) (Some output.new.items) result }
+{
+    run(alloc, input, output)
+}
 
 fn expect_written(rt: &impl Abort, taken: &Cursor<[u8; 256]>, want: &str, input: &[u8]) {
     let length = usize::try_from(taken.position()).unwrap_or(0);
@@ -62,6 +75,45 @@ fn answers_lines(rt: HostRuntime) {
     for (input, want) in rows {
         expect_run(&rt, input, want, 0);
     }
+}
+
+/// The lines of a run that fills three levels of nodes, and what it prints. The answers are those
+/// of a scan.
+fn write_long_run(input: &mut Vec<u8>, want: &mut Vec<u8>) -> Result<(), Fail> {
+    // A node holds six at most, so two levels hold 36.
+    for id in 0..120u64 {
+        let (x, y) = (id * 7 % 12, id * 5 % 11);
+        writeln!(input, "insert {id} {x} {y} {} {}", x + 1, y + 2)?;
+        want.extend_from_slice(b"ok\n")?;
+    }
+    for side in 0..14u64 {
+        writeln!(input, "in 0 0 {side} {side}")?;
+        let mut count = 0u64;
+        for id in 0..120u64 {
+            if id * 7 % 12 < side && id * 5 % 11 + 1 < side {
+                let space = if count == 0 { "" } else { " " };
+                write!(want, "{space}{id}")?;
+                count = count.saturating_add(1);
+            }
+        }
+        let end = if count == 0 { "-\n" } else { "\n" };
+        want.extend_from_slice(end.as_bytes())?;
+    }
+    input.extend_from_slice(b"size\n")?;
+    want.extend_from_slice(b"120\n")?;
+    Ok(())
+}
+
+#[test]
+fn answers_over_three_levels(rt: HostRuntime) -> Result<(), Fail> {
+    let mut input = Vec::new(rt.alloc());
+    let mut want = Vec::new(rt.alloc());
+    write_long_run(&mut input, &mut want)?;
+    let mut output = Vec::new(rt.alloc());
+    let status = run_on_bytes(rt.alloc(), &input, &mut output);
+    assert_eq!(rt; status, 0);
+    assert_eq!(rt; output.as_slice(), want.as_slice());
+    Ok(())
 }
 
 #[test]
@@ -161,7 +213,8 @@ fn stops_at_a_failed_read(rt: HostRuntime) {
             "0\nerror: input\n",
             4,
         ),
-        (b"size\n", ErrorKind::OutOfMemory, "0\nerror: memory\n", 3),
+        // A failed read is no refused memory, whatever the reader says.
+        (b"size\n", ErrorKind::OutOfMemory, "0\nerror: input\n", 4),
     ] {
         let mut taken = Cursor::new([0u8; 256]);
         assert_eq!(rt;

@@ -1,0 +1,26 @@
+-- What stands on an output, and what is held for it. An output is known by its bytes, `None` where std does not know them.
+use Rattle.std.specs.Prelude.{◌≡◌, ℕ, List, ◌++◌, Option, Result, Ok, Err}
+use Rattle.std.specs.Io.KnownBytes.{Appends}
+use Rattle.rstar_run.specs.declared.program.Stop.{Stop}
+use Rattle.rstar_run.specs.declared.program.Stop.TheVariants as stop
+
+-- some front of a text was appended to the output
+pub record AppendsFront (old new : Option (List ℕ)) (text : List ℕ) : Type 0 where
+  pub front : List ℕ
+  pub rest : List ℕ
+  pub appended : Appends old new front
+  pub text_is : text ≡ front ++ rest
+
+-- a text is printed behind what was held: some front of both stands on the output, and the rest is held now
+pub record Prints (old new : Option (List ℕ)) (held text held' : List ℕ) : Type 0 where
+  pub front : List ℕ
+  pub appended : Appends old new front
+  pub text_is : held ++ text ≡ front ++ held'
+
+-- a text is printed whole, but that where a write failed some front of it stands on the output, and no more is printed
+abbrev pub Printed : {A : Type 0} → Result A Stop → Option (List ℕ) → Option (List ℕ) → List ℕ → List ℕ → List ℕ → Type 0
+Printed (Ok _) old new held text held' = Prints old new held text held'
+Printed (Err (stop.Line _)) old new held text held' = Prints old new held text held'
+Printed (Err stop.Memory) old new held text held' = Prints old new held text held'
+Printed (Err stop.Input) old new held text held' = Prints old new held text held'
+Printed (Err stop.Output) old new held text held' = AppendsFront old new (held ++ text)

@@ -1,0 +1,124 @@
+//! Text on its way to an output.
+
+ghost use Rattle.std.specs.Prelude.{◌≡◌, ◌++◌, [], decimal, OnOk, IfErr};
+ghost use Rattle.std.specs.Io.KnownBytes.{Appends};
+ghost use Rattle.rstar_run.specs.Prints.{AppendsFront, Prints};
+
+use super::program::Stop;
+use arrayvec::ArrayVec;
+use itoa::Buffer;
+use std::io::{ErrorKind, Write};
+
+/// So many bytes wait to be written at most.
+pub const MOST_HELD: usize = 8192;
+
+/// Holds what was printed and is not yet written. The output comes with each call, so that a
+/// contract can say what stands in it. After a failed write nothing more is to be printed.
+#[derive(Drop)]
+pub struct Printer {
+    pub held: ArrayVec<u8, MOST_HELD>,
+}
+
+impl Printer {
+    /// Nothing is printed yet.
+    pub fn new() -> Printer
+        ensures { result.held.items ≡ [] }
+    {
+        Printer {
+            held: ArrayVec::new(),
+        }
+    }
+
+    /// Prints a text. It takes no memory.
+    pub fn put<W: Write>(&mut self, output: &mut W, text: &[u8]) -> Result<(), Stop>
+        ensures all { OnOk result (Prints (W.contents output.old) (W.contents output.new)
+            self.old.held.items text.now self.new.held.items) }
+        ensures front { AppendsFront (W.contents output.old) (W.contents output.new)
+            (self.old.held.items ++ text.now) }
+        ensures stop { IfErr result (λ stop. stop ≡ Stop.Output) }
+    {
+        match self.held.try_extend_from_slice(text) {
+            Ok(()) => Ok(()),
+            Err(_) => self.put_behind(output, text),
+        }
+    }
+
+    /// Prints a number in decimal digits.
+    pub fn put_number<W: Write>(&mut self, output: &mut W, number: u64) -> Result<(), Stop>
+        ensures all { OnOk result (Prints (W.contents output.old) (W.contents output.new)
+            self.old.held.items (decimal number) self.new.held.items) }
+        ensures front { AppendsFront (W.contents output.old) (W.contents output.new)
+            (self.old.held.items ++ decimal number) }
+        ensures stop { IfErr result (λ stop. stop ≡ Stop.Output) }
+    {
+        self.put(output, Buffer::new().format(number).as_bytes())
+    }
+
+    /// Writes all that is held, and has the output pass it on.
+    pub fn flush<W: Write>(&mut self, output: &mut W) -> Result<(), Stop>
+        ensures all { OnOk result (Appends (W.contents output.old) (W.contents output.new) self.old.held.items) }
+        ensures none { OnOk result (self.new.held.items ≡ []) }
+        ensures front { AppendsFront (W.contents output.old) (W.contents output.new) self.old.held.items }
+        ensures stop { IfErr result (λ stop. stop ≡ Stop.Output) }
+    {
+        self.write_held(output)?;
+        match output.flush() {
+            Ok(()) => Ok(()),
+            Err(_) => Err(Stop::Output),
+        }
+    }
+
+    /// Writes all that is held.
+    fn write_held<W: Write>(&mut self, output: &mut W) -> Result<(), Stop>
+        ensures all { OnOk result (Appends (W.contents output.old) (W.contents output.new) self.old.held.items) }
+        ensures none { OnOk result (self.new.held.items ≡ []) }
+        ensures front { AppendsFront (W.contents output.old) (W.contents output.new) self.old.held.items }
+        ensures stop { IfErr result (λ stop. stop ≡ Stop.Output) }
+    {
+        write_out(output, self.held.as_slice())?;
+        self.held.clear();
+        Ok(())
+    }
+
+    /// Prints a text behind what is held, for which there is no room left.
+    #[cold]
+    #[inline(never)]
+    fn put_behind<W: Write>(&mut self, output: &mut W, text: &[u8]) -> Result<(), Stop>
+        ensures all { OnOk result (Prints (W.contents output.old) (W.contents output.new)
+            self.old.held.items text.now self.new.held.items) }
+        ensures front { AppendsFront (W.contents output.old) (W.contents output.new)
+            (self.old.held.items ++ text.now) }
+        ensures stop { IfErr result (λ stop. stop ≡ Stop.Output) }
+    {
+        self.write_held(output)?;
+        match self.held.try_extend_from_slice(text) {
+            Ok(()) => Ok(()),
+            // More than can be held at all.
+            Err(_) => write_out(output, text),
+        }
+    }
+}
+
+/// Writes a text to its end. Where a write fails, a front of the text was written.
+fn write_out<W: Write>(output: &mut W, text: &[u8]) -> Result<(), Stop>
+    ensures all { OnOk result (Appends (W.contents output.old) (W.contents output.new) text.now) }
+    ensures front { AppendsFront (W.contents output.old) (W.contents output.new) text.now }
+    ensures stop { IfErr result (λ stop. stop ≡ Stop.Output) }
+{
+    let mut rest = text;
+    for _ in 0..u64::MAX {
+        if rest.is_empty() {
+            return Ok(());
+        }
+        match output.write(rest) {
+            Ok(0) => return Err(Stop::Output),
+            Ok(count) => rest = &rest[count..],
+            Err(e) => {
+                if e.kind() != ErrorKind::Interrupted {
+                    return Err(Stop::Output);
+                }
+            }
+        }
+    }
+    Err(Stop::Output)
+}
