@@ -1,5 +1,7 @@
 //! Slabs, cluster numbers and partitions, by rows.
 
+ghost use Rattle.std.specs.Prelude.{◌<◌};
+
 use crate::clusters::{ClusterGroupIterator, calculate_number_of_clusters_on_axis};
 use crate::object::partition_envelopes;
 use crate::params::DefaultParams;
