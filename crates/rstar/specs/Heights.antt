@@ -21,7 +21,7 @@ levels_below ns = first_of (map levels ns)
 abbrev pub height_of : {T E P S X : Type 0} → ParentNode T E P S X → ℕ
 height_of root = 1 + levels_below (children_of root)
 
--- the spare child lists for an insertion into a tree of that height, where an overflow inserts `reinserted` children anew:
--- each of them, and at least one, may split a parent on each level and make a new root
+-- the spare child lists for an insertion into a tree of that height, where an overflow inserts `reinserted` children
+-- anew: each of them, and at least one, may split a parent on each level and make a new root
 abbrev pub spare_lists : ℕ → ℕ → ℕ
 spare_lists reinserted height = max 1 reinserted * (height + reinserted + 2)

@@ -1,5 +1,21 @@
 -- What an insertion keeps of a tree's parents beside their being whole: room in their lists.
-use Rattle.std.specs.Prelude.{◌≡◌, ℕ, ◌≤◌, ◌<◌, List, [], ◌∷◌, length, Option, Some, None, IfSome, Vec, vec_len, vec_capacity}
+use Rattle.std.specs.Prelude.{
+  ◌≡◌,
+  ℕ,
+  ◌≤◌,
+  ◌<◌,
+  List,
+  [],
+  ◌∷◌,
+  length,
+  Option,
+  Some,
+  None,
+  IfSome,
+  Vec,
+  vec_len,
+  vec_capacity,
+}
 use Rattle.std.specs.declared.alloc.Global.{Global}
 use Rattle.rstar_base.specs.Envelopes.{Boxes}
 use Rattle.rstar_base.specs.Elements.{Objects}
@@ -59,7 +75,8 @@ as_node None = []
 as_node (Some p) = Parent p ∷ []
 
 -- the sizes after an insertion that began at a parent of n children, and cut off the second parent where there is one
-pub record IsSizedAfter {T E P S X : Type 0} (min max h n : ℕ) (p : ParentNode T E P S X) (second : Option (ParentNode T E P S X)) : Type 0 where
+pub record IsSizedAfter {T E P S X : Type 0} (min max h n : ℕ) (p : ParentNode T E P S X)
+    (second : Option (ParentNode T E P S X)) : Type 0 where
   pub below : AreTrees (HasSize min max) IsAny h p.children.items
   pub most : length p.children.items ≤ max
   pub still_least : min ≤ n → min ≤ length p.children.items

@@ -37,8 +37,8 @@ pub record IsUnchanged {T D E P S X : Type 0} (old new : RTree T D E P S X) : Ty
   pub envelopes : envelopes_in new ≡ envelopes_in old
 
 module _ {T D E P S X : Type 0} (v : Boxes E) (o : Objects T E) (max : ℕ) where
-  -- a whole root, whose elements and levels are counted; and the room that makes insertions safe, where `max` is the most
-  -- children of a parent
+  -- a whole root, whose elements and levels are counted; and the room that makes insertions safe, where `max` is the
+  -- most children of a parent
   pub record WholeTree (tree : RTree T D E P S X) : Type 0 where
     pub root_whole : IsWhole v o (root_of tree)
     pub counted : size_of tree ≡ length (elements_in tree)

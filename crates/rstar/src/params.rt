@@ -48,7 +48,9 @@ pub trait InsertionStrategy {
         ensures handed_back { IfErr result (λ refused. refused.element ≡ t) }
         ensures unchanged { OnErr result (IsUnchanged tree.old tree.new) }
         ensures too_many { IsErrAnd result (λ refused. refused.cause ≡ InsertCause.TooMany)
-            ↔ ((size_of tree.old ≡ usize.MAX) ⊎ (usize.MAX < spare_lists Params.REINSERTION_COUNT (height_of (root_of tree.old)))) }
+            ↔ ((size_of tree.old ≡ usize.MAX)
+            ⊎ (usize.MAX < spare_lists Params.REINSERTION_COUNT (height_of (root_of tree.old)))) }
         ensures whole { IsWholeTree T.Envelope.boxes T.object Params.MAX_SIZE tree.new }
-        ensures sized { IsSized Params.MIN_SIZE Params.MAX_SIZE (root_of tree.old) → IsSized Params.MIN_SIZE Params.MAX_SIZE (root_of tree.new) };
+        ensures sized { IsSized Params.MIN_SIZE Params.MAX_SIZE (root_of tree.old)
+            → IsSized Params.MIN_SIZE Params.MAX_SIZE (root_of tree.new) };
 }

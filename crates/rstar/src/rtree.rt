@@ -52,7 +52,8 @@ impl<T: RTreeObject> RTree<T> {
         requires dimensions { 2 ≤ T.Envelope.Point.DIMENSIONS }
         ensures none { elements_in result ≡ [] }
         ensures whole { IsWholeTree T.Envelope.boxes T.object ⟦<DefaultParams as RTreeParams>⟧.MAX_SIZE result }
-        ensures sized { IsSized ⟦<DefaultParams as RTreeParams>⟧.MIN_SIZE ⟦<DefaultParams as RTreeParams>⟧.MAX_SIZE (root_of result) }
+        ensures sized { IsSized ⟦<DefaultParams as RTreeParams>⟧.MIN_SIZE ⟦<DefaultParams as RTreeParams>⟧.MAX_SIZE
+            (root_of result) }
     {
         RTree::new_with_params(alloc)
     }
@@ -102,7 +103,8 @@ impl<T: RTreeObject, Params: RTreeParams> RTree<T, Params> {
     #[tactic(auto, unfolding(crate::specs::Trees::IsWholeTree))]
     pub fn size(&self) -> usize
         ensures shown { result ≡ size_of self.now }
-        ensures counted { IsWholeTree T.Envelope.boxes T.object Params.MAX_SIZE self.now → result ≡ length (elements_in self.now) }
+        ensures counted { IsWholeTree T.Envelope.boxes T.object Params.MAX_SIZE self.now
+            → result ≡ length (elements_in self.now) }
     {
         self.size
     }
@@ -164,7 +166,8 @@ impl<T: RTreeObject, Params: RTreeParams> RTree<T, Params> {
         SelectionIterator::new(&self.root, self.levels, func)
     }
 
-    /// Adds an element, whose envelope is not empty, by `RStarInsertionStrategy`. Equal elements may be added, and are counted.
+    /// Adds an element, whose envelope is not empty, by `RStarInsertionStrategy`. Equal elements may be added, and are
+    /// counted.
     ///
     /// All memory is taken before the first change. It is refused with `TooMany` exactly where `size` is the greatest
     /// `usize` or a `usize` does not count the spare child lists that are wanted, and otherwise with `NoMemory` where
@@ -179,9 +182,11 @@ impl<T: RTreeObject, Params: RTreeParams> RTree<T, Params> {
         ensures handed_back { IfErr result (λ refused. refused.element ≡ t) }
         ensures unchanged { OnErr result (IsUnchanged self.old self.new) }
         ensures too_many { IsErrAnd result (λ refused. refused.cause ≡ InsertCause.TooMany)
-            ↔ ((size_of self.old ≡ usize.MAX) ⊎ (usize.MAX < spare_lists Params.REINSERTION_COUNT (height_of (root_of self.old)))) }
+            ↔ ((size_of self.old ≡ usize.MAX)
+            ⊎ (usize.MAX < spare_lists Params.REINSERTION_COUNT (height_of (root_of self.old)))) }
         ensures whole { IsWholeTree T.Envelope.boxes T.object Params.MAX_SIZE self.new }
-        ensures sized { IsSized Params.MIN_SIZE Params.MAX_SIZE (root_of self.old) → IsSized Params.MIN_SIZE Params.MAX_SIZE (root_of self.new) }
+        ensures sized { IsSized Params.MIN_SIZE Params.MAX_SIZE (root_of self.old)
+            → IsSized Params.MIN_SIZE Params.MAX_SIZE (root_of self.new) }
     {
         RStarInsertionStrategy::insert(self, t)
     }
@@ -190,8 +195,10 @@ impl<T: RTreeObject, Params: RTreeParams> RTree<T, Params> {
     #[tactic(auto, unfolding(crate::specs::Trees::IsWholeTree))]
     pub(crate) fn lists_to_prepare(&self) -> Option<usize>
         requires { IsWholeTree T.Envelope.boxes T.object Params.MAX_SIZE self.now }
-        ensures some { IfSome result (λ n. (n ≡ spare_lists Params.REINSERTION_COUNT (height_of (root_of self.now))) × (size_of self.now < usize.MAX)) }
-        ensures none { IfNone result ((size_of self.now ≡ usize.MAX) ⊎ (usize.MAX < spare_lists Params.REINSERTION_COUNT (height_of (root_of self.now)))) }
+        ensures some { IfSome result (λ n. (n ≡ spare_lists Params.REINSERTION_COUNT (height_of (root_of self.now)))
+            × (size_of self.now < usize.MAX)) }
+        ensures none { IfNone result ((size_of self.now ≡ usize.MAX)
+            ⊎ (usize.MAX < spare_lists Params.REINSERTION_COUNT (height_of (root_of self.now)))) }
     {
         if self.size == usize::MAX {
             return None;
@@ -223,12 +230,14 @@ impl<T: RTreeObject, Params: RTreeParams> RTree<T, Params> {
         requires whole { IsWholeTree T.Envelope.boxes T.object Params.MAX_SIZE self.old }
         requires element { T.Envelope.boxes.is_empty (T.object.box_of t) ≡ false }
         requires room { HasRoom Params.MAX_SIZE self.old.root.children }
-        requires enough { spare_lists Params.REINSERTION_COUNT (height_of (root_of self.old)) ≤ vec_len self.old.spares }
+        requires enough { spare_lists Params.REINSERTION_COUNT (height_of (root_of self.old))
+            ≤ vec_len self.old.spares }
         requires count { size_of self.old < usize.MAX }
         ensures added { IsPermutation (t ∷ elements_in self.old) (elements_in self.new) }
         ensures counted { size_of self.new ≡ size_of self.old + 1 }
         ensures whole { IsWholeTree T.Envelope.boxes T.object Params.MAX_SIZE self.new }
-        ensures sized { IsSized Params.MIN_SIZE Params.MAX_SIZE (root_of self.old) → IsSized Params.MIN_SIZE Params.MAX_SIZE (root_of self.new) }
+        ensures sized { IsSized Params.MIN_SIZE Params.MAX_SIZE (root_of self.old)
+            → IsSized Params.MIN_SIZE Params.MAX_SIZE (root_of self.new) }
     {
         self.levels = insert_with_reinsertion::<T, Params>(
             &mut self.root,

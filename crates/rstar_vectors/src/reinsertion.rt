@@ -135,8 +135,8 @@ fn levels_of<T: RTreeObject>(root: &ParentNode<T>) -> usize {
     64
 }
 
-/// The merge of the envelopes of the elements below some nodes: none where an element does not lie `levels` levels below
-/// them, a parent keeps another envelope than that of the elements below it, or has too few or too many children.
+/// The merge of the envelopes of the elements below some nodes: none where an element does not lie `levels` levels
+/// below them, a parent keeps another envelope than that of the elements below it, or has too few or too many children.
 fn merge_below<T: RTreeObject, Params: RTreeParams>(
     nodes: &[RTreeNode<T>],
     levels: usize,
@@ -166,8 +166,8 @@ fn merge_below<T: RTreeObject, Params: RTreeParams>(
     Some(all)
 }
 
-/// Whether all elements lie on one level, each envelope is the merge of those of the elements below it, and each parent has
-/// as many children as it may have.
+/// Whether all elements lie on one level, each envelope is the merge of those of the elements below it, and each parent
+/// has as many children as it may have.
 fn stands<T: RTreeObject, Params: RTreeParams>(root: &ParentNode<T>) -> bool {
     match merge_below::<T, Params>(root.children(), levels_of(root)) {
         Some(all) => root.children().len() <= Params::MAX_SIZE && *root.envelope() == all,

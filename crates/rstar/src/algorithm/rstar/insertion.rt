@@ -6,7 +6,7 @@ ghost use Rattle.std.specs.List.Sorted.{IsPermutation};
 ghost use Rattle.rstar_base.specs.Hulls.{hull};
 ghost use Rattle.rstar.specs.declared.node.RTreeNode.{Parent};
 ghost use Rattle.rstar.specs.Nodes.{node_box, all_elements};
-ghost use Rattle.rstar.specs.Shapes.{AreTrees, IsAny, HasSize};
+ghost use Rattle.rstar.specs.Shapes.{AreSized, IsSizedTree};
 ghost use Rattle.rstar.specs.Kept.{HasRoom, IsRoomy, IsSpare, IsKept, IsFit, AreKept, IsKeptTree, IsSizedAfter, second_children, as_node};
 
 use crate::algorithm::rstar::choose::choose_subtree;
@@ -24,14 +24,16 @@ fn add_child<T: RTreeObject, Params: RTreeParams>(
     widest: usize,
     spares: &mut Vec<Vec<RTreeNode<T>>>,
 ) -> Option<ParentNode<T>>
-    requires covered { node.old.envelope ≡ hull T.Envelope.boxes (node_box T.object.box_of) (node.old.children.items ++ child ∷ []) }
+    requires covered { node.old.envelope
+        ≡ hull T.Envelope.boxes (node_box T.object.box_of) (node.old.children.items ++ child ∷ []) }
     requires roomy { IsRoomy Params.MAX_SIZE widest node.old }
     requires wide { Params.MAX_SIZE ≤ widest }
     requires spares { AllByRecursion (IsSpare widest) spares.old.items }
     requires enough { 0 < vec_len spares.old }
 
     // The children are those before and the new one.
-    ensures same { IsPermutation (node.old.children.items ++ child ∷ []) (node.new.children.items ++ second_children result) }
+    ensures same { IsPermutation (node.old.children.items ++ child ∷ [])
+        (node.new.children.items ++ second_children result) }
 
     // Each part has room, and the merge of its children's envelopes.
     ensures first { IsFit T.Envelope.boxes T.object Params.MAX_SIZE widest node.new }
@@ -42,7 +44,8 @@ fn add_child<T: RTreeObject, Params: RTreeParams>(
     ensures low { IfNone result (vec_len node.new.children ≤ Params.MAX_SIZE) }
     ensures first_least { IfSome result (λ _. Params.MIN_SIZE ≤ vec_len node.new.children) }
     ensures second_least { IfSome result (λ p. Params.MIN_SIZE ≤ vec_len p.children) }
-    ensures lengths { IfSome result (λ p. vec_len node.new.children + vec_len p.children ≡ vec_len node.old.children + 1) }
+    ensures lengths { IfSome result (λ p. vec_len node.new.children + vec_len p.children
+        ≡ vec_len node.old.children + 1) }
 
     // At most one spare list was used.
     ensures spares { AllByRecursion (IsSpare widest) spares.new.items }
@@ -83,10 +86,11 @@ fn insert_below<T: RTreeObject, Params: RTreeParams>(
     requires wide { Params.MAX_SIZE ≤ widest }
     requires spares { AllByRecursion (IsSpare widest) spares.old.items }
     requires enough { levels < vec_len spares.old }
-    ensures bag { IsPermutation (t ∷ all_elements node.old.children.items) (all_elements (node.new.children.items ++ second_children result)) }
+    ensures bag { IsPermutation (t ∷ all_elements node.old.children.items)
+        (all_elements (node.new.children.items ++ second_children result)) }
     ensures first { IsKeptTree T.Envelope.boxes T.object Params.MAX_SIZE widest levels node.new }
     ensures second { IfSome result (IsKeptTree T.Envelope.boxes T.object Params.MAX_SIZE widest levels) }
-    ensures sized { AreTrees (HasSize Params.MIN_SIZE Params.MAX_SIZE) IsAny levels node.old.children.items → vec_len node.old.children ≤ Params.MAX_SIZE
+    ensures sized { IsSizedTree Params.MIN_SIZE Params.MAX_SIZE levels node.old
         → IsSizedAfter Params.MIN_SIZE Params.MAX_SIZE levels (vec_len node.old.children) node.new result }
     ensures spares { AllByRecursion (IsSpare widest) spares.new.items }
     ensures used { vec_len spares.old ≤ vec_len spares.new + levels + 1 }
@@ -120,9 +124,12 @@ fn insert_in_child<T: RTreeObject, Params: RTreeParams>(
     requires wide { Params.MAX_SIZE ≤ widest }
     requires spares { AllByRecursion (IsSpare widest) spares.old.items }
     requires enough { levels ≤ vec_len spares.old }
-    ensures bag { IsPermutation (t ∷ all_elements children.old.items) (all_elements (children.new.items ++ as_node result)) }
-    ensures below { AreKept T.Envelope.boxes T.object Params.MAX_SIZE widest levels (children.new.items ++ as_node result) }
-    ensures sized { AreTrees (HasSize Params.MIN_SIZE Params.MAX_SIZE) IsAny levels children.old.items → AreTrees (HasSize Params.MIN_SIZE Params.MAX_SIZE) IsAny levels (children.new.items ++ as_node result) }
+    ensures bag { IsPermutation (t ∷ all_elements children.old.items)
+        (all_elements (children.new.items ++ as_node result)) }
+    ensures below { AreKept T.Envelope.boxes T.object Params.MAX_SIZE widest levels
+        (children.new.items ++ as_node result) }
+    ensures sized { AreSized Params.MIN_SIZE Params.MAX_SIZE levels children.old.items
+        → AreSized Params.MIN_SIZE Params.MAX_SIZE levels (children.new.items ++ as_node result) }
     ensures length { vec_len children.new ≡ vec_len children.old }
     ensures capacity { vec_capacity children.new ≡ vec_capacity children.old }
     ensures spares { AllByRecursion (IsSpare widest) spares.new.items }
@@ -181,8 +188,8 @@ pub(crate) fn insert_at_root<T: RTreeObject, Params: RTreeParams>(
     requires enough { levels + 1 < vec_len spares.old }
     ensures bag { IsPermutation (t ∷ all_elements root.old.children.items) (all_elements root.new.children.items) }
     ensures kept { IsKeptTree T.Envelope.boxes T.object Params.MAX_SIZE widest result root.new }
-    ensures sized { AreTrees (HasSize Params.MIN_SIZE Params.MAX_SIZE) IsAny levels root.old.children.items → vec_len root.old.children ≤ Params.MAX_SIZE
-        → AreTrees (HasSize Params.MIN_SIZE Params.MAX_SIZE) IsAny result root.new.children.items × (vec_len root.new.children ≤ Params.MAX_SIZE) }
+    ensures sized { IsSizedTree Params.MIN_SIZE Params.MAX_SIZE levels root.old
+        → IsSizedTree Params.MIN_SIZE Params.MAX_SIZE result root.new }
     ensures grown { result ≤ levels + 1 }
     ensures spares { AllByRecursion (IsSpare widest) spares.new.items }
     ensures used { vec_len spares.old ≤ vec_len spares.new + result + 1 }

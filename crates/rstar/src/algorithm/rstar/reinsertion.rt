@@ -1,5 +1,5 @@
-//! Forced reinsertion: a lowest parent that has too many children hands some out, and they go in again from the root. All
-//! memory was prepared: nothing here takes any, and nothing can fail.
+//! Forced reinsertion: a lowest parent that has too many children hands some out, and they go in again from the root.
+//! All memory was prepared: nothing here takes any, and nothing can fail.
 
 ghost use Rattle.std.specs.Prelude.{◌≡◌, ◌+◌, ◌*◌, ◌<◌, ◌≤◌, [], ◌∷◌, ◌++◌, false, length, vec_len, vec_capacity, None};
 ghost use Rattle.std.specs.List.{AllByRecursion};
@@ -8,7 +8,7 @@ ghost use Rattle.rstar_base.specs.Hulls.{hull};
 ghost use Rattle.rstar.specs.declared.node.RTreeNode.{Leaf};
 ghost use Rattle.rstar.specs.Heights.{spare_lists};
 ghost use Rattle.rstar.specs.Nodes.{node_box, all_elements};
-ghost use Rattle.rstar.specs.Shapes.{AreTrees, IsAny, HasSize};
+ghost use Rattle.rstar.specs.Shapes.{AreSized, IsSizedTree};
 ghost use Rattle.rstar.specs.Kept.{IsRoomy, IsSpare, IsKept, IsFit, AreKept, IsKeptTree, IsSizedAfter};
 
 use crate::algorithm::rstar::choose::choose_subtree;
@@ -66,12 +66,14 @@ fn add_leaf<T: RTreeObject, Params: RTreeParams>(
     widest: usize,
     handed: &mut Vec<RTreeNode<T>>,
 )
-    requires covered { node.old.envelope ≡ hull T.Envelope.boxes (node_box T.object.box_of) (node.old.children.items ++ Leaf t ∷ []) }
+    requires covered { node.old.envelope
+        ≡ hull T.Envelope.boxes (node_box T.object.box_of) (node.old.children.items ++ Leaf t ∷ []) }
     requires roomy { IsRoomy Params.MAX_SIZE widest node.old }
     requires wide { Params.MAX_SIZE ≤ widest }
     requires reinserts { 0 < Params.REINSERTION_COUNT }
     requires spare { IsSpare widest handed.old }
-    ensures same { IsPermutation (node.old.children.items ++ Leaf t ∷ []) (node.new.children.items ++ handed.new.items) }
+    ensures same { IsPermutation (node.old.children.items ++ Leaf t ∷ [])
+        (node.new.children.items ++ handed.new.items) }
     ensures fit { IsFit T.Envelope.boxes T.object Params.MAX_SIZE widest node.new }
     ensures count { vec_len handed.new ≤ Params.REINSERTION_COUNT }
     ensures least { Params.MIN_SIZE ≤ vec_len node.old.children → Params.MIN_SIZE ≤ vec_len node.new.children }
@@ -86,8 +88,8 @@ fn add_leaf<T: RTreeObject, Params: RTreeParams>(
     }
 }
 
-/// Inserts an element below the node, whose children are trees of `levels` levels of parents, and splits none: where the
-/// lowest parent has too many children then, it hands some out.
+/// Inserts an element below the node, whose children are trees of `levels` levels of parents, and splits none: where
+/// the lowest parent has too many children then, it hands some out.
 #[cycle(first)]
 fn insert_first<T: RTreeObject, Params: RTreeParams>(
     node: &mut ParentNode<T>,
@@ -103,11 +105,12 @@ fn insert_first<T: RTreeObject, Params: RTreeParams>(
     requires wide { Params.MAX_SIZE ≤ widest }
     requires reinserts { 0 < Params.REINSERTION_COUNT }
     requires spare { IsSpare widest handed.old }
-    ensures bag { IsPermutation (t ∷ all_elements node.old.children.items) (all_elements node.new.children.items ++ all_elements handed.new.items) }
+    ensures bag { IsPermutation (t ∷ all_elements node.old.children.items)
+        (all_elements node.new.children.items ++ all_elements handed.new.items) }
     ensures kept { IsKeptTree T.Envelope.boxes T.object Params.MAX_SIZE widest levels node.new }
     ensures leaves { AreKept T.Envelope.boxes T.object Params.MAX_SIZE widest 0 handed.new.items }
     ensures count { vec_len handed.new ≤ Params.REINSERTION_COUNT }
-    ensures sized { AreTrees (HasSize Params.MIN_SIZE Params.MAX_SIZE) IsAny levels node.old.children.items → vec_len node.old.children ≤ Params.MAX_SIZE
+    ensures sized { IsSizedTree Params.MIN_SIZE Params.MAX_SIZE levels node.old
         → IsSizedAfter Params.MIN_SIZE Params.MAX_SIZE levels (vec_len node.old.children) node.new None }
     ensures capacity { vec_capacity handed.old ≤ vec_capacity handed.new }
 {
@@ -141,11 +144,13 @@ fn insert_first_in_child<T: RTreeObject, Params: RTreeParams>(
     requires wide { Params.MAX_SIZE ≤ widest }
     requires reinserts { 0 < Params.REINSERTION_COUNT }
     requires spare { IsSpare widest handed.old }
-    ensures bag { IsPermutation (t ∷ all_elements children.old.items) (all_elements children.new.items ++ all_elements handed.new.items) }
+    ensures bag { IsPermutation (t ∷ all_elements children.old.items)
+        (all_elements children.new.items ++ all_elements handed.new.items) }
     ensures below { AreKept T.Envelope.boxes T.object Params.MAX_SIZE widest levels children.new.items }
     ensures leaves { AreKept T.Envelope.boxes T.object Params.MAX_SIZE widest 0 handed.new.items }
     ensures count { vec_len handed.new ≤ Params.REINSERTION_COUNT }
-    ensures sized { AreTrees (HasSize Params.MIN_SIZE Params.MAX_SIZE) IsAny levels children.old.items → AreTrees (HasSize Params.MIN_SIZE Params.MAX_SIZE) IsAny levels children.new.items }
+    ensures sized { AreSized Params.MIN_SIZE Params.MAX_SIZE levels children.old.items
+        → AreSized Params.MIN_SIZE Params.MAX_SIZE levels children.new.items }
     ensures length { vec_len children.new ≡ vec_len children.old }
     ensures capacity { vec_capacity children.new ≡ vec_capacity children.old }
     ensures handed_capacity { vec_capacity handed.old ≤ vec_capacity handed.new }
@@ -158,8 +163,8 @@ fn insert_first_in_child<T: RTreeObject, Params: RTreeParams>(
     }
 }
 
-/// Inserts each leaf of a list from the root, whose children are trees of `levels` levels of parents: the last leaf first.
-/// The list is empty then. The answer is the number of levels afterwards.
+/// Inserts each leaf of a list from the root, whose children are trees of `levels` levels of parents: the last leaf
+/// first. The list is empty then. The answer is the number of levels afterwards.
 fn insert_again<T: RTreeObject, Params: RTreeParams>(
     root: &mut ParentNode<T>,
     handed: &mut Vec<RTreeNode<T>>,
@@ -172,10 +177,11 @@ fn insert_again<T: RTreeObject, Params: RTreeParams>(
     requires wide { Params.MAX_SIZE ≤ widest }
     requires spares { AllByRecursion (IsSpare widest) spares.old.items }
     requires enough { vec_len handed.old * (levels + vec_len handed.old + 1) ≤ vec_len spares.old }
-    ensures bag { IsPermutation (all_elements root.old.children.items ++ all_elements handed.old.items) (all_elements root.new.children.items) }
+    ensures bag { IsPermutation (all_elements root.old.children.items ++ all_elements handed.old.items)
+        (all_elements root.new.children.items) }
     ensures kept { IsKeptTree T.Envelope.boxes T.object Params.MAX_SIZE widest result root.new }
-    ensures sized { AreTrees (HasSize Params.MIN_SIZE Params.MAX_SIZE) IsAny levels root.old.children.items → vec_len root.old.children ≤ Params.MAX_SIZE
-        → AreTrees (HasSize Params.MIN_SIZE Params.MAX_SIZE) IsAny result root.new.children.items × (vec_len root.new.children ≤ Params.MAX_SIZE) }
+    ensures sized { IsSizedTree Params.MIN_SIZE Params.MAX_SIZE levels root.old
+        → IsSizedTree Params.MIN_SIZE Params.MAX_SIZE result root.new }
     ensures spares { AllByRecursion (IsSpare widest) spares.new.items }
     ensures none { handed.new.items ≡ [] }
     ensures capacity { vec_capacity handed.new ≡ vec_capacity handed.old }
@@ -191,8 +197,8 @@ fn insert_again<T: RTreeObject, Params: RTreeParams>(
 }
 
 /// Inserts an element from the root, whose children are trees of `levels` levels of parents. With `REINSERTION_COUNT`
-/// above 0 the first overflow hands children of its parent out, which then go in again; every other overflow is split. The
-/// answer is the number of levels afterwards.
+/// above 0 the first overflow hands children of its parent out, which then go in again; every other overflow is split.
+/// The answer is the number of levels afterwards.
 pub(crate) fn insert_with_reinsertion<T: RTreeObject, Params: RTreeParams>(
     root: &mut ParentNode<T>,
     t: T,
@@ -209,8 +215,8 @@ pub(crate) fn insert_with_reinsertion<T: RTreeObject, Params: RTreeParams>(
     requires enough { spare_lists Params.REINSERTION_COUNT (1 + levels) ≤ vec_len spares.old }
     ensures bag { IsPermutation (t ∷ all_elements root.old.children.items) (all_elements root.new.children.items) }
     ensures kept { IsKeptTree T.Envelope.boxes T.object Params.MAX_SIZE widest result root.new }
-    ensures sized { AreTrees (HasSize Params.MIN_SIZE Params.MAX_SIZE) IsAny levels root.old.children.items → vec_len root.old.children ≤ Params.MAX_SIZE
-        → AreTrees (HasSize Params.MIN_SIZE Params.MAX_SIZE) IsAny result root.new.children.items × (vec_len root.new.children ≤ Params.MAX_SIZE) }
+    ensures sized { IsSizedTree Params.MIN_SIZE Params.MAX_SIZE levels root.old
+        → IsSizedTree Params.MIN_SIZE Params.MAX_SIZE result root.new }
     ensures spares { AllByRecursion (IsSpare widest) spares.new.items }
 {
     if Params::REINSERTION_COUNT == 0 {

@@ -35,8 +35,10 @@ pub(crate) fn cut_at<A: Drop>(list: &mut Vec<A>, at: usize, spare: &mut Vec<A>)
 /// The overlap of the two parts at a cut, and the clamped sum of their areas.
 fn measures_at<T: RTreeObject>(list: &[T], k: usize) -> (Distance<T>, Distance<T>)
     requires { k ≤ length list.now }
-    ensures overlap { T.Envelope.Point.Scalar.value result.0 ≡ pos (overlap_at T.Envelope.boxes T.object.box_of list.now k) }
-    ensures areas { T.Envelope.Point.Scalar.value result.1 ≡ pos (areas_at T.Envelope.boxes T.object.box_of (unsigned_abs T.Envelope.Point.Scalar.high) list.now k) }
+    ensures overlap { T.Envelope.Point.Scalar.value result.0
+        ≡ pos (overlap_at T.Envelope.boxes T.object.box_of list.now k) }
+    ensures areas { T.Envelope.Point.Scalar.value result.1
+        ≡ pos (areas_at T.Envelope.boxes T.object.box_of (unsigned_abs T.Envelope.Point.Scalar.high) list.now k) }
 {
     let (front, back) = list.split_at(k);
     let first = envelope_of_all(front);
@@ -56,7 +58,8 @@ fn is_less<S: RTreeNum>(a: S, b: S) -> bool
 
 /// Whether the one pair is below the other, by the first numbers and, where these are equal, by the second.
 fn is_below<S: RTreeNum>(x: (S, S), y: (S, S)) -> bool
-    ensures { result ≡ (int_lt (S.value x.0) (S.value y.0) || (not (int_lt (S.value y.0) (S.value x.0)) && int_lt (S.value x.1) (S.value y.1))) }
+    ensures { result ≡ (int_lt (S.value x.0) (S.value y.0)
+        || (not (int_lt (S.value y.0) (S.value x.0)) && int_lt (S.value x.1) (S.value y.1))) }
 {
     is_less(x.0, y.0) || (!is_less(y.0, x.0) && is_less(x.1, y.1))
 }
@@ -64,7 +67,8 @@ fn is_below<S: RTreeNum>(x: (S, S), y: (S, S)) -> bool
 /// The first least cut among the allowed ones.
 fn least_cut<T: RTreeObject, Params: RTreeParams>(list: &[T]) -> usize
     requires { Params.MAX_SIZE < length list.now }
-    ensures { IsLeastCut T.Envelope.boxes T.object.box_of (unsigned_abs T.Envelope.Point.Scalar.high) Params.MIN_SIZE list.now result }
+    ensures { IsLeastCut T.Envelope.boxes T.object.box_of (unsigned_abs T.Envelope.Point.Scalar.high)
+        Params.MIN_SIZE list.now result }
 {
     let mut best = Params::MIN_SIZE;
     let mut least = measures_at(list, best);
@@ -127,7 +131,8 @@ fn least_axis<T: RTreeObject, Params: RTreeParams>(list: &mut [T]) -> usize
 /// Sorts the list along the axis of least perimeter, where there is an axis.
 fn arrange<T: RTreeObject, Params: RTreeParams>(list: &mut [T])
     requires { Params.MAX_SIZE < length list.old }
-    ensures { IsArrangement T.Envelope.Point.DIMENSIONS (λ t axis. T.Envelope.boxes.axis_key (T.object.box_of t) axis) list.old list.new }
+    ensures { IsArrangement T.Envelope.Point.DIMENSIONS
+        (λ t axis. T.Envelope.boxes.axis_key (T.object.box_of t) axis) list.old list.new }
 {
     if 0 < <T::Envelope as Envelope>::Point::DIMENSIONS {
         let axis = least_axis::<T, Params>(list);
@@ -143,8 +148,10 @@ pub(crate) fn split_in_place<T: RTreeObject, Params: RTreeParams>(
     requires many { Params.MAX_SIZE < vec_len list.old }
     requires empty { spare.old.items ≡ [] }
     requires room { vec_len list.old ≤ vec_capacity spare.old }
-    ensures arranged { IsArrangement T.Envelope.Point.DIMENSIONS (λ t axis. T.Envelope.boxes.axis_key (T.object.box_of t) axis) list.old.items (list.new.items ++ spare.new.items) }
-    ensures least { IsLeastCut T.Envelope.boxes T.object.box_of (unsigned_abs T.Envelope.Point.Scalar.high) Params.MIN_SIZE (list.new.items ++ spare.new.items) (vec_len list.new) }
+    ensures arranged { IsArrangement T.Envelope.Point.DIMENSIONS
+        (λ t axis. T.Envelope.boxes.axis_key (T.object.box_of t) axis) list.old.items (list.new.items ++ spare.new.items) }
+    ensures least { IsLeastCut T.Envelope.boxes T.object.box_of (unsigned_abs T.Envelope.Point.Scalar.high)
+        Params.MIN_SIZE (list.new.items ++ spare.new.items) (vec_len list.new) }
     ensures lengths { vec_len list.new + vec_len spare.new ≡ vec_len list.old }
     ensures first { Params.MIN_SIZE ≤ vec_len list.new }
     ensures second { Params.MIN_SIZE ≤ vec_len spare.new }

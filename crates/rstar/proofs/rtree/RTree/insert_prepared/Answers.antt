@@ -48,8 +48,7 @@ returns-clause-whole g c =
 pub returns-clause-sized : goal.returns-clause-sized
 unfolding IsWholeTree
 returns-clause-sized g c = λ sized.
-    let after = c.insert_with_reinsertion-self.ensures.sized
-    (sized_at g.Params.RTreeParams.MIN_SIZE g.Params.RTreeParams.MAX_SIZE g.Params.RTreeParams.min_positive sized.height c.args.self.now.levels c.args.self.now.root.children.items c.requires.whole.leveled sized.below)
-    (omega (arith, sized.most, c.args.self.now.root.children.ok.0)) in
+    let below = sized_at g.Params.RTreeParams.MIN_SIZE g.Params.RTreeParams.MAX_SIZE g.Params.RTreeParams.min_positive sized.height c.args.self.now.levels c.args.self.now.root.children.items c.requires.whole.leveled sized.below in
+    let after = c.insert_with_reinsertion-self.ensures.sized (below, omega (arith, sized.most, c.args.self.now.root.children.ok.0)) in
     let most = after.1 in
     record { height = c.insert_with_reinsertion-self.result; most = omega (arith, most, c.insert_with_reinsertion-self.new.root.children.ok.0); below = after.0 }

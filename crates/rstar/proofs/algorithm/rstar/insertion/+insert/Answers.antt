@@ -30,8 +30,8 @@ insert_below-returns-then-levels-eq0-clause-second g t c =
 
 pub insert_below-returns-then-levels-eq0-clause-sized : goal.insert_below-returns-then-levels-eq0-clause-sized
 insert_below-returns-then-levels-eq0-clause-sized g t c =
-    λ trees few.
-    sized_parts g.Params.RTreeParams.MIN_SIZE g.Params.RTreeParams.MAX_SIZE g.Params.RTreeParams.min_positive c.args.levels (vec_len c.args.node.now.children) (c.args.node.now.children.items ++ Leaf c.args.t ∷ []) c.add_child.new.node c.add_child.result (sized_leaf g.Params.RTreeParams.MIN_SIZE g.Params.RTreeParams.MAX_SIZE g.Params.RTreeParams.min_positive c.args.levels c.args.t c.args.node.now.children.items c.if-levels-eq0.true trees) c.add_child.ensures.same few c.add_child.ensures.whole c.add_child.ensures.low c.add_child.ensures.first_least c.add_child.ensures.second_least c.add_child.ensures.lengths
+    λ sized.
+    sized_parts g.Params.RTreeParams.MIN_SIZE g.Params.RTreeParams.MAX_SIZE g.Params.RTreeParams.min_positive c.args.levels (vec_len c.args.node.now.children) (c.args.node.now.children.items ++ Leaf c.args.t ∷ []) c.add_child.new.node c.add_child.result (sized_leaf g.Params.RTreeParams.MIN_SIZE g.Params.RTreeParams.MAX_SIZE g.Params.RTreeParams.min_positive c.args.levels c.args.t c.args.node.now.children.items c.if-levels-eq0.true sized.0) c.add_child.ensures.same sized.1 c.add_child.ensures.whole c.add_child.ensures.low c.add_child.ensures.first_least c.add_child.ensures.second_least c.add_child.ensures.lengths
 
 pub insert_below-returns-in-None-clause-first : goal.insert_below-returns-in-None-clause-first
 insert_below-returns-in-None-clause-first g t c =
@@ -61,8 +61,8 @@ insert_below-returns-clause-second g t c =
 
 pub insert_below-returns-in-None-clause-sized : goal.insert_below-returns-in-None-clause-sized
 insert_below-returns-in-None-clause-sized g t c =
-    λ trees few. record {
-      below = rw append-nil at (c.in-None.ensures.sized trees);
+    λ sized. record {
+      below = rw append-nil at (c.in-None.ensures.sized sized.0);
       most = omega (arith, c.in-None.ensures.length, c.insert_in_child.new.children.ok.0);
       still_least = λ k. omega (arith, c.in-None.ensures.length, c.insert_in_child.new.children.ok.0);
       cut_least = tt;
@@ -71,8 +71,8 @@ insert_below-returns-in-None-clause-sized g t c =
 
 pub insert_below-returns-clause-sized : goal.insert_below-returns-clause-sized
 insert_below-returns-clause-sized g t c =
-    λ trees few.
-    sized_parts g.Params.RTreeParams.MIN_SIZE g.Params.RTreeParams.MAX_SIZE g.Params.RTreeParams.min_positive c.args.levels (vec_len c.args.node.now.children) _ c.add_child-in-Some.new.node c.add_child-in-Some.result (c.in-Some.ensures.sized trees) c.add_child-in-Some.ensures.same few (rw c.in-Some.ensures.length at c.add_child-in-Some.ensures.whole) c.add_child-in-Some.ensures.low c.add_child-in-Some.ensures.first_least c.add_child-in-Some.ensures.second_least (rw c.in-Some.ensures.length at c.add_child-in-Some.ensures.lengths)
+    λ sized.
+    sized_parts g.Params.RTreeParams.MIN_SIZE g.Params.RTreeParams.MAX_SIZE g.Params.RTreeParams.min_positive c.args.levels (vec_len c.args.node.now.children) _ c.add_child-in-Some.new.node c.add_child-in-Some.result (c.in-Some.ensures.sized sized.0) c.add_child-in-Some.ensures.same sized.1 (rw c.in-Some.ensures.length at c.add_child-in-Some.ensures.whole) c.add_child-in-Some.ensures.low c.add_child-in-Some.ensures.first_least c.add_child-in-Some.ensures.second_least (rw c.in-Some.ensures.length at c.add_child-in-Some.ensures.lengths)
 
 -- ---- in a child
 
@@ -98,4 +98,4 @@ insert_in_child-returns-clause-below g t c =
 
 pub insert_in_child-returns-clause-sized : goal.insert_in_child-returns-clause-sized
 insert_in_child-returns-clause-sized g t c =
-    simp (c.in-Parent.is, outs-Parent) (λ trees. sized_child g.Params.RTreeParams.MIN_SIZE g.Params.RTreeParams.MAX_SIZE g.Params.RTreeParams.min_positive c.args.levels c.args.children.now.items c.args.index c.in-Parent.child c.insert_below.new.node c.insert_below.result c.requires.above (omega (arith, c.args.children.now.ok.0)) (rw c.in-Parent.is at c.index_mut.ensures.value) trees (rw c.in-Parent.child-is at c.insert_below.ensures.sized))
+    simp (c.in-Parent.is, outs-Parent) (λ trees. sized_child g.Params.RTreeParams.MIN_SIZE g.Params.RTreeParams.MAX_SIZE g.Params.RTreeParams.min_positive c.args.levels c.args.children.now.items c.args.index c.in-Parent.child c.insert_below.new.node c.insert_below.result c.requires.above (omega (arith, c.args.children.now.ok.0)) (rw c.in-Parent.is at c.index_mut.ensures.value) trees (λ below few. (rw c.in-Parent.child-is at c.insert_below.ensures.sized) (below, few)))

@@ -14,13 +14,13 @@ returns-in-Some-clause-kept g c =
     c.in-Some.ensures.first c.in-Some.ensures.second c.grow_root.ensures.children c.grow_root.ensures.envelope c.grow_root.ensures.room (omega (arith, g.Params.RTreeParams.max_at_least_four))
 
 pub returns-in-Some-clause-sized : goal.returns-in-Some-clause-sized
-returns-in-Some-clause-sized g c = λ trees few.
-    let after = c.in-Some.ensures.sized trees few in
+returns-in-Some-clause-sized g c = λ sized.
+    let after = c.in-Some.ensures.sized sized in
     sized_above g.Params.RTreeParams.MIN_SIZE g.Params.RTreeParams.MAX_SIZE g.Params.RTreeParams.min_positive c.args.levels c.insert_below.new.node c.in-Some.second c.grow_root.new.root
     after.below after.cut_least after.most after.second_sized c.grow_root.ensures.children (omega (arith, g.Params.RTreeParams.max_at_least_four))
 
 pub returns-in-None-clause-sized : goal.returns-in-None-clause-sized
-returns-in-None-clause-sized g c = λ trees few.
-    let after = c.in-None.ensures.sized trees few in
+returns-in-None-clause-sized g c = λ sized.
+    let after = c.in-None.ensures.sized sized in
     let most = after.most in
     (after.below, omega (arith, most, c.insert_below.new.node.children.ok.0))

@@ -31,9 +31,9 @@ insert_first-returns-then-levels-eq0-clause-leaves g t c =
     (leaf_handed g.met.T.Envelope.Envelope.envelope_laws g.met.T.RTreeObject.object_law g.Params.RTreeParams.MAX_SIZE c.args.widest c.args.levels c.args.t c.args.node.now.children.items (c.args.node.now.children.items ++ Leaf c.args.t ∷ []) c.add_leaf.new.handed.items c.add_leaf.new.node c.if-levels-eq0.true grown.0 grown.1 c.add_leaf.ensures.same c.add_leaf.ensures.fit).2
 
 pub insert_first-returns-then-levels-eq0-clause-sized : goal.insert_first-returns-then-levels-eq0-clause-sized
-insert_first-returns-then-levels-eq0-clause-sized g t c = λ trees few.
+insert_first-returns-then-levels-eq0-clause-sized g t c = λ sized.
     sized_kept g.Params.RTreeParams.MIN_SIZE g.Params.RTreeParams.MAX_SIZE c.args.levels (vec_len c.args.node.now.children) (c.args.node.now.children.items ++ Leaf c.args.t ∷ []) c.add_leaf.new.handed.items c.add_leaf.new.node
-    (sized_leaf g.Params.RTreeParams.MIN_SIZE g.Params.RTreeParams.MAX_SIZE g.Params.RTreeParams.min_positive c.args.levels c.args.t c.args.node.now.children.items c.if-levels-eq0.true trees) c.add_leaf.ensures.same (c.add_leaf.ensures.most few) c.add_leaf.ensures.least
+    (sized_leaf g.Params.RTreeParams.MIN_SIZE g.Params.RTreeParams.MAX_SIZE g.Params.RTreeParams.min_positive c.args.levels c.args.t c.args.node.now.children.items c.if-levels-eq0.true sized.0) c.add_leaf.ensures.same (c.add_leaf.ensures.most sized.1) c.add_leaf.ensures.least
 
 pub insert_first-returns-then-not-is_empty-clause-kept : goal.insert_first-returns-then-not-is_empty-clause-kept
 insert_first-returns-then-not-is_empty-clause-kept g t c =
@@ -81,4 +81,4 @@ insert_first_in_child-returns-clause-below g t c =
 
 pub insert_first_in_child-returns-clause-sized : goal.insert_first_in_child-returns-clause-sized
 insert_first_in_child-returns-clause-sized g t c =
-    simp (c.in-Parent.is, outs-Parent) (λ trees. rw append-nil at (sized_child g.Params.RTreeParams.MIN_SIZE g.Params.RTreeParams.MAX_SIZE g.Params.RTreeParams.min_positive c.args.levels c.args.children.now.items c.args.index c.in-Parent.child c.insert_first.new.node None c.requires.above (omega (arith, c.args.children.now.ok.0)) (rw c.in-Parent.is at c.index_mut.ensures.value) trees (rw c.in-Parent.child-is at c.insert_first.ensures.sized)))
+    simp (c.in-Parent.is, outs-Parent) (λ trees. rw append-nil at (sized_child g.Params.RTreeParams.MIN_SIZE g.Params.RTreeParams.MAX_SIZE g.Params.RTreeParams.min_positive c.args.levels c.args.children.now.items c.args.index c.in-Parent.child c.insert_first.new.node None c.requires.above (omega (arith, c.args.children.now.ok.0)) (rw c.in-Parent.is at c.index_mut.ensures.value) trees (λ below few. (rw c.in-Parent.child-is at c.insert_first.ensures.sized) (below, few))))

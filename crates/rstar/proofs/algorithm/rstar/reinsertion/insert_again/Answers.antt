@@ -9,7 +9,7 @@ loop-leaf-init g c = record {
   bag = IsPermutation-refl _;
   kept = c.requires.root;
   leaves = c.requires.leaves;
-  sized = λ trees few. (trees, few);
+  sized = λ sized. sized;
   spares = c.requires.spares;
   grown = omega arith;
   enough = c.requires.enough;
@@ -36,7 +36,7 @@ loop-leaf-preserved g c =
       bag = taken_again _ c.loop-leaf.handed.items c.pop.new.self.items c.in-Leaf.t (all_elements c.loop-leaf.root.children.items) (all_elements c.insert_at_root-current.new.root.children.items) is c.loop-leaf.invariant.bag c.insert_at_root-current.ensures.bag;
       kept = c.insert_at_root-current.ensures.kept;
       leaves = (leaf_taken g.T.Envelope.Envelope.boxes g.T.RTreeObject.object g.Params.RTreeParams.MAX_SIZE c.args.widest c.loop-leaf.handed.items c.pop.new.self.items c.in-Leaf.t is c.loop-leaf.invariant.leaves).0;
-      sized = λ trees few. let before = c.loop-leaf.invariant.sized trees few in c.insert_at_root-current.ensures.sized before.0 before.1;
+      sized = λ sized. c.insert_at_root-current.ensures.sized (c.loop-leaf.invariant.sized sized);
       spares = c.insert_at_root-current.ensures.spares;
       grown = omega (arith, grown, len, more);
       enough = one_less (vec_len c.pop.new.self) (vec_len c.loop-leaf.handed) (c.args.levels + vec_len c.args.handed.now + 1) (vec_len c.loop-leaf.spares) (vec_len c.insert_at_root-current.new.spares) len c.loop-leaf.invariant.enough (omega (arith, grown, more, used, len));

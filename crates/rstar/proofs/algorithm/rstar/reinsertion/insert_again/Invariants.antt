@@ -2,7 +2,7 @@ use Rattle.std.proofs.Common.{◌≡◌, ◌+◌, ◌*◌, ◌≤◌, ◌++◌, 
 use Rattle.std.specs.List.{AllByRecursion}
 use Rattle.std.specs.List.Sorted.{IsPermutation}
 use Rattle.rstar.specs.Nodes.{all_elements}
-use Rattle.rstar.specs.Shapes.{AreTrees, IsAny, HasSize}
+use Rattle.rstar.specs.Shapes.{IsSizedTree}
 use Rattle.rstar.specs.Kept.{IsSpare, AreKept, IsKeptTree}
 use Rattle.rstar.proofs.algorithm.rstar.reinsertion.insert_again.Given as goal
 
@@ -11,8 +11,8 @@ invariant-loop-leaf g l = record {
   bag : IsPermutation (all_elements l.initial.root.children.items ++ all_elements l.initial.handed.items) (all_elements l.root.children.items ++ all_elements l.handed.items);
   kept : IsKeptTree g.T.Envelope.Envelope.boxes g.T.RTreeObject.object g.Params.RTreeParams.MAX_SIZE l.widest l.current l.root;
   leaves : AreKept g.T.Envelope.Envelope.boxes g.T.RTreeObject.object g.Params.RTreeParams.MAX_SIZE l.widest 0 l.handed.items;
-  sized : AreTrees (HasSize g.Params.RTreeParams.MIN_SIZE g.Params.RTreeParams.MAX_SIZE) IsAny l.levels l.initial.root.children.items → vec_len l.initial.root.children ≤ g.Params.RTreeParams.MAX_SIZE
-      → AreTrees (HasSize g.Params.RTreeParams.MIN_SIZE g.Params.RTreeParams.MAX_SIZE) IsAny l.current l.root.children.items × (vec_len l.root.children ≤ g.Params.RTreeParams.MAX_SIZE);
+  sized : IsSizedTree g.Params.RTreeParams.MIN_SIZE g.Params.RTreeParams.MAX_SIZE l.levels l.initial.root
+      → IsSizedTree g.Params.RTreeParams.MIN_SIZE g.Params.RTreeParams.MAX_SIZE l.current l.root;
   spares : AllByRecursion (IsSpare l.widest) l.spares.items;
   -- the root grew at most once for each leaf that went in
   grown : l.current + vec_len l.handed ≤ l.levels + vec_len l.initial.handed;
