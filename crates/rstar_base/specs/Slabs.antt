@@ -56,10 +56,12 @@ abbrev pub GivesSlab : {T : Type 0} → (T → ℤ) → ℕ → List T → Optio
 GivesSlab key s before result after =
     MatchOption result
     ((before ≡ []) × (after ≡ []))
-    (λ given. (before ≢ []) × MatchResult given (λ slab. IsSlabOf key s before slab.items after) (λ _. (s < length before) × (after ≡ [])))
+    (λ given. (before ≢ []) × MatchResult given (λ slab. IsSlabOf key s before slab.items after)
+        (λ _. (s < length before) × (after ≡ [])))
 
 -- The same of the iterator, by the keys on its axis. The size of the slabs and the axis stay.
-abbrev pub GivesNextSlab : {T : Type 0} → (T → ℕ → ℤ) → ClusterGroupIterator T → Option (Result (Vec T) AllocError) → ClusterGroupIterator T → Type 0
+abbrev pub GivesNextSlab : {T : Type 0} → (T → ℕ → ℤ) → ClusterGroupIterator T → Option (Result (Vec T) AllocError)
+    → ClusterGroupIterator T → Type 0
 GivesNextSlab key old result new =
     GivesSlab (λ t. key t (dimension_of old)) (slab_size_of old) (elements_left old) result (elements_left new)
     × (slab_size_of new ≡ slab_size_of old) × (dimension_of new ≡ dimension_of old)

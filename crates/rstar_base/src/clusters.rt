@@ -58,7 +58,8 @@ impl<T: RTreeObject> ClusterGroupIterator<T> {
     fn take_slab(&mut self) -> Result<Vec<T>, AllocError>
         requires some { elements_left self.old ≢ [] }
         requires cutting { IsCutting T.Envelope.Point.DIMENSIONS self.old }
-        ensures slab { IfOk result (λ slab. IsSlabOf (λ t. T.Envelope.boxes.axis_key (T.object.box_of t) (dimension_of self.old))
+        ensures slab { IfOk result (λ slab. IsSlabOf
+            (λ t. T.Envelope.boxes.axis_key (T.object.box_of t) (dimension_of self.old))
             (slab_size_of self.old) (elements_left self.old) slab.items (elements_left self.new)) }
         ensures fewer { slabs_left self.new < slabs_left self.old }
         ensures err { OnErr result (elements_left self.new ≡ []) }

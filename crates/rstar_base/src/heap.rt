@@ -103,7 +103,8 @@ impl<T: Ord + Drop> SmallHeap<T> {
         requires ordered { IsOrdered T.cmp self.old }
         requires items { I.can_next iter }
         ensures ordered { IsOrdered T.cmp self.new }
-        ensures ok { OnOk result ((xs : List T) × Drains I.next_gives iter xs × IsPermutation (items_of self.old ++ xs) (items_of self.new)) }
+        ensures ok { OnOk result ((xs : List T) × Drains I.next_gives iter xs
+            × IsPermutation (items_of self.old ++ xs) (items_of self.new)) }
         ensures err { OnErr result (self.new ≡ self.old) }
         ensures inline { length (items_of self.old) + size (I.remaining iter) ≤ 32 → IsOk result }
     {
@@ -125,7 +126,8 @@ fn put<T: Ord + Drop>(inline: &mut SmallVec<Option<T>, 32>, rest: &mut Vec<T>, i
     ensures filled { IsFilled inline.new }
     ensures rises { Rises T.cmp (present inline.new.items) }
     ensures heap { IsHeap T.cmp rest.new.items }
-    ensures bag { IsPermutation (item ∷ (present inline.old.items ++ rest.old.items)) (present inline.new.items ++ rest.new.items) }
+    ensures bag { IsPermutation (item ∷ (present inline.old.items ++ rest.old.items))
+        (present inline.new.items ++ rest.new.items) }
     ensures len { length inline.new.items + vec_len rest.new ≡ length inline.old.items + vec_len rest.old + 1 }
     ensures capacity { vec_capacity rest.new ≡ vec_capacity rest.old }
 {
@@ -185,9 +187,11 @@ fn is_above_all<T: Ord>(others: &[T], items: &[Option<T>]) -> bool
     requires rises { Rises T.cmp (present items.now) }
     requires heap { IsHeap T.cmp others.now }
     ensures there { result ≡ true → 0 < length others.now }
-    ensures above { result ≡ true → (d : T) → AllByRecursion (λ y. is_lt (T.cmp (slice_index_or others.now 0 d) y) ≡ false) (present items.now) }
+    ensures above { result ≡ true → (d : T)
+        → AllByRecursion (λ y. is_lt (T.cmp (slice_index_or others.now 0 d) y) ≡ false) (present items.now) }
     ensures none { result ≡ false → present items.now ≡ [] → others.now ≡ [] }
-    ensures below { result ≡ false → (xs : List T) (x : T) → present items.now ≡ xs ++ x ∷ [] → IsUpperBound T.cmp x others.now }
+    ensures below { result ≡ false → (xs : List T) (x : T) → present items.now ≡ xs ++ x ∷ []
+        → IsUpperBound T.cmp x others.now }
 {
     let Some(first) = others.first() else {
         return false;

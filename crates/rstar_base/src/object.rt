@@ -220,7 +220,8 @@ pub fn envelope_of_all<T: RTreeObject>(list: &[T]) -> T::Envelope
 /// How two elements compare by the `axis_key` of their envelopes.
 fn compare_on_axis<T: RTreeObject>(axis: usize, a: &T, b: &T) -> Ordering
     requires { axis < T.Envelope.Point.DIMENSIONS }
-    ensures { result ≡ int_cmp (T.Envelope.boxes.axis_key (T.object.box_of a.now) axis) (T.Envelope.boxes.axis_key (T.object.box_of b.now) axis) }
+    ensures { result ≡ int_cmp (T.Envelope.boxes.axis_key (T.object.box_of a.now) axis)
+        (T.Envelope.boxes.axis_key (T.object.box_of b.now) axis) }
 {
     a.envelope()
         .axis_key(axis)
@@ -237,7 +238,8 @@ pub fn sort_envelopes<T: RTreeObject>(axis: usize, list: &mut [T])
     list.sort_unstable_by(
         |a: &T, b: &T| -> Ordering
             requires { axis < T.Envelope.Point.DIMENSIONS }
-            ensures { result ≡ int_cmp (T.Envelope.boxes.axis_key (T.object.box_of a.now) axis) (T.Envelope.boxes.axis_key (T.object.box_of b.now) axis) }
+            ensures { result ≡ int_cmp (T.Envelope.boxes.axis_key (T.object.box_of a.now) axis)
+                (T.Envelope.boxes.axis_key (T.object.box_of b.now) axis) }
         { compare_on_axis(axis, a, b) },
     );
 }

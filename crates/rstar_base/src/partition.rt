@@ -56,7 +56,8 @@ fn compare_keys<S: RTreeNum>(a: S, b: S) -> Ordering
 fn key_at<T: RTreeObject>(axis: usize, list: &[T], k: usize) -> Distance<T>
     requires axis { axis < T.Envelope.Point.DIMENSIONS }
     requires place { k < length list.now }
-    ensures { (d : T) → T.Envelope.Point.Scalar.value result ≡ T.Envelope.boxes.axis_key (T.object.box_of (slice_index_or list.now k d)) axis }
+    ensures { (d : T) → T.Envelope.Point.Scalar.value result
+        ≡ T.Envelope.boxes.axis_key (T.object.box_of (slice_index_or list.now k d)) axis }
 {
     list[k].envelope().axis_key(axis)
 }
@@ -81,7 +82,8 @@ fn split_around<T: RTreeObject>(axis: usize, list: &mut [T], pivot: Distance<T>)
     ensures same { IsPermutation list.old list.new }
     ensures order { result.0 ≤ result.1 }
     ensures within { result.1 ≤ length list.old }
-    ensures around { IsAround (λ t. T.Envelope.boxes.axis_key (T.object.box_of t) axis) (T.Envelope.Point.Scalar.value pivot) result.0 result.1 list.new }
+    ensures around { IsAround (λ t. T.Envelope.boxes.axis_key (T.object.box_of t) axis)
+        (T.Envelope.Point.Scalar.value pivot) result.0 result.1 list.new }
 {
     let mut less = 0;
     let mut at = 0;

@@ -14,7 +14,8 @@ coordinate p axis = slice_index_or p axis (pos 0)
 
 -- the box of two opposite corners: on each axis from the lesser coordinate to the greater
 abbrev pub box_between : Corners → List (ℤ × ℤ)
-box_between c = between_corners 2 (λ axis. int_min (coordinate c.one axis) (coordinate c.other axis)) (λ axis. int_max (coordinate c.one axis) (coordinate c.other axis))
+box_between c = between_corners 2 (λ axis. int_min (coordinate c.one axis) (coordinate c.other axis))
+    (λ axis. int_max (coordinate c.one axis) (coordinate c.other axis))
 
 -- the rectangle lies in the box
 abbrev pub lies_in : List (ℤ × ℤ) → List (ℤ × ℤ) × ℕ → Bool

@@ -55,8 +55,10 @@ pub struct SelectInEnvelopeFunction<T: RTreeObject> {
 impl<T: RTreeObject> SelectInEnvelopeFunction<T> {
     /// Selects what the envelope contains, and opens the parents that it intersects.
     pub fn new(envelope: T::Envelope) -> Self
-        ensures accepts { ⟦<SelectInEnvelopeFunction<T> as SelectionFunction<T>>⟧.accepts result ≡ (λ e. T.Envelope.boxes.intersects envelope e) }
-        ensures selects { ⟦<SelectInEnvelopeFunction<T> as SelectionFunction<T>>⟧.selects result ≡ (λ t. T.Envelope.boxes.contains envelope (T.object.box_of t)) }
+        ensures accepts { ⟦<SelectInEnvelopeFunction<T> as SelectionFunction<T>>⟧.accepts result
+            ≡ (λ e. T.Envelope.boxes.intersects envelope e) }
+        ensures selects { ⟦<SelectInEnvelopeFunction<T> as SelectionFunction<T>>⟧.selects result
+            ≡ (λ t. T.Envelope.boxes.contains envelope (T.object.box_of t)) }
         ensures lawful { IsLawful T.Envelope.boxes T.object
             (⟦<SelectInEnvelopeFunction<T> as SelectionFunction<T>>⟧.accepts result)
             (⟦<SelectInEnvelopeFunction<T> as SelectionFunction<T>>⟧.selects result) }
@@ -127,7 +129,8 @@ impl<T: PointDistance> SelectAtPointFunction<T> {
     /// contain it.
     pub fn new(point: PointOf<T>) -> Self
         ensures accepts { ⟦<SelectAtPointFunction<T> as SelectionFunction<T>>⟧.accepts result
-            ≡ (λ e. T.Envelope.boxes.contains_point e (table T.Envelope.Point.DIMENSIONS (T.Envelope.Point.coord point))) }
+            ≡ (λ e. T.Envelope.boxes.contains_point e
+                (table T.Envelope.Point.DIMENSIONS (T.Envelope.Point.coord point))) }
         ensures selects { ⟦<SelectAtPointFunction<T> as SelectionFunction<T>>⟧.selects result
             ≡ (λ t. T.distances.contains_point t (table T.Envelope.Point.DIMENSIONS (T.Envelope.Point.coord point))) }
         ensures lawful { IsLawful T.Envelope.boxes T.object
@@ -141,9 +144,11 @@ impl<T: PointDistance> SelectAtPointFunction<T> {
 }
 
 impl<T: PointDistance> SelectionFunction<T> for SelectAtPointFunction<T> {
-    ghost accepts = { λ f e. T.Envelope.boxes.contains_point e (table T.Envelope.Point.DIMENSIONS (T.Envelope.Point.coord f.point)) };
+    ghost accepts = { λ f e. T.Envelope.boxes.contains_point e
+        (table T.Envelope.Point.DIMENSIONS (T.Envelope.Point.coord f.point)) };
 
-    ghost selects = { λ f t. T.distances.contains_point t (table T.Envelope.Point.DIMENSIONS (T.Envelope.Point.coord f.point)) };
+    ghost selects = { λ f t. T.distances.contains_point t
+        (table T.Envelope.Point.DIMENSIONS (T.Envelope.Point.coord f.point)) };
 
     fn should_unpack_parent(&self, envelope: &T::Envelope) -> bool {
         envelope.contains_point(&self.point)
@@ -187,9 +192,14 @@ impl<T: PointDistance> SelectWithinDistanceFunction<T> {
 }
 
 impl<T: PointDistance> SelectionFunction<T> for SelectWithinDistanceFunction<T> {
-    ghost accepts = { λ f e. int_le (pos (T.Envelope.boxes.distance_2 e (table T.Envelope.Point.DIMENSIONS (T.Envelope.Point.coord f.circle_origin)))) (T.Envelope.Point.Scalar.value f.squared_max_distance) };
+    ghost accepts = { λ f e. int_le
+        (pos (T.Envelope.boxes.distance_2 e
+        (table T.Envelope.Point.DIMENSIONS (T.Envelope.Point.coord f.circle_origin))))
+        (T.Envelope.Point.Scalar.value f.squared_max_distance) };
 
-    ghost selects = { λ f t. int_le (pos (T.distances.distance_2 t (table T.Envelope.Point.DIMENSIONS (T.Envelope.Point.coord f.circle_origin)))) (T.Envelope.Point.Scalar.value f.squared_max_distance) };
+    ghost selects = { λ f t. int_le
+        (pos (T.distances.distance_2 t (table T.Envelope.Point.DIMENSIONS (T.Envelope.Point.coord f.circle_origin))))
+        (T.Envelope.Point.Scalar.value f.squared_max_distance) };
 
     fn should_unpack_parent(&self, envelope: &T::Envelope) -> bool {
         let distance_2 = envelope.distance_2(&self.circle_origin);
