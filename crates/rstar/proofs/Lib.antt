@@ -10,3 +10,4 @@ pub mod Complete
 pub mod Chains
 pub mod Heights
 pub mod WholeTrees
+pub mod Visiting

@@ -5,7 +5,7 @@ use Rattle.std.specs.List.{AllByRecursion}
 use Rattle.std.specs.Borrow.{Bor}
 use Rattle.rstar.specs.declared.node.RTreeNode.{RTreeNode, Leaf, Parent}
 use Rattle.rstar.specs.declared.node.ParentNode.{ParentNode}
-use Rattle.rstar.specs.Nodes.{total, reach, given, all_given, all_reach, reach_below, reach_of, children_of, envelope_of, IsTree}
+use Rattle.rstar.specs.Nodes.{total, reach, given, all_given, given_of, all_reach, reach_below, reach_of, children_of, envelope_of, IsTree}
 use Rattle.rstar.specs.Walks.{usize_max, given_from_slices, reach_from_slices, IsLevel, AreSlices, IsUnderWay, steps, steps_of}
 use Rattle.rstar_base.proofs.Lists.{all_map}
 use Rattle.rstar.proofs.Rows.{given-Leaf, reach-Leaf, steps-Leaf, given-Parent, reach-Parent, steps-Parent, parent_of, no_leaf, no_parent, is_leaf, is_parent, IsLeafOf-Leaf, IsParentOf-Parent}
@@ -231,6 +231,24 @@ module _ {T E P S X : Type 0} where
       let p = is_parent _ n w in
       subst (IsTree Q' R' (suc h)) (sym p.1)
       (IsParentOf-Parent _ p.0 (f p.0 p.2.0, all_map (IsTree Q R h) (IsTree Q' R' h) (tree-weaker Q Q' R R' f k h) (children_of p.0) p.2.1))
+
+  -- nothing is given where nothing is left, from a root without children, and from one that is refused
+  pub given-start : (accepts : E → Bool) (selects : T → Bool) (path : Slices T E P S X) (nodes : Bor (List (RTreeNode T E P S X)))
+      → path ≡ [] → nodes.now ≡ [] → given_from_slices accepts selects (path ++ nodes ∷ []) ≡ []
+  given-start accepts selects path nodes empty none =
+      ap (λ (l : Slices T E P S X). given_from_slices accepts selects (l ++ nodes ∷ [])) empty ∙ ap (all_given accepts selects) none
+
+  pub given-refused : (accepts : E → Bool) (selects : T → Bool) (root : ParentNode T E P S X)
+      → accepts (envelope_of root) ≡ false → given_of accepts selects root ≡ []
+  given-refused accepts selects root refused = ap (λ (b : Bool). if b then all_given accepts selects (children_of root) else []) refused
+
+  pub given-empty : (accepts : E → Bool) (selects : T → Bool) (root : ParentNode T E P S X) → children_of root ≡ [] → given_of accepts selects root ≡ []
+  given-empty accepts selects root none =
+      ap (λ l. if accepts (envelope_of root) then all_given accepts selects l else []) none ∙ either (accepts (envelope_of root))
+    where
+      either : (b : Bool) → (let nothing : List T = [] in if b then nothing else nothing) ≡ []
+      either true = refl
+      either false = refl
 
   pub way-none : (accepts : E → Bool) (root : ParentNode T E P S X) (path : Slices T E P S X) (nodes : Bor (List (RTreeNode T E P S X))) (room : ℕ)
       → path ≡ [] → nodes.now ≡ [] → reach_of accepts root ≡ 0 → IsUnderWay accepts root (path ++ nodes ∷ []) room 0

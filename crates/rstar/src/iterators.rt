@@ -9,8 +9,10 @@ ghost use Rattle.rstar.specs.Walks.{HasItsWay, IsStep};
 
 use crate::node::{ParentNode, RTreeNode};
 use crate::path::Path;
+pub use crate::visits::select_nodes;
 use rstar_base::algorithm::selection_functions::{
-    SelectAllFunc, SelectInEnvelopeFunction, SelectionFunction,
+    SelectAllFunc, SelectAtPointFunction, SelectInEnvelopeFuncIntersecting,
+    SelectInEnvelopeFunction, SelectWithinDistanceFunction, SelectionFunction,
 };
 use rstar_base::object::RTreeObject;
 use std::alloc::AllocError;
@@ -35,6 +37,23 @@ pub type RTreeIterator<'a, T> = SelectionIterator<'a, T, SelectAllFunc>;
 
 /// The elements whose envelopes an envelope contains.
 pub type LocateInEnvelope<'a, T> = SelectionIterator<'a, T, SelectInEnvelopeFunction<T>>;
+
+/// The elements whose envelopes an envelope intersects.
+pub type LocateInEnvelopeIntersecting<'a, T> = SelectionIterator<
+    'a,
+    T,
+    SelectInEnvelopeFuncIntersecting<T>,
+>;
+
+/// The elements that contain a point.
+pub type LocateAllAtPoint<'a, T> = SelectionIterator<'a, T, SelectAtPointFunction<T>>;
+
+/// The elements within a distance of a point.
+pub type LocateWithinDistanceIterator<'a, T> = SelectionIterator<
+    'a,
+    T,
+    SelectWithinDistanceFunction<T>,
+>;
 
 /// What one step of a walk did.
 enum Step<'a, T> {

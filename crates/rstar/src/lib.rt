@@ -7,6 +7,7 @@ pub mod node;
 pub mod params;
 mod path;
 pub mod rtree;
+mod visits;
 
 pub use crate::algorithm::rstar::RStarInsertionStrategy;
 pub use crate::node::{ParentNode, RTreeNode};

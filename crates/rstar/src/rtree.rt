@@ -1,25 +1,22 @@
 //! The tree.
 
-ghost use Rattle.std.specs.Prelude.{◌≡◌, ◌⊎◌, ◌↔◌, ◌∷◌, ◌+◌, ◌<◌, ◌≤◌, [], true, false, length, OnOk, OnErr, IsOk, IfOk, IfErr, IfSome, IfNone, filter, vec_len};
+ghost use Rattle.std.specs.Prelude.{◌≡◌, ◌⊎◌, ◌↔◌, ◌∷◌, ◌+◌, ◌<◌, ◌≤◌, [], false, length, OnOk, OnErr, IfErr, IfSome, IfNone, vec_len};
 ghost use Rattle.std.specs.Result.{IsErrAnd};
 ghost use Rattle.std.specs.List.Sorted.{IsPermutation};
-ghost use Rattle.rstar_base.specs.Selections.{IsLawful};
-ghost use Rattle.rstar.specs.Selections.{IsPartOf, to_come, question_of, IsMade, IsWalking};
 ghost use Rattle.rstar.specs.Heights.{height_of, spare_lists};
 ghost use Rattle.rstar.specs.Kept.{HasRoom};
 ghost use Rattle.rstar.specs.Nodes.{children_of};
 ghost use Rattle.rstar.specs.Shapes.{IsSized};
 ghost use Rattle.rstar.specs.Trees.{root_of, size_of, elements_in, IsUnchanged, IsWholeTree};
 
+mod selections;
+mod visits;
+
 use crate::algorithm::rstar::RStarInsertionStrategy;
 use crate::algorithm::rstar::preparation::{lists_wanted, top_up};
 use crate::algorithm::rstar::reinsertion::insert_with_reinsertion;
-use crate::iterators::{LocateInEnvelope, RTreeIterator, SelectionIterator};
 use crate::node::{ParentNode, RTreeNode};
 use crate::params::{InsertCause, InsertError, InsertionStrategy};
-use rstar_base::algorithm::selection_functions::{
-    SelectAllFunc, SelectInEnvelopeFunction, SelectionFunction,
-};
 use rstar_base::envelope::Envelope;
 use rstar_base::object::RTreeObject;
 use rstar_base::params::{DefaultParams, RTreeParams};
@@ -107,63 +104,6 @@ impl<T: RTreeObject, Params: RTreeParams> RTree<T, Params> {
             → result ≡ length (elements_in self.now) }
     {
         self.size
-    }
-
-    /// All elements, in some order.
-    ///
-    /// It is refused where the allocator refuses the path of a tree of more than 13 levels of parents.
-    pub fn iter(&self) -> Result<RTreeIterator<'_, T>, AllocError>
-        requires { IsWholeTree T.Envelope.boxes T.object Params.MAX_SIZE self.now }
-        ensures all { IfOk result (λ it. to_come ⟦<SelectAllFunc as SelectionFunction<T>>⟧.accepts
-            ⟦<SelectAllFunc as SelectionFunction<T>>⟧.selects it ≡ elements_in self.now) }
-        ensures made { IfOk result (λ it. IsMade ⟦<SelectAllFunc as SelectionFunction<T>>⟧.accepts (root_of self.now)
-            (λ e. true) it) }
-        ensures walking { IfOk result (λ it. IsWalking ⟦<SelectAllFunc as SelectionFunction<T>>⟧.accepts it) }
-        ensures near { height_of (root_of self.now) ≤ 13 → IsOk result }
-    {
-        self.locate_with_selection_function(SelectAllFunc)
-    }
-
-    /// The elements whose envelopes an envelope contains, in some order. Its borders belong to it.
-    ///
-    /// It opens the parents whose envelopes intersect it. It is refused where the allocator refuses the path of a tree
-    /// of more than 13 levels of parents.
-    pub fn locate_in_envelope(
-        &self,
-        envelope: T::Envelope,
-    ) -> Result<LocateInEnvelope<'_, T>, AllocError>
-        requires { IsWholeTree T.Envelope.boxes T.object Params.MAX_SIZE self.now }
-        ensures all { IfOk result (λ it. to_come ⟦<SelectInEnvelopeFunction<T> as SelectionFunction<T>>⟧.accepts
-            ⟦<SelectInEnvelopeFunction<T> as SelectionFunction<T>>⟧.selects it
-            ≡ filter (λ t. T.Envelope.boxes.contains envelope (T.object.box_of t)) (elements_in self.now)) }
-        ensures made { IfOk result (λ it. IsMade ⟦<SelectInEnvelopeFunction<T> as SelectionFunction<T>>⟧.accepts
-            (root_of self.now) (λ e. T.Envelope.boxes.intersects envelope e) it) }
-        ensures walking { IfOk result (λ it. IsWalking ⟦<SelectInEnvelopeFunction<T> as SelectionFunction<T>>⟧.accepts it) }
-        ensures near { height_of (root_of self.now) ≤ 13 → IsOk result }
-    {
-        self.locate_with_selection_function(SelectInEnvelopeFunction::new(envelope))
-    }
-
-    /// The elements that a function selects, in some order. A function that is not lawful may miss some.
-    ///
-    /// It opens the parents that the function accepts. It is refused where the allocator refuses the path of a tree of
-    /// more than 13 levels of parents.
-    #[tactic(auto, unfolding(crate::specs::Trees::IsWholeTree))]
-    pub fn locate_with_selection_function<Func: SelectionFunction<T>>(
-        &self,
-        func: Func,
-    ) -> Result<SelectionIterator<'_, T, Func>, AllocError>
-        requires { IsWholeTree T.Envelope.boxes T.object Params.MAX_SIZE self.now }
-        ensures all { IfOk result (λ it. IsLawful T.Envelope.boxes T.object (Func.accepts func) (Func.selects func)
-            → to_come Func.accepts Func.selects it ≡ filter (Func.selects func) (elements_in self.now)) }
-        ensures part { IfOk result (λ it. IsPartOf (to_come Func.accepts Func.selects it)
-            (filter (Func.selects func) (elements_in self.now))) }
-        ensures question { IfOk result (λ it. question_of it ≡ func) }
-        ensures made { IfOk result (λ it. IsMade Func.accepts (root_of self.now) (Func.accepts func) it) }
-        ensures walking { IfOk result (λ it. IsWalking Func.accepts it) }
-        ensures near { height_of (root_of self.now) ≤ 13 → IsOk result }
-    {
-        SelectionIterator::new(&self.root, self.levels, func)
     }
 
     /// Adds an element, whose envelope is not empty, by `RStarInsertionStrategy`. Equal elements may be added, and are

@@ -1,11 +1,11 @@
 use Rattle.std.proofs.Common.{◌≡◌, ◌∙◌, sym, ap, refl, subst, arith, ◌≢◌, []}
 use Rattle.std.specs.Prelude.{⊤, ◌≤◌}
-use Rattle.rstar.specs.Nodes.{children_of, envelope_of, reach_of, reach_below, IsInner, IsElement}
-use Rattle.rstar.specs.Selections.{IsWalking}
+use Rattle.rstar.specs.Nodes.{children_of, envelope_of, reach_of, reach_below, given_of, IsInner, IsElement}
+use Rattle.rstar.specs.Selections.{IsWalking, to_come}
 use Rattle.rstar.specs.Walks.{IsLevel}
 use Rattle.rstar_base.proofs.Lists.{all_map}
 use Rattle.rstar.proofs.Heights.{levels_are}
-use Rattle.rstar.proofs.Walks.{tree-weaker, way-none, way-start, reach-asked, reach-refused, no-items, some-items}
+use Rattle.rstar.proofs.Walks.{tree-weaker, way-none, way-start, given-start, given-empty, given-refused, reach-asked, reach-refused, no-items, some-items}
 use Rattle.rstar.proofs.iterators.SelectionIterator.new.Goals as goal
 use Rattle.rstar.proofs.iterators.SelectionIterator.new.Goals.{then-is_empty-via-then-is_empty, then-is_empty-via-else-is_empty+then-not-should_unpack_parent}
 
@@ -44,3 +44,17 @@ returns-clause-made g c =
     let some = some-items (children_of root) _ _ c.is_empty.ensures c.if-is_empty.false root.children.ok.0 in
     let asked = reach-asked accepts (envelope_of root) (children_of root) some (sym c.should_unpack_parent.ensures ∙ c.if-not-should_unpack_parent.false) in
     record { root = refl; question = refl; opened = omega arith; at_most = omega arith }
+
+pub returns-then-is_empty-clause-gives : goal.returns-then-is_empty-clause-gives
+unfolding to_come
+returns-then-is_empty-clause-gives g c =
+    let accepts = g.Func.SelectionFunction.accepts c.args.func in
+    let selects = g.Func.SelectionFunction.selects c.args.func in
+    let root = c.args.root.now in
+    let nothing : given_of accepts selects root ≡ [] = elim c.then-is_empty.branch [
+      | then-is_empty-via-then-is_empty w ↦
+          given-empty accepts selects root (no-items (children_of root) _ _ c.is_empty.ensures w.if-is_empty.true root.children.ok.0)
+      | then-is_empty-via-else-is_empty+then-not-should_unpack_parent w ↦
+          given-refused accepts selects root (sym w.should_unpack_parent.ensures ∙ w.if-not-should_unpack_parent.true)
+    ] in
+    given-start accepts selects c.in_ok-path.path.items _ c.in_ok-path.ensures.empty refl ∙ sym nothing

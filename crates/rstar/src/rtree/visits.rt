@@ -1,0 +1,89 @@
+//! Visits of the elements that are selected.
+
+ghost use Rattle.std.specs.Prelude.{◌≡◌, filter};
+ghost use Rattle.rstar_base.specs.Points.{table};
+ghost use Rattle.rstar_base.specs.Selections.{IsLawful};
+ghost use Rattle.rstar.specs.Trees.{elements_in, IsWholeTree};
+ghost use Rattle.rstar.specs.Visits.{IsVisit, IsVisitWithin};
+
+use crate::rtree::RTree;
+use crate::visits::select_nodes;
+use rstar_base::algorithm::selection_functions::{
+    SelectAtPointFunction, SelectInEnvelopeFuncIntersecting, SelectInEnvelopeFunction,
+    SelectionFunction,
+};
+use rstar_base::envelope::Envelope;
+use rstar_base::object::{PointDistance, PointOf, RTreeObject};
+use rstar_base::params::RTreeParams;
+use rstar_base::point::{Point, RTreeNum};
+use std::ops::ControlFlow;
+
+impl<T: RTreeObject, Params: RTreeParams> RTree<T, Params> {
+    /// Calls a visitor at the elements whose envelopes an envelope contains, until a call breaks; its break is the
+    /// answer. It takes no memory.
+    pub fn locate_in_envelope_int<'a, V: FnMut(&'a T) -> ControlFlow<B>, B: Drop>(
+        &'a self,
+        envelope: T::Envelope,
+        visitor: V,
+    ) -> ControlFlow<B>
+        requires callable { (state : V) (x : _) → V.pre state x }
+        requires whole { IsWholeTree T.Envelope.boxes T.object Params.MAX_SIZE self.now }
+        ensures { IsVisit (λ t. t.now) V.step visitor
+            (filter (λ t. T.Envelope.boxes.contains envelope (T.object.box_of t)) (elements_in self.now)) result }
+    {
+        self.locate_with_selection_function_int(SelectInEnvelopeFunction::new(envelope), visitor)
+    }
+
+    /// Calls a visitor at the elements whose envelopes an envelope intersects, until a call breaks; its break is the
+    /// answer. It takes no memory.
+    pub fn locate_in_envelope_intersecting_int<'a, V: FnMut(&'a T) -> ControlFlow<B>, B: Drop>(
+        &'a self,
+        envelope: T::Envelope,
+        visitor: V,
+    ) -> ControlFlow<B>
+        requires callable { (state : V) (x : _) → V.pre state x }
+        requires whole { IsWholeTree T.Envelope.boxes T.object Params.MAX_SIZE self.now }
+        ensures { IsVisit (λ t. t.now) V.step visitor
+            (filter (λ t. T.Envelope.boxes.intersects envelope (T.object.box_of t)) (elements_in self.now)) result }
+    {
+        self.locate_with_selection_function_int(
+            SelectInEnvelopeFuncIntersecting::new(envelope),
+            visitor,
+        )
+    }
+
+    /// Calls a visitor at the elements that a function selects, each at most once, until a call breaks; its break is
+    /// the answer. A function that is not lawful may miss some. It takes no memory.
+    #[tactic(auto, unfolding(crate::specs::Trees::IsWholeTree))]
+    pub fn locate_with_selection_function_int<
+        'a,
+        F: SelectionFunction<T>,
+        V: FnMut(&'a T) -> ControlFlow<B>,
+        B: Drop,
+    >(&'a self, func: F, mut visitor: V) -> ControlFlow<B>
+        requires callable { (state : V) (x : _) → V.pre state x }
+        requires whole { IsWholeTree T.Envelope.boxes T.object Params.MAX_SIZE self.now }
+        ensures { IsVisitWithin (λ t. t.now) V.step (IsLawful T.Envelope.boxes T.object (F.accepts func) (F.selects func))
+            visitor (filter (F.selects func) (elements_in self.now)) result }
+    {
+        select_nodes(&self.root, &func, &mut visitor)
+    }
+}
+
+impl<T: PointDistance, Params: RTreeParams> RTree<T, Params> {
+    /// Calls a visitor at the elements that contain a point, until a call breaks; its break is the answer. It takes no
+    /// memory.
+    pub fn locate_all_at_point_int<'a, V: FnMut(&'a T) -> ControlFlow<B>, B: Drop>(
+        &'a self,
+        point: PointOf<T>,
+        visitor: V,
+    ) -> ControlFlow<B>
+        requires callable { (state : V) (x : _) → V.pre state x }
+        requires whole { IsWholeTree T.Envelope.boxes T.object Params.MAX_SIZE self.now }
+        ensures { IsVisit (λ t. t.now) V.step visitor
+            (filter (λ t. T.distances.contains_point t (table T.Envelope.Point.DIMENSIONS (T.Envelope.Point.coord point)))
+            (elements_in self.now)) result }
+    {
+        self.locate_with_selection_function_int(SelectAtPointFunction::new(point), visitor)
+    }
+}
