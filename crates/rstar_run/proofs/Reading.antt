@@ -1,6 +1,8 @@
 -- Lines that are read one after another.
-use Rattle.std.proofs.Common.{◌≡◌, ◌∙◌, ℕ, ◌<◌, Bool, true, false, cond, eqb, List, [], ◌∷◌, ◌++◌, length, Option, Some, None, IfSome, refl, sym, ap, subst, append_assoc, arith}
-use Rattle.std.specs.Io.KnownBytes.{IsAtEnd}
+use Rattle.std.proofs.Common.{◌≡◌, ◌∙◌, ℕ, zero, suc, ◌+◌, ◌<◌, zero-le, add-one, true≢false, take, drop, length-take-le, Bool, true, false, cond, eqb, List, [], ◌∷◌, ◌++◌, length, Option, Some, None, IfSome, refl, sym, ap, subst, append_assoc, arith}
+use Rattle.std.specs.Prelude.{slice_index, if◌then◌else◌, ◌==◌}
+use Rattle.std.specs.Io.KnownBytes.{IsAtEnd, prepend_known}
+use Rattle.memchr.specs.Find.{IsFirstByte, is_byte}
 use Rattle.std.specs.Io.BufRead.{take_through, drop_through}
 use Rattle.rstar_run.specs.Lines.{into_first, lines_of, TakesLine}
 
@@ -57,3 +59,32 @@ pub reads_all : (u v : Option (List ℕ)) (lines : List (List ℕ)) → Reads u 
 reads_all None v lines r e = tt
 reads_all (Some xs) None lines r e = absurd r
 reads_all (Some xs) (Some ys) lines r e = r ∙ ap (λ (l : List ℕ). lines ++ lines_of l) e
+
+-- the first LF of some bytes stands at a place
+through : (bytes rest : List ℕ) (at : ℕ) → at < length bytes → (slice_index bytes at == 10) ≡ true → ((k : ℕ) → k < at → (slice_index bytes k == 10) ≡ true → ⊥)
+    → (take (suc at) bytes ≡ take_through 10 (bytes ++ rest)) × (drop (suc at) bytes ++ rest ≡ drop_through 10 (bytes ++ rest))
+through [] rest at h e n = absurd (omega arith)
+through (b ∷ bytes) rest zero h e n = here (eqb b 10) e where
+  here : (is_end : Bool) → is_end ≡ true → (b ∷ [] ≡ cond is_end (b ∷ []) (b ∷ take_through 10 (bytes ++ rest))) × (bytes ++ rest ≡ cond is_end (bytes ++ rest) (drop_through 10 (bytes ++ rest)))
+  here true e = (refl, refl)
+  here false e = absurd (true≢false (sym e))
+through (b ∷ bytes) rest (suc at) h e n = later (eqb b 10) (n 0 (omega arith)) (through bytes rest at (omega arith) e (λ k l. n (suc k) (omega arith))) where
+  later : (is_end : Bool) → (is_end ≡ true → ⊥) → (take (suc at) bytes ≡ take_through 10 (bytes ++ rest)) × (drop (suc at) bytes ++ rest ≡ drop_through 10 (bytes ++ rest))
+      → (b ∷ take (suc at) bytes ≡ cond is_end (b ∷ []) (b ∷ take_through 10 (bytes ++ rest))) × (drop (suc at) bytes ++ rest ≡ cond is_end (bytes ++ rest) (drop_through 10 (bytes ++ rest)))
+  later true not_lf h = absurd (not_lf refl)
+  later false not_lf (p, q) = (ap (λ (l : List ℕ). b ∷ l) p, q)
+
+-- a line is taken out of what was read ahead
+pub takes_held : (capacity capacity' : ℕ) (inner inner' : Option (List ℕ)) (ahead ahead' line : List ℕ) (end : ℕ) → IsFirstByte (is_byte 10) ahead (Some end) → line ≡ take (end + 1) ahead
+    → capacity' ≡ capacity → inner' ≡ inner → ahead' ≡ drop (end + 1) ahead
+    → TakesLine (if capacity == 0 then None else prepend_known ahead inner) (if capacity' == 0 then None else prepend_known ahead' inner') line
+takes_held capacity capacity' inner inner' ahead ahead' line end (none_before, is_end) e c i a =
+    rw (c, i, a) (takes (capacity == 0) inner (λ rest. through ahead rest end none_before.high is_end (λ k l. none_before.before k zero-le l))) where
+      some : 0 < length line
+      some = omega (arith, ap length e, length-take-le (end + 1) ahead (omega (arith, none_before.high)))
+
+      takes : (unknown : Bool) (known : Option (List ℕ)) → ((rest : List ℕ) → (take (suc end) ahead ≡ take_through 10 (ahead ++ rest)) × (drop (suc end) ahead ++ rest ≡ drop_through 10 (ahead ++ rest)))
+          → TakesLine (if unknown then None else prepend_known ahead known) (if unknown then None else prepend_known (drop (end + 1) ahead) known) line
+      takes true known h = tt
+      takes false None h = tt
+      takes false (Some rest) h = (some, e ∙ rw add-one (h rest).0, ap Some (rw add-one (h rest).1))

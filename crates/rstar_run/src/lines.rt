@@ -1,7 +1,9 @@
 //! The lines of an input.
 
-ghost use Rattle.std.specs.Prelude.{◌≡◌, ◌+◌, ◌⊎◌, Ok, true, false, IfOk, IfErr};
+ghost use Rattle.std.specs.Prelude.{◌≡◌, ◌+◌, ◌⊎◌, Ok, true, false, IfOk, IfErr, OnOk};
+ghost use Rattle.std.specs.Io.Buffered.{reader_buffer};
 ghost use Rattle.std.specs.Io.KnownBytes.{IsAtEnd};
+ghost use Rattle.memchr.specs.Find.{IsFirstByte, is_byte};
 ghost use Rattle.rstar_run.specs.Lines.{bytes_left, TakesLine};
 ghost use Rattle.rstar_run.specs.Words.{without_end};
 
@@ -65,30 +67,60 @@ impl<R: Read + Drop> Lines<R> {
         }
     }
 
-    /// Whether the next line is there to its end, so that no read has to wait for it.
-    pub fn has_next(&self) -> bool {
-        memchr(b'\n', self.reader.buffer()).is_some()
+    /// Where the next line ends in what was read ahead, so that no read has to wait for it.
+    pub fn next_end(&self) -> Option<usize>
+        ensures { IsFirstByte (is_byte 10) (reader_buffer self.now.reader) result }
+    {
+        memchr(b'\n', self.reader.buffer())
     }
 
-    /// Reads the next line. False at the end of the input.
-    pub fn advance(&mut self) -> Result<bool, Stop>
+    /// Reads the next line, which `next_end` found or did not. False at the end of the input.
+    pub fn advance(&mut self, end: Option<usize>) -> Result<bool, Stop>
+        requires { IsFirstByte (is_byte 10) (reader_buffer self.old.reader) end }
         ensures line { result ≡ Ok true → TakesLine (bytes_left R.remaining self.old)
             (bytes_left R.remaining self.new) self.new.line.items }
         ensures number { result ≡ Ok true → self.new.number ≡ self.old.number + 1 }
         ensures end { result ≡ Ok false → IsAtEnd (bytes_left R.remaining self.old) }
         ensures stop { IfErr result (λ stop. (stop ≡ Stop.Memory) ⊎ (stop ≡ Stop.Input)) }
     {
+        let Some(number) = self.number.checked_add(1) else {
+            // More lines than can be numbered.
+            return Err(Stop::Input);
+        };
+        self.number = number;
+        match end {
+            Some(end) => self.take_held(end),
+            None => self.take_read(),
+        }
+    }
+
+    /// Takes the next line out of what was read ahead.
+    fn take_held(&mut self, end: usize) -> Result<bool, Stop>
+        requires { IsFirstByte (is_byte 10) (reader_buffer self.old.reader) (Some end) }
+        ensures line { OnOk result (TakesLine (bytes_left R.remaining self.old)
+            (bytes_left R.remaining self.new) self.new.line.items) }
+        ensures more { IfOk result (λ more. more ≡ true) }
+        ensures number { self.new.number ≡ self.old.number }
+        ensures stop { IfErr result (λ stop. stop ≡ Stop.Memory) }
+    {
+        self.line.clear();
+        let line = &self.reader.buffer()[..end + 1];
+        self.line.extend_from_slice(line)?;
+        self.reader.consume(end + 1);
+        Ok(true)
+    }
+
+    /// Reads the next line to its end. False at the end of the input.
+    fn take_read(&mut self) -> Result<bool, Stop>
+        ensures line { result ≡ Ok true → TakesLine (bytes_left R.remaining self.old)
+            (bytes_left R.remaining self.new) self.new.line.items }
+        ensures end { result ≡ Ok false → IsAtEnd (bytes_left R.remaining self.old) }
+        ensures number { self.new.number ≡ self.old.number }
+        ensures stop { IfErr result (λ stop. (stop ≡ Stop.Memory) ⊎ (stop ≡ Stop.Input)) }
+    {
         self.line.clear();
         match self.reader.read_until(b'\n', &mut self.line) {
-            Ok(0) => Ok(false),
-            Ok(_) => match self.number.checked_add(1) {
-                Some(number) => {
-                    self.number = number;
-                    Ok(true)
-                }
-                // More lines than can be numbered.
-                None => Err(Stop::Input),
-            },
+            Ok(count) => Ok(count != 0),
             Err(e) => Err(input_stop(e)),
         }
     }
@@ -100,7 +132,7 @@ impl<R: Read + Drop> Lines<R> {
         without_end(&self.line)
     }
 
-    /// How many lines were read, blank ones too.
+    /// The number of the line that was asked for last, from 1 on. Blank lines count.
     pub fn number(&self) -> u64
         ensures { result ≡ self.now.number }
     {

@@ -48,8 +48,8 @@ impl<T: Drop> From<InsertError<T>> for Stop {
 }
 
 /// Before the next line is read: where that may have to wait, what was printed is written first.
-fn show_before_reading<R: Read + Drop, W: Write>(
-    lines: &Lines<R>,
+fn show_before_reading<W: Write>(
+    next_end: Option<usize>,
     printer: &mut Printer,
     output: &mut W,
 ) -> Result<(), Stop>
@@ -58,10 +58,10 @@ fn show_before_reading<R: Read + Drop, W: Write>(
     ensures front { AppendsFront (W.contents output.old) (W.contents output.new) printer.old.held.items }
     ensures stop { IfErr result (λ stop. stop ≡ Stop.Output) }
 {
-    if lines.has_next() {
-        return Ok(());
+    match next_end {
+        Some(_) => Ok(()),
+        None => printer.flush(output),
     }
-    printer.flush(output)
 }
 
 /// Reads the next line and answers it. False at the end of the input.
@@ -77,8 +77,9 @@ fn answer_next<R: Read + Drop, W: Write>(
         printer.new.held.items result }
     ensures number { result ≡ Ok true → lines.new.number ≡ lines.old.number + 1 }
 {
-    show_before_reading(lines, printer, output)?;
-    if !lines.advance()? {
+    let next_end = lines.next_end();
+    show_before_reading(next_end, printer, output)?;
+    if !lines.advance(next_end)? {
         return Ok(false);
     }
     match parse_line(lines.text()) {

@@ -1,6 +1,5 @@
-use Rattle.std.proofs.Common.{◌-◌, ◌++◌, [], length, drop, take, refl, sym, append-nil, arith}
-use Rattle.std.specs.Prelude.{codes, decimal}
-use Rattle.std.specs.List.{flat_map}
+use Rattle.std.proofs.Common.{◌-◌, [], length, drop, take, refl, arith}
+use Rattle.std.specs.Prelude.{codes}
 use Rattle.std.proofs.lemmas.Result.{on_ok_weaker}
 use Rattle.rstar_run.proofs.Prints.{at_first, more, last, some_more, first_number, next_number, no_number}
 use Rattle.rstar_run.proofs.answers.print_list.Goals as goal

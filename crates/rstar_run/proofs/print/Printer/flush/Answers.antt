@@ -1,5 +1,5 @@
 use Rattle.std.proofs.KnownBytes.{Appends-kept}
-use Rattle.rstar_run.proofs.Prints.{all_written, front_kept}
+use Rattle.rstar_run.proofs.Prints.{front_kept}
 use Rattle.rstar_run.proofs.print.Printer.flush.Goals as goal
 
 pub returns-in-Ok-clause-all : goal.returns-in-Ok-clause-all

@@ -1,4 +1,3 @@
-use Rattle.std.proofs.Common.{refl}
 use Rattle.rstar_run.proofs.Prints.{holds, none_written}
 use Rattle.rstar_run.proofs.print.Printer.put.Goals as goal
 
