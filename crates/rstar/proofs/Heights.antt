@@ -21,9 +21,6 @@ module _ {T E P S X : Type 0} where
   unfolding levels
   levels-Parent p = fold_tree-Parent _ _ p
 
-  pub levels-first : (ns ms : List (RTreeNode T E P S X)) (n : RTreeNode T E P S X) (rest : List (RTreeNode T E P S X)) → ns ≡ n ∷ rest → levels_below ns ≡ levels n
-  levels-first ns ms n rest e = ap levels_below e
-
   -- trees with a child on each level have as many levels as their leaves lie below them
   pub levels_are : (Q : ParentNode T E P S X → Type 0) (R : T → Type 0) (some : (p : ParentNode T E P S X) → Q p → p.children.items ≢ []) (h : ℕ) (ns : List (RTreeNode T E P S X))
       → ns ≢ [] → AreTrees Q R h ns → levels_below ns ≡ h

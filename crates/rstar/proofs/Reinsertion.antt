@@ -89,9 +89,6 @@ module _ {T E P S X : Type 0} (min max : ℕ) where
 pub one_less : (m n b s t : ℕ) → m + 1 ≡ n → n * b ≤ s → s ≤ t + b → m * b ≤ t
 one_less m n b s t is all used = let all' : (m + 1) * b ≤ s = rw is all in omega (arith, all', used)
 
-pub first_of_all : (m n b s : ℕ) → m + 1 ≡ n → n * b ≤ s → b ≤ s
-first_of_all m n b s is all = let all' : (m + 1) * b ≤ s = rw is all in omega (arith, all')
-
 two_more : (r b s : ℕ) → 0 < r → r * (b + 2) ≤ s + 1 → r * b ≤ s
 two_more r b s some lists = omega (arith, lists, some)
 

@@ -1,12 +1,12 @@
 -- From what a tree keeps to what an insertion asks, and back.
-use Rattle.std.proofs.Common.{◌≡◌, ◌≢◌, ℕ, zero, suc, ◌+◌, ◌*◌, ◌<◌, ◌≤◌, List, [], ◌∷◌, length, max, min, refl, ap, sym, ◌∙◌, subst, arith}
+use Rattle.std.proofs.Common.{◌≡◌, ◌≢◌, ℕ, zero, suc, ◌<◌, List, [], ◌∷◌, length, max, min, refl, ap, sym, ◌∙◌, subst, arith}
 use Rattle.rstar_base.specs.Envelopes.{Boxes}
 use Rattle.rstar_base.specs.Elements.{Objects}
 use Rattle.rstar.specs.declared.node.RTreeNode.{RTreeNode}
 use Rattle.rstar.specs.declared.node.ParentNode.{ParentNode}
 use Rattle.rstar.specs.Nodes.{IsTree, IsElement, IsInner, AreWhole, children_of}
 use Rattle.rstar.specs.Shapes.{AreTrees, IsAny, HasSize, IsSized}
-use Rattle.rstar.specs.Heights.{levels_below, spare_lists}
+use Rattle.rstar.specs.Heights.{levels_below}
 use Rattle.rstar.specs.Kept.{IsRoomy, IsKeptInner, AreKept, IsKeptTree}
 use Rattle.rstar.proofs.Heights.{levels_are}
 use Rattle.rstar.proofs.Rows.{is_parent, parent_of, IsParentOf-Parent}
@@ -62,12 +62,3 @@ sized_along min max a b same s = record {
   most = rw same s.most;
   below = subst (AreTrees (HasSize min max) IsAny s.height) (sym same) s.below;
 }
-
-times_one : (m n : ℕ) → 0 < m → n ≤ m * n
-times_one zero n h = absurd (omega arith)
-times_one (suc m) n h = grind arith
-
--- the spare lists are enough for a way down and a new root
-pub enough_lists : (reinserted levels wanted have : ℕ) → wanted ≡ spare_lists reinserted (1 + levels) → wanted ≤ have → levels + 1 < have
-enough_lists reinserted levels wanted have is fits =
-    let all = times_one (max 1 reinserted) (1 + levels + reinserted + 2) (omega arith) in omega arith
