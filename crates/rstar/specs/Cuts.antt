@@ -36,4 +36,5 @@ module _ {T E : Type 0} (v : Boxes E) (box_of : T → E) (top least_part : ℕ) 
   pub record IsLeastCut (xs : List T) (k : ℕ) : Type 0 where
     pub allowed : IsAllowedCut least_part xs k
     pub least : (j : ℕ) → IsAllowedCut least_part xs j
-        → IsPairAtMost (overlap_at v box_of xs k) (areas_at v box_of top xs k) (overlap_at v box_of xs j) (areas_at v box_of top xs j)
+        → IsPairAtMost (overlap_at v box_of xs k) (areas_at v box_of top xs k) (overlap_at v box_of xs j)
+        (areas_at v box_of top xs j)

@@ -63,7 +63,8 @@ reach accepts n = fold_tree (λ t. 0) (λ e below. if accepts e then 1 + total b
 
 -- what such a walk gives
 unfoldable pub given : {T E P S X : Type 0} → (E → Bool) → (T → Bool) → RTreeNode T E P S X → List T
-given accepts selects n = fold_tree (λ t. if selects t then t ∷ [] else []) (λ e below. if accepts e then joined below else []) n
+given accepts selects n = fold_tree (λ t. if selects t then t ∷ [] else [])
+    (λ e below. if accepts e then joined below else []) n
 
 -- whether the node is a leaf
 unfoldable pub is_leaf_node : {T E P S X : Type 0} → RTreeNode T E P S X → Bool
@@ -126,11 +127,13 @@ given_of accepts selects root = if accepts (envelope_of root) then all_given acc
 -- ---- shapes
 
 -- one layer of a node: a leaf whose element meets Q, or a parent that meets Q
-abbrev pub IsLeafLayer : {T E P S X : Type 0} → (T → Type 0) → RTreeNode-F T E P S X (RTreeNode T E P S X) (ParentNode T E P S X) → Type 0
+abbrev pub IsLeafLayer : {T E P S X : Type 0} → (T → Type 0)
+    → RTreeNode-F T E P S X (RTreeNode T E P S X) (ParentNode T E P S X) → Type 0
 IsLeafLayer Q (layer.Leaf t) = Q t
 IsLeafLayer Q (layer.Parent p) = ⊥
 
-abbrev pub IsParentLayer : {T E P S X : Type 0} → (ParentNode T E P S X → Type 0) → RTreeNode-F T E P S X (RTreeNode T E P S X) (ParentNode T E P S X) → Type 0
+abbrev pub IsParentLayer : {T E P S X : Type 0} → (ParentNode T E P S X → Type 0)
+    → RTreeNode-F T E P S X (RTreeNode T E P S X) (ParentNode T E P S X) → Type 0
 IsParentLayer Q (layer.Leaf t) = ⊥
 IsParentLayer Q (layer.Parent p) = Q p
 
@@ -143,7 +146,8 @@ unfoldable pub IsParentOf : {T E P S X : Type 0} → (ParentNode T E P S X → T
 IsParentOf Q n = IsParentLayer Q (out-RTreeNode _ _ _ _ _ n)
 
 -- all leaves lie this many levels below the node, each parent meets Q and each element R
-abbrev pub IsTree : {T E P S X : Type 0} → (ParentNode T E P S X → Type 0) → (T → Type 0) → ℕ → RTreeNode T E P S X → Type 0
+abbrev pub IsTree : {T E P S X : Type 0} → (ParentNode T E P S X → Type 0) → (T → Type 0) → ℕ → RTreeNode T E P S X
+    → Type 0
 IsTree Q R zero n = IsLeafOf R n
 IsTree Q R (suc h) n = IsParentOf (λ p. Q p × AllByRecursion (IsTree Q R h) (children_of p)) n
 

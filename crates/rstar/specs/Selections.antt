@@ -48,8 +48,8 @@ pub record IsMade {T F E P S X : Type 0} (accepts : F → E → Bool) (over : Pa
   pub opened : opened_by it ≤ 1
   pub at_most : opened_by it ≤ reach_of asked over
 
--- a call of `next` gives the first of what is to come, of the same root and question, and another may follow; at the end
--- all that is reached was opened, and never more
+-- a call of `next` gives the first of what is to come, of the same root and question, and another may follow; at the
+-- end all that is reached was opened, and never more
 pub record GivesNext {T F E P S X : Type 0} (accepts : F → E → Bool) (selects : F → T → Bool)
     (old : SelectionIterator T F E P S X) (r : Option (Bor T)) (new : SelectionIterator T F E P S X) : Type 0 where
   pub gives : YieldsFirstRef (to_come accepts selects) old r new

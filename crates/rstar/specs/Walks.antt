@@ -37,8 +37,8 @@ AreSlices h [] = ⊤
 AreSlices zero (nodes ∷ slices) = ⊥
 AreSlices (suc h) (nodes ∷ slices) = AllByRecursion (IsLevel h) nodes.now × AreSlices h slices
 
--- slices with room for all above the last; the parents opened and those still to be opened are all that are reached from
--- the root
+-- slices with room for all above the last; the parents opened and those still to be opened are all that are reached
+-- from the root
 pub record IsUnderWay {T E P S X : Type 0} (accepts : E → Bool) (root : ParentNode T E P S X)
     (slices : List (Bor (List (RTreeNode T E P S X)))) (room opened : ℕ) : Type 0 where
   pub height : ℕ

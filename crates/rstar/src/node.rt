@@ -61,7 +61,11 @@ impl<T: RTreeObject> RTreeObject for RTreeNode<T> {
 
     ghost use Rattle.rstar.specs.Nodes.{node_box};
 
-    ghost object = { record { IsValue = λ n. T.Envelope.boxes.IsValue (node_box T.object.box_of n); box_of = node_box T.object.box_of } };
+    ghost object = { record {
+      IsValue = λ n. T.Envelope.boxes.IsValue
+          (node_box T.object.box_of n);
+      box_of = node_box T.object.box_of;
+    } };
 
     #[tactic(auto, unfolding(crate::specs::Nodes::node_box, crate::specs::Nodes::fold_tree))]
     fn envelope(&self) -> T::Envelope {

@@ -89,7 +89,11 @@ impl<X> Model for Path<X> {
 
     ghost coded = { path_code X.code };
 
-    ghost view = { λ p. record { items = take p.len (near_items p.near) ++ p.far.items; capacity = 12 + vec_capacity p.far } };
+    ghost view = { λ p. record {
+      items = take p.len (near_items p.near)
+          ++ p.far.items;
+      capacity = 12 + vec_capacity p.far;
+    } };
 
     ghost invariant = { λ p. (p.len ≤ 12) × (p.len < 12 → p.far.items ≡ []) };
 }

@@ -78,7 +78,8 @@ fn inside<'a, T: RTreeObject>(
     envelope: T::Envelope,
 ) -> Result<Vec<&'a T>, AllocError>
     requires { IsWholeTree T.Envelope.boxes T.object ⟦<DefaultParams as RTreeParams>⟧.MAX_SIZE tree.now }
-    ensures { IfOk result (λ v. map (λ r. r.now) v.items ≡ filter (λ t. T.Envelope.boxes.contains envelope (T.object.box_of t)) (elements_in tree.now)) }
+    ensures { IfOk result (λ v. map (λ r. r.now) v.items
+        ≡ filter (λ t. T.Envelope.boxes.contains envelope (T.object.box_of t)) (elements_in tree.now)) }
 {
     let mut all = Vec::new(alloc);
     for t in tree.locate_in_envelope(envelope)? {
@@ -95,7 +96,8 @@ fn first_inside<T: RTreeObject>(
     requires { IsWholeTree T.Envelope.boxes T.object ⟦<DefaultParams as RTreeParams>⟧.MAX_SIZE tree.now }
     ensures { IfOk result (λ o. MatchOption o
         (filter (λ t. T.Envelope.boxes.contains envelope (T.object.box_of t)) (elements_in tree.now) ≡ [])
-        (λ t. (rest : List T) × (filter (λ u. T.Envelope.boxes.contains envelope (T.object.box_of u)) (elements_in tree.now) ≡ t.now ∷ rest))) }
+        (λ t. (rest : List T) × (filter
+        (λ u. T.Envelope.boxes.contains envelope (T.object.box_of u)) (elements_in tree.now) ≡ t.now ∷ rest))) }
 {
     Ok(tree.locate_in_envelope(envelope)?.next())
 }

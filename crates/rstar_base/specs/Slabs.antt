@@ -57,7 +57,7 @@ GivesSlab key s before result after =
     MatchOption result
     ((before ≡ []) × (after ≡ []))
     (λ given. (before ≢ []) × MatchResult given (λ slab. IsSlabOf key s before slab.items after)
-        (λ _. (s < length before) × (after ≡ [])))
+    (λ _. (s < length before) × (after ≡ [])))
 
 -- The same of the iterator, by the keys on its axis. The size of the slabs and the axis stay.
 abbrev pub GivesNextSlab : {T : Type 0} → (T → ℕ → ℤ) → ClusterGroupIterator T → Option (Result (Vec T) AllocError)

@@ -15,7 +15,7 @@ pub record Held (X : Type 0) : Type 0 where
 abbrev pub held_code : {X : Type 0} → Coded X → Coded (Held X)
 held_code {X} code =
     code_by (List X × List X) (coded× (coded_list code) (coded_list code)) (λ h. (h.inline, h.rest))
-        (λ p. record { inline = p.0; rest = p.1 }) (λ _. refl)
+    (λ p. record { inline = p.0; rest = p.1 }) (λ _. refl)
 
 -- all of them
 abbrev pub items_of : {X : Type 0} → Held X → List X

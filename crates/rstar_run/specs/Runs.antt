@@ -94,9 +94,9 @@ Turn left left' number store store' old new held held' (Ok false) = IsAtEnd left
     × Prints old new held [] held'
 Turn left left' number store store' old new held held' (Err (stop.Line n)) =
     (bad : List ℕ) × TakesLine left left' bad × (meaning bad ≡ line.Bad) × (n ≡ number + 1)
-        × Prints old new held [] held'
+    × Prints old new held [] held'
 Turn left left' number store store' old new held held' (Err stop.Memory) = Prints old new held [] held'
 Turn left left' number store store' old new held held' (Err stop.Input) = Prints old new held [] held'
 Turn left left' number store store' old new held held' (Err stop.Output) =
     AppendsFront old new held ⊎ ((said : List ℕ) × TakesTurn left left' store said store'
-        × AppendsFront old new (held ++ said))
+    × AppendsFront old new (held ++ said))

@@ -48,8 +48,8 @@ impl InsertionStrategy for RStarInsertionStrategy {
 ///
 /// The parts are those of an arrangement of the list: a reordering that rises by the `axis_key` of one axis, where
 /// there is an axis. No allowed cut of that arrangement has a smaller overlap of the two merges, and none of the same
-/// overlap a smaller clamped sum of their areas. `spare` is an empty list with room for all children; no memory is taken. It
-/// costs a sort for each axis and one more, and a merge of all children for each allowed cut of each.
+/// overlap a smaller clamped sum of their areas. `spare` is an empty list with room for all children; no memory is
+/// taken. It costs a sort for each axis and one more, and a merge of all children for each allowed cut of each.
 pub fn split_children<T: RTreeObject, Params: RTreeParams>(
     list: Vec<RTreeNode<T>>,
     spare: Vec<RTreeNode<T>>,
@@ -58,7 +58,8 @@ pub fn split_children<T: RTreeObject, Params: RTreeParams>(
     requires empty { spare.items ≡ [] }
     requires room { vec_len list ≤ vec_capacity spare }
     ensures arranged { IsArrangement T.Envelope.Point.DIMENSIONS
-        (λ n axis. T.Envelope.boxes.axis_key (node_box T.object.box_of n) axis) list.items (result.0.items ++ result.1.items) }
+        (λ n axis. T.Envelope.boxes.axis_key (node_box T.object.box_of n) axis) list.items
+        (result.0.items ++ result.1.items) }
     ensures least { IsLeastCut T.Envelope.boxes (node_box T.object.box_of) (unsigned_abs T.Envelope.Point.Scalar.high)
         Params.MIN_SIZE (result.0.items ++ result.1.items) (vec_len result.0) }
     ensures capacities { (vec_capacity result.0 ≡ vec_capacity list) × (vec_capacity spare ≤ vec_capacity result.1) }

@@ -42,8 +42,8 @@ impl<T: RTreeObject, Params: RTreeParams> RTree<T, Params> {
 
     /// The elements whose envelopes an envelope contains, in some order. Its borders belong to it.
     ///
-    /// It opens the parents whose envelopes intersect it. It is refused where the allocator refuses the path of a tree of
-    /// more than 13 levels of parents.
+    /// It opens the parents whose envelopes intersect it. It is refused where the allocator refuses the path of a tree
+    /// of more than 13 levels of parents.
     pub fn locate_in_envelope(
         &self,
         envelope: T::Envelope,
@@ -52,7 +52,8 @@ impl<T: RTreeObject, Params: RTreeParams> RTree<T, Params> {
         ensures all { IfOk result (λ it. to_come ⟦<SelectInEnvelopeFunction<T> as SelectionFunction<T>>⟧.accepts
             ⟦<SelectInEnvelopeFunction<T> as SelectionFunction<T>>⟧.selects it
             ≡ filter (λ t. T.Envelope.boxes.contains envelope (T.object.box_of t)) (elements_in self.now)) }
-        ensures made { IfOk result (λ it. IsMade ⟦<SelectInEnvelopeFunction<T> as SelectionFunction<T>>⟧.accepts (root_of self.now)
+        ensures made { IfOk result (λ it. IsMade ⟦<SelectInEnvelopeFunction<T> as SelectionFunction<T>>⟧.accepts
+            (root_of self.now)
             (λ e. T.Envelope.boxes.intersects envelope e) it) }
         ensures walking { IfOk result (λ it. IsWalking ⟦<SelectInEnvelopeFunction<T> as SelectionFunction<T>>⟧.accepts it) }
         ensures near { height_of (root_of self.now) ≤ 13 → IsOk result }
@@ -62,8 +63,8 @@ impl<T: RTreeObject, Params: RTreeParams> RTree<T, Params> {
 
     /// The elements whose envelopes an envelope intersects, in some order. Touching is enough.
     ///
-    /// It opens the parents whose envelopes intersect it. It is refused where the allocator refuses the path of a tree of
-    /// more than 13 levels of parents.
+    /// It opens the parents whose envelopes intersect it. It is refused where the allocator refuses the path of a tree
+    /// of more than 13 levels of parents.
     pub fn locate_in_envelope_intersecting(
         &self,
         envelope: T::Envelope,
@@ -119,7 +120,8 @@ impl<T: PointDistance, Params: RTreeParams> RTree<T, Params> {
     /// It opens the parents whose envelopes contain the point until it finds one, and takes no memory.
     pub fn locate_at_point(&self, point: PointOf<T>) -> Option<&T>
         requires { IsWholeTree T.Envelope.boxes T.object Params.MAX_SIZE self.now }
-        ensures { IsOneOf (filter (λ t. T.distances.contains_point t (table T.Envelope.Point.DIMENSIONS (T.Envelope.Point.coord point)))
+        ensures { IsOneOf (filter (λ t. T.distances.contains_point t
+            (table T.Envelope.Point.DIMENSIONS (T.Envelope.Point.coord point)))
             (elements_in self.now)) result }
     {
         self.locate_at_point_int(point)
@@ -128,7 +130,8 @@ impl<T: PointDistance, Params: RTreeParams> RTree<T, Params> {
     /// The same as `locate_at_point`. In rstar the two walk in different ways.
     pub fn locate_at_point_int(&self, point: PointOf<T>) -> Option<&T>
         requires { IsWholeTree T.Envelope.boxes T.object Params.MAX_SIZE self.now }
-        ensures { IsOneOf (filter (λ t. T.distances.contains_point t (table T.Envelope.Point.DIMENSIONS (T.Envelope.Point.coord point)))
+        ensures { IsOneOf (filter (λ t. T.distances.contains_point t
+            (table T.Envelope.Point.DIMENSIONS (T.Envelope.Point.coord point)))
             (elements_in self.now)) result }
     {
         self.locate_first(&SelectAtPointFunction::new(point))
@@ -136,8 +139,8 @@ impl<T: PointDistance, Params: RTreeParams> RTree<T, Params> {
 
     /// The elements that contain a point, by `contains_point`, in some order.
     ///
-    /// It opens the parents whose envelopes contain the point. It is refused where the allocator refuses the path of a tree of
-    /// more than 13 levels of parents.
+    /// It opens the parents whose envelopes contain the point. It is refused where the allocator refuses the path of a
+    /// tree of more than 13 levels of parents.
     pub fn locate_all_at_point(
         &self,
         point: PointOf<T>,
@@ -145,9 +148,12 @@ impl<T: PointDistance, Params: RTreeParams> RTree<T, Params> {
         requires { IsWholeTree T.Envelope.boxes T.object Params.MAX_SIZE self.now }
         ensures all { IfOk result (λ it. to_come ⟦<SelectAtPointFunction<T> as SelectionFunction<T>>⟧.accepts
             ⟦<SelectAtPointFunction<T> as SelectionFunction<T>>⟧.selects it
-            ≡ filter (λ t. T.distances.contains_point t (table T.Envelope.Point.DIMENSIONS (T.Envelope.Point.coord point))) (elements_in self.now)) }
-        ensures made { IfOk result (λ it. IsMade ⟦<SelectAtPointFunction<T> as SelectionFunction<T>>⟧.accepts (root_of self.now)
-            (λ e. T.Envelope.boxes.contains_point e (table T.Envelope.Point.DIMENSIONS (T.Envelope.Point.coord point))) it) }
+            ≡ filter (λ t. T.distances.contains_point t
+            (table T.Envelope.Point.DIMENSIONS (T.Envelope.Point.coord point))) (elements_in self.now)) }
+        ensures made { IfOk result (λ it. IsMade ⟦<SelectAtPointFunction<T> as SelectionFunction<T>>⟧.accepts
+            (root_of self.now)
+            (λ e. T.Envelope.boxes.contains_point e
+            (table T.Envelope.Point.DIMENSIONS (T.Envelope.Point.coord point))) it) }
         ensures walking { IfOk result (λ it. IsWalking ⟦<SelectAtPointFunction<T> as SelectionFunction<T>>⟧.accepts it) }
         ensures near { height_of (root_of self.now) ≤ 13 → IsOk result }
     {
@@ -156,8 +162,8 @@ impl<T: PointDistance, Params: RTreeParams> RTree<T, Params> {
 
     /// The elements whose distance from a point is at most a limit, in some order. Distances are squared.
     ///
-    /// It opens the parents whose envelopes are no farther. It is refused where the allocator refuses the path of a tree of
-    /// more than 13 levels of parents.
+    /// It opens the parents whose envelopes are no farther. It is refused where the allocator refuses the path of a
+    /// tree of more than 13 levels of parents.
     pub fn locate_within_distance(
         &self,
         query_point: PointOf<T>,
@@ -169,7 +175,8 @@ impl<T: PointDistance, Params: RTreeParams> RTree<T, Params> {
             ≡ filter (λ t. int_le (pos (T.distances.distance_2 t
             (table T.Envelope.Point.DIMENSIONS (T.Envelope.Point.coord query_point))))
             (T.Envelope.Point.Scalar.value max_squared_radius)) (elements_in self.now)) }
-        ensures made { IfOk result (λ it. IsMade ⟦<SelectWithinDistanceFunction<T> as SelectionFunction<T>>⟧.accepts (root_of self.now)
+        ensures made { IfOk result (λ it. IsMade ⟦<SelectWithinDistanceFunction<T> as SelectionFunction<T>>⟧.accepts
+            (root_of self.now)
             (λ e. int_le (pos (T.Envelope.boxes.distance_2 e
             (table T.Envelope.Point.DIMENSIONS (T.Envelope.Point.coord query_point))))
             (T.Envelope.Point.Scalar.value max_squared_radius)) it) }

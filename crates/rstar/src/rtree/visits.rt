@@ -63,7 +63,8 @@ impl<T: RTreeObject, Params: RTreeParams> RTree<T, Params> {
     >(&'a self, func: F, mut visitor: V) -> ControlFlow<B>
         requires callable { (state : V) (x : _) → V.pre state x }
         requires whole { IsWholeTree T.Envelope.boxes T.object Params.MAX_SIZE self.now }
-        ensures { IsVisitWithin (λ t. t.now) V.step (IsLawful T.Envelope.boxes T.object (F.accepts func) (F.selects func))
+        ensures { IsVisitWithin (λ t. t.now) V.step
+            (IsLawful T.Envelope.boxes T.object (F.accepts func) (F.selects func))
             visitor (filter (F.selects func) (elements_in self.now)) result }
     {
         select_nodes(&self.root, &func, &mut visitor)
@@ -81,7 +82,8 @@ impl<T: PointDistance, Params: RTreeParams> RTree<T, Params> {
         requires callable { (state : V) (x : _) → V.pre state x }
         requires whole { IsWholeTree T.Envelope.boxes T.object Params.MAX_SIZE self.now }
         ensures { IsVisit (λ t. t.now) V.step visitor
-            (filter (λ t. T.distances.contains_point t (table T.Envelope.Point.DIMENSIONS (T.Envelope.Point.coord point)))
+            (filter (λ t. T.distances.contains_point t
+            (table T.Envelope.Point.DIMENSIONS (T.Envelope.Point.coord point)))
             (elements_in self.now)) result }
     {
         self.locate_with_selection_function_int(SelectAtPointFunction::new(point), visitor)

@@ -130,7 +130,7 @@ impl<T: PointDistance> SelectAtPointFunction<T> {
     pub fn new(point: PointOf<T>) -> Self
         ensures accepts { ⟦<SelectAtPointFunction<T> as SelectionFunction<T>>⟧.accepts result
             ≡ (λ e. T.Envelope.boxes.contains_point e
-                (table T.Envelope.Point.DIMENSIONS (T.Envelope.Point.coord point))) }
+            (table T.Envelope.Point.DIMENSIONS (T.Envelope.Point.coord point))) }
         ensures selects { ⟦<SelectAtPointFunction<T> as SelectionFunction<T>>⟧.selects result
             ≡ (λ t. T.distances.contains_point t (table T.Envelope.Point.DIMENSIONS (T.Envelope.Point.coord point))) }
         ensures lawful { IsLawful T.Envelope.boxes T.object

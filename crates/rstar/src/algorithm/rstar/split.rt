@@ -149,7 +149,8 @@ pub(crate) fn split_in_place<T: RTreeObject, Params: RTreeParams>(
     requires empty { spare.old.items ≡ [] }
     requires room { vec_len list.old ≤ vec_capacity spare.old }
     ensures arranged { IsArrangement T.Envelope.Point.DIMENSIONS
-        (λ t axis. T.Envelope.boxes.axis_key (T.object.box_of t) axis) list.old.items (list.new.items ++ spare.new.items) }
+        (λ t axis. T.Envelope.boxes.axis_key (T.object.box_of t) axis) list.old.items
+        (list.new.items ++ spare.new.items) }
     ensures least { IsLeastCut T.Envelope.boxes T.object.box_of (unsigned_abs T.Envelope.Point.Scalar.high)
         Params.MIN_SIZE (list.new.items ++ spare.new.items) (vec_len list.new) }
     ensures lengths { vec_len list.new + vec_len spare.new ≡ vec_len list.old }
