@@ -20,5 +20,5 @@ bytes_left remaining lines = reader_remaining (λ source. remaining source.0) li
 
 -- the first line was taken from the bytes that were left
 abbrev pub TakesLine : Option (List ℕ) → Option (List ℕ) → List ℕ → Type 0
-TakesLine old new line = IfSome old
-    (λ bytes. (0 < length line) × (line ≡ take_through 10 bytes) × (new ≡ Some (drop_through 10 bytes)))
+TakesLine old new line = IfSome old (λ bytes.
+    (0 < length line) × (line ≡ take_through 10 bytes) × (new ≡ Some (drop_through 10 bytes)))

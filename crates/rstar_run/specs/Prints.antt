@@ -1,5 +1,5 @@
--- What stands on an output, and what is held for it. An output is known by its bytes, `None` where std does not know
--- them.
+-- What stands on an output, and what is held for it. An output is known by its bytes, `None` where std does not
+-- know them.
 use Rattle.std.specs.Prelude.{◌≡◌, ℕ, List, ◌++◌, Option, Result, Ok, Err}
 use Rattle.std.specs.Io.KnownBytes.{Appends}
 use Rattle.rstar_run.specs.declared.program.Stop.{Stop}
@@ -19,8 +19,8 @@ pub record Prints (old new : Option (List ℕ)) (held text held' : List ℕ) : T
   pub text_is : held ++ text ≡ front ++ held'
 
 -- a text is printed whole, but that where a write failed some front of it stands on the output, and no more is printed
-abbrev pub Printed : {A : Type 0} → Result A Stop → Option (List ℕ) → Option (List ℕ) → List ℕ → List ℕ → List ℕ
-    → Type 0
+abbrev pub Printed : {A : Type 0} → Result A Stop
+    → Option (List ℕ) → Option (List ℕ) → List ℕ → List ℕ → List ℕ → Type 0
 Printed (Ok _) old new held text held' = Prints old new held text held'
 Printed (Err (stop.Line _)) old new held text held' = Prints old new held text held'
 Printed (Err stop.Memory) old new held text held' = Prints old new held text held'

@@ -26,8 +26,8 @@ Rectangles = List (List (ℤ × ℤ) × ℕ)
 -- command takes besides its own, and today's commands take none
 abbrev pub Tells : Rectangles → Line → List (List ℕ) → List ℕ → Rectangles → Type 0
 Tells old line.Blank more said new = (more ≡ []) × (said ≡ []) × (new ≡ old)
-Tells old (line.Command command) more said new = (more ≡ [])
-    × ((reply : Reply) × Answers old command reply new × (said ≡ text_of reply))
+Tells old (line.Command command) more said new =
+    (more ≡ []) × ((reply : Reply) × Answers old command reply new × (said ≡ text_of reply))
 Tells old line.Bad more said new = ⊥
 
 -- what the lines of one turn say: the first, and those that its command takes
@@ -75,7 +75,8 @@ pub record Ran (input old new : Option (List ℕ)) (status : ℕ) : Type 0 where
   pub ended : Result (Unit {0}) Stop
   pub said : List ℕ
   pub run : Run input ended said
-  pub printed : ((status ≡ status_of ended) × Appends old new (said ++ end_text ended))
+  pub printed :
+      ((status ≡ status_of ended) × Appends old new (said ++ end_text ended))
       ⊎ ((status ≡ 4) × AppendsFront old new (said ++ end_text ended))
 
 -- the first of the lines that were left was taken, and says `said`
@@ -85,18 +86,19 @@ pub record TakesTurn (left left' : Option (List ℕ)) (store : Rectangles) (said
   pub taken : TakesLine left left' line
   pub says : Says store (line ∷ []) said store'
 
--- one turn: a line in and its answer out, false at the end of the input
-abbrev pub Turn : Option (List ℕ) → Option (List ℕ) → ℕ → Rectangles → Rectangles → Option (List ℕ) → Option (List ℕ)
-    → List ℕ → List ℕ → Result Bool Stop → Type 0
-Turn left left' number store store' old new held held' (Ok true) = (said : List ℕ)
-    × TakesTurn left left' store said store' × Prints old new held said held'
-Turn left left' number store store' old new held held' (Ok false) = IsAtEnd left × (store' ≡ store)
-    × Prints old new held [] held'
+-- one turn: a line in and its answer out, false at the end of the input; the output and what is held for it are
+-- `old` and `held` before, `new` and `held'` after
+abbrev pub Turn : Option (List ℕ) → Option (List ℕ) → ℕ → Rectangles → Rectangles
+    → Option (List ℕ) → Option (List ℕ) → List ℕ → List ℕ → Result Bool Stop → Type 0
+Turn left left' number store store' old new held held' (Ok true) =
+    (said : List ℕ) × TakesTurn left left' store said store' × Prints old new held said held'
+Turn left left' number store store' old new held held' (Ok false) =
+    IsAtEnd left × (store' ≡ store) × Prints old new held [] held'
 Turn left left' number store store' old new held held' (Err (stop.Line n)) =
     (bad : List ℕ) × TakesLine left left' bad × (meaning bad ≡ line.Bad) × (n ≡ number + 1)
     × Prints old new held [] held'
 Turn left left' number store store' old new held held' (Err stop.Memory) = Prints old new held [] held'
 Turn left left' number store store' old new held held' (Err stop.Input) = Prints old new held [] held'
 Turn left left' number store store' old new held held' (Err stop.Output) =
-    AppendsFront old new held ⊎ ((said : List ℕ) × TakesTurn left left' store said store'
-    × AppendsFront old new (held ++ said))
+    AppendsFront old new held
+    ⊎ ((said : List ℕ) × TakesTurn left left' store said store' × AppendsFront old new (held ++ said))

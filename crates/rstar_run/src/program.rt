@@ -144,7 +144,8 @@ fn close<W: Write>(
         (printer.old.held.items ++ end_text ended)) }
     ensures front { AppendsFront (W.contents output.old) (W.contents output.new)
         (printer.old.held.items ++ end_text ended) }
-    ensures silent { ended ≡ Err Stop.Output → IsErr result × Keeps (W.contents output.old) (W.contents output.new) }
+    ensures silent { ended ≡ Err Stop.Output →
+        IsErr result × Keeps (W.contents output.old) (W.contents output.new) }
 {
     match ended {
         Ok(()) => printer.flush(output),
