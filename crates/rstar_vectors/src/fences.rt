@@ -41,6 +41,8 @@ impl Fences {
     }
 
     /// One fence more, between two corners.
+    // That a whole tree's size counts its elements is inside the word, which is unfolded here.
+    #[tactic(auto, unfolding(rstar::specs::Trees::IsWholeTree))]
     pub fn add(
         &mut self,
         number: u64,
