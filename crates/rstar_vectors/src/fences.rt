@@ -40,8 +40,8 @@ impl Fences {
         }
     }
 
-    /// One fence more, between two corners.
     // That a whole tree's size counts its elements is inside the word, which is unfolded here.
+    /// One fence more, between two corners.
     #[tactic(auto, unfolding(rstar::specs::Trees::IsWholeTree))]
     pub fn add(
         &mut self,
