@@ -6,6 +6,8 @@ use Rattle.std.proofs.lemmas.Iterator.{YieldsList}
 use Rattle.std.proofs.lemmas.Iterator.Consumers.{YieldsList-from_shown, YieldsList-end}
 use Rattle.rstar.specs.declared.iterators.SelectionIterator.{SelectionIterator}
 use Rattle.rstar.specs.declared.node.ParentNode.{ParentNode}
+use Rattle.rstar.specs.declared.iterators.joins.IntersectionIterator.{IntersectionIterator}
+use Rattle.rstar.specs.Joins.{pairs_to_come, GivesPair}
 use Rattle.rstar.specs.Selections.{to_come, IsMade, GivesNext}
 
 pub selection_list : {T F E P S X : Type 0} {accepts : F → E → Bool} {selects : F → T → Bool} {it : SelectionIterator T F E P S X} (xs : List T)
@@ -24,3 +26,15 @@ selection_end it xs e ys t y u last = (YieldsList-end (selection_list {it = it} 
 pub made_asking : {T F E P S X : Type 0} {accepts : F → E → Bool} {over : ParentNode T E P S X} {asked same : E → Bool} → asked ≡ same
     → (it : SelectionIterator T F E P S X) → IsMade accepts over asked it → IsMade accepts over same it
 made_asking {accepts = accepts} {over} e it made = subst (λ asked. IsMade accepts over asked it) e made
+
+-- the same of a join: the pairs that it gives, and at the end of a `for` over it
+pub pairs_list : {T E P S X U F Q R Y : Type 0} {meets : E → F → Bool} {left_box : T → E} {right_box : U → F} {it : IntersectionIterator T U E P S X F Q R Y} (xs : List (T × U))
+    → pairs_to_come meets left_box right_box it ≡ xs → YieldsList (GivesPair meets left_box right_box) (λ (p : Bor T × Bor U). (p.0.now, p.1.now)) it xs
+pairs_list {T} {E} {P} {S} {X} {U} {F} {Q} {R} {Y} {meets} {left_box} {right_box} {it} xs e =
+    subst (YieldsList (GivesPair meets left_box right_box) (λ (p : Bor T × Bor U). (p.0.now, p.1.now)) it) e
+    (YieldsList-from_shown (GivesPair meets left_box right_box) (λ (p : Bor T × Bor U). (p.0.now, p.1.now)) (pairs_to_come meets left_box right_box) (λ s t h. ap length h.gives.0) (λ s x t h. h.gives) it)
+
+pub pairs_end : {T E P S X U F Q R Y : Type 0} {meets : E → F → Bool} {left_box : T → E} {right_box : U → F} (it : IntersectionIterator T U E P S X F Q R Y) (xs : List (T × U))
+    → pairs_to_come meets left_box right_box it ≡ xs → (ys : List (Bor T × Bor U)) (t : IntersectionIterator T U E P S X F Q R Y) → Yields (GivesPair meets left_box right_box) it ys t
+    → (u : IntersectionIterator T U E P S X F Q R Y) → GivesPair meets left_box right_box t None u → map (λ (p : Bor T × Bor U). (p.0.now, p.1.now)) ys ≡ xs
+pairs_end it xs e ys t y u last = (YieldsList-end (pairs_list {it = it} xs e) ys t y None u refl last).0

@@ -65,7 +65,7 @@ module _ {T E P S X : Type 0} (v : Boxes E) (o : Objects T E) (accepts : E → B
 module _ {T E : Type 0} {IsPoint : List ℤ → Type 0} {v : Boxes E} {o : Objects T E} (laws : EnvelopeLaws IsPoint v) (ok : ObjectLaws v o)
     (accepts : E → Bool) (selects : T → Bool) (lawful : IsLawful v o accepts selects) where
   -- where a merge that contains the elements is refused, none of them is selected
-  none-selected : (ts : List T) (a : E) → AllByRecursion (IsElement v o) ts → v.IsValue a → accepts (v.merge a (hull v o.box_of ts)) ≡ false → filter selects ts ≡ []
+  pub none-selected : (ts : List T) (a : E) → AllByRecursion (IsElement v o) ts → v.IsValue a → accepts (v.merge a (hull v o.box_of ts)) ≡ false → filter selects ts ≡ []
   none-selected [] a all va refused = refl
   none-selected (t ∷ ts) a all va refused =
       let vt : v.IsValue (o.box_of t) = ok t all.0.0 in
@@ -92,7 +92,7 @@ module _ {T E : Type 0} {IsPoint : List ℤ → Type 0} {v : Boxes E} {o : Objec
       sym (none-selected ts v.empty all laws.empty_value (ap accepts (laws.merge_empty _ vm ∙ sym tight) ∙ is))
 
   module _ {P S X : Type 0} where
-    all-each : (h : ℕ) → ((n : RTreeNode T E P S X) → IsTree (IsInner v o) (IsElement v o) h n → given accepts selects n ≡ filter selects (elements n))
+    pub all-each : (h : ℕ) → ((n : RTreeNode T E P S X) → IsTree (IsInner v o) (IsElement v o) h n → given accepts selects n ≡ filter selects (elements n))
         → (ns : List (RTreeNode T E P S X)) → AreWhole v o h ns → all_given accepts selects ns ≡ filter selects (all_elements ns)
     all-each h one [] w = refl
     all-each h one (n ∷ ns) w =
@@ -100,7 +100,7 @@ module _ {T E : Type 0} {IsPoint : List ℤ → Type 0} {v : Boxes E} {o : Objec
         ∙ ap (λ (l : List T). filter selects (elements n) ++ l) (all-each h one ns w.1)
         ∙ sym (filter-append selects (elements n) (all_elements ns))
 
-    all-node : (h : ℕ) (n : RTreeNode T E P S X) → IsTree (IsInner v o) (IsElement v o) h n → given accepts selects n ≡ filter selects (elements n)
+    pub all-node : (h : ℕ) (n : RTreeNode T E P S X) → IsTree (IsInner v o) (IsElement v o) h n → given accepts selects n ≡ filter selects (elements n)
     all-node zero n w =
         let l = is_leaf (IsElement v o) n w in
         ap (given accepts selects) l.1 ∙ given-Leaf T E P S X accepts selects l.0

@@ -5,10 +5,6 @@ use Rattle.rstar.specs.declared.node.ParentNode.{ParentNode}
 use Rattle.rstar.specs.Nodes.{fold_tree}
 use Rattle.rstar.specs.Shapes.{AreTrees}
 use Rattle.rstar.specs.Heights.{levels, levels_below}
-use Rattle.rstar.specs.Walks.{IsLevel}
-use Rattle.std.specs.List.{AllByRecursion}
-use Rattle.std.specs.Prelude.{⊤}
-use Rattle.rstar.specs.Nodes.{children_of}
 use Rattle.rstar.proofs.Rows.{fold_tree-Parent, is_leaf, is_parent}
 
 module _ (T E P S X : Type 0) where
@@ -33,7 +29,3 @@ module _ {T E P S X : Type 0} where
       let below = levels_are Q R some h p.0.children.items (some p.0 p.2.0) p.2.1 in
       let whole = ap levels p.1 ∙ levels-Parent p.0 in
       omega (arith, below, whole)
-
-  -- nodes whose leaves lie on one level have so many levels as their first leaf shows
-  pub levels_of_level : (h : ℕ) (ns : List (RTreeNode T E P S X)) → ns ≢ [] → AllByRecursion (IsLevel h) ns → levels_below ns ≡ h
-  levels_of_level h ns full trees = levels_are (λ p. children_of p ≢ []) (λ t. ⊤) (λ p some. some) h ns full trees

@@ -1,6 +1,6 @@
--- What holds of each item of a list, at an index and after a write.
-use Rattle.std.proofs.Common.{ℕ, zero, suc, ◌<◌, List, [], ◌∷◌, length, get_or, set, arith}
-use Rattle.std.specs.List.{AllByRecursion}
+-- What holds of each item of a list, at an index and after a write, and of two lists place by place.
+use Rattle.std.proofs.Common.{ℕ, zero, suc, ◌<◌, List, [], ◌∷◌, ◌++◌, length, get_or, set, arith}
+use Rattle.std.specs.List.{AllByRecursion, AllZip}
 
 module _ {A : Type 0} (F : A → Type 0) where
   pub all_set : (xs : List A) (i : ℕ) (y : A) → AllByRecursion F xs → F y → AllByRecursion F (set xs i y)
@@ -12,3 +12,10 @@ module _ {A : Type 0} (F : A → Type 0) where
   all_get [] i d below h = absurd (omega arith)
   all_get (x ∷ xs) zero d below h = h.0
   all_get (x ∷ xs) (suc i) d below h = all_get xs i d (omega arith) h.1
+
+pub AllZip-append : {A B : Type 0} (R : A → B → Type 0) (xs xs' : List A) (ys ys' : List B)
+    → AllZip R xs ys → AllZip R xs' ys' → AllZip R (xs ++ xs') (ys ++ ys')
+AllZip-append R [] xs' [] ys' z w = w
+AllZip-append R [] xs' (y ∷ ys) ys' z w = absurd z
+AllZip-append R (x ∷ xs) xs' [] ys' z w = absurd z
+AllZip-append R (x ∷ xs) xs' (y ∷ ys) ys' z w = (z.0, AllZip-append R xs xs' ys ys' z.1 w)

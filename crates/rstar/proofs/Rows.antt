@@ -1,13 +1,14 @@
 -- What a definition over a tree says of a leaf, and of a parent by the list of its children.
 use Rattle.std.proofs.Common.{◌≡◌, ℕ, ◌+◌, Bool, List, [], ◌∷◌, ◌++◌, map, flat_map, sum_by, if◌then◌else◌, nat_lt, refl, ap, sym, ◌∙◌, subst}
 use Rattle.std.proofs.lemmas.List.Sums.{sum_by-cons}
-use Rattle.rstar.specs.declared.node.RTreeNode.{RTreeNode, Leaf, Parent, Row_of-RTreeNode, end_of-RTreeNode, more_of-RTreeNode, items-the_row-RTreeNode, items_hidden-the_row-RTreeNode-0, out-RTreeNode, roll-RTreeNode, roll-out-RTreeNode, RTreeNode-F}
+use Rattle.rstar.specs.declared.node.RTreeNode.{RTreeNode, Leaf, Parent, Row_of-RTreeNode, end_of-RTreeNode, more_of-RTreeNode, items-the_row-RTreeNode, items_hidden-the_row-RTreeNode-0, out-RTreeNode, roll-RTreeNode, roll-out-RTreeNode}
 use Rattle.rstar.specs.declared.node.RTreeNode.TheVariants.{outs-Parent, outs-Leaf, rolls-Parent, rolls-Leaf}
 use Rattle.rstar.specs.declared.node.RTreeNode.TheOpen as layer
 use Rattle.rstar.specs.declared.node.RTreeNode.TheBlock.{hidden-the_row-RTreeNode-0}
 use Rattle.rstar.specs.declared.node.ParentNode.{ParentNode}
 use Rattle.rstar.specs.Walks.{steps}
-use Rattle.rstar.specs.Nodes.{children_of, fold_tree, fold_row, joined, total, elements, parents, far, reach, given, all_reach, all_given, all_elements, all_parents, all_far, node_box, node_distance, IsLeafOf, IsParentOf, IsLeafLayer, IsParentLayer}
+use Rattle.rstar.specs.Shown.{row_of, shown, leaf as shown_leaf, parent as shown_parent}
+use Rattle.rstar.specs.Nodes.{Layer, children_of, fold_tree, fold_row, joined, total, elements, parents, far, reach, given, all_reach, all_given, all_elements, all_parents, all_far, node_box, node_distance, IsLeafOf, IsParentOf, IsLeafLayer, IsParentLayer}
 
 pub joined-map : {A B : Type 0} (f : A → List B) (xs : List A) → joined (map f xs) ≡ flat_map f xs
 joined-map f [] = refl
@@ -55,6 +56,10 @@ module _ {T E P S X : Type 0} where
   unfolding steps
   steps-Parent p = fold_tree-Parent _ _ p
 
+  pub shown-Parent : (p : ParentNode T E P S X) → shown (Parent p) ≡ shown_parent p.envelope (row_of (map shown (children_of p)))
+  unfolding shown
+  shown-Parent p = fold_tree-Parent _ _ p
+
   pub node_box-Parent : (box_of : T → E) (p : ParentNode T E P S X) → node_box box_of (Parent p) ≡ p.envelope
   unfolding node_box
   node_box-Parent box_of p = fold_tree-Parent _ _ p
@@ -82,14 +87,14 @@ module _ {T E P S X : Type 0} where
   pub is_parent : (Q : ParentNode T E P S X → Type 0) (n : RTreeNode T E P S X) → IsParentOf Q n → (p : ParentNode T E P S X) × (n ≡ Parent p) × Q p
   unfolding IsParentOf
   is_parent Q n h = by_layer (out-RTreeNode T E P S X n) (sym (roll-out-RTreeNode T E P S X n)) h where
-    by_layer : (w : RTreeNode-F T E P S X (RTreeNode T E P S X) (ParentNode T E P S X)) → n ≡ roll-RTreeNode T E P S X w → IsParentLayer Q w → (p : ParentNode T E P S X) × (n ≡ Parent p) × Q p
+    by_layer : (w : Layer T E P S X) → n ≡ roll-RTreeNode T E P S X w → IsParentLayer Q w → (p : ParentNode T E P S X) × (n ≡ Parent p) × Q p
     by_layer (layer.Leaf t) e h = absurd h
     by_layer (layer.Parent p) e h = (p, e ∙ rolls-Parent p, h)
 
   pub is_leaf : (Q : T → Type 0) (n : RTreeNode T E P S X) → IsLeafOf Q n → (t : T) × (n ≡ Leaf t) × Q t
   unfolding IsLeafOf
   is_leaf Q n h = by_layer (out-RTreeNode T E P S X n) (sym (roll-out-RTreeNode T E P S X n)) h where
-    by_layer : (w : RTreeNode-F T E P S X (RTreeNode T E P S X) (ParentNode T E P S X)) → n ≡ roll-RTreeNode T E P S X w → IsLeafLayer Q w → (t : T) × (n ≡ Leaf t) × Q t
+    by_layer : (w : Layer T E P S X) → n ≡ roll-RTreeNode T E P S X w → IsLeafLayer Q w → (t : T) × (n ≡ Leaf t) × Q t
     by_layer (layer.Leaf t) e h = (t, e ∙ rolls-Leaf t, h)
     by_layer (layer.Parent p) e h = absurd h
 
@@ -97,6 +102,10 @@ module _ (T E P S X : Type 0) where
   pub elements-Leaf : (t : T) → elements {E = E} {P = P} {S = S} {X = X} (Leaf t) ≡ t ∷ []
   unfolding elements fold_tree
   elements-Leaf t = refl
+
+  pub shown-Leaf : (t : T) → shown {E = E} {P = P} {S = S} {X = X} (Leaf t) ≡ shown_leaf t
+  unfolding shown fold_tree
+  shown-Leaf t = refl
 
   pub node_box-Leaf : (box_of : T → E) (t : T) → node_box {P = P} {S = S} {X = X} box_of (Leaf t) ≡ box_of t
   unfolding node_box fold_tree

@@ -1,24 +1,17 @@
 -- Whole trees: their elements, and that their envelopes are tight.
-use Rattle.std.proofs.Common.{◌≡◌, ℕ, ℤ, zero, suc, ◌≤◌, Bool, true, false, List, [], ◌∷◌, ◌++◌, refl, ap, sym, ◌∙◌, subst, arith}
+use Rattle.std.proofs.Common.{◌≡◌, ℕ, ℤ, zero, suc, List, [], ◌∷◌, ◌++◌, refl, ap, sym, ◌∙◌, subst}
 use Rattle.std.specs.List.{AllByRecursion}
 use Rattle.std.specs.List.Sorted.{IsPermutation}
 use Rattle.std.proofs.lemmas.List.Sorted.{IsPermutation-append_comm}
 use Rattle.std.proofs.lemmas.List.Concat.{flat_map-append}
 use Rattle.rstar_base.specs.Envelopes.{Boxes, EnvelopeLaws}
-use Rattle.rstar_base.specs.Elements.{Objects, ObjectLaws, Distances, DistanceLaws}
+use Rattle.rstar_base.specs.Elements.{Objects, ObjectLaws}
 use Rattle.rstar_base.specs.Hulls.{hull}
 use Rattle.rstar_base.proofs.Lists.{all-append, all_map}
-use Rattle.rstar_base.proofs.Hulls.{hull-value, hull-append, hull-single, hull-push}
+use Rattle.rstar_base.proofs.Hulls.{hull-append, hull-single, hull-push}
 use Rattle.rstar.specs.declared.node.RTreeNode.{RTreeNode, Leaf}
 use Rattle.rstar.specs.Nodes.{elements, all_elements, node_box, IsTree, IsElement, IsInner, AreWhole}
 use Rattle.rstar.proofs.Rows.{is_leaf, is_parent, elements-Leaf, elements-Parent, node_box-Leaf, node_box-Parent, IsLeafOf-Leaf}
-
-not_true : (b : Bool) → (b ≡ true → ⊥) → b ≡ false
-not_true true h = absurd (h refl)
-not_true false h = refl
-
-differ : {b : Bool} → b ≡ true → b ≡ false → ⊥
-differ p q = cc
 
 module _ {T E : Type 0} (v : Boxes E) (o : Objects T E) {P S X : Type 0} where
   each_sound : (Q : RTreeNode T E P S X → Type 0) → ((n : RTreeNode T E P S X) → Q n → AllByRecursion (IsElement v o) (elements n))
@@ -76,27 +69,3 @@ module _ {T E : Type 0} {IsPoint : List ℤ → Type 0} {v : Boxes E} {o : Objec
               ∙ sym (ap (hull v o.box_of) all ∙ hull-push laws o.box_of (all_elements ns) t (values-of (all_elements ns) (all_sound v o 0 ns w)) (ok t ok_t.0)),
           all-append (IsTree (IsInner v o) (IsElement v o) 0) ns (Leaf t ∷ []) w (IsLeafOf-Leaf T E P S X (IsElement v o) t ok_t, tt),
         )
-
-  -- the merge of some elements' envelopes is not empty
-  pub hull-full : (t : T) (ts : List T) → AllByRecursion (IsElement v o) (t ∷ ts) → v.is_empty (hull v o.box_of (t ∷ ts)) ≡ false
-  hull-full t ts h =
-      not_true (v.is_empty (hull v o.box_of (t ∷ ts)))
-      (λ e. differ (laws.merge_is_empty (o.box_of t) (hull v o.box_of ts) (ok t h.0.0) (hull-value laws o.box_of ts (values-of ts h.1)) e).0 h.0.1)
-
-  module _ {d : Distances T} (near : DistanceLaws IsPoint v o d) (p : List ℤ) (is_point : IsPoint p) where
-    above-lower : (m n : ℕ) (ts : List T) → m ≤ n → AllByRecursion (λ t. n ≤ d.distance_2 t p) ts → AllByRecursion (λ t. m ≤ d.distance_2 t p) ts
-    above-lower m n [] le h = tt
-    above-lower m n (t ∷ ts) le h = let one = h.0 in (omega (arith, le, one), above-lower m n ts le h.1)
-
-    -- no element is nearer than the merge of all
-    pub hull_least : (ts : List T) → AllByRecursion (IsElement v o) ts → AllByRecursion (λ t. v.distance_2 (hull v o.box_of ts) p ≤ d.distance_2 t p) ts
-    hull_least [] h = tt
-    hull_least (t ∷ []) h =
-        (subst (λ e. v.distance_2 e p ≤ d.distance_2 t p) (sym (hull-single laws o.box_of t (ok t h.0.0))) (near.near t p is_point h.0.0 h.0.1), tt)
-    hull_least (t ∷ u ∷ us) h =
-        let rest = hull-value laws o.box_of (u ∷ us) (values-of (u ∷ us) h.1) in
-        let first = laws.merge_distance (o.box_of t) (hull v o.box_of (u ∷ us)) p is_point (ok t h.0.0) rest h.0.1 in
-        let own = near.near t p is_point h.0.0 h.0.1 in
-        let second = laws.merge_distance (hull v o.box_of (u ∷ us)) (o.box_of t) p is_point rest (ok t h.0.0) (hull-full u us h.1) in
-        let swapped = subst (λ e. v.distance_2 e p ≤ v.distance_2 (hull v o.box_of (u ∷ us)) p) (laws.merge_comm (hull v o.box_of (u ∷ us)) (o.box_of t) rest (ok t h.0.0)) second in
-        (omega (arith, first, own), above-lower _ _ (u ∷ us) swapped (hull_least (u ∷ us) h.1))

@@ -1,5 +1,5 @@
 -- Walks by recursion, one part of a list after another.
-use Rattle.std.proofs.Common.{◌≡◌, ◌<◌, ℕ, zero, suc, ◌+◌, ◌∙◌, List, [], ◌∷◌, ◌++◌, inl, inr, ap, subst, sym, refl, Bool, if◌then◌else◌, map, arith, length, append_assoc, Option, Some, None}
+use Rattle.std.proofs.Common.{◌≡◌, ◌<◌, ◌∙◌, List, [], ◌∷◌, ◌++◌, inl, inr, ap, subst, sym, refl, Bool, if◌then◌else◌, map, arith, Option, Some, None}
 use Rattle.std.specs.Borrow.{Bor}
 use Rattle.std.specs.List.{Contains}
 use Rattle.std.specs.declared.ops.ControlFlow.{ControlFlow}
@@ -42,10 +42,6 @@ module _ {T E P S X : Type 0} (accepts : E → Bool) (selects : T → Bool) wher
 pub one_of : {T : Type 0} (xs ys : List T) (r : Option (Bor T)) → xs ≡ ys → IsFirst xs r → IsOneOf ys r
 one_of xs ys None e none = sym e ∙ none
 one_of xs ys (Some x) e first = subst (λ l. Contains l x.now) (sym first.1 ∙ e) (0, omega arith, refl)
-
--- the first below a parent is the first of all that follows
-pub first_of_both : {T : Type 0} (all xs ys : List T) (x : Bor T) → all ≡ xs ++ ys → IsFirst xs (Some x) → IsFirst all (Some x)
-first_of_both all xs ys x e first = (first.0 ++ ys, e ∙ ap (λ l. l ++ ys) first.1)
 
 -- ---- visits
 

@@ -1,5 +1,5 @@
 -- One step of a walk over slices of nodes.
-use Rattle.std.proofs.Common.{◌≡◌, ◌≢◌, ℕ, zero, suc, ◌+◌, ◌<◌, ◌≤◌, List, [], ◌∷◌, ◌++◌, length, map, refl, ap, ◌∙◌, sym, subst, arith, add-one, Bool, append_assoc, append-nil, length-append, if◌then◌else◌, true, false, min, ◌==◌}
+use Rattle.std.proofs.Common.{◌≡◌, ◌≢◌, ℕ, zero, suc, ◌+◌, ◌<◌, ◌≤◌, ◌⊎◌, inl, inr, List, [], ◌∷◌, ◌++◌, length, map, refl, ap, ◌∙◌, sym, subst, arith, Bool, append_assoc, append-nil, length-append, if◌then◌else◌, true, false, min, ◌==◌}
 use Rattle.std.proofs.lemmas.Bool.Decides.{nat_tests}
 use Rattle.std.specs.List.{AllByRecursion}
 use Rattle.std.specs.Borrow.{Bor}
@@ -8,7 +8,7 @@ use Rattle.rstar.specs.declared.node.ParentNode.{ParentNode}
 use Rattle.rstar.specs.Nodes.{total, reach, given, all_given, given_of, all_reach, reach_below, reach_of, children_of, envelope_of, IsTree}
 use Rattle.rstar.specs.Walks.{usize_max, given_from_slices, reach_from_slices, IsLevel, AreSlices, IsUnderWay, steps, steps_of}
 use Rattle.rstar_base.proofs.Lists.{all_map}
-use Rattle.rstar.proofs.Rows.{given-Leaf, reach-Leaf, steps-Leaf, given-Parent, reach-Parent, steps-Parent, parent_of, no_leaf, no_parent, is_leaf, is_parent, IsLeafOf-Leaf, IsParentOf-Parent}
+use Rattle.rstar.proofs.Rows.{given-Leaf, reach-Leaf, steps-Leaf, given-Parent, reach-Parent, steps-Parent, parent_of, no_leaf, is_leaf, is_parent, IsLeafOf-Leaf, IsParentOf-Parent}
 
 abbrev pub Slices : (T E P S X : Type 0) → Type 0
 Slices T E P S X = List (Bor (List (RTreeNode T E P S X)))
@@ -37,21 +37,40 @@ module _ {T E P S X : Type 0} where
   steps-push [] nodes = refl
   steps-push (m ∷ slices) nodes = omega (arith, steps-push slices nodes)
 
-  -- it lies as many levels above the leaves as the slices before it leave it
-  pub slices-push : (h k : ℕ) (slices : Slices T E P S X) (nodes : Bor (List (RTreeNode T E P S X)))
-      → k + 1 + length slices ≡ h → AreSlices h slices → AllByRecursion (IsLevel k) nodes.now → AreSlices h (slices ++ nodes ∷ [])
-  slices-push zero k slices nodes e is level = absurd (omega arith)
-  slices-push (suc h) k [] nodes e is level =
-      let same : k ≡ h = omega arith in (subst (λ n. AllByRecursion (IsLevel n) nodes.now) same level, is)
-  slices-push (suc h) k (m ∷ slices) nodes e is level = (is.0, slices-push h k slices nodes (omega arith) is.1 level)
+  -- slices that end above a level, where a slice of that level may follow
+  abbrev pub AreAbove : ℕ → ℕ → Slices T E P S X → Type 0
+  AreAbove h low [] = low < h
+  AreAbove h low (nodes ∷ slices) = (level : ℕ) × (level < h) × AllByRecursion (IsLevel level) nodes.now × AreAbove level low slices
 
-  pub slices-pop : (h : ℕ) (slices : Slices T E P S X) (nodes : Bor (List (RTreeNode T E P S X)))
-      → AreSlices h (slices ++ nodes ∷ []) → (k : ℕ) × (k + 1 + length slices ≡ h) × AreSlices h slices × AllByRecursion (IsLevel k) nodes.now
-  slices-pop zero [] nodes is = absurd is
-  slices-pop zero (m ∷ slices) nodes is = absurd is
-  slices-pop (suc h) [] nodes is = (h, omega arith, tt, is.0)
-  slices-pop (suc h) (m ∷ slices) nodes is =
-      let r = slices-pop h slices nodes is.1 in (r.0, omega (arith, r.1), (is.0, r.2), r.3)
+  slices-push : (h low : ℕ) (slices : Slices T E P S X) (nodes : Bor (List (RTreeNode T E P S X)))
+      → AreAbove h low slices → AllByRecursion (IsLevel low) nodes.now → AreSlices h (slices ++ nodes ∷ [])
+  slices-push h low [] nodes above level = (low, above, level, tt)
+  slices-push h low (m ∷ slices) nodes above level = (above.0, above.1, above.2, slices-push above.0 low slices nodes above.3 level)
+
+  slices-pop : (h : ℕ) (slices : Slices T E P S X) (nodes : Bor (List (RTreeNode T E P S X)))
+      → AreSlices h (slices ++ nodes ∷ []) → (low : ℕ) × AreAbove h low slices × AllByRecursion (IsLevel low) nodes.now
+  slices-pop h [] nodes is = (is.0, is.1, is.2)
+  slices-pop h (m ∷ slices) nodes is =
+      let r = slices-pop is.0 slices nodes is.3 in (r.0, (is.0, is.1, is.2, r.1), r.2)
+
+  -- they are slices, and so few that one fits for each level; they end above any lower level, with one of this level too
+  slices-of : (h low : ℕ) (slices : Slices T E P S X) → AreAbove h low slices → AreSlices h slices
+  slices-of h low [] above = tt
+  slices-of h low (m ∷ slices) above = (above.0, above.1, above.2, slices-of above.0 low slices above.3)
+
+  slices-few : (h low : ℕ) (slices : Slices T E P S X) → AreAbove h low slices → length slices + low < h
+  slices-few h low [] above = omega (arith, above)
+  slices-few h low (m ∷ slices) above = omega (arith, above.1, slices-few above.0 low slices above.3)
+
+  above-lower : (h low k : ℕ) (slices : Slices T E P S X) → k ≤ low → AreAbove h low slices → AreAbove h k slices
+  above-lower h low k [] less above = omega (arith, less, above)
+  above-lower h low k (m ∷ slices) less above = (above.0, above.1, above.2, above-lower above.0 low k slices less above.3)
+
+  above-push : (h low k : ℕ) (slices : Slices T E P S X) (nodes : Bor (List (RTreeNode T E P S X)))
+      → k < low → AreAbove h low slices → AllByRecursion (IsLevel low) nodes.now → AreAbove h k (slices ++ nodes ∷ [])
+  above-push h low k [] nodes less above level = (low, above, level, less)
+  above-push h low k (m ∷ slices) nodes less above level =
+      (above.0, above.1, above.2, above-push above.0 low k slices nodes less above.3 level)
 
   -- a parent has children, which lie one level below it
   pub level-Parent : (h : ℕ) (p : ParentNode T E P S X) → IsLevel h (Parent p) → (k : ℕ) × (h ≡ k + 1) × AllByRecursion (IsLevel k) (children_of p) × (children_of p ≢ [])
@@ -67,6 +86,10 @@ module _ {T E P S X : Type 0} where
     pub is : old ≡ left ++ nodes ∷ []
     pub first : nodes.now ≡ n ∷ rest.now
     pub more : new ≡ left ++ rest ∷ []
+
+  abbrev pub first-taken : (left : Slices T E P S X) (nodes rest : Bor (List (RTreeNode T E P S X))) {n : RTreeNode T E P S X}
+      → nodes.now ≡ n ∷ rest.now → IsTaken (left ++ nodes ∷ []) (left ++ rest ∷ []) n
+  first-taken left nodes rest first = record { left = left; nodes = nodes; rest = rest; is = refl; first = first; more = refl }
 
   pub given-take : (accepts : E → Bool) (selects : T → Bool) {old new : Slices T E P S X} {n : RTreeNode T E P S X}
       → IsTaken old new n → given_from_slices accepts selects old ≡ given accepts selects n ++ given_from_slices accepts selects new
@@ -89,28 +112,24 @@ module _ {T E P S X : Type 0} where
       let e3 = ap (all_reach accepts) taken.first in let e4 = ap (reach_from_slices accepts) taken.more in let e5 = reach-push accepts taken.left taken.rest in
       omega arith
 
-  -- what is left are slices, and n lies k levels above the leaves
-  pub slices-take : (h : ℕ) {old new : Slices T E P S X} {n : RTreeNode T E P S X}
-      → IsTaken old new n → AreSlices h old → (k : ℕ) × (k + length new ≡ h) × AreSlices h new × IsLevel k n
-  slices-take h {old} {new} {n} taken is =
+  -- n lies on the level of its slice, which the slices before it end above
+  pub slices-take : (h : ℕ) {old new : Slices T E P S X} {n : RTreeNode T E P S X} (taken : IsTaken old new n)
+      → AreSlices h old → (low : ℕ) × AreAbove h low taken.left × AllByRecursion (IsLevel low) taken.rest.now × IsLevel low n
+  slices-take h taken is =
       let popping = slices-pop h taken.left taken.nodes (subst (AreSlices h) taken.is is) in
-      let below = subst (AllByRecursion (IsLevel popping.0)) taken.first popping.3 in
-      let e = ap length taken.more in let f = length-append taken.left (taken.rest ∷ []) in (
-        popping.0,
-        omega (arith, popping.1),
-        subst (AreSlices h) (sym taken.more) (slices-push h popping.0 taken.left taken.rest popping.1 popping.2 below.1),
-        below.0,
-      )
+      let below = subst (AllByRecursion (IsLevel popping.0)) taken.first popping.2 in
+      (popping.0, popping.1, below.1, below.0)
 
   -- a node that is not opened
   pub way-take : (accepts : E → Bool) (root : ParentNode T E P S X) {old new : Slices T E P S X} {n : RTreeNode T E P S X} {room opened : ℕ}
       → IsTaken old new n → reach accepts n ≡ 0 → IsUnderWay accepts root old room opened → IsUnderWay accepts root new room opened
   way-take accepts root taken none way =
       let r = reach-take accepts taken in let w = way.all in
+      let level = slices-take way.height taken way.levels in
       record {
         height = way.height;
         fits = way.fits;
-        levels = (slices-take way.height taken way.levels).2;
+        levels = subst (AreSlices way.height) (sym taken.more) (slices-push way.height level.0 taken.left taken.rest level.1 level.2);
         count = way.count;
         counted = way.counted;
         all = omega arith;
@@ -146,50 +165,6 @@ module _ {T E P S X : Type 0} where
   nearer-passed p taken is =
       let e1 = steps-take taken in let e2 = ap steps is ∙ steps-Parent p in omega arith
 
-  -- a parent that is opened: there is room, and its children go to the end
-  pub room-opened : (accepts : E → Bool) (root : ParentNode T E P S X) {old mid : Slices T E P S X} {n : RTreeNode T E P S X} (p : ParentNode T E P S X) {room opened : ℕ}
-      → IsTaken old mid n → n ≡ Parent p → IsUnderWay accepts root old room opened → length mid ≤ room
-  room-opened accepts root p taken is way =
-      let level = slices-take way.height taken way.levels in
-      let down = level-Parent level.0 p (subst (IsLevel level.0) is level.3) in
-      omega (arith, way.fits, level.1, down.1)
-
-  pub way-opened : (accepts : E → Bool) (root : ParentNode T E P S X) {old mid new : Slices T E P S X} {n : RTreeNode T E P S X} (p : ParentNode T E P S X)
-      (children : Bor (List (RTreeNode T E P S X))) {room room' opened opened' : ℕ}
-      → IsTaken old mid n → n ≡ Parent p → accepts p.envelope ≡ true → children.now ≡ children_of p → new ≡ mid ++ children ∷ []
-      → room' ≡ room → opened' ≡ min (opened + 1) usize_max
-      → IsUnderWay accepts root old room opened → IsUnderWay accepts root new room' opened'
-  way-opened accepts root {mid = mid} p children taken is accepted same more fits counts way =
-      let level = slices-take way.height taken way.levels in
-      let down = level-Parent level.0 p (subst (IsLevel level.0) is level.3) in
-      let r = reach-take accepts taken in let w = way.all in
-      let rp = ap (reach accepts) is ∙ reach-Parent accepts p ∙ ap (λ (b : Bool). if b then 1 + all_reach accepts (children_of p) else 0) accepted in
-      let e1 = ap (reach_from_slices accepts) more in let e2 = reach-push accepts mid children in let e3 = ap (all_reach accepts) same in
-      record {
-        height = way.height;
-        fits = omega (arith, way.fits);
-        levels = subst (AreSlices way.height) (sym more) (slices-push way.height down.0 mid children (omega (arith, level.1, down.1)) level.2 (subst (AllByRecursion (IsLevel down.0)) (sym same) down.2));
-        count = way.count + 1;
-        counted = omega (arith, way.counted);
-        all = omega arith;
-      }
-
-  pub given-opened : (accepts : E → Bool) (selects : T → Bool) {old mid new : Slices T E P S X} {n : RTreeNode T E P S X} (p : ParentNode T E P S X)
-      (children : Bor (List (RTreeNode T E P S X)))
-      → IsTaken old mid n → n ≡ Parent p → accepts p.envelope ≡ true → children.now ≡ children_of p → new ≡ mid ++ children ∷ []
-      → given_from_slices accepts selects old ≡ given_from_slices accepts selects new
-  given-opened accepts selects {mid = mid} p children taken is accepted same more =
-      given-take accepts selects taken
-      ∙ ap (λ l. l ++ given_from_slices accepts selects mid)
-      (ap (given accepts selects) is ∙ given-Parent accepts selects p ∙ ap (λ (b : Bool). if b then all_given accepts selects (children_of p) else []) accepted ∙ sym (ap (all_given accepts selects) same))
-      ∙ sym (ap (given_from_slices accepts selects) more ∙ given-push accepts selects mid children)
-
-  pub nearer-opened : {old mid new : Slices T E P S X} {n : RTreeNode T E P S X} (p : ParentNode T E P S X) (children : Bor (List (RTreeNode T E P S X)))
-      → IsTaken old mid n → n ≡ Parent p → children.now ≡ children_of p → new ≡ mid ++ children ∷ [] → steps_of new < steps_of old
-  nearer-opened {mid = mid} p children taken is same more =
-      let e0 = steps-take taken in let e1 = ap steps is ∙ steps-Parent p in let e2 = ap steps_of more in let e3 = steps-push mid children in
-      let e4 = ap (λ l. total (map steps l)) same in omega arith
-
   -- ---- a slice with nothing left
 
   pub record IsDropped (old new : Slices T E P S X) : Type 0 where
@@ -206,19 +181,103 @@ module _ {T E P S X : Type 0} where
   nearer-drop {old} {new} dropped =
       let e1 = ap steps_of dropped.is in let e2 = steps-push new dropped.nodes in omega arith
 
+  reach-drop : (accepts : E → Bool) {old new : Slices T E P S X} → IsDropped old new → reach_from_slices accepts old ≡ reach_from_slices accepts new
+  reach-drop accepts {old} {new} dropped =
+      let e1 = ap (reach_from_slices accepts) dropped.is in let e2 = reach-push accepts new dropped.nodes in
+      let e3 = ap (all_reach accepts) dropped.none in omega arith
+
   pub way-drop : (accepts : E → Bool) (root : ParentNode T E P S X) {old new : Slices T E P S X} {room room' opened : ℕ}
       → IsDropped old new → room' ≡ room → IsUnderWay accepts root old room opened → IsUnderWay accepts root new room' opened
   way-drop accepts root {old} {new} dropped same way =
-      let e1 = ap (reach_from_slices accepts) dropped.is in let e2 = reach-push accepts new dropped.nodes in
-      let e3 = ap (all_reach accepts) dropped.none in let w = way.all in
+      let r = reach-drop accepts dropped in let w = way.all in
+      let popping = slices-pop way.height new dropped.nodes (subst (AreSlices way.height) dropped.is way.levels) in
       record {
         height = way.height;
         fits = omega (arith, way.fits);
-        levels = (slices-pop way.height new dropped.nodes (subst (AreSlices way.height) dropped.is way.levels)).2;
+        levels = slices-of way.height popping.0 new popping.1;
         count = way.count;
         counted = way.counted;
         all = omega arith;
       }
+
+  -- ---- a parent that is opened: its children go to the end, behind what is kept of the slice that it stood in
+
+  -- the rest of that slice is kept, but where nothing is left of it
+  abbrev pub IsKept : {old mid : Slices T E P S X} {n : RTreeNode T E P S X} → IsTaken old mid n → Slices T E P S X → Type 0
+  IsKept {old} {mid} taken kept = (kept ≡ mid) ⊎ ((kept ≡ taken.left) × (taken.rest.now ≡ []))
+
+  module _ {old mid : Slices T E P S X} {n : RTreeNode T E P S X} (taken : IsTaken old mid n) where
+    none-left : taken.rest.now ≡ [] → IsDropped mid taken.left
+    none-left none = record { nodes = taken.rest; is = taken.more; none = none }
+
+    module _ (kept : Slices T E P S X) where
+      given-kept : (accepts : E → Bool) (selects : T → Bool) → IsKept taken kept
+          → given_from_slices accepts selects mid ≡ given_from_slices accepts selects kept
+      given-kept accepts selects (inl same) = ap (given_from_slices accepts selects) (sym same)
+      given-kept accepts selects (inr none) =
+          given-drop accepts selects (none-left none.1) ∙ ap (given_from_slices accepts selects) (sym none.0)
+
+      reach-kept : (accepts : E → Bool) → IsKept taken kept → reach_from_slices accepts mid ≡ reach_from_slices accepts kept
+      reach-kept accepts (inl same) = ap (reach_from_slices accepts) (sym same)
+      reach-kept accepts (inr none) = reach-drop accepts (none-left none.1) ∙ ap (reach_from_slices accepts) (sym none.0)
+
+      steps-kept : IsKept taken kept → steps_of kept ≤ steps_of mid
+      steps-kept (inl same) = let e = ap steps_of same in omega arith
+      steps-kept (inr none) = let e = ap steps_of none.0 in let d = nearer-drop (none-left none.1) in omega arith
+
+      -- what is kept ends above each level below the one that the node was taken from
+      above-kept : (h low k : ℕ) → IsKept taken kept → AreAbove h low taken.left → AllByRecursion (IsLevel low) taken.rest.now
+          → k < low → AreAbove h k kept
+      above-kept h low k (inl same) above level less =
+          subst (AreAbove h k) (sym (same ∙ taken.more)) (above-push h low k taken.left taken.rest less above level)
+      above-kept h low k (inr none) above level less =
+          subst (AreAbove h k) (sym none.0) (above-lower h low k taken.left (omega arith) above)
+
+  pub room-opened : (accepts : E → Bool) (root : ParentNode T E P S X) {old mid : Slices T E P S X} {n : RTreeNode T E P S X} (p : ParentNode T E P S X) {room opened : ℕ}
+      → IsTaken old mid n → n ≡ Parent p → IsUnderWay accepts root old room opened → length mid ≤ room
+  room-opened accepts root p taken is way =
+      let level = slices-take way.height taken way.levels in
+      let down = level-Parent level.0 p (subst (IsLevel level.0) is level.3) in
+      let e = ap length taken.more in let f = length-append taken.left (taken.rest ∷ []) in
+      omega (arith, way.fits, down.1, slices-few way.height level.0 taken.left level.1)
+
+  pub way-opened : (accepts : E → Bool) (root : ParentNode T E P S X) {old mid : Slices T E P S X} (kept : Slices T E P S X) {new : Slices T E P S X} {n : RTreeNode T E P S X} (p : ParentNode T E P S X)
+      (children : Bor (List (RTreeNode T E P S X))) {room room' opened opened' : ℕ} (taken : IsTaken old mid n)
+      → IsKept taken kept → n ≡ Parent p → accepts p.envelope ≡ true → children.now ≡ children_of p → new ≡ kept ++ children ∷ []
+      → room' ≡ room → opened' ≡ min (opened + 1) usize_max
+      → IsUnderWay accepts root old room opened → IsUnderWay accepts root new room' opened'
+  way-opened accepts root kept p children taken keeps is accepted same more fits counts way =
+      let level = slices-take way.height taken way.levels in
+      let down = level-Parent level.0 p (subst (IsLevel level.0) is level.3) in
+      let r = reach-take accepts taken in let rk = reach-kept taken kept accepts keeps in let w = way.all in
+      let rp = ap (reach accepts) is ∙ reach-Parent accepts p ∙ ap (λ (b : Bool). if b then 1 + all_reach accepts (children_of p) else 0) accepted in
+      let e1 = ap (reach_from_slices accepts) more in let e2 = reach-push accepts kept children in let e3 = ap (all_reach accepts) same in
+      let above = above-kept taken kept way.height level.0 down.0 keeps level.1 level.2 (omega (arith, down.1)) in
+      record {
+        height = way.height;
+        fits = omega (arith, way.fits);
+        levels = subst (AreSlices way.height) (sym more) (slices-push way.height down.0 kept children above (subst (AllByRecursion (IsLevel down.0)) (sym same) down.2));
+        count = way.count + 1;
+        counted = omega (arith, way.counted);
+        all = omega arith;
+      }
+
+  pub given-opened : (accepts : E → Bool) (selects : T → Bool) {old mid : Slices T E P S X} (kept : Slices T E P S X) {new : Slices T E P S X} {n : RTreeNode T E P S X} (p : ParentNode T E P S X)
+      (children : Bor (List (RTreeNode T E P S X))) (taken : IsTaken old mid n)
+      → IsKept taken kept → n ≡ Parent p → accepts p.envelope ≡ true → children.now ≡ children_of p → new ≡ kept ++ children ∷ []
+      → given_from_slices accepts selects old ≡ given_from_slices accepts selects new
+  given-opened accepts selects {mid = mid} kept p children taken keeps is accepted same more =
+      given-take accepts selects taken
+      ∙ ap (λ l. l ++ given_from_slices accepts selects mid)
+      (ap (given accepts selects) is ∙ given-Parent accepts selects p ∙ ap (λ (b : Bool). if b then all_given accepts selects (children_of p) else []) accepted ∙ sym (ap (all_given accepts selects) same))
+      ∙ ap (λ l. all_given accepts selects children.now ++ l) (given-kept taken kept accepts selects keeps)
+      ∙ sym (ap (given_from_slices accepts selects) more ∙ given-push accepts selects kept children)
+
+  pub nearer-opened : {old mid : Slices T E P S X} (kept : Slices T E P S X) {new : Slices T E P S X} {n : RTreeNode T E P S X} (p : ParentNode T E P S X) (children : Bor (List (RTreeNode T E P S X)))
+      (taken : IsTaken old mid n) → IsKept taken kept → n ≡ Parent p → children.now ≡ children_of p → new ≡ kept ++ children ∷ [] → steps_of new < steps_of old
+  nearer-opened kept p children taken keeps is same more =
+      let e0 = steps-take taken in let e1 = ap steps is ∙ steps-Parent p in let e2 = ap steps_of more in let e3 = steps-push kept children in
+      let e4 = ap (λ l. total (map steps l)) same in let e5 = steps-kept taken kept keeps in omega arith
 
   -- ---- where a walk starts
 
@@ -259,7 +318,7 @@ module _ {T E P S X : Type 0} where
       record {
         height = 1;
         fits = omega arith;
-        levels = subst (AreSlices 1) (sym one) (subst (AllByRecursion (IsLevel 0)) (sym none) tt, tt);
+        levels = subst (AreSlices 1) (sym one) (0, omega arith, subst (AllByRecursion (IsLevel 0)) (sym none) tt, tt);
         count = 0;
         counted = omega arith;
         all = omega arith;
@@ -284,16 +343,11 @@ module _ {T E P S X : Type 0} where
       record {
         height = h + 1;
         fits = omega (arith, fits);
-        levels = subst (AreSlices (h + 1)) (sym one) (rw add-one (subst (AllByRecursion (IsLevel h)) (sym same) levels, tt));
+        levels = subst (AreSlices (h + 1)) (sym one) (h, omega arith, subst (AllByRecursion (IsLevel h)) (sym same) levels, tt);
         count = 1;
         counted = omega arith;
         all = omega (arith, e1, e2, e3);
       }
-
-module _ (T E P S X : Type 0) where
-  pub level-Leaf : (h : ℕ) (t : T) → IsLevel {E = E} {P = P} {S = S} {X = X} h (Leaf t) → h ≡ 0
-  level-Leaf zero t a = refl
-  level-Leaf (suc h) t a = absurd (no_parent _ t a)
 
 -- a list whose length was tested
 pub no-items : {A : Type 0} (xs : List A) (n : ℕ) (b : Bool) → b ≡ (n == 0) → b ≡ true → n ≡ length xs → xs ≡ []

@@ -17,12 +17,12 @@ some_item [] full = absurd (full refl)
 some_item (x ∷ xs) full = omega arith
 
 module _ {T E P S X : Type 0} (v : Boxes E) (o : Objects T E) (max widest : ℕ) where
-  all_kept : (h : ℕ) → ((n : RTreeNode T E P S X) → IsTree (IsInner v o) (IsElement v o) h n → IsTree (IsRoomy max widest) IsAny h n → IsTree (IsKeptInner v o max widest) (IsElement v o) h n)
+  pub all_kept : (h : ℕ) → ((n : RTreeNode T E P S X) → IsTree (IsInner v o) (IsElement v o) h n → IsTree (IsRoomy max widest) IsAny h n → IsTree (IsKeptInner v o max widest) (IsElement v o) h n)
       → (ns : List (RTreeNode T E P S X)) → AreWhole v o h ns → AreTrees (IsRoomy max widest) IsAny h ns → AreKept v o max widest h ns
   all_kept h one [] w r = tt
   all_kept h one (n ∷ ns) w r = (one n w.0 r.0, all_kept h one ns w.1 r.1)
 
-  tree_kept : (h : ℕ) (n : RTreeNode T E P S X) → IsTree (IsInner v o) (IsElement v o) h n → IsTree (IsRoomy max widest) IsAny h n → IsTree (IsKeptInner v o max widest) (IsElement v o) h n
+  pub tree_kept : (h : ℕ) (n : RTreeNode T E P S X) → IsTree (IsInner v o) (IsElement v o) h n → IsTree (IsRoomy max widest) IsAny h n → IsTree (IsKeptInner v o max widest) (IsElement v o) h n
   tree_kept zero n w r = w
   tree_kept (suc h) n w r =
       let p = is_parent _ n w in

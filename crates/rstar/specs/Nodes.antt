@@ -9,6 +9,15 @@ use Rattle.rstar.specs.declared.node.RTreeNode.{RTreeNode, Leaf, Parent', Row_of
 use Rattle.rstar.specs.declared.node.RTreeNode.TheOpen as layer
 use Rattle.rstar.specs.declared.node.ParentNode.{ParentNode}
 
+-- ---- layers
+
+-- the outermost layer of a node: a leaf with its element, or a parent
+abbrev pub Layer : Type 0 → Type 0 → Type 0 → Type 0 → Type 0 → Type 0
+Layer T E P S X = RTreeNode-F T E P S X (RTreeNode T E P S X) (ParentNode T E P S X)
+
+abbrev pub layer_of : {T E P S X : Type 0} → RTreeNode T E P S X → Layer T E P S X
+layer_of {T} {E} {P} {S} {X} n = out-RTreeNode T E P S X n
+
 -- ---- what a parent shows
 
 -- its children, left to right
@@ -127,23 +136,21 @@ given_of accepts selects root = if accepts (envelope_of root) then all_given acc
 -- ---- shapes
 
 -- one layer of a node: a leaf whose element meets Q, or a parent that meets Q
-abbrev pub IsLeafLayer : {T E P S X : Type 0} → (T → Type 0)
-    → RTreeNode-F T E P S X (RTreeNode T E P S X) (ParentNode T E P S X) → Type 0
+abbrev pub IsLeafLayer : {T E P S X : Type 0} → (T → Type 0) → Layer T E P S X → Type 0
 IsLeafLayer Q (layer.Leaf t) = Q t
 IsLeafLayer Q (layer.Parent p) = ⊥
 
-abbrev pub IsParentLayer : {T E P S X : Type 0} → (ParentNode T E P S X → Type 0)
-    → RTreeNode-F T E P S X (RTreeNode T E P S X) (ParentNode T E P S X) → Type 0
+abbrev pub IsParentLayer : {T E P S X : Type 0} → (ParentNode T E P S X → Type 0) → Layer T E P S X → Type 0
 IsParentLayer Q (layer.Leaf t) = ⊥
 IsParentLayer Q (layer.Parent p) = Q p
 
 -- the node is a leaf whose element meets Q
 unfoldable pub IsLeafOf : {T E P S X : Type 0} → (T → Type 0) → RTreeNode T E P S X → Type 0
-IsLeafOf Q n = IsLeafLayer Q (out-RTreeNode _ _ _ _ _ n)
+IsLeafOf Q n = IsLeafLayer Q (layer_of n)
 
 -- the node is a parent that meets Q
 unfoldable pub IsParentOf : {T E P S X : Type 0} → (ParentNode T E P S X → Type 0) → RTreeNode T E P S X → Type 0
-IsParentOf Q n = IsParentLayer Q (out-RTreeNode _ _ _ _ _ n)
+IsParentOf Q n = IsParentLayer Q (layer_of n)
 
 -- all leaves lie this many levels below the node, each parent meets Q and each element R
 abbrev pub IsTree : {T E P S X : Type 0} → (ParentNode T E P S X → Type 0) → (T → Type 0) → ℕ → RTreeNode T E P S X

@@ -27,3 +27,14 @@ shown n = fold_tree leaf (λ e below. parent e (row_of below)) n
 -- what a root shows
 abbrev pub shown_root : {T E P S X : Type 0} → ParentNode T E P S X → Shown T E
 shown_root root = parent (envelope_of root) (row_of (map shown (children_of root)))
+
+-- ---- the same without the elements: leaves in their places, parents with their envelopes
+
+abbrev mutual
+  pub outline : {T E : Type 0} → Shown T E → Shown (Unit {0}) E
+  outline (leaf t) = leaf tt
+  outline (parent e below) = parent e (outline_row below)
+
+  pub outline_row : {T E : Type 0} → ShownRow T E → ShownRow (Unit {0}) E
+  outline_row end = end
+  outline_row (more n ns) = more (outline n) (outline_row ns)

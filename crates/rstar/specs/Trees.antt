@@ -8,7 +8,7 @@ use Rattle.rstar_base.specs.Elements.{Objects}
 use Rattle.rstar.specs.declared.node.ParentNode.{ParentNode}
 use Rattle.rstar.specs.declared.rtree.RTree.{RTree}
 use Rattle.rstar.specs.Nodes.{children_of, elements_of, envelopes_of, IsWhole}
-use Rattle.rstar.specs.Shown.{shown_root}
+use Rattle.rstar.specs.Shown.{shown_root, outline}
 use Rattle.rstar.specs.Shapes.{AreTrees, IsAny}
 use Rattle.rstar.specs.Heights.{levels_below}
 use Rattle.rstar.specs.Kept.{HasRoom, IsRoomy, IsSpare}
@@ -35,6 +35,11 @@ pub record IsUnchanged {T D E P S X : Type 0} (old new : RTree T D E P S X) : Ty
   pub size : size_of new ≡ size_of old
   pub elements : elements_in new ≡ elements_in old
   pub envelopes : envelopes_in new ≡ envelopes_in old
+
+-- the tree shows the same parents, with leaves in the same places, and the same size; its elements may differ
+pub record HasSameOutline {T D E P S X : Type 0} (old new : RTree T D E P S X) : Type 0 where
+  pub outline : outline (shown_root (root_of new)) ≡ outline (shown_root (root_of old))
+  pub size : size_of new ≡ size_of old
 
 module _ {T D E P S X : Type 0} (v : Boxes E) (o : Objects T E) (max : ℕ) where
   -- a whole root, whose elements and levels are counted; and the room that makes insertions safe, where `max` is the

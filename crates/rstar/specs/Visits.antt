@@ -1,13 +1,16 @@
 -- What a visitor is called with.
-use Rattle.std.specs.Prelude.{◌≡◌, ◌<◌, Bool, List, [], ◌∷◌, ◌++◌, map, ◌⊎◌, Option, Some, None, length}
-use Rattle.std.specs.Borrow.{Bor}
-use Rattle.std.specs.List.{Contains}
+use Rattle.std.specs.Prelude.{◌≡◌, ◌<◌, Bool, true, false, if◌then◌else◌, List, [], ◌∷◌, ◌++◌, map, ◌⊎◌, Option, Some, None}
+use Rattle.std.specs.Borrow.{Bor, MutBor}
+use Rattle.std.specs.List.{Contains, AllByRecursion, flat_map}
 use Rattle.std.specs.declared.ops.ControlFlow.{ControlFlow}
 use Rattle.std.specs.declared.ops.ControlFlow.TheVariants.{Continue, Break}
+use Rattle.rstar_base.specs.Elements.{Objects}
 use Rattle.rstar.specs.declared.node.RTreeNode.{RTreeNode}
+use Rattle.rstar.specs.declared.node.ParentNode.{ParentNode}
 use Rattle.rstar.specs.declared.visits.Look.{Look}
 use Rattle.rstar.specs.declared.visits.Look.TheVariants.{End, Give, Pass, Open}
-use Rattle.rstar.specs.Nodes.{total, all_given}
+use Rattle.rstar.specs.Nodes.{fold_tree, joined, total, all_given, children_of, envelope_of}
+use Rattle.rstar.specs.Changes.{KeepsBox}
 use Rattle.rstar.specs.Selections.{IsPartOf}
 use Rattle.rstar.specs.Walks.{steps}
 
@@ -46,6 +49,74 @@ pub record IsVisitWithin {V A T B : Type 0} (now : A → T) (step : V → A → 
   pub part : IsPartOf visited xs
   pub complete : all → visited ≡ xs
   pub visit : IsVisit now step first visited r
+
+-- ---- visits that write
+
+-- an element, and whether the visitor is to be called at it
+abbrev pub Marked : Type 0 → Type 0
+Marked T = T × Bool
+
+-- the elements, each marked where it passes the test
+abbrev pub marked_by : {T : Type 0} → (T → Bool) → List T → List (Marked T)
+marked_by selects ts = map (λ t. (t, selects t)) ts
+
+-- the same elements, none of them marked
+abbrev pub unmarked : {T : Type 0} → List (Marked T) → List (Marked T)
+unmarked ms = map (λ m. (m.0, false)) ms
+
+-- the elements alone
+abbrev pub without_marks : {T : Type 0} → List (Marked T) → List T
+without_marks ms = map (λ m. m.0) ms
+
+-- the visitor was called at the marked elements in turn, each call in the state that the one before left, until one
+-- broke, whose break is the answer; `us` are the same elements, each that it was called at replaced in its place by
+-- what its call left
+abbrev pub Writes : {V T B : Type 0} → (V → MutBor T → ControlFlow B (Unit {0}) → MutBor T → V → Type 0)
+    → V → List (Marked T) → ControlFlow B (Unit {0}) → V → List T → Type 0
+Writes step v [] r w us = (r ≡ Continue tt) × (v ≡ w) × (us ≡ [])
+Writes {V} {T} {B} step v ((t, false) ∷ ms) r w us = (rest : List T) × (us ≡ t ∷ rest) × Writes step v ms r w rest
+Writes {V} {T} {B} step v ((t, true) ∷ ms) r w us =
+    ((x : MutBor T) × (y : MutBor T) × (b : B) × (x.now ≡ t) × (r ≡ Break b) × step v x (Break b) y w
+    × (us ≡ y.now ∷ without_marks ms))
+    ⊎ ((x : MutBor T) × (y : MutBor T) × (u : V) × (rest : List T) × (x.now ≡ t) × step v x (Continue tt) y u
+    × (us ≡ y.now ∷ rest) × Writes step u ms r w rest)
+
+-- the same, whatever state the last call left
+pub record IsWritten {V T B : Type 0} (step : V → MutBor T → ControlFlow B (Unit {0}) → MutBor T → V → Type 0)
+    (first : V) (ms : List (Marked T)) (r : ControlFlow B (Unit {0})) (us : List T) : Type 0 where
+  pub last : V
+  pub writes : Writes step first ms r last us
+
+-- a visit of some of the elements that pass the test, and of all of them where a condition holds
+pub record IsWrittenWithin {V T B : Type 0} (step : V → MutBor T → ControlFlow B (Unit {0}) → MutBor T → V → Type 0)
+    (all : Type 0) (first : V) (selects : T → Bool) (ts : List T) (r : ControlFlow B (Unit {0})) (us : List T)
+    : Type 0 where
+  pub marks : List (Marked T)
+  pub same : without_marks marks ≡ ts
+  pub selected : AllByRecursion (λ m. m.1 ≡ true → selects m.0 ≡ true) marks
+  pub complete : all → marks ≡ marked_by selects ts
+  pub written : IsWritten step first marks r us
+
+-- each call leaves an element with the envelope that it had, and a value where it was one
+abbrev pub Keeps : {V T E B : Type 0} → Objects T E
+    → (V → MutBor T → ControlFlow B (Unit {0}) → MutBor T → V → Type 0) → Type 0
+Keeps {V} {T} {E} {B} o step = (v : V) (x : MutBor T) (r : ControlFlow B (Unit {0})) (y : MutBor T) (w : V)
+    → step v x r y w → KeepsBox o x.now y.now
+
+-- the elements below a node, each marked where a walk below the accepted parents comes to it and selects it
+unfoldable pub marked : {T E P S X : Type 0} → (E → Bool) → (T → Bool) → RTreeNode T E P S X → List (Marked T)
+marked accepts selects n = fold_tree (λ t. (t, selects t) ∷ [])
+    (λ e below. if accepts e then joined below else unmarked (joined below)) n
+
+abbrev pub all_marked : {T E P S X : Type 0} → (E → Bool) → (T → Bool) → List (RTreeNode T E P S X)
+    → List (Marked T)
+all_marked accepts selects ns = flat_map (marked accepts selects) ns
+
+-- the same below a root
+abbrev pub marked_of : {T E P S X : Type 0} → (E → Bool) → (T → Bool) → ParentNode T E P S X → List (Marked T)
+marked_of accepts selects root =
+    if accepts (envelope_of root) then all_marked accepts selects (children_of root)
+    else unmarked (all_marked accepts selects (children_of root))
 
 -- ---- the first of some nodes
 

@@ -1,5 +1,5 @@
 -- The inside of a walk: the slices of nodes that are still to be read, and one step.
-use Rattle.std.specs.Prelude.{◌≡◌, ◌≢◌, ℕ, zero, suc, ◌+◌, ◌≤◌, ◌<◌, min, Bool, List, [], ◌∷◌, ◌++◌, map, ⊤}
+use Rattle.std.specs.Prelude.{◌≡◌, ◌≢◌, ℕ, ◌+◌, ◌≤◌, ◌<◌, min, Bool, List, [], ◌∷◌, ◌++◌, map, ⊤}
 use Rattle.std.specs.List.{AllByRecursion}
 use Rattle.std.specs.Borrow.{Bor}
 use Rattle.rstar.specs.declared.node.RTreeNode.{RTreeNode}
@@ -31,11 +31,12 @@ reach_from_slices accepts (nodes ∷ slices) = reach_from_slices accepts slices 
 abbrev pub IsLevel : {T E P S X : Type 0} → ℕ → RTreeNode T E P S X → Type 0
 IsLevel h n = IsTree (λ p. children_of p ≢ []) (λ t. ⊤) h n
 
--- each slice holds nodes one level below those of the slice before it, from level h - 1 on
+-- the nodes of each slice lie on one level, below those of the slice before it and below level h: so there are at most
+-- h slices
 abbrev pub AreSlices : {T E P S X : Type 0} → ℕ → List (Bor (List (RTreeNode T E P S X))) → Type 0
 AreSlices h [] = ⊤
-AreSlices zero (nodes ∷ slices) = ⊥
-AreSlices (suc h) (nodes ∷ slices) = AllByRecursion (IsLevel h) nodes.now × AreSlices h slices
+AreSlices h (nodes ∷ slices) =
+    (level : ℕ) × (level < h) × AllByRecursion (IsLevel level) nodes.now × AreSlices level slices
 
 -- slices with room for all above the last; the parents opened and those still to be opened are all that are reached
 -- from the root
@@ -50,7 +51,7 @@ pub record IsUnderWay {T E P S X : Type 0} (accepts : E → Bool) (root : Parent
 
 -- ---- the slices of an iterator
 
--- those that are not read to their end, the one that is being read last
+-- those that are left, and behind them the one that is being read
 abbrev pub slices_of : {T F E P S X : Type 0}
     → SelectionIterator T F E P S X → List (Bor (List (RTreeNode T E P S X)))
 slices_of it = it.path.items ++ it.nodes ∷ []

@@ -1,5 +1,8 @@
 //! The algorithms of the tree.
 
+pub mod bulk_load;
+pub mod nearest_neighbor;
+pub(crate) mod removal;
 pub mod rstar;
 
 pub use rstar_base::algorithm::selection_functions;

@@ -7,9 +7,19 @@ ghost use Rattle.rstar.specs.Nodes.{children_of, given_of, IsWhole};
 ghost use Rattle.rstar.specs.Selections.{question_of, opened_by, to_come, IsMade, IsWalking, GivesNext};
 ghost use Rattle.rstar.specs.Walks.{HasItsWay, IsStep};
 
+mod drain;
+mod into_iter;
+mod joins;
+
+pub use crate::algorithm::nearest_neighbor::{
+    NearestNeighborDistance2Iterator, NearestNeighborIterator,
+};
+pub use crate::iterators::drain::DrainIterator;
+pub use crate::iterators::into_iter::IntoIter;
+pub use crate::iterators::joins::{InEnvelope, IntersectionIterator};
 use crate::node::{ParentNode, RTreeNode};
 use crate::path::Path;
-pub use crate::visits::select_nodes;
+pub use crate::visits::{select_nodes, select_nodes_mut};
 use rstar_base::algorithm::selection_functions::{
     SelectAllFunc, SelectAtPointFunction, SelectInEnvelopeFuncIntersecting,
     SelectInEnvelopeFunction, SelectWithinDistanceFunction, SelectionFunction,
@@ -134,7 +144,9 @@ impl<'a, T: RTreeObject, Func: SelectionFunction<T>> SelectionIterator<'a, T, Fu
             RTreeNode::Parent(parent) => {
                 if self.func.should_unpack_parent(&parent.envelope) {
                     self.opened = self.opened.saturating_add(1);
-                    self.path.push_reserved(rest);
+                    if !rest.is_empty() {
+                        self.path.push_reserved(rest);
+                    }
                     self.nodes = parent.children.as_slice();
                     Step::Passed
                 } else {

@@ -6,6 +6,8 @@ pub mod iterators;
 pub mod node;
 pub mod params;
 mod path;
+mod payloads;
+pub mod replay;
 pub mod rtree;
 mod visits;
 
@@ -15,7 +17,7 @@ pub use crate::params::{DefaultParams, InsertCause, InsertError, InsertionStrate
 pub use crate::rtree::RTree;
 pub use rstar_base::aabb::AABB;
 pub use rstar_base::algorithm::selection_functions::SelectionFunction;
-pub use rstar_base::envelope::Envelope;
+pub use rstar_base::envelope::{Counted, Envelope};
 pub use rstar_base::object::{EqualEnvelopes, PointDistance, RTreeObject};
 pub use rstar_base::point::{Point, RTreeNum};
 pub use rstar_base::{aabb, envelope, mint, object, point, primitives};

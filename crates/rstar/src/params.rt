@@ -1,11 +1,8 @@
 //! Node sizes, and how a tree takes elements in.
 
-ghost use Rattle.std.specs.Prelude.{◌≡◌, ◌⊎◌, ◌↔◌, ◌∷◌, ◌+◌, ◌<◌, false, OnOk, OnErr, IfErr};
-ghost use Rattle.std.specs.Result.{IsErrAnd};
-ghost use Rattle.std.specs.List.Sorted.{IsPermutation};
-ghost use Rattle.rstar.specs.Heights.{height_of, spare_lists};
-ghost use Rattle.rstar.specs.Shapes.{IsSized};
-ghost use Rattle.rstar.specs.Trees.{root_of, size_of, elements_in, IsUnchanged, IsWholeTree};
+ghost use Rattle.std.specs.Prelude.{◌≡◌, false};
+ghost use Rattle.rstar.specs.Insertions.{Inserts};
+ghost use Rattle.rstar.specs.Trees.{IsWholeTree};
 
 use crate::rtree::RTree;
 use rstar_base::envelope::Envelope;
@@ -43,14 +40,6 @@ pub trait InsertionStrategy {
     ) -> Result<(), InsertError<T>>
         requires whole { IsWholeTree T.Envelope.boxes T.object Params.MAX_SIZE tree.old }
         requires element { T.Envelope.boxes.is_empty (T.object.box_of t) ≡ false }
-        ensures added { OnOk result (IsPermutation (t ∷ elements_in tree.old) (elements_in tree.new)) }
-        ensures counted { OnOk result (size_of tree.new ≡ size_of tree.old + 1) }
-        ensures handed_back { IfErr result (λ refused. refused.element ≡ t) }
-        ensures unchanged { OnErr result (IsUnchanged tree.old tree.new) }
-        ensures too_many { IsErrAnd result (λ refused. refused.cause ≡ InsertCause.TooMany)
-            ↔ ((size_of tree.old ≡ usize.MAX)
-            ⊎ (usize.MAX < spare_lists Params.REINSERTION_COUNT (height_of (root_of tree.old)))) }
-        ensures whole { IsWholeTree T.Envelope.boxes T.object Params.MAX_SIZE tree.new }
-        ensures sized { IsSized Params.MIN_SIZE Params.MAX_SIZE (root_of tree.old)
-            → IsSized Params.MIN_SIZE Params.MAX_SIZE (root_of tree.new) };
+        ensures { Inserts T.Envelope.boxes T.object Params.MIN_SIZE Params.MAX_SIZE Params.REINSERTION_COUNT
+            t tree.old result tree.new };
 }

@@ -103,6 +103,7 @@ impl<X: Copy> Path<X> {
     pub(crate) fn with_room(alloc: Global, blank: X, room: usize) -> Result<Self, AllocError>
         ensures empty { IfOk result (λ path. path.items ≡ []) }
         ensures room { IfOk result (λ path. room ≤ path.capacity) }
+        ensures small { IfOk result (λ path. path.capacity < usize.MAX) }
         ensures near { room ≤ 12 → IsOk result }
     {
         let far = if room > NEAR {

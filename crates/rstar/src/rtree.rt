@@ -1,15 +1,24 @@
 //! The tree.
 
-ghost use Rattle.std.specs.Prelude.{◌≡◌, ◌⊎◌, ◌↔◌, ◌∷◌, ◌+◌, ◌<◌, ◌≤◌, [], false, length, OnOk, OnErr, IfErr, IfSome, IfNone, vec_len};
-ghost use Rattle.std.specs.Result.{IsErrAnd};
+ghost use Rattle.std.specs.Prelude.{◌≡◌, ◌⊎◌, ◌∷◌, ◌+◌, ◌<◌, ◌≤◌, [], false, length, OnOk, IfSome, IfNone, vec_len};
 ghost use Rattle.std.specs.List.Sorted.{IsPermutation};
 ghost use Rattle.rstar.specs.Heights.{height_of, spare_lists};
+ghost use Rattle.rstar.specs.Insertions.{Inserts};
 ghost use Rattle.rstar.specs.Kept.{HasRoom};
-ghost use Rattle.rstar.specs.Nodes.{children_of};
+ghost use Rattle.rstar.specs.Nodes.{children_of, IsWhole};
 ghost use Rattle.rstar.specs.Shapes.{IsSized};
 ghost use Rattle.rstar.specs.Trees.{root_of, size_of, elements_in, IsUnchanged, IsWholeTree};
 
+mod copies;
+mod drains;
+mod firsts;
+mod joins;
+mod loads;
+mod neighbours;
+mod payloads;
+mod removal;
 mod selections;
+mod texts;
 mod visits;
 
 use crate::algorithm::rstar::RStarInsertionStrategy;
@@ -90,8 +99,11 @@ impl<T: RTreeObject, Params: RTreeParams> RTree<T, Params> {
     }
 
     /// The root, from which all nodes are reached. It is a parent, without children where the tree is empty.
+    #[tactic(auto, unfolding(crate::specs::Trees::IsWholeTree))]
     pub fn root(&self) -> &ParentNode<T>
-        ensures { result.now ≡ root_of self.now }
+        ensures shown { result.now ≡ root_of self.now }
+        ensures whole { IsWholeTree T.Envelope.boxes T.object Params.MAX_SIZE self.now
+            → IsWhole T.Envelope.boxes T.object result.now }
     {
         &self.root
     }
@@ -117,16 +129,8 @@ impl<T: RTreeObject, Params: RTreeParams> RTree<T, Params> {
     pub fn insert(&mut self, t: T) -> Result<(), InsertError<T>>
         requires whole { IsWholeTree T.Envelope.boxes T.object Params.MAX_SIZE self.old }
         requires element { T.Envelope.boxes.is_empty (T.object.box_of t) ≡ false }
-        ensures added { OnOk result (IsPermutation (t ∷ elements_in self.old) (elements_in self.new)) }
-        ensures counted { OnOk result (size_of self.new ≡ size_of self.old + 1) }
-        ensures handed_back { IfErr result (λ refused. refused.element ≡ t) }
-        ensures unchanged { OnErr result (IsUnchanged self.old self.new) }
-        ensures too_many { IsErrAnd result (λ refused. refused.cause ≡ InsertCause.TooMany)
-            ↔ ((size_of self.old ≡ usize.MAX)
-            ⊎ (usize.MAX < spare_lists Params.REINSERTION_COUNT (height_of (root_of self.old)))) }
-        ensures whole { IsWholeTree T.Envelope.boxes T.object Params.MAX_SIZE self.new }
-        ensures sized { IsSized Params.MIN_SIZE Params.MAX_SIZE (root_of self.old)
-            → IsSized Params.MIN_SIZE Params.MAX_SIZE (root_of self.new) }
+        ensures { Inserts T.Envelope.boxes T.object Params.MIN_SIZE Params.MAX_SIZE Params.REINSERTION_COUNT
+            t self.old result self.new }
     {
         RStarInsertionStrategy::insert(self, t)
     }

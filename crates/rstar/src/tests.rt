@@ -3,6 +3,8 @@
 ghost use Rattle.std.specs.Prelude.{◌≡◌, ◌∷◌, ◌≤◌, List, [], false, map, filter, IfOk, MatchOption};
 ghost use Rattle.rstar.specs.Trees.{IsWholeTree, elements_in};
 
+mod neighbours;
+
 use crate::params::{DefaultParams, InsertCause, InsertError, RTreeParams};
 use crate::rtree::RTree;
 use rstar_base::aabb::AABB;
@@ -22,7 +24,10 @@ struct Place {
 impl RTreeObject for Place {
     type Envelope = AABB<[i64; 2]>;
 
-    ghost object = { record { IsValue = λ p. ⟦<[i64; 2] as RTreeObject>⟧.object.IsValue p.at; box_of = λ p. ⟦<[i64; 2] as RTreeObject>⟧.object.box_of p.at } };
+    ghost object = { record {
+      IsValue = λ p. ⟦<[i64; 2] as RTreeObject>⟧.object.IsValue p.at;
+      box_of = λ p. ⟦<[i64; 2] as RTreeObject>⟧.object.box_of p.at;
+    } };
 
     fn envelope(&self) -> AABB<[i64; 2]> {
         self.at.envelope()
@@ -36,7 +41,8 @@ fn pair<T: RTreeObject>(alloc: Global, first: T, second: T) -> Result<RTree<T>, 
     requires dimensions { 2 ≤ T.Envelope.Point.DIMENSIONS }
     requires first { T.Envelope.boxes.is_empty (T.object.box_of first) ≡ false }
     requires second { T.Envelope.boxes.is_empty (T.object.box_of second) ≡ false }
-    ensures whole { IfOk result (λ tree. IsWholeTree T.Envelope.boxes T.object ⟦<DefaultParams as RTreeParams>⟧.MAX_SIZE tree) }
+    ensures whole { IfOk result (λ tree. IsWholeTree T.Envelope.boxes T.object
+        ⟦<DefaultParams as RTreeParams>⟧.MAX_SIZE tree) }
 {
     let mut tree = RTree::new(alloc);
     tree.insert(first)?;
@@ -104,7 +110,8 @@ fn first_inside<T: RTreeObject>(
 
 /// The IDs of the places inside an envelope, by a `for` at these very types.
 fn sum_of_ids(tree: &RTree<Place>) -> Result<u64, AllocError>
-    requires { IsWholeTree ⟦<AABB<[i64; 2]> as Envelope>⟧.boxes ⟦<Place as RTreeObject>⟧.object ⟦<DefaultParams as RTreeParams>⟧.MAX_SIZE tree.now }
+    requires { IsWholeTree ⟦<AABB<[i64; 2]> as Envelope>⟧.boxes ⟦<Place as RTreeObject>⟧.object
+        ⟦<DefaultParams as RTreeParams>⟧.MAX_SIZE tree.now }
 {
     let mut sum = 0u64;
     for place in tree.locate_in_envelope(AABB::from_corners([0, 0], [9, 9]))? {

@@ -1,8 +1,11 @@
 //! Walks by recursion, which take no memory: look-ups, and visits of what is selected.
 
-ghost use Rattle.std.specs.Prelude.{◌≡◌};
-ghost use Rattle.rstar.specs.Nodes.{all_given, given_of};
-ghost use Rattle.rstar.specs.Visits.{IsFirst, Visits, IsVisit};
+ghost use Rattle.std.specs.Prelude.{ℕ};
+ghost use Rattle.std.specs.List.{AllZip};
+ghost use Rattle.rstar.specs.Changes.{KeepsBox, IsChanged, IsChangedParent};
+ghost use Rattle.rstar.specs.Nodes.{all_given, given_of, children_of, elements, all_elements, elements_of, IsTree};
+ghost use Rattle.rstar.specs.Shapes.{AreTrees, IsAny};
+ghost use Rattle.rstar.specs.Visits.{IsFirst, Visits, Writes, Keeps, marked, all_marked, marked_of};
 
 use crate::node::{ParentNode, RTreeNode};
 use rstar_base::algorithm::selection_functions::SelectionFunction;
@@ -32,7 +35,8 @@ pub trait NodesRef<T: RTreeObject, F: SelectionFunction<T>>: Copy + Drop {
     ghost use Rattle.rstar.specs.declared.node.RTreeNode.{RTreeNode};
     ghost use Rattle.rstar.specs.Visits.{IsLook};
 
-    ghost nodes: { Self → List (RTreeNode T T.Envelope T.Envelope.Point T.Envelope.Point.Scalar T.Envelope.Point.Scalar.FromStrRadixErr) };
+    ghost nodes: { Self → List (RTreeNode T T.Envelope T.Envelope.Point T.Envelope.Point.Scalar
+        T.Envelope.Point.Scalar.FromStrRadixErr) };
 
     ghost element: { Self.Leaf → T };
 
@@ -157,4 +161,84 @@ pub fn select_nodes<
         return ControlFlow::Continue(());
     }
     visit_nodes(root.children.as_slice(), func, visitor)
+}
+
+/// Calls the visitor at what a walk below a node gives, and lets it write there.
+#[cycle(writing)]
+fn visit_node_mut<
+    T: RTreeObject,
+    F: SelectionFunction<T>,
+    V: FnMut(&mut T) -> ControlFlow<B>,
+    B: Drop,
+>(node: &mut RTreeNode<T>, func: &F, visitor: &mut V) -> ControlFlow<B>
+    requires { (state : V) (x : _) → V.pre state x }
+    ensures written { Writes V.step visitor.old (marked (F.accepts func.now) (F.selects func.now) node.old)
+        result visitor.new (elements node.new) }
+    ensures changed { Keeps T.object V.step → (h : ℕ) → IsTree IsAny IsAny h node.old
+        → IsChanged (KeepsBox T.object) h node.old node.new }
+{
+    match node {
+        RTreeNode::Leaf(t) => {
+            if func.should_unpack_leaf(t) {
+                visitor(t)
+            } else {
+                ControlFlow::Continue(())
+            }
+        }
+        RTreeNode::Parent(parent) => {
+            if func.should_unpack_parent(&parent.envelope) {
+                visit_nodes_mut(parent.children.as_mut_slice(), func, visitor)
+            } else {
+                ControlFlow::Continue(())
+            }
+        }
+    }
+}
+
+/// The same below each of some nodes, until a call breaks.
+#[cycle(writing)]
+fn visit_nodes_mut<
+    T: RTreeObject,
+    F: SelectionFunction<T>,
+    V: FnMut(&mut T) -> ControlFlow<B>,
+    B: Drop,
+>(nodes: &mut [RTreeNode<T>], func: &F, visitor: &mut V) -> ControlFlow<B>
+    requires { (state : V) (x : _) → V.pre state x }
+    ensures written { Writes V.step visitor.old (all_marked (F.accepts func.now) (F.selects func.now) nodes.old)
+        result visitor.new (all_elements nodes.new) }
+    ensures changed { Keeps T.object V.step → (h : ℕ) → AreTrees IsAny IsAny h nodes.old
+        → AllZip (IsChanged (KeepsBox T.object) h) nodes.old nodes.new }
+{
+    let mut index = 0;
+    while index < nodes.len() {
+        if let ControlFlow::Break(b) = visit_node_mut(&mut nodes[index], func, visitor) {
+            return ControlFlow::Break(b);
+        }
+        index += 1;
+    }
+    ControlFlow::Continue(())
+}
+
+/// Calls the visitor at the elements that a function selects below a root, in some order, each at most once, until a
+/// call breaks; its break is the answer. The visitor may write the elements; it must keep their envelopes, and then
+/// nothing else of the nodes changes. A function that is not lawful may miss some. It takes no memory.
+pub fn select_nodes_mut<
+    T: RTreeObject,
+    F: SelectionFunction<T>,
+    V: FnMut(&mut T) -> ControlFlow<B>,
+    B: Drop,
+>(root: &mut ParentNode<T>, func: &F, visitor: &mut V) -> ControlFlow<B>
+    requires callable { (state : V) (x : _) → V.pre state x }
+    requires keeps { Keeps T.object V.step }
+    ensures written { Writes V.step visitor.old (marked_of (F.accepts func.now) (F.selects func.now) root.old)
+        result visitor.new (elements_of root.new) }
+
+    // Where the leaves lie so many levels below the children.
+    ensures changed { (h : ℕ) → AreTrees IsAny IsAny h (children_of root.old)
+        → IsChangedParent (IsChanged (KeepsBox T.object) h) root.old root.new }
+{
+    if root.children.is_empty() || !func.should_unpack_parent(&root.envelope) {
+        return ControlFlow::Continue(());
+    }
+    visit_nodes_mut(root.children.as_mut_slice(), func, visitor)
 }

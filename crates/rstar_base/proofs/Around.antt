@@ -1,29 +1,26 @@
 -- Lists by a key.
-use Rattle.std.proofs.Common.{◌≡◌, ◌≤◌, ◌<◌, ◌+◌, ◌-◌, ℕ, ℤ, ◌≤ℤ◌, List, [], ◌∷◌, ◌++◌, length, take, drop, slice_index_or, All, arith, inl, inr, ap, ◌∙◌, sym, ◌≢◌, ◌⊎◌, refl, subst}
+use Rattle.std.proofs.Common.{◌≡◌, ◌≤◌, ◌<◌, ◌+◌, ◌-◌, ℕ, ℤ, ◌≤ℤ◌, List, ◌++◌, length, take, drop, slice_index_or, arith, inl, inr, ap, ◌∙◌, sym, ◌≢◌, ◌⊎◌, refl, subst}
 use Rattle.std.proofs.lemmas.List.{get_or-take, get_or-drop, length-take, length-drop, get_or_default, get_or_append_left, get_or-append_right, length-append, take-append-drop}
 use Rattle.std.proofs.lemmas.List.Elements.{All-weaker}
+use Rattle.std.specs.Prelude.{int_le, true, false}
 use Rattle.std.specs.List.Sorted.{IsPermutation}
 use Rattle.std.proofs.Math.Nat.{eq-or-lt_of_le}
-use Rattle.std.proofs.lemmas.List.Sorted.{All-permutation, length_permutation, IsPermutation-trans, IsPermutation-append_left, IsPermutation-append_right}
+use Rattle.std.proofs.lemmas.List.Sorted.{All-permutation, length_permutation, IsPermutation-append_left, IsPermutation-append_right}
 use Rattle.std.proofs.lemmas.Bool.{cases_order, cases_lt}
 use Rattle.std.specs.List.{SwappedAt}
 use Rattle.std.proofs.lemmas.Int.{ints}
-use Rattle.std.specs.Ordering.{int_cmp}
-use Rattle.std.proofs.Common.{Less, Equal, Greater}
 use Rattle.rstar_base.specs.Orders.{IsSplitAt}
 use Rattle.rstar_base.specs.Slabs.{NoneAbove, IsAround, IsAroundSoFar}
 
 trans-le : (x y z : ℤ) → x ≤ℤ y → y ≤ℤ z → x ≤ℤ z
 trans-le x y z p q = grind (arith, ints)
 
-pub below_pivot : (x y : ℤ) → int_cmp x y ≡ Less → x ≤ℤ y
-below_pivot x y h = grind (arith, ints)
+-- what comparisons of a key and the pivot say
+pub at_most_of_le : (x y : ℤ) → int_le x y ≡ true → x ≤ℤ y
+at_most_of_le x y h = grind (arith, ints)
 
-pub above_pivot : (x y : ℤ) → int_cmp x y ≡ Greater → y ≤ℤ x
-above_pivot x y h = grind (arith, ints)
-
-pub on_pivot : (x y : ℤ) → int_cmp x y ≡ Equal → x ≡ y
-on_pivot x y h = grind (arith, ints)
+pub at_least_of_le : (x y : ℤ) → int_le x y ≡ false → y ≤ℤ x
+at_least_of_le x y h = grind (arith, ints)
 
 module _ {T : Type 0} (key : T → ℤ) where
   -- no element before place k has a greater key than any from k on
@@ -46,9 +43,6 @@ same_or_other i j = elim (cases_order i j) [ inl e ↦ inl e | inr s ↦ inr (λ
 below_other : (i j : ℕ) → i ≤ j → i ≢ j → i < j
 below_other i j h ne = elim (eq-or-lt_of_le h) [ inl e ↦ absurd (ne e) | inr p ↦ p ]
 
-above_other : (i j k : ℕ) → j ≤ i → i ≢ j → k ≤ j + 1 → k ≤ i
-above_other i j k h ne l = elim (eq-or-lt_of_le h) [ inl e ↦ absurd (ne (sym e)) | inr p ↦ omega arith ]
-
 module _ {T : Type 0} (key : T → ℤ) (pivot : ℤ) where
   moved_at_most : {x y : T} → y ≡ x → key x ≤ℤ pivot → key y ≤ℤ pivot
   moved_at_most e h = subst (λ t. key t ≤ℤ pivot) (sym e) h
@@ -56,71 +50,48 @@ module _ {T : Type 0} (key : T → ℤ) (pivot : ℤ) where
   moved_at_least : {x y : T} → y ≡ x → pivot ≤ℤ key x → pivot ≤ℤ key y
   moved_at_least e h = subst (λ t. pivot ≤ℤ key t) (sym e) h
 
-  -- an element of a smaller key goes to the front
-  pub placed_less : (less at more : ℕ) (xs ys : List T) → IsAroundSoFar key pivot less at more xs → SwappedAt xs ys less at → length ys ≡ length xs → at < more
-      → ((d : T) → key (slice_index_or xs at d) ≤ℤ pivot) → IsAroundSoFar key pivot (less + 1) (at + 1) more ys
-  placed_less less at more xs ys so swapped long room here =
-      let order = so.order in let within = so.within in
-      record {
-        order = omega arith;
-        left = omega arith;
-        within = omega arith;
-        at_most = λ i d p. elim (same_or_other i less) [
-          | inl e ↦ rw e (moved_at_most (swapped.0 d) (here d))
-          | inr ne ↦ elim (same_or_other i at) [
-            | inl e ↦ rw e (moved_at_most (swapped.1 d) (so.at_most less d (below_other less at order (λ k. ne (e ∙ sym k)))))
-            | inr far ↦ moved_at_most (swapped.2 i d ne far) (so.at_most i d (below_other i at (omega arith) far))
-          ]
-        ];
-        middle = λ i d q p. elim (same_or_other i at) [
-          | inl e ↦ rw e (moved_at_least (swapped.1 d) (so.middle less d (omega arith) (omega (arith, e))))
-          | inr far ↦ moved_at_least (swapped.2 i d (λ e. absurd (omega (arith, e))) far) (so.middle i d (omega arith) (below_other i at (omega arith) far))
-        ];
-        at_least = λ i d q p. moved_at_least (swapped.2 i d (λ e. absurd (omega (arith, e))) (λ e. absurd (omega (arith, e)))) (so.at_least i d q (omega arith));
-      }
-
-  -- an element of the same key stays
-  pub placed_same : (less at more : ℕ) (xs : List T) → IsAroundSoFar key pivot less at more xs → at < more
-      → ((d : T) → key (slice_index_or xs at d) ≡ pivot) → IsAroundSoFar key pivot less (at + 1) more xs
-  placed_same less at more xs so room here =
+  -- the element at a place that is the next to be placed goes to the front
+  pub placed_first : (less at : ℕ) (xs ys : List T) → IsAroundSoFar key pivot less at xs → SwappedAt xs ys less at → length ys ≡ length xs → at < length xs
+      → ((d : T) → key (slice_index_or xs at d) ≤ℤ pivot) → IsAroundSoFar key pivot (less + 1) (at + 1) ys
+  placed_first less at xs ys so swapped long room here =
       let order = so.order in
       record {
         order = omega arith;
-        left = omega arith;
-        within = so.within;
-        at_most = λ i d p. elim (same_or_other i at) [
-          | inl e ↦ rw e (same-at_most _ (here d))
-          | inr far ↦ so.at_most i d (below_other i at (omega arith) far)
+        within = omega arith;
+        at_most = λ i d p. elim (same_or_other i less) [
+          | inl e ↦ rw e (moved_at_most (swapped.0 d) (here d))
+          | inr ne ↦ moved_at_most (swapped.2 i d ne (λ e. absurd (omega (arith, below_other i less (omega arith) ne, e)))) (so.at_most i d (below_other i less (omega arith) ne))
         ];
-        middle = λ i d q p. elim (same_or_other i at) [
-          | inl e ↦ rw e (same-at_least _ (here d))
-          | inr far ↦ so.middle i d q (below_other i at (omega arith) far)
+        at_least = λ i d q p. elim (same_or_other i at) [
+          | inl e ↦ rw e (moved_at_least (swapped.1 d) (so.at_least less d (omega arith) (omega (arith, e))))
+          | inr far ↦ moved_at_least (swapped.2 i d (λ e. absurd (omega (arith, e))) far) (so.at_least i d (omega arith) (below_other i at (omega arith) far))
         ];
-        at_least = so.at_least;
       }
-    where
-      same-at_most : (x : ℤ) → x ≡ pivot → x ≤ℤ pivot
-      same-at_most x h = grind (arith, ints)
 
-      same-at_least : (x : ℤ) → x ≡ pivot → pivot ≤ℤ x
-      same-at_least x h = grind (arith, ints)
-
-  -- an element of a greater key goes to the back
-  pub placed_more : (less at more : ℕ) (xs ys : List T) → IsAroundSoFar key pivot less at more xs → SwappedAt xs ys at (more - 1) → length ys ≡ length xs → at < more
-      → ((d : T) → pivot ≤ℤ key (slice_index_or xs at d)) → IsAroundSoFar key pivot less at (more - 1) ys
-  placed_more less at more xs ys so swapped long room here =
-      let order = so.order in let within = so.within in
+  -- it goes behind those that went to the front
+  pub placed_behind : (less at : ℕ) (xs ys : List T) → IsAroundSoFar key pivot less at xs → SwappedAt xs ys less at → length ys ≡ length xs → at < length xs
+      → ((d : T) → pivot ≤ℤ key (slice_index_or xs at d)) → IsAroundSoFar key pivot less (at + 1) ys
+  placed_behind less at xs ys so swapped long room here =
+      let order = so.order in
       record {
-        order = order;
-        left = omega arith;
+        order = omega arith;
         within = omega arith;
         at_most = λ i d p. moved_at_most (swapped.2 i d (λ e. absurd (omega (arith, e))) (λ e. absurd (omega (arith, e)))) (so.at_most i d p);
-        middle = λ i d q p. moved_at_least (swapped.2 i d (λ e. absurd (omega (arith, e))) (λ e. absurd (omega (arith, e)))) (so.middle i d q p);
-        at_least = λ i d q p. elim (same_or_other i (more - 1)) [
-          | inl e ↦ rw e (moved_at_least (swapped.1 d) (here d))
-          | inr far ↦ moved_at_least (swapped.2 i d (λ e. absurd (omega (arith, e))) far) (so.at_least i d (above_other i (more - 1) more q far (omega arith)) (omega arith))
+        at_least = λ i d q p. elim (same_or_other i less) [
+          | inl e ↦ rw e (moved_at_least (swapped.0 d) (here d))
+          | inr ne ↦ elim (same_or_other i at) [
+            | inl e ↦ rw e (moved_at_least (swapped.1 d) (so.at_least less d (omega arith) (below_other less at order (λ k. ne (e ∙ sym k)))))
+            | inr far ↦ moved_at_least (swapped.2 i d ne far) (so.at_least i d q (below_other i at (omega arith) far))
+          ]
         ];
       }
+
+  -- where none is smaller than the pivot, those that are not greater may be put first
+  pub around_least : (less same : ℕ) (xs ys : List T) → less ≡ 0 → IsAround key pivot less less xs → IsPermutation xs ys → IsAround key pivot same same ys → IsAround key pivot 0 same ys
+  around_least less same xs ys none first moved around = record {
+    at_most = around.at_most;
+    at_least = λ i d q p. All-permutation (λ x. pivot ≤ℤ key x) xs ys moved (λ j e h. first.at_least j e (omega arith) h) i d p;
+  }
 
 module _ {T : Type 0} (key : T → ℤ) where
   -- reads of equal elements

@@ -187,7 +187,3 @@ greatest-rest R a b c x above first p top =
 
 pub greatest-last : {X : Type 0} (R : X → X → Ordering) (a b c : List X) (x : X) → Rises R a → a ≡ c ++ x ∷ [] → ((xs : List X) (x : X) → a ≡ xs ++ x ∷ [] → IsUpperBound R x b) → All (λ y. is_lt (R x y) ≡ false) (c ++ b)
 greatest-last R a b c x rises e below = All-from_recursion (λ y. is_lt (R x y) ≡ false) (c ++ b) (all-append (λ y. is_lt (R x y) ≡ false) c b (rises-last R c x (subst (Rises R) e rises)) (below c x e))
-
-pub empty-of : {X : Type 0} (xs : List X) → length xs ≡ 0 → xs ≡ []
-empty-of [] e = refl
-empty-of (x ∷ xs) e = absurd (omega arith)

@@ -7,12 +7,16 @@ use Rattle.std.proofs.lemmas.Bool.Decides.{nat_tests}
 use Rattle.num_traits.specs.Laws.{between, Checks}
 use Rattle.rstar_base.specs.Scalars.{InRange}
 use Rattle.rstar_base.specs.Points.{all_below, table, IsPoint}
-use Rattle.rstar_base.specs.laws.PointLemmas.{and_parts, and_both, and_left, and_right, table-get}
+use Rattle.rstar_base.specs.laws.PointLemmas.{and_parts, and_both, and_left, and_right, table-get, all_below-same}
 use Rattle.rstar_base.specs.Boxes.{in_range, box_of_corners, IsBox}
 use Rattle.rstar_base.specs.laws.BoxLaws.{corners-same, corners-box}
 use Rattle.rstar_base.specs.Sums.{sum_below}
 use Rattle.rstar_base.specs.laws.SegmentLaws.{step-between}
 use Rattle.rstar_base.specs.Segments.{point_apart, dot, direction, along, length_squared, difference_fits, dot_fits, multiple_fits, interior, has_interior, nearer, nearest_of_segment, coordinate, segment_distance}
+
+-- the same on the first n axes
+abbrev pub AreSame : {A : Type 0} → ℕ → (ℕ → A) → (ℕ → A) → Type 0
+AreSame n f g = (i : ℕ) → i < n → f i ≡ g i
 
 -- ---- what fits
 
@@ -62,13 +66,7 @@ all_below-at zero t h k l = absurd (omega arith)
 all_below-at (suc n) t h zero l = (and_parts _ _ h).0
 all_below-at (suc n) t h (suc k) l = all_below-at n (λ i. t (suc i)) (and_parts _ _ h).1 k (omega arith)
 
-pub all_below-same : (n : ℕ) (t s : ℕ → Bool) → ((i : ℕ) → i < n → t i ≡ s i) → all_below n t ≡ all_below n s
-all_below-same zero t s h = refl
-all_below-same (suc n) t s h =
-    let e : t zero ≡ s zero = h zero (omega arith) in
-    let r : all_below n (λ i. t (suc i)) ≡ all_below n (λ i. s (suc i)) = all_below-same n (λ i. t (suc i)) (λ i. s (suc i)) (λ i l. h (suc i) (omega arith)) in cc
-
-pub sum_below-same : (n : ℕ) (f g : ℕ → ℕ) → ((i : ℕ) → i < n → f i ≡ g i) → sum_below n f ≡ sum_below n g
+pub sum_below-same : (n : ℕ) (f g : ℕ → ℕ) → AreSame n f g → sum_below n f ≡ sum_below n g
 sum_below-same zero f g h = refl
 sum_below-same (suc n) f g h =
     let e : f zero ≡ g zero = h zero (omega arith) in
@@ -76,31 +74,31 @@ sum_below-same (suc n) f g h =
 
 -- ---- the same coordinates give the same
 
-pub dot-same : (n : ℕ) (f g f' g' : ℕ → ℤ) → ((i : ℕ) → i < n → f i ≡ f' i) → ((i : ℕ) → i < n → g i ≡ g' i) → dot n f g ≡ dot n f' g'
+pub dot-same : (n : ℕ) (f g f' g' : ℕ → ℤ) → AreSame n f f' → AreSame n g g' → dot n f g ≡ dot n f' g'
 dot-same zero f g f' g' h k = refl
 dot-same (suc n) f g f' g' h k =
     let a : f n ≡ f' n = h n (omega arith) in
     let b : g n ≡ g' n = k n (omega arith) in
     let r : dot n f g ≡ dot n f' g' = dot-same n f g f' g' (λ i l. h i (omega arith)) (λ i l. k i (omega arith)) in rw (a, b, r) refl
 
-pub dot_fits-same : (low high : ℤ) (n : ℕ) (f g f' g' : ℕ → ℤ) → ((i : ℕ) → i < n → f i ≡ f' i) → ((i : ℕ) → i < n → g i ≡ g' i) → dot_fits low high n f g ≡ dot_fits low high n f' g'
+pub dot_fits-same : (low high : ℤ) (n : ℕ) (f g f' g' : ℕ → ℤ) → AreSame n f f' → AreSame n g g' → dot_fits low high n f g ≡ dot_fits low high n f' g'
 dot_fits-same low high n f g f' g' h k = all_below-same n _ _ (λ i l.
     let a : f i ≡ f' i = h i l in
     let b : g i ≡ g' i = k i l in
     let r : dot i f g ≡ dot i f' g' = dot-same i f g f' g' (λ j m. h j (omega arith)) (λ j m. k j (omega arith)) in rw (a, b, r) refl)
 
-pub multiple_fits-same : (low high : ℤ) (n : ℕ) (f f' : ℕ → ℤ) (t : ℤ) → ((i : ℕ) → i < n → f i ≡ f' i) → multiple_fits low high n f t ≡ multiple_fits low high n f' t
+pub multiple_fits-same : (low high : ℤ) (n : ℕ) (f f' : ℕ → ℤ) (t : ℤ) → AreSame n f f' → multiple_fits low high n f t ≡ multiple_fits low high n f' t
 multiple_fits-same low high n f f' t h = all_below-same n _ _ (λ i l. let a : f i ≡ f' i = h i l in rw a refl)
 
-pub point_apart-same : (high : ℤ) (n : ℕ) (a q a' q' : ℕ → ℤ) → ((i : ℕ) → i < n → a i ≡ a' i) → ((i : ℕ) → i < n → q i ≡ q' i) → point_apart high n a q ≡ point_apart high n a' q'
+pub point_apart-same : (high : ℤ) (n : ℕ) (a q a' q' : ℕ → ℤ) → AreSame n a a' → AreSame n q q' → point_apart high n a q ≡ point_apart high n a' q'
 point_apart-same high n a q a' q' h k = ap (λ s. min s (unsigned_abs high)) (sum_below-same n _ _ (λ i l. let e : a i ≡ a' i = h i l in let f : q i ≡ q' i = k i l in rw (e, f) refl))
 
 choice-same : (t : Bool) (x y x' y' : ℤ) → x ≡ x' → y ≡ y' → (if t then x else y) ≡ (if t then x' else y')
 choice-same true x y x' y' h k = h
 choice-same false x y x' y' h k = k
 
-pub nearer-same : (high : ℤ) (n : ℕ) (q a b q' a' b' : ℕ → ℤ) → ((i : ℕ) → i < n → q i ≡ q' i) → ((i : ℕ) → i < n → a i ≡ a' i) → ((i : ℕ) → i < n → b i ≡ b' i)
-    → (i : ℕ) → i < n → nearer high n q a b i ≡ nearer high n q' a' b' i
+pub nearer-same : (high : ℤ) (n : ℕ) (q a b q' a' b' : ℕ → ℤ) → AreSame n q q' → AreSame n a a' → AreSame n b b'
+    → AreSame n (nearer high n q a b) (nearer high n q' a' b')
 unfolding nearer
 nearer-same high n q a b q' a' b' h k l i s =
     let e : point_apart high n a q ≡ point_apart high n a' q' = point_apart-same high n a q a' q' k h in
@@ -111,27 +109,28 @@ direction-same : (f g f' g' : ℕ → ℤ) (i : ℕ) → f i ≡ f' i → g i �
 direction-same f g f' g' i h k = rw (h, k) refl
 
 -- the point asked about enters by its coordinates on the n axes
-pub along-same : (n : ℕ) (f g q q' : ℕ → ℤ) → ((i : ℕ) → i < n → q i ≡ q' i) → along n f g q ≡ along n f g q'
-along-same n f g q q' h = dot-same n _ _ _ _ (λ i l. direction-same f q f q' i refl (h i l)) (λ i l. refl)
+module _ (n : ℕ) (f g q q' : ℕ → ℤ) (same : AreSame n q q') where
+  along-same : along n f g q ≡ along n f g q'
+  along-same = dot-same n _ _ _ _ (λ i l. direction-same f q f q' i refl (same i l)) (λ i l. refl)
 
-pub interior-same : (n : ℕ) (f g q q' : ℕ → ℤ) → ((i : ℕ) → i < n → q i ≡ q' i) → (i : ℕ) → i < n → interior n f g q i ≡ interior n f g q' i
-unfolding interior
-interior-same n f g q q' h i l = let e = along-same n f g q q' h in rw e refl
+  interior-same : AreSame n (interior n f g q) (interior n f g q')
+  unfolding interior
+  interior-same i l = let e = along-same in rw e refl
 
-pub has_interior-same : (low high : ℤ) (n : ℕ) (f g q q' : ℕ → ℤ) → ((i : ℕ) → i < n → q i ≡ q' i) → has_interior low high n f g q ≡ has_interior low high n f g q'
-unfolding has_interior
-has_interior-same low high n f g q q' h =
-    let a = all_below-same n (λ i. in_range low high (q i -ℤ f i)) (λ i. in_range low high (q' i -ℤ f i)) (λ i l. let e : q i ≡ q' i = h i l in rw e refl) in
-    let b = dot_fits-same low high n (direction f q) (direction f g) (direction f q') (direction f g) (λ i l. direction-same f q f q' i refl (h i l)) (λ i l. refl) in
-    let c = along-same n f g q q' h in
-    rw (a, b, c) refl
+  has_interior-same : (low high : ℤ) → has_interior low high n f g q ≡ has_interior low high n f g q'
+  unfolding has_interior
+  has_interior-same low high =
+      let a = all_below-same n (λ i. in_range low high (q i -ℤ f i)) (λ i. in_range low high (q' i -ℤ f i)) (λ i l. let e : q i ≡ q' i = same i l in rw e refl) in
+      let b = dot_fits-same low high n (direction f q) (direction f g) (direction f q') (direction f g) (λ i l. direction-same f q f q' i refl (same i l)) (λ i l. refl) in
+      let c = along-same in
+      rw (a, b, c) refl
 
-pub nearest-same : (low high : ℤ) (n : ℕ) (f g q q' : ℕ → ℤ) → ((i : ℕ) → i < n → q i ≡ q' i) → (i : ℕ) → i < n → nearest_of_segment low high n f g q i ≡ nearest_of_segment low high n f g q' i
-unfolding nearest_of_segment
-nearest-same low high n f g q q' h i l =
-    let ends = nearer-same high n q f g q' f g h (λ _ _. refl) (λ _ _. refl) in
-    let e = has_interior-same low high n f g q q' h in
-    rw e (choice-same _ _ _ _ _ (nearer-same high n q _ _ q' _ _ h ends (interior-same n f g q q' h) i l) (ends i l))
+  nearest-same : (low high : ℤ) → AreSame n (nearest_of_segment low high n f g q) (nearest_of_segment low high n f g q')
+  unfolding nearest_of_segment
+  nearest-same low high i l =
+      let ends = nearer-same high n q f g q' f g same (λ _ _. refl) (λ _ _. refl) in
+      let e = has_interior-same low high in
+      rw e (choice-same _ _ _ _ _ (nearer-same high n q _ _ q' _ _ same ends interior-same i l) (ends i l))
 
 -- ---- the nearer of two points
 
@@ -173,7 +172,7 @@ fits-next low high i sum x y b f g h k l e = rw (← h, ← k, ← l) (sym e)
 
 -- ---- whether the interior point is considered
 
-module _ (low high : ℤ) (n : ℕ) (f g q d o : ℕ → ℤ) (hd : (i : ℕ) → i < n → d i ≡ direction f g i) (ho : (i : ℕ) → i < n → o i ≡ direction f q i) where
+module _ (low high : ℤ) {n : ℕ} (f g q : ℕ → ℤ) {d o : ℕ → ℤ} (hd : AreSame n d (direction f g)) (ho : AreSame n o (direction f q)) where
   pub no_offset_product : dot_fits low high n o d ≡ false → has_interior low high n f g q ≡ false
   unfolding has_interior
   no_offset_product h = not_left _ _ (not_right _ _ (not_left _ _ (sym (dot_fits-same low high n o d _ _ ho hd) ∙ h)))
@@ -226,13 +225,14 @@ module _ (low high : ℤ) (n : ℕ) (f g q d o : ℕ → ℤ) (hd : (i : ℕ) �
       let b = step-between (f i) (g i) t len p r in
       rw (e, ← u, ← v) (held low high (f i) (g i) _ (point-at low high n f i hf l) (point-at low high n g i hg l) b.0 b.1)
 
-pub no_direction : (low high : ℤ) (n : ℕ) (f g q : ℕ → ℤ) → difference_fits low high n g f ≡ false → has_interior low high n f g q ≡ false
-unfolding has_interior
-no_direction low high n f g q h = not_left _ _ (not_left _ _ (not_left _ _ h))
+module _ (low high : ℤ) (n : ℕ) (f g q : ℕ → ℤ) where
+  pub no_direction : difference_fits low high n g f ≡ false → has_interior low high n f g q ≡ false
+  unfolding has_interior
+  no_direction h = not_left _ _ (not_left _ _ (not_left _ _ h))
 
-pub no_offset : (low high : ℤ) (n : ℕ) (f g q : ℕ → ℤ) → difference_fits low high n q f ≡ false → has_interior low high n f g q ≡ false
-unfolding has_interior
-no_offset low high n f g q h = not_left _ _ (not_left _ _ (not_right _ _ h))
+  pub no_offset : difference_fits low high n q f ≡ false → has_interior low high n f g q ≡ false
+  unfolding has_interior
+  no_offset h = not_left _ _ (not_left _ _ (not_right _ _ h))
 
 pub inside_parts : (t len : ℤ) → (int_lt (pos 0) t && int_lt t len) ≡ true → (pos 0 <ℤ t) × (t <ℤ len)
 inside_parts t len h =
@@ -243,8 +243,8 @@ inside_parts t len h =
 -- ---- the nearest point
 
 pub nearest-inside : (low high : ℤ) (n : ℕ) (f g q e p : ℕ → ℤ) → has_interior low high n f g q ≡ true
-    → ((i : ℕ) → i < n → e i ≡ nearer high n q f g i) → ((i : ℕ) → i < n → p i ≡ interior n f g q i)
-    → (i : ℕ) → i < n → nearer high n q e p i ≡ nearest_of_segment low high n f g q i
+    → AreSame n e (nearer high n q f g) → AreSame n p (interior n f g q)
+    → AreSame n (nearer high n q e p) (nearest_of_segment low high n f g q)
 unfolding nearest_of_segment
 nearest-inside low high n f g q e p h k m i l = rw h (nearer-same high n q e p q _ _ (λ _ _. refl) k m i l)
 
@@ -253,15 +253,15 @@ unfolding nearest_of_segment
 nearest-end low high n f g q x i h k = rw h k
 
 -- a point that agrees with the nearest one is at the segment's distance
-pub distance-at : (low high : ℤ) (n : ℕ) (f g q c : ℕ → ℤ) → ((i : ℕ) → i < n → c i ≡ nearest_of_segment low high n f g q i)
+pub distance-at : (low high : ℤ) (n : ℕ) (f g q c : ℕ → ℤ) → AreSame n c (nearest_of_segment low high n f g q)
     → point_apart high n c q ≡ segment_distance low high n f g (table n q)
 distance-at low high n f g q c h =
     let listed : (i : ℕ) → i < n → q i ≡ coordinate (table n q) i = λ i l. sym (table-get n q i (pos 0) l) in
-    point_apart-same high n c q _ _ (λ i l. h i l ∙ nearest-same low high n f g q _ listed i l) listed
+    point_apart-same high n c q _ _ (λ i l. h i l ∙ nearest-same n f g q _ listed low high i l) listed
 
 -- ---- the box of the ends
 
-pub corners_of-same : (n : ℕ) (f g f' g' : ℕ → ℤ) → ((i : ℕ) → i < n → f i ≡ f' i) → ((i : ℕ) → i < n → g i ≡ g' i) → box_of_corners n f g ≡ box_of_corners n f' g'
+pub corners_of-same : (n : ℕ) (f g f' g' : ℕ → ℤ) → AreSame n f f' → AreSame n g g' → box_of_corners n f g ≡ box_of_corners n f' g'
 corners_of-same n f g f' g' h k = corners-same n _ _ _ _
     (λ i l. let a : f i ≡ f' i = h i l in let b : g i ≡ g' i = k i l in rw (a, b) refl)
     (λ i l. let a : f i ≡ f' i = h i l in let b : g i ≡ g' i = k i l in rw (a, b) refl)
@@ -281,5 +281,5 @@ pub corners_of-box : (low high : ℤ) (n : ℕ) (f g : ℕ → ℤ) → ((i : �
 corners_of-box low high n f g h k = corners-box low high n _ _
     (λ i l. least-ranged low high (f i) (g i) (h i l) (k i l)) (λ i l. greatest-ranged low high (f i) (g i) (h i l) (k i l)) (λ i _. upright (f i) (g i))
 
-pub still_ranged : (low high : ℤ) (n : ℕ) (f f' : ℕ → ℤ) → ((i : ℕ) → i < n → f' i ≡ f i) → ((i : ℕ) → i < n → InRange low high (f' i)) → (i : ℕ) → i < n → InRange low high (f i)
+pub still_ranged : (low high : ℤ) (n : ℕ) (f f' : ℕ → ℤ) → AreSame n f' f → ((i : ℕ) → i < n → InRange low high (f' i)) → (i : ℕ) → i < n → InRange low high (f i)
 still_ranged low high n f f' h k i l = subst (InRange low high) (h i l) (k i l)

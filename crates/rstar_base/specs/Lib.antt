@@ -7,6 +7,7 @@ pub mod Distances
 pub mod Measures
 pub mod Envelopes
 pub mod Elements
+pub mod Counts
 pub mod Sums
 pub mod BoxData
 pub mod PointElements

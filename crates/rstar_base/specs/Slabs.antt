@@ -16,14 +16,12 @@ pub record IsAround {T : Type 0} (key : T → ℤ) (pivot : ℤ) (low high : ℕ
   pub at_most : (i : ℕ) (d : T) → i < high → key (slice_index_or xs i d) ≤ℤ pivot
   pub at_least : (i : ℕ) (d : T) → low ≤ i → i < length xs → pivot ≤ℤ key (slice_index_or xs i d)
 
--- the same while elements between `at` and `more` are still to be placed
-pub record IsAroundSoFar {T : Type 0} (key : T → ℤ) (pivot : ℤ) (less at more : ℕ) (xs : List T) : Type 0 where
+-- around one place, while elements from `at` on are still to be placed
+pub record IsAroundSoFar {T : Type 0} (key : T → ℤ) (pivot : ℤ) (less at : ℕ) (xs : List T) : Type 0 where
   pub order : less ≤ at
-  pub left : at ≤ more
-  pub within : more ≤ length xs
-  pub at_most : (i : ℕ) (d : T) → i < at → key (slice_index_or xs i d) ≤ℤ pivot
-  pub middle : (i : ℕ) (d : T) → less ≤ i → i < at → pivot ≤ℤ key (slice_index_or xs i d)
-  pub at_least : (i : ℕ) (d : T) → more ≤ i → i < length xs → pivot ≤ℤ key (slice_index_or xs i d)
+  pub within : at ≤ length xs
+  pub at_most : (i : ℕ) (d : T) → i < less → key (slice_index_or xs i d) ≤ℤ pivot
+  pub at_least : (i : ℕ) (d : T) → less ≤ i → i < at → pivot ≤ℤ key (slice_index_or xs i d)
 
 -- ---- slabs
 

@@ -1,11 +1,17 @@
 //! Envelopes: what a tree keeps of the elements below a parent.
 
-ghost use Rattle.std.specs.Prelude.{◌≡◌, ◌↔◌, ◌<◌, ℕ, ℤ, IsTrue, pos};
+ghost use Rattle.std.specs.Prelude.{◌≡◌, ◌↔◌, ◌<◌, ℕ, ℤ, ⊤, true, IsTrue, pos, if◌then◌else◌};
 ghost use Rattle.rstar_base.specs.Points.{table, IsPoint};
+ghost use Rattle.rstar_base.specs.Boxes.{is_empty_box};
+ghost use Rattle.rstar_base.specs.BoxData.{box_data};
 ghost use Rattle.rstar_base.specs.Envelopes.{Boxes, EnvelopeLaws};
+ghost use Rattle.rstar_base.specs.Counts.{counted_boxes};
 
+use crate::aabb::AABB;
 use crate::point::Point;
+use std::alloc::AllocError;
 use std::fmt::Debug;
+use std::marker::Model;
 
 /// An envelope: something that covers elements, as a box does.
 ///
@@ -108,4 +114,149 @@ pub fn copied_envelope<E: Envelope>(e: &E) -> E
     ensures own { E.boxes.IsValue e.now }
 {
     E::new_empty().merged(e)
+}
+
+/// A box with a count: a box of its own counts once, and merging adds the counts, held at the greatest `usize`.
+///
+/// So a parent of a tree over such envelopes tells how many elements lie below it. The count is 0 for the empty box
+/// alone (`count` says more). Everything else is as of the box; equality compares box and count. A copy takes no
+/// memory.
+#[derive(Copy, Debug, PartialEq, Eq, Drop)]
+pub struct Counted<P: Point> {
+    aabb: AABB<P>,
+    count: usize,
+}
+
+impl<P: Point> Model for Counted<P> {
+    ghost use Rattle.std.specs.Prelude.{◌≡◌, ℕ, ℤ, List, refl};
+    ghost use Rattle.rstar_base.specs.BoxData.{box_data};
+    ghost use Rattle.rstar_base.specs.Counts.{IsCounted};
+
+    ghost Value = { List (ℤ × ℤ) × ℕ };
+
+    ghost view = { λ c. (c.aabb, c.count) };
+
+    ghost invariant = { λ c. IsCounted (box_data P.Scalar.low P.Scalar.high P.DIMENSIONS) c.aabb c.count };
+
+    ghost inverse = { λ v. record { aabb = v.0; count = v.1 } };
+
+    ghost inverse_ok = { λ a h. refl };
+}
+
+impl<P: Point> Clone for Counted<P> {
+    ghost is_clone = { λ a b. b ≡ a };
+
+    ghost is_infallible = { λ _. ⊤ };
+
+    fn clone(&self) -> Result<Counted<P>, AllocError> {
+        Ok(Counted {
+            aabb: self.aabb.clone()?,
+            count: self.count,
+        })
+    }
+}
+
+impl<P: Point> Counted<P> {
+    /// A box that counts once; the empty box, where there is an axis, counts 0.
+    pub fn new(aabb: AABB<P>) -> Self
+        ensures { result ≡ (aabb, if is_empty_box aabb then 0 else 1) }
+    {
+        let count = if aabb.is_empty() { 0 } else { 1 };
+        Counted { aabb, count }
+    }
+
+    /// The box.
+    pub fn aabb(&self) -> &AABB<P>
+        ensures { result.now ≡ self.now.0 }
+    {
+        &self.aabb
+    }
+
+    /// How many boxes were merged, held at the greatest `usize`. Where there is an axis, it is 0 exactly where the box
+    /// is empty.
+    pub fn count(&self) -> usize
+        ensures value { result ≡ self.now.1 }
+        ensures none { 0 < P.DIMENSIONS → (result ≡ 0) ↔ (is_empty_box self.now.0 ≡ true) }
+    {
+        self.count
+    }
+}
+
+impl<P: Point> Envelope for Counted<P> {
+    ghost use Rattle.rstar_base.specs.laws.BoxEnvelopes.{box_laws};
+    ghost use Rattle.rstar_base.specs.laws.BoxEq.{box_eq};
+    ghost use Rattle.rstar_base.specs.laws.CountedLaws.{counted_eq, counted_laws};
+
+    type Point = P;
+
+    ghost boxes = { counted_boxes (box_data P.Scalar.low P.Scalar.high P.DIMENSIONS) };
+
+    fn new_empty() -> Self {
+        Counted {
+            aabb: AABB::new_empty(),
+            count: 0,
+        }
+    }
+
+    fn is_empty(&self) -> bool {
+        self.count == 0
+    }
+
+    fn contains_point(&self, point: &P) -> bool {
+        self.aabb.contains_point(point)
+    }
+
+    fn contains_envelope(&self, other: &Self) -> bool {
+        self.aabb.contains_envelope(&other.aabb)
+    }
+
+    fn merge(&mut self, other: &Self) {
+        *self = self.merged(other);
+    }
+
+    fn merged(&self, other: &Self) -> Self {
+        Counted {
+            aabb: self.aabb.merged(&other.aabb),
+            count: self.count.saturating_add(other.count),
+        }
+    }
+
+    fn intersects(&self, other: &Self) -> bool {
+        self.aabb.intersects(&other.aabb)
+    }
+
+    fn distance_2(&self, point: &P) -> P::Scalar {
+        Envelope::distance_2(&self.aabb, point)
+    }
+
+    fn min_max_dist_2(&self, point: &P) -> P::Scalar {
+        self.aabb.min_max_dist_2(point)
+    }
+
+    fn area(&self) -> P::Scalar {
+        self.aabb.area()
+    }
+
+    fn intersection_area(&self, other: &Self) -> P::Scalar {
+        self.aabb.intersection_area(&other.aabb)
+    }
+
+    fn center(&self) -> P {
+        self.aabb.center()
+    }
+
+    fn perimeter_value(&self) -> P::Scalar {
+        self.aabb.perimeter_value()
+    }
+
+    fn axis_key(&self, axis: usize) -> P::Scalar {
+        self.aabb.axis_key(axis)
+    }
+
+    ghost envelope_laws = { counted_laws (box_data P.Scalar.low P.Scalar.high P.DIMENSIONS)
+        (box_laws P.Scalar.low P.Scalar.high P.DIMENSIONS P.Scalar.low_law P.Scalar.high_law) };
+
+    ghost eq_law = { λ a b h k. counted_eq ⟦<AABB<P> as PartialEq>⟧.eq a b
+        (box_eq P.Scalar.low P.Scalar.high P.DIMENSIONS P.coord P.of_coords P.eq P.coords_of_law P.eq_law
+        a.0 b.0 h.inside k.inside) };
 }

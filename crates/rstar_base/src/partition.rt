@@ -1,14 +1,12 @@
 //! A place found without a sort: what `partition_envelopes` does.
-ghost use Rattle.std.specs.Prelude.{◌≡◌, ◌<◌, ◌≤◌, ℤ, ℕ, length, slice_index_or, vec_len};
-ghost use Rattle.std.specs.Ordering.{int_cmp};
+ghost use Rattle.std.specs.Prelude.{◌≡◌, ◌<◌, ◌≤◌, ◌≤ℤ◌, ◌+◌, ◌*◌, ℤ, ℕ, false, length, slice_index_or, true, vec_len};
 ghost use Rattle.std.specs.List.Sorted.{IsPermutation};
 ghost use Rattle.rstar_base.specs.Orders.{IsSplitAt};
 ghost use Rattle.rstar_base.specs.Slabs.{IsAround};
 
 use crate::envelope::Envelope;
 use crate::object::{Distance, RTreeObject, sort_envelopes};
-use crate::point::{RTreeNum, greatest, least};
-use std::cmp::Ordering;
+use crate::point::{RTreeNum, greatest, least, not_above};
 
 /// Puts at place `k` an element so that none before it has a greater key, and none after it a smaller one.
 ///
@@ -45,11 +43,17 @@ fn select<T: RTreeObject>(axis: usize, list: &mut [T], k: usize, turns: u32)
     }
 }
 
-/// How two keys compare.
-fn compare_keys<S: RTreeNum>(a: S, b: S) -> Ordering
-    ensures { result ≡ int_cmp (S.value a) (S.value b) }
+/// Whether a key is smaller than the pivot, or the same where `with_same` says so.
+fn is_first<S: RTreeNum>(key: S, pivot: S, with_same: bool) -> bool
+    ensures first { result ≡ true → S.value key ≤ℤ S.value pivot }
+    ensures other { result ≡ false → S.value pivot ≤ℤ S.value key }
 {
-    a.cmp(&b)
+    if with_same {
+        not_above(key, pivot)
+    } else {
+        let reaches = not_above(pivot, key);
+        !reaches
+    }
 }
 
 /// The key of the element at this place.
@@ -62,21 +66,41 @@ fn key_at<T: RTreeObject>(axis: usize, list: &[T], k: usize) -> Distance<T>
     list[k].envelope().axis_key(axis)
 }
 
-/// The middle one of three keys, as a pivot. Any key is right; this one makes parts of much the same
-/// length more often.
+/// The middle one of three keys, and of nine in a long list, as a pivot. Any key is right; this one makes
+/// parts of much the same length more often.
 fn middle_key<T: RTreeObject>(axis: usize, list: &[T]) -> Distance<T>
     requires axis { axis < T.Envelope.Point.DIMENSIONS }
     requires some { 0 < length list.now }
 {
-    let half = list.len() / 2;
-    let quarter = half / 2;
-    let a = key_at(axis, list, quarter);
-    let b = key_at(axis, list, half);
-    let c = key_at(axis, list, half + quarter);
+    let step = list.len() / 9;
+    if step < 8 {
+        let quarter = list.len() / 4;
+        return middle_of(axis, list, quarter, quarter);
+    }
+    let a = middle_of(axis, list, 0, step);
+    let b = middle_of(axis, list, 3 * step, step);
+    let c = middle_of(axis, list, 6 * step, step);
+    middle(a, b, c)
+}
+
+/// The middle one of the keys at a place, a step after it and two steps after it.
+fn middle_of<T: RTreeObject>(axis: usize, list: &[T], at: usize, step: usize) -> Distance<T>
+    requires axis { axis < T.Envelope.Point.DIMENSIONS }
+    requires places { at + 2 * step < length list.now }
+{
+    middle(
+        key_at(axis, list, at),
+        key_at(axis, list, at + step),
+        key_at(axis, list, at + 2 * step),
+    )
+}
+
+/// The middle one of three.
+fn middle<S: RTreeNum>(a: S, b: S, c: S) -> S {
     greatest(least(a, b), least(greatest(a, b), c))
 }
 
-/// Puts the elements of smaller keys than the pivot first, those of its key next and those of greater keys last.
+/// Puts the elements of smaller keys than the pivot first; where there are none, those of its key.
 fn split_around<T: RTreeObject>(axis: usize, list: &mut [T], pivot: Distance<T>) -> (usize, usize)
     requires { axis < T.Envelope.Point.DIMENSIONS }
     ensures same { IsPermutation list.old list.new }
@@ -85,22 +109,33 @@ fn split_around<T: RTreeObject>(axis: usize, list: &mut [T], pivot: Distance<T>)
     ensures around { IsAround (λ t. T.Envelope.boxes.axis_key (T.object.box_of t) axis)
         (T.Envelope.Point.Scalar.value pivot) result.0 result.1 list.new }
 {
+    let less = gather(axis, list, pivot, false);
+    if less != 0 {
+        return (less, less);
+    }
+    let same = gather(axis, list, pivot, true);
+    (0, same)
+}
+
+/// Puts the elements of smaller keys than the pivot first, with those of its key or without them, and counts them.
+///
+/// Each element is swapped, wherever it belongs, so that no jump hangs on a key.
+fn gather<T: RTreeObject>(axis: usize, list: &mut [T], pivot: Distance<T>, with_same: bool) -> usize
+    requires { axis < T.Envelope.Point.DIMENSIONS }
+    ensures same { IsPermutation list.old list.new }
+    ensures within { result ≤ length list.old }
+    ensures around { IsAround (λ t. T.Envelope.boxes.axis_key (T.object.box_of t) axis)
+        (T.Envelope.Point.Scalar.value pivot) result result list.new }
+{
     let mut less = 0;
     let mut at = 0;
-    let mut more = list.len();
-    while at < more {
-        match compare_keys(key_at(axis, list, at), pivot) {
-            Ordering::Less => {
-                list.swap(less, at);
-                less += 1;
-                at += 1;
-            }
-            Ordering::Equal => at += 1,
-            Ordering::Greater => {
-                more -= 1;
-                list.swap(at, more);
-            }
+    while at < list.len() {
+        let first = is_first(key_at(axis, list, at), pivot, with_same);
+        list.swap(less, at);
+        if first {
+            less += 1;
         }
+        at += 1;
     }
-    (less, more)
+    less
 }

@@ -4,6 +4,7 @@
 ghost use Rattle.std.specs.Prelude.{◌≡◌, ◌<◌, ◌↔◌, ◌==◌, ℕ, IsTrue, if◌then◌else◌};
 ghost use Rattle.rstar_base.specs.Points.{table};
 
+mod heaps;
 mod slabs;
 
 use crate::aabb::AABB;

@@ -5,15 +5,24 @@ use Rattle.std.proofs.lemmas.Str.{IsUtf8-from_ascii}
 use Rattle.std.proofs.lemmas.List.{length-map}
 use Rattle.std.proofs.lemmas.Slice.Eq.{bytes_eq-Decides}
 use Rattle.rstar_run.specs.Numerals.{◌>>=◌}
-use Rattle.rstar_run.specs.Grammar.{command_of, line_of, verb_of, known}
+use Rattle.rstar_run.specs.Grammar.{command_of, drain_of, line_of, verb_of, known}
+use Rattle.rstar_run.specs.declared.command.Corners.{Corners}
 use Rattle.rstar_run.specs.declared.command.Line.TheVariants as line
 use Rattle.rstar_run.specs.declared.command.Verb.{Verb}
-use Rattle.rstar_run.specs.declared.command.Verb.TheVariants.{Insert, In, Size}
+use Rattle.rstar_run.specs.declared.command.Verb.TheVariants.{Insert, Remove, RemoveAt, Pop, Drain, In, Hit, At, Within, Near, Size}
 
 -- how many words come after a verb
 abbrev pub arity : Verb → ℕ
 arity Insert = 5
+arity Remove = 5
+arity RemoveAt = 2
+arity Pop = 2
+arity Drain = 6
 arity In = 4
+arity Hit = 4
+arity At = 2
+arity Within = 3
+arity Near = 3
 arity Size = 0
 
 -- with another number of words there is no command
@@ -25,12 +34,55 @@ command_none Insert (a ∷ b ∷ c ∷ []) h = refl
 command_none Insert (a ∷ b ∷ c ∷ d ∷ []) h = refl
 command_none Insert (a ∷ b ∷ c ∷ d ∷ e ∷ []) h = absurd (h refl)
 command_none Insert (a ∷ b ∷ c ∷ d ∷ e ∷ f ∷ ws) h = refl
+command_none Remove [] h = refl
+command_none Remove (a ∷ []) h = refl
+command_none Remove (a ∷ b ∷ []) h = refl
+command_none Remove (a ∷ b ∷ c ∷ []) h = refl
+command_none Remove (a ∷ b ∷ c ∷ d ∷ []) h = refl
+command_none Remove (a ∷ b ∷ c ∷ d ∷ e ∷ []) h = absurd (h refl)
+command_none Remove (a ∷ b ∷ c ∷ d ∷ e ∷ f ∷ ws) h = refl
+command_none RemoveAt [] h = refl
+command_none RemoveAt (a ∷ []) h = refl
+command_none RemoveAt (a ∷ b ∷ []) h = absurd (h refl)
+command_none RemoveAt (a ∷ b ∷ c ∷ ws) h = refl
+command_none Pop [] h = refl
+command_none Pop (a ∷ []) h = refl
+command_none Pop (a ∷ b ∷ []) h = absurd (h refl)
+command_none Pop (a ∷ b ∷ c ∷ ws) h = refl
+command_none Drain [] h = refl
+command_none Drain (a ∷ []) h = refl
+command_none Drain (a ∷ b ∷ []) h = refl
+command_none Drain (a ∷ b ∷ c ∷ []) h = refl
+command_none Drain (a ∷ b ∷ c ∷ d ∷ []) h = refl
+command_none Drain (a ∷ b ∷ c ∷ d ∷ e ∷ []) h = refl
+command_none Drain (a ∷ b ∷ c ∷ d ∷ e ∷ f ∷ []) h = absurd (h refl)
+command_none Drain (a ∷ b ∷ c ∷ d ∷ e ∷ f ∷ g ∷ ws) h = refl
 command_none In [] h = refl
 command_none In (a ∷ []) h = refl
 command_none In (a ∷ b ∷ []) h = refl
 command_none In (a ∷ b ∷ c ∷ []) h = refl
 command_none In (a ∷ b ∷ c ∷ d ∷ []) h = absurd (h refl)
 command_none In (a ∷ b ∷ c ∷ d ∷ e ∷ ws) h = refl
+command_none Hit [] h = refl
+command_none Hit (a ∷ []) h = refl
+command_none Hit (a ∷ b ∷ []) h = refl
+command_none Hit (a ∷ b ∷ c ∷ []) h = refl
+command_none Hit (a ∷ b ∷ c ∷ d ∷ []) h = absurd (h refl)
+command_none Hit (a ∷ b ∷ c ∷ d ∷ e ∷ ws) h = refl
+command_none At [] h = refl
+command_none At (a ∷ []) h = refl
+command_none At (a ∷ b ∷ []) h = absurd (h refl)
+command_none At (a ∷ b ∷ c ∷ ws) h = refl
+command_none Within [] h = refl
+command_none Within (a ∷ []) h = refl
+command_none Within (a ∷ b ∷ []) h = refl
+command_none Within (a ∷ b ∷ c ∷ []) h = absurd (h refl)
+command_none Within (a ∷ b ∷ c ∷ d ∷ ws) h = refl
+command_none Near [] h = refl
+command_none Near (a ∷ []) h = refl
+command_none Near (a ∷ b ∷ []) h = refl
+command_none Near (a ∷ b ∷ c ∷ []) h = absurd (h refl)
+command_none Near (a ∷ b ∷ c ∷ d ∷ ws) h = refl
 command_none Size [] h = absurd (h refl)
 command_none Size (a ∷ ws) h = refl
 
@@ -48,9 +100,23 @@ is_not w v h k = not_true (bytes_eq w v) (λ e. h (subst IsUtf8 (sym ((bytes_eq-
 pub verb_none : (w : List ℕ) → ¬ (IsUtf8 w) → None ≡ verb_of w
 verb_none w h =
     let insert : bytes_eq w (codes "insert") ≡ false = is_not w (codes "insert") h (IsUtf8-from_ascii _ (search rules)) in
+    let remove : bytes_eq w (codes "remove") ≡ false = is_not w (codes "remove") h (IsUtf8-from_ascii _ (search rules)) in
+    let remove_at : bytes_eq w (codes "removeat") ≡ false = is_not w (codes "removeat") h (IsUtf8-from_ascii _ (search rules)) in
+    let pop : bytes_eq w (codes "pop") ≡ false = is_not w (codes "pop") h (IsUtf8-from_ascii _ (search rules)) in
+    let drain : bytes_eq w (codes "drain") ≡ false = is_not w (codes "drain") h (IsUtf8-from_ascii _ (search rules)) in
     let in_box : bytes_eq w (codes "in") ≡ false = is_not w (codes "in") h (IsUtf8-from_ascii _ (search rules)) in
+    let hit : bytes_eq w (codes "hit") ≡ false = is_not w (codes "hit") h (IsUtf8-from_ascii _ (search rules)) in
+    let at : bytes_eq w (codes "at") ≡ false = is_not w (codes "at") h (IsUtf8-from_ascii _ (search rules)) in
+    let within : bytes_eq w (codes "within") ≡ false = is_not w (codes "within") h (IsUtf8-from_ascii _ (search rules)) in
+    let near : bytes_eq w (codes "near") ≡ false = is_not w (codes "near") h (IsUtf8-from_ascii _ (search rules)) in
     let size : bytes_eq w (codes "size") ≡ false = is_not w (codes "size") h (IsUtf8-from_ascii _ (search rules)) in
-    sym (rw (insert, in_box, size) refl)
+    sym (rw (insert, remove, remove_at, pop, drain, in_box, hit, at, within, near, size) refl)
+
+pub drain_none : (w : List ℕ) (corners : Corners) (most : ℕ) → ¬ (IsUtf8 w) → None ≡ drain_of w corners most
+drain_none w corners most h =
+    let in_box : bytes_eq w (codes "in") ≡ false = is_not w (codes "in") h (IsUtf8-from_ascii _ (search rules)) in
+    let hit : bytes_eq w (codes "hit") ≡ false = is_not w (codes "hit") h (IsUtf8-from_ascii _ (search rules)) in
+    sym (rw (in_box, hit) refl)
 
 -- a line of more words than the longest command is bad
 pub line_bad : (ws : List (List ℕ)) → 8 < length ws → line.Bad ≡ line_of ws
@@ -58,7 +124,15 @@ line_bad [] h = absurd (omega arith)
 line_bad (w ∷ ws) h = bad (verb_of w) where
   many : (v : Verb) → length ws ≢ arity v
   many Insert e = omega arith
+  many Remove e = omega arith
+  many RemoveAt e = omega arith
+  many Pop e = omega arith
+  many Drain e = omega arith
   many In e = omega arith
+  many Hit e = omega arith
+  many At e = omega arith
+  many Within e = omega arith
+  many Near e = omega arith
   many Size e = omega arith
 
   bad : (v : Option Verb) → line.Bad ≡ known (v >>= (λ v. command_of v ws))

@@ -3,6 +3,9 @@ pub mod Pieces
 pub mod Commands
 pub mod Selections
 pub mod Ids
+pub mod Taken
+pub mod Drained
+pub mod Nearest
 pub mod Prints
 pub mod Reading
 pub mod Runs

@@ -14,9 +14,6 @@ use Rattle.rstar_run.specs.declared.program.Stop.{Stop}
 pub none_written : (u : Option (List ℕ)) (text : List ℕ) → AppendsFront u u text
 none_written u text = record { front = []; rest = text; appended = Appends-nil u; text_is = refl }
 
-pub all_written : (u v : Option (List ℕ)) (text : List ℕ) → Appends u v text → AppendsFront u v text
-all_written u v text a = record { front = text; rest = []; appended = a; text_is = sym (append-nil text) }
-
 -- a front of a text is one of a longer text
 pub front_of_longer : {u v : Option (List ℕ)} {s : List ℕ} (t : List ℕ) → AppendsFront u v s → AppendsFront u v (s ++ t)
 front_of_longer t a = record { front = a.front; rest = a.rest ++ t; appended = a.appended; text_is = ap (λ (l : List ℕ). l ++ t) a.text_is ∙ append_assoc a.front a.rest t }
@@ -87,10 +84,6 @@ prints_some {u} {v} {w} {held} {s} {mid} t p a =
 pub prints_front : {u v w : Option (List ℕ)} {held s mid : List ℕ} → Prints u v held s mid → AppendsFront v w mid → AppendsFront u w (held ++ s)
 prints_front {u} {v} {w} {held} {s} {mid} p a =
     subst (λ (l : List ℕ). AppendsFront u w (held ++ l)) (append-nil s) (prints_some [] p (subst (λ (l : List ℕ). AppendsFront v w l) (sym (append-nil mid)) a))
-
--- a text, and all of what is held then
-pub prints_all : {u v : Option (List ℕ)} {held s mid : List ℕ} (w : Option (List ℕ)) → Prints u v held s mid → Appends v w mid → Appends u w (held ++ s)
-prints_all {u} {v} {held} {s} {mid} w p a = subst (λ (l : List ℕ). Appends u w l) (sym p.text_is) (Appends-trans u v w p.front mid p.appended a)
 
 -- ---- a text in pieces
 

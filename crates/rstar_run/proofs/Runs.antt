@@ -1,14 +1,12 @@
 -- Runs, turn by turn.
-use Rattle.std.proofs.Common.{◌≡◌, ◌∙◌, ◌⊎◌, inl, inr, ℕ, ◌+◌, Bool, true, false, List, [], ◌∷◌, ◌++◌, length, length-append, Option, Some, None, IfSome, Result, Ok, Err, refl, sym, ap, subst, append_assoc, append-nil}
+use Rattle.std.proofs.Common.{◌≡◌, ◌∙◌, ◌⊎◌, inl, inr, ℕ, ◌+◌, Bool, true, false, List, [], ◌∷◌, ◌++◌, length, length-append, Option, Result, Ok, Err, refl, sym, ap, subst, append_assoc, append-nil}
 use Rattle.std.specs.Io.KnownBytes.{Appends, Keeps}
 use Rattle.std.proofs.KnownBytes.{Appends-trans}
 use Rattle.std.specs.Result.{IsErrAnd}
-use Rattle.rstar_run.specs.Lines.{lines_of, TakesLine}
 use Rattle.rstar_run.specs.Prints.{AppendsFront, Prints, Printed}
-use Rattle.rstar_run.specs.Runs.{meaning, Rectangles, Tells, Says, SaysAll, lines_in, Run, Ran, TakesTurn, Turn}
+use Rattle.rstar_run.specs.Runs.{Rectangles, Says, SaysAll, lines_in, Run, Ran, TakesTurn, Turn}
 use Rattle.rstar_run.specs.Statuses.{status_of}
 use Rattle.rstar_run.specs.Texts.{end_text}
-use Rattle.rstar_run.specs.declared.command.Line.TheVariants as line
 use Rattle.rstar_run.specs.declared.program.Stop.{Stop}
 use Rattle.rstar_run.specs.declared.program.Stop.TheVariants as stop
 use Rattle.rstar_run.proofs.Reading.{Reads, rest_of, reads_first, reads_more, reads_rest, reads_next, reads_all}

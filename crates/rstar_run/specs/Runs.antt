@@ -7,7 +7,7 @@ use Rattle.rstar_run.specs.Answers.{Answers}
 use Rattle.rstar_run.specs.Statuses.{status_of}
 use Rattle.rstar_run.specs.Texts.{text_of, end_text}
 use Rattle.rstar_run.specs.Lines.{lines_of, TakesLine}
-use Rattle.rstar_run.specs.Prints.{AppendsFront, Prints, Printed}
+use Rattle.rstar_run.specs.Prints.{AppendsFront, Prints}
 use Rattle.rstar_run.specs.declared.answers.Reply.{Reply}
 use Rattle.rstar_run.specs.declared.command.Line.{Line}
 use Rattle.rstar_run.specs.declared.command.Line.TheVariants as line

@@ -1,8 +1,8 @@
 -- How answers and ends are spelled.
-use Rattle.std.specs.Prelude.{ℕ, List, [], ◌∷◌, ◌++◌, codes, decimal, vec_items, Result, Ok, Err}
+use Rattle.std.specs.Prelude.{ℕ, List, [], ◌∷◌, ◌++◌, codes, decimal, vec_items, Some, None, Result, Ok, Err}
 use Rattle.std.specs.List.{join_by}
 use Rattle.rstar_run.specs.declared.answers.Reply.{Reply}
-use Rattle.rstar_run.specs.declared.answers.Reply.TheVariants.{Done, Ids, Size}
+use Rattle.rstar_run.specs.declared.answers.Reply.TheVariants.{Done, Ids, Taken, Distances, Size}
 use Rattle.rstar_run.specs.declared.program.Stop.{Stop}
 use Rattle.rstar_run.specs.declared.program.Stop.TheVariants.{Line, Memory, Input, Output}
 
@@ -15,6 +15,9 @@ list_text (n ∷ ns) = join_by decimal (codes " ") (n ∷ ns)
 abbrev pub text_of : Reply → List ℕ
 text_of Done = codes "ok\n"
 text_of (Ids ids) = list_text (vec_items ids) ++ codes "\n"
+text_of (Taken (Some id)) = list_text (id ∷ []) ++ codes "\n"
+text_of (Taken None) = list_text [] ++ codes "\n"
+text_of (Distances distances) = list_text (vec_items distances) ++ codes "\n"
 text_of (Size n) = decimal n ++ codes "\n"
 
 -- what is said where a run stops; nothing after a failed write

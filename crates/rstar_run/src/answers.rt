@@ -17,6 +17,8 @@ use std::io::Write;
 pub enum Reply {
     Done,
     Ids(Vec<u64>),
+    Taken(Option<u64>),
+    Distances(Vec<u64>),
     Size(usize),
 }
 
@@ -30,7 +32,20 @@ pub fn answer(alloc: Global, store: &mut Store, command: &Command) -> Result<Rep
             store.insert(*id, corners)?;
             Ok(Reply::Done)
         }
+        Command::Remove(id, corners) => Ok(Reply::Taken(store.remove(*id, corners))),
+        Command::RemoveAt(point) => Ok(Reply::Taken(store.remove_at(*point))),
+        Command::Pop(point) => Ok(Reply::Taken(store.pop(*point)?)),
+        Command::DrainIn(corners, most) => {
+            Ok(Reply::Ids(store.drain_in(alloc, corners, *most)?))
+        }
+        Command::DrainHit(corners, most) => {
+            Ok(Reply::Ids(store.drain_hit(alloc, corners, *most)?))
+        }
         Command::In(corners) => Ok(Reply::Ids(store.ids_in(alloc, corners)?)),
+        Command::Hit(corners) => Ok(Reply::Ids(store.ids_hit(alloc, corners)?)),
+        Command::At(point) => Ok(Reply::Ids(store.ids_at(alloc, *point)?)),
+        Command::Within(point, limit) => Ok(Reply::Ids(store.ids_within(alloc, *point, *limit)?)),
+        Command::Near(point, most) => { Ok(Reply::Distances(store.near(alloc, *point, *most)?)) }
         Command::Size => Ok(Reply::Size(store.size())),
     }
 }
@@ -53,7 +68,10 @@ pub fn print_reply<W: Write>(
             printer.put_number(output, *size as u64)?;
             printer.put(output, b"\n")
         }
+        Reply::Taken(Some(id)) => print_list(printer, output, &[*id]),
+        Reply::Taken(None) => print_list(printer, output, &[]),
         Reply::Ids(ids) => print_list(printer, output, ids.as_slice()),
+        Reply::Distances(distances) => print_list(printer, output, distances.as_slice()),
     }
 }
 

@@ -1,7 +1,7 @@
 //! Commands, and the lines that give them.
 
 ghost use Rattle.std.specs.Prelude.{◌≡◌, ◌<◌, length, map, IfSome, IfNone};
-ghost use Rattle.rstar_run.specs.Grammar.{corners_of, verb_of, command_of, line_of};
+ghost use Rattle.rstar_run.specs.Grammar.{point_of, corners_of, verb_of, drain_of, command_of, line_of};
 ghost use Rattle.rstar_run.specs.Words.{words_of};
 
 use super::number::{signed, unsigned};
@@ -20,8 +20,26 @@ pub struct Corners {
 pub enum Command {
     /// Insert a rectangle with an ID.
     Insert(u64, Corners),
+    /// Take out a rectangle with an ID, and print the ID.
+    Remove(u64, Corners),
+    /// Take out a rectangle that contains a point, and print its ID.
+    RemoveAt([i64; 2]),
+    /// Take out a rectangle that is nearest to a point, and print its ID.
+    Pop([i64; 2]),
+    /// Take out rectangles that lie in a box, at most so many, and print their IDs.
+    DrainIn(Corners, usize),
+    /// Take out rectangles that meet a box, at most so many, and print their IDs.
+    DrainHit(Corners, usize),
     /// Print the IDs of the rectangles that lie in a box.
     In(Corners),
+    /// Print the IDs of the rectangles that meet a box.
+    Hit(Corners),
+    /// Print the IDs of the rectangles that contain a point.
+    At([i64; 2]),
+    /// Print the IDs of the rectangles whose squared distance from a point is at most a limit.
+    Within([i64; 2], i64),
+    /// Print the squared distances of the first so many rectangles from a point, the nearest first.
+    Near([i64; 2], usize),
     /// Print the number of rectangles.
     Size,
 }
@@ -30,7 +48,15 @@ pub enum Command {
 #[derive(Clone, Copy, Debug, PartialEq, Eq)]
 pub enum Verb {
     Insert,
+    Remove,
+    RemoveAt,
+    Pop,
+    Drain,
     In,
+    Hit,
+    At,
+    Within,
+    Near,
     Size,
 }
 
@@ -42,12 +68,18 @@ pub enum Line {
     Bad,
 }
 
+fn parse_point(x: &[u8], y: &[u8]) -> Option<[i64; 2]>
+    ensures { result ≡ point_of x.now y.now }
+{
+    Some([signed(x)?, signed(y)?])
+}
+
 fn parse_corners(x1: &[u8], y1: &[u8], x2: &[u8], y2: &[u8]) -> Option<Corners>
     ensures { result ≡ corners_of x1.now y1.now x2.now y2.now }
 {
     Some(Corners {
-        one: [signed(x1)?, signed(y1)?],
-        other: [signed(x2)?, signed(y2)?],
+        one: parse_point(x1, y1)?,
+        other: parse_point(x2, y2)?,
     })
 }
 
@@ -57,8 +89,28 @@ fn parse_verb(word: &[u8]) -> Option<Verb>
 {
     match str::from_utf8(word).ok()? {
         "insert" => Some(Verb::Insert),
+        "remove" => Some(Verb::Remove),
+        "removeat" => Some(Verb::RemoveAt),
+        "pop" => Some(Verb::Pop),
+        "drain" => Some(Verb::Drain),
         "in" => Some(Verb::In),
+        "hit" => Some(Verb::Hit),
+        "at" => Some(Verb::At),
+        "within" => Some(Verb::Within),
+        "near" => Some(Verb::Near),
         "size" => Some(Verb::Size),
+        _ => None,
+    }
+}
+
+/// The drain of an area, `in` or `hit`, between two corners.
+#[tactic(auto, using(crate::proofs::Commands::drain_none))]
+fn drain_of(area: &[u8], corners: Corners, most: usize) -> Option<Command>
+    ensures { result ≡ drain_of area.now corners most }
+{
+    match str::from_utf8(area).ok()? {
+        "in" => Some(Command::DrainIn(corners, most)),
+        "hit" => Some(Command::DrainHit(corners, most)),
         _ => None,
     }
 }
@@ -71,7 +123,27 @@ fn parse_command(verb: Verb, args: &[&[u8]]) -> Option<Command>
         (Verb::Insert, [id, x1, y1, x2, y2]) => {
             Some(Command::Insert(unsigned(id)?, parse_corners(x1, y1, x2, y2)?))
         }
+        (Verb::Remove, [id, x1, y1, x2, y2]) => {
+            Some(Command::Remove(unsigned(id)?, parse_corners(x1, y1, x2, y2)?))
+        }
+        (Verb::RemoveAt, [x, y]) => Some(Command::RemoveAt(parse_point(x, y)?)),
+        (Verb::Pop, [x, y]) => Some(Command::Pop(parse_point(x, y)?)),
+        (Verb::Drain, [area, x1, y1, x2, y2, most]) => {
+            drain_of(
+                area,
+                parse_corners(x1, y1, x2, y2)?,
+                unsigned(most)? as usize,
+            )
+        }
         (Verb::In, [x1, y1, x2, y2]) => Some(Command::In(parse_corners(x1, y1, x2, y2)?)),
+        (Verb::Hit, [x1, y1, x2, y2]) => Some(Command::Hit(parse_corners(x1, y1, x2, y2)?)),
+        (Verb::At, [x, y]) => Some(Command::At(parse_point(x, y)?)),
+        (Verb::Within, [x, y, limit]) => {
+            Some(Command::Within(parse_point(x, y)?, signed(limit)?))
+        }
+        (Verb::Near, [x, y, most]) => {
+            Some(Command::Near(parse_point(x, y)?, unsigned(most)? as usize))
+        }
         (Verb::Size, []) => Some(Command::Size),
         _ => None,
     }

@@ -33,7 +33,7 @@ fn expect_run(rt: &(impl AllocGlobal + Abort), input: &[u8], want: &str, status:
 
 #[test]
 fn answers_lines(rt: HostRuntime) {
-    let rows: [(&[u8], &str); 16] = [
+    let rows: [(&[u8], &str); 30] = [
         (b"", ""),
         (b"insert 7 0 0 2 2\nin 0 0 2 2\nsize\n", "ok\n7\n1\n"),
         // Equal rectangles and IDs count as often as they were inserted.
@@ -71,33 +71,132 @@ fn answers_lines(rt: HostRuntime) {
             b"insert 9 0 0 0 0\ninsert 10 0 0 0 0\ninsert 100 0 0 0 0\ninsert 8 0 0 0 0\ninsert 10 0 0 0 0\nin 0 0 0 0\nsize\n",
             "ok\nok\nok\nok\nok\n8 9 10 10 100\n5\n",
         ),
+        // A point meets and contains what it does not hold.
+        (
+            b"insert 0 0 0 2 2\nin 1 1 1 1\nhit 1 1 1 1\nat 1 1\n",
+            "ok\n-\n0\n0\n",
+        ),
+        // Touching is enough, at a corner too; borders belong to a rectangle.
+        (
+            b"insert 7 0 0 2 2\ninsert 8 2 2 4 4\nhit 2 2 2 2\nhit 2 3 0 9\nhit 5 5 9 9\nat 2 2\nat 4 3\nat 5 5\n",
+            "ok\nok\n7 8\n8\n-\n7 8\n8\n-\n",
+        ),
+        (
+            b"insert 1 0 0 40 100\ninsert 2 60 0 100 100\ninsert 3 25 0 75 100\nhit 0 0 40 100\nhit 25 0 75 100\n",
+            "ok\nok\nok\n1 3\n1 2 3\n",
+        ),
+        // Limits are squared distances; a distance never lies below 0.
+        (
+            b"insert 7 1 1 2 4\nwithin 0 0 2\nwithin 0 0 1\nwithin 0 1 1\nwithin 2 6 3\nwithin 2 6 4\nwithin 2 2 -0\nwithin 2 2 -1\n",
+            "ok\n7\n-\n7\n-\n7\n7\n-\n",
+        ),
+        // Distances beyond a signed number of 64 bits are held at the greatest one.
+        (
+            b"insert 7 -9223372036854775808 0 -9223372036854775808 0\nwithin 9223372036854775807 0 9223372036854775807\nwithin 9223372036854775807 0 9223372036854775806\n",
+            "ok\n7\n-\n",
+        ),
+        (b"hit 0 0 1 1\nat 0 0\nwithin 0 0 9\n", "-\n-\n-\n"),
+        (
+            b"insert 7 0 0 2 2\ninsert 8 2 2 4 4\nhit 2 2 2 2\nin 0 0 2 2\nat 5 5\nnear 0 0 5\nsize\ndrain hit 3 3 9 9 5\npop 9 9\npop 9 9\nsize\n",
+            "ok\nok\n7 8\n7\n-\n0 8\n2\n8\n7\n-\n0\n",
+        ),
+        (
+            b"insert 1 0 0 1 1\ninsert 2 0 0 1 1\nremove 2 0 0 1 1\nremove 2 0 0 1 1\ndrain in 0 0 9 9 0\nremoveat 1 1\nremoveat 1 1\n",
+            "ok\nok\n2\n-\n-\n1\n-\n",
+        ),
+        // A removal asks for the very box and ID; of equal rectangles one leaves.
+        (
+            b"insert 7 0 0 2 2\nremove 8 0 0 2 2\nremove 7 0 0 2 3\nremove 7 0 0 1 2\nsize\nremove 7 2 0 0 2\nsize\n",
+            "ok\n-\n-\n-\n1\n7\n0\n",
+        ),
+        (
+            b"insert 7 0 0 2 2\ninsert 7 0 0 2 2\nremove 7 0 0 2 2\nsize\nin 0 0 2 2\n",
+            "ok\nok\n7\n1\n7\n",
+        ),
+        (
+            b"insert 7 0 0 2 2\nremoveat 3 2\nremoveat 2 0\ninsert 7 0 0 2 2\nsize\n",
+            "ok\n-\n7\nok\n1\n",
+        ),
+        // A drain takes no more than there are, and its IDs ascend.
+        (
+            b"insert 3 0 0 1 1\ninsert 1 0 0 1 1\ninsert 2 5 5 6 6\ndrain in 0 0 4 4 9\nsize\ndrain hit 6 6 6 6 18446744073709551615\ndrain hit 0 0 9 9 1\nsize\n",
+            "ok\nok\nok\n1 3\n1\n2\n-\n0\n",
+        ),
+        (
+            b"near 0 0 3\ninsert 1 3 4 3 4\ninsert 2 0 1 9 1\ninsert 3 -2 0 -2 0\nnear 0 0 0\nnear 0 0 2\nnear 0 0 18446744073709551615\nsize\n",
+            "-\nok\nok\nok\n-\n1 4\n1 4 25\n3\n",
+        ),
+        (
+            b"pop 0 0\ninsert 1 3 4 3 4\ninsert 2 0 1 9 1\npop 0 0\npop 0 0\npop 0 0\n",
+            "-\nok\nok\n2\n1\n-\n",
+        ),
     ];
     for (input, want) in rows {
         expect_run(&rt, input, want, 0);
     }
 }
 
-/// The lines of a run that fills three levels of nodes, and what it prints. The answers are those
-/// of a scan.
+/// The lower corner of a rectangle of the long run.
+fn corner(id: u64) -> (u64, u64) {
+    let id = id % 120;
+    (id * 7 % 12, id * 5 % 11)
+}
+
+/// Whether the long run's question at a side finds a rectangle, which is one wide and two high.
+fn is_found(question: &str, side: u64, id: u64) -> bool {
+    let (x, y) = corner(id);
+    let (right, top) = (x.saturating_add(1), y.saturating_add(2));
+    let apart_x = x.saturating_sub(side).max(side.saturating_sub(right));
+    let apart_y = y.saturating_sub(side).max(side.saturating_sub(top));
+    match question {
+        "in" => right <= side && top <= side,
+        "hit" => x <= side && y <= side,
+        "at" => apart_x == 0 && apart_y == 0,
+        _ => apart_x
+            .saturating_pow(2)
+            .saturating_add(apart_y.saturating_pow(2))
+            <= 4,
+    }
+}
+
+/// A question of the long run, and the line that a scan answers.
+fn write_question(
+    input: &mut Vec<u8>,
+    want: &mut Vec<u8>,
+    question: &str,
+    side: u64,
+) -> Result<(), Fail> {
+    match question {
+        "in" | "hit" => writeln!(input, "{question} 0 0 {side} {side}")?,
+        "at" => writeln!(input, "at {side} {side}")?,
+        _ => writeln!(input, "within {side} {side} 4")?,
+    }
+    let mut count = 0u64;
+    for id in 0..120u64 {
+        if is_found(question, side, id) {
+            let space = if count == 0 { "" } else { " " };
+            write!(want, "{space}{id}")?;
+            count = count.saturating_add(1);
+        }
+    }
+    let end = if count == 0 { "-\n" } else { "\n" };
+    want.extend_from_slice(end.as_bytes())?;
+    Ok(())
+}
+
+/// The lines of a run that fills three levels of nodes, and what it prints.
 fn write_long_run(input: &mut Vec<u8>, want: &mut Vec<u8>) -> Result<(), Fail> {
     // A node holds six at most, so two levels hold 36.
     for id in 0..120u64 {
-        let (x, y) = (id * 7 % 12, id * 5 % 11);
-        writeln!(input, "insert {id} {x} {y} {} {}", x + 1, y + 2)?;
+        let (x, y) = corner(id);
+        let (right, top) = (x.saturating_add(1), y.saturating_add(2));
+        writeln!(input, "insert {id} {x} {y} {right} {top}")?;
         want.extend_from_slice(b"ok\n")?;
     }
     for side in 0..14u64 {
-        writeln!(input, "in 0 0 {side} {side}")?;
-        let mut count = 0u64;
-        for id in 0..120u64 {
-            if id * 7 % 12 < side && id * 5 % 11 + 1 < side {
-                let space = if count == 0 { "" } else { " " };
-                write!(want, "{space}{id}")?;
-                count = count.saturating_add(1);
-            }
+        for question in ["in", "hit", "at", "within"] {
+            write_question(input, want, question, side)?;
         }
-        let end = if count == 0 { "-\n" } else { "\n" };
-        want.extend_from_slice(end.as_bytes())?;
     }
     input.extend_from_slice(b"size\n")?;
     want.extend_from_slice(b"120\n")?;
@@ -118,17 +217,44 @@ fn answers_over_three_levels(rt: HostRuntime) -> Result<(), Fail> {
 
 #[test]
 fn stops_at_a_bad_line(rt: HostRuntime) {
-    let rows: [&[u8]; 40] = [
+    let rows: [&[u8]; 66] = [
         b"insert 7 0 0 2\n",
         b"insert 7 0 0 2 2 2\n",
         b"insert 7 0 0 2 2 2 2 2 2 2\n",
         b"insert\n",
         b"in 1 2 3\n",
         b"in 1 2 3 4 5\n",
+        b"hit 1 2 3\n",
+        b"hit 1 2 3 4 5\n",
+        b"at 1\n",
+        b"at 1 2 3\n",
+        b"within 1 2\n",
+        b"within 1 2 3 4\n",
+        b"within 1 2 9223372036854775808\n",
+        b"remove 7 0 0 2\n",
+        b"remove 7 0 0 2 2 2\n",
+        b"remove -7 0 0 2 2\n",
+        b"removeat 1\n",
+        b"removeat 1 2 3\n",
+        b"pop 1\n",
+        b"pop 1 2 3\n",
+        b"drain\n",
+        b"drain 0 0 2 2 1\n",
+        b"drain in 0 0 2 2\n",
+        b"drain in 0 0 2 2 -1\n",
+        b"drain in 0 0 2 2 18446744073709551616\n",
+        b"drain at 0 0 2 2 1\n",
+        b"drain hits 0 0 2 2 1\n",
+        b"drain \xff 0 0 2 2 1\n",
+        b"drain hit 0 0 2 2 1 1\n",
+        b"near 1 2\n",
+        b"near 1 2 -3\n",
+        b"near 1 2 3 4\n",
         b"size 1\n",
         b"Size\n",
         b"siz\n",
         b"sizes\n",
+        b"hits 0 0 2 2\n",
         b"7 0 0 2 2\n",
         b"insert +1 0 0 2 2\n",
         b"insert 1 0 0 2 +2\n",
@@ -158,8 +284,7 @@ fn stops_at_a_bad_line(rt: HostRuntime) {
         b"size \xff\n",
         b"\xff\n",
         b"siz\xc3\xa9\n",
-        // Lines that other programs of this kind know.
-        b"hit 0 0 2 2\n",
+        // A line that other programs of this kind know.
         b"load 0\n",
     ];
     for bad in rows {

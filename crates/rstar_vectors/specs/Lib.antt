@@ -1,3 +1,4 @@
 pub mod Stretches
 pub mod laws
 pub mod Doors
+pub mod Callers

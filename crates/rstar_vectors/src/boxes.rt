@@ -125,6 +125,7 @@ const FULL: Corners = ([i64::MIN, i64::MIN], [i64::MAX, i64::MAX]);
 const EMPTY: Corners = ([i64::MAX, i64::MAX], [i64::MIN, i64::MIN]);
 
 // Two boxes, whether they intersect, whether the first contains the second, the area that they share, and their merge.
+// Merged with the empty box, a box stays as it is: rstar's test `empty_rect`.
 #[test]
 fn pairs_of_boxes(rt: HostRuntime) {
     let rows: [(Corners, Corners, bool, bool, i64, Corners); 7] = [

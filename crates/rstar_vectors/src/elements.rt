@@ -14,10 +14,15 @@ use std::test::Fail;
 
 type At = [i64; 2];
 
-// The ends of a line and its squared length, a point, the line's nearest point, and the squared distance.
+// The ends of a line and its squared length, a point, the line's nearest point, and the squared distance. The upright
+// line is that of rstar's test `edge_distance`, twice as large.
 #[test]
 fn lines_and_points(rt: HostRuntime) {
-    let rows: [(At, At, i64, At, At, i64); 6] = [
+    let rows: [(At, At, i64, At, At, i64); 10] = [
+        ([1, 1], [1, 4], 9, [1, 2], [1, 2], 0),
+        ([1, 1], [1, 4], 9, [0, 0], [1, 1], 2),
+        ([1, 1], [1, 4], 9, [2, 2], [1, 2], 1),
+        ([1, 1], [1, 4], 9, [2, 6], [1, 4], 5),
         ([3, 3], [7, 6], 25, [3, 3], [3, 3], 0),
         ([1, -1], [5, 5], 52, [5, 5], [5, 5], 0),
         ([0, 0], [10, 0], 100, [9, 0], [9, 0], 0),
@@ -46,11 +51,14 @@ fn where_its_numbers_do_not_fit_a_line_has_its_ends_alone(rt: HostRuntime) {
     }
 }
 
-// A point, the nearest point of the rectangle, the squared distance, and whether the rectangle contains the point.
+// A point, the nearest point of the rectangle, the squared distance, and whether the rectangle contains the point. The
+// rectangle is that of rstar's test `rectangle_distance`, twice as large.
 #[test]
 fn a_rectangle_and_points(rt: HostRuntime) {
     let rectangle = Rectangle::from_corners([1, 1], [2, 4]);
-    let rows: [(At, At, i64, bool); 7] = [
+    let rows: [(At, At, i64, bool); 9] = [
+        ([1, 1], [1, 1], 0, true),
+        ([0, 2], [1, 2], 1, false),
         ([0, 0], [1, 1], 2, false),
         ([0, 1], [1, 1], 1, false),
         ([2, 6], [2, 4], 4, false),

@@ -27,7 +27,8 @@ impl Model for Fences {
 
     ghost view = { λ s. map (λ fence. (⟦<Fence as RTreeObject>⟧.object.box_of fence, fence.1)) (elements_in s.tree) };
 
-    ghost invariant = { λ s. IsWholeTree ⟦<AABB<[i64; 2]> as Envelope>⟧.boxes ⟦<Fence as RTreeObject>⟧.object ⟦<DefaultParams as RTreeParams>⟧.MAX_SIZE s.tree };
+    ghost invariant = { λ s. IsWholeTree ⟦<AABB<[i64; 2]> as Envelope>⟧.boxes ⟦<Fence as RTreeObject>⟧.object
+        ⟦<DefaultParams as RTreeParams>⟧.MAX_SIZE s.tree };
 }
 
 impl Fences {
@@ -87,7 +88,8 @@ fn count_in<T: RTreeObject>(tree: &RTree<T>, envelope: T::Envelope) -> Result<us
 
 /// The sum of the numbers of a tree's fences in a box.
 fn sum_in(tree: &RTree<Fence>, area: AABB<[i64; 2]>) -> Result<u64, AllocError>
-    requires { IsWholeTree ⟦<AABB<[i64; 2]> as Envelope>⟧.boxes ⟦<Fence as RTreeObject>⟧.object ⟦<DefaultParams as RTreeParams>⟧.MAX_SIZE tree.now }
+    requires { IsWholeTree ⟦<AABB<[i64; 2]> as Envelope>⟧.boxes ⟦<Fence as RTreeObject>⟧.object
+        ⟦<DefaultParams as RTreeParams>⟧.MAX_SIZE tree.now }
 {
     let mut sum = 0u64;
     for fence in tree.locate_in_envelope(area)? {

@@ -73,7 +73,8 @@ impl Model for Points {
 
     ghost view = { λ s. elements_in s.tree };
 
-    ghost invariant = { λ s. IsWholeTree ⟦<AABB<[i32; 2]> as Envelope>⟧.boxes ⟦<[i32; 2] as RTreeObject>⟧.object ⟦<DefaultParams as RTreeParams>⟧.MAX_SIZE s.tree };
+    ghost invariant = { λ s. IsWholeTree ⟦<AABB<[i32; 2]> as Envelope>⟧.boxes ⟦<[i32; 2] as RTreeObject>⟧.object
+        ⟦<DefaultParams as RTreeParams>⟧.MAX_SIZE s.tree };
 }
 
 impl Points {
@@ -109,7 +110,8 @@ impl Points {
 
     /// The tree.
     pub(crate) fn tree(&self) -> &RTree<[i32; 2]>
-        ensures { IsWholeTree ⟦<AABB<[i32; 2]> as Envelope>⟧.boxes ⟦<[i32; 2] as RTreeObject>⟧.object ⟦<DefaultParams as RTreeParams>⟧.MAX_SIZE result.now }
+        ensures { IsWholeTree ⟦<AABB<[i32; 2]> as Envelope>⟧.boxes ⟦<[i32; 2] as RTreeObject>⟧.object
+            ⟦<DefaultParams as RTreeParams>⟧.MAX_SIZE result.now }
     {
         &self.tree
     }

@@ -3,6 +3,7 @@
 
 #[cfg(test)]
 mod boxes;
+pub mod counted;
 pub mod doors;
 #[cfg(test)]
 mod elements;
@@ -11,8 +12,16 @@ pub mod fences;
 mod insertion;
 pub mod interval;
 #[cfg(test)]
+mod joins;
+#[cfg(test)]
+mod loads;
+pub mod payloads;
+#[cfg(test)]
 mod points;
 #[cfg(test)]
 mod reinsertion;
 #[cfg(test)]
+mod removal;
+#[cfg(test)]
 mod selections;
+pub mod visits;

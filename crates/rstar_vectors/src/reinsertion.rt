@@ -123,8 +123,8 @@ impl RTreeParams for Large {
     ghost reinsertion_leaves = { Prim.omega arith };
 }
 
-/// The levels of parents down to the first leaf.
-fn levels_of<T: RTreeObject>(root: &ParentNode<T>) -> usize {
+/// The levels of parents below a root, down to the first leaf.
+pub(crate) fn levels_of<T: RTreeObject>(root: &ParentNode<T>) -> usize {
     let mut nodes = root.children();
     for levels in 0..64 {
         match nodes.first() {
@@ -196,7 +196,7 @@ fn all_stand<T: RTreeObject, Params: RTreeParams>(
 }
 
 /// A thousand points, each on a line that wraps around in both coordinates.
-fn a_thousand_points(alloc: Global) -> Result<Vec<[i32; 2]>, AllocError> {
+pub(crate) fn a_thousand_points(alloc: Global) -> Result<Vec<[i32; 2]>, AllocError> {
     let mut points = Vec::new(alloc);
     for i in 0..1000usize {
         points.push([((37 * i) % 101) as i32, ((53 * i) % 103) as i32])?;

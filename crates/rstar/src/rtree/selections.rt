@@ -53,9 +53,9 @@ impl<T: RTreeObject, Params: RTreeParams> RTree<T, Params> {
             ⟦<SelectInEnvelopeFunction<T> as SelectionFunction<T>>⟧.selects it
             ≡ filter (λ t. T.Envelope.boxes.contains envelope (T.object.box_of t)) (elements_in self.now)) }
         ensures made { IfOk result (λ it. IsMade ⟦<SelectInEnvelopeFunction<T> as SelectionFunction<T>>⟧.accepts
-            (root_of self.now)
-            (λ e. T.Envelope.boxes.intersects envelope e) it) }
-        ensures walking { IfOk result (λ it. IsWalking ⟦<SelectInEnvelopeFunction<T> as SelectionFunction<T>>⟧.accepts it) }
+            (root_of self.now) (λ e. T.Envelope.boxes.intersects envelope e) it) }
+        ensures walking { IfOk result
+            (λ it. IsWalking ⟦<SelectInEnvelopeFunction<T> as SelectionFunction<T>>⟧.accepts it) }
         ensures near { height_of (root_of self.now) ≤ 13 → IsOk result }
     {
         self.locate_with_selection_function(SelectInEnvelopeFunction::new(envelope))
@@ -73,9 +73,10 @@ impl<T: RTreeObject, Params: RTreeParams> RTree<T, Params> {
         ensures all { IfOk result (λ it. to_come ⟦<SelectInEnvelopeFuncIntersecting<T> as SelectionFunction<T>>⟧.accepts
             ⟦<SelectInEnvelopeFuncIntersecting<T> as SelectionFunction<T>>⟧.selects it
             ≡ filter (λ t. T.Envelope.boxes.intersects envelope (T.object.box_of t)) (elements_in self.now)) }
-        ensures made { IfOk result (λ it. IsMade ⟦<SelectInEnvelopeFuncIntersecting<T> as SelectionFunction<T>>⟧.accepts (root_of self.now)
-            (λ e. T.Envelope.boxes.intersects envelope e) it) }
-        ensures walking { IfOk result (λ it. IsWalking ⟦<SelectInEnvelopeFuncIntersecting<T> as SelectionFunction<T>>⟧.accepts it) }
+        ensures made { IfOk result (λ it. IsMade ⟦<SelectInEnvelopeFuncIntersecting<T> as SelectionFunction<T>>⟧.accepts
+            (root_of self.now) (λ e. T.Envelope.boxes.intersects envelope e) it) }
+        ensures walking { IfOk result
+            (λ it. IsWalking ⟦<SelectInEnvelopeFuncIntersecting<T> as SelectionFunction<T>>⟧.accepts it) }
         ensures near { height_of (root_of self.now) ≤ 13 → IsOk result }
     {
         self.locate_with_selection_function(SelectInEnvelopeFuncIntersecting::new(envelope))
@@ -105,7 +106,7 @@ impl<T: RTreeObject, Params: RTreeParams> RTree<T, Params> {
 
     /// An element that a lawful function selects.
     #[tactic(auto, unfolding(crate::specs::Trees::IsWholeTree))]
-    fn locate_first<Func: SelectionFunction<T>>(&self, func: &Func) -> Option<&T>
+    pub(super) fn locate_first<Func: SelectionFunction<T>>(&self, func: &Func) -> Option<&T>
         requires { IsWholeTree T.Envelope.boxes T.object Params.MAX_SIZE self.now }
         ensures { IsLawful T.Envelope.boxes T.object (Func.accepts func.now) (Func.selects func.now)
             → IsOneOf (filter (Func.selects func.now) (elements_in self.now)) result }
@@ -154,7 +155,8 @@ impl<T: PointDistance, Params: RTreeParams> RTree<T, Params> {
             (root_of self.now)
             (λ e. T.Envelope.boxes.contains_point e
             (table T.Envelope.Point.DIMENSIONS (T.Envelope.Point.coord point))) it) }
-        ensures walking { IfOk result (λ it. IsWalking ⟦<SelectAtPointFunction<T> as SelectionFunction<T>>⟧.accepts it) }
+        ensures walking { IfOk result
+            (λ it. IsWalking ⟦<SelectAtPointFunction<T> as SelectionFunction<T>>⟧.accepts it) }
         ensures near { height_of (root_of self.now) ≤ 13 → IsOk result }
     {
         self.locate_with_selection_function(SelectAtPointFunction::new(point))
@@ -180,7 +182,8 @@ impl<T: PointDistance, Params: RTreeParams> RTree<T, Params> {
             (λ e. int_le (pos (T.Envelope.boxes.distance_2 e
             (table T.Envelope.Point.DIMENSIONS (T.Envelope.Point.coord query_point))))
             (T.Envelope.Point.Scalar.value max_squared_radius)) it) }
-        ensures walking { IfOk result (λ it. IsWalking ⟦<SelectWithinDistanceFunction<T> as SelectionFunction<T>>⟧.accepts it) }
+        ensures walking { IfOk result
+            (λ it. IsWalking ⟦<SelectWithinDistanceFunction<T> as SelectionFunction<T>>⟧.accepts it) }
         ensures near { height_of (root_of self.now) ≤ 13 → IsOk result }
     {
         self.locate_with_selection_function(SelectWithinDistanceFunction::new(

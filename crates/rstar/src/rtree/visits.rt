@@ -1,13 +1,13 @@
 //! Visits of the elements that are selected.
 
-ghost use Rattle.std.specs.Prelude.{◌≡◌, filter};
+ghost use Rattle.std.specs.Prelude.{filter};
 ghost use Rattle.rstar_base.specs.Points.{table};
 ghost use Rattle.rstar_base.specs.Selections.{IsLawful};
-ghost use Rattle.rstar.specs.Trees.{elements_in, IsWholeTree};
-ghost use Rattle.rstar.specs.Visits.{IsVisit, IsVisitWithin};
+ghost use Rattle.rstar.specs.Trees.{elements_in, HasSameOutline, IsWholeTree};
+ghost use Rattle.rstar.specs.Visits.{IsVisit, IsVisitWithin, IsWritten, IsWrittenWithin, Keeps, marked_by};
 
 use crate::rtree::RTree;
-use crate::visits::select_nodes;
+use crate::visits::{select_nodes, select_nodes_mut};
 use rstar_base::algorithm::selection_functions::{
     SelectAtPointFunction, SelectInEnvelopeFuncIntersecting, SelectInEnvelopeFunction,
     SelectionFunction,
@@ -69,6 +69,66 @@ impl<T: RTreeObject, Params: RTreeParams> RTree<T, Params> {
     {
         select_nodes(&self.root, &func, &mut visitor)
     }
+
+    /// Calls a visitor at the elements whose envelopes an envelope contains, until a call breaks; its break is the
+    /// answer. The visitor may write each element in its place, and must keep its envelope. It takes no memory.
+    pub fn locate_in_envelope_int_mut<V: FnMut(&mut T) -> ControlFlow<B>, B: Drop>(
+        &mut self,
+        envelope: T::Envelope,
+        visitor: V,
+    ) -> ControlFlow<B>
+        requires callable { (state : V) (x : _) → V.pre state x }
+        requires keeps { Keeps T.object V.step }
+        requires whole { IsWholeTree T.Envelope.boxes T.object Params.MAX_SIZE self.old }
+        ensures written { IsWritten V.step visitor
+            (marked_by (λ t. T.Envelope.boxes.contains envelope (T.object.box_of t)) (elements_in self.old))
+            result (elements_in self.new) }
+        ensures outline { HasSameOutline self.old self.new }
+        ensures whole { IsWholeTree T.Envelope.boxes T.object Params.MAX_SIZE self.new }
+    {
+        let func = SelectInEnvelopeFunction::new(envelope);
+        self.locate_with_selection_function_int_mut(func, visitor)
+    }
+
+    /// Calls a visitor at the elements whose envelopes an envelope intersects, until a call breaks; its break is the
+    /// answer. The visitor may write each element in its place, and must keep its envelope. It takes no memory.
+    pub fn locate_in_envelope_intersecting_int_mut<V: FnMut(&mut T) -> ControlFlow<B>, B: Drop>(
+        &mut self,
+        envelope: T::Envelope,
+        visitor: V,
+    ) -> ControlFlow<B>
+        requires callable { (state : V) (x : _) → V.pre state x }
+        requires keeps { Keeps T.object V.step }
+        requires whole { IsWholeTree T.Envelope.boxes T.object Params.MAX_SIZE self.old }
+        ensures written { IsWritten V.step visitor
+            (marked_by (λ t. T.Envelope.boxes.intersects envelope (T.object.box_of t)) (elements_in self.old))
+            result (elements_in self.new) }
+        ensures outline { HasSameOutline self.old self.new }
+        ensures whole { IsWholeTree T.Envelope.boxes T.object Params.MAX_SIZE self.new }
+    {
+        let func = SelectInEnvelopeFuncIntersecting::new(envelope);
+        self.locate_with_selection_function_int_mut(func, visitor)
+    }
+
+    /// Calls a visitor at the elements that a function selects, each at most once, until a call breaks; its break is
+    /// the answer. The visitor may write each element in its place, and must keep its envelope. A function that is not
+    /// lawful may miss some. It takes no memory.
+    pub fn locate_with_selection_function_int_mut<
+        F: SelectionFunction<T>,
+        V: FnMut(&mut T) -> ControlFlow<B>,
+        B: Drop,
+    >(&mut self, func: F, mut visitor: V) -> ControlFlow<B>
+        requires callable { (state : V) (x : _) → V.pre state x }
+        requires keeps { Keeps T.object V.step }
+        requires whole { IsWholeTree T.Envelope.boxes T.object Params.MAX_SIZE self.old }
+        ensures written { IsWrittenWithin V.step
+            (IsLawful T.Envelope.boxes T.object (F.accepts func) (F.selects func))
+            visitor (F.selects func) (elements_in self.old) result (elements_in self.new) }
+        ensures outline { HasSameOutline self.old self.new }
+        ensures whole { IsWholeTree T.Envelope.boxes T.object Params.MAX_SIZE self.new }
+    {
+        select_nodes_mut(&mut self.root, &func, &mut visitor)
+    }
 }
 
 impl<T: PointDistance, Params: RTreeParams> RTree<T, Params> {
@@ -87,5 +147,25 @@ impl<T: PointDistance, Params: RTreeParams> RTree<T, Params> {
             (elements_in self.now)) result }
     {
         self.locate_with_selection_function_int(SelectAtPointFunction::new(point), visitor)
+    }
+
+    /// Calls a visitor at the elements that contain a point, until a call breaks; its break is the answer. The visitor
+    /// may write each element in its place, and must keep its envelope. It takes no memory.
+    pub fn locate_all_at_point_int_mut<V: FnMut(&mut T) -> ControlFlow<B>, B: Drop>(
+        &mut self,
+        point: PointOf<T>,
+        visitor: V,
+    ) -> ControlFlow<B>
+        requires callable { (state : V) (x : _) → V.pre state x }
+        requires keeps { Keeps T.object V.step }
+        requires whole { IsWholeTree T.Envelope.boxes T.object Params.MAX_SIZE self.old }
+        ensures written { IsWritten V.step visitor
+            (marked_by (λ t. T.distances.contains_point t
+            (table T.Envelope.Point.DIMENSIONS (T.Envelope.Point.coord point))) (elements_in self.old))
+            result (elements_in self.new) }
+        ensures outline { HasSameOutline self.old self.new }
+        ensures whole { IsWholeTree T.Envelope.boxes T.object Params.MAX_SIZE self.new }
+    {
+        self.locate_with_selection_function_int_mut(SelectAtPointFunction::new(point), visitor)
     }
 }

@@ -37,7 +37,13 @@ impl<T: RTreeObject> SelectionFunction<T> for SelectAllFunc {
 
     ghost selects = { λ _ _. true };
 
-    fn should_unpack_parent(&self, _envelope: &T::Envelope) -> bool {
+    // No call makes this function, so that it is lawful stands here.
+    fn should_unpack_parent(&self, _envelope: &T::Envelope) -> bool
+        ensures always { result ≡ true }
+        ensures lawful { IsLawful T.Envelope.boxes T.object
+            (⟦<SelectAllFunc as SelectionFunction<T>>⟧.accepts self.now)
+            (⟦<SelectAllFunc as SelectionFunction<T>>⟧.selects self.now) }
+    {
         true
     }
 

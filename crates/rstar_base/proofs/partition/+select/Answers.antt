@@ -1,4 +1,4 @@
-use Rattle.std.proofs.Common.{arith, rules}
+use Rattle.std.proofs.Common.{arith}
 use Rattle.std.proofs.lemmas.List.Sorted.{IsPermutation-trans, length_permutation}
 use Rattle.rstar_base.proofs.Around.{found_front, found_back}
 use Rattle.rstar_base.proofs.Splits.{split_from_sorted}

@@ -9,25 +9,19 @@ pub returns-in_err-offset : goal.returns-in_err-offset
 returns-in_err-offset g c = rw c.from_residual-in_err-offset.ensures (no_offset _ _ _ _ _ _ c.in_err-offset.ensures)
 
 pub returns-in_err-t : goal.returns-in_err-t
-returns-in_err-t g c =
-    let k = g.P.Point.coord in
-    rw c.from_residual-in_err-t.ensures (no_offset_product _ _ _ _ _ _ (k c.in_ok-dir.dir) (k c.in_ok-offset.offset) c.in_ok-dir.ensures.1 c.in_ok-offset.ensures.1 c.in_err-t.ensures)
+returns-in_err-t g c = rw c.from_residual-in_err-t.ensures (no_offset_product _ _ _ _ _ c.in_ok-dir.ensures.1 c.in_ok-offset.ensures.1 c.in_err-t.ensures)
 
 pub returns-in_err-len : goal.returns-in_err-len
-returns-in_err-len g c =
-    let k = g.P.Point.coord in
-    rw c.from_residual-in_err-len.ensures (no_length _ _ _ _ _ _ (k c.in_ok-dir.dir) (k c.in_ok-offset.offset) c.in_ok-dir.ensures.1 c.in_ok-offset.ensures.1 c.in_err-len.ensures)
+returns-in_err-len g c = rw c.from_residual-in_err-len.ensures (no_length _ _ _ _ _ c.in_ok-dir.ensures.1 c.in_ok-offset.ensures.1 c.in_err-len.ensures)
 
 pub returns-then-not-is_inside : goal.returns-then-not-is_inside
 returns-then-not-is_inside g c =
-    let k = g.P.Point.coord in
-    not_inside _ _ _ _ _ _ (k c.in_ok-dir.dir) (k c.in_ok-offset.offset) c.in_ok-dir.ensures.1 c.in_ok-offset.ensures.1 _ _ c.in_ok-t.ensures.1 c.in_ok-len.ensures.1
+    not_inside _ _ _ _ _ c.in_ok-dir.ensures.1 c.in_ok-offset.ensures.1 _ _ c.in_ok-t.ensures.1 c.in_ok-len.ensures.1
     (sym c.is_inside.ensures ∙ c.if-not-is_inside.true)
 
 pub returns-then-not-multiple_fits : goal.returns-then-not-multiple_fits
 returns-then-not-multiple_fits g c =
-    let k = g.P.Point.coord in
-    no_multiple _ _ _ _ _ _ (k c.in_ok-dir.dir) (k c.in_ok-offset.offset) c.in_ok-dir.ensures.1 c.in_ok-offset.ensures.1 _ c.in_ok-t.ensures.1
+    no_multiple _ _ _ _ _ c.in_ok-dir.ensures.1 c.in_ok-offset.ensures.1 _ c.in_ok-t.ensures.1
     (sym c.multiple_fits.ensures ∙ c.if-not-multiple_fits.true)
 
 pub stepped-requires : goal.stepped-requires
@@ -37,11 +31,10 @@ stepped-requires g c =
 
 pub returns : goal.returns
 returns g c =
-    let k = g.P.Point.coord in
     let inside = sym c.is_inside.ensures ∙ c.if-not-is_inside.false in
     let p = inside_parts _ _ inside in (
-      all_fit _ _ _ _ _ _ (k c.in_ok-dir.dir) (k c.in_ok-offset.offset) c.in_ok-dir.ensures.1 c.in_ok-offset.ensures.1 _ _ c.in_ok-t.ensures.1 c.in_ok-len.ensures.1
+      all_fit _ _ _ _ _ c.in_ok-dir.ensures.1 c.in_ok-offset.ensures.1 _ _ c.in_ok-t.ensures.1 c.in_ok-len.ensures.1
           c.in_ok-dir.ensures.0 c.in_ok-offset.ensures.0 c.in_ok-t.ensures.0 c.in_ok-len.ensures.0 inside (sym c.multiple_fits.ensures ∙ c.if-not-multiple_fits.false),
       λ i l. c.stepped.ensures i l
-          ∙ stepped-interior _ _ _ _ _ _ (k c.in_ok-dir.dir) (k c.in_ok-offset.offset) c.in_ok-dir.ensures.1 c.in_ok-offset.ensures.1 _ _ c.in_ok-t.ensures.1 c.in_ok-len.ensures.1 p.0 p.1 c.known.ensures.range c.known-2.ensures.range i l,
+          ∙ stepped-interior _ _ _ _ _ c.in_ok-dir.ensures.1 c.in_ok-offset.ensures.1 _ _ c.in_ok-t.ensures.1 c.in_ok-len.ensures.1 p.0 p.1 c.known.ensures.range c.known-2.ensures.range i l,
     )

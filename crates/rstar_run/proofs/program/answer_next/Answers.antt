@@ -1,7 +1,7 @@
-use Rattle.std.proofs.Common.{◌≡◌, ◌∙◌, [], refl, sym, ap, subst, Ok, inl}
+use Rattle.std.proofs.Common.{◌∙◌, [], refl, sym, ap, subst, Ok, inl}
 use Rattle.rstar_run.specs.Grammar.{line_of}
 use Rattle.rstar_run.specs.Words.{words_of}
-use Rattle.rstar_run.specs.Runs.{meaning, Tells}
+use Rattle.rstar_run.specs.Runs.{Tells}
 use Rattle.rstar_run.specs.Texts.{text_of}
 use Rattle.rstar_run.proofs.Prints.{prints_both}
 use Rattle.rstar_run.proofs.Runs.{stopped, unshown, unwritten}

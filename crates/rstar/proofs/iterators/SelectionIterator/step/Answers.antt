@@ -1,7 +1,8 @@
-use Rattle.std.proofs.Common.{◌∷◌, ◌++◌, [], ◌∙◌, ap, sym, refl, arith, length-append}
-use Rattle.rstar.proofs.Walks.{IsTaken, IsDropped, nil-length, way-take, way-opened, way-drop, given-leaf, given-passed, given-opened, given-drop, reach-leaf, reach-passed, nearer-leaf, nearer-passed, nearer-opened, nearer-drop, room-opened}
+use Rattle.std.proofs.Common.{◌∷◌, ◌++◌, [], ◌∙◌, ap, sym, refl, arith, inl, inr, length-append}
+use Rattle.rstar.proofs.Walks.{IsDropped, IsKept, first-taken, no-items, nil-length, way-take, way-opened, way-drop, given-leaf, given-passed, given-opened, given-drop, reach-leaf, reach-passed, nearer-leaf, nearer-passed, nearer-opened, nearer-drop, room-opened}
 use Rattle.rstar.specs.Walks.{slices_of}
 use Rattle.rstar.proofs.iterators.SelectionIterator.step.Goals as goal
+use Rattle.rstar.proofs.iterators.SelectionIterator.step.Goals.{then-not-is_empty, else-not-is_empty}
 
 pub returns-in_default : goal.returns-in_default
 returns-in_default g c =
@@ -22,8 +23,7 @@ returns-in_default g c =
 pub push_reserved-requires : goal.push_reserved-requires
 push_reserved-requires g c =
     let accepts = g.Func.SelectionFunction.accepts c.args.self.now.func in
-    let taken : IsTaken (slices_of c.args.self.now) (c.args.self.now.path.items ++ c.in-Some.rest ∷ []) c.in-Some.first.now =
-    record { left = c.args.self.now.path.items; nodes = c.args.self.now.nodes; rest = c.in-Some.rest; is = refl; first = c.in-Some.ensures.cases.0; more = refl } in
+    let taken = first-taken c.args.self.now.path.items c.args.self.now.nodes c.in-Some.rest c.in-Some.ensures.cases.0 in
     let room = room-opened accepts c.args.self.now.root.now c.in-Parent.parent taken c.in-Parent.is c.requires in
     let long = length-append c.args.self.now.path.items (c.in-Some.rest ∷ []) in
     omega arith
@@ -32,8 +32,7 @@ pub returns-then-should_unpack_leaf : goal.returns-then-should_unpack_leaf
 returns-then-should_unpack_leaf g c =
     let accepts = g.Func.SelectionFunction.accepts c.args.self.now.func in
     let selects = g.Func.SelectionFunction.selects c.args.self.now.func in
-    let taken : IsTaken (slices_of c.args.self.now) (c.args.self.now.path.items ++ c.in-Some.rest ∷ []) c.in-Some.first.now =
-    record { left = c.args.self.now.path.items; nodes = c.args.self.now.nodes; rest = c.in-Some.rest; is = refl; first = c.in-Some.ensures.cases.0; more = refl } in
+    let taken = first-taken c.args.self.now.path.items c.args.self.now.nodes c.in-Some.rest c.in-Some.ensures.cases.0 in
     record {
       walking = way-take accepts c.args.self.now.root.now taken (reach-leaf accepts c.in-Leaf.t c.in-Leaf.is) c.requires;
       root = refl;
@@ -47,8 +46,7 @@ pub returns-else-should_unpack_leaf : goal.returns-else-should_unpack_leaf
 returns-else-should_unpack_leaf g c =
     let accepts = g.Func.SelectionFunction.accepts c.args.self.now.func in
     let selects = g.Func.SelectionFunction.selects c.args.self.now.func in
-    let taken : IsTaken (slices_of c.args.self.now) (c.args.self.now.path.items ++ c.in-Some.rest ∷ []) c.in-Some.first.now =
-    record { left = c.args.self.now.path.items; nodes = c.args.self.now.nodes; rest = c.in-Some.rest; is = refl; first = c.in-Some.ensures.cases.0; more = refl } in
+    let taken = first-taken c.args.self.now.path.items c.args.self.now.nodes c.in-Some.rest c.in-Some.ensures.cases.0 in
     record {
       walking = way-take accepts c.args.self.now.root.now taken (reach-leaf accepts c.in-Leaf.t c.in-Leaf.is) c.requires;
       root = refl;
@@ -58,29 +56,45 @@ returns-else-should_unpack_leaf g c =
       over = tt;
     }
 
-pub returns-then-should_unpack_parent : goal.returns-then-should_unpack_parent
-returns-then-should_unpack_parent g c =
+pub returns-after-not-is_empty : goal.returns-after-not-is_empty
+returns-after-not-is_empty g c =
     let accepts = g.Func.SelectionFunction.accepts c.args.self.now.func in
     let selects = g.Func.SelectionFunction.selects c.args.self.now.func in
-    let taken : IsTaken (slices_of c.args.self.now) (c.args.self.now.path.items ++ c.in-Some.rest ∷ []) c.in-Some.first.now =
-    record { left = c.args.self.now.path.items; nodes = c.args.self.now.nodes; rest = c.in-Some.rest; is = refl; first = c.in-Some.ensures.cases.0; more = refl } in
+    let path = c.args.self.now.path.items in
+    let p = c.in-Parent.parent in
+    let children = c.as_slice-self.result in
+    let same = c.as_slice-self.ensures.value in
+    let taken = first-taken path c.args.self.now.nodes c.in-Some.rest c.in-Some.ensures.cases.0 in
     let accepted = sym c.should_unpack_parent.ensures ∙ c.if-should_unpack_parent.true in
-    let more = ap (λ l. l ++ c.as_slice-self.result ∷ []) c.push_reserved.ensures.items in
-    record {
-      walking = way-opened accepts c.args.self.now.root.now c.in-Parent.parent c.as_slice-self.result taken c.in-Parent.is accepted c.as_slice-self.ensures.value more c.push_reserved.ensures.capacity (omega (arith, c.saturating_add-self.ensures)) c.requires;
-      root = refl;
-      question = refl;
-      given = given-opened accepts selects c.in-Parent.parent c.as_slice-self.result taken c.in-Parent.is accepted c.as_slice-self.ensures.value more;
-      nearer = nearer-opened c.in-Parent.parent c.as_slice-self.result taken c.in-Parent.is c.as_slice-self.ensures.value more;
-      over = tt;
-    }
+    elim c.if-not-is_empty.branch [
+      | then-not-is_empty w ↦
+          let left = w.push_reserved.new.self.items in
+          let kept : IsKept taken left = inl w.push_reserved.ensures.items in
+          rw w.self-is record {
+            walking = way-opened accepts c.args.self.now.root.now left p children taken kept c.in-Parent.is accepted same refl w.push_reserved.ensures.capacity (omega (arith, c.saturating_add-self.ensures)) c.requires;
+            root = refl;
+            question = refl;
+            given = given-opened accepts selects left p children taken kept c.in-Parent.is accepted same refl;
+            nearer = nearer-opened left p children taken kept c.in-Parent.is same refl;
+            over = tt;
+          }
+      | else-not-is_empty w ↦
+          let kept : IsKept taken path = inr (refl, no-items _ _ _ c.is_empty.ensures w.if-not-is_empty.false refl) in
+          rw w.self-is record {
+            walking = way-opened accepts c.args.self.now.root.now path p children taken kept c.in-Parent.is accepted same refl refl (omega (arith, c.saturating_add-self.ensures)) c.requires;
+            root = refl;
+            question = refl;
+            given = given-opened accepts selects path p children taken kept c.in-Parent.is accepted same refl;
+            nearer = nearer-opened path p children taken kept c.in-Parent.is same refl;
+            over = tt;
+          }
+    ]
 
 pub returns-else-should_unpack_parent : goal.returns-else-should_unpack_parent
 returns-else-should_unpack_parent g c =
     let accepts = g.Func.SelectionFunction.accepts c.args.self.now.func in
     let selects = g.Func.SelectionFunction.selects c.args.self.now.func in
-    let taken : IsTaken (slices_of c.args.self.now) (c.args.self.now.path.items ++ c.in-Some.rest ∷ []) c.in-Some.first.now =
-    record { left = c.args.self.now.path.items; nodes = c.args.self.now.nodes; rest = c.in-Some.rest; is = refl; first = c.in-Some.ensures.cases.0; more = refl } in
+    let taken = first-taken c.args.self.now.path.items c.args.self.now.nodes c.in-Some.rest c.in-Some.ensures.cases.0 in
     let refused = sym c.should_unpack_parent.ensures ∙ c.if-should_unpack_parent.false in
     record {
       walking = way-take accepts c.args.self.now.root.now taken (reach-passed accepts c.in-Parent.parent c.in-Parent.is refused) c.requires;

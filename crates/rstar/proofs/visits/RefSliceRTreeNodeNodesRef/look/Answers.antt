@@ -1,6 +1,5 @@
-use Rattle.std.proofs.Common.{◌≡◌, ◌∷◌, ◌++◌, ◌∙◌, ap, sym, arith, map}
-use Rattle.rstar.specs.Nodes.{total}
-use Rattle.rstar.specs.Nodes.{all_given}
+use Rattle.std.proofs.Common.{◌++◌, ◌∙◌, ap, sym, arith, map}
+use Rattle.rstar.specs.Nodes.{total, all_given}
 use Rattle.rstar.specs.Walks.{steps}
 use Rattle.rstar.proofs.Visiting.{look-leaf, look-parent}
 use Rattle.rstar.proofs.visits.RefSliceRTreeNodeNodesRef.look.Goals as goal

@@ -1,8 +1,5 @@
-use Rattle.std.proofs.Common.{◌++◌, ◌∷◌, [], ap, ◌∙◌, arith, append-nil, vec_len}
-use Rattle.rstar.specs.declared.node.RTreeNode.{Leaf, Parent}
+use Rattle.std.proofs.Common.{◌<◌, ◌++◌, [], ap, ◌∙◌, arith, append-nil, length}
 use Rattle.rstar.specs.declared.node.RTreeNode.TheVariants.{outs-Parent}
-use Rattle.rstar.specs.Nodes.{IsElement}
-use Rattle.rstar.specs.Kept.{IsKeptInner}
 use Rattle.rstar.proofs.Insertion.{leaf_added, hull_grown, added, child_grown, child_at, tree_at, sized_leaf, sized_parts, sized_child, no_leaf_above}
 use Rattle.rstar.proofs.algorithm.rstar.insertion.+insert.Goals as goal
 
@@ -10,54 +7,91 @@ use Rattle.rstar.proofs.algorithm.rstar.insertion.+insert.Goals as goal
 
 pub insert_below-add_child-requires-clause-covered : goal.insert_below-add_child-requires-clause-covered
 insert_below-add_child-requires-clause-covered g t c =
-    let grown = leaf_added g.met.T.Envelope.Envelope.envelope_laws g.met.T.RTreeObject.object_law g.Params.RTreeParams.MAX_SIZE c.args.widest c.args.levels c.args.t c.args.node.now.children.items c.if-levels-eq0.true (c.envelope-envelope.ensures.own, c.requires.element) c.requires.below in
-    (hull_grown g.met.T.Envelope.Envelope.envelope_laws g.met.T.RTreeObject.object_law g.Params.RTreeParams.MAX_SIZE c.args.widest c.args.levels c.args.t c.args.node.now.children.items _ c.args.node.now.envelope c.merge.new.self c.requires.below c.requires.node.tight c.envelope-envelope.ensures.own (c.merge.ensures.merged ∙ ap (g.T.Envelope.Envelope.boxes.merge c.args.node.now.envelope) c.envelope-envelope.ensures.value) grown.0 grown.1).1
+    let laws = g.met.T.Envelope.Envelope.envelope_laws in
+    let ok = g.met.T.RTreeObject.object_law in
+    let own = c.envelope-envelope.ensures.own in
+    let grown = leaf_added laws ok _ _ _ _ _ c.if-levels-eq0.true (own, c.requires.element) c.requires.below in
+    let merged = c.merge.ensures.merged ∙ ap (g.T.Envelope.Envelope.boxes.merge c.args.node.now.envelope) c.envelope-envelope.ensures.value in
+    (hull_grown laws ok _ _ _ _ _ _ _ _ c.requires.below c.requires.node.tight own merged grown.0 grown.1).1
 
 pub insert_below-returns-then-levels-eq0-clause-bag : goal.insert_below-returns-then-levels-eq0-clause-bag
 insert_below-returns-then-levels-eq0-clause-bag g t c =
-    let grown = leaf_added g.met.T.Envelope.Envelope.envelope_laws g.met.T.RTreeObject.object_law g.Params.RTreeParams.MAX_SIZE c.args.widest c.args.levels c.args.t c.args.node.now.children.items c.if-levels-eq0.true (c.envelope-envelope.ensures.own, c.requires.element) c.requires.below in
-    (added g.met.T.Envelope.Envelope.envelope_laws g.met.T.RTreeObject.object_law g.Params.RTreeParams.MAX_SIZE c.args.widest c.args.levels c.args.t c.args.node.now.children.items _ c.add_child.new.node c.add_child.result grown.0 grown.1 c.add_child.ensures.same c.add_child.ensures.first c.add_child.ensures.second).0
+    let laws = g.met.T.Envelope.Envelope.envelope_laws in
+    let ok = g.met.T.RTreeObject.object_law in
+    let grown = leaf_added laws ok _ _ _ _ _ c.if-levels-eq0.true (c.envelope-envelope.ensures.own, c.requires.element) c.requires.below in
+    (added laws ok _ _ _ _ _ _ _ _ grown.0 grown.1 c.add_child.ensures.same c.add_child.ensures.first c.add_child.ensures.second).0
 
 pub insert_below-returns-then-levels-eq0-clause-first : goal.insert_below-returns-then-levels-eq0-clause-first
 insert_below-returns-then-levels-eq0-clause-first g t c =
-    let grown = leaf_added g.met.T.Envelope.Envelope.envelope_laws g.met.T.RTreeObject.object_law g.Params.RTreeParams.MAX_SIZE c.args.widest c.args.levels c.args.t c.args.node.now.children.items c.if-levels-eq0.true (c.envelope-envelope.ensures.own, c.requires.element) c.requires.below in
-    (added g.met.T.Envelope.Envelope.envelope_laws g.met.T.RTreeObject.object_law g.Params.RTreeParams.MAX_SIZE c.args.widest c.args.levels c.args.t c.args.node.now.children.items _ c.add_child.new.node c.add_child.result grown.0 grown.1 c.add_child.ensures.same c.add_child.ensures.first c.add_child.ensures.second).1
+    let laws = g.met.T.Envelope.Envelope.envelope_laws in
+    let ok = g.met.T.RTreeObject.object_law in
+    let grown = leaf_added laws ok _ _ _ _ _ c.if-levels-eq0.true (c.envelope-envelope.ensures.own, c.requires.element) c.requires.below in
+    (added laws ok _ _ _ _ _ _ _ _ grown.0 grown.1 c.add_child.ensures.same c.add_child.ensures.first c.add_child.ensures.second).1
 
 pub insert_below-returns-then-levels-eq0-clause-second : goal.insert_below-returns-then-levels-eq0-clause-second
 insert_below-returns-then-levels-eq0-clause-second g t c =
-    let grown = leaf_added g.met.T.Envelope.Envelope.envelope_laws g.met.T.RTreeObject.object_law g.Params.RTreeParams.MAX_SIZE c.args.widest c.args.levels c.args.t c.args.node.now.children.items c.if-levels-eq0.true (c.envelope-envelope.ensures.own, c.requires.element) c.requires.below in
-    (added g.met.T.Envelope.Envelope.envelope_laws g.met.T.RTreeObject.object_law g.Params.RTreeParams.MAX_SIZE c.args.widest c.args.levels c.args.t c.args.node.now.children.items _ c.add_child.new.node c.add_child.result grown.0 grown.1 c.add_child.ensures.same c.add_child.ensures.first c.add_child.ensures.second).2
+    let laws = g.met.T.Envelope.Envelope.envelope_laws in
+    let ok = g.met.T.RTreeObject.object_law in
+    let grown = leaf_added laws ok _ _ _ _ _ c.if-levels-eq0.true (c.envelope-envelope.ensures.own, c.requires.element) c.requires.below in
+    (added laws ok _ _ _ _ _ _ _ _ grown.0 grown.1 c.add_child.ensures.same c.add_child.ensures.first c.add_child.ensures.second).2
 
 pub insert_below-returns-then-levels-eq0-clause-sized : goal.insert_below-returns-then-levels-eq0-clause-sized
-insert_below-returns-then-levels-eq0-clause-sized g t c =
-    λ sized.
-    sized_parts g.Params.RTreeParams.MIN_SIZE g.Params.RTreeParams.MAX_SIZE g.Params.RTreeParams.min_positive c.args.levels (vec_len c.args.node.now.children) (c.args.node.now.children.items ++ Leaf c.args.t ∷ []) c.add_child.new.node c.add_child.result (sized_leaf g.Params.RTreeParams.MIN_SIZE g.Params.RTreeParams.MAX_SIZE g.Params.RTreeParams.min_positive c.args.levels c.args.t c.args.node.now.children.items c.if-levels-eq0.true sized.0) c.add_child.ensures.same sized.1 c.add_child.ensures.whole c.add_child.ensures.low c.add_child.ensures.first_least c.add_child.ensures.second_least c.add_child.ensures.lengths
+insert_below-returns-then-levels-eq0-clause-sized g t c = λ sized.
+    let positive = g.Params.RTreeParams.min_positive in
+    let done = c.add_child.ensures in
+    sized_parts _ _ positive _ _ _ _ _ (sized_leaf _ _ positive _ _ _ c.if-levels-eq0.true sized.0) done.same sized.1
+    done.whole done.low done.first_least done.second_least done.lengths
 
 pub insert_below-returns-in-None-clause-first : goal.insert_below-returns-in-None-clause-first
 insert_below-returns-in-None-clause-first g t c =
-    let hull = hull_grown g.met.T.Envelope.Envelope.envelope_laws g.met.T.RTreeObject.object_law g.Params.RTreeParams.MAX_SIZE c.args.widest c.args.levels c.args.t c.args.node.now.children.items (c.insert_in_child.new.children.items ++ []) c.args.node.now.envelope c.merge.new.self c.requires.below c.requires.node.tight c.envelope-envelope.ensures.own (c.merge.ensures.merged ∙ ap (g.T.Envelope.Envelope.boxes.merge c.args.node.now.envelope) c.envelope-envelope.ensures.value) c.in-None.ensures.bag c.in-None.ensures.below in
+    let laws = g.met.T.Envelope.Envelope.envelope_laws in
+    let ok = g.met.T.RTreeObject.object_law in
+    let merged = c.merge.ensures.merged ∙ ap (g.T.Envelope.Envelope.boxes.merge c.args.node.now.envelope) c.envelope-envelope.ensures.value in
+    let hull = hull_grown laws ok _ _ _ _ _ (c.insert_in_child.new.children.items ++ []) _ _ c.requires.below c.requires.node.tight c.envelope-envelope.ensures.own merged
+    c.in-None.ensures.bag c.in-None.ensures.below in
     let roomy = c.requires.node.roomy in
     let length = c.in-None.ensures.length in
     let capacity = c.in-None.ensures.capacity in
     let some = c.requires.some (omega arith) in
-    let trees = rw append-nil at c.in-None.ensures.below in
-    ((record { tight = rw append-nil at hull.0; roomy = record { narrow = omega (arith, c.insert_in_child.new.children.ok.0, c.args.node.now.children.ok.0); room = (omega arith, omega arith) } }, omega (arith, c.insert_in_child.new.children.ok.0)), trees)
+    let trees = rw append-nil at c.in-None.ensures.below in (
+      (
+        record {
+          tight = rw append-nil at hull.0;
+          roomy = record {
+            narrow = omega (arith, c.insert_in_child.new.children.ok.0, c.args.node.now.children.ok.0);
+            room = (omega arith, omega arith);
+          };
+        },
+        omega (arith, c.insert_in_child.new.children.ok.0),
+      ),
+      trees,
+    )
 
 pub insert_below-add_child-requires-in-Some-clause-covered : goal.insert_below-add_child-requires-in-Some-clause-covered
 insert_below-add_child-requires-in-Some-clause-covered g t c =
-    (hull_grown g.met.T.Envelope.Envelope.envelope_laws g.met.T.RTreeObject.object_law g.Params.RTreeParams.MAX_SIZE c.args.widest c.args.levels c.args.t c.args.node.now.children.items _ c.args.node.now.envelope c.merge.new.self c.requires.below c.requires.node.tight c.envelope-envelope.ensures.own (c.merge.ensures.merged ∙ ap (g.T.Envelope.Envelope.boxes.merge c.args.node.now.envelope) c.envelope-envelope.ensures.value) c.in-Some.ensures.bag c.in-Some.ensures.below).1
+    let laws = g.met.T.Envelope.Envelope.envelope_laws in
+    let ok = g.met.T.RTreeObject.object_law in
+    let merged = c.merge.ensures.merged ∙ ap (g.T.Envelope.Envelope.boxes.merge c.args.node.now.envelope) c.envelope-envelope.ensures.value in
+    (hull_grown laws ok _ _ _ _ _ _ _ _ c.requires.below c.requires.node.tight c.envelope-envelope.ensures.own merged
+    c.in-Some.ensures.bag c.in-Some.ensures.below).1
 
 pub insert_below-returns-clause-bag : goal.insert_below-returns-clause-bag
 insert_below-returns-clause-bag g t c =
-    (added g.met.T.Envelope.Envelope.envelope_laws g.met.T.RTreeObject.object_law g.Params.RTreeParams.MAX_SIZE c.args.widest c.args.levels c.args.t c.args.node.now.children.items _ c.add_child-in-Some.new.node c.add_child-in-Some.result c.in-Some.ensures.bag c.in-Some.ensures.below c.add_child-in-Some.ensures.same c.add_child-in-Some.ensures.first c.add_child-in-Some.ensures.second).0
+    let grown = c.in-Some.ensures in
+    let done = c.add_child-in-Some.ensures in
+    (added g.met.T.Envelope.Envelope.envelope_laws g.met.T.RTreeObject.object_law _ _ _ _ _ _ _ _ grown.bag grown.below done.same done.first done.second).0
 
 pub insert_below-returns-clause-first : goal.insert_below-returns-clause-first
 insert_below-returns-clause-first g t c =
-    (added g.met.T.Envelope.Envelope.envelope_laws g.met.T.RTreeObject.object_law g.Params.RTreeParams.MAX_SIZE c.args.widest c.args.levels c.args.t c.args.node.now.children.items _ c.add_child-in-Some.new.node c.add_child-in-Some.result c.in-Some.ensures.bag c.in-Some.ensures.below c.add_child-in-Some.ensures.same c.add_child-in-Some.ensures.first c.add_child-in-Some.ensures.second).1
+    let grown = c.in-Some.ensures in
+    let done = c.add_child-in-Some.ensures in
+    (added g.met.T.Envelope.Envelope.envelope_laws g.met.T.RTreeObject.object_law _ _ _ _ _ _ _ _ grown.bag grown.below done.same done.first done.second).1
 
 pub insert_below-returns-clause-second : goal.insert_below-returns-clause-second
 insert_below-returns-clause-second g t c =
-    (added g.met.T.Envelope.Envelope.envelope_laws g.met.T.RTreeObject.object_law g.Params.RTreeParams.MAX_SIZE c.args.widest c.args.levels c.args.t c.args.node.now.children.items _ c.add_child-in-Some.new.node c.add_child-in-Some.result c.in-Some.ensures.bag c.in-Some.ensures.below c.add_child-in-Some.ensures.same c.add_child-in-Some.ensures.first c.add_child-in-Some.ensures.second).2
+    let grown = c.in-Some.ensures in
+    let done = c.add_child-in-Some.ensures in
+    (added g.met.T.Envelope.Envelope.envelope_laws g.met.T.RTreeObject.object_law _ _ _ _ _ _ _ _ grown.bag grown.below done.same done.first done.second).2
 
 pub insert_below-returns-in-None-clause-sized : goal.insert_below-returns-in-None-clause-sized
 insert_below-returns-in-None-clause-sized g t c =
@@ -70,32 +104,46 @@ insert_below-returns-in-None-clause-sized g t c =
     }
 
 pub insert_below-returns-clause-sized : goal.insert_below-returns-clause-sized
-insert_below-returns-clause-sized g t c =
-    λ sized.
-    sized_parts g.Params.RTreeParams.MIN_SIZE g.Params.RTreeParams.MAX_SIZE g.Params.RTreeParams.min_positive c.args.levels (vec_len c.args.node.now.children) _ c.add_child-in-Some.new.node c.add_child-in-Some.result (c.in-Some.ensures.sized sized.0) c.add_child-in-Some.ensures.same sized.1 (rw c.in-Some.ensures.length at c.add_child-in-Some.ensures.whole) c.add_child-in-Some.ensures.low c.add_child-in-Some.ensures.first_least c.add_child-in-Some.ensures.second_least (rw c.in-Some.ensures.length at c.add_child-in-Some.ensures.lengths)
+insert_below-returns-clause-sized g t c = λ sized.
+    let done = c.add_child-in-Some.ensures in
+    sized_parts _ _ g.Params.RTreeParams.min_positive _ _ _ _ _ (c.in-Some.ensures.sized sized.0) done.same sized.1
+    (rw c.in-Some.ensures.length at done.whole) done.low done.first_least done.second_least
+    (rw c.in-Some.ensures.length at done.lengths)
 
 -- ---- in a child
 
 pub insert_in_child-insert_below-requires : goal.insert_in_child-insert_below-requires
 insert_in_child-insert_below-requires g t c κs within =
-    let tree = child_at (IsKeptInner g.T.Envelope.Envelope.boxes g.T.RTreeObject.object g.Params.RTreeParams.MAX_SIZE c.args.widest) (IsElement g.T.Envelope.Envelope.boxes g.T.RTreeObject.object) c.args.levels c.args.children.now.items c.args.index (Parent c.in-Parent.child) (omega (arith, c.args.children.now.ok.0)) (rw c.in-Parent.is at c.index_mut.ensures.value) c.requires.below in
-    let at = tree_at (IsKeptInner g.T.Envelope.Envelope.boxes g.T.RTreeObject.object g.Params.RTreeParams.MAX_SIZE c.args.widest) (IsElement g.T.Envelope.Envelope.boxes g.T.RTreeObject.object) c.args.levels c.in-Parent.child c.requires.above tree in
+    let here : c.args.index < length c.args.children.now.items = omega (arith, c.args.children.now.ok.0) in
+    let tree = child_at _ _ _ _ _ _ here (rw c.in-Parent.is at c.index_mut.ensures.value) c.requires.below in
+    let at = tree_at _ _ _ _ c.requires.above tree in
     rw c.in-Parent.child-is (omega arith, (within.0, (within.1.0, (within.1.1.0, (within.1.1.1.0, (within.1.1.1.1.0, (within.1.1.1.1.1, (at.0.0, (at.1, (λ _. omega (arith, at.0.1, c.in-Parent.child.children.ok.0), (c.requires.element, (c.requires.wide, (c.requires.spares, omega arith)))))))))))))
 
 pub insert_in_child-unreachable-requires : goal.insert_in_child-unreachable-requires
 insert_in_child-unreachable-requires g t c =
-    no_leaf_above (IsKeptInner g.T.Envelope.Envelope.boxes g.T.RTreeObject.object g.Params.RTreeParams.MAX_SIZE c.args.widest) (IsElement g.T.Envelope.Envelope.boxes g.T.RTreeObject.object) c.args.levels c.in-Leaf.field-0 c.requires.above (child_at (IsKeptInner g.T.Envelope.Envelope.boxes g.T.RTreeObject.object g.Params.RTreeParams.MAX_SIZE c.args.widest) (IsElement g.T.Envelope.Envelope.boxes g.T.RTreeObject.object) c.args.levels c.args.children.now.items c.args.index (Leaf c.in-Leaf.field-0) (omega (arith, c.args.children.now.ok.0)) (rw c.in-Leaf.is at c.index_mut.ensures.value) c.requires.below)
+    let within : c.args.index < length c.args.children.now.items = omega (arith, c.args.children.now.ok.0) in
+    no_leaf_above _ _ _ _ c.requires.above
+    (child_at _ _ _ _ _ _ within (rw c.in-Leaf.is at c.index_mut.ensures.value) c.requires.below)
 
 pub insert_in_child-returns-clause-bag : goal.insert_in_child-returns-clause-bag
 insert_in_child-returns-clause-bag g t c =
-    let grown = child_grown g.met.T.Envelope.Envelope.envelope_laws g.met.T.RTreeObject.object_law g.Params.RTreeParams.MAX_SIZE c.args.widest c.args.levels c.args.t c.args.children.now.items c.args.index c.in-Parent.child c.insert_below.new.node c.insert_below.result c.requires.above (omega (arith, c.args.children.now.ok.0)) (rw c.in-Parent.is at c.index_mut.ensures.value) c.requires.below (rw c.in-Parent.child-is at c.insert_below.ensures.bag) c.insert_below.ensures.first c.insert_below.ensures.second in
+    let within : c.args.index < length c.args.children.now.items = omega (arith, c.args.children.now.ok.0) in
+    let grown = child_grown g.met.T.Envelope.Envelope.envelope_laws g.met.T.RTreeObject.object_law _ _ _ _ _ _ _ _ _ c.requires.above
+    within (rw c.in-Parent.is at c.index_mut.ensures.value) c.requires.below
+    (rw c.in-Parent.child-is at c.insert_below.ensures.bag) c.insert_below.ensures.first c.insert_below.ensures.second in
     simp (c.in-Parent.is, outs-Parent) grown.0
 
 pub insert_in_child-returns-clause-below : goal.insert_in_child-returns-clause-below
 insert_in_child-returns-clause-below g t c =
-    let grown = child_grown g.met.T.Envelope.Envelope.envelope_laws g.met.T.RTreeObject.object_law g.Params.RTreeParams.MAX_SIZE c.args.widest c.args.levels c.args.t c.args.children.now.items c.args.index c.in-Parent.child c.insert_below.new.node c.insert_below.result c.requires.above (omega (arith, c.args.children.now.ok.0)) (rw c.in-Parent.is at c.index_mut.ensures.value) c.requires.below (rw c.in-Parent.child-is at c.insert_below.ensures.bag) c.insert_below.ensures.first c.insert_below.ensures.second in
+    let within : c.args.index < length c.args.children.now.items = omega (arith, c.args.children.now.ok.0) in
+    let grown = child_grown g.met.T.Envelope.Envelope.envelope_laws g.met.T.RTreeObject.object_law _ _ _ _ _ _ _ _ _ c.requires.above
+    within (rw c.in-Parent.is at c.index_mut.ensures.value) c.requires.below
+    (rw c.in-Parent.child-is at c.insert_below.ensures.bag) c.insert_below.ensures.first c.insert_below.ensures.second in
     simp (c.in-Parent.is, outs-Parent) grown.1
 
 pub insert_in_child-returns-clause-sized : goal.insert_in_child-returns-clause-sized
 insert_in_child-returns-clause-sized g t c =
-    simp (c.in-Parent.is, outs-Parent) (λ trees. sized_child g.Params.RTreeParams.MIN_SIZE g.Params.RTreeParams.MAX_SIZE g.Params.RTreeParams.min_positive c.args.levels c.args.children.now.items c.args.index c.in-Parent.child c.insert_below.new.node c.insert_below.result c.requires.above (omega (arith, c.args.children.now.ok.0)) (rw c.in-Parent.is at c.index_mut.ensures.value) trees (λ below few. (rw c.in-Parent.child-is at c.insert_below.ensures.sized) (below, few)))
+    let within : c.args.index < length c.args.children.now.items = omega (arith, c.args.children.now.ok.0) in
+    simp (c.in-Parent.is, outs-Parent) (λ trees. sized_child _ _ g.Params.RTreeParams.min_positive _ _ _ _ _ _ c.requires.above
+    within (rw c.in-Parent.is at c.index_mut.ensures.value) trees
+    (λ below few. (rw c.in-Parent.child-is at c.insert_below.ensures.sized) (below, few)))

@@ -1,0 +1,144 @@
+-- Lists in three parts, and places in a tree.
+use borrow.Rule.Slice.PartMut.{post_of}
+use Rattle.std.proofs.Math.ListN.{drop_of_length-le}
+use Rattle.std.proofs.Math.Nat.{ℕ_set}
+use Rattle.std.specs.Vec.{with_item}
+use Rattle.std.specs.declared.alloc.Global.{Global}
+use Rattle.std.proofs.Common.{◌≡◌, ℕ, zero, suc, ◌+◌, ◌<◌, ◌≤◌, Bool, List, [], ◌∷◌, ◌++◌, refl, sym, ◌∙◌, ap, subst, arith, length, get_or, set, min, ◌-◌, take, drop, replicate, append_assoc, length-append, Option, Some, None, Vec, length-set}
+use Rattle.std.specs.List.{AllByRecursion, remove}
+use Rattle.std.proofs.lemmas.List.{append-nil, take_all, set_split, set-get_or, take_at, drop_at, length-take-le}
+use Rattle.std.proofs.lemmas.List.Concat.{flat_map-append}
+use Rattle.rstar.specs.declared.node.RTreeNode.{RTreeNode}
+use Rattle.rstar.specs.Nodes.{elements, all_elements}
+use Rattle.rstar.specs.Removals.{IsWithout, NoneSelected}
+use Rattle.rstar.specs.Taking.{IsPast, first_children, with_first, first_number, lower_numbers}
+
+module _ {A : Type 0} where
+  pub split_at : (l : List A) (i : ℕ) (a : A) → i < length l → a ≡ get_or l i a → l ≡ take i l ++ a ∷ drop (suc i) l
+  split_at l i a within read = sym (set-get_or l i a) ∙ ap (set l i) (sym read) ∙ set_split l i a within
+
+  pub len_front : (l : List A) (i : ℕ) → i < length l → length (take i l) ≡ i
+  len_front l i within = length-take-le i l (omega arith)
+
+  pub take_removed : (l : List A) (i : ℕ) → i < length l → take i (remove l i) ≡ take i l
+  take_removed l i within = take_at (take i l) (drop (suc i) l) i (len_front l i within)
+
+  pub drop_removed : (l : List A) (i : ℕ) → i < length l → drop i (remove l i) ≡ drop (suc i) l
+  drop_removed l i within = drop_at (take i l) (drop (suc i) l) i (len_front l i within)
+
+  pub take_set : (l : List A) (i : ℕ) (a : A) → i < length l → take i (set l i a) ≡ take i l
+  take_set l i a within = ap (take i) (set_split l i a within) ∙ take_at (take i l) (a ∷ drop (suc i) l) i (len_front l i within)
+
+  pub drop_set : (l : List A) (i : ℕ) (a : A) → i < length l → drop i (set l i a) ≡ a ∷ drop (suc i) l
+  drop_set l i a within = ap (drop i) (set_split l i a within) ∙ drop_at (take i l) (a ∷ drop (suc i) l) i (len_front l i within)
+
+  len_more : (l : List A) (i : ℕ) (a : A) → i < length l → length (take i l ++ a ∷ []) ≡ i + 1
+  len_more l i a within = omega (arith, length-append (take i l) (a ∷ []), len_front l i within)
+
+  pub take_set_more : (l : List A) (i : ℕ) (a : A) → i < length l → take (i + 1) (set l i a) ≡ take i l ++ a ∷ []
+  take_set_more l i a within =
+      ap (take (i + 1)) (set_split l i a within ∙ sym (append_assoc (take i l) (a ∷ []) (drop (suc i) l)))
+      ∙ take_at (take i l ++ a ∷ []) (drop (suc i) l) (i + 1) (len_more l i a within)
+
+  pub remove_set : (l : List A) (i : ℕ) (a : A) → i < length l → remove (set l i a) i ≡ remove l i
+  remove_set l i a within =
+      let after : drop (suc i) (set l i a) ≡ drop (suc i) l =
+      ap (drop (suc i)) (set_split l i a within ∙ sym (append_assoc (take i l) (a ∷ []) (drop (suc i) l)))
+      ∙ drop_at (take i l ++ a ∷ []) (drop (suc i) l) (suc i) (omega (arith, len_more l i a within)) in
+      ap (λ z. z ++ drop (suc i) (set l i a)) (take_set l i a within) ∙ ap (λ z. take i l ++ z) after
+
+  pub same_read : (l : List A) (i : ℕ) (a b : A) → i < length l → a ≡ get_or l i a → b ≡ get_or l i b → a ≡ b
+  same_read [] i a b within here here' = absurd (omega arith)
+  same_read (x ∷ l) zero a b within here here' = here ∙ sym here'
+  same_read (x ∷ l) (suc i) a b within here here' = same_read l i a b (omega arith) here here'
+
+  pub drop_here : (l : List A) (i : ℕ) (a : A) → i < length l → a ≡ get_or l i a → drop i l ≡ a ∷ drop (suc i) l
+  drop_here l i a within read = ap (drop i) (split_at l i a within read) ∙ drop_at (take i l) (a ∷ drop (suc i) l) i (len_front l i within)
+
+  pub drop_end : (l : List A) → drop (length l) l ≡ []
+  drop_end l = ap (drop (length l)) (sym (append-nil l)) ∙ drop_at l [] (length l) refl
+
+  pub same_without : (xs xs' ys ys' : List A) (r : Option A) → xs ≡ xs' → ys ≡ ys' → IsWithout xs r ys → IsWithout xs' r ys'
+  same_without xs xs' ys ys' None e e' same = sym e' ∙ same ∙ e
+  same_without xs xs' ys ys' (Some x) e e' out = record { before = out.before; after = out.after; was = sym e ∙ out.was; is = sym e' ∙ out.is }
+
+  pub without_middle : (front ys ys' back : List A) (r : Option A) → IsWithout ys r ys' → IsWithout (front ++ (ys ++ back)) r (front ++ (ys' ++ back))
+  without_middle front ys ys' back None same = ap (λ z. front ++ (z ++ back)) same
+  without_middle front ys ys' back (Some x) out = record {
+    before = front ++ out.before;
+    after = out.after ++ back;
+    was = ap (λ z. front ++ (z ++ back)) out.was ∙ ap (λ z. front ++ z) (append_assoc out.before (x ∷ out.after) back) ∙ sym (append_assoc front out.before (x ∷ (out.after ++ back)));
+    is = ap (λ z. front ++ (z ++ back)) out.is ∙ ap (λ z. front ++ z) (append_assoc out.before out.after back) ∙ sym (append_assoc front out.before (out.after ++ back));
+  }
+
+  -- what holds of all items holds of those in front of i, and of those from there on
+  pub all_take : (F : A → Type 0) (i : ℕ) (l : List A) → AllByRecursion F l → AllByRecursion F (take i l)
+  all_take F zero l h = tt
+  all_take F (suc i) [] h = tt
+  all_take F (suc i) (x ∷ l) h = (h.0, all_take F i l h.1)
+
+  pub all_drop : (F : A → Type 0) (i : ℕ) (l : List A) → AllByRecursion F l → AllByRecursion F (drop i l)
+  all_drop F zero l h = h
+  all_drop F (suc i) [] h = tt
+  all_drop F (suc i) (x ∷ l) h = all_drop F i l h.1
+
+  pub shorter_removed : (l : List A) (i : ℕ) → length (remove l i) ≤ length l
+  shorter_removed [] zero = omega arith
+  shorter_removed [] (suc i) = omega arith
+  shorter_removed (x ∷ l) zero = omega arith
+  shorter_removed (x ∷ l) (suc i) = let rest = shorter_removed l i in omega arith
+
+module _ {T E P S X : Type 0} where
+  pub elements_split : (l : List (RTreeNode T E P S X)) (i : ℕ) (n : RTreeNode T E P S X) → i < length l → n ≡ get_or l i n
+      → all_elements l ≡ all_elements (take i l) ++ (elements n ++ all_elements (drop (suc i) l))
+  elements_split l i n within read = ap all_elements (split_at l i n within read) ∙ flat_map-append elements (take i l) (n ∷ drop (suc i) l)
+
+  pub elements_set : (l : List (RTreeNode T E P S X)) (i : ℕ) (m : RTreeNode T E P S X) → i < length l
+      → all_elements (set l i m) ≡ all_elements (take i l) ++ (elements m ++ all_elements (drop (suc i) l))
+  elements_set l i m within = ap all_elements (set_split l i m within) ∙ flat_map-append elements (take i l) (m ∷ drop (suc i) l)
+
+  pub elements_removed : (l : List (RTreeNode T E P S X)) (i : ℕ) → all_elements (remove l i) ≡ all_elements (take i l) ++ all_elements (drop (suc i) l)
+  elements_removed l i = flat_map-append elements (take i l) (drop (suc i) l)
+
+pub past_nothing : {T : Type 0} (E P S X : Type 0) (selects : T → Bool) (path : List ℕ) → IsPast {T = T} {E = E} {P = P} {S = S} {X = X} selects path []
+past_nothing E P S X selects [] = tt
+past_nothing E P S X selects (zero ∷ path) = (tt, past_nothing E P S X selects path)
+past_nothing E P S X selects ((suc i) ∷ path) = (tt, past_nothing E P S X selects path)
+
+module _ {T E P S X : Type 0} where
+  module _ (selects : T → Bool) where
+    pub past_parts : (path : List ℕ) (ns : List (RTreeNode T E P S X)) → IsPast selects path ns
+        → NoneSelected selects (all_elements (take (first_number path) ns)) × IsPast selects (lower_numbers path) (first_children (drop (first_number path) ns))
+    past_parts [] ns past = (tt, tt)
+    past_parts (i ∷ path) ns past = past
+
+    pub past_made : (path : List ℕ) (ns : List (RTreeNode T E P S X)) (i : ℕ) → NoneSelected selects (all_elements (take i ns))
+        → IsPast selects (lower_numbers path) (first_children (drop i ns)) → IsPast selects (with_first path i) ns
+    past_made [] ns i before below = tt
+    past_made (j ∷ path) ns i before below = (before, below)
+
+    pub past_zeros : (n : ℕ) (ns : List (RTreeNode T E P S X)) → IsPast selects (replicate n 0) ns
+    past_zeros zero ns = tt
+    past_zeros (suc n) ns = (tt, past_zeros n (first_children ns))
+
+-- the lower levels of a place, as the part of it that a call is lent
+pub lower_lent : (p : List ℕ) (n : ℕ) → n ≡ min (length p) 1 → take (length p - n) (drop n p) ≡ lower_numbers p
+lower_lent [] n e = let none_taken : n ≡ 0 = omega arith in rw none_taken refl
+lower_lent (x ∷ p) n e = let one : n ≡ 1 = omega arith in rw one (take_all (suc (length p) - 1) p (omega arith))
+
+pub lower_left : (p r : List ℕ) (n : ℕ) → n ≡ min (length p) 1 → length r ≡ length (take (length p - n) (drop n p))
+    → lower_numbers (take n p ++ (r ++ post_of n (length p - n) p)) ≡ r
+lower_left [] [] n e l = let none_taken : n ≡ 0 = omega arith in rw none_taken refl
+lower_left [] (y ∷ r) n e l = let none_taken : n ≡ 0 = omega arith in let longer = rw none_taken at l in absurd (omega (arith, longer))
+lower_left (x ∷ p) r n e l =
+    let one : n ≡ 1 = omega arith in
+    rw one (ap (λ z. r ++ z) (drop_of_length-le p {i = suc (length p) - 1} (omega arith)) ∙ append-nil r)
+
+-- a vector with an item written to where it stood
+abbrev holding : {A : Type 0} (v : Vec A Global) (ys : List A) → v.len ≡ length ys → Vec A Global
+holding v ys ok = record { ptr = v.ptr; len = v.len; cap = v.cap; alloc = v.alloc; items = ys; ok = (ok, v.ok.1); small = v.small }
+
+pub same_item : {A : Type 0} (v : Vec A Global) (i : ℕ) (w d : A) → w ≡ get_or v.items i d → with_item v i w ≡ v
+same_item {A} v i w d e =
+    subst (λ (ys : List A). (ok : v.len ≡ length ys) → holding v ys ok ≡ v) (sym (ap (set v.items i) e ∙ set-get_or v.items i d))
+    (λ ok. ap (holding v v.items) (ℕ_set _ _ ok v.ok.0)) (v.ok.0 ∙ sym (length-set v.items i w))

@@ -1,0 +1,103 @@
+-- Each call that gives something leaves fewer.
+use Rattle.std.proofs.Common.{◌≡◌, ℕ, ℤ, ◌+◌, ◌-◌, ◌<◌, min, List, [], ◌∷◌, length, refl, ap, sym, subst, arith, Option, Some, None, Result, Ok, Err, IfSome, IfNone, IfOk, IfErr, OnSome, OnErr}
+use Rattle.std.specs.Borrow.{Bor}
+use Rattle.std.specs.Iterator.{IsFinite, size}
+use Rattle.std.proofs.lemmas.List.Sorted.{length_permutation}
+use Rattle.rstar_base.specs.Envelopes.{Boxes}
+use Rattle.std.specs.declared.cmp.Ordering.{Ordering}
+use Rattle.rstar_base.specs.Elements.{Objects, Distances}
+use Rattle.rstar_base.specs.SmallHeaps.{Held, items_of}
+use Rattle.rstar.specs.declared.node.RTreeNode.{Parent}
+use Rattle.rstar.specs.declared.node.ParentNode.{ParentNode}
+use Rattle.rstar.specs.declared.algorithm.nearest_neighbor.search.Stage.{Stage}
+use Rattle.rstar.specs.declared.algorithm.nearest_neighbor.search.Stage.TheVariants.{Fresh, Running, Ended}
+use Rattle.rstar.specs.declared.algorithm.nearest_neighbor.search.NeighborSearch.{NeighborSearch}
+use Rattle.rstar.specs.Nodes.{all_elements, all_parents, parents_of}
+use Rattle.rstar.specs.Walks.{usize_max}
+use Rattle.rstar.specs.Neighbors.{IsNeighbor}
+use Rattle.rstar.specs.Searches.{Item, waiting_at, calls_at, waiting_of, held_by, calls_left, IsUnrefused, IsCounted, IsReady, IsReadyAt}
+use Rattle.rstar.proofs.Searches.{fresh-counted}
+
+module _ {T E P S X : Type 0} where
+  finite_at : (stage : Stage) (root : ParentNode T E P S X) (ws : List (Item T E P S X)) → IsFinite (calls_at stage root ws)
+  finite_at Fresh root ws = tt
+  finite_at Running root ws = tt
+  finite_at Ended root ws = tt
+
+  pub finite : (s : NeighborSearch T E P S X) → IsFinite (calls_left s)
+  finite s = finite_at s.stage s.root.now (held_by s)
+
+  many_at : (stage : Stage) (root : ParentNode T E P S X) (ws : List (Item T E P S X)) → IsUnrefused stage → size (calls_at stage root ws) ≡ length (all_elements (waiting_at stage root ws)) + 1
+  many_at Fresh root ws h = refl
+  many_at Running root ws h = refl
+  many_at Ended root ws h = absurd h
+
+  many : (s : NeighborSearch T E P S X) → IsUnrefused s.stage → size (calls_left s) ≡ length (all_elements (waiting_of s)) + 1
+  many s = many_at s.stage s.root.now (held_by s)
+
+  none_at : (stage : Stage) (root : ParentNode T E P S X) (ws : List (Item T E P S X)) → stage ≡ Ended → size (calls_at stage root ws) ≡ 0
+  none_at stage root ws e = ap (λ v. size (calls_at v root ws)) e
+
+  module _ (v : Boxes E) (d : Distances T) (p : List ℤ) (s t : NeighborSearch T E P S X) where
+    -- a neighbour more
+    pub given-fewer : (x : T) → IsNeighbor v d p s.root.now (waiting_of s) (waiting_of t) x → t.stage ≡ Running → IsUnrefused s.stage → size (calls_left t) < size (calls_left s)
+    given-fewer x gives on going =
+        let before = many s going in
+        let after = many t (subst IsUnrefused (sym on) tt) in
+        let fewer = length_permutation _ _ gives.bag in
+        omega arith
+
+    -- a refusal
+    pub refused-fewer : t.stage ≡ Ended → IsUnrefused s.stage → size (calls_left t) < size (calls_left s)
+    refused-fewer ended going =
+        let before = many s going in
+        let after : size (calls_left t) ≡ 0 = none_at t.stage t.root.now (held_by t) ended in
+        omega (arith, before, after)
+
+-- until a refusal, the parents opened are those that do not wait
+counted-at : {T E P S X : Type 0} (v : Boxes E) (d : Distances T) (p : List ℤ) (compare : S → S → Ordering) (value : S → ℤ) (o : Objects T E) (stage : Stage) (root : ParentNode T E P S X) (heap : Held (Item T E P S X)) (opened : ℕ)
+    → IsReadyAt v d p compare value o stage root heap opened → IsUnrefused stage → IsCounted root (waiting_at stage root (items_of heap)) opened
+counted-at v d p compare value o Fresh root heap opened ready going = subst (IsCounted root (Parent root ∷ [])) (sym ready.2) (fresh-counted root)
+counted-at v d p compare value o Running root heap opened ready going = ready.counted
+counted-at v d p compare value o Ended root heap opened ready going = absurd going
+
+pub opened-counted : {T E P S X : Type 0} (v : Boxes E) (d : Distances T) (p : List ℤ) (compare : S → S → Ordering) (value : S → ℤ) (o : Objects T E) (s : NeighborSearch T E P S X) → IsReady v d p compare value o s → IsUnrefused s.stage
+    → s.opened ≡ min (parents_of s.root.now - all_parents (waiting_of s)) usize_max
+opened-counted v d p compare value o s ready going = let counted = counted-at v d p compare value o s.stage s.root.now s.heap s.opened ready going in counted.counts
+
+pub goes_on : {A Z : Type 0} (stage : Stage) (r : Option (Result A Z)) → IfSome r (λ x. IfOk x (λ _. stage ≡ Running)) → IfSome r (λ x. IfOk x (λ _. IsUnrefused stage))
+goes_on stage None h = tt
+goes_on stage (Some (Ok x)) h = subst IsUnrefused (sym h) tt
+goes_on stage (Some (Err x)) h = tt
+
+pub goes_on_at_end : {A Z : Type 0} (old new : Stage) (r : Option (Result A Z)) → IfNone r (IsUnrefused old → new ≡ Running) → IfNone r (IsUnrefused old → IsUnrefused new)
+goes_on_at_end old new None h = λ going. subst IsUnrefused (sym (h going)) tt
+goes_on_at_end old new (Some x) h = tt
+
+pub ends : {A Z : Type 0} (stage : Stage) (r : Option (Result A Z)) → IfSome r (λ x. IfErr x (λ _. stage ≡ Ended)) → IfSome r (λ x. IfErr x (λ _. IsUnrefused stage → ⊥))
+ends stage None h = tt
+ends stage (Some (Ok x)) h = tt
+ends stage (Some (Err x)) h = λ going. subst IsUnrefused h going
+
+-- what a call gives leaves fewer
+pub fewer-left : {T E P S X Z : Type 0} (v : Boxes E) (d : Distances T) (p : List ℤ) (s t : NeighborSearch T E P S X) (r : Option (Result (Bor T × S) Z)) → IfSome r (λ x. IfOk x (λ y. IsNeighbor v d p s.root.now (waiting_of s) (waiting_of t) y.0.now))
+    → IfSome r (λ x. IfOk x (λ _. t.stage ≡ Running)) → IfSome r (λ x. IfErr x (λ _. t.stage ≡ Ended)) → IfSome r (λ _. IsUnrefused s.stage) → OnSome r (size (calls_left t) < size (calls_left s))
+fewer-left v d p s t None gives on refused going = tt
+fewer-left v d p s t (Some (Ok y)) gives on refused going = given-fewer v d p s t y.0.now gives on going
+fewer-left v d p s t (Some (Err z)) gives on refused going = refused-fewer v d p s t refused going
+
+pub on-some : {A : Type 0} (P Q R : Type 0) (r : Option A) → P → Q → OnSome r R → OnSome r (P × Q × R)
+on-some P Q R None p q r = tt
+on-some P Q R (Some x) p q r = (p, q, r)
+
+pub if-none : {A : Type 0} (P : Type 0) (r : Option A) → P → IfNone r P
+if-none P None p = p
+if-none P (Some x) p = tt
+
+pub if-some : {A : Type 0} (P : Type 0) (r : Option A) → P → IfSome r (λ _. P)
+if-some P None p = tt
+if-some P (Some x) p = p
+
+pub on_err : {A Z : Type 0} (r : Result A Z) (P : Type 0) → P → OnErr r P
+on_err (Ok x) P p = tt
+on_err (Err x) P p = p

@@ -1,0 +1,149 @@
+-- Commands over a tree: what its calls give is what a step may give, and a run goes on by one step.
+use Rattle.std.proofs.Common.{◌≡◌, ℕ, ◌+◌, ◌<◌, ◌≤◌, min, Bool, true, false, List, [], ◌∷◌, ◌++◌, refl, ap, sym, ◌∙◌, subst, arith, length, length-append, filter, Option, Some, None, IfSome, IfNone, if◌then◌else◌, append_assoc, append-nil}
+use Rattle.std.specs.Prelude.{◌↔◌}
+use lib.Dec.{leb}
+use Rattle.std.proofs.lemmas.Bool.{leb-true, leb-false}
+use Rattle.std.specs.List.{AllByRecursion}
+use Rattle.std.specs.List.Sorted.{IsPermutation}
+use Rattle.std.proofs.lemmas.List.Elements.{filter-append}
+use Rattle.std.proofs.lemmas.List.Sorted.{IsPermutation-refl, IsPermutation-trans, IsPermutation-map, IsPermutation-append, IsPermutation-append_right, length_permutation}
+use Rattle.rstar_base.proofs.Along.{IsPermutation-same}
+use Rattle.rstar.specs.declared.replay.Command.{Command}
+use Rattle.rstar.specs.declared.replay.Command.TheVariants as command
+use Rattle.rstar.specs.declared.replay.Reply.{Reply}
+use Rattle.rstar.specs.declared.replay.Reply.TheVariants as reply
+use Rattle.rstar.specs.declared.rtree.RTree.{RTree}
+use Rattle.rstar.specs.Joins.{join}
+use Rattle.rstar.specs.Meets.{product}
+use Rattle.rstar.specs.Neighbors.{IsNearest}
+use Rattle.rstar.specs.Removals.{NoneSelected, IsTakenOut}
+use Rattle.rstar.specs.Steps.{Questions, TakesOne, TakesNearest, TakesSome, Step, Run, IsInsertion}
+use Rattle.rstar.specs.Trees.{IsUnchanged}
+use Rattle.rstar.proofs.Removed.{bag_without}
+use Rattle.rstar.proofs.Ties.{filter-along}
+
+-- ---- bags
+
+pub same_bag : {T : Type 0} (xs ys : List T) → xs ≡ ys → IsPermutation ys xs
+same_bag xs ys e = IsPermutation-same ys xs (sym e)
+
+-- ---- what is taken out
+
+module _ {T R : Type 0} (elements : R → List T) (old new : R) where
+  pub takes_one : (test : T → Bool) (r : Option T) → IfSome r (λ x. IsPermutation (elements old) (x ∷ elements new)) → IfSome r (λ x. test x ≡ true)
+      → IfNone r (NoneSelected test (elements old)) → IfNone r (new ≡ old) → TakesOne test (elements old) r (elements new)
+  takes_one test None bag passes none kept = (none, IsPermutation-same (elements old) (elements new) (sym (ap elements kept)))
+  takes_one test (Some x) bag passes none kept = (passes, bag)
+
+  pub takes_nearest : (distance : T → ℕ) (r : Option T) → IfSome r (λ x. IsPermutation (elements old) (x ∷ elements new)) → IfSome r (IsNearest distance (elements old))
+      → IfNone r (elements old ≡ []) → IfNone r (new ≡ old) → TakesNearest distance (elements old) r (elements new)
+  takes_nearest distance None bag near none kept = (none, IsPermutation-same (elements old) (elements new) (sym (ap elements kept)))
+  takes_nearest distance (Some x) bag near none kept = (near, bag)
+
+-- one more is taken out
+pub taken_more : {T : Type 0} (start taken left rest : List T) (t : T) → IsPermutation start (taken ++ left) → IsTakenOut left t rest → IsPermutation start ((taken ++ t ∷ []) ++ rest)
+taken_more start taken left rest t bag out =
+    subst (IsPermutation start) (sym (append_assoc taken (t ∷ []) rest))
+    (IsPermutation-trans _ _ _ bag (IsPermutation-append_right taken left (t ∷ rest) (bag_without left rest (Some t) out)))
+
+module _ {T : Type 0} (test : T → Bool) where
+  filter_every : (ts : List T) → AllByRecursion (λ t. test t ≡ true) ts → filter test ts ≡ ts
+  filter_every [] h = refl
+  filter_every (t ∷ ts) h = subst (λ b. (if b then t ∷ filter test ts else filter test ts) ≡ t ∷ ts) (sym h.0) (ap (λ l. t ∷ l) (filter_every ts h.1))
+
+  filter_nothing : (ts : List T) → NoneSelected test ts → filter test ts ≡ []
+  filter_nothing [] h = refl
+  filter_nothing (t ∷ ts) h = subst (λ b. (if b then t ∷ filter test ts else filter test ts) ≡ []) (sym h.0) (filter_nothing ts h.1)
+
+  filter_shorter : (ts : List T) → length (filter test ts) ≤ length ts
+  filter_shorter [] = omega arith
+  filter_shorter (t ∷ ts) = by_test (test t) (filter_shorter ts)
+    where
+      by_test : (b : Bool) → length (filter test ts) ≤ length ts → length (if b then t ∷ filter test ts else filter test ts) ≤ length (t ∷ ts)
+      by_test true le = omega (arith, le)
+      by_test false le = omega (arith, le)
+
+  -- so many as were selected of the old list: those taken, and those that are left
+  selected_in : (old taken new : List T) → IsPermutation old (taken ++ new) → AllByRecursion (λ t. test t ≡ true) taken → length (filter test old) ≡ length taken + length (filter test new)
+  selected_in old taken new bag all =
+      sym (length_permutation _ _ (filter-along test old (taken ++ new) bag)) ∙ ap length (filter-append test taken new ∙ ap (λ l. l ++ filter test new) (filter_every taken all)) ∙ length-append taken (filter test new)
+
+  -- n were taken out, or room was made for all of a shorter list, and what is left has none where fewer were taken
+  pub takes_some : (n : ℕ) (old taken new : List T) → IsPermutation old (taken ++ new) → AllByRecursion (λ t. test t ≡ true) taken → length taken ≤ min n (length old)
+      → (length taken < min n (length old) → NoneSelected test new) → TakesSome test n old taken new
+  takes_some n old taken new bag all few ended = record {
+    bag = bag;
+    selected = all;
+    count = by_test (leb (length taken + 1) (min n (length old))) refl;
+  }
+    where
+      whole : length old ≡ length taken + length new
+      whole = sym (length_permutation _ _ bag) ∙ length-append taken new
+
+      all_in : length (filter test old) ≡ length taken + length (filter test new)
+      all_in = selected_in old taken new bag all
+
+      by_test : (b : Bool) → leb (length taken + 1) (min n (length old)) ≡ b → length taken ≡ min n (length (filter test old))
+      by_test true e =
+          let less = leb-true (length taken + 1) (min n (length old)) e in
+          let nothing = ap length (filter_nothing new (ended (omega (arith, less)))) in
+          let a = few in let b = all_in in omega (arith, less, nothing, a, b)
+      by_test false e =
+          let more = leb-false (length taken + 1) (min n (length old)) e in
+          let a = few in let b = all_in in let d = whole in let f = filter_shorter new in omega (arith, more, a, b, d, f)
+
+-- the same of a drain, by the names of its caller
+pub drained_some : {T : Type 0} (test asked : T → Bool) (most room size : ℕ) (old start taken left items : List T) → asked ≡ test → start ≡ old → room ≡ min most size → size ≡ length old
+    → IsPermutation start (taken ++ left) → AllByRecursion (λ t. asked t ≡ true) taken → length taken ≤ room → (length taken < room → NoneSelected asked left) → items ≡ taken → TakesSome test most old items left
+drained_some {T} test asked most room size old start taken left items is from is_room is_size bag all few ended same =
+    let wide : room ≡ min most (length old) = is_room ∙ ap (min most) is_size in
+    subst (λ l. TakesSome test most old l left) (sym same)
+    (takes_some test most old taken left (subst (λ l. IsPermutation l (taken ++ left)) from bag) (subst (λ (f : T → Bool). AllByRecursion (λ t. f t ≡ true) taken) is all)
+    (subst (λ n. length taken ≤ n) wide few) (subst (λ n. length taken < n → NoneSelected test left) wide (subst (λ (f : T → Bool). length taken < room → NoneSelected f left) is ended)))
+
+-- ---- pairs
+
+product-along : {A B : Type 0} (xs : List A) (ys zs : List B) → IsPermutation ys zs → IsPermutation (product xs ys) (product xs zs)
+product-along [] ys zs h = IsPermutation-refl []
+product-along (x ∷ xs) ys zs h = IsPermutation-append _ _ _ _ (IsPermutation-map (λ y. (x, y)) ys zs h) (product-along xs ys zs h)
+
+pub join-along : {T E U F : Type 0} (meets : E → F → Bool) (left_box : T → E) (right_box : U → F) (ts : List T) (us vs : List U) → IsPermutation us vs
+    → IsPermutation (join meets left_box right_box ts us) (join meets left_box right_box ts vs)
+join-along meets left_box right_box ts us vs h = filter-along (λ p. meets (left_box p.0) (right_box p.1)) (product ts us) (product ts vs) (product-along ts us vs h)
+
+-- ---- steps
+
+module _ {T E P S X : Type 0} (q : Questions T E P S) where
+  -- an insertion alone is one too many
+  insertion_alone : (old new : List T) (c : Command T E P S X) → Step q old c reply.TooMany new → IsInsertion c
+  insertion_alone old new (command.Insert t) step = tt
+  insertion_alone old new c step = absurd step
+
+  pub too_many : {A : Type 0} (old new : List T) (c : Command T E P S X) (r : Reply T E P S X) → Step q old c r new → (IsInsertion c → (r ≡ reply.TooMany) ↔ A) → (r ≡ reply.TooMany) ↔ (IsInsertion c × A)
+  too_many old new c r step inserted = (
+    λ is. let alone = insertion_alone old new c (subst (λ s. Step q old c s new) is step) in (alone, (inserted alone).0 is),
+    λ both. (inserted both.0).1 both.1,
+  )
+
+  -- whatever follows, the run goes on to it from here
+  abbrev pub RunsTo : List T → List (Command T E P S X) → List (Reply T E P S X) → List T → Type 0
+  RunsTo old cs rs mid = (more : List (Command T E P S X)) (answers : List (Reply T E P S X)) (last : List T) → Run q mid more answers last → Run q old (cs ++ more) (rs ++ answers) last
+
+  -- one step more
+  pub run_more : (old mid new : List T) (cs : List (Command T E P S X)) (rs : List (Reply T E P S X)) (c : Command T E P S X) (r : Reply T E P S X)
+      → RunsTo old cs rs mid → Step q mid c r new → RunsTo old (cs ++ c ∷ []) (rs ++ r ∷ []) new
+  run_more old mid new cs rs c r runs step = λ more answers last run.
+      subst (λ (ds : List (Command T E P S X)). Run q old ds ((rs ++ r ∷ []) ++ answers) last) (sym (append_assoc cs (c ∷ []) more))
+      (subst (λ (ss : List (Reply T E P S X)). Run q old (cs ++ c ∷ more) ss last) (sym (append_assoc rs (r ∷ []) answers))
+      (runs (c ∷ more) (r ∷ answers) last (new, step, run)))
+
+  -- at the end
+  pub run_done : (old new : List T) (cs : List (Command T E P S X)) (rs : List (Reply T E P S X)) → RunsTo old cs rs new → Run q old cs rs new
+  run_done old new cs rs runs =
+      subst (λ (ds : List (Command T E P S X)). Run q old ds rs new) (append-nil cs)
+      (subst (λ (ss : List (Reply T E P S X)). Run q old (cs ++ []) ss new) (append-nil rs) (runs [] [] new (IsPermutation-refl new)))
+
+-- ---- trees
+
+pub unchanged : {T D E P S X : Type 0} (old new : RTree T D E P S X) → new ≡ old → IsUnchanged old new
+unchanged {T} {D} {E} {P} {S} {X} old new e = subst (λ (tree : RTree T D E P S X). IsUnchanged old tree) (sym e) (record { shown = refl; size = refl; elements = refl; envelopes = refl })

@@ -1,0 +1,310 @@
+-- One scan of a list of nodes for the next selected element.
+use Rattle.std.proofs.Common.{◌≡◌, ℕ, ℤ, zero, suc, ◌+◌, ◌<◌, ◌≤◌, Bool, true, false, List, [], ◌∷◌, ◌++◌, refl, sym, ◌∙◌, ap, subst, arith, length, get_or, set, take, drop, replicate, Option, Some, None, IfNone, is_some, length-set, filter, if◌then◌else◌, vec_len, vec_capacity}
+use Rattle.std.specs.List.{remove}
+use Rattle.std.proofs.lemmas.List.{append-nil, take_all, set-get_or}
+use Rattle.std.proofs.lemmas.List.Concat.{flat_map-append}
+use Rattle.rstar_base.specs.Envelopes.{Boxes, EnvelopeLaws}
+use Rattle.rstar_base.specs.Elements.{Objects, ObjectLaws}
+use Rattle.rstar_base.specs.Hulls.{hull}
+use Rattle.rstar_base.specs.Selections.{IsLawful}
+use Rattle.rstar_base.proofs.Lists.{all-append}
+use Rattle.rstar_base.proofs.Hulls.{hull-value}
+use Rattle.rstar.specs.declared.node.RTreeNode.{RTreeNode, Leaf, Parent, out-RTreeNode, roll-out-RTreeNode, roll-RTreeNode}
+use Rattle.rstar.specs.declared.node.RTreeNode.TheVariants.{outs-Leaf, outs-Parent, rolls-Leaf, rolls-Parent}
+use Rattle.rstar.specs.declared.node.RTreeNode.TheOpen as layer
+use Rattle.rstar.specs.declared.node.ParentNode.{ParentNode}
+use Rattle.rstar.specs.Nodes.{Layer, node_box, elements, all_elements, elements_of, children_of, IsElement, IsTree, IsTight, AreWhole}
+use Rattle.rstar.specs.Kept.{IsKept, IsKeptInner, AreKept}
+use Rattle.rstar.specs.Removals.{NoneSelected, IsWithout}
+use Rattle.rstar.specs.Taking.{IsPast, Takes, TakesInside, first_children, node_children, children_in, with_first, first_number, lower_numbers, is_selected_leaf, selects_in, is_childless, childless_in, is_nil}
+use Rattle.rstar.proofs.Places.{all_set, all_get}
+use Rattle.rstar.proofs.Rows.{elements-Leaf, elements-Parent, is_leaf, parent_of, no_leaf, no_parent, IsParentOf-Parent}
+use Rattle.rstar.proofs.Trees.{all_sound, values-of, merged_is_hull}
+use Rattle.rstar.proofs.Insertion.{whole_of_kept}
+use Rattle.rstar.proofs.Complete.{none-selected}
+use Rattle.rstar.proofs.Parts.{take_removed, drop_removed, drop_here, drop_end, same_without, take_set, drop_set, take_set_more, remove_set, without_middle, elements_split, elements_set, elements_removed, past_parts, past_made, past_zeros, past_nothing, all_take, all_drop, shorter_removed}
+
+-- all leaves of the node lie h levels below it, its parents are tight and have room
+abbrev pub IsKeptNode : {T E P S X : Type 0} → Boxes E → Objects T E → ℕ → ℕ → ℕ → RTreeNode T E P S X → Type 0
+IsKeptNode v o m w h n = IsTree (IsKeptInner v o m w) (IsElement v o) h n
+
+abbrev elements_in_layer : {T E P S X : Type 0} → Layer T E P S X → List T
+elements_in_layer (layer.Leaf t) = t ∷ []
+elements_in_layer (layer.Parent p) = all_elements (children_of p)
+
+-- the nodes in front of i were passed over, and none was changed
+pub record Scanned {T E P S X : Type 0} (v : Boxes E) (o : Objects T E) (accepts : E → Bool) (selects : T → Bool)
+    (old : List (RTreeNode T E P S X)) (start : List ℕ) (cur : List (RTreeNode T E P S X)) (path : List ℕ) (i : ℕ) : Type 0 where
+  pub same : cur ≡ old
+  pub past : IsLawful v o accepts selects → (m w h : ℕ) → AreKept v o m w h old → IsPast selects start old
+      → NoneSelected selects (all_elements (take i cur)) × IsPast selects (lower_numbers path) (first_children (drop i cur))
+
+pub if_none : {A P Q : Type 0} (r : Option A) → (P → Q) → IfNone r P → IfNone r Q
+if_none None f p = f p
+if_none (Some x) f p = p
+
+pub none_gives : {A P : Type 0} (r : Option A) → is_some r ≡ false → IfNone r P → P
+none_gives None none p = p
+none_gives (Some x) none p = cc
+
+pub some_one : {A : Type 0} (P : Type 0) (r : Option A) → is_some r ≡ true → IfNone r P
+some_one P None some = cc
+some_one P (Some x) some = tt
+
+-- where a filter keeps nothing, nothing is selected
+filter_none : {T : Type 0} (selects : T → Bool) (ts : List T) → filter selects ts ≡ [] → NoneSelected selects ts
+filter_none selects [] e = tt
+filter_none {T} selects (t ∷ ts) e = by_test (selects t) refl e (filter_none selects ts) where
+  by_test : (b : Bool) → selects t ≡ b → (if b then t ∷ filter selects ts else filter selects ts) ≡ [] → (filter selects ts ≡ [] → NoneSelected selects ts) → NoneSelected selects (t ∷ ts)
+  by_test true is f rest = cc
+  by_test false is f rest = (is, rest f)
+
+module _ {T E P S X : Type 0} where
+  -- a leaf's element, or those of a parent's children
+  pub elements_is : (n : RTreeNode T E P S X) → elements n ≡ elements_in_layer (out-RTreeNode T E P S X n)
+  elements_is n = by_layer (out-RTreeNode T E P S X n) (sym (roll-out-RTreeNode T E P S X n)) where
+    by_layer : (x : Layer T E P S X) → n ≡ roll-RTreeNode T E P S X x → elements n ≡ elements_in_layer x
+    by_layer (layer.Leaf t) e = ap elements (e ∙ rolls-Leaf t) ∙ elements-Leaf T E P S X t
+    by_layer (layer.Parent p) e = ap elements (e ∙ rolls-Parent p) ∙ elements-Parent p
+
+  opened_none : (selects : T → Bool) (x : Layer T E P S X) → selects_in selects x ≡ false → NoneSelected selects (all_elements (children_in x)) → NoneSelected selects (elements_in_layer x)
+  opened_none selects (layer.Leaf t) chosen below = (chosen, tt)
+  opened_none selects (layer.Parent p) chosen below = below
+
+  -- nothing in a node is selected, where it is no selected leaf and nothing below it is selected
+  pub node_none : (selects : T → Bool) (n : RTreeNode T E P S X) → is_selected_leaf selects n ≡ false → NoneSelected selects (all_elements (node_children n)) → NoneSelected selects (elements n)
+  node_none selects n chosen below = subst (NoneSelected selects) (sym (elements_is n)) (opened_none selects (out-RTreeNode T E P S X n) chosen below)
+
+  nil_none : (ns : List (RTreeNode T E P S X)) → is_nil ns ≡ true → all_elements ns ≡ []
+  nil_none [] empty = refl
+  nil_none (n ∷ ns) empty = cc
+
+  childless_none : (x : Layer T E P S X) → childless_in x ≡ true → elements_in_layer x ≡ []
+  childless_none (layer.Leaf t) empty = cc
+  childless_none (layer.Parent p) empty = nil_none (children_of p) empty
+
+  pub no_elements : (n : RTreeNode T E P S X) → is_childless n ≡ true → elements n ≡ []
+  no_elements n empty = elements_is n ∙ childless_none (out-RTreeNode T E P S X n) empty
+
+  nil_some : (ns : List (RTreeNode T E P S X)) → is_nil ns ≡ false → 0 < length ns
+  nil_some [] e = cc
+  nil_some (n ∷ ns) e = omega arith
+
+  children_parent : (p : ParentNode T E P S X) → node_children (Parent p) ≡ p.children.items
+  children_parent p = ap children_in (outs-Parent p)
+
+  children_leaf : (n : RTreeNode T E P S X) (t : T) → n ≡ Leaf t → node_children n ≡ []
+  children_leaf n t e = ap node_children e ∙ ap children_in (outs-Leaf t)
+
+  childless_parent : (p : ParentNode T E P S X) → is_childless (Parent p) ≡ is_nil p.children.items
+  childless_parent p = ap childless_in (outs-Parent p)
+
+  module _ (v : Boxes E) (o : Objects T E) (m w : ℕ) where
+    leaves_alone : (ns : List (RTreeNode T E P S X)) → AreKept v o m w 0 ns → first_children ns ≡ []
+    leaves_alone [] k = refl
+    leaves_alone (n ∷ ns) k = let l = is_leaf (IsElement v o) n k.0 in children_leaf n l.0 l.1
+
+    leaf_no_parent : (h : ℕ) (n : RTreeNode T E P S X) (t : T) → n ≡ Leaf t → IsKeptNode v o m w (suc h) n → ⊥
+    leaf_no_parent h n t e k = no_parent _ t (subst (IsKeptNode v o m w (suc h)) e k)
+
+    below_then : (A : Type 0) (h : ℕ) (p : ParentNode T E P S X) → IsKeptNode v o m w h (Parent p) → ((h : ℕ) → IsKept v o m w p → AreKept v o m w h p.children.items → A) → A
+    below_then A zero p k f = absurd (no_leaf _ p k)
+    below_then A (suc h) p k f = let a = parent_of _ p k in f h a.0.0 a.1
+
+    whole_again : (h : ℕ) (p q : ParentNode T E P S X) → ((h : ℕ) → IsKept v o m w p → AreKept v o m w h p.children.items → IsKept v o m w q × AreKept v o m w h q.children.items)
+        → IsKeptNode v o m w h (Parent p) → is_childless (Parent q) ≡ false → IsKeptNode v o m w h (Parent q)
+    whole_again zero p q f k has = absurd (no_leaf _ p k)
+    whole_again (suc h) p q f k has =
+        let a = parent_of _ p k in let b = f h a.0.0 a.1 in
+        IsParentOf-Parent _ q ((b.0, nil_some q.children.items (sym (childless_parent q) ∙ has)), b.1)
+
+-- where a tight parent is not opened, nothing below it is selected
+module _ {T E : Type 0} {IsPoint : List ℤ → Type 0} {v : Boxes E} {o : Objects T E} (laws : EnvelopeLaws IsPoint v) (ok : ObjectLaws v o)
+    (accepts : E → Bool) (selects : T → Bool) {P S X : Type 0} where
+  pub refused : IsLawful v o accepts selects → (h : ℕ) (p : ParentNode T E P S X) → IsTight v o p → AreWhole v o h p.children.items → accepts p.envelope ≡ false
+      → NoneSelected selects (all_elements p.children.items)
+  refused lawful h p tight below no_entry =
+      let all = all_sound v o h p.children.items below in
+      let vm = hull-value laws o.box_of (elements_of p) (values-of laws ok (elements_of p) all) in
+      filter_none selects (elements_of p)
+      (none-selected laws ok accepts selects lawful (elements_of p) v.empty all laws.empty_value (ap accepts (laws.merge_empty _ vm ∙ sym tight) ∙ no_entry))
+
+module _ {T E P S X : Type 0} (v : Boxes E) (o : Objects T E) (accepts : E → Bool) (selects : T → Bool) where
+  -- a parent that was opened
+  pub entered : (p q : ParentNode T E P S X) (path path' : List ℕ) (r : Option T)
+      → Takes v o accepts selects p.children.items path r q.children.items path'
+      → ((m w h : ℕ) → IsKept v o m w p → AreKept v o m w h p.children.items → IsKept v o m w q) → IfNone r (q ≡ p)
+      → TakesInside v o accepts selects (Parent p) path r (Parent q) path'
+  entered p q path path' r takes kept same = record {
+    taken = rw (elements-Parent p, elements-Parent q) takes.taken;
+    selected = takes.selected;
+    whole = λ m w h k has. whole_again v o m w h p q (λ h' a b. (kept m w h' a b, takes.whole m w h' b)) k has;
+    kept = if_none r (λ (e : q ≡ p). ap Parent e) same;
+    past = λ lawful m w h k past.
+        let before : IsPast selects path p.children.items = subst (IsPast selects path) (children_parent p) past in
+        subst (IsPast selects path') (sym (children_parent q))
+        (below_then v o m w (IsPast selects path' q.children.items) h p k (λ h' a b. takes.past lawful m w h' b before));
+    missed = if_none r (λ (missed : IsLawful v o accepts selects → (m w h : ℕ) → AreKept v o m w h p.children.items → IsPast selects path p.children.items → NoneSelected selects (all_elements p.children.items)).
+        λ lawful m w h k past.
+        let before : IsPast selects path p.children.items = subst (IsPast selects path) (children_parent p) past in
+        subst (λ (ns : List (RTreeNode T E P S X)). NoneSelected selects (all_elements ns)) (sym (children_parent p))
+        (below_then v o m w (NoneSelected selects (all_elements p.children.items)) h p k (λ h' a b. missed lawful m w h' b before))) takes.missed;
+  }
+
+  -- a parent that was not opened
+  pub not_entered : {IsPoint : List ℤ → Type 0} (laws : EnvelopeLaws IsPoint v) (ok : ObjectLaws v o) (p : ParentNode T E P S X) (path : List ℕ) → accepts p.envelope ≡ false
+      → TakesInside v o accepts selects (Parent p) path None (Parent p) path
+  not_entered laws ok p path no_entry = record {
+    taken = refl;
+    selected = tt;
+    whole = λ m w h k has. k;
+    kept = refl;
+    past = λ lawful m w h k past. past;
+    missed = λ lawful m w h k past. subst (λ (ns : List (RTreeNode T E P S X)). NoneSelected selects (all_elements ns)) (sym (children_parent p))
+        (below_then v o m w (NoneSelected selects (all_elements p.children.items)) h p k (λ h' a b. refused laws ok accepts selects lawful h' p a.tight (whole_of_kept laws ok m w h' p.children.items b) no_entry));
+  }
+
+  -- before the first node
+  pub begins : (ns : List (RTreeNode T E P S X)) (path : List ℕ) (i : ℕ) → i ≡ first_number path → Scanned v o accepts selects ns path ns path i
+  begins ns path i e = record {
+    same = refl;
+    past = λ lawful m w h k past.
+        subst (λ (j : ℕ). NoneSelected selects (all_elements (take j ns)) × IsPast selects (lower_numbers path) (first_children (drop j ns))) (sym e) (past_parts selects path ns past);
+  }
+
+  module _ (old : List (RTreeNode T E P S X)) (start : List ℕ) (cur : List (RTreeNode T E P S X)) (path : List ℕ) (i : ℕ) (s : Scanned v o accepts selects old start cur path i) where
+    same_length : length cur ≡ length old
+    same_length = ap length s.same
+
+    kept_now : (m w h : ℕ) → AreKept v o m w h old → AreKept v o m w h cur
+    kept_now m w h k = subst (AreKept v o m w h) (sym s.same) k
+
+    without_one : (m w h : ℕ) → AreKept v o m w h cur → AreKept v o m w h (remove cur i)
+    without_one m w h k = all-append (IsKeptNode v o m w h) (take i cur) (drop (suc i) cur) (all_take (IsKeptNode v o m w h) i cur k) (all_drop (IsKeptNode v o m w h) (suc i) cur k)
+
+    here_whole : (m w h : ℕ) (n : RTreeNode T E P S X) → i < length cur → n ≡ get_or cur i n → AreKept v o m w h cur → IsKeptNode v o m w h n
+    here_whole m w h n within here k = subst (IsKeptNode v o m w h) (sym here) (all_get (IsKeptNode v o m w h) cur i n within k)
+
+    -- beside a leaf stand leaves alone
+    beside_leaf : (m w h : ℕ) (t : T) → i < length cur → Leaf t ≡ get_or cur i (Leaf t) → AreKept v o m w h cur
+        → IsPast selects (lower_numbers path) (first_children (drop (suc i) cur))
+    beside_leaf m w zero t within here k =
+        subst (IsPast selects (lower_numbers path)) (sym (leaves_alone v o m w (drop (suc i) cur) (all_drop (IsKeptNode v o m w 0) (suc i) cur k)))
+        (past_nothing E P S X selects (lower_numbers path))
+    beside_leaf m w (suc h) t within here k = absurd (leaf_no_parent v o m w h (get_or cur i (Leaf t)) t (sym here) (all_get (IsKeptNode v o m w (suc h)) cur i (Leaf t) within k))
+
+    -- the node at i is a leaf that is given
+    pub gives_leaf : (t : T) → i < length cur → Leaf t ≡ get_or cur i (Leaf t) → selects t ≡ true
+        → Takes v o accepts selects old start (Some t) (remove cur i) (with_first path i)
+    gives_leaf t within here chosen =
+        let parts : all_elements cur ≡ all_elements (take i cur) ++ ((t ∷ []) ++ all_elements (drop (suc i) cur)) =
+        elements_split cur i (Leaf t) within here ∙ ap (λ (z : List T). all_elements (take i cur) ++ (z ++ all_elements (drop (suc i) cur))) (elements-Leaf T E P S X t) in
+        let short = shorter_removed cur i in let len = same_length in
+        record {
+          taken = record { before = all_elements (take i cur); after = all_elements (drop (suc i) cur); was = sym (ap all_elements s.same) ∙ parts; is = elements_removed cur i };
+          selected = chosen;
+          whole = λ m w h k. without_one m w h (kept_now m w h k);
+          shorter = omega arith;
+          past = λ lawful m w h k past. past_made selects path (remove cur i) i
+              (subst (λ (ns : List (RTreeNode T E P S X)). NoneSelected selects (all_elements ns)) (sym (take_removed cur i within)) (s.past lawful m w h k past).0)
+              (subst (λ (ns : List (RTreeNode T E P S X)). IsPast selects (lower_numbers path) (first_children ns)) (sym (drop_removed cur i within)) (beside_leaf m w h t within here (kept_now m w h k)));
+          missed = tt;
+        }
+
+    module _ (n n' : RTreeNode T E P S X) (path' : List ℕ) (r : Option T) (within : i < length cur) (here : n ≡ get_or cur i n)
+        (ins : TakesInside v o accepts selects n (lower_numbers path) r n' (lower_numbers path')) where
+      -- what the list holds with n' in the place of n
+      pub without_here : IsWithout (all_elements old) r (all_elements (set cur i n'))
+      without_here =
+          same_without (all_elements (take i cur) ++ (elements n ++ all_elements (drop (suc i) cur))) (all_elements old)
+          (all_elements (take i cur) ++ (elements n' ++ all_elements (drop (suc i) cur))) (all_elements (set cur i n')) r
+          (sym (elements_split cur i n within here) ∙ ap all_elements s.same) (sym (elements_set cur i n' within))
+          (without_middle (all_elements (take i cur)) (elements n) (elements n') (all_elements (drop (suc i) cur)) r ins.taken)
+
+      before_here : IsLawful v o accepts selects → (m w h : ℕ) → AreKept v o m w h old → IsPast selects start old → NoneSelected selects (all_elements (take i cur))
+      before_here lawful m w h k past = (s.past lawful m w h k past).0
+
+      below_here : IsLawful v o accepts selects → (m w h : ℕ) → AreKept v o m w h old → IsPast selects start old → IsPast selects (lower_numbers path) (node_children n)
+      below_here lawful m w h k past = subst (λ (ns : List (RTreeNode T E P S X)). IsPast selects (lower_numbers path) (first_children ns)) (drop_here cur i n within here) (s.past lawful m w h k past).1
+
+      -- something below the node at i was given, and the node stays
+      pub gives_inside : is_some r ≡ true → is_childless n' ≡ false → Takes v o accepts selects old start r (set cur i n') (with_first path' i)
+      gives_inside some has =
+          let len = same_length in let long = length-set cur i n' in
+          record {
+            taken = without_here;
+            selected = ins.selected;
+            whole = λ m w h k. all_set (IsKeptNode v o m w h) cur i n' (kept_now m w h k) (ins.whole m w h (here_whole m w h n within here (kept_now m w h k)) has);
+            shorter = omega arith;
+            past = λ lawful m w h k past. past_made selects path' (set cur i n') i
+                (subst (λ (ns : List (RTreeNode T E P S X)). NoneSelected selects (all_elements ns)) (sym (take_set cur i n' within)) (before_here lawful m w h k past))
+                (subst (λ (ns : List (RTreeNode T E P S X)). IsPast selects (lower_numbers path') (first_children ns)) (sym (drop_set cur i n' within))
+                (ins.past lawful m w h (here_whole m w h n within here (kept_now m w h k)) (below_here lawful m w h k past)));
+            missed = some_one _ r some;
+          }
+
+      -- something below the node at i was given, and it was the last thing there
+      pub gives_last : is_some r ≡ true → is_childless n' ≡ true → (path'' : List ℕ) (d : ℕ) → lower_numbers path'' ≡ replicate d 0
+          → Takes v o accepts selects old start r (remove (set cur i n') i) (with_first path'' i)
+      gives_last some empty path'' d cleared =
+          let len = same_length in let long = length-set cur i n' in let short = shorter_removed (set cur i n') i in
+          record {
+            taken = same_without (all_elements old) (all_elements old) (all_elements (set cur i n')) (all_elements (remove (set cur i n') i)) r refl
+                (elements_set cur i n' within ∙ ap (λ (z : List T). all_elements (take i cur) ++ (z ++ all_elements (drop (suc i) cur))) (no_elements n' empty)
+                ∙ sym (elements_removed cur i) ∙ ap all_elements (sym (remove_set cur i n' within))) without_here;
+            selected = ins.selected;
+            whole = λ m w h k. subst (AreKept v o m w h) (sym (remove_set cur i n' within)) (without_one m w h (kept_now m w h k));
+            shorter = omega arith;
+            past = λ lawful m w h k past. past_made selects path'' (remove (set cur i n') i) i
+                (subst (λ (ns : List (RTreeNode T E P S X)). NoneSelected selects (all_elements ns)) (sym (ap (take i) (remove_set cur i n' within) ∙ take_removed cur i within)) (before_here lawful m w h k past))
+                (subst (λ (q : List ℕ). IsPast selects q (first_children (drop i (remove (set cur i n') i)))) (sym cleared) (past_zeros selects d (first_children (drop i (remove (set cur i n') i)))));
+            missed = some_one _ r some;
+          }
+
+    module _ (n n' : RTreeNode T E P S X) (path' : List ℕ) (within : i < length cur) (here : n ≡ get_or cur i n)
+        (ins : TakesInside v o accepts selects n (lower_numbers path) None n' (lower_numbers path')) where
+      -- the node at i is passed over
+      pub passes : is_selected_leaf selects n ≡ false → (path'' : List ℕ) (d : ℕ) → lower_numbers path'' ≡ replicate d 0
+          → Scanned v o accepts selects old start (set cur i n') path'' (i + 1)
+      passes chosen path'' d cleared = record {
+        same = ap (λ z. set cur i z) ins.kept ∙ ap (set cur i) here ∙ set-get_or cur i n ∙ s.same;
+        past = λ lawful m w h k past. (
+          subst (λ (ns : List (RTreeNode T E P S X)). NoneSelected selects (all_elements ns)) (sym (take_set_more cur i n' within))
+              (subst (NoneSelected selects) (sym (flat_map-append elements (take i cur) (n' ∷ [])))
+              (all-append (λ t. selects t ≡ false) (all_elements (take i cur)) (elements n' ++ []) ((s.past lawful m w h k past).0)
+              (subst (NoneSelected selects) (sym (append-nil (elements n') ∙ ins.taken))
+              (node_none selects n chosen (ins.missed lawful m w h (here_whole m w h n within here (kept_now m w h k)) (below_here n n' path' None within here ins lawful m w h k past)))))),
+          subst (λ (q : List ℕ). IsPast selects q (first_children (drop (i + 1) (set cur i n')))) (sym cleared) (past_zeros selects d (first_children (drop (i + 1) (set cur i n')))),
+        );
+      }
+
+    pub passes_any : (n n' : RTreeNode T E P S X) (path' : List ℕ) (r : Option T) → is_some r ≡ false → i < length cur → n ≡ get_or cur i n
+        → TakesInside v o accepts selects n (lower_numbers path) r n' (lower_numbers path') → is_selected_leaf selects n ≡ false
+        → (path'' : List ℕ) (d : ℕ) → lower_numbers path'' ≡ replicate d 0 → Scanned v o accepts selects old start (set cur i n') path'' (i + 1)
+    passes_any n n' path' None nothing within here ins chosen path'' d cleared = passes n n' path' within here ins chosen path'' d cleared
+    passes_any n n' path' (Some x) nothing within here ins chosen path'' d cleared = cc
+
+    -- all nodes were passed over
+    pub finishes : length cur ≤ i → (e : ℕ) → e ≡ length cur → Takes v o accepts selects old start None cur (with_first path e)
+    finishes over e at_end = let len = same_length in record {
+      taken = ap all_elements s.same;
+      selected = tt;
+      whole = kept_now;
+      shorter = omega arith;
+      past = λ lawful m w h k past. past_made selects path cur e
+          (subst (λ (ns : List (RTreeNode T E P S X)). NoneSelected selects (all_elements ns)) (take_all i cur over ∙ sym (take_all e cur (omega arith))) (s.past lawful m w h k past).0)
+          (subst (λ (ns : List (RTreeNode T E P S X)). IsPast selects (lower_numbers path) (first_children ns)) (sym (ap (λ (j : ℕ). drop j cur) at_end ∙ drop_end cur)) (past_nothing E P S X selects (lower_numbers path)));
+      missed = λ lawful m w h k past. subst (NoneSelected selects) (ap all_elements (take_all i cur over ∙ s.same)) (s.past lawful m w h k past).0;
+    }
+
+-- a parent whose list lost some children, and whose envelope was made anew, is kept
+module _ {T E : Type 0} {IsPoint : List ℤ → Type 0} {v : Boxes E} {o : Objects T E} (laws : EnvelopeLaws IsPoint v) (ok : ObjectLaws v o) (m w : ℕ) {P S X : Type 0} where
+  pub kept_anew : (h : ℕ) (p q : ParentNode T E P S X) → IsKept v o m w p → AreKept v o m w h q.children.items → length q.children.items ≤ length p.children.items
+      → vec_len q.children ≡ length q.children.items → vec_len p.children ≡ length p.children.items → vec_capacity q.children ≡ vec_capacity p.children
+      → q.envelope ≡ hull v (node_box o.box_of) q.children.items → IsKept v o m w q
+  kept_anew h p q kept below short ql pl same made =
+      let narrow = kept.roomy.narrow in let room = kept.roomy.room.0 in let wide = kept.roomy.room.1 in
+      record {
+        tight = made ∙ merged_is_hull laws ok h q.children.items (whole_of_kept laws ok m w h q.children.items below);
+        roomy = record { narrow = omega arith; room = (omega arith, omega arith) };
+      }

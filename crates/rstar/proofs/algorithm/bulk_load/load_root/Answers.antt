@@ -1,0 +1,22 @@
+use Rattle.std.proofs.Common.{ℕ, Result, Ok, Err, IfOk, subst, sym}
+use Rattle.std.proofs.lemmas.List.Sorted.{length_permutation}
+use Rattle.rstar.specs.Nodes.{elements_of}
+use Rattle.rstar.specs.Loaded.{EndsAt, IsLoadDepth}
+use Rattle.rstar.proofs.algorithm.bulk_load.load_root.Goals as goal
+
+both : {A E : Type 0} (P Q R : A → Type 0) (r : Result A E) → ((x : A) → P x → Q x → R x) → IfOk r P → IfOk r Q → IfOk r R
+both P Q R (Ok x) f p q = f x p q
+both P Q R (Err e) f p q = tt
+
+pub returns-clause-loaded : goal.returns-clause-loaded
+returns-clause-loaded g c =
+    let ends = EndsAt g.Params.RTreeParams.MAX_SIZE g.T.Envelope.Point.Point.DIMENSIONS c.args.levels in
+    let is_depth = λ (n : ℕ). IsLoadDepth g.Params.RTreeParams.MAX_SIZE g.T.Envelope.Point.Point.DIMENSIONS n c.args.levels in
+    both _ _ _ c.load_node.result (λ root same fresh.
+    let long = length_permutation c.args.elements.items (elements_of root) same in
+    record {
+      levels = c.args.levels;
+      cut = fresh.cut;
+      small = fresh.small (subst ends (sym long) c.requires.depth.ends);
+      depth = subst is_depth (sym long) c.requires.depth;
+    }) c.load_node.ensures.same c.load_node.ensures.fresh

@@ -1,0 +1,14 @@
+use Rattle.std.proofs.Common.{ap, map, reverse}
+use Rattle.rstar.specs.IntoIters.{left_to_give, IsGiving}
+use Rattle.rstar.proofs.Giving.{begins_below}
+use Rattle.rstar.proofs.iterators.into_iter.IntoIter.new.Goals as goal
+
+pub returns-clause-all : goal.returns-clause-all
+unfolding left_to_give
+returns-clause-all g c =
+    ap reverse (begins_below g.T.Envelope.Envelope.boxes g.T.RTreeObject.object c.args.root _ _ c.requires.whole (ap (map (λ v. v.items)) c.requires.empty) c.requires.room).1
+
+pub returns-clause-giving : goal.returns-clause-giving
+unfolding IsGiving
+returns-clause-giving g c =
+    (begins_below g.T.Envelope.Envelope.boxes g.T.RTreeObject.object c.args.root _ _ c.requires.whole (ap (map (λ v. v.items)) c.requires.empty) c.requires.room).0

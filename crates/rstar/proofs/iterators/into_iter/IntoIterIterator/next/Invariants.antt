@@ -1,0 +1,14 @@
+use Rattle.std.proofs.Common.{◌≡◌, vec_capacity}
+use Rattle.rstar.specs.IntoIters.{lists_of, elements_held, HasItsLists}
+use Rattle.rstar.proofs.Giving.{steps_in}
+use Rattle.rstar.proofs.iterators.into_iter.IntoIterIterator.next.Given as goal
+
+-- the same elements
+abbrev pub invariant-loop-last : goal.invariant-loop-last
+invariant-loop-last g l = record {
+  giving : HasItsLists (vec_capacity l.self.path) (lists_of l.self);
+  same : elements_held (lists_of l.initial.self) ≡ elements_held (lists_of l.self);
+}
+
+abbrev pub decreases-loop-last : goal.decreases-loop-last
+decreases-loop-last g l = steps_in (lists_of l.self)

@@ -1,0 +1,20 @@
+use Rattle.std.proofs.Common.{◌≡◌}
+use Rattle.rstar.specs.JoinWalks.{frames_of, pairs_by, HasItsPaths, steps_of_frames}
+use Rattle.rstar.specs.Joins.{meets_by, left_root, right_root}
+use Rattle.rstar.proofs.iterators.joins.IntersectionIteratorIterator.next.Given as goal
+
+-- the same join, with the same to come
+abbrev pub invariant-loop-t : goal.invariant-loop-t
+invariant-loop-t g l =
+    let meets = meets_by g.T.Envelope.Envelope.boxes g.U.InEnvelope.seen in
+    let left_box = g.T.RTreeObject.object.box_of in
+    let right_box = g.U.RTreeObject.object.box_of in
+    record {
+      joining : HasItsPaths meets left_box right_box l.self;
+      same : pairs_by meets left_box right_box l.initial.self ≡ pairs_by meets left_box right_box l.self;
+      left : left_root l.self ≡ left_root l.initial.self;
+      right : right_root l.self ≡ right_root l.initial.self;
+    }
+
+abbrev pub decreases-loop-t : goal.decreases-loop-t
+decreases-loop-t g l = steps_of_frames (frames_of l.self)

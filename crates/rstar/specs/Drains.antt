@@ -1,0 +1,64 @@
+-- What a drain shows, and what it keeps.
+use Rattle.std.specs.Prelude.{◌≡◌, ℕ, Bool, true, List, Option, Result, Vec, IfSome, IfNone}
+use Rattle.std.specs.Borrow.{MutBor, Fml, RestsIfErr}
+use Rattle.std.specs.declared.alloc.Global.{Global}
+use denote.RattleType.{RattleType}
+use Rattle.rstar_base.specs.Envelopes.{Boxes}
+use Rattle.rstar_base.specs.Elements.{Objects}
+use Rattle.rstar_base.specs.Selections.{IsLawful}
+use Rattle.rstar.specs.declared.rtree.RTree.{RTree}
+use Rattle.rstar.specs.declared.iterators.drain.DrainIterator.{DrainIterator}
+use Rattle.rstar.specs.contracts.rtree.RTree.{the_row as tree_row}
+use Rattle.rstar.specs.Nodes.{children_of}
+use Rattle.rstar.specs.Trees.{root_of, elements_in, IsWholeTree}
+use Rattle.rstar.specs.Removals.{NoneSelected, IsWithout}
+use Rattle.rstar.specs.Taking.{IsPast}
+
+-- ---- what it shows: the tree that it drains, the tree's elements, and its question
+
+abbrev pub drained : {T F D Q E P S X : Type 0} → DrainIterator T F D Q E P S X → RTree T D E P S X
+drained it = it.tree.now
+
+abbrev pub elements_left : {T F D Q E P S X : Type 0} → DrainIterator T F D Q E P S X → List T
+elements_left it = elements_in (drained it)
+
+abbrev pub drain_question : {T F D Q E P S X : Type 0} → DrainIterator T F D Q E P S X → F
+drain_question it = it.func
+
+module _ (T D E P S X : RattleType) where
+  -- where the drain was refused, the tree that it was asked of is left as it was
+  abbrev pub LeavesRefused : {F Q A : Type 0} → MutBor (RTree T.Denot D.Denot E.Denot P.Denot S.Denot X.Denot)
+      → Result (DrainIterator T.Denot F D.Denot Q E.Denot P.Denot S.Denot X.Denot) A → Fml
+  LeavesRefused tree r =
+      RestsIfErr (tree_row T D E P S X) tree (λ it. it.tree.ghost_name) r (λ n. n ≡ tree.now)
+
+-- a drain of a lawful question, which selects these elements
+pub record DrainsBy {T F D E P S X : Type 0} (v : Boxes E) (o : Objects T E) (accepts : F → E → Bool)
+    (selects : F → T → Bool) (asked : T → Bool) (it : DrainIterator T F D (Vec ℕ Global) E P S X) : Type 0 where
+  pub lawful : IsLawful v o (accepts (drain_question it)) (selects (drain_question it))
+  pub asks : selects (drain_question it) ≡ asked
+
+module _ {T F D E P S X : Type 0} (v : Boxes E) (o : Objects T E) (max : ℕ) (accepts : F → E → Bool)
+    (selects : F → T → Bool) where
+  -- a whole tree, with nothing that is selected left of the place from which the drain goes on
+  abbrev pub HasItsPlace : DrainIterator T F D (Vec ℕ Global) E P S X → Type 0
+  HasItsPlace it = IsWholeTree v o max (drained it)
+      × (IsLawful v o (accepts (drain_question it)) (selects (drain_question it))
+      → IsPast (selects (drain_question it)) it.path.items (children_of (root_of (drained it))))
+
+  -- what it keeps, so that `next` may be called
+  unfoldable pub IsDraining : DrainIterator T F D (Vec ℕ Global) E P S X → Type 0
+  IsDraining it = HasItsPlace it
+
+  -- a call of `next` takes a selected element out of the tree, which stays whole; where it gives none, none is selected
+  -- and the tree is as it was
+  pub record TakesNext (old : DrainIterator T F D (Vec ℕ Global) E P S X) (r : Option T)
+      (new : DrainIterator T F D (Vec ℕ Global) E P S X) : Type 0 where
+    pub taken : IsWithout (elements_left old) r (elements_left new)
+    pub selected : IfSome r (λ x. selects (drain_question old) x ≡ true)
+    pub ended : IfNone r (IsLawful v o (accepts (drain_question old)) (selects (drain_question old))
+        → NoneSelected (selects (drain_question old)) (elements_left old))
+    pub kept : IfNone r (drained new ≡ drained old)
+    pub whole : IsWholeTree v o max (drained new)
+    pub question : drain_question new ≡ drain_question old
+    pub draining : IsDraining new

@@ -1,0 +1,78 @@
+-- Pairs of nodes of two trees: what a join of the two gives, and what it counts.
+-- T, E, P, S, X are the types of the left tree as in Nodes, and U, F, Q, R, Y those of the right one. `meets` says
+-- whether an envelope of the left tree intersects one of the right tree.
+use Rattle.std.specs.Prelude.{ℕ, ◌+◌, Bool, false, List, [], ◌∷◌, ◌++◌, map, flat_map, sum_by, if◌then◌else◌}
+use Rattle.rstar.specs.declared.node.RTreeNode.{RTreeNode}
+use Rattle.rstar.specs.declared.node.RTreeNode.TheOpen as layer
+use Rattle.rstar.specs.declared.node.ParentNode.{ParentNode}
+use Rattle.rstar.specs.Nodes.{Layer, layer_of, fold_tree, total, reach, given, node_box}
+use Rattle.rstar.specs.Nodes.{is_leaf_node, children_of, envelope_of}
+
+-- each item of the first list with each of the second
+abbrev pub product : {A B : Type 0} → List A → List B → List (A × B)
+product [] ys = []
+product (x ∷ xs) ys = map (λ y. (x, y)) ys ++ product xs ys
+
+-- the nodes that come after a node: a parent's children, and a leaf itself
+abbrev pub next_nodes : {T E P S X : Type 0} → RTreeNode T E P S X → Layer T E P S X → List (RTreeNode T E P S X)
+next_nodes n (layer.Leaf t) = n ∷ []
+next_nodes n (layer.Parent p) = children_of p
+
+unfoldable pub opened_to : {T E P S X : Type 0} → RTreeNode T E P S X → List (RTreeNode T E P S X)
+opened_to n = next_nodes n (layer_of n)
+
+-- whether two nodes are both leaves
+abbrev pub both_leaves : {T E P S X U F Q R Y : Type 0} → RTreeNode T E P S X → RTreeNode U F Q R Y → Bool
+both_leaves l r = if is_leaf_node l then is_leaf_node r else false
+
+-- how many parents from a node on have an envelope that a test accepts, whatever is above them
+unfoldable pub count_parents : {T E P S X : Type 0} → (E → Bool) → RTreeNode T E P S X → ℕ
+count_parents accepts n = fold_tree (λ t. 0) (λ e below. (if accepts e then 1 else 0) + total below) n
+
+module _ {T E P S X U F Q R Y : Type 0} (meets : E → F → Bool) (left_box : T → E) (right_box : U → F) where
+  -- Meet, from two nodes on: the pairs of nodes, not both leaves, that meet, and that lie equally far below the two, or
+  -- of which the nearer one is a leaf. Beside a leaf the other node goes on alone.
+  unfoldable pub meet : RTreeNode T E P S X → RTreeNode U F Q R Y → ℕ
+  meet l r = fold_tree {A = RTreeNode U F Q R Y → ℕ}
+      (λ t r. count_parents (meets (left_box t)) r)
+      (λ e below r. (if meets e (node_box right_box r) then 1 else 0)
+      + sum_by (λ p. p.0 p.1) (product below (opened_to r)))
+      l r
+
+  -- Meet of two roots; 0 where one has no children
+  abbrev pub meet_of_children : E → F → List (RTreeNode T E P S X) → List (RTreeNode U F Q R Y) → ℕ
+  meet_of_children e f [] rs = 0
+  meet_of_children e f (l ∷ ls) [] = 0
+  meet_of_children e f (l ∷ ls) (r ∷ rs) =
+      (if meets e f then 1 else 0) + sum_by (λ p. meet p.0 p.1) (product (l ∷ ls) (r ∷ rs))
+
+  abbrev pub meet_of_roots : ParentNode T E P S X → ParentNode U F Q R Y → ℕ
+  meet_of_roots left right =
+      meet_of_children (envelope_of left) (envelope_of right) (children_of left) (children_of right)
+
+  -- ---- what a walk gives that goes below the pairs that meet alone, and how many pairs it opens
+
+  unfoldable pub pairs_at : RTreeNode T E P S X → RTreeNode U F Q R Y → List (T × U)
+  pairs_at l r = fold_tree {A = RTreeNode U F Q R Y → List (T × U)}
+      (λ t r. map (λ u. (t, u)) (given (meets (left_box t)) (λ u. meets (left_box t) (right_box u)) r))
+      (λ e below r. if meets e (node_box right_box r) then flat_map (λ p. p.0 p.1) (product below (opened_to r))
+      else [])
+      l r
+
+  unfoldable pub opens_at : RTreeNode T E P S X → RTreeNode U F Q R Y → ℕ
+  opens_at l r = fold_tree {A = RTreeNode U F Q R Y → ℕ}
+      (λ t r. reach (meets (left_box t)) r)
+      (λ e below r. if meets e (node_box right_box r) then 1 + sum_by (λ p. p.0 p.1) (product below (opened_to r))
+      else 0)
+      l r
+
+  -- the same of all pairs of two lists of nodes
+  abbrev pub all_pairs : List (RTreeNode T E P S X) → List (RTreeNode U F Q R Y) → List (T × U)
+  all_pairs ls rs = flat_map (λ p. pairs_at p.0 p.1) (product ls rs)
+
+  abbrev pub all_opens : List (RTreeNode T E P S X) → List (RTreeNode U F Q R Y) → ℕ
+  all_opens ls rs = sum_by (λ p. opens_at p.0 p.1) (product ls rs)
+
+  abbrev pub pairs_from_roots : ParentNode T E P S X → ParentNode U F Q R Y → List (T × U)
+  pairs_from_roots left right =
+      if meets (envelope_of left) (envelope_of right) then all_pairs (children_of left) (children_of right) else []

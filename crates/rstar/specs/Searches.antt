@@ -1,0 +1,105 @@
+-- The inside of a search for neighbours: the nodes that wait, and what they keep.
+-- T is the element's type, E its envelope's, P its point's, S its scalar's, X what a scalar's text is refused with.
+use Rattle.std.specs.Prelude.{◌≡◌, ℕ, ◌+◌, ◌-◌, ◌≤◌, min, ℤ, pos, List, [], ◌∷◌, map, length, ⊤}
+use Rattle.std.specs.Borrow.{Bor}
+use Rattle.std.specs.Iterator.{Count, at_most}
+use Rattle.std.specs.List.{AllByRecursion, Contains}
+use Rattle.std.specs.Ordering.{on, flip_args}
+use Rattle.std.specs.declared.cmp.Ordering.{Ordering}
+use Rattle.rstar_base.specs.Envelopes.{Boxes}
+use Rattle.rstar_base.specs.Elements.{Objects, Distances}
+use Rattle.rstar_base.specs.SmallHeaps.{Held, items_of, IsOrdered}
+use Rattle.rstar.specs.declared.node.RTreeNode.{RTreeNode, Parent}
+use Rattle.rstar.specs.declared.node.ParentNode.{ParentNode}
+use Rattle.rstar.specs.declared.algorithm.nearest_neighbor.search.Waiting.{Waiting}
+use Rattle.rstar.specs.declared.algorithm.nearest_neighbor.search.Stage.{Stage}
+use Rattle.rstar.specs.declared.algorithm.nearest_neighbor.search.Stage.TheVariants.{Fresh, Running, Ended}
+use Rattle.rstar.specs.declared.algorithm.nearest_neighbor.search.NeighborSearch.{NeighborSearch}
+use Rattle.rstar.specs.Nodes.{node_distance, all_elements, all_parents, all_far, parents_of, far_of, IsTree, IsInner, IsElement, IsWhole}
+use Rattle.rstar.specs.Walks.{usize_max}
+
+-- an item of a search's heap: a node that is lent, at its distance
+abbrev pub Item : (T E P S X : Type 0) → Type 0
+Item T E P S X = Waiting (Bor (RTreeNode T E P S X)) S
+
+-- the nodes that wait in a heap
+abbrev pub waiting_nodes : {T E P S X : Type 0} → List (Item T E P S X) → List (RTreeNode T E P S X)
+waiting_nodes ws = map (λ w. w.node.now) ws
+
+-- whole nodes, of any heights
+abbrev pub AreParts : {T E P S X : Type 0} → Boxes E → Objects T E → List (RTreeNode T E P S X) → Type 0
+AreParts v o ns = AllByRecursion (λ n. (h : ℕ) × IsTree (IsInner v o) (IsElement v o) h n) ns
+
+-- how many parents were opened: those of the root that neither wait nor lie below what waits
+pub record IsCounted {T E P S X : Type 0} (root : ParentNode T E P S X) (waiting : List (RTreeNode T E P S X))
+    (opened : ℕ) : Type 0 where
+  pub fewer : all_parents waiting ≤ parents_of root
+  pub counts : opened ≡ min (parents_of root - all_parents waiting) usize_max
+
+-- ---- the stages of a search
+
+-- no memory was refused to it yet
+abbrev pub IsUnrefused : Stage → Type 0
+IsUnrefused Fresh = ⊤
+IsUnrefused Running = ⊤
+IsUnrefused Ended = ⊥
+
+-- the nodes that wait: the root until it is opened, and then what the heap's items lend
+abbrev pub waiting_at : {T E P S X : Type 0} → Stage → ParentNode T E P S X → List (Item T E P S X)
+    → List (RTreeNode T E P S X)
+waiting_at Fresh root ws = Parent root ∷ []
+waiting_at Running root ws = waiting_nodes ws
+waiting_at Ended root ws = waiting_nodes ws
+
+-- how many calls may give something: each element and a refusal
+abbrev pub calls_at : {T E P S X : Type 0} → Stage → ParentNode T E P S X → List (Item T E P S X) → Count
+calls_at Fresh root ws = at_most (length (all_elements (Parent root ∷ [])) + 1)
+calls_at Running root ws = at_most (length (all_elements (waiting_nodes ws)) + 1)
+calls_at Ended root ws = at_most 0
+
+module _ {T E P S X : Type 0} where
+  -- the items in the heap of a search
+  abbrev pub held_by : NeighborSearch T E P S X → List (Item T E P S X)
+  held_by s = items_of s.heap
+
+  abbrev pub waiting_of : NeighborSearch T E P S X → List (RTreeNode T E P S X)
+  waiting_of s = waiting_at s.stage s.root.now (held_by s)
+
+  abbrev pub calls_left : NeighborSearch T E P S X → Count
+  calls_left s = calls_at s.stage s.root.now (held_by s)
+
+-- ---- what a search keeps, at the point with the coordinates p; scalars compare by `compare` and mean `value`
+
+module _ {T E P S X : Type 0} (v : Boxes E) (d : Distances T) (p : List ℤ) where
+  -- the distance at which a node waits
+  abbrev pub distance_of : RTreeNode T E P S X → ℕ
+  distance_of n = node_distance (λ e. v.distance_2 e p) (λ t. d.distance_2 t p) n
+
+  -- where a waiting node is no farther than some distance, all parents farther than that still wait
+  abbrev pub IsFarKept : ParentNode T E P S X → List (RTreeNode T E P S X) → Type 0
+  IsFarKept root waiting = (n : RTreeNode T E P S X) (far : ℕ) → Contains waiting n → distance_of n ≤ far
+      → all_far (λ e. v.distance_2 e p) far waiting ≡ far_of (λ e. v.distance_2 e p) far root
+
+  module _ (compare : S → S → Ordering) (value : S → ℤ) where
+    -- each waits at its own distance, and the heap is in order
+    pub record AreWaiting (heap : Held (Item T E P S X)) : Type 0 where
+      pub ordered : IsOrdered (flip_args (on (λ w. w.distance) compare)) heap
+      pub at : AllByRecursion (λ w. value w.distance ≡ pos (distance_of w.node.now)) (items_of heap)
+
+    -- a search on its way: these items wait of the root, of which so many parents were opened, nearest first
+    pub record IsRunning (o : Objects T E) (root : ParentNode T E P S X) (heap : Held (Item T E P S X)) (opened : ℕ)
+        : Type 0 where
+      pub waiting : AreWaiting heap
+      pub parts : AreParts v o (waiting_nodes (items_of heap))
+      pub counted : IsCounted root (waiting_nodes (items_of heap)) opened
+      pub still_far : IsFarKept root (waiting_nodes (items_of heap))
+
+    -- what holds between two calls, until a refusal
+    abbrev pub IsReadyAt : Objects T E → Stage → ParentNode T E P S X → Held (Item T E P S X) → ℕ → Type 0
+    IsReadyAt o Fresh root heap opened =
+        IsWhole v o root × (items_of heap ≡ []) × (opened ≡ 0) × AreWaiting heap
+    IsReadyAt o Running root heap opened = IsRunning o root heap opened
+    IsReadyAt o Ended root heap opened = ⊤
+
+    abbrev pub IsReady : Objects T E → NeighborSearch T E P S X → Type 0
+    IsReady o s = IsReadyAt o s.stage s.root.now s.heap s.opened

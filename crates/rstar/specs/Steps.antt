@@ -1,0 +1,144 @@
+-- What a command may be answered, and which elements it leaves, over lists alone: no node, path or bound of a tree. The
+-- lists are bags: every order of the elements is right.
+-- T is the element's type, E its envelope's, P its point's, S its scalar's, X what a scalar's text is refused with.
+use Rattle.std.specs.Prelude.{◌≡◌, ◌≤◌, ℕ, ℤ, Bool, true, false, pos, int_le, min, map, filter, length, take, List, [], ◌∷◌, ◌++◌, Option, Some, None, ⊤, All, AllPairs}
+use Rattle.std.specs.List.{AllByRecursion, list_any}
+use Rattle.std.specs.List.Sorted.{IsPermutation}
+use Rattle.rstar_base.specs.Envelopes.{Boxes}
+use Rattle.rstar_base.specs.Elements.{Objects, Distances}
+use Rattle.rstar_base.specs.Points.{table}
+use Rattle.rstar.specs.declared.replay.Query.{Query}
+use Rattle.rstar.specs.declared.replay.Query.TheVariants as query
+use Rattle.rstar.specs.declared.replay.Command.{Command}
+use Rattle.rstar.specs.declared.replay.Command.TheVariants as command
+use Rattle.rstar.specs.declared.replay.Reply.{Reply}
+use Rattle.rstar.specs.declared.replay.Reply.TheVariants as reply
+use Rattle.rstar.specs.Meets.{product}
+use Rattle.rstar.specs.Neighbors.{IsNearest}
+use Rattle.rstar.specs.Removals.{NoneSelected}
+
+-- what a scan asks of elements, envelopes, points and scalars; distances are squared
+pub record Questions (T E P S : Type 0) : Type 0 where
+  pub box_of : T → E
+  pub is_empty : E → Bool
+  pub contains : E → E → Bool
+  pub intersects : E → E → Bool
+  pub contains_point : T → P → Bool
+  pub distance_2 : T → P → ℕ
+  pub value : S → ℤ
+  pub equal : T → T → Bool
+
+-- the same as the types of a tree answer it
+abbrev pub questions_of : {T E P S : Type 0}
+    → Boxes E → Objects T E → Distances T → ℕ → (P → ℕ → ℤ) → (S → ℤ) → (T → T → Bool) → Questions T E P S
+questions_of v o d axes coord value equal = record {
+  box_of = o.box_of;
+  is_empty = v.is_empty;
+  contains = v.contains;
+  intersects = v.intersects;
+  contains_point = λ t p. d.contains_point t (table axes (coord p));
+  distance_2 = λ t p. d.distance_2 t (table axes (coord p));
+  value = value;
+  equal = equal;
+}
+
+-- ---- what is taken out of a list, and what is found in it
+
+-- one element that passes the test is taken out; none only where none passes
+abbrev pub TakesOne : {T : Type 0} → (T → Bool) → List T → Option T → List T → Type 0
+TakesOne test old None new = NoneSelected test old × IsPermutation old new
+TakesOne test old (Some x) new = (test x ≡ true) × IsPermutation old (x ∷ new)
+
+-- one element than which none is nearer is taken out; none only where there is none
+abbrev pub TakesNearest : {T : Type 0} → (T → ℕ) → List T → Option T → List T → Type 0
+TakesNearest distance old None new = (old ≡ []) × IsPermutation old new
+TakesNearest distance old (Some x) new = IsNearest distance old x × IsPermutation old (x ∷ new)
+
+-- n elements that pass the test are taken out, or all of them where there are fewer
+pub record TakesSome {T : Type 0} (test : T → Bool) (n : ℕ) (old taken new : List T) : Type 0 where
+  pub bag : IsPermutation old (taken ++ new)
+  pub selected : AllByRecursion (λ x. test x ≡ true) taken
+  pub count : length taken ≡ min n (length (filter test old))
+
+-- an element than which none is nearer, with its distance; none only where there is none
+abbrev pub IsNearestWith : {T S : Type 0} → (T → ℕ) → (S → ℤ) → List T → Option (T × S) → Type 0
+IsNearestWith distance value ts None = ts ≡ []
+IsNearestWith distance value ts (Some n) = IsNearest distance ts n.0 × (value n.1 ≡ pos (distance n.0))
+
+-- the first k of the elements, or all where there are fewer, in an order in which their distances never fall; each with
+-- its distance
+pub record AreFirst {T S : Type 0} (distance : T → ℕ) (value : S → ℤ) (k : ℕ) (ts : List T) (ns : List (T × S))
+    : Type 0 where
+  pub order : List T
+  pub bag : IsPermutation ts order
+  pub rising : AllPairs (λ t u. distance t ≤ distance u) order
+  pub first : map (λ n. n.0) ns ≡ take k order
+  pub distances : AllByRecursion (λ n. value n.1 ≡ pos (distance n.0)) ns
+
+-- ---- commands and replies
+
+module _ {T E P S X : Type 0} (q : Questions T E P S) where
+  -- whether a query selects an element
+  abbrev pub selects : Query T E P S X → T → Bool
+  selects query.All t = true
+  selects (query.In e) t = q.contains e (q.box_of t)
+  selects (query.Hit e) t = q.intersects e (q.box_of t)
+  selects (query.At p) t = q.contains_point t p
+  selects (query.Within p s) t = int_le (pos (q.distance_2 t p)) (q.value s)
+
+  -- what a command may be answered, and what it leaves: from the old list, by the command, the reply, and the new list
+  abbrev pub Step : List T → Command T E P S X → Reply T E P S X → List T → Type 0
+  Step old (command.Load list) reply.Done new = IsPermutation list.items new
+  Step old (command.Insert t) reply.Done new = IsPermutation (t ∷ old) new
+  Step old (command.Remove t) (reply.Taken found) new = TakesOne (λ x. q.equal x t) old found new
+  Step old (command.RemoveAtPoint p) (reply.Taken found) new = TakesOne (λ x. q.contains_point x p) old found new
+  Step old (command.PopNearest p) (reply.Taken found) new = TakesNearest (λ x. q.distance_2 x p) old found new
+  Step old (command.Drain asked n) (reply.Elements xs) new = TakesSome (selects asked) n old xs.items new
+  Step old (command.Ask asked) (reply.Elements xs) new =
+      IsPermutation (filter (selects asked) old) xs.items × IsPermutation old new
+  Step old (command.Contains t) (reply.Has found) new =
+      (found ≡ list_any (λ x. q.equal x t) old) × IsPermutation old new
+  Step old (command.Nearest p) (reply.Nearest found) new =
+      IsNearestWith (λ x. q.distance_2 x p) q.value old found × IsPermutation old new
+  Step old (command.Neighbours p k) (reply.Neighbours ns) new =
+      AreFirst (λ x. q.distance_2 x p) q.value k old ns.items × IsPermutation old new
+  Step old (command.Join list) (reply.Pairs ps) new =
+      IsPermutation (filter (λ pair. q.intersects (q.box_of pair.0) (q.box_of pair.1)) (product old list.items)) ps.items
+      × IsPermutation old new
+  -- the commands that count or take memory can be refused, and leave the bag
+  Step old (command.Insert t) reply.TooMany new = IsPermutation old new
+  Step old (command.Load list) reply.NoMemory new = IsPermutation old new
+  Step old (command.Insert t) reply.NoMemory new = IsPermutation old new
+  Step old (command.PopNearest p) reply.NoMemory new = IsPermutation old new
+  Step old (command.Drain asked n) reply.NoMemory new = IsPermutation old new
+  Step old (command.Ask asked) reply.NoMemory new = IsPermutation old new
+  Step old (command.Nearest p) reply.NoMemory new = IsPermutation old new
+  Step old (command.Neighbours p k) reply.NoMemory new = IsPermutation old new
+  Step old (command.Join list) reply.NoMemory new = IsPermutation old new
+  -- no other reply is given
+  Step old _ _ new = ⊥
+
+  -- the commands may be given these replies in turn: from the old list, one step after another, to the new list
+  abbrev pub Run : List T → List (Command T E P S X) → List (Reply T E P S X) → List T → Type 0
+  Run old [] [] new = IsPermutation old new
+  Run old (c ∷ cs) (r ∷ rs) new = (mid : List T) × Step old c r mid × Run mid cs rs new
+  Run old [] (r ∷ rs) new = ⊥
+  Run old (c ∷ cs) [] new = ⊥
+
+  -- what is asked of a command: no element that it brings has an empty envelope, and loads have two dimensions
+  abbrev pub IsFit : ℕ → Command T E P S X → Type 0
+  IsFit dimensions (command.Load list) = (2 ≤ dimensions) × All (λ t. q.is_empty (q.box_of t) ≡ false) list.items
+  IsFit dimensions (command.Insert t) = q.is_empty (q.box_of t) ≡ false
+  IsFit dimensions (command.Join list) = (2 ≤ dimensions) × All (λ t. q.is_empty (q.box_of t) ≡ false) list.items
+  IsFit dimensions _ = ⊤
+
+-- whether a command is an insertion, which alone can be one too many
+abbrev pub IsInsertion : {T E P S X : Type 0} → Command T E P S X → Type 0
+IsInsertion (command.Insert t) = ⊤
+IsInsertion _ = ⊥
+
+-- memory was refused, or it was one too many
+abbrev pub IsRefusal : {T E P S X : Type 0} → Reply T E P S X → Type 0
+IsRefusal reply.NoMemory = ⊤
+IsRefusal reply.TooMany = ⊤
+IsRefusal _ = ⊥

@@ -1,0 +1,74 @@
+//! How deep a load goes.
+
+ghost use Rattle.std.specs.Prelude.{◌≡◌, ℕ, ◌<◌, ◌≤◌, max, ◌+◌, ◌-◌, ◌*◌};
+ghost use Rattle.rstar_base.specs.Clusters.{IsClusterNumber};
+ghost use Rattle.rstar.specs.Loaded.{IsPartSize, IsLoadDepth, GoesDeep, EndsAt};
+ghost use Rattle.rstar.specs.Loads.{part_bound};
+
+use rstar_base::clusters::calculate_number_of_clusters_on_axis;
+use rstar_base::envelope::Envelope;
+use rstar_base::object::RTreeObject;
+use rstar_base::params::RTreeParams;
+use rstar_base::point::Point;
+
+/// Into how many slabs a node of `n` elements is cut along each axis.
+pub(crate) fn slabs_on_axis<T: RTreeObject, Params: RTreeParams>(n: usize) -> usize
+    requires large { Params.MAX_SIZE < n }
+    requires axes { 2 ≤ T.Envelope.Point.DIMENSIONS }
+    ensures least { 2 ≤ result }
+    ensures number { (c : ℕ) × IsClusterNumber Params.MAX_SIZE T.Envelope.Point.DIMENSIONS n c × (result ≡ max c 2) }
+{
+    calculate_number_of_clusters_on_axis::<T, Params>(n).max(2)
+}
+
+/// How many levels of parents a load of `n` elements has below its root.
+#[cycle(depth)]
+pub(crate) fn load_depth<T: RTreeObject, Params: RTreeParams>(n: usize) -> usize
+    requires axes { 2 ≤ T.Envelope.Point.DIMENSIONS }
+    ensures bound { result ≤ n }
+    ensures depth { IsLoadDepth Params.MAX_SIZE T.Envelope.Point.DIMENSIONS n result }
+{
+    if n <= Params::MAX_SIZE {
+        return 0;
+    }
+    let clusters = slabs_on_axis::<T, Params>(n);
+    let axes = <<T::Envelope as Envelope>::Point as Point>::DIMENSIONS;
+    1 + least_depth_of_parts::<T, Params>(n, clusters, axes)
+}
+
+/// The least depth of the parts of `n` elements, in so many slabs along each of the first axes.
+#[cycle(depth)]
+fn least_depth_of_parts<T: RTreeObject, Params: RTreeParams>(
+    n: usize,
+    clusters: usize,
+    axes: usize,
+) -> usize
+    requires dimensions { 2 ≤ T.Envelope.Point.DIMENSIONS }
+    requires some { 0 < n }
+    requires clusters { 2 ≤ clusters }
+    ensures bound { result ≤ part_bound axes clusters n }
+    ensures deep { (m : ℕ) → IsPartSize clusters axes n m
+        → GoesDeep Params.MAX_SIZE T.Envelope.Point.DIMENSIONS result m }
+    ensures ends { (m : ℕ) × IsPartSize clusters axes n m
+        × EndsAt Params.MAX_SIZE T.Envelope.Point.DIMENSIONS result m }
+{
+    if axes == 0 {
+        return load_depth::<T, Params>(n);
+    }
+    let slab = n.div_ceil(clusters);
+    let rest = last_slab(n, slab);
+    let depth = least_depth_of_parts::<T, Params>(slab, clusters, axes - 1);
+    depth.min(least_depth_of_parts::<T, Params>(rest, clusters, axes - 1))
+}
+
+/// The size of the last slab, where all others have this size.
+fn last_slab(n: usize, slab: usize) -> usize
+    requires some { 0 < n }
+    requires size { 0 < slab }
+    ensures some { 0 < result }
+    ensures within { result ≤ slab }
+    ensures only { (j : ℕ) → j * slab < n → n ≤ j * slab + slab → result ≡ n - j * slab }
+    ensures last { (j : ℕ) × (j * slab < n) × (result ≡ n - j * slab) }
+{
+    (n - 1) % slab + 1
+}

@@ -1,0 +1,199 @@
+//! Neighbours: the elements in the order of their distances to a point, and those of least distance.
+
+ghost use Rattle.std.specs.Prelude.{◌≡◌, ◌≤◌, ℕ, [], pos, map, IfOk, IfSome, IfNone};
+ghost use Rattle.rstar_base.specs.Points.{table};
+ghost use Rattle.rstar.specs.Nodes.{elements_of, envelope_of, IsWhole};
+ghost use Rattle.rstar.specs.Neighbors.{with_distances, parents_opened, neighbors_left, IsSearching, IsFresh, GivesNeighbor, IsNearest, AreNearest};
+
+mod firsts;
+mod pruned;
+mod search;
+mod ties;
+
+use crate::node::ParentNode;
+pub(crate) use firsts::first_nearest;
+pub(crate) use pruned::one_nearest;
+use rstar_base::envelope::Envelope;
+pub use rstar_base::heap::SmallHeap;
+use rstar_base::object::{Distance, PointDistance, PointOf, RTreeObject};
+use rstar_base::point::{Point, RTreeNum};
+use search::NeighborSearch;
+use std::alloc::AllocError;
+pub(crate) use ties::all_nearest;
+
+/// The elements of a tree with their squared distances to a point, the nearest first, and then `None`.
+///
+/// Each `next` opens the parents that are no farther than the element it gives, the nearest first, each once, and no
+/// other one: the first opens the root. A distance is computed once for each child of an opened parent. It takes memory
+/// where more than 32 nodes wait; a refusal comes once, and then `None`. The order is that of Roussopoulos, Kelley and
+/// Vincent (1995) by MINDIST alone.
+pub struct NearestNeighborDistance2Iterator<'a, T: PointDistance> {
+    search: NeighborSearch<'a, T>,
+    point: PointOf<T>,
+}
+
+impl<'a, T: PointDistance> Drop for NearestNeighborDistance2Iterator<'a, T> {
+    fn drop(self) {
+        let NearestNeighborDistance2Iterator {
+            search,
+            point: _point,
+        } = self;
+        let_go(search);
+    }
+}
+
+fn let_go<T: PointDistance>(_search: NeighborSearch<'_, T>) {}
+
+impl<'a, T: PointDistance> NearestNeighborDistance2Iterator<'a, T> {
+    /// The neighbours of a point below a root. It takes no memory.
+    #[tactic(auto, unfolding(crate::specs::Neighbors::IsSearching))]
+    pub(crate) fn new(root: &'a ParentNode<T>, point: PointOf<T>) -> Self
+        requires { IsWhole T.Envelope.boxes T.object root.now }
+        ensures fresh { IsFresh root.now point result }
+        ensures searching { IsSearching T.Envelope.boxes T.object T.distances T.Envelope.Point.DIMENSIONS
+            T.Envelope.Point.coord T.Envelope.Point.Scalar.cmp T.Envelope.Point.Scalar.value result }
+    {
+        NearestNeighborDistance2Iterator {
+            search: NeighborSearch::new(root),
+            point,
+        }
+    }
+
+    /// How many parents were opened so far, the root among them, held at the greatest `usize`; 0 before the first
+    /// `next`.
+    pub fn opened(&self) -> usize
+        ensures { result ≡ parents_opened self.now }
+    {
+        self.search.opened()
+    }
+}
+
+impl<'a, T: PointDistance> Iterator for NearestNeighborDistance2Iterator<'a, T> {
+    type Item = Result<(&'a T, Distance<T>), AllocError>;
+
+    ghost can_next = { IsSearching T.Envelope.boxes T.object T.distances T.Envelope.Point.DIMENSIONS
+        T.Envelope.Point.coord T.Envelope.Point.Scalar.cmp T.Envelope.Point.Scalar.value };
+
+    ghost next_gives = { λ s r t. GivesNeighbor T.Envelope.boxes T.distances T.Envelope.Point.DIMENSIONS
+        T.Envelope.Point.coord (λ x. x.0.now) s r t × IfSome r (λ y. IfOk y (λ x. T.Envelope.Point.Scalar.value x.1
+        ≡ pos (T.distances.distance_2 x.0.now
+        (table T.Envelope.Point.DIMENSIONS (T.Envelope.Point.coord s.point))))) };
+
+    ghost remaining = { neighbors_left };
+
+    #[tactic(auto, unfolding(crate::specs::Neighbors::IsSearching))]
+    fn next(&mut self) -> Option<Self::Item> {
+        self.search.next_neighbor(&self.point)
+    }
+
+    fn size_hint(&self) -> (usize, Option<usize>) {
+        (0, None)
+    }
+}
+
+/// The elements of a tree, the nearest to a point first, and then `None`, as `NearestNeighborDistance2Iterator` gives
+/// them with their distances.
+pub struct NearestNeighborIterator<'a, T: PointDistance> {
+    with_distances: NearestNeighborDistance2Iterator<'a, T>,
+}
+
+impl<'a, T: PointDistance> Drop for NearestNeighborIterator<'a, T> {
+    fn drop(self) {
+        let NearestNeighborIterator { with_distances } = self;
+        let_both_go(with_distances);
+    }
+}
+
+fn let_both_go<T: PointDistance>(_neighbors: NearestNeighborDistance2Iterator<'_, T>) {}
+
+impl<'a, T: PointDistance> NearestNeighborIterator<'a, T> {
+    /// The neighbours of a point below a root. It takes no memory.
+    pub(crate) fn new(root: &'a ParentNode<T>, point: PointOf<T>) -> Self
+        requires { IsWhole T.Envelope.boxes T.object root.now }
+        ensures fresh { IsFresh root.now point (with_distances result) }
+        ensures searching { IsSearching T.Envelope.boxes T.object T.distances T.Envelope.Point.DIMENSIONS
+            T.Envelope.Point.coord T.Envelope.Point.Scalar.cmp T.Envelope.Point.Scalar.value (with_distances result) }
+    {
+        NearestNeighborIterator {
+            with_distances: NearestNeighborDistance2Iterator::new(root, point),
+        }
+    }
+
+    /// How many parents were opened so far, the root among them, held at the greatest `usize`; 0 before the first
+    /// `next`.
+    pub fn opened(&self) -> usize
+        ensures { result ≡ parents_opened (with_distances self.now) }
+    {
+        self.with_distances.opened()
+    }
+}
+
+impl<'a, T: PointDistance> Iterator for NearestNeighborIterator<'a, T> {
+    type Item = Result<&'a T, AllocError>;
+
+    ghost can_next = { λ it. IsSearching T.Envelope.boxes T.object T.distances T.Envelope.Point.DIMENSIONS
+        T.Envelope.Point.coord T.Envelope.Point.Scalar.cmp T.Envelope.Point.Scalar.value (with_distances it) };
+
+    ghost next_gives = { λ s r t. GivesNeighbor T.Envelope.boxes T.distances T.Envelope.Point.DIMENSIONS
+        T.Envelope.Point.coord (λ x. x.now) (with_distances s) r (with_distances t) };
+
+    ghost remaining = { λ it. neighbors_left (with_distances it) };
+
+    fn next(&mut self) -> Option<Self::Item> {
+        match self.with_distances.next() {
+            None => None,
+            Some(found) => match found {
+                Ok((t, _distance)) => Some(Ok(t)),
+                Err(refused) => Some(Err(refused)),
+            },
+        }
+    }
+
+    fn size_hint(&self) -> (usize, Option<usize>) {
+        (0, None)
+    }
+}
+
+/// An element of least squared distance to a point, with that distance; `None` exactly where the node has no element.
+///
+/// It opens the nearest waiting parent first, and leaves out what lies farther than the least `min_max_dist_2` seen
+/// (Roussopoulos, Kelley and Vincent 1995). That never loses the answer: the least distance of a whole node lies
+/// between the distance of its envelope and its envelope's `min_max_dist_2`. It takes memory where more than 32 nodes
+/// wait, and is refused where the allocator refuses that.
+pub fn nearest_neighbor_with_distance_2<'a, T: PointDistance>(
+    root: &'a ParentNode<T>,
+    point: PointOf<T>,
+) -> Result<Option<(&'a T, Distance<T>)>, AllocError>
+    requires { IsWhole T.Envelope.boxes T.object root.now }
+    ensures none { IfOk result (λ r. IfNone r (elements_of root.now ≡ [])) }
+    ensures nearest { IfOk result (λ r. IfSome r (λ x. IsNearest (λ t. T.distances.distance_2 t
+        (table T.Envelope.Point.DIMENSIONS (T.Envelope.Point.coord point))) (elements_of root.now) x.0.now)) }
+    ensures distance { IfOk result (λ r. IfSome r (λ x. T.Envelope.Point.Scalar.value x.1 ≡ pos (T.distances.distance_2
+        x.0.now (table T.Envelope.Point.DIMENSIONS (T.Envelope.Point.coord point))))) }
+    ensures not_below { IfOk result (λ r. IfSome r (λ x. T.Envelope.boxes.distance_2 (envelope_of root.now)
+        (table T.Envelope.Point.DIMENSIONS (T.Envelope.Point.coord point)) ≤ T.distances.distance_2 x.0.now
+        (table T.Envelope.Point.DIMENSIONS (T.Envelope.Point.coord point)))) }
+    ensures not_above { IfOk result (λ r. IfSome r (λ x. T.distances.distance_2 x.0.now
+        (table T.Envelope.Point.DIMENSIONS (T.Envelope.Point.coord point)) ≤ T.Envelope.boxes.min_max_dist_2
+        (envelope_of root.now) (table T.Envelope.Point.DIMENSIONS (T.Envelope.Point.coord point)))) }
+{
+    one_nearest(root, &point)
+}
+
+/// All elements of least squared distance to a point, in some order, with that distance; `None` exactly where the node
+/// has no element.
+///
+/// It takes neighbours, as `NearestNeighborDistance2Iterator` gives them, until one is farther than the first. It is
+/// refused where the allocator refuses the list or what waits.
+pub fn nearest_neighbors_with_distance_2<'a, T: PointDistance>(
+    root: &'a ParentNode<T>,
+    point: PointOf<T>,
+) -> Result<Option<(Vec<&'a T>, Distance<T>)>, AllocError>
+    requires { IsWhole T.Envelope.boxes T.object root.now }
+    ensures none { IfOk result (λ r. IfNone r (elements_of root.now ≡ [])) }
+    ensures nearest { IfOk result (λ r. IfSome r (λ x. (d : ℕ) × (T.Envelope.Point.Scalar.value x.1 ≡ pos d)
+        × AreNearest (λ t. T.distances.distance_2 t (table T.Envelope.Point.DIMENSIONS (T.Envelope.Point.coord point)))
+        (elements_of root.now) d (map (λ t. t.now) x.0.items))) }
+{
+    all_nearest(root, &point)
+}

@@ -1,0 +1,38 @@
+//! The first elements in the order of their distances.
+
+ghost use Rattle.std.specs.Prelude.{IfOk};
+ghost use Rattle.rstar_base.specs.Points.{table};
+ghost use Rattle.rstar.specs.Clones.{ClonesEqual};
+ghost use Rattle.rstar.specs.Nodes.{elements_of, IsWhole};
+ghost use Rattle.rstar.specs.Steps.{AreFirst};
+
+use crate::algorithm::nearest_neighbor::search::NeighborSearch;
+use crate::node::ParentNode;
+use rstar_base::envelope::Envelope;
+use rstar_base::object::{Distance, PointDistance, PointOf, RTreeObject};
+use rstar_base::point::{Point, RTreeNum};
+use std::alloc::AllocError;
+
+/// Clones of so many elements, the nearest to a point first, with their squared distances; of all where there are fewer.
+pub(crate) fn first_nearest<T: PointDistance + Clone>(
+    root: &ParentNode<T>,
+    point: &PointOf<T>,
+    most: usize,
+) -> Result<Vec<(T, Distance<T>)>, AllocError>
+    requires whole { IsWhole T.Envelope.boxes T.object root.now }
+    requires clones { ClonesEqual T.is_clone }
+    ensures { IfOk result (λ found. AreFirst (λ t. T.distances.distance_2 t
+        (table T.Envelope.Point.DIMENSIONS (T.Envelope.Point.coord point.now))) T.Envelope.Point.Scalar.value most
+        (elements_of root.now) found.items) }
+{
+    let mut search = NeighborSearch::new(root);
+    let mut found = Vec::new(*root.children.allocator());
+    for _turn in 0..most {
+        let Some(next) = search.next_neighbor(point) else {
+            return Ok(found);
+        };
+        let (t, distance) = next?;
+        found.push((t.clone()?, distance))?;
+    }
+    Ok(found)
+}

@@ -1,0 +1,165 @@
+//! The search for one neighbour, which leaves out what lies farther than some element surely does.
+
+ghost use Rattle.std.specs.Prelude.{◌≡◌, ◌≤◌, ◌+◌, ◌++◌, [], ◌∷◌, List, pos, OnOk, IfOk, IfSome, IfNone, MatchOption};
+ghost use Rattle.std.specs.Int.{int_min};
+ghost use Rattle.rstar_base.specs.Points.{table, IsPoint};
+ghost use Rattle.rstar_base.specs.SmallHeaps.{items_of};
+ghost use Rattle.rstar.specs.declared.node.RTreeNode.{RTreeNode};
+ghost use Rattle.rstar.specs.Neighbors.{IsNearest};
+ghost use Rattle.rstar.specs.Nodes.{all_parents, elements_of, envelope_of, parents, node_box, IsWhole};
+ghost use Rattle.rstar.specs.Pruned.{IsAbove, IsPruned};
+ghost use Rattle.rstar.specs.Searches.{waiting_nodes, distance_of, AreWaiting};
+
+use crate::algorithm::nearest_neighbor::search::{Heap, Waiting, distance_to};
+use crate::node::{ParentNode, RTreeNode};
+use rstar_base::envelope::Envelope;
+use rstar_base::heap::SmallHeap;
+use rstar_base::object::{Distance, PointDistance, PointOf, RTreeObject, up_to};
+use rstar_base::point::{Point, RTreeNum, known, least};
+use std::alloc::AllocError;
+
+/// An element of least squared distance to a point, with that distance; `None` exactly where there is no element.
+pub(crate) fn one_nearest<'a, T: PointDistance>(
+    root: &'a ParentNode<T>,
+    point: &PointOf<T>,
+) -> Result<Option<(&'a T, Distance<T>)>, AllocError>
+    requires { IsWhole T.Envelope.boxes T.object root.now }
+    ensures none { IfOk result (λ r. IfNone r (elements_of root.now ≡ [])) }
+    ensures nearest { IfOk result (λ r. IfSome r (λ x. IsNearest (λ t. T.distances.distance_2 t
+        (table T.Envelope.Point.DIMENSIONS (T.Envelope.Point.coord point.now))) (elements_of root.now) x.0.now)) }
+    ensures distance { IfOk result (λ r. IfSome r (λ x. T.Envelope.Point.Scalar.value x.1 ≡ pos (T.distances.distance_2
+        x.0.now (table T.Envelope.Point.DIMENSIONS (T.Envelope.Point.coord point.now))))) }
+    ensures not_below { IfOk result (λ r. IfSome r (λ x. T.Envelope.boxes.distance_2 (envelope_of root.now)
+        (table T.Envelope.Point.DIMENSIONS (T.Envelope.Point.coord point.now)) ≤ T.distances.distance_2 x.0.now
+        (table T.Envelope.Point.DIMENSIONS (T.Envelope.Point.coord point.now)))) }
+    ensures not_above { IfOk result (λ r. IfSome r (λ x. T.distances.distance_2 x.0.now
+        (table T.Envelope.Point.DIMENSIONS (T.Envelope.Point.coord point.now)) ≤ T.Envelope.boxes.min_max_dist_2
+        (envelope_of root.now) (table T.Envelope.Point.DIMENSIONS (T.Envelope.Point.coord point.now)))) }
+{
+    // Does nothing but tell that the point's coordinates are in their range.
+    known(point);
+    let mut heap: Heap<'a, T> = SmallHeap::new(*root.children.allocator());
+    let mut bound = open_within(&mut heap, &root.children, point, None)?;
+    while let Some(current) = heap.pop() {
+        match current.node {
+            RTreeNode::Leaf(t) => return Ok(Some((t, current.distance))),
+            RTreeNode::Parent(parent) => {
+                bound = open_within(&mut heap, &parent.children, point, bound)?;
+            }
+        }
+    }
+    Ok(None)
+}
+
+/// The distance at which a node waits, where it does not lie above the bound.
+#[tactic(auto, unfolding(crate::specs::Nodes::node_distance, crate::specs::Nodes::fold_tree))]
+fn distance_within<T: PointDistance>(
+    node: &RTreeNode<T>,
+    point: &PointOf<T>,
+    bound: Option<Distance<T>>,
+) -> Option<Distance<T>>
+    ensures at { IfSome result (λ d. T.Envelope.Point.Scalar.value d ≡ pos (distance_of T.Envelope.boxes T.distances
+        (table T.Envelope.Point.DIMENSIONS (T.Envelope.Point.coord point.now)) node.now)) }
+    ensures above { IfNone result (IsAbove T.Envelope.Point.Scalar.value bound (distance_of T.Envelope.boxes
+        T.distances (table T.Envelope.Point.DIMENSIONS (T.Envelope.Point.coord point.now)) node.now)) }
+{
+    let Some(limit) = bound else {
+        return Some(distance_to(node, point));
+    };
+    match node {
+        RTreeNode::Leaf(t) => t.distance_2_if_less_or_equal(point, limit),
+        RTreeNode::Parent(parent) => up_to(parent.envelope.distance_2(point), limit),
+    }
+}
+
+/// A distance within which a node has an element.
+#[tactic(auto, unfolding(crate::specs::Nodes::node_box, crate::specs::Nodes::fold_tree))]
+fn reach_of<T: PointDistance>(node: &RTreeNode<T>, point: &PointOf<T>) -> Distance<T>
+    ensures { T.Envelope.Point.Scalar.value result ≡ pos (T.Envelope.boxes.min_max_dist_2
+        (node_box T.object.box_of node.now)
+        (table T.Envelope.Point.DIMENSIONS (T.Envelope.Point.coord point.now))) }
+{
+    match node {
+        RTreeNode::Leaf(t) => t.envelope().min_max_dist_2(point),
+        RTreeNode::Parent(parent) => parent.envelope.min_max_dist_2(point),
+    }
+}
+
+/// The lesser of a bound and a distance.
+fn lowered<S: RTreeNum>(bound: Option<S>, reach: S) -> S
+    ensures { MatchOption bound (S.value result ≡ S.value reach)
+        (λ s. S.value result ≡ int_min (S.value s) (S.value reach)) }
+{
+    match bound {
+        Some(limit) => least(limit, reach),
+        None => reach,
+    }
+}
+
+/// Lets a node wait that does not lie above the bound, and gives the bound that it leaves.
+fn offer<'a, T: PointDistance>(
+    heap: &mut Heap<'a, T>,
+    node: &'a RTreeNode<T>,
+    point: &PointOf<T>,
+    bound: Option<Distance<T>>,
+) -> Result<Option<Distance<T>>, AllocError>
+    requires point { IsPoint T.Envelope.Point.Scalar.low T.Envelope.Point.Scalar.high T.Envelope.Point.DIMENSIONS
+        (table T.Envelope.Point.DIMENSIONS (T.Envelope.Point.coord point.now)) }
+    requires waiting { AreWaiting T.Envelope.boxes T.distances
+        (table T.Envelope.Point.DIMENSIONS (T.Envelope.Point.coord point.now)) T.Envelope.Point.Scalar.cmp
+        T.Envelope.Point.Scalar.value heap.old }
+    ensures waiting { AreWaiting T.Envelope.boxes T.distances
+        (table T.Envelope.Point.DIMENSIONS (T.Envelope.Point.coord point.now)) T.Envelope.Point.Scalar.cmp
+        T.Envelope.Point.Scalar.value heap.new }
+    ensures fewer { OnOk result (all_parents (waiting_nodes (items_of heap.new))
+        ≤ all_parents (waiting_nodes (items_of heap.old)) + parents node.now) }
+    ensures pruned { IfOk result (λ b. (all : List T)
+        (rest : List (RTreeNode T T.Envelope T.Envelope.Point T.Envelope.Point.Scalar
+        T.Envelope.Point.Scalar.FromStrRadixErr))
+        → IsPruned T.Envelope.boxes T.object T.distances
+        (table T.Envelope.Point.DIMENSIONS (T.Envelope.Point.coord point.now)) T.Envelope.Point.Scalar.value all
+        (waiting_nodes (items_of heap.old) ++ node.now ∷ rest) bound
+        → IsPruned T.Envelope.boxes T.object T.distances
+        (table T.Envelope.Point.DIMENSIONS (T.Envelope.Point.coord point.now)) T.Envelope.Point.Scalar.value all
+        (waiting_nodes (items_of heap.new) ++ rest) b) }
+{
+    let Some(distance) = distance_within(node, point, bound) else {
+        return Ok(bound);
+    };
+    let reach = reach_of(node, point);
+    if let Err(_refused) = heap.push(Waiting { node, distance }) {
+        return Err(AllocError);
+    }
+    Ok(Some(lowered(bound, reach)))
+}
+
+/// Lets the nodes wait that do not lie above the bound, and gives the bound that they leave.
+fn open_within<'a, T: PointDistance>(
+    heap: &mut Heap<'a, T>,
+    children: &'a [RTreeNode<T>],
+    point: &PointOf<T>,
+    bound: Option<Distance<T>>,
+) -> Result<Option<Distance<T>>, AllocError>
+    requires point { IsPoint T.Envelope.Point.Scalar.low T.Envelope.Point.Scalar.high T.Envelope.Point.DIMENSIONS
+        (table T.Envelope.Point.DIMENSIONS (T.Envelope.Point.coord point.now)) }
+    requires waiting { AreWaiting T.Envelope.boxes T.distances
+        (table T.Envelope.Point.DIMENSIONS (T.Envelope.Point.coord point.now)) T.Envelope.Point.Scalar.cmp
+        T.Envelope.Point.Scalar.value heap.old }
+    ensures waiting { AreWaiting T.Envelope.boxes T.distances
+        (table T.Envelope.Point.DIMENSIONS (T.Envelope.Point.coord point.now)) T.Envelope.Point.Scalar.cmp
+        T.Envelope.Point.Scalar.value heap.new }
+    ensures fewer { OnOk result (all_parents (waiting_nodes (items_of heap.new))
+        ≤ all_parents (waiting_nodes (items_of heap.old)) + all_parents children.now) }
+    ensures pruned { IfOk result (λ b. (all : List T) → IsPruned T.Envelope.boxes T.object T.distances
+        (table T.Envelope.Point.DIMENSIONS (T.Envelope.Point.coord point.now)) T.Envelope.Point.Scalar.value all
+        (waiting_nodes (items_of heap.old) ++ children.now) bound
+        → IsPruned T.Envelope.boxes T.object T.distances
+        (table T.Envelope.Point.DIMENSIONS (T.Envelope.Point.coord point.now)) T.Envelope.Point.Scalar.value all
+        (waiting_nodes (items_of heap.new)) b) }
+{
+    let mut left = bound;
+    for child in children {
+        left = offer(heap, child, point, left)?;
+    }
+    Ok(left)
+}

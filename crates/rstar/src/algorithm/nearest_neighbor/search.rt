@@ -1,0 +1,281 @@
+//! A search for neighbours: the nodes that wait in a heap, the nearest first.
+
+ghost use Rattle.std.proofs.Common.{rules};
+ghost use Rattle.std.specs.Cmp.{partial_order_from_own_ties};
+ghost use Rattle.std.specs.Cmp.Rules.{comparing};
+ghost use Rattle.std.specs.Ordering.{on, flip_args, as_partial_cmp};
+ghost use Rattle.std.specs.Prelude.{◌≡◌, ◌<◌, ◌≤◌, ◌∷◌, ◌++◌, [], pos, OnOk, OnErr, IfOk, IfErr, IfSome, IfNone};
+ghost use Rattle.std.specs.List.Sorted.{IsPermutation};
+ghost use Rattle.rstar_base.specs.Points.{table};
+ghost use Rattle.rstar_base.specs.SmallHeaps.{items_of};
+ghost use Rattle.rstar.specs.declared.node.RTreeNode.{Parent};
+ghost use Rattle.rstar.specs.declared.algorithm.nearest_neighbor.search.Stage.TheVariants.{Fresh, Running, Ended};
+ghost use Rattle.rstar.specs.Nodes.{all_elements, all_parents, IsWhole};
+ghost use Rattle.rstar.specs.Neighbors.{IsNeighbor};
+ghost use Rattle.rstar.specs.Searches.{waiting_nodes, distance_of, AreWaiting, IsRunning, IsReady, IsReadyAt, IsUnrefused, held_by, waiting_of};
+
+use crate::node::{ParentNode, RTreeNode};
+use rstar_base::envelope::Envelope;
+use rstar_base::heap::SmallHeap;
+use rstar_base::object::{Distance, PointDistance, PointOf, RTreeObject};
+use rstar_base::point::{Point, RTreeNum, known};
+use std::alloc::AllocError;
+use std::cmp::Ordering;
+
+/// A node and the distance at which it waits. The nearer of two is the greater, so that a heap gives it first.
+#[derive(Drop)]
+pub(crate) struct Waiting<N, S> {
+    pub(crate) node: N,
+    pub(crate) distance: S,
+}
+
+impl<N, S: Ord> PartialEq for Waiting<N, S> {
+    ghost eq = { on (λ w. w.distance) S.eq };
+
+    ghost laws = { Prim.search (comparing, rules) };
+
+    fn eq(&self, other: &Self) -> bool {
+        self.distance == other.distance
+    }
+}
+
+impl<N, S: Ord> Eq for Waiting<N, S> {
+    ghost laws = { Prim.search (comparing, rules) };
+}
+
+impl<N, S: Ord> Ord for Waiting<N, S> {
+    ghost cmp = { flip_args (on (λ w. w.distance) S.cmp) };
+
+    ghost total = { Prim.search (comparing, rules) };
+
+    ghost matches_partial_cmp = { Prim.search (comparing, rules) };
+
+    ghost matches_eq = { Prim.search (comparing, rules) };
+
+    fn cmp(&self, other: &Self) -> Ordering {
+        other.distance.cmp(&self.distance)
+    }
+}
+
+impl<N, S: Ord> PartialOrd for Waiting<N, S> {
+    ghost partial_cmp = { as_partial_cmp (flip_args (on (λ w. w.distance) S.cmp)) };
+
+    ghost laws = { partial_order_from_own_ties (Prim.search (comparing, rules)) (Prim.search (comparing, rules)) };
+
+    fn partial_cmp(&self, other: &Self) -> Option<Ordering> {
+        Some(self.cmp(other))
+    }
+}
+
+/// The nodes that wait, the nearest on top.
+pub(crate) type Heap<'a, T> = SmallHeap<Waiting<&'a RTreeNode<T>, Distance<T>>>;
+
+/// The distance at which a node waits: an element's own, and a parent's envelope's.
+#[tactic(auto, unfolding(crate::specs::Nodes::node_distance, crate::specs::Nodes::fold_tree))]
+pub(crate) fn distance_to<T: PointDistance>(node: &RTreeNode<T>, point: &PointOf<T>) -> Distance<T>
+    ensures { T.Envelope.Point.Scalar.value result ≡ pos (distance_of T.Envelope.boxes T.distances
+        (table T.Envelope.Point.DIMENSIONS (T.Envelope.Point.coord point.now)) node.now) }
+{
+    match node {
+        RTreeNode::Leaf(t) => t.distance_2(point),
+        RTreeNode::Parent(parent) => parent.envelope.distance_2(point),
+    }
+}
+
+/// How far a search has come.
+#[derive(Drop)]
+enum Stage {
+    /// The root waits.
+    Fresh,
+    /// The root was opened.
+    Running,
+    /// Memory was refused.
+    Ended,
+}
+
+/// A search for neighbours, but for its point, which each call is lent: so what it holds by value is of bounded size,
+/// and a generic function may hold it.
+#[derive(Drop)]
+pub(crate) struct NeighborSearch<'a, T: PointDistance> {
+    root: &'a ParentNode<T>,
+    heap: Heap<'a, T>,
+    opened: usize,
+    stage: Stage,
+}
+
+impl<'a, T: PointDistance> NeighborSearch<'a, T> {
+    /// A search in which the root waits. It takes no memory.
+    pub(crate) fn new(root: &'a ParentNode<T>) -> Self
+        requires { IsWhole T.Envelope.boxes T.object root.now }
+        ensures root { result.root ≡ root.entry }
+        ensures stage { result.stage ≡ Fresh }
+        ensures opened { result.opened ≡ 0 }
+        ensures ready { (p : _) → IsReady T.Envelope.boxes T.distances p T.Envelope.Point.Scalar.cmp
+            T.Envelope.Point.Scalar.value T.object result }
+    {
+        NeighborSearch {
+            root,
+            heap: SmallHeap::new(*root.children.allocator()),
+            opened: 0,
+            stage: Stage::Fresh,
+        }
+    }
+
+    /// How many parents were opened, held at the greatest `usize`.
+    pub(crate) fn opened(&self) -> usize
+        ensures { result ≡ self.now.opened }
+    {
+        self.opened
+    }
+
+    /// The nearest element that was not given yet, with its distance.
+    pub(crate) fn next_neighbor(
+        &mut self,
+        point: &PointOf<T>,
+    ) -> Option<Result<(&'a T, Distance<T>), AllocError>>
+        requires { IsReady T.Envelope.boxes T.distances
+            (table T.Envelope.Point.DIMENSIONS (T.Envelope.Point.coord point.now)) T.Envelope.Point.Scalar.cmp
+            T.Envelope.Point.Scalar.value T.object self.old }
+        ensures root { self.new.root ≡ self.old.root }
+        ensures ready { IsReady T.Envelope.boxes T.distances
+            (table T.Envelope.Point.DIMENSIONS (T.Envelope.Point.coord point.now)) T.Envelope.Point.Scalar.cmp
+            T.Envelope.Point.Scalar.value T.object self.new }
+        ensures gives { IfSome result (λ r. IfOk r (λ x. IsNeighbor T.Envelope.boxes T.distances
+            (table T.Envelope.Point.DIMENSIONS (T.Envelope.Point.coord point.now)) self.old.root.now
+            (waiting_of self.old) (waiting_of self.new) x.0.now)) }
+        ensures distance { IfSome result (λ r. IfOk r (λ x. T.Envelope.Point.Scalar.value x.1 ≡ pos
+            (T.distances.distance_2 x.0.now (table T.Envelope.Point.DIMENSIONS (T.Envelope.Point.coord point.now))))) }
+        ensures none { IfNone result (IsUnrefused self.old.stage → all_elements (waiting_of self.old) ≡ []) }
+        ensures over { IfNone result (IsUnrefused self.old.stage → waiting_of self.new ≡ []) }
+        ensures stays { IfNone result (IsUnrefused self.old.stage → self.new.stage ≡ Running) }
+        ensures refused { IfSome result (λ r. IfErr r (λ _. 0 < all_parents (waiting_of self.old))) }
+        ensures goes_on { IfSome result (λ r. IfOk r (λ _. self.new.stage ≡ Running)) }
+        ensures ends { IfSome result (λ r. IfErr r (λ _. self.new.stage ≡ Ended)) }
+        ensures once { IfSome result (λ _. IsUnrefused self.old.stage) }
+    {
+        if let Stage::Ended = self.stage {
+            return None;
+        }
+        if let Err(refused) = self.begin(point) {
+            self.stage = Stage::Ended;
+            return Some(Err(refused));
+        }
+        match self.advance(point) {
+            Ok(Some(found)) => Some(Ok(found)),
+            Ok(None) => None,
+            Err(refused) => {
+                self.stage = Stage::Ended;
+                Some(Err(refused))
+            }
+        }
+    }
+
+    /// Opens the root where it waits.
+    fn begin(&mut self, point: &PointOf<T>) -> Result<(), AllocError>
+        requires unrefused { IsUnrefused self.old.stage }
+        requires ready { IsReady T.Envelope.boxes T.distances
+            (table T.Envelope.Point.DIMENSIONS (T.Envelope.Point.coord point.now)) T.Envelope.Point.Scalar.cmp
+            T.Envelope.Point.Scalar.value T.object self.old }
+        ensures root { self.new.root ≡ self.old.root }
+        ensures stage { OnOk result (self.new.stage ≡ Running) }
+        ensures running { OnOk result (IsRunning T.Envelope.boxes T.distances
+            (table T.Envelope.Point.DIMENSIONS (T.Envelope.Point.coord point.now)) T.Envelope.Point.Scalar.cmp
+            T.Envelope.Point.Scalar.value T.object self.old.root.now self.new.heap self.new.opened) }
+        ensures bag { OnOk result (IsPermutation (all_elements (waiting_of self.old))
+            (all_elements (waiting_nodes (held_by self.new)))) }
+        ensures fewer { OnOk result (all_parents (waiting_nodes (held_by self.new))
+            ≤ all_parents (waiting_of self.old)) }
+        ensures refused { OnErr result (0 < all_parents (waiting_of self.old)) }
+    {
+        match self.stage {
+            Stage::Fresh => {
+                self.open_root(point)?;
+                self.stage = Stage::Running;
+                Ok(())
+            }
+            Stage::Running => Ok(()),
+            Stage::Ended => unreachable!(),
+        }
+    }
+
+    /// Opens the root.
+    fn open_root(&mut self, point: &PointOf<T>) -> Result<(), AllocError>
+        requires { IsReadyAt T.Envelope.boxes T.distances
+            (table T.Envelope.Point.DIMENSIONS (T.Envelope.Point.coord point.now)) T.Envelope.Point.Scalar.cmp
+            T.Envelope.Point.Scalar.value T.object Fresh self.old.root.now self.old.heap self.old.opened }
+        ensures root { self.new.root ≡ self.old.root }
+        ensures running { OnOk result (IsRunning T.Envelope.boxes T.distances
+            (table T.Envelope.Point.DIMENSIONS (T.Envelope.Point.coord point.now)) T.Envelope.Point.Scalar.cmp
+            T.Envelope.Point.Scalar.value T.object self.old.root.now self.new.heap self.new.opened) }
+        ensures bag { OnOk result (IsPermutation (all_elements (Parent self.old.root.now ∷ []))
+            (all_elements (waiting_nodes (held_by self.new)))) }
+        ensures fewer { OnOk result (all_parents (waiting_nodes (held_by self.new))
+            ≤ all_parents (Parent self.old.root.now ∷ [])) }
+    {
+        // Does nothing but tell that the point's coordinates are in their range.
+        known(point);
+        self.opened = 1;
+        let root = self.root;
+        self.add_children(&root.children, point)?;
+        Ok(())
+    }
+
+    /// Opens the nearest waiting parents until an element is nearest.
+    fn advance(&mut self, point: &PointOf<T>) -> Result<Option<(&'a T, Distance<T>)>, AllocError>
+        requires { IsRunning T.Envelope.boxes T.distances
+            (table T.Envelope.Point.DIMENSIONS (T.Envelope.Point.coord point.now)) T.Envelope.Point.Scalar.cmp
+            T.Envelope.Point.Scalar.value T.object self.old.root.now self.old.heap self.old.opened }
+        ensures root { self.new.root ≡ self.old.root }
+        ensures stage { self.new.stage ≡ self.old.stage }
+        ensures running { OnOk result (IsRunning T.Envelope.boxes T.distances
+            (table T.Envelope.Point.DIMENSIONS (T.Envelope.Point.coord point.now)) T.Envelope.Point.Scalar.cmp
+            T.Envelope.Point.Scalar.value T.object self.old.root.now self.new.heap self.new.opened) }
+        ensures gives { IfOk result (λ r. IfSome r (λ x. IsNeighbor T.Envelope.boxes T.distances
+            (table T.Envelope.Point.DIMENSIONS (T.Envelope.Point.coord point.now)) self.old.root.now
+            (waiting_nodes (held_by self.old)) (waiting_nodes (held_by self.new)) x.0.now)) }
+        ensures distance { IfOk result (λ r. IfSome r (λ x. T.Envelope.Point.Scalar.value x.1 ≡ pos
+            (T.distances.distance_2 x.0.now (table T.Envelope.Point.DIMENSIONS (T.Envelope.Point.coord point.now))))) }
+        ensures none { IfOk result (λ r. IfNone r (all_elements (waiting_nodes (held_by self.old)) ≡ [])) }
+        ensures over { IfOk result (λ r. IfNone r (waiting_nodes (held_by self.new) ≡ [])) }
+        ensures refused { OnErr result (0 < all_parents (waiting_nodes (held_by self.old))) }
+    {
+        known(point);
+        while let Some(current) = self.heap.pop() {
+            match current.node {
+                RTreeNode::Leaf(t) => return Ok(Some((t, current.distance))),
+                RTreeNode::Parent(parent) => {
+                    self.opened = self.opened.saturating_add(1);
+                    self.add_children(&parent.children, point)?;
+                }
+            }
+        }
+        Ok(None)
+    }
+
+    /// Lets these nodes wait too.
+    fn add_children(
+        &mut self,
+        children: &'a [RTreeNode<T>],
+        point: &PointOf<T>,
+    ) -> Result<(), AllocError>
+        requires { AreWaiting T.Envelope.boxes T.distances
+            (table T.Envelope.Point.DIMENSIONS (T.Envelope.Point.coord point.now)) T.Envelope.Point.Scalar.cmp
+            T.Envelope.Point.Scalar.value self.old.heap }
+        ensures root { self.new.root ≡ self.old.root }
+        ensures opened { self.new.opened ≡ self.old.opened }
+        ensures stage { self.new.stage ≡ self.old.stage }
+        ensures waiting { AreWaiting T.Envelope.boxes T.distances
+            (table T.Envelope.Point.DIMENSIONS (T.Envelope.Point.coord point.now)) T.Envelope.Point.Scalar.cmp
+            T.Envelope.Point.Scalar.value self.new.heap }
+        ensures added { OnOk result (IsPermutation (waiting_nodes (held_by self.old) ++ children.now)
+            (waiting_nodes (held_by self.new))) }
+    {
+        for node in children {
+            let distance = distance_to(node, point);
+            if let Err(_refused) = self.heap.push(Waiting { node, distance }) {
+                return Err(AllocError);
+            }
+        }
+        Ok(())
+    }
+}

@@ -1,0 +1,68 @@
+//! All elements of least distance.
+
+ghost use Rattle.std.specs.Prelude.{◌≡◌, ℕ, List, [], pos, map, IfOk, IfSome, IfNone, OnOk};
+ghost use Rattle.rstar_base.specs.Points.{table};
+ghost use Rattle.rstar.specs.Neighbors.{AreNearest};
+ghost use Rattle.rstar.specs.Nodes.{all_elements, elements_of, IsWhole};
+ghost use Rattle.rstar.specs.Searches.{waiting_of, IsReady, IsUnrefused};
+ghost use Rattle.rstar.specs.Ties.{IsTied};
+
+use crate::algorithm::nearest_neighbor::search::NeighborSearch;
+use crate::node::ParentNode;
+use rstar_base::envelope::Envelope;
+use rstar_base::object::{Distance, PointDistance, PointOf, RTreeObject};
+use rstar_base::point::{Point, RTreeNum, not_above};
+use std::alloc::AllocError;
+
+/// All elements of least squared distance to a point, with that distance; `None` exactly where there is no element.
+pub(crate) fn all_nearest<'a, T: PointDistance>(
+    root: &'a ParentNode<T>,
+    point: &PointOf<T>,
+) -> Result<Option<(Vec<&'a T>, Distance<T>)>, AllocError>
+    requires { IsWhole T.Envelope.boxes T.object root.now }
+    ensures none { IfOk result (λ r. IfNone r (elements_of root.now ≡ [])) }
+    ensures nearest { IfOk result (λ r. IfSome r (λ x. (d : ℕ) × (T.Envelope.Point.Scalar.value x.1 ≡ pos d)
+        × AreNearest (λ t. T.distances.distance_2 t
+        (table T.Envelope.Point.DIMENSIONS (T.Envelope.Point.coord point.now))) (elements_of root.now) d
+        (map (λ t. t.now) x.0.items))) }
+{
+    let mut search = NeighborSearch::new(root);
+    let Some(found) = search.next_neighbor(point) else {
+        return Ok(None);
+    };
+    let (first, least) = found?;
+    let mut all = Vec::new(*root.children.allocator());
+    all.push(first)?;
+    take_ties(&mut search, point, least, &mut all)?;
+    Ok(Some((all, least)))
+}
+
+/// Takes the elements at a distance that is the least of those that wait, or less than it.
+fn take_ties<'a, T: PointDistance>(
+    search: &mut NeighborSearch<'a, T>,
+    point: &PointOf<T>,
+    least: Distance<T>,
+    all: &mut Vec<&'a T>,
+) -> Result<(), AllocError>
+    requires ready { IsReady T.Envelope.boxes T.distances
+        (table T.Envelope.Point.DIMENSIONS (T.Envelope.Point.coord point.now)) T.Envelope.Point.Scalar.cmp
+        T.Envelope.Point.Scalar.value T.object search.old }
+    requires unrefused { IsUnrefused search.old.stage }
+    ensures { OnOk result ((whole : List T) (d : ℕ) → T.Envelope.Point.Scalar.value least ≡ pos d
+        → IsTied (λ t. T.distances.distance_2 t
+        (table T.Envelope.Point.DIMENSIONS (T.Envelope.Point.coord point.now))) whole d (map (λ t. t.now) all.old.items)
+        (all_elements (waiting_of search.old))
+        → AreNearest (λ t. T.distances.distance_2 t
+        (table T.Envelope.Point.DIMENSIONS (T.Envelope.Point.coord point.now))) whole d
+        (map (λ t. t.now) all.new.items)) }
+{
+    while let Some(found) = search.next_neighbor(point) {
+        let (t, distance) = found?;
+        if not_above(distance, least) {
+            all.push(t)?;
+        } else {
+            return Ok(());
+        }
+    }
+    Ok(())
+}

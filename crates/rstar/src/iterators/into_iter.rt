@@ -1,0 +1,86 @@
+//! Iterators that take a tree apart.
+
+ghost use Rattle.std.specs.Prelude.{◌≡◌, ◌≤◌, ◌<◌, [], ◌∷◌, ◌++◌, reverse, vec_len, vec_capacity};
+ghost use Rattle.std.specs.Iterator.{YieldsFirst, item_count};
+ghost use Rattle.rstar.specs.Heights.{levels_below};
+ghost use Rattle.rstar.specs.IntoIters.{left_to_give, IsGiving};
+ghost use Rattle.rstar.specs.Nodes.{children_of, elements_of, IsWhole};
+
+use crate::node::{ParentNode, RTreeNode};
+use rstar_base::envelope::Envelope;
+use rstar_base::object::RTreeObject;
+use std::mem::replace;
+
+/// All elements of a tree that is taken apart, each once, in some order, and then `None`.
+///
+/// `next` takes no memory: the path was reserved when the iterator was made. Dropping it drops the elements that it did
+/// not give.
+#[derive(Drop)]
+pub struct IntoIter<T: RTreeObject> {
+    // The nodes that are being given, from the last on, and in the path those that were left for them, the lowest last.
+    nodes: Vec<RTreeNode<T>>,
+    path: Vec<Vec<RTreeNode<T>>>,
+}
+
+impl<T: RTreeObject> IntoIter<T> {
+    /// All elements below a root, with an empty path that has room for the levels of parents below it.
+    #[tactic(auto, unfolding(crate::specs::IntoIters::left_to_give, crate::specs::IntoIters::IsGiving))]
+    pub(crate) fn new(root: ParentNode<T>, path: Vec<Vec<RTreeNode<T>>>) -> Self
+        requires whole { IsWhole T.Envelope.boxes T.object root }
+        requires empty { path.items ≡ [] }
+        requires room { levels_below (children_of root) ≤ vec_capacity path }
+        ensures all { left_to_give result ≡ reverse (elements_of root) }
+        ensures giving { IsGiving result }
+    {
+        let ParentNode {
+            children,
+            envelope: _,
+        } = root;
+        IntoIter {
+            nodes: children,
+            path,
+        }
+    }
+
+    /// Goes on with the children of a parent, before the nodes that are left beside it.
+    fn enter(&mut self, parent: ParentNode<T>)
+        requires { vec_len self.old.path < vec_capacity self.old.path }
+        ensures nodes { self.new.nodes.items ≡ children_of parent }
+        ensures path { self.new.path.items ≡ self.old.path.items ++ self.old.nodes ∷ [] }
+        ensures capacity { vec_capacity self.new.path ≡ vec_capacity self.old.path }
+    {
+        let ParentNode {
+            children,
+            envelope: _,
+        } = parent;
+        let beside = replace(&mut self.nodes, children);
+        self.path.push_reserved(beside);
+    }
+}
+
+impl<T: RTreeObject> Iterator for IntoIter<T> {
+    type Item = T;
+
+    ghost can_next = { IsGiving };
+
+    ghost next_gives = { λ s r t. YieldsFirst left_to_give s r t × IsGiving t };
+
+    ghost remaining = { item_count left_to_give };
+
+    #[tactic(auto, unfolding(crate::specs::IntoIters::left_to_give, crate::specs::IntoIters::IsGiving))]
+    fn next(&mut self) -> Option<T> {
+        loop {
+            let Some(last) = self.nodes.pop() else {
+                let Some(above) = self.path.pop() else {
+                    return None;
+                };
+                self.nodes = above;
+                continue;
+            };
+            match last {
+                RTreeNode::Leaf(t) => return Some(t),
+                RTreeNode::Parent(parent) => self.enter(parent),
+            }
+        }
+    }
+}

@@ -1,0 +1,276 @@
+//! Joins: the pairs of elements of two trees whose envelopes intersect, by a walk through both trees together.
+
+ghost use Rattle.std.specs.Prelude.{◌≡◌, ◌≢◌, ◌<◌, ◌≤◌, [], ◌∷◌, max, false, refl, IsOk, IfOk, IfSome, IfNone, flat_map, length, take};
+ghost use Rattle.std.specs.Iterator.{item_count};
+ghost use Rattle.rstar.specs.declared.node.RTreeNode.{Leaf};
+ghost use Rattle.rstar.specs.Heights.{levels_below};
+ghost use Rattle.rstar.specs.Nodes.{children_of, node_box, IsWhole};
+ghost use Rattle.rstar.specs.Meets.{opened_to, both_leaves, pairs_from_roots};
+ghost use Rattle.rstar.specs.JoinWalks.{IsSingle, IsDone, IsFromFirst, HasItsPaths, IsPairStep};
+ghost use Rattle.rstar.specs.Joins.{SeenLaws, meets_by, pairs_opened, pairs_to_come, IsJoinMade, IsJoining, GivesPair};
+
+use crate::node::{ParentNode, RTreeNode};
+use crate::path::Path;
+use rstar_base::envelope::Envelope;
+use rstar_base::object::RTreeObject;
+use std::alloc::AllocError;
+
+/// Elements whose envelopes are of a given type. Every element type has it for its own envelope type, and for no other.
+///
+/// It stands where rstar writes `RTreeObject<Envelope = E>`.
+pub trait InEnvelope<E: Envelope>: RTreeObject {
+    // The envelope, as one of that type.
+    ghost seen: { Self.Envelope → E };
+
+    /// The envelope, as one of that type.
+    fn seen(envelope: &Self::Envelope) -> &E
+        ensures { result.now ≡ seen envelope.now };
+
+    ghost seen_laws: { SeenLaws Self.Envelope.boxes E.boxes seen };
+}
+
+impl<T: RTreeObject> InEnvelope<T::Envelope> for T {
+    ghost seen = { λ e. e };
+
+    fn seen(envelope: &T::Envelope) -> &T::Envelope {
+        envelope
+    }
+
+    ghost seen_laws = { record {
+      value = λ a h. h;
+      merge = λ a b. refl;
+    } };
+}
+
+/// The pairs of elements of two trees whose envelopes intersect, each pair of places once, in some order, and then
+/// `None`.
+///
+/// The walk opens a pair of nodes where their envelopes intersect, and goes on with the pairs of their children; where
+/// one of the two is a leaf, the other goes on alone. `next` takes no memory: the paths were reserved when the iterator
+/// was made.
+#[derive(Drop)]
+pub struct IntersectionIterator<'a, T: RTreeObject, U: InEnvelope<T::Envelope> = T> {
+    left: &'a ParentNode<T>,
+    right: &'a ParentNode<U>,
+    // The nodes that are being read, each on the left with each on the right, and in the path those left for them.
+    lefts: &'a [RTreeNode<T>],
+    rights: &'a [RTreeNode<U>],
+    path: Path<(&'a [RTreeNode<T>], &'a [RTreeNode<U>])>,
+    opened: usize,
+}
+
+/// What one step of a join did.
+enum PairStep<'a, T, U> {
+    /// It found a pair.
+    Found(&'a T, &'a U),
+    /// It went on.
+    Passed,
+    /// It was at the end.
+    Ended,
+}
+
+/// The first node alone.
+fn first_alone<'a, T: RTreeObject>(nodes: &'a [RTreeNode<T>]) -> &'a [RTreeNode<T>]
+    requires { 0 < length nodes.now }
+    ensures { result.now ≡ take 1 nodes.now }
+{
+    &nodes[..1]
+}
+
+/// The children of a single node, or the node alone where it is a leaf.
+fn opened_nodes<'a, T: RTreeObject>(nodes: &'a [RTreeNode<T>]) -> &'a [RTreeNode<T>]
+    requires { IsSingle nodes.now }
+    ensures { result.now ≡ flat_map opened_to nodes.now }
+{
+    let Some((first, _rest)) = nodes.split_first() else {
+        return nodes;
+    };
+    match first {
+        RTreeNode::Leaf(_) => nodes,
+        RTreeNode::Parent(parent) => parent.children.as_slice(),
+    }
+}
+
+/// Whether an envelope intersects that of a node.
+#[tactic(auto, unfolding(crate::specs::Nodes::node_box, crate::specs::Nodes::fold_tree))]
+fn meets_node<E: Envelope, U: InEnvelope<E>>(envelope: &E, node: &RTreeNode<U>) -> bool
+    ensures { result ≡ meets_by E.boxes U.seen envelope.now (node_box U.object.box_of node.now) }
+{
+    match node {
+        RTreeNode::Leaf(u) => envelope.intersects(U::seen(&u.envelope())),
+        RTreeNode::Parent(q) => envelope.intersects(U::seen(&q.envelope)),
+    }
+}
+
+/// The nodes from the first one on that an envelope meets; none where it meets none.
+fn from_first_met<'a, E: Envelope, U: InEnvelope<E>>(
+    envelope: &E,
+    nodes: &'a [RTreeNode<U>],
+) -> &'a [RTreeNode<U>]
+    ensures { IsFromFirst (λ n. meets_by E.boxes U.seen envelope.now (node_box U.object.box_of n))
+        nodes.now result.now }
+{
+    let mut rest = nodes;
+    while let Some((node, more)) = rest.split_first() {
+        if meets_node(envelope, node) {
+            return rest;
+        }
+        rest = more;
+    }
+    rest
+}
+
+/// The elements of two leaves.
+#[tactic(auto, unfolding(crate::specs::Nodes::is_leaf_node, crate::specs::Nodes::fold_tree))]
+fn two_leaves<'a, T: RTreeObject, U: RTreeObject>(
+    left: &'a RTreeNode<T>,
+    right: &'a RTreeNode<U>,
+) -> Option<(&'a T, &'a U)>
+    ensures some { IfSome result (λ p. (left.now ≡ Leaf p.0.now) × (right.now ≡ Leaf p.1.now)) }
+    ensures none { IfNone result (both_leaves left.now right.now ≡ false) }
+{
+    match left {
+        RTreeNode::Leaf(t) => match right {
+            RTreeNode::Leaf(u) => Some((t, u)),
+            RTreeNode::Parent(_) => None,
+        },
+        RTreeNode::Parent(_) => None,
+    }
+}
+
+impl<'a, T: RTreeObject, U: InEnvelope<T::Envelope>> IntersectionIterator<'a, T, U> {
+    /// A join of what is below two roots, where the higher has so many levels of parents below it.
+    #[tactic(auto, unfolding(crate::specs::Joins::pairs_to_come, crate::specs::Joins::IsJoining))]
+    pub(crate) fn new(
+        left: &'a ParentNode<T>,
+        right: &'a ParentNode<U>,
+        levels: usize,
+    ) -> Result<Self, AllocError>
+        requires left { IsWhole T.Envelope.boxes T.object left.now }
+        requires right { IsWhole U.Envelope.boxes U.object right.now }
+        requires levels { levels ≡ max (levels_below (children_of left.now)) (levels_below (children_of right.now)) }
+        ensures gives { IfOk result (λ it. pairs_to_come (meets_by T.Envelope.boxes U.seen)
+            T.object.box_of U.object.box_of it
+            ≡ pairs_from_roots (meets_by T.Envelope.boxes U.seen)
+            T.object.box_of U.object.box_of left.now right.now) }
+        ensures made { IfOk result (λ it. IsJoinMade (meets_by T.Envelope.boxes U.seen)
+            T.object.box_of U.object.box_of left.now right.now it) }
+        ensures joining { IfOk result (λ it. IsJoining (meets_by T.Envelope.boxes U.seen)
+            T.object.box_of U.object.box_of it) }
+        ensures near { levels ≤ 5 → IsOk result }
+    {
+        let lefts = &left.children[..0];
+        let rights = &right.children[..0];
+        let room = levels.saturating_mul(2).saturating_add(1);
+        let path = Path::with_room(*left.children.allocator(), (lefts, rights), room)?;
+        let empty = left.children.is_empty() || right.children.is_empty();
+        if empty || !left.envelope.intersects(U::seen(&right.envelope)) {
+            return Ok(IntersectionIterator {
+                left,
+                right,
+                lefts,
+                rights,
+                path,
+                opened: 0,
+            });
+        }
+        Ok(IntersectionIterator {
+            left,
+            right,
+            lefts: left.children.as_slice(),
+            rights: right.children.as_slice(),
+            path,
+            opened: 1,
+        })
+    }
+
+    /// How many pairs of nodes were opened so far, the pair of roots among them, held at the greatest `usize`. At the
+    /// end these are the pairs of nodes that meet, those of two leaves left out; an empty root is never asked.
+    pub fn opened(&self) -> usize
+        ensures { result ≡ pairs_opened self.now }
+    {
+        self.opened
+    }
+
+    /// Parts the first node on the left from the others, and reads on with it; or goes back to what was left last.
+    fn step(&mut self) -> PairStep<'a, T, U>
+        requires { HasItsPaths (meets_by T.Envelope.boxes U.seen) T.object.box_of U.object.box_of self.old }
+        ensures { IsPairStep (meets_by T.Envelope.boxes U.seen) T.object.box_of U.object.box_of
+            self.old result self.new }
+    {
+        let Some((left, more_lefts)) = self.lefts.split_first() else {
+            return self.go_back();
+        };
+        if self.rights.is_empty() {
+            return self.go_back();
+        }
+        if more_lefts.is_empty() {
+            return self.read(left);
+        }
+        self.path.push_reserved((more_lefts, self.rights));
+        self.lefts = first_alone(self.lefts);
+        self.read(left)
+    }
+
+    /// Passes over the nodes on the right that the one on the left does not meet, and gives or opens the first pair that
+    /// meets; or goes back.
+    fn read(&mut self, left: &'a RTreeNode<T>) -> PairStep<'a, T, U>
+        requires paths { HasItsPaths (meets_by T.Envelope.boxes U.seen) T.object.box_of U.object.box_of self.old }
+        requires alone { self.old.lefts.now ≡ left.now ∷ [] }
+        requires some { self.old.rights.now ≢ [] }
+        ensures { IsPairStep (meets_by T.Envelope.boxes U.seen) T.object.box_of U.object.box_of
+            self.old result self.new }
+    {
+        let met = from_first_met(&left.envelope(), self.rights);
+        let Some((right, more_rights)) = met.split_first() else {
+            self.rights = met;
+            return self.go_back();
+        };
+        if let Some((t, u)) = two_leaves(left, right) {
+            self.rights = more_rights;
+            return PairStep::Found(t, u);
+        }
+        self.opened = self.opened.saturating_add(1);
+        self.path.push_reserved((self.lefts, more_rights));
+        self.lefts = opened_nodes(self.lefts);
+        self.rights = opened_nodes(first_alone(met));
+        PairStep::Passed
+    }
+
+    /// Goes back to what was left last, where nothing is left in hand.
+    fn go_back(&mut self) -> PairStep<'a, T, U>
+        requires paths { HasItsPaths (meets_by T.Envelope.boxes U.seen) T.object.box_of U.object.box_of self.old }
+        requires none { IsDone self.old }
+        ensures { IsPairStep (meets_by T.Envelope.boxes U.seen) T.object.box_of U.object.box_of
+            self.old result self.new }
+    {
+        let Some((lefts, rights)) = self.path.pop() else {
+            return PairStep::Ended;
+        };
+        self.lefts = lefts;
+        self.rights = rights;
+        PairStep::Passed
+    }
+}
+
+impl<'a, T: RTreeObject, U: InEnvelope<T::Envelope>> Iterator for IntersectionIterator<'a, T, U> {
+    type Item = (&'a T, &'a U);
+
+    ghost can_next = { IsJoining (meets_by T.Envelope.boxes U.seen) T.object.box_of U.object.box_of };
+
+    ghost next_gives = { GivesPair (meets_by T.Envelope.boxes U.seen) T.object.box_of U.object.box_of };
+
+    ghost remaining = { item_count (pairs_to_come (meets_by T.Envelope.boxes U.seen) T.object.box_of
+        U.object.box_of) };
+
+    #[tactic(auto, unfolding(crate::specs::Joins::pairs_to_come, crate::specs::Joins::IsJoining))]
+    fn next(&mut self) -> Option<(&'a T, &'a U)> {
+        loop {
+            match self.step() {
+                PairStep::Found(t, u) => return Some((t, u)),
+                PairStep::Passed => {}
+                PairStep::Ended => return None,
+            }
+        }
+    }
+}

@@ -1,0 +1,150 @@
+//! Lists of commands, run over a tree as a scan would run them over a list of its elements.
+
+ghost use Rattle.std.specs.Prelude.{◌≡◌, ◌<◌, ◌↔◌, ◌⊎◌, IfOk, OnErr};
+ghost use Rattle.std.specs.List.{AllByRecursion};
+ghost use Rattle.rstar.specs.declared.replay.Reply.TheVariants.{TooMany};
+ghost use Rattle.rstar.specs.Clones.{ClonesEqual};
+ghost use Rattle.rstar.specs.Heights.{height_of, spare_lists};
+ghost use Rattle.rstar.specs.Steps.{questions_of, IsFit, IsInsertion, IsRefusal, Step, Run};
+ghost use Rattle.rstar.specs.Trees.{root_of, size_of, elements_in, IsUnchanged, IsWholeTree};
+
+mod answers;
+mod changes;
+
+use crate::rtree::RTree;
+use answers::{ask, contains, join, nearest, neighbours};
+use changes::{drain, insert, load, pop_nearest, remove, remove_at_point};
+use rstar_base::envelope::Envelope;
+use rstar_base::object::{Distance, EqualEnvelopes, PointDistance, PointOf, RTreeObject};
+use rstar_base::params::RTreeParams;
+use rstar_base::point::{Point, RTreeNum};
+use std::alloc::AllocError;
+
+/// Which elements are asked for.
+#[derive(Drop)]
+pub enum Query<T: PointDistance> {
+    /// All.
+    All,
+    /// Those whose envelopes an envelope contains.
+    In(T::Envelope),
+    /// Those whose envelopes an envelope intersects. Touching is enough.
+    Hit(T::Envelope),
+    /// Those that contain a point.
+    At(PointOf<T>),
+    /// Those whose squared distance from a point is at most a limit.
+    Within(PointOf<T>, Distance<T>),
+}
+
+/// What can be done with a tree.
+#[derive(Drop)]
+pub enum Command<T: PointDistance> {
+    /// Puts a fresh load of these elements in the tree's place.
+    Load(Vec<T>),
+    /// Adds an element.
+    Insert(T),
+    /// Takes one element that equals this one out.
+    Remove(T),
+    /// Takes one element that contains a point out.
+    RemoveAtPoint(PointOf<T>),
+    /// Takes one element of least distance to a point out.
+    PopNearest(PointOf<T>),
+    /// Takes so many of the elements that are asked for out, or all of them where there are fewer.
+    Drain(Query<T>, usize),
+    /// The elements that are asked for.
+    Ask(Query<T>),
+    /// Whether an element equals this one.
+    Contains(T),
+    /// An element of least distance to a point, with that distance.
+    Nearest(PointOf<T>),
+    /// So many elements, the nearest to a point first, with their distances.
+    Neighbours(PointOf<T>, usize),
+    /// The pairs of an element of the tree and one of this list whose envelopes intersect.
+    Join(Vec<T>),
+}
+
+/// What a command is answered. Elements are clones, but for those that were taken out. Distances are squared.
+#[derive(Drop)]
+pub enum Reply<T: PointDistance> {
+    /// It is done.
+    Done,
+    /// The element that was taken out, if there was one.
+    Taken(Option<T>),
+    /// Elements, in some order.
+    Elements(Vec<T>),
+    /// Whether there is such an element.
+    Has(bool),
+    /// An element of least distance, with that distance; `None` where the tree is empty.
+    Nearest(Option<(T, Distance<T>)>),
+    /// Elements with their distances, which never fall.
+    Neighbours(Vec<(T, Distance<T>)>),
+    /// Pairs of elements, in some order.
+    Pairs(Vec<(T, T)>),
+    /// The allocator refused memory, and the tree is left.
+    NoMemory,
+    /// The tree cannot count one element more, and is left.
+    TooMany,
+}
+
+/// Runs one command, and answers as a scan of the elements would: see `Step`.
+///
+/// Inserted, loaded and joined elements have envelopes that are not empty, loads and joins have two dimensions
+/// (`verify_parameters` is the test), and a clone of an element equals it. `TooMany` comes exactly where `insert` says,
+/// and only of an `Insert`; `NoMemory` where the allocator refuses a growth, and never of a `Remove`, a `RemoveAtPoint`
+/// or a `Contains`, which take no memory. Both leave the tree, and a refused `Insert` drops its element. It costs what
+/// the tree's own call costs, and a clone of each element that it answers with and does not take out.
+#[tactic(auto, using(crate::proofs::Replays::too_many, crate::proofs::Replays::unchanged))]
+pub fn step<T: PointDistance + EqualEnvelopes + Clone, Params: RTreeParams>(
+    tree: &mut RTree<T, Params>,
+    command: Command<T>,
+) -> Reply<T>
+    requires whole { IsWholeTree T.Envelope.boxes T.object Params.MAX_SIZE tree.old }
+    requires clones { ClonesEqual T.is_clone }
+    requires fit { IsFit (questions_of T.Envelope.boxes T.object T.distances T.Envelope.Point.DIMENSIONS
+        T.Envelope.Point.coord T.Envelope.Point.Scalar.value T.eq) T.Envelope.Point.DIMENSIONS command }
+    ensures step { Step (questions_of T.Envelope.boxes T.object T.distances T.Envelope.Point.DIMENSIONS
+        T.Envelope.Point.coord T.Envelope.Point.Scalar.value T.eq)
+        (elements_in tree.old) command result (elements_in tree.new) }
+    ensures whole { IsWholeTree T.Envelope.boxes T.object Params.MAX_SIZE tree.new }
+    ensures refused { IsRefusal result → IsUnchanged tree.old tree.new }
+    ensures too_many { (result ≡ TooMany) ↔ (IsInsertion command × ((size_of tree.old ≡ usize.MAX)
+        ⊎ (usize.MAX < spare_lists Params.REINSERTION_COUNT (height_of (root_of tree.old))))) }
+{
+    match command {
+        Command::Load(list) => load(tree, list),
+        Command::Insert(t) => insert(tree, t),
+        Command::Remove(t) => remove(tree, &t),
+        Command::RemoveAtPoint(point) => remove_at_point(tree, point),
+        Command::PopNearest(point) => pop_nearest(tree, point),
+        Command::Drain(query, most) => drain(tree, query, most),
+        Command::Ask(query) => ask(tree, query),
+        Command::Contains(t) => contains(tree, &t),
+        Command::Nearest(point) => nearest(tree, point),
+        Command::Neighbours(point, most) => neighbours(tree, point, most),
+        Command::Join(list) => join(tree, list),
+    }
+}
+
+/// Runs commands in order, each as `step` does, and gives their replies: see `Run`.
+///
+/// It reserves the list of replies first. An error means that the allocator refused it, and that no command was run.
+pub fn replay<T: PointDistance + EqualEnvelopes + Clone, Params: RTreeParams>(
+    tree: &mut RTree<T, Params>,
+    commands: Vec<Command<T>>,
+) -> Result<Vec<Reply<T>>, AllocError>
+    requires whole { IsWholeTree T.Envelope.boxes T.object Params.MAX_SIZE tree.old }
+    requires clones { ClonesEqual T.is_clone }
+    requires fit { AllByRecursion (IsFit (questions_of T.Envelope.boxes T.object T.distances
+        T.Envelope.Point.DIMENSIONS T.Envelope.Point.coord T.Envelope.Point.Scalar.value T.eq)
+        T.Envelope.Point.DIMENSIONS) commands.items }
+    ensures run { IfOk result (λ replies. Run (questions_of T.Envelope.boxes T.object T.distances
+        T.Envelope.Point.DIMENSIONS T.Envelope.Point.coord T.Envelope.Point.Scalar.value T.eq)
+        (elements_in tree.old) commands.items replies.items (elements_in tree.new)) }
+    ensures none_run { OnErr result (tree.new ≡ tree.old) }
+    ensures whole { IsWholeTree T.Envelope.boxes T.object Params.MAX_SIZE tree.new }
+{
+    let mut replies = Vec::with_capacity(*commands.allocator(), commands.len())?;
+    for command in commands {
+        replies.push_reserved(step(tree, command));
+    }
+    Ok(replies)
+}

@@ -1,0 +1,191 @@
+//! Commands that leave a tree.
+
+ghost use Rattle.std.specs.Prelude.{◌≡◌, ◌≤◌, false, filter, All, IfOk};
+ghost use Rattle.std.specs.List.Sorted.{IsPermutation};
+ghost use Rattle.rstar_base.specs.Points.{table};
+ghost use Rattle.rstar_base.specs.Selections.{IsLawful};
+ghost use Rattle.rstar.specs.declared.replay.Command.TheVariants.{Ask, Contains, Nearest, Neighbours, Join};
+ghost use Rattle.rstar.specs.Clones.{ClonesEqual};
+ghost use Rattle.rstar.specs.Joins.{join};
+ghost use Rattle.rstar.specs.Steps.{questions_of, selects, IsNearestWith, Step};
+ghost use Rattle.rstar.specs.Trees.{elements_in, IsWholeTree};
+
+use crate::replay::{Query, Reply};
+use crate::rtree::RTree;
+use rstar_base::algorithm::selection_functions::{
+    SelectAllFunc, SelectAtPointFunction, SelectInEnvelopeFuncIntersecting,
+    SelectInEnvelopeFunction, SelectWithinDistanceFunction, SelectionFunction,
+};
+use rstar_base::envelope::Envelope;
+use rstar_base::object::{Distance, EqualEnvelopes, PointDistance, PointOf, RTreeObject};
+use rstar_base::params::RTreeParams;
+use rstar_base::point::{Point, RTreeNum};
+use std::alloc::AllocError;
+
+/// The elements that are asked for.
+#[tactic(auto, using(crate::proofs::Replays::same_bag))]
+pub(super) fn ask<T: PointDistance + EqualEnvelopes + Clone, Params: RTreeParams>(
+    tree: &RTree<T, Params>,
+    query: Query<T>,
+) -> Reply<T>
+    requires whole { IsWholeTree T.Envelope.boxes T.object Params.MAX_SIZE tree.now }
+    requires clones { ClonesEqual T.is_clone }
+    ensures { Step (questions_of T.Envelope.boxes T.object T.distances T.Envelope.Point.DIMENSIONS
+        T.Envelope.Point.coord T.Envelope.Point.Scalar.value T.eq)
+        (elements_in tree.now) (Ask query) result (elements_in tree.now) }
+{
+    match ask_query(tree, query) {
+        Ok(found) => Reply::Elements(found),
+        Err(_) => Reply::NoMemory,
+    }
+}
+
+/// The same, as a list.
+fn ask_query<T: PointDistance + EqualEnvelopes + Clone, Params: RTreeParams>(
+    tree: &RTree<T, Params>,
+    query: Query<T>,
+) -> Result<Vec<T>, AllocError>
+    requires whole { IsWholeTree T.Envelope.boxes T.object Params.MAX_SIZE tree.now }
+    requires clones { ClonesEqual T.is_clone }
+    ensures { IfOk result (λ found. found.items ≡ filter (selects (questions_of T.Envelope.boxes T.object T.distances
+        T.Envelope.Point.DIMENSIONS T.Envelope.Point.coord T.Envelope.Point.Scalar.value T.eq) query)
+        (elements_in tree.now)) }
+{
+    match query {
+        Query::All => clones_of(tree, SelectAllFunc),
+        Query::In(envelope) => clones_of(tree, SelectInEnvelopeFunction::new(envelope)),
+        Query::Hit(envelope) => clones_of(tree, SelectInEnvelopeFuncIntersecting::new(envelope)),
+        Query::At(point) => clones_of(tree, SelectAtPointFunction::new(point)),
+        Query::Within(point, limit) => {
+            clones_of(tree, SelectWithinDistanceFunction::new(point, limit))
+        }
+    }
+}
+
+/// The clones of the elements that a function selects.
+fn clones_of<T: RTreeObject + Clone, Func: SelectionFunction<T>, Params: RTreeParams>(
+    tree: &RTree<T, Params>,
+    func: Func,
+) -> Result<Vec<T>, AllocError>
+    requires whole { IsWholeTree T.Envelope.boxes T.object Params.MAX_SIZE tree.now }
+    requires clones { ClonesEqual T.is_clone }
+    requires lawful { IsLawful T.Envelope.boxes T.object (Func.accepts func) (Func.selects func) }
+    ensures { IfOk result (λ found. found.items ≡ filter (Func.selects func) (elements_in tree.now)) }
+{
+    let mut found = Vec::new(*tree.root().children.allocator());
+    for t in tree.locate_with_selection_function(func)? {
+        found.push(t.clone()?)?;
+    }
+    Ok(found)
+}
+
+/// Whether an element equals this one.
+#[tactic(auto, using(crate::proofs::Replays::same_bag))]
+pub(super) fn contains<T: PointDistance + EqualEnvelopes, Params: RTreeParams>(
+    tree: &RTree<T, Params>,
+    t: &T,
+) -> Reply<T>
+    requires { IsWholeTree T.Envelope.boxes T.object Params.MAX_SIZE tree.now }
+    ensures { Step (questions_of T.Envelope.boxes T.object T.distances T.Envelope.Point.DIMENSIONS
+        T.Envelope.Point.coord T.Envelope.Point.Scalar.value T.eq)
+        (elements_in tree.now) (Contains t.now) result (elements_in tree.now) }
+{
+    Reply::Has(tree.contains(t))
+}
+
+/// An element of least distance to a point.
+#[tactic(auto, using(crate::proofs::Replays::same_bag))]
+pub(super) fn nearest<T: PointDistance + EqualEnvelopes + Clone, Params: RTreeParams>(
+    tree: &RTree<T, Params>,
+    point: PointOf<T>,
+) -> Reply<T>
+    requires whole { IsWholeTree T.Envelope.boxes T.object Params.MAX_SIZE tree.now }
+    requires clones { ClonesEqual T.is_clone }
+    ensures { Step (questions_of T.Envelope.boxes T.object T.distances T.Envelope.Point.DIMENSIONS
+        T.Envelope.Point.coord T.Envelope.Point.Scalar.value T.eq)
+        (elements_in tree.now) (Nearest point) result (elements_in tree.now) }
+{
+    match nearest_clone(tree, point) {
+        Ok(found) => Reply::Nearest(found),
+        Err(_) => Reply::NoMemory,
+    }
+}
+
+/// A clone of an element of least distance to a point, with that distance.
+fn nearest_clone<T: PointDistance + Clone, Params: RTreeParams>(
+    tree: &RTree<T, Params>,
+    point: PointOf<T>,
+) -> Result<Option<(T, Distance<T>)>, AllocError>
+    requires whole { IsWholeTree T.Envelope.boxes T.object Params.MAX_SIZE tree.now }
+    requires clones { ClonesEqual T.is_clone }
+    ensures { IfOk result (IsNearestWith (λ t. T.distances.distance_2 t
+        (table T.Envelope.Point.DIMENSIONS (T.Envelope.Point.coord point))) T.Envelope.Point.Scalar.value
+        (elements_in tree.now)) }
+{
+    let Some((t, distance)) = tree.nearest_neighbor_with_distance_2(point)? else {
+        return Ok(None);
+    };
+    let element = t.clone()?;
+    Ok(Some((element, distance)))
+}
+
+/// So many elements, the nearest to a point first.
+#[tactic(auto, using(crate::proofs::Replays::same_bag))]
+pub(super) fn neighbours<T: PointDistance + EqualEnvelopes + Clone, Params: RTreeParams>(
+    tree: &RTree<T, Params>,
+    point: PointOf<T>,
+    most: usize,
+) -> Reply<T>
+    requires whole { IsWholeTree T.Envelope.boxes T.object Params.MAX_SIZE tree.now }
+    requires clones { ClonesEqual T.is_clone }
+    ensures { Step (questions_of T.Envelope.boxes T.object T.distances T.Envelope.Point.DIMENSIONS
+        T.Envelope.Point.coord T.Envelope.Point.Scalar.value T.eq)
+        (elements_in tree.now) (Neighbours point most) result (elements_in tree.now) }
+{
+    match tree.first_neighbors(&point, most) {
+        Ok(found) => Reply::Neighbours(found),
+        Err(_) => Reply::NoMemory,
+    }
+}
+
+/// The pairs of an element of the tree and one of a list whose envelopes intersect.
+#[tactic(auto, using(crate::proofs::Replays::same_bag))]
+pub(super) fn join<T: PointDistance + EqualEnvelopes + Clone, Params: RTreeParams>(
+    tree: &RTree<T, Params>,
+    list: Vec<T>,
+) -> Reply<T>
+    requires whole { IsWholeTree T.Envelope.boxes T.object Params.MAX_SIZE tree.now }
+    requires clones { ClonesEqual T.is_clone }
+    requires dimensions { 2 ≤ T.Envelope.Point.DIMENSIONS }
+    requires elements { All (λ t. T.Envelope.boxes.is_empty (T.object.box_of t) ≡ false) list.items }
+    ensures { Step (questions_of T.Envelope.boxes T.object T.distances T.Envelope.Point.DIMENSIONS
+        T.Envelope.Point.coord T.Envelope.Point.Scalar.value T.eq)
+        (elements_in tree.now) (Join list) result (elements_in tree.now) }
+{
+    match pairs_with(tree, list) {
+        Ok(pairs) => Reply::Pairs(pairs),
+        Err(_) => Reply::NoMemory,
+    }
+}
+
+/// The clones of those pairs. The list is loaded with the default node sizes.
+fn pairs_with<T: RTreeObject + Clone, Params: RTreeParams>(
+    tree: &RTree<T, Params>,
+    list: Vec<T>,
+) -> Result<Vec<(T, T)>, AllocError>
+    requires whole { IsWholeTree T.Envelope.boxes T.object Params.MAX_SIZE tree.now }
+    requires clones { ClonesEqual T.is_clone }
+    requires dimensions { 2 ≤ T.Envelope.Point.DIMENSIONS }
+    requires elements { All (λ t. T.Envelope.boxes.is_empty (T.object.box_of t) ≡ false) list.items }
+    ensures { IfOk result (λ pairs. IsPermutation
+        (join T.Envelope.boxes.intersects T.object.box_of T.object.box_of (elements_in tree.now) list.items)
+        pairs.items) }
+{
+    let mut pairs = Vec::new(*list.allocator());
+    let other = RTree::bulk_load(list)?;
+    for (t, u) in tree.intersection_candidates_with_other_tree(&other)? {
+        let left = t.clone()?;
+        pairs.push((left, u.clone()?))?;
+    }
+    Ok(pairs)
+}

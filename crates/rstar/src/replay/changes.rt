@@ -1,0 +1,221 @@
+//! Commands that change a tree.
+
+ghost use Rattle.std.specs.Prelude.{◌≡◌, ◌<◌, ◌≤◌, ◌↔◌, ◌⊎◌, ◌++◌, [], true, false, length, IfOk, OnErr, All, vec_capacity};
+ghost use Rattle.std.specs.List.{AllByRecursion};
+ghost use Rattle.std.specs.List.Sorted.{IsPermutation};
+ghost use Rattle.rstar_base.specs.Selections.{IsLawful};
+ghost use Rattle.rstar.specs.declared.replay.Command.TheVariants.{Load, Insert, Remove, RemoveAtPoint, PopNearest, Drain};
+ghost use Rattle.rstar.specs.declared.replay.Reply.TheVariants.{TooMany};
+ghost use Rattle.rstar.specs.Drains.{drained, drain_question, elements_left, IsDraining};
+ghost use Rattle.rstar.specs.Heights.{height_of, spare_lists};
+ghost use Rattle.rstar.specs.Removals.{NoneSelected};
+ghost use Rattle.rstar.specs.Steps.{questions_of, selects, IsRefusal, TakesSome, Step};
+ghost use Rattle.rstar.specs.Trees.{root_of, size_of, elements_in, IsUnchanged, IsWholeTree};
+
+use crate::iterators::DrainIterator;
+use crate::params::InsertCause;
+use crate::replay::{Query, Reply};
+use crate::rtree::RTree;
+use rstar_base::algorithm::selection_functions::{
+    SelectAllFunc, SelectAtPointFunction, SelectInEnvelopeFuncIntersecting,
+    SelectInEnvelopeFunction, SelectWithinDistanceFunction, SelectionFunction,
+};
+use rstar_base::envelope::Envelope;
+use rstar_base::object::{EqualEnvelopes, PointDistance, PointOf, RTreeObject};
+use rstar_base::params::RTreeParams;
+use rstar_base::point::{Point, RTreeNum};
+use std::alloc::AllocError;
+
+/// Puts a load in the tree's place.
+#[tactic(auto, using(crate::proofs::Replays::same_bag))]
+pub(super) fn load<T: PointDistance + EqualEnvelopes, Params: RTreeParams>(
+    tree: &mut RTree<T, Params>,
+    list: Vec<T>,
+) -> Reply<T>
+    requires whole { IsWholeTree T.Envelope.boxes T.object Params.MAX_SIZE tree.old }
+    requires dimensions { 2 ≤ T.Envelope.Point.DIMENSIONS }
+    requires elements { All (λ t. T.Envelope.boxes.is_empty (T.object.box_of t) ≡ false) list.items }
+    ensures step { Step (questions_of T.Envelope.boxes T.object T.distances T.Envelope.Point.DIMENSIONS
+        T.Envelope.Point.coord T.Envelope.Point.Scalar.value T.eq)
+        (elements_in tree.old) (Load list) result (elements_in tree.new) }
+    ensures whole { IsWholeTree T.Envelope.boxes T.object Params.MAX_SIZE tree.new }
+    ensures refused { IsRefusal result → tree.new ≡ tree.old }
+{
+    match RTree::bulk_load_with_params(list) {
+        Ok(fresh) => {
+            *tree = fresh;
+            Reply::Done
+        }
+        Err(_) => Reply::NoMemory,
+    }
+}
+
+/// Adds an element, or drops it where it is refused.
+#[tactic(auto, using(crate::proofs::Replays::same_bag))]
+pub(super) fn insert<T: PointDistance + EqualEnvelopes, Params: RTreeParams>(
+    tree: &mut RTree<T, Params>,
+    t: T,
+) -> Reply<T>
+    requires whole { IsWholeTree T.Envelope.boxes T.object Params.MAX_SIZE tree.old }
+    requires element { T.Envelope.boxes.is_empty (T.object.box_of t) ≡ false }
+    ensures step { Step (questions_of T.Envelope.boxes T.object T.distances T.Envelope.Point.DIMENSIONS
+        T.Envelope.Point.coord T.Envelope.Point.Scalar.value T.eq)
+        (elements_in tree.old) (Insert t) result (elements_in tree.new) }
+    ensures whole { IsWholeTree T.Envelope.boxes T.object Params.MAX_SIZE tree.new }
+    ensures refused { IsRefusal result → IsUnchanged tree.old tree.new }
+    ensures too_many { (result ≡ TooMany) ↔ ((size_of tree.old ≡ usize.MAX)
+        ⊎ (usize.MAX < spare_lists Params.REINSERTION_COUNT (height_of (root_of tree.old)))) }
+{
+    match tree.insert(t) {
+        Ok(()) => Reply::Done,
+        Err(refused) => match refused.cause {
+            InsertCause::NoMemory => Reply::NoMemory,
+            InsertCause::TooMany => Reply::TooMany,
+        },
+    }
+}
+
+/// Takes one element that equals this one out.
+pub(super) fn remove<T: PointDistance + EqualEnvelopes, Params: RTreeParams>(
+    tree: &mut RTree<T, Params>,
+    t: &T,
+) -> Reply<T>
+    requires whole { IsWholeTree T.Envelope.boxes T.object Params.MAX_SIZE tree.old }
+    ensures step { Step (questions_of T.Envelope.boxes T.object T.distances T.Envelope.Point.DIMENSIONS
+        T.Envelope.Point.coord T.Envelope.Point.Scalar.value T.eq)
+        (elements_in tree.old) (Remove t.now) result (elements_in tree.new) }
+    ensures whole { IsWholeTree T.Envelope.boxes T.object Params.MAX_SIZE tree.new }
+    ensures refused { IsRefusal result → tree.new ≡ tree.old }
+{
+    Reply::Taken(tree.remove(t))
+}
+
+/// Takes one element that contains a point out.
+pub(super) fn remove_at_point<T: PointDistance + EqualEnvelopes, Params: RTreeParams>(
+    tree: &mut RTree<T, Params>,
+    point: PointOf<T>,
+) -> Reply<T>
+    requires whole { IsWholeTree T.Envelope.boxes T.object Params.MAX_SIZE tree.old }
+    ensures step { Step (questions_of T.Envelope.boxes T.object T.distances T.Envelope.Point.DIMENSIONS
+        T.Envelope.Point.coord T.Envelope.Point.Scalar.value T.eq)
+        (elements_in tree.old) (RemoveAtPoint point) result (elements_in tree.new) }
+    ensures whole { IsWholeTree T.Envelope.boxes T.object Params.MAX_SIZE tree.new }
+    ensures refused { IsRefusal result → tree.new ≡ tree.old }
+{
+    Reply::Taken(tree.remove_at_point(point))
+}
+
+/// Takes one element of least distance to a point out.
+#[tactic(auto, using(crate::proofs::Replays::same_bag))]
+pub(super) fn pop_nearest<T: PointDistance + EqualEnvelopes, Params: RTreeParams>(
+    tree: &mut RTree<T, Params>,
+    point: PointOf<T>,
+) -> Reply<T>
+    requires whole { IsWholeTree T.Envelope.boxes T.object Params.MAX_SIZE tree.old }
+    ensures step { Step (questions_of T.Envelope.boxes T.object T.distances T.Envelope.Point.DIMENSIONS
+        T.Envelope.Point.coord T.Envelope.Point.Scalar.value T.eq)
+        (elements_in tree.old) (PopNearest point) result (elements_in tree.new) }
+    ensures whole { IsWholeTree T.Envelope.boxes T.object Params.MAX_SIZE tree.new }
+    ensures refused { IsRefusal result → tree.new ≡ tree.old }
+{
+    match tree.pop_nearest_neighbor(point) {
+        Ok(taken) => Reply::Taken(taken),
+        Err(_) => Reply::NoMemory,
+    }
+}
+
+/// Takes so many of the elements that are asked for out, or all of them where there are fewer.
+#[tactic(auto, using(crate::proofs::Replays::same_bag))]
+pub(super) fn drain<T: PointDistance + EqualEnvelopes, Params: RTreeParams>(
+    tree: &mut RTree<T, Params>,
+    query: Query<T>,
+    most: usize,
+) -> Reply<T>
+    requires whole { IsWholeTree T.Envelope.boxes T.object Params.MAX_SIZE tree.old }
+    ensures step { Step (questions_of T.Envelope.boxes T.object T.distances T.Envelope.Point.DIMENSIONS
+        T.Envelope.Point.coord T.Envelope.Point.Scalar.value T.eq)
+        (elements_in tree.old) (Drain query most) result (elements_in tree.new) }
+    ensures whole { IsWholeTree T.Envelope.boxes T.object Params.MAX_SIZE tree.new }
+    ensures refused { IsRefusal result → tree.new ≡ tree.old }
+{
+    match drain_query(tree, query, most) {
+        Ok(taken) => Reply::Elements(taken),
+        Err(_) => Reply::NoMemory,
+    }
+}
+
+/// The same, as a list.
+fn drain_query<T: PointDistance + EqualEnvelopes, Params: RTreeParams>(
+    tree: &mut RTree<T, Params>,
+    query: Query<T>,
+    most: usize,
+) -> Result<Vec<T>, AllocError>
+    requires whole { IsWholeTree T.Envelope.boxes T.object Params.MAX_SIZE tree.old }
+    ensures taken { IfOk result (λ taken. TakesSome (selects (questions_of T.Envelope.boxes T.object T.distances
+        T.Envelope.Point.DIMENSIONS T.Envelope.Point.coord T.Envelope.Point.Scalar.value T.eq) query) most
+        (elements_in tree.old) taken.items (elements_in tree.new)) }
+    ensures refused { OnErr result (tree.new ≡ tree.old) }
+    ensures whole { IsWholeTree T.Envelope.boxes T.object Params.MAX_SIZE tree.new }
+{
+    match query {
+        Query::All => drain_some(tree, SelectAllFunc, most),
+        Query::In(envelope) => drain_some(tree, SelectInEnvelopeFunction::new(envelope), most),
+        Query::Hit(envelope) => {
+            drain_some(tree, SelectInEnvelopeFuncIntersecting::new(envelope), most)
+        }
+        Query::At(point) => drain_some(tree, SelectAtPointFunction::new(point), most),
+        Query::Within(point, limit) => {
+            drain_some(tree, SelectWithinDistanceFunction::new(point, limit), most)
+        }
+    }
+}
+
+/// Takes so many of the elements that a function selects out, or all of them where there are fewer. The list is
+/// reserved before the first is taken.
+fn drain_some<T: RTreeObject, R: SelectionFunction<T>, Params: RTreeParams>(
+    tree: &mut RTree<T, Params>,
+    func: R,
+    most: usize,
+) -> Result<Vec<T>, AllocError>
+    requires whole { IsWholeTree T.Envelope.boxes T.object Params.MAX_SIZE tree.old }
+    requires lawful { IsLawful T.Envelope.boxes T.object (R.accepts func) (R.selects func) }
+    ensures taken { IfOk result (λ taken. TakesSome (R.selects func) most (elements_in tree.old) taken.items
+        (elements_in tree.new)) }
+    ensures refused { OnErr result (tree.new ≡ tree.old) }
+    ensures whole { IsWholeTree T.Envelope.boxes T.object Params.MAX_SIZE tree.new }
+{
+    let room = most.min(tree.size());
+    let mut taken = Vec::with_capacity(*tree.root().children.allocator(), room)?;
+    let mut drain = tree.drain_with_selection_function(func)?;
+    take_up_to(&mut drain, room, &mut taken);
+    taken.shrink_to_fit();
+    Ok(taken)
+}
+
+/// Takes so many elements into a list that has room, or all that are selected.
+#[tactic(auto, unfolding(crate::specs::Drains::IsDraining))]
+fn take_up_to<T: RTreeObject, R: SelectionFunction<T>, Params: RTreeParams>(
+    drain: &mut DrainIterator<'_, T, R, Params>,
+    most: usize,
+    taken: &mut Vec<T>,
+)
+    requires draining { IsDraining T.Envelope.boxes T.object Params.MAX_SIZE R.accepts R.selects drain.old }
+    requires lawful { IsLawful T.Envelope.boxes T.object
+        (R.accepts (drain_question drain.old)) (R.selects (drain_question drain.old)) }
+    requires none { taken.old.items ≡ [] }
+    requires room { most ≤ vec_capacity taken.old }
+    ensures same { drain.new.tree.ghost_name ≡ drain.old.tree.ghost_name }
+    ensures whole { IsWholeTree T.Envelope.boxes T.object Params.MAX_SIZE (drained drain.new) }
+    ensures bag { IsPermutation (elements_left drain.old) (taken.new.items ++ elements_left drain.new) }
+    ensures selected { AllByRecursion (λ t. R.selects (drain_question drain.old) t ≡ true) taken.new.items }
+    ensures few { length taken.new.items ≤ most }
+    ensures ended { length taken.new.items < most
+        → NoneSelected (R.selects (drain_question drain.old)) (elements_left drain.new) }
+{
+    for _turn in 0..most {
+        let Some(t) = drain.next() else {
+            return;
+        };
+        taken.push_reserved(t);
+    }
+}

@@ -1,0 +1,85 @@
+//! Clones of a tree.
+
+ghost use Rattle.std.specs.Prelude.{ℕ, IfOk};
+ghost use Rattle.std.specs.List.{AllByRecursion, AllZip};
+ghost use Rattle.rstar.specs.Clones.{ClonesEqual, IsNodeClone, IsParentClone};
+ghost use Rattle.rstar.specs.Nodes.{children_of};
+ghost use Rattle.rstar.specs.Trees.{elements_in, IsUnchanged, IsWholeTree};
+ghost use Rattle.rstar.specs.Walks.{IsLevel};
+
+use crate::algorithm::bulk_load::parts::make_room;
+use crate::node::{ParentNode, RTreeNode};
+use crate::rtree::RTree;
+use rstar_base::envelope::{Envelope, copied_envelope};
+use rstar_base::object::RTreeObject;
+use rstar_base::params::RTreeParams;
+use std::alloc::AllocError;
+use std::marker::PhantomData;
+
+impl<T: RTreeObject + Clone, Params: RTreeParams> RTree<T, Params> {
+    /// A tree of the clones of the elements, in nodes as these are. Where each clone of an element equals it, the
+    /// tree shows the same.
+    ///
+    /// It is refused where the allocator refuses a list, or a clone of an element. It costs a clone of each element.
+    #[tactic(auto, unfolding(crate::specs::Trees::IsWholeTree))]
+    pub fn clone(&self) -> Result<Self, AllocError>
+        requires { IsWholeTree T.Envelope.boxes T.object Params.MAX_SIZE self.now }
+        ensures clones { IfOk result (λ tree. AllZip T.is_clone (elements_in self.now) (elements_in tree)) }
+        ensures same { ClonesEqual T.is_clone → IfOk result (IsUnchanged self.now) }
+        ensures whole { ClonesEqual T.is_clone
+            → IfOk result (IsWholeTree T.Envelope.boxes T.object Params.MAX_SIZE) }
+    {
+        let root = cloned_parent::<T, Params>(&self.root)?;
+        Ok(RTree {
+            root,
+            size: self.size,
+            levels: self.levels,
+            widest: self.widest,
+            spares: Vec::new(*self.root.children.allocator()),
+            params: PhantomData,
+        })
+    }
+}
+
+/// The clone of a node, where all leaves lie on one level.
+#[cycle(clone)]
+fn cloned_node<T: RTreeObject + Clone, Params: RTreeParams>(
+    node: &RTreeNode<T>,
+) -> Result<RTreeNode<T>, AllocError>
+    ensures { (h : ℕ) → IsLevel h node.now → IfOk result (IsNodeClone T.is_clone Params.MAX_SIZE h node.now) }
+{
+    match node {
+        RTreeNode::Leaf(t) => {
+            let element = t.clone()?;
+            Ok(RTreeNode::Leaf(element))
+        }
+        RTreeNode::Parent(parent) => {
+            let parent = cloned_parent::<T, Params>(parent)?;
+            Ok(RTreeNode::Parent(parent))
+        }
+    }
+}
+
+/// The clone of a parent, where all leaves lie on one level.
+#[cycle(clone)]
+fn cloned_parent<T: RTreeObject + Clone, Params: RTreeParams>(
+    parent: &ParentNode<T>,
+) -> Result<ParentNode<T>, AllocError>
+    ensures { (h : ℕ) → AllByRecursion (IsLevel h) (children_of parent.now)
+        → IfOk result (IsParentClone T.is_clone Params.MAX_SIZE h parent.now) }
+{
+    let room = parent
+        .children
+        .len()
+        .max(Params::MAX_SIZE)
+        .saturating_add(1);
+    let mut children = Vec::with_capacity(*parent.children.allocator(), room)?;
+    for node in parent.children.as_slice() {
+        children.push(cloned_node::<T, Params>(node)?)?;
+    }
+    make_room::<T, Params>(&mut children)?;
+    Ok(ParentNode {
+        children,
+        envelope: copied_envelope(&parent.envelope),
+    })
+}

@@ -1,0 +1,165 @@
+//! Drains, and a tree taken apart.
+
+ghost use Rattle.std.specs.Prelude.{◌≡◌, true, pos, int_le, IfOk, IfErr};
+ghost use Rattle.std.specs.Borrow.{sem};
+ghost use Rattle.std.specs.List.Sorted.{IsPermutation};
+ghost use Rattle.rstar_base.specs.Points.{table};
+ghost use Rattle.rstar.specs.Drains.{drained, drain_question, DrainsBy, IsDraining, LeavesRefused};
+ghost use Rattle.rstar.specs.IntoIters.{left_to_give, IsGiving};
+ghost use Rattle.rstar.specs.Trees.{elements_in, IsWholeTree};
+
+use crate::iterators::{DrainIterator, IntoIter};
+use crate::rtree::RTree;
+use rstar_base::algorithm::selection_functions::{
+    SelectAllFunc, SelectInEnvelopeFuncIntersecting, SelectInEnvelopeFunction,
+    SelectWithinDistanceFunction, SelectionFunction,
+};
+use rstar_base::envelope::Envelope;
+use rstar_base::object::{Distance, PointDistance, PointOf, RTreeObject};
+use rstar_base::params::RTreeParams;
+use rstar_base::point::{Point, RTreeNum};
+use std::alloc::AllocError;
+
+impl<T: RTreeObject, Params: RTreeParams> RTree<T, Params> {
+    /// Takes all elements out, one for each `next`, in some order.
+    ///
+    /// It is refused where the allocator refuses the path, a number for each level, and the tree is then left. Where it
+    /// is dropped or forgotten the tree is the one of the last `next`.
+    pub fn drain(&mut self) -> Result<DrainIterator<'_, T, SelectAllFunc, Params>, AllocError>
+        requires { IsWholeTree T.Envelope.boxes T.object Params.MAX_SIZE self.old }
+        ensures* refused { sem 𝓛 (LeavesRefused T.row Params.row T.Envelope.row T.Envelope.Point.row
+            T.Envelope.Point.Scalar.row T.Envelope.Point.Scalar.FromStrRadixErr.row self.entry result) }
+        ensures same { IfOk result (λ it. (drained it ≡ self.old) × (it.tree.ghost_name ≡ self.entry.ghost_name)) }
+        ensures asked { IfOk result (DrainsBy T.Envelope.boxes T.object
+            ⟦<SelectAllFunc as SelectionFunction<T>>⟧.accepts
+            ⟦<SelectAllFunc as SelectionFunction<T>>⟧.selects
+            (λ t. true)) }
+        ensures draining { IfOk result (IsDraining T.Envelope.boxes T.object Params.MAX_SIZE
+            ⟦<SelectAllFunc as SelectionFunction<T>>⟧.accepts
+            ⟦<SelectAllFunc as SelectionFunction<T>>⟧.selects) }
+    {
+        self.drain_with_selection_function(SelectAllFunc)
+    }
+
+    /// Takes the elements whose envelopes an envelope contains out, one for each `next`, in some order.
+    ///
+    /// It is refused where the allocator refuses the path, a number for each level, and the tree is then left. Where it
+    /// is dropped or forgotten the tree is the one of the last `next`.
+    pub fn drain_in_envelope(
+        &mut self,
+        envelope: T::Envelope,
+    ) -> Result<DrainIterator<'_, T, SelectInEnvelopeFunction<T>, Params>, AllocError>
+        requires { IsWholeTree T.Envelope.boxes T.object Params.MAX_SIZE self.old }
+        ensures* refused { sem 𝓛 (LeavesRefused T.row Params.row T.Envelope.row T.Envelope.Point.row
+            T.Envelope.Point.Scalar.row T.Envelope.Point.Scalar.FromStrRadixErr.row self.entry result) }
+        ensures same { IfOk result (λ it. (drained it ≡ self.old) × (it.tree.ghost_name ≡ self.entry.ghost_name)) }
+        ensures asked { IfOk result (DrainsBy T.Envelope.boxes T.object
+            ⟦<SelectInEnvelopeFunction<T> as SelectionFunction<T>>⟧.accepts
+            ⟦<SelectInEnvelopeFunction<T> as SelectionFunction<T>>⟧.selects
+            (λ t. T.Envelope.boxes.contains envelope (T.object.box_of t))) }
+        ensures draining { IfOk result (IsDraining T.Envelope.boxes T.object Params.MAX_SIZE
+            ⟦<SelectInEnvelopeFunction<T> as SelectionFunction<T>>⟧.accepts
+            ⟦<SelectInEnvelopeFunction<T> as SelectionFunction<T>>⟧.selects) }
+    {
+        self.drain_with_selection_function(SelectInEnvelopeFunction::new(envelope))
+    }
+
+    /// Takes the elements whose envelopes an envelope intersects out, one for each `next`, in some order. Touching is
+    /// enough.
+    ///
+    /// It is refused where the allocator refuses the path, a number for each level, and the tree is then left. Where it
+    /// is dropped or forgotten the tree is the one of the last `next`.
+    pub fn drain_in_envelope_intersecting(
+        &mut self,
+        envelope: T::Envelope,
+    ) -> Result<DrainIterator<'_, T, SelectInEnvelopeFuncIntersecting<T>, Params>, AllocError>
+        requires { IsWholeTree T.Envelope.boxes T.object Params.MAX_SIZE self.old }
+        ensures* refused { sem 𝓛 (LeavesRefused T.row Params.row T.Envelope.row T.Envelope.Point.row
+            T.Envelope.Point.Scalar.row T.Envelope.Point.Scalar.FromStrRadixErr.row self.entry result) }
+        ensures same { IfOk result (λ it. (drained it ≡ self.old) × (it.tree.ghost_name ≡ self.entry.ghost_name)) }
+        ensures asked { IfOk result (DrainsBy T.Envelope.boxes T.object
+            ⟦<SelectInEnvelopeFuncIntersecting<T> as SelectionFunction<T>>⟧.accepts
+            ⟦<SelectInEnvelopeFuncIntersecting<T> as SelectionFunction<T>>⟧.selects
+            (λ t. T.Envelope.boxes.intersects envelope (T.object.box_of t))) }
+        ensures draining { IfOk result (IsDraining T.Envelope.boxes T.object Params.MAX_SIZE
+            ⟦<SelectInEnvelopeFuncIntersecting<T> as SelectionFunction<T>>⟧.accepts
+            ⟦<SelectInEnvelopeFuncIntersecting<T> as SelectionFunction<T>>⟧.selects) }
+    {
+        self.drain_with_selection_function(SelectInEnvelopeFuncIntersecting::new(envelope))
+    }
+
+    /// Takes the elements that a function selects out, one for each `next`, in some order. A function that is not
+    /// lawful may miss some.
+    ///
+    /// It is refused where the allocator refuses the path, a number for each level, and the tree is then left. Where it
+    /// is dropped or forgotten the tree is the one of the last `next`.
+    #[tactic(auto, unfolding(crate::specs::Drains::IsDraining))]
+    pub fn drain_with_selection_function<R: SelectionFunction<T>>(
+        &mut self,
+        func: R,
+    ) -> Result<DrainIterator<'_, T, R, Params>, AllocError>
+        requires { IsWholeTree T.Envelope.boxes T.object Params.MAX_SIZE self.old }
+        ensures* refused { sem 𝓛 (LeavesRefused T.row Params.row T.Envelope.row T.Envelope.Point.row
+            T.Envelope.Point.Scalar.row T.Envelope.Point.Scalar.FromStrRadixErr.row self.entry result) }
+        ensures same { IfOk result (λ it. (drained it ≡ self.old) × (it.tree.ghost_name ≡ self.entry.ghost_name)) }
+        ensures question { IfOk result (λ it. drain_question it ≡ func) }
+        ensures draining { IfOk result (IsDraining T.Envelope.boxes T.object Params.MAX_SIZE R.accepts R.selects) }
+    {
+        let alloc = *self.root.children.allocator();
+        let path = vec![in alloc; 0; self.levels.saturating_add(1)]?;
+        Ok(DrainIterator::new(self, func, path))
+    }
+}
+
+impl<T: RTreeObject, Params: RTreeParams> RTree<T, Params> {
+    /// Takes the tree apart into all its elements, each once, in some order.
+    ///
+    /// It is refused where the allocator refuses the path, a place for each level of parents below the root, and the
+    /// tree is then handed back.
+    #[tactic(auto, unfolding(crate::specs::Trees::IsWholeTree))]
+    pub fn into_iter(self) -> Result<IntoIter<T>, RTree<T, Params>>
+        requires { IsWholeTree T.Envelope.boxes T.object Params.MAX_SIZE self }
+        ensures all { IfOk result (λ it. IsPermutation (elements_in self) (left_to_give it)) }
+        ensures giving { IfOk result IsGiving }
+        ensures handed_back { IfErr result (λ tree. tree ≡ self) }
+    {
+        let alloc = *self.root.children.allocator();
+        let Ok(path) = Vec::with_capacity(alloc, self.levels) else {
+            return Err(self);
+        };
+        let RTree { root, .. } = self;
+        Ok(IntoIter::new(root, path))
+    }
+}
+
+impl<T: PointDistance, Params: RTreeParams> RTree<T, Params> {
+    /// Takes the elements whose distance from a point is at most a limit out, one for each `next`, in some order.
+    /// Distances are squared.
+    ///
+    /// It is refused where the allocator refuses the path, a number for each level, and the tree is then left. Where it
+    /// is dropped or forgotten the tree is the one of the last `next`.
+    pub fn drain_within_distance(
+        &mut self,
+        query_point: PointOf<T>,
+        max_squared_radius: Distance<T>,
+    ) -> Result<DrainIterator<'_, T, SelectWithinDistanceFunction<T>, Params>, AllocError>
+        requires { IsWholeTree T.Envelope.boxes T.object Params.MAX_SIZE self.old }
+        ensures* refused { sem 𝓛 (LeavesRefused T.row Params.row T.Envelope.row T.Envelope.Point.row
+            T.Envelope.Point.Scalar.row T.Envelope.Point.Scalar.FromStrRadixErr.row self.entry result) }
+        ensures same { IfOk result (λ it. (drained it ≡ self.old) × (it.tree.ghost_name ≡ self.entry.ghost_name)) }
+        ensures asked { IfOk result (DrainsBy T.Envelope.boxes T.object
+            ⟦<SelectWithinDistanceFunction<T> as SelectionFunction<T>>⟧.accepts
+            ⟦<SelectWithinDistanceFunction<T> as SelectionFunction<T>>⟧.selects
+            (λ t. int_le (pos (T.distances.distance_2 t
+            (table T.Envelope.Point.DIMENSIONS (T.Envelope.Point.coord query_point))))
+            (T.Envelope.Point.Scalar.value max_squared_radius))) }
+        ensures draining { IfOk result (IsDraining T.Envelope.boxes T.object Params.MAX_SIZE
+            ⟦<SelectWithinDistanceFunction<T> as SelectionFunction<T>>⟧.accepts
+            ⟦<SelectWithinDistanceFunction<T> as SelectionFunction<T>>⟧.selects) }
+    {
+        self.drain_with_selection_function(SelectWithinDistanceFunction::new(
+            query_point,
+            max_squared_radius,
+        ))
+    }
+}

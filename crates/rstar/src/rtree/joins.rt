@@ -1,0 +1,45 @@
+//! The join with another tree.
+
+ghost use Rattle.std.specs.Prelude.{◌≤◌, max, IsOk, IfOk};
+ghost use Rattle.std.specs.List.Sorted.{IsPermutation};
+ghost use Rattle.rstar.specs.Heights.{height_of};
+ghost use Rattle.rstar.specs.Joins.{meets_by, join, pairs_to_come, IsJoinMade, IsJoining};
+ghost use Rattle.rstar.specs.Trees.{root_of, elements_in, IsWholeTree};
+
+use crate::iterators::{InEnvelope, IntersectionIterator};
+use crate::rtree::RTree;
+use rstar_base::envelope::Envelope;
+use rstar_base::object::RTreeObject;
+use rstar_base::params::RTreeParams;
+use std::alloc::AllocError;
+
+impl<T: RTreeObject, Params: RTreeParams> RTree<T, Params> {
+    /// The pairs of an element of this tree and one of the other whose envelopes intersect, each pair of places once,
+    /// in some order. Touching is enough.
+    ///
+    /// It opens the pairs of nodes whose envelopes intersect. It is refused where the allocator refuses the paths of
+    /// trees of which one has more than 6 levels of parents.
+    #[tactic(auto, unfolding(crate::specs::Trees::IsWholeTree))]
+    pub fn intersection_candidates_with_other_tree<
+        'a,
+        U: InEnvelope<T::Envelope>,
+        OtherParams: RTreeParams,
+    >(
+        &'a self,
+        other: &'a RTree<U, OtherParams>,
+    ) -> Result<IntersectionIterator<'a, T, U>, AllocError>
+        requires this { IsWholeTree T.Envelope.boxes T.object Params.MAX_SIZE self.now }
+        requires other { IsWholeTree U.Envelope.boxes U.object OtherParams.MAX_SIZE other.now }
+        ensures all { IfOk result (λ it. IsPermutation
+            (pairs_to_come (meets_by T.Envelope.boxes U.seen) T.object.box_of U.object.box_of it)
+            (join (meets_by T.Envelope.boxes U.seen) T.object.box_of U.object.box_of
+            (elements_in self.now) (elements_in other.now))) }
+        ensures made { IfOk result (λ it. IsJoinMade (meets_by T.Envelope.boxes U.seen)
+            T.object.box_of U.object.box_of (root_of self.now) (root_of other.now) it) }
+        ensures joining { IfOk result (λ it. IsJoining (meets_by T.Envelope.boxes U.seen)
+            T.object.box_of U.object.box_of it) }
+        ensures near { max (height_of (root_of self.now)) (height_of (root_of other.now)) ≤ 6 → IsOk result }
+    {
+        IntersectionIterator::new(&self.root, &other.root, self.levels.max(other.levels))
+    }
+}

@@ -1,0 +1,66 @@
+//! Trees of a list of elements, loaded at once.
+
+ghost use Rattle.std.specs.Prelude.{◌≢◌, ◌≤◌, [], IfOk};
+ghost use Rattle.std.specs.List.Sorted.{IsPermutation};
+ghost use Rattle.rstar.specs.Loaded.{NoneEmpty, IsLoaded};
+ghost use Rattle.rstar.specs.Trees.{root_of, elements_in, IsWholeTree};
+
+use crate::algorithm::bulk_load::depth::load_depth;
+use crate::algorithm::bulk_load::load_root;
+use crate::rtree::RTree;
+use rstar_base::envelope::Envelope;
+use rstar_base::object::RTreeObject;
+use rstar_base::params::{DefaultParams, RTreeParams};
+use rstar_base::point::Point;
+use std::alloc::AllocError;
+use std::marker::PhantomData;
+
+impl<T: RTreeObject> RTree<T> {
+    /// A tree of these elements, none of which has an empty envelope, loaded at once with the default node sizes.
+    ///
+    /// It has fewer nodes, which overlap less, than a tree of insertions, and takes insertions as any other. Its points
+    /// have at least two dimensions; `verify_parameters` is the test. It is refused where the allocator refuses a list:
+    /// then there is no tree, and the elements are dropped. `bulk_load_sequential` says how it loads, and what that
+    /// costs.
+    pub fn bulk_load(elements: Vec<T>) -> Result<Self, AllocError>
+        requires dimensions { 2 ≤ T.Envelope.Point.DIMENSIONS }
+        requires elements { NoneEmpty T.Envelope.boxes T.object elements.items }
+        ensures same { IfOk result (λ tree. IsPermutation elements.items (elements_in tree)) }
+        ensures whole { IfOk result
+            (IsWholeTree T.Envelope.boxes T.object ⟦<DefaultParams as RTreeParams>⟧.MAX_SIZE) }
+        ensures loaded { elements.items ≢ [] → IfOk result (λ tree. IsLoaded T.Envelope.boxes T.object
+            ⟦<DefaultParams as RTreeParams>⟧.MAX_SIZE T.Envelope.Point.DIMENSIONS (root_of tree)) }
+    {
+        RTree::bulk_load_with_params(elements)
+    }
+}
+
+impl<T: RTreeObject, Params: RTreeParams> RTree<T, Params> {
+    /// The same with chosen node sizes.
+    #[tactic(auto, unfolding(crate::specs::Trees::IsWholeTree))]
+    pub fn bulk_load_with_params(elements: Vec<T>) -> Result<Self, AllocError>
+        requires dimensions { 2 ≤ T.Envelope.Point.DIMENSIONS }
+        requires elements { NoneEmpty T.Envelope.boxes T.object elements.items }
+        ensures same { IfOk result (λ tree. IsPermutation elements.items (elements_in tree)) }
+        ensures whole { IfOk result (IsWholeTree T.Envelope.boxes T.object Params.MAX_SIZE) }
+        ensures loaded { elements.items ≢ [] → IfOk result (λ tree. IsLoaded T.Envelope.boxes T.object
+            Params.MAX_SIZE T.Envelope.Point.DIMENSIONS (root_of tree)) }
+    {
+        let alloc = *elements.allocator();
+        if elements.is_empty() {
+            return Ok(RTree::default(alloc));
+        }
+        let size = elements.len();
+        let levels = load_depth::<T, Params>(size);
+        let mut widest = Params::MAX_SIZE;
+        let root = load_root::<T, Params>(elements, levels, &mut widest)?;
+        Ok(RTree {
+            root,
+            size,
+            levels,
+            widest,
+            spares: Vec::new(alloc),
+            params: PhantomData,
+        })
+    }
+}

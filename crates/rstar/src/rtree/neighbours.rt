@@ -1,0 +1,169 @@
+//! Neighbours.
+
+ghost use Rattle.std.specs.Prelude.{◌≡◌, ◌+◌, ℕ, [], ◌∷◌, pos, map, IfOk, IfSome, IfNone, OnErr};
+ghost use Rattle.std.specs.List.Sorted.{IsPermutation};
+ghost use Rattle.rstar_base.specs.Points.{table};
+ghost use Rattle.rstar.specs.Neighbors.{with_distances, IsSearching, IsFresh, IsNearest, AreNearest};
+ghost use Rattle.rstar.specs.Trees.{root_of, size_of, elements_in, IsWholeTree};
+
+use crate::algorithm::nearest_neighbor::{
+    NearestNeighborDistance2Iterator, NearestNeighborIterator, all_nearest,
+    nearest_neighbor_with_distance_2, one_nearest,
+};
+use crate::rtree::RTree;
+use rstar_base::algorithm::selection_functions::SelectWithinDistanceFunction;
+use rstar_base::envelope::Envelope;
+use rstar_base::object::{Distance, PointDistance, PointOf, RTreeObject};
+use rstar_base::params::RTreeParams;
+use rstar_base::point::{Point, RTreeNum};
+use std::alloc::AllocError;
+
+impl<T: PointDistance, Params: RTreeParams> RTree<T, Params> {
+    /// All elements, the nearest to a point first: each once, with the distances never falling.
+    ///
+    /// Making it takes no memory and opens nothing; `next` may be refused.
+    #[tactic(auto, unfolding(crate::specs::Trees::IsWholeTree))]
+    pub fn nearest_neighbor_iter(&self, point: PointOf<T>) -> NearestNeighborIterator<'_, T>
+        requires { IsWholeTree T.Envelope.boxes T.object Params.MAX_SIZE self.now }
+        ensures fresh { IsFresh (root_of self.now) point (with_distances result) }
+        ensures searching { IsSearching T.Envelope.boxes T.object T.distances T.Envelope.Point.DIMENSIONS
+            T.Envelope.Point.coord T.Envelope.Point.Scalar.cmp T.Envelope.Point.Scalar.value (with_distances result) }
+    {
+        NearestNeighborIterator::new(&self.root, point)
+    }
+
+    /// All elements with their squared distances, the nearest to a point first: each once, with the distances never
+    /// falling.
+    ///
+    /// Making it takes no memory and opens nothing; `next` may be refused.
+    #[tactic(auto, unfolding(crate::specs::Trees::IsWholeTree))]
+    pub fn nearest_neighbor_iter_with_distance_2(
+        &self,
+        point: PointOf<T>,
+    ) -> NearestNeighborDistance2Iterator<'_, T>
+        requires { IsWholeTree T.Envelope.boxes T.object Params.MAX_SIZE self.now }
+        ensures fresh { IsFresh (root_of self.now) point result }
+        ensures searching { IsSearching T.Envelope.boxes T.object T.distances T.Envelope.Point.DIMENSIONS
+            T.Envelope.Point.coord T.Envelope.Point.Scalar.cmp T.Envelope.Point.Scalar.value result }
+    {
+        NearestNeighborDistance2Iterator::new(&self.root, point)
+    }
+
+    /// The old name of `nearest_neighbor_iter_with_distance_2`, whose distances are squared.
+    #[deprecated]
+    pub fn nearest_neighbor_iter_with_distance(
+        &self,
+        point: PointOf<T>,
+    ) -> NearestNeighborDistance2Iterator<'_, T>
+        requires { IsWholeTree T.Envelope.boxes T.object Params.MAX_SIZE self.now }
+        ensures fresh { IsFresh (root_of self.now) point result }
+        ensures searching { IsSearching T.Envelope.boxes T.object T.distances T.Envelope.Point.DIMENSIONS
+            T.Envelope.Point.coord T.Envelope.Point.Scalar.cmp T.Envelope.Point.Scalar.value result }
+    {
+        self.nearest_neighbor_iter_with_distance_2(point)
+    }
+
+    /// An element of least distance to a point; `None` exactly where the tree is empty. Of several it gives one.
+    ///
+    /// It opens the nearest waiting parent first, and leaves out what lies farther than the least `min_max_dist_2` that
+    /// it saw. It takes memory where more than 32 nodes wait, and is refused where the allocator refuses that.
+    pub fn nearest_neighbor(&self, point: PointOf<T>) -> Result<Option<&T>, AllocError>
+        requires { IsWholeTree T.Envelope.boxes T.object Params.MAX_SIZE self.now }
+        ensures none { IfOk result (λ r. IfNone r (elements_in self.now ≡ [])) }
+        ensures nearest { IfOk result (λ r. IfSome r (λ t. IsNearest (λ t. T.distances.distance_2 t
+            (table T.Envelope.Point.DIMENSIONS (T.Envelope.Point.coord point))) (elements_in self.now) t.now)) }
+    {
+        match self.nearest_neighbor_with_distance_2(point)? {
+            Some((t, _distance)) => Ok(Some(t)),
+            None => Ok(None),
+        }
+    }
+
+    /// An element of least squared distance to a point, with that distance; `None` exactly where the tree is empty. Of
+    /// several it gives one.
+    ///
+    /// It opens the nearest waiting parent first, and leaves out what lies farther than the least `min_max_dist_2` seen
+    /// (Roussopoulos, Kelley and Vincent 1995); there is no second search behind it. It takes memory where more than 32
+    /// nodes wait, and is refused where the allocator refuses that.
+    #[tactic(auto, unfolding(crate::specs::Trees::IsWholeTree))]
+    pub fn nearest_neighbor_with_distance_2(
+        &self,
+        point: PointOf<T>,
+    ) -> Result<Option<(&T, Distance<T>)>, AllocError>
+        requires { IsWholeTree T.Envelope.boxes T.object Params.MAX_SIZE self.now }
+        ensures none { IfOk result (λ r. IfNone r (elements_in self.now ≡ [])) }
+        ensures nearest { IfOk result (λ r. IfSome r (λ x. IsNearest (λ t. T.distances.distance_2 t
+            (table T.Envelope.Point.DIMENSIONS (T.Envelope.Point.coord point))) (elements_in self.now) x.0.now)) }
+        ensures distance { IfOk result (λ r. IfSome r (λ x. T.Envelope.Point.Scalar.value x.1
+            ≡ pos (T.distances.distance_2 x.0.now
+            (table T.Envelope.Point.DIMENSIONS (T.Envelope.Point.coord point))))) }
+    {
+        nearest_neighbor_with_distance_2(&self.root, point)
+    }
+
+    /// Takes an element of least distance to a point out, and gives it; `None`, with the tree as it was, exactly where
+    /// the tree is empty. Of several it takes one.
+    ///
+    /// It finds the least distance as `nearest_neighbor` does, and then takes out one element within it, opening the
+    /// parents that are no farther until it comes upon one. The search takes memory where more than 32 nodes wait, and
+    /// is refused where the allocator refuses that; the tree is then left. The taking takes none.
+    #[tactic(auto, unfolding(crate::specs::Trees::IsWholeTree))]
+    pub fn pop_nearest_neighbor(&mut self, point: PointOf<T>) -> Result<Option<T>, AllocError>
+        requires { IsWholeTree T.Envelope.boxes T.object Params.MAX_SIZE self.old }
+        ensures taken { IfOk result (λ r. IfSome r (λ t. IsPermutation (elements_in self.old)
+            (t ∷ elements_in self.new))) }
+        ensures counted { IfOk result (λ r. IfSome r (λ _. size_of self.old ≡ size_of self.new + 1)) }
+        ensures nearest { IfOk result (λ r. IfSome r (λ t. IsNearest (λ t. T.distances.distance_2 t
+            (table T.Envelope.Point.DIMENSIONS (T.Envelope.Point.coord point))) (elements_in self.old) t)) }
+        ensures none { IfOk result (λ r. IfNone r (elements_in self.old ≡ [])) }
+        ensures kept { IfOk result (λ r. IfNone r (self.new ≡ self.old)) }
+        ensures refused { OnErr result (self.new ≡ self.old) }
+        ensures whole { IsWholeTree T.Envelope.boxes T.object Params.MAX_SIZE self.new }
+    {
+        match one_nearest(&self.root, &point)? {
+            Some(found) => {
+                let least = found.1;
+                let func = SelectWithinDistanceFunction::new(point, least);
+                Ok(self.remove_with_selection_function(func))
+            }
+            None => Ok(None),
+        }
+    }
+
+    /// All elements of least distance to a point, in some order; none where the tree is empty.
+    ///
+    /// It takes neighbours, the nearest first, until one is farther than the first. It is refused where the allocator
+    /// refuses the list or what waits.
+    #[tactic(auto, unfolding(crate::specs::Trees::IsWholeTree))]
+    pub fn nearest_neighbors(&self, point: &PointOf<T>) -> Result<Vec<&T>, AllocError>
+        requires { IsWholeTree T.Envelope.boxes T.object Params.MAX_SIZE self.now }
+        ensures { IfOk result (λ ts. (d : ℕ) × AreNearest (λ t. T.distances.distance_2 t
+            (table T.Envelope.Point.DIMENSIONS (T.Envelope.Point.coord point.now))) (elements_in self.now) d
+            (map (λ t. t.now) ts.items)) }
+    {
+        match all_nearest(&self.root, point)? {
+            Some((all, _distance)) => Ok(all),
+            None => Ok(Vec::new(*self.root.children.allocator())),
+        }
+    }
+
+    /// All elements of least squared distance to a point, in some order, with that distance; `None` exactly where the
+    /// tree is empty.
+    ///
+    /// It takes neighbours, the nearest first, until one is farther than the first. It is refused where the allocator
+    /// refuses the list or what waits.
+    #[tactic(auto, unfolding(crate::specs::Trees::IsWholeTree))]
+    pub fn nearest_neighbors_with_distance_2(
+        &self,
+        point: &PointOf<T>,
+    ) -> Result<Option<(Vec<&T>, Distance<T>)>, AllocError>
+        requires { IsWholeTree T.Envelope.boxes T.object Params.MAX_SIZE self.now }
+        ensures none { IfOk result (λ r. IfNone r (elements_in self.now ≡ [])) }
+        ensures nearest { IfOk result (λ r. IfSome r (λ x. (d : ℕ) × (T.Envelope.Point.Scalar.value x.1 ≡ pos d)
+            × AreNearest (λ t. T.distances.distance_2 t
+            (table T.Envelope.Point.DIMENSIONS (T.Envelope.Point.coord point.now))) (elements_in self.now) d
+            (map (λ t. t.now) x.0.items))) }
+    {
+        all_nearest(&self.root, point)
+    }
+}

@@ -1,0 +1,114 @@
+//! Removals.
+
+ghost use Rattle.std.specs.Prelude.{◌≡◌, ◌∷◌, ◌+◌, true, false, IfSome, IfNone};
+ghost use Rattle.std.specs.List.{list_any};
+ghost use Rattle.std.specs.List.Sorted.{IsPermutation};
+ghost use Rattle.rstar_base.specs.Points.{table};
+ghost use Rattle.rstar_base.specs.Selections.{IsLawful};
+ghost use Rattle.rstar.specs.Removals.{NoneSelected};
+ghost use Rattle.rstar.specs.Taking.{Removes};
+ghost use Rattle.rstar.specs.Trees.{size_of, elements_in, IsWholeTree};
+
+use crate::algorithm::removal::take_below;
+use crate::rtree::RTree;
+use rstar_base::algorithm::selection_functions::{
+    SelectAtPointFunction, SelectEqualsFunction, SelectionFunction,
+};
+use rstar_base::envelope::Envelope;
+use rstar_base::object::{EqualEnvelopes, PointDistance, PointOf, RTreeObject};
+use rstar_base::params::RTreeParams;
+use rstar_base::point::Point;
+
+impl<T: RTreeObject, Params: RTreeParams> RTree<T, Params> {
+    /// Takes one element that a function selects out, and gives it; `None`, with the tree as it was, where it finds
+    /// none. A function that is not lawful may miss some.
+    ///
+    /// It opens the parents that the function accepts until it finds an element. The envelopes above it are made anew
+    /// from the children, and a parent that lost its last child is dropped; nodes are never merged. It takes no memory.
+    pub fn remove_with_selection_function<R: SelectionFunction<T>>(&mut self, func: R) -> Option<T>
+        requires { IsWholeTree T.Envelope.boxes T.object Params.MAX_SIZE self.old }
+        ensures taken { IfSome result (λ x. IsPermutation (elements_in self.old) (x ∷ elements_in self.new)) }
+        ensures counted { IfSome result (λ x. size_of self.old ≡ size_of self.new + 1) }
+        ensures selected { IfSome result (λ x. R.selects func x ≡ true) }
+        ensures none { IfNone result (IsLawful T.Envelope.boxes T.object (R.accepts func) (R.selects func)
+            → NoneSelected (R.selects func) (elements_in self.old)) }
+        ensures kept { IfNone result (self.new ≡ self.old) }
+        ensures whole { IsWholeTree T.Envelope.boxes T.object Params.MAX_SIZE self.new }
+    {
+        self.take_next(&mut [], &func)
+    }
+
+    /// Takes the next selected element out, from a place on: a number for each level, of the children to the left.
+    ///
+    /// A path that is too short, or a place that is not there, only begins further left or finds less.
+    #[tactic(auto, unfolding(crate::specs::Trees::IsWholeTree))]
+    pub(crate) fn take_next<R: SelectionFunction<T>>(
+        &mut self,
+        path: &mut [usize],
+        func: &R,
+    ) -> Option<T>
+        requires { IsWholeTree T.Envelope.boxes T.object Params.MAX_SIZE self.old }
+        ensures { Removes T.Envelope.boxes T.object Params.MAX_SIZE (R.accepts func.now) (R.selects func.now)
+            self.old path.old result self.new path.new }
+    {
+        if self.root.children.is_empty() || !func.should_unpack_parent(&self.root.envelope) {
+            return None;
+        }
+        let taken = take_below(&mut self.root, path, func);
+        if taken.is_some() {
+            self.size -= 1;
+            if self.root.children.is_empty() {
+                self.levels = 0;
+            }
+        }
+        taken
+    }
+}
+
+impl<T: EqualEnvelopes, Params: RTreeParams> RTree<T, Params> {
+    /// Whether an element that equals this one, by `==`, is there.
+    ///
+    /// It opens the parents whose envelopes contain the element's until it finds one, and takes no memory.
+    pub fn contains(&self, t: &T) -> bool
+        requires { IsWholeTree T.Envelope.boxes T.object Params.MAX_SIZE self.now }
+        ensures { result ≡ list_any (λ x. T.eq x t.now) (elements_in self.now) }
+    {
+        self.locate_first(&SelectEqualsFunction::new(t)).is_some()
+    }
+
+    /// Takes one element that equals this one, by `==`, out, and gives it; `None`, with the tree as it was, exactly
+    /// where none does. Of several one is taken out.
+    ///
+    /// It opens the parents whose envelopes contain the element's until it finds one, and takes no memory.
+    pub fn remove(&mut self, t: &T) -> Option<T>
+        requires { IsWholeTree T.Envelope.boxes T.object Params.MAX_SIZE self.old }
+        ensures taken { IfSome result (λ x. IsPermutation (elements_in self.old) (x ∷ elements_in self.new)) }
+        ensures counted { IfSome result (λ x. size_of self.old ≡ size_of self.new + 1) }
+        ensures equal { IfSome result (λ x. T.eq x t.now ≡ true) }
+        ensures none { IfNone result (NoneSelected (λ x. T.eq x t.now) (elements_in self.old)) }
+        ensures kept { IfNone result (self.new ≡ self.old) }
+        ensures whole { IsWholeTree T.Envelope.boxes T.object Params.MAX_SIZE self.new }
+    {
+        self.remove_with_selection_function(SelectEqualsFunction::new(t))
+    }
+}
+
+impl<T: PointDistance, Params: RTreeParams> RTree<T, Params> {
+    /// Takes one element that contains a point, by `contains_point`, out, and gives it; `None`, with the tree as it
+    /// was, exactly where none does.
+    ///
+    /// It opens the parents whose envelopes contain the point until it finds one, and takes no memory.
+    pub fn remove_at_point(&mut self, point: PointOf<T>) -> Option<T>
+        requires { IsWholeTree T.Envelope.boxes T.object Params.MAX_SIZE self.old }
+        ensures taken { IfSome result (λ x. IsPermutation (elements_in self.old) (x ∷ elements_in self.new)) }
+        ensures counted { IfSome result (λ x. size_of self.old ≡ size_of self.new + 1) }
+        ensures at_point { IfSome result (λ x. T.distances.contains_point x
+            (table T.Envelope.Point.DIMENSIONS (T.Envelope.Point.coord point)) ≡ true) }
+        ensures none { IfNone result (NoneSelected (λ x. T.distances.contains_point x
+            (table T.Envelope.Point.DIMENSIONS (T.Envelope.Point.coord point))) (elements_in self.old)) }
+        ensures kept { IfNone result (self.new ≡ self.old) }
+        ensures whole { IsWholeTree T.Envelope.boxes T.object Params.MAX_SIZE self.new }
+    {
+        self.remove_with_selection_function(SelectAtPointFunction::new(point))
+    }
+}
