@@ -21,6 +21,3 @@ pub use rstar_base::envelope::{Counted, Envelope};
 pub use rstar_base::object::{EqualEnvelopes, PointDistance, RTreeObject};
 pub use rstar_base::point::{Point, RTreeNum};
 pub use rstar_base::{aabb, envelope, mint, object, point, primitives};
-
-#[cfg(test)]
-mod tests;

@@ -3,19 +3,32 @@
 
 #[cfg(test)]
 mod boxes;
-pub mod counted;
-pub mod doors;
+#[cfg(test)]
+mod callers;
+#[cfg(test)]
+mod counted;
+#[cfg(test)]
+mod doors;
 #[cfg(test)]
 mod elements;
-pub mod fences;
+#[cfg(test)]
+mod fences;
+#[cfg(test)]
+mod generic;
+#[cfg(test)]
+mod heaps;
 #[cfg(test)]
 mod insertion;
-pub mod interval;
+#[cfg(test)]
+mod interval;
 #[cfg(test)]
 mod joins;
 #[cfg(test)]
 mod loads;
-pub mod payloads;
+#[cfg(test)]
+mod neighbours;
+#[cfg(test)]
+mod payloads;
 #[cfg(test)]
 mod points;
 #[cfg(test)]
@@ -24,4 +37,7 @@ mod reinsertion;
 mod removal;
 #[cfg(test)]
 mod selections;
-pub mod visits;
+#[cfg(test)]
+mod slabs;
+#[cfg(test)]
+mod visits;

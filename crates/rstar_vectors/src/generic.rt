@@ -1,0 +1,194 @@
+//! What generic code knows of points and of equal elements, what selections ask, and callers of
+//! these at concrete types.
+
+ghost use Rattle.std.specs.Prelude.{◌≡◌, ◌<◌, ◌↔◌, ◌==◌, ℕ, IsTrue, if◌then◌else◌};
+ghost use Rattle.rstar_base.specs.Points.{table};
+
+use rstar_base::aabb::AABB;
+use rstar_base::algorithm::selection_functions::{
+    SelectAtPointFunction, SelectEqualsFunction, SelectInEnvelopeFuncIntersecting,
+    SelectInEnvelopeFunction, SelectWithinDistanceFunction, SelectionFunction,
+};
+use rstar_base::envelope::Envelope;
+use rstar_base::mint::Point2;
+use rstar_base::object::{EqualEnvelopes, RTreeObject};
+use rstar_base::point::{Point, known};
+use rstar_base::primitives::{GeomWithData, Line, Rectangle};
+use std::alloc::{AllocError, Global};
+
+type Place = GeomWithData<Rectangle<[i64; 2]>, u64>;
+
+// A write changes that coordinate and no other.
+fn write<P: Point>(p: &mut P, i: usize, s: P::Scalar)
+    requires { i < P.DIMENSIONS }
+    ensures { (j : ℕ) → j < P.DIMENSIONS → P.coord p.new j ≡ (if j == i then P.Scalar.value s else P.coord p.old j) }
+{
+    *p.nth_mut(i) = s;
+}
+
+// And so does a write after it.
+fn write_two<P: Point>(p: &mut P, i: usize, s: P::Scalar, k: usize, t: P::Scalar)
+    requires i { i < P.DIMENSIONS }
+    requires k { k < P.DIMENSIONS }
+    ensures { (j : ℕ) → j < P.DIMENSIONS
+        → P.coord p.new j
+        ≡ (if j == k then P.Scalar.value t else if j == i then P.Scalar.value s else P.coord p.old j) }
+{
+    *p.nth_mut(i) = s;
+    *p.nth_mut(k) = t;
+}
+
+// Two points are equal exactly where all coordinates are.
+fn same<P: Point>(p: &P, q: &P) -> bool
+    requires { 0 < P.DIMENSIONS }
+    ensures { IsTrue result ↔ (table P.DIMENSIONS (P.coord p.now) ≡ table P.DIMENSIONS (P.coord q.now)) }
+{
+    known(p);
+    known(q);
+    p == q
+}
+
+// The same after a write.
+fn same_written<P: Point>(p: &mut P, q: &P, i: usize, s: P::Scalar) -> bool
+    requires { i < P.DIMENSIONS }
+    ensures { IsTrue result ↔ (table P.DIMENSIONS (P.coord p.new) ≡ table P.DIMENSIONS (P.coord q.now)) }
+{
+    *p.nth_mut(i) = s;
+    let _p = p.nth(i);
+    let _q = q.nth(i);
+    *p == *q
+}
+
+// At concrete types.
+fn moved(p: &mut [i64; 2], q: &mut Point2<i64>, t: &mut (i64, i64))
+    ensures array { ⟦<[i64; 2] as Point>⟧.coord p.new 1 ≡ ⟦<[i64; 2] as Point>⟧.coord p.old 1 }
+    ensures tuple { ⟦<(i64, i64) as Point>⟧.coord t.new 1 ≡ ⟦<(i64, i64) as Point>⟧.coord t.old 1 }
+{
+    *p.nth_mut(0) = 7;
+    *q.nth_mut(0) = 7;
+    write(t, 0, 7);
+}
+
+// Equal elements have equal envelopes.
+fn alike<T: EqualEnvelopes>(a: &T, b: &T) -> bool
+    ensures { IsTrue result → T.object.box_of a.now ≡ T.object.box_of b.now }
+{
+    let _a = a.envelope();
+    let _b = b.envelope();
+    a == b
+}
+
+fn points_alike(a: &[i64; 2], b: &[i64; 2]) -> bool
+    ensures { IsTrue result
+        → ⟦<[i64; 2] as RTreeObject>⟧.object.box_of a.now ≡ ⟦<[i64; 2] as RTreeObject>⟧.object.box_of b.now }
+{
+    alike(a, b)
+}
+
+fn places_alike(a: &Place, b: &Place) -> bool
+    ensures { IsTrue result
+        → ⟦<Place as RTreeObject>⟧.object.box_of a.now ≡ ⟦<Place as RTreeObject>⟧.object.box_of b.now }
+{
+    alike(a, b)
+}
+
+#[test]
+fn points_are_written_and_compared(rt: HostRuntime) {
+    let mut p = [1, 2];
+    let mut q = Point2 { x: 3, y: 4 };
+    let mut t = (5, 6);
+    moved(&mut p, &mut q, &mut t);
+    assert!(rt; p == [7, 2] && q == Point2 { x: 7, y: 4 } && t == (7, 6));
+    write_two(&mut p, 0, 8, 1, 9);
+    assert!(rt; same(&p, &[8, 9]) && !same(&p, &[8, 8]));
+    assert!(rt; same_written(&mut p, &[8, 5], 1, 5));
+    assert!(rt; points_alike(&p, &[8, 5]) && !points_alike(&p, &[5, 8]));
+    let a = Place::new(Rectangle::from_corners([2, 0], [0, 4]), 7);
+    let b = Place::new(Rectangle::from_corners([0, 0], [2, 4]), 7);
+    let c = Place::new(Rectangle::from_corners([0, 0], [2, 4]), 8);
+    assert!(rt; places_alike(&a, &b) && !places_alike(&a, &c));
+}
+
+// The places whose envelopes are not empty.
+fn with_envelope(alloc: Global, places: Vec<Place>) -> Result<Vec<Place>, AllocError> {
+    let mut kept = Vec::new(alloc);
+    for place in places {
+        if !place.envelope().is_empty() {
+            kept.push(place)?;
+        }
+    }
+    Ok(kept)
+}
+
+#[test]
+fn a_place_has_the_envelope_of_its_rectangle(rt: HostRuntime) -> Result<(), AllocError> {
+    let place = Place::new(Rectangle::from_corners([2, 0], [0, 4]), 7);
+    let places = vec![in rt.alloc(); place]?;
+    let kept = with_envelope(rt.alloc(), places)?;
+    assert_eq!(rt; kept.len(), 1);
+    let wanted: Rectangle<[i64; 2]> = Rectangle::from_corners([0, 0], [2, 4]);
+    assert!(rt; kept[0].envelope() == wanted.envelope());
+    assert_eq!(rt; kept[0].data, 7);
+    Ok(())
+}
+
+type Segment = Line<[i64; 2]>;
+
+// Whether a function opens a parent of this element alone, and whether it gives the element.
+fn asked<T: RTreeObject, F: SelectionFunction<T>>(func: F, element: &T) -> (bool, bool) {
+    (
+        func.should_unpack_parent(&element.envelope()),
+        func.should_unpack_leaf(element),
+    )
+}
+
+// What is opened and given in the box from [0, 0] to [4, 4], of what meets it, of what contains
+// [1, 3], of what is within 2 of it, and of what equals the line from [0, 0] to [4, 4].
+fn asked_all(segment: &Segment) -> [(bool, bool); 5] {
+    [
+        asked(
+            SelectInEnvelopeFunction::new(AABB::from_corners([0, 0], [4, 4])),
+            segment,
+        ),
+        asked(
+            SelectInEnvelopeFuncIntersecting::new(AABB::from_corners([0, 0], [4, 4])),
+            segment,
+        ),
+        asked(SelectAtPointFunction::new([1, 3]), segment),
+        asked(SelectWithinDistanceFunction::new([1, 3], 2), segment),
+        asked(
+            SelectEqualsFunction::new(&Line::new([0, 0], [4, 4])),
+            segment,
+        ),
+    ]
+}
+
+#[test]
+fn selections_open_and_give_what_they_ask_for(rt: HostRuntime) {
+    let both = (true, true);
+    let opened = (true, false);
+    let neither = (false, false);
+    let rows: [(Segment, [(bool, bool); 5]); 6] = [
+        (Line::new([0, 0], [4, 4]), [both, both, opened, both, both]),
+        (
+            Line::new([4, 4], [0, 0]),
+            [both, both, opened, both, opened],
+        ),
+        (
+            Line::new([0, 0], [2, 6]),
+            [opened, both, both, both, neither],
+        ),
+        (
+            Line::new([1, 4], [1, 9]),
+            [opened, both, neither, both, neither],
+        ),
+        (Line::new([0, 2], [2, 4]), [both, both, both, both, neither]),
+        (
+            Line::new([5, 0], [9, 3]),
+            [neither, neither, neither, neither, neither],
+        ),
+    ];
+    for (segment, wanted) in rows.iter() {
+        assert!(rt; asked_all(segment) == *wanted);
+    }
+}

@@ -1,0 +1,150 @@
+//! Callers that loop over neighbours, at concrete types and at any.
+
+ghost use Rattle.std.specs.Prelude.{◌≡◌, ℕ, [], pos, min, map, IfOk, IfSome, IfNone, OnOk};
+ghost use Rattle.std.specs.List.Sorted.{IsPermutation};
+ghost use Rattle.rstar_base.specs.Points.{table};
+ghost use Rattle.rstar.specs.Neighbors.{with_distances, root_searched, point_searched, parents_opened, elements_waiting, IsGoingOn, IsSearching, AreInOrder, AreNearestOf, IsNearest, AreNearest};
+ghost use Rattle.rstar.specs.Nodes.{parents_of};
+ghost use Rattle.rstar.specs.Trees.{root_of, elements_in, IsWholeTree};
+
+use rstar::algorithm::nearest_neighbor::{
+    NearestNeighborIterator, nearest_neighbor_with_distance_2, nearest_neighbors_with_distance_2,
+};
+use rstar::params::{DefaultParams, RTreeParams};
+use rstar::rtree::RTree;
+use rstar_base::aabb::AABB;
+use rstar_base::envelope::Envelope;
+use rstar_base::object::{PointDistance, RTreeObject};
+use rstar_base::point::{Point, RTreeNum};
+use rstar_base::primitives::{GeomWithData, Line, Rectangle};
+use std::alloc::{AllocError, Global};
+
+/// A place.
+type At = [i64; 2];
+
+/// A rectangle with a number.
+type Plot = GeomWithData<Rectangle<At>, u64>;
+
+/// All that an iterator has to give.
+fn all_of<'a, T: PointDistance>(
+    alloc: Global,
+    neighbors: &mut NearestNeighborIterator<'a, T>,
+) -> Result<Vec<&'a T>, AllocError>
+    requires searching { IsSearching T.Envelope.boxes T.object T.distances T.Envelope.Point.DIMENSIONS
+        T.Envelope.Point.coord T.Envelope.Point.Scalar.cmp T.Envelope.Point.Scalar.value
+        (with_distances neighbors.old) }
+    requires going_on { IsGoingOn (with_distances neighbors.old) }
+    ensures all { IfOk result (λ ts. IsPermutation (elements_waiting (with_distances neighbors.old))
+        (map (λ t. t.now) ts.items)) }
+    ensures order { IfOk result (λ ts. AreInOrder (λ t. T.distances.distance_2 t (table T.Envelope.Point.DIMENSIONS
+        (T.Envelope.Point.coord (point_searched (with_distances neighbors.old))))) (map (λ t. t.now) ts.items)) }
+    ensures opened { OnOk result (parents_opened (with_distances neighbors.new)
+        ≡ min (parents_of (root_searched (with_distances neighbors.old))) usize.MAX) }
+{
+    let mut all = Vec::new(alloc);
+    while let Some(found) = neighbors.next() {
+        let element = found?;
+        all.push(element)?;
+    }
+    Ok(all)
+}
+
+/// The first that an iterator has to give, so many or all.
+fn first_of<'a, T: PointDistance>(
+    alloc: Global,
+    neighbors: &mut NearestNeighborIterator<'a, T>,
+    most: usize,
+) -> Result<Vec<&'a T>, AllocError>
+    requires searching { IsSearching T.Envelope.boxes T.object T.distances T.Envelope.Point.DIMENSIONS
+        T.Envelope.Point.coord T.Envelope.Point.Scalar.cmp T.Envelope.Point.Scalar.value
+        (with_distances neighbors.old) }
+    requires going_on { IsGoingOn (with_distances neighbors.old) }
+    ensures { IfOk result (λ ts. AreNearestOf (λ t. T.distances.distance_2 t (table T.Envelope.Point.DIMENSIONS
+        (T.Envelope.Point.coord (point_searched (with_distances neighbors.old)))))
+        (elements_waiting (with_distances neighbors.old)) most (map (λ t. t.now) ts.items)) }
+{
+    let mut all = Vec::new(alloc);
+    for _ in 0..most {
+        match neighbors.next() {
+            Some(found) => {
+                let element = found?;
+                all.push(element)?;
+            }
+            None => return Ok(all),
+        }
+    }
+    Ok(all)
+}
+
+/// All points, the nearest to a place first, and how many parents are opened for them.
+fn points_in_order<'a>(
+    alloc: Global,
+    tree: &'a RTree<At>,
+    place: At,
+) -> Result<(Vec<&'a At>, usize), AllocError>
+    requires { IsWholeTree ⟦<AABB<[i64; 2]> as Envelope>⟧.boxes ⟦<[i64; 2] as RTreeObject>⟧.object
+        ⟦<DefaultParams as RTreeParams>⟧.MAX_SIZE tree.now }
+    ensures all { IfOk result (λ r. IsPermutation (elements_in tree.now) (map (λ t. t.now) r.0.items)) }
+    ensures order { IfOk result (λ r. AreInOrder (λ t. ⟦<[i64; 2] as PointDistance>⟧.distances.distance_2 t
+        (table 2 (⟦<[i64; 2] as Point>⟧.coord place))) (map (λ t. t.now) r.0.items)) }
+    ensures opened { IfOk result (λ r. r.1 ≡ min (parents_of (root_of tree.now)) usize.MAX) }
+{
+    let mut neighbors = tree.nearest_neighbor_iter(place);
+    let all = all_of(alloc, &mut neighbors)?;
+    Ok((all, neighbors.opened()))
+}
+
+/// All lines, the nearest to a place first, and how many parents are opened for them.
+fn lines_in_order<'a>(
+    alloc: Global,
+    tree: &'a RTree<Line<At>>,
+    place: At,
+) -> Result<(Vec<&'a Line<At>>, usize), AllocError>
+    requires { IsWholeTree ⟦<AABB<[i64; 2]> as Envelope>⟧.boxes ⟦<Line<[i64; 2]> as RTreeObject>⟧.object
+        ⟦<DefaultParams as RTreeParams>⟧.MAX_SIZE tree.now }
+    ensures all { IfOk result (λ r. IsPermutation (elements_in tree.now) (map (λ t. t.now) r.0.items)) }
+    ensures order { IfOk result (λ r. AreInOrder (λ t. ⟦<Line<[i64; 2]> as PointDistance>⟧.distances.distance_2 t
+        (table 2 (⟦<[i64; 2] as Point>⟧.coord place))) (map (λ t. t.now) r.0.items)) }
+    ensures opened { IfOk result (λ r. r.1 ≡ min (parents_of (root_of tree.now)) usize.MAX) }
+{
+    let mut neighbors = tree.nearest_neighbor_iter(place);
+    let all = all_of(alloc, &mut neighbors)?;
+    Ok((all, neighbors.opened()))
+}
+
+/// The plots nearest to a place, the nearest first: so many, or all.
+fn nearest_plots<'a>(
+    alloc: Global,
+    tree: &'a RTree<Plot>,
+    place: At,
+    most: usize,
+) -> Result<Vec<&'a Plot>, AllocError>
+    requires { IsWholeTree ⟦<AABB<[i64; 2]> as Envelope>⟧.boxes ⟦<Plot as RTreeObject>⟧.object
+        ⟦<DefaultParams as RTreeParams>⟧.MAX_SIZE tree.now }
+    ensures { IfOk result (λ ts. AreNearestOf
+        (λ t. ⟦<Plot as PointDistance>⟧.distances.distance_2 t (table 2 (⟦<[i64; 2] as Point>⟧.coord place)))
+        (elements_in tree.now) most (map (λ t. t.now) ts.items)) }
+{
+    let mut neighbors = tree.nearest_neighbor_iter(place);
+    first_of(alloc, &mut neighbors, most)
+}
+
+/// A point nearest to a place with its squared distance, and all those: by the functions over a root.
+fn nearest_below<'a>(
+    tree: &'a RTree<At>,
+    place: At,
+) -> Result<(Option<(&'a At, i64)>, Option<(Vec<&'a At>, i64)>), AllocError>
+    requires { IsWholeTree ⟦<AABB<[i64; 2]> as Envelope>⟧.boxes ⟦<[i64; 2] as RTreeObject>⟧.object
+        ⟦<DefaultParams as RTreeParams>⟧.MAX_SIZE tree.now }
+    ensures none { IfOk result (λ r. IfNone r.0 (elements_in tree.now ≡ [])) }
+    ensures one { IfOk result (λ r. IfSome r.0 (λ x. IsNearest
+        (λ t. ⟦<[i64; 2] as PointDistance>⟧.distances.distance_2 t (table 2 (⟦<[i64; 2] as Point>⟧.coord place)))
+        (elements_in tree.now) x.0.now)) }
+    ensures all { IfOk result (λ r. IfSome r.1 (λ x. (d : ℕ) × (x.1 ≡ pos d) × AreNearest
+        (λ t. ⟦<[i64; 2] as PointDistance>⟧.distances.distance_2 t (table 2 (⟦<[i64; 2] as Point>⟧.coord place)))
+        (elements_in tree.now) d (map (λ t. t.now) x.0.items))) }
+{
+    let one = nearest_neighbor_with_distance_2(tree.root(), place)?;
+    let all = nearest_neighbors_with_distance_2(tree.root(), place)?;
+    Ok((one, all))
+}
