@@ -18,14 +18,15 @@ use Rattle.rstar.specs.declared.iterators.joins.IntersectionIterator.{Intersecti
 use Rattle.rstar.specs.Heights.{levels_below}
 use Rattle.rstar.specs.Walks.{usize_max, IsLevel}
 use Rattle.rstar.specs.Nodes.{elements, all_elements, elements_of, envelope_of, children_of, node_box, is_leaf_node, total, IsTree, IsElement, IsInner, AreWhole, IsWhole}
-use Rattle.rstar.specs.Meets.{product, opened_to, both_leaves, count_parents, meet, meet_of_roots, meet_of_children, pairs_at, opens_at, all_pairs, all_opens, pairs_from_roots}
+use Rattle.rstar.specs.Meets.{product, opened_to, both_leaves, count_parents, meet, meet_of_roots, meet_of_shown, pairs_at, opens_at, all_pairs, all_opens, pairs_from_roots}
+use Rattle.rstar.specs.Shown.{parent, row_of, shown}
 use Rattle.rstar.specs.JoinWalks.{Frame, FitsIn, AreFrames, one_if_several, frames_of, pairs_from_frames, opens_from_frames, HasItsPaths}
 use Rattle.rstar.specs.Joins.{SeenLaws, meets_by, join}
 use Rattle.rstar.proofs.Rows.{is_leaf, is_parent, elements-Leaf, elements-Parent, node_box-Leaf, node_box-Parent, total-map}
 use Rattle.rstar.proofs.Heights.{levels_are}
 use Rattle.rstar.proofs.Walks.{tree-weaker}
 use Rattle.rstar.proofs.Trees.{sound, all_sound, values-of, box_is_hull, merged_is_hull}
-use Rattle.rstar.proofs.PairRows.{the_pair, sum_by-same, product-none, node-cases, leaf-found, opened, opened_to-Leaf, opened_to-Parent, sum_by-row, meet-Leaf, meet-Parent, count_parents-Leaf, count_parents-Parent, is_leaf-Leaf, pairs-leaves, opens-leaves}
+use Rattle.rstar.proofs.PairRows.{the_pair, sum_by-same, product-none, node-cases, leaf-found, opened, opened_to-Leaf, opened_to-Parent, sum_by-row, meet-Leaf, meet-Parent, meet-roots, count_parents-Leaf, count_parents-Parent, is_leaf-Leaf, pairs-leaves, opens-leaves}
 use Rattle.rstar.proofs.PairWalks.{one-frame, several}
 use Rattle.rstar.proofs.Meets.{IsJoined, all-joined, join-none, hull-meets-left, hull-meets-right}
 
@@ -253,11 +254,12 @@ module _ {T E U F : Type 0} {IsPoint IsPoint' : List ℤ → Type 0} {v : Boxes 
       → children_of left ≢ [] → children_of other ≢ [] → meet_of_roots (meets_by v seen) o.box_of o'.box_of left other ≡ 1 + all_opens (meets_by v seen) o.box_of o'.box_of (children_of left) (children_of other)
   roots-counted left other hl hr is some some' = by_lists (children_of left) (children_of other) some some' (all-right hl.height hr.height (children_of left) (children_of other) hl.below hr.below) where
     by_lists : (ls : List (RTreeNode T E P S X)) (rs : List (RTreeNode U F Q R Y)) → ls ≢ [] → rs ≢ [] → AreRight ls rs
-        → meet_of_children (meets_by v seen) o.box_of o'.box_of (envelope_of left) (envelope_of other) ls rs ≡ 1 + all_opens (meets_by v seen) o.box_of o'.box_of ls rs
+        → meet_of_shown (meets_by v seen) o.box_of o'.box_of (parent (envelope_of left) (row_of (map shown ls))) (parent (envelope_of other) (row_of (map shown rs))) ≡ 1 + all_opens (meets_by v seen) o.box_of o'.box_of ls rs
     by_lists [] rs some some' all = absurd (some refl)
     by_lists (l ∷ ls) [] some some' all = absurd (some' refl)
     by_lists (l ∷ ls) (r ∷ rs) some some' all =
-        ap (λ (b : Bool). (if b then 1 else 0) + all_meets T E P S X U F Q R Y (meets_by v seen) o.box_of o'.box_of (l ∷ ls) (r ∷ rs)) is
+        meet-roots (meets_by v seen) o.box_of o'.box_of (envelope_of left) (envelope_of other) (l ∷ ls) (r ∷ rs)
+        ∙ ap (λ (b : Bool). (if b then 1 else 0) + all_meets T E P S X U F Q R Y (meets_by v seen) o.box_of o'.box_of (l ∷ ls) (r ∷ rs)) is
         ∙ ap (λ n. 1 + n) (all-counted (l ∷ ls) (r ∷ rs) all)
 
   -- Meet counts nothing where they do not
@@ -271,10 +273,12 @@ module _ {T E U F : Type 0} {IsPoint IsPoint' : List ℤ → Type 0} {v : Boxes 
       (sym (λ i. (meets_by v seen) (merged_l i) (merged_r i)) ∙ is))
     where
       by_lists : (ls : List (RTreeNode T E P S X)) (rs : List (RTreeNode U F Q R Y)) → all_meets T E P S X U F Q R Y (meets_by v seen) o.box_of o'.box_of ls rs ≡ 0
-          → meet_of_children (meets_by v seen) o.box_of o'.box_of (envelope_of left) (envelope_of other) ls rs ≡ 0
+          → meet_of_shown (meets_by v seen) o.box_of o'.box_of (parent (envelope_of left) (row_of (map shown ls))) (parent (envelope_of other) (row_of (map shown rs))) ≡ 0
       by_lists [] rs none = refl
       by_lists (l ∷ ls) [] none = refl
-      by_lists (l ∷ ls) (r ∷ rs) none = let z = ap (λ (b : Bool). if◌then◌else◌ {A = ℕ} b 1 0) is in omega (arith, z, none)
+      by_lists (l ∷ ls) (r ∷ rs) none =
+          let both = meet-roots (meets_by v seen) o.box_of o'.box_of (envelope_of left) (envelope_of other) (l ∷ ls) (r ∷ rs) in
+          let z = ap (λ (b : Bool). if◌then◌else◌ {A = ℕ} b 1 0) is in omega (arith, z, none, both)
 
 module _ {T E U F P S X Q R Y : Type 0} (meets : E → F → Bool) (left_box : T → E) (right_box : U → F) (left : ParentNode T E P S X) (other : ParentNode U F Q R Y) where
   -- and where one of them has no children
@@ -285,7 +289,7 @@ module _ {T E U F P S X Q R Y : Type 0} (meets : E → F → Bool) (left_box : T
     if-none false ps e = refl
 
     by_lists : (ls : List (RTreeNode T E P S X)) (rs : List (RTreeNode U F Q R Y)) → (ls ≡ []) ⊎ (rs ≡ [])
-        → (meet_of_children meets left_box right_box (envelope_of left) (envelope_of other) ls rs ≡ 0) × ((if meets (envelope_of left) (envelope_of other) then all_pairs meets left_box right_box ls rs else []) ≡ [])
+        → (meet_of_shown meets left_box right_box (parent (envelope_of left) (row_of (map shown ls))) (parent (envelope_of other) (row_of (map shown rs))) ≡ 0) × ((if meets (envelope_of left) (envelope_of other) then all_pairs meets left_box right_box ls rs else []) ≡ [])
     by_lists [] rs e = (refl, if-none (meets (envelope_of left) (envelope_of other)) [] refl)
     by_lists (l ∷ ls) [] e = (refl, if-none (meets (envelope_of left) (envelope_of other)) _ (ap (flat_map (λ p. pairs_at meets left_box right_box p.0 p.1)) (product-none (l ∷ ls))))
     by_lists (l ∷ ls) (r ∷ rs) (inl e) = cc

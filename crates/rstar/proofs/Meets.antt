@@ -1,5 +1,5 @@
 -- The walk of a join against the definitions: by the laws of envelopes, a merge intersects what a part intersects.
-use Rattle.std.proofs.Common.{◌≡◌, ◌≢◌, ℤ, ◌+◌, List, [], ◌∷◌, ◌++◌, map, flat_map, filter, refl, ap, ◌∙◌, sym, subst, Bool, true, false, if◌then◌else◌, append_assoc}
+use Rattle.std.proofs.Common.{◌≡◌, ℤ, List, [], ◌∷◌, ◌++◌, map, flat_map, filter, refl, ap, ◌∙◌, sym, subst, Bool, true, false, if◌then◌else◌, append_assoc}
 use Rattle.std.specs.List.{AllByRecursion}
 use Rattle.std.specs.List.Sorted.{IsPermutation}
 use Rattle.std.proofs.lemmas.Bool.{true≢false}

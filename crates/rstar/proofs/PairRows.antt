@@ -8,9 +8,10 @@ use Rattle.rstar.specs.declared.node.RTreeNode.TheOpen as layer
 use Rattle.rstar.specs.declared.node.ParentNode.{ParentNode}
 use Rattle.rstar.specs.Nodes.{Layer, children_of, fold_tree, total, reach, given, all_given, all_reach, node_box, is_leaf_node}
 use Rattle.rstar.specs.Walks.{steps}
-use Rattle.rstar.specs.Meets.{product, opened_to, next_nodes, both_leaves, count_parents, meet, pairs_at, opens_at, all_pairs, all_opens}
+use Rattle.rstar.specs.Meets.{product, opened_to, next_nodes, next_shown, shown_box, count_shown, meet_shown, both_leaves, count_parents, meet, pairs_at, opens_at, all_pairs, all_opens}
+use Rattle.rstar.specs.Shown.{Shown, parent, nodes_in, row_of, fold_shown, fold_shown_row, shown}
 use Rattle.rstar.specs.JoinWalks.{row_steps, frame_steps, steps_at}
-use Rattle.rstar.proofs.Rows.{fold_tree-Parent, given-Leaf, given-Parent, reach-Leaf, reach-Parent, steps-Leaf, steps-Parent, node_box-Leaf, node_box-Parent, total-map}
+use Rattle.rstar.proofs.Rows.{fold_tree-Parent, given-Leaf, given-Parent, reach-Leaf, reach-Parent, steps-Leaf, steps-Parent, node_box-Leaf, node_box-Parent, shown-Leaf, shown-Parent, total-map}
 
 -- ---- products
 
@@ -26,6 +27,14 @@ module _ {A B C : Type 0} where
   product-map : (f : A → C) (xs : List A) (ys : List B) → product (map f xs) ys ≡ map (λ (p : A × B). the_pair (f p.0) p.1) (product xs ys)
   product-map f [] ys = refl
   product-map f (x ∷ xs) ys = ap (λ (l : List (C × B)). map (λ (y : B). the_pair (f x) y) ys ++ l) (product-map f xs ys) ∙ row-map f x ys (product xs ys)
+
+  row-map-right : (f : B → C) (x : A) (ys : List B) (rest : List (A × B)) → map (λ (y : C). the_pair x y) (map f ys) ++ map (λ (p : A × B). the_pair p.0 (f p.1)) rest ≡ map (λ (p : A × B). the_pair p.0 (f p.1)) (map (λ (y : B). the_pair x y) ys ++ rest)
+  row-map-right f x [] rest = refl
+  row-map-right f x (y ∷ ys) rest = ap (λ (l : List (A × C)). the_pair x (f y) ∷ l) (row-map-right f x ys rest)
+
+  product-map-right : (f : B → C) (xs : List A) (ys : List B) → product xs (map f ys) ≡ map (λ (p : A × B). the_pair p.0 (f p.1)) (product xs ys)
+  product-map-right f [] ys = refl
+  product-map-right f (x ∷ xs) ys = ap (λ (l : List (A × C)). map (λ (y : C). the_pair x y) (map f ys) ++ l) (product-map-right f xs ys) ∙ row-map-right f x ys (product xs ys)
 
 pub product-none : {A B : Type 0} (xs : List A) → product {B = B} xs [] ≡ []
 product-none [] = refl
@@ -60,6 +69,13 @@ flat_map-applied f xs ys = ap (flat_map (λ p. p.0 p.1)) (product-map f xs ys) �
 pub sum_by-applied : {A B : Type 0} (f : A → B → ℕ) (xs : List A) (ys : List B) → sum_by (λ (p : (B → ℕ) × B). p.0 p.1) (product (map f xs) ys) ≡ sum_by (λ (p : A × B). f p.0 p.1) (product xs ys)
 sum_by-applied f xs ys = ap (sum_by (λ p. p.0 p.1)) (product-map f xs ys) ∙ sum_by-map (λ (p : _ × _). the_pair (f p.0) p.1) (λ p. p.0 p.1) (product xs ys)
 
+-- the sum over a product of what two lists are seen as
+sum_by-seen : {A B C D : Type 0} (f : A → C) (g : B → D) (h : C → D → ℕ) (xs : List A) (ys : List B) → sum_by (λ (p : C × D). h p.0 p.1) (product (map f xs) (map g ys)) ≡ sum_by (λ (p : A × B). h (f p.0) (g p.1)) (product xs ys)
+sum_by-seen {A} {B} {C} {D} f g h xs ys =
+    ap (sum_by (λ (p : C × D). h p.0 p.1)) (product-map f xs (map g ys) ∙ ap (map (λ (p : A × D). the_pair (f p.0) p.1)) (product-map-right g xs ys))
+    ∙ sum_by-map (λ (p : A × D). the_pair (f p.0) p.1) (λ (p : C × D). h p.0 p.1) (map (λ (p : A × B). the_pair p.0 (g p.1)) (product xs ys))
+    ∙ sum_by-map (λ (p : A × B). the_pair p.0 (g p.1)) (λ (p : A × D). h (f p.0) p.1) (product xs ys)
+
 total-applied : {A C : Type 0} (f : C → A) (g : A → ℕ) (xs : List C) → total (map g (map f xs)) ≡ total (map (λ x. g (f x)) xs)
 total-applied f g [] = refl
 total-applied f g (x ∷ xs) = ap (λ n. g (f x) + n) (total-applied f g xs)
@@ -67,6 +83,16 @@ total-applied f g (x ∷ xs) = ap (λ n. g (f x) + n) (total-applied f g xs)
 pub frame_steps-applied : {A B : Type 0} (f : A → B → ℕ) (xs : List A) (ys : List B) → frame_steps (λ (b : B → ℕ) n. b n) (map f xs) ys ≡ frame_steps f xs ys
 frame_steps-applied f [] ys = refl
 frame_steps-applied f (x ∷ xs) ys = ap (λ n. row_steps f x ys + n) (total-applied f (λ (b : _ → ℕ). 1 + row_steps (λ (b : _ → ℕ) n. b n) b ys) xs)
+
+-- ---- what a row shows
+
+nodes-row : {T E : Type 0} (ns : List (Shown T E)) → nodes_in (row_of ns) ≡ ns
+nodes-row [] = refl
+nodes-row (n ∷ ns) = ap (λ (l : List (Shown _ _)). n ∷ l) (nodes-row ns)
+
+folded-row : {T E A : Type 0} (at_leaf : T → A) (at_parent : E → List A → A) (ns : List (Shown T E)) → fold_shown_row at_leaf at_parent (row_of ns) ≡ map (fold_shown at_leaf at_parent) ns
+folded-row at_leaf at_parent [] = refl
+folded-row {A = A} at_leaf at_parent (n ∷ ns) = ap (λ (l : List A). fold_shown at_leaf at_parent n ∷ l) (folded-row at_leaf at_parent ns)
 
 -- ---- what comes after a node
 
@@ -87,7 +113,7 @@ module _ (T E P S X : Type 0) where
   is_leaf-Leaf t = refl
 
   pub count_parents-Leaf : (accepts : E → Bool) (t : T) → count_parents {P = P} {S = S} {X = X} accepts (Leaf t) ≡ 0
-  unfolding count_parents fold_tree
+  unfolding count_parents shown fold_tree
   count_parents-Leaf accepts t = refl
 
 module _ {T E P S X : Type 0} where
@@ -101,7 +127,24 @@ module _ {T E P S X : Type 0} where
 
   pub count_parents-Parent : (accepts : E → Bool) (p : ParentNode T E P S X) → count_parents accepts (Parent p) ≡ (if accepts p.envelope then 1 else 0) + total (map (count_parents accepts) (children_of p))
   unfolding count_parents
-  count_parents-Parent accepts p = fold_tree-Parent _ _ p
+  count_parents-Parent accepts p =
+      ap (count_shown accepts) (shown-Parent p)
+      ∙ ap (λ (below : List ℕ). (if accepts p.envelope then 1 else 0) + total below) (folded-row (λ t. 0) (λ e below. (if accepts e then 1 else 0) + total below) (map shown (children_of p)))
+      ∙ ap (λ (n : ℕ). (if accepts p.envelope then 1 else 0) + n) (total-applied shown (count_shown accepts) (children_of p))
+
+-- what a node shows has the same envelope, and what it is opened to comes after it
+module _ {T E P S X : Type 0} where
+  shown-box : (box_of : T → E) (n : RTreeNode T E P S X) → shown_box box_of (shown n) ≡ node_box box_of n
+  shown-box box_of n = by_case (node-cases n) where
+    by_case : ((t : T) × (n ≡ Leaf t)) ⊎ ((p : ParentNode T E P S X) × (n ≡ Parent p)) → shown_box box_of (shown n) ≡ node_box box_of n
+    by_case (inl a) = ap (λ m. shown_box box_of (shown m)) a.1 ∙ ap (shown_box box_of) (shown-Leaf T E P S X a.0) ∙ sym (ap (node_box box_of) a.1 ∙ node_box-Leaf T E P S X box_of a.0)
+    by_case (inr a) = ap (λ m. shown_box box_of (shown m)) a.1 ∙ ap (shown_box box_of) (shown-Parent a.0) ∙ sym (ap (node_box box_of) a.1 ∙ node_box-Parent box_of a.0)
+
+  shown-next : (n : RTreeNode T E P S X) → next_shown (shown n) ≡ map shown (opened_to n)
+  shown-next n = by_case (node-cases n) where
+    by_case : ((t : T) × (n ≡ Leaf t)) ⊎ ((p : ParentNode T E P S X) × (n ≡ Parent p)) → next_shown (shown n) ≡ map shown (opened_to n)
+    by_case (inl a) = ap (λ m. next_shown (shown m)) a.1 ∙ ap next_shown (shown-Leaf T E P S X a.0) ∙ sym (ap (λ m. map shown (opened_to m)) a.1 ∙ ap (map shown) (opened_to-Leaf T E P S X a.0) ∙ ap (λ s. s ∷ []) (shown-Leaf T E P S X a.0))
+    by_case (inr a) = ap (λ m. next_shown (shown m)) a.1 ∙ ap next_shown (shown-Parent a.0) ∙ nodes-row (map shown (children_of a.0)) ∙ sym (ap (λ m. map shown (opened_to m)) a.1 ∙ ap (map shown) (opened_to-Parent a.0))
 
 -- ---- pairs of nodes
 
@@ -116,7 +159,7 @@ module _ (T E P S X U F Q R Y : Type 0) (meets : E → F → Bool) (left_box : T
   opens-Leaf t r = refl
 
   pub meet-Leaf : (t : T) (r : RTreeNode U F Q R Y) → meet {P = P} {S = S} {X = X} meets left_box right_box (Leaf t) r ≡ count_parents (meets (left_box t)) r
-  unfolding meet fold_tree
+  unfolding meet count_parents shown fold_tree
   meet-Leaf t r = refl
 
 module _ {T E P S X U F Q R Y : Type 0} (meets : E → F → Bool) (left_box : T → E) (right_box : U → F) where
@@ -133,11 +176,28 @@ module _ {T E P S X U F Q R Y : Type 0} (meets : E → F → Bool) (left_box : T
       ap (λ (f : RTreeNode U F Q R Y → ℕ). f r) (fold_tree-Parent {A = RTreeNode U F Q R Y → ℕ} _ _ p)
       ∙ ap (λ (n : ℕ). if meets p.envelope (node_box right_box r) then 1 + n else 0) (sum_by-applied (opens_at meets left_box right_box) (children_of p) (opened_to r))
 
+  -- a parent beside a node, by the children of both
+  pub meet-row : (e : E) (ls : List (RTreeNode T E P S X)) (r : Shown U F) (rs : List (RTreeNode U F Q R Y)) → next_shown r ≡ map shown rs
+      → meet_shown meets left_box right_box (parent e (row_of (map shown ls))) r ≡ (if meets e (shown_box right_box r) then 1 else 0) + sum_by (λ (q : RTreeNode T E P S X × RTreeNode U F Q R Y). meet meets left_box right_box q.0 q.1) (product ls rs)
+  unfolding meet
+  meet-row e ls r rs next =
+      let from = (if meets e (shown_box right_box r) then 1 else 0) in
+      ap (λ (below : List (Shown U F → ℕ)). from + sum_by (λ p. p.0 p.1) (product below (next_shown r))) (folded-row {A = Shown U F → ℕ} _ _ (map shown ls))
+      ∙ ap (λ (n : ℕ). from + n) (sum_by-applied (meet_shown meets left_box right_box) (map shown ls) (next_shown r)
+      ∙ ap (λ (l : List (Shown U F)). sum_by (λ (p : Shown T E × Shown U F). meet_shown meets left_box right_box p.0 p.1) (product (map shown ls) l)) next
+      ∙ sum_by-seen shown shown (meet_shown meets left_box right_box) ls rs)
+
   pub meet-Parent : (p : ParentNode T E P S X) (r : RTreeNode U F Q R Y) → meet meets left_box right_box (Parent p) r ≡ (if meets p.envelope (node_box right_box r) then 1 else 0) + sum_by (λ (q : RTreeNode T E P S X × RTreeNode U F Q R Y). meet meets left_box right_box q.0 q.1) (product (children_of p) (opened_to r))
   unfolding meet
   meet-Parent p r =
-      ap (λ (f : RTreeNode U F Q R Y → ℕ). f r) (fold_tree-Parent {A = RTreeNode U F Q R Y → ℕ} _ _ p)
-      ∙ ap (λ (n : ℕ). (if meets p.envelope (node_box right_box r) then 1 else 0) + n) (sum_by-applied (meet meets left_box right_box) (children_of p) (opened_to r))
+      ap (λ (l : Shown T E). meet_shown meets left_box right_box l (shown r)) (shown-Parent p)
+      ∙ meet-row p.envelope (children_of p) (shown r) (opened_to r) (shown-next r)
+      ∙ ap (λ (f : F). (if meets p.envelope f then 1 else 0) + sum_by (λ (q : RTreeNode T E P S X × RTreeNode U F Q R Y). meet meets left_box right_box q.0 q.1) (product (children_of p) (opened_to r))) (shown-box right_box r)
+
+  -- two roots that have children
+  pub meet-roots : (e : E) (f : F) (ls : List (RTreeNode T E P S X)) (rs : List (RTreeNode U F Q R Y))
+      → meet_shown meets left_box right_box (parent e (row_of (map shown ls))) (parent f (row_of (map shown rs))) ≡ (if meets e f then 1 else 0) + sum_by (λ (q : RTreeNode T E P S X × RTreeNode U F Q R Y). meet meets left_box right_box q.0 q.1) (product ls rs)
+  meet-roots e f ls rs = meet-row e ls (parent f (row_of (map shown rs))) rs (nodes-row (map shown rs))
 
 module _ (T E P S X U F Q R Y : Type 0) where
   pub steps-at-Leaf : (t : T) (r : RTreeNode U F Q R Y) → steps_at {E = E} {P = P} {S = S} {X = X} (Leaf t) r ≡ steps r

@@ -7,11 +7,48 @@ use Rattle.rstar.specs.declared.node.RTreeNode.TheOpen as layer
 use Rattle.rstar.specs.declared.node.ParentNode.{ParentNode}
 use Rattle.rstar.specs.Nodes.{Layer, layer_of, fold_tree, total, reach, given, node_box}
 use Rattle.rstar.specs.Nodes.{is_leaf_node, children_of, envelope_of}
+use Rattle.rstar.specs.Shown.{Shown, leaf, parent, end, more, nodes_in, fold_shown, shown, shown_root}
 
 -- each item of the first list with each of the second
 abbrev pub product : {A B : Type 0} → List A → List B → List (A × B)
 product [] ys = []
 product (x ∷ xs) ys = map (λ y. (x, y)) ys ++ product xs ys
+
+-- ---- Meet, over what the nodes of two trees show
+
+-- what comes after a node: a parent's children, and a leaf itself
+abbrev pub next_shown : {T E : Type 0} → Shown T E → List (Shown T E)
+next_shown (leaf t) = leaf t ∷ []
+next_shown (parent e below) = nodes_in below
+
+-- the envelope of a node: of a leaf its element's, of a parent the one that it keeps
+abbrev pub shown_box : {T E : Type 0} → (T → E) → Shown T E → E
+shown_box box_of (leaf t) = box_of t
+shown_box box_of (parent e below) = e
+
+-- how many parents from a node on have an envelope that a test accepts, whatever is above them
+abbrev pub count_shown : {T E : Type 0} → (E → Bool) → Shown T E → ℕ
+count_shown accepts n = fold_shown (λ t. 0) (λ e below. (if accepts e then 1 else 0) + total below) n
+
+module _ {T E U F : Type 0} (meets : E → F → Bool) (left_box : T → E) (right_box : U → F) where
+  -- the pairs of nodes from two nodes on, not both leaves, that meet, and that lie equally far below the two, or of
+  -- which the nearer one is a leaf. Beside a leaf the other node goes on alone.
+  abbrev pub meet_shown : Shown T E → Shown U F → ℕ
+  meet_shown l r = fold_shown {A = Shown U F → ℕ}
+      (λ t r. count_shown (meets (left_box t)) r)
+      (λ e below r. (if meets e (shown_box right_box r) then 1 else 0)
+      + sum_by (λ p. p.0 p.1) (product below (next_shown r)))
+      l r
+
+  -- Meet of two roots; 0 where one has no children
+  abbrev pub meet_of_shown : Shown T E → Shown U F → ℕ
+  meet_of_shown (parent e (more l ls)) (parent f (more r rs)) = meet_shown (parent e (more l ls)) (parent f (more r rs))
+  meet_of_shown (parent e (more l ls)) (parent f end) = 0
+  meet_of_shown (parent e (more l ls)) (leaf u) = 0
+  meet_of_shown (parent e end) r = 0
+  meet_of_shown (leaf t) r = 0
+
+-- ---- the same of nodes
 
 -- the nodes that come after a node: a parent's children, and a leaf itself
 abbrev pub next_nodes : {T E P S X : Type 0} → RTreeNode T E P S X → Layer T E P S X → List (RTreeNode T E P S X)
@@ -25,30 +62,15 @@ opened_to n = next_nodes n (layer_of n)
 abbrev pub both_leaves : {T E P S X U F Q R Y : Type 0} → RTreeNode T E P S X → RTreeNode U F Q R Y → Bool
 both_leaves l r = if is_leaf_node l then is_leaf_node r else false
 
--- how many parents from a node on have an envelope that a test accepts, whatever is above them
 unfoldable pub count_parents : {T E P S X : Type 0} → (E → Bool) → RTreeNode T E P S X → ℕ
-count_parents accepts n = fold_tree (λ t. 0) (λ e below. (if accepts e then 1 else 0) + total below) n
+count_parents accepts n = count_shown accepts (shown n)
 
 module _ {T E P S X U F Q R Y : Type 0} (meets : E → F → Bool) (left_box : T → E) (right_box : U → F) where
-  -- Meet, from two nodes on: the pairs of nodes, not both leaves, that meet, and that lie equally far below the two, or
-  -- of which the nearer one is a leaf. Beside a leaf the other node goes on alone.
   unfoldable pub meet : RTreeNode T E P S X → RTreeNode U F Q R Y → ℕ
-  meet l r = fold_tree {A = RTreeNode U F Q R Y → ℕ}
-      (λ t r. count_parents (meets (left_box t)) r)
-      (λ e below r. (if meets e (node_box right_box r) then 1 else 0)
-      + sum_by (λ p. p.0 p.1) (product below (opened_to r)))
-      l r
-
-  -- Meet of two roots; 0 where one has no children
-  abbrev pub meet_of_children : E → F → List (RTreeNode T E P S X) → List (RTreeNode U F Q R Y) → ℕ
-  meet_of_children e f [] rs = 0
-  meet_of_children e f (l ∷ ls) [] = 0
-  meet_of_children e f (l ∷ ls) (r ∷ rs) =
-      (if meets e f then 1 else 0) + sum_by (λ p. meet p.0 p.1) (product (l ∷ ls) (r ∷ rs))
+  meet l r = meet_shown meets left_box right_box (shown l) (shown r)
 
   abbrev pub meet_of_roots : ParentNode T E P S X → ParentNode U F Q R Y → ℕ
-  meet_of_roots left right =
-      meet_of_children (envelope_of left) (envelope_of right) (children_of left) (children_of right)
+  meet_of_roots left right = meet_of_shown meets left_box right_box (shown_root left) (shown_root right)
 
   -- ---- what a walk gives that goes below the pairs that meet alone, and how many pairs it opens
 

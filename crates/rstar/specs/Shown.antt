@@ -20,6 +20,22 @@ abbrev pub row_of : {T E : Type 0} → List (Shown T E) → ShownRow T E
 row_of [] = end
 row_of (n ∷ ns) = more n (row_of ns)
 
+-- a row as a list
+abbrev pub nodes_in : {T E : Type 0} → ShownRow T E → List (Shown T E)
+nodes_in end = []
+nodes_in (more n ns) = n ∷ nodes_in ns
+
+-- a value for what a node shows: of a leaf by its element, of a parent by its envelope and its children's values
+abbrev mutual
+  pub fold_shown : {T E A : Type 0} → (T → A) → (E → List A → A) → Shown T E → A
+  fold_shown at_leaf at_parent (leaf t) = at_leaf t
+  fold_shown at_leaf at_parent (parent e below) = at_parent e (fold_shown_row at_leaf at_parent below)
+
+  pub fold_shown_row : {T E A : Type 0} → (T → A) → (E → List A → A) → ShownRow T E → List A
+  fold_shown_row at_leaf at_parent end = []
+  fold_shown_row at_leaf at_parent (more n ns) =
+      fold_shown at_leaf at_parent n ∷ fold_shown_row at_leaf at_parent ns
+
 -- what a node shows
 unfoldable pub shown : {T E P S X : Type 0} → RTreeNode T E P S X → Shown T E
 shown n = fold_tree leaf (λ e below. parent e (row_of below)) n

@@ -6,7 +6,6 @@ use Rattle.rstar_base.specs.Elements.{Objects}
 use Rattle.rstar_base.specs.Selections.{IsLawful}
 use Rattle.rstar.specs.declared.node.RTreeNode.{RTreeNode}
 use Rattle.rstar.specs.declared.node.RTreeNode.TheOpen as layer
-use Rattle.rstar.specs.declared.node.ParentNode.{ParentNode}
 use Rattle.rstar.specs.declared.rtree.RTree.{RTree}
 use Rattle.rstar.specs.Nodes.{Layer, layer_of, elements, all_elements, children_of, IsElement, IsTree}
 use Rattle.rstar.specs.Kept.{IsKeptInner, AreKept}

@@ -1,4 +1,4 @@
-use Rattle.std.proofs.Common.{◌∷◌, ◌++◌, [], ◌∙◌, ap, refl, arith, sym, subst, append-nil, append_assoc, take, flat_map}
+use Rattle.std.proofs.Common.{◌∷◌, ◌++◌, [], ◌∙◌, ap, refl, arith, subst, append-nil, append_assoc, take, flat_map}
 use Rattle.rstar.proofs.Walks.{nil-length}
 use Rattle.rstar.specs.JoinWalks.{frames_of, IsFromFirst}
 use Rattle.rstar.specs.Joins.{meets_by}
