@@ -4,8 +4,6 @@
 #[cfg(test)]
 mod boxes;
 #[cfg(test)]
-mod callers;
-#[cfg(test)]
 mod counted;
 #[cfg(test)]
 mod doors;
@@ -29,6 +27,8 @@ mod loads;
 mod neighbours;
 #[cfg(test)]
 mod payloads;
+#[cfg(test)]
+mod places;
 #[cfg(test)]
 mod points;
 #[cfg(test)]

@@ -1,7 +1,7 @@
 use Rattle.std.proofs.Common.{◌∙◌, ap, map}
 use Rattle.rstar.proofs.Chains.{selection_end}
 use Rattle.rstar.specs.Selections.{to_come}
-use Rattle.rstar_vectors.proofs.callers.inside.Goals as goal
+use Rattle.rstar_vectors.proofs.places.inside.Goals as goal
 
 pub returns : goal.returns
 returns g c =

@@ -3,7 +3,7 @@ use Rattle.std.specs.Borrow.{Bor}
 use Rattle.std.specs.Prelude.{MatchOption}
 use Rattle.rstar.specs.declared.iterators.SelectionIterator.{SelectionIterator}
 use Rattle.rstar.specs.Selections.{to_come, GivesNext}
-use Rattle.rstar_vectors.proofs.callers.first_inside.Goals as goal
+use Rattle.rstar_vectors.proofs.places.first_inside.Goals as goal
 
 first_of : {T F E P S X : Type 0} {accepts : F → E → Bool} {selects : F → T → Bool} (it : SelectionIterator T F E P S X) (xs : List T) → to_come accepts selects it ≡ xs
     → (r : Option (Bor T)) (u : SelectionIterator T F E P S X) → GivesNext accepts selects it r u → MatchOption r (xs ≡ []) (λ t. (rest : List T) × (xs ≡ t.now ∷ rest))
