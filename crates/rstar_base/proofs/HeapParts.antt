@@ -1,5 +1,5 @@
 -- What a push and a pop keep: of the inline items, and of the rest.
-use Rattle.std.proofs.Common.{◌≡◌, ℕ, zero, suc, ◌+◌, ◌-◌, ◌≤◌, ◌<◌, List, [], ◌∷◌, ◌++◌, length, refl, sym, ap, subst, ◌∙◌, arith, true, false, Bool, IsSome, IfSome, IfNone, Option, Some, None, slice_index_or, get_or, take, drop, append_assoc, append-nil, length-append, All}
+use Rattle.std.proofs.Common.{◌≡◌, ℕ, zero, suc, ◌+◌, ◌-◌, ◌≤◌, ◌<◌, List, [], ◌∷◌, ◌++◌, length, refl, sym, ap, subst, ◌∙◌, arith, true, false, Option, Some, None, slice_index_or, drop, length-append, All}
 use Rattle.std.proofs.HeapSift as sifts
 use Rattle.std.specs.Cmp.{IsTotalOrder, IsStrictWeakOrder}
 use Rattle.std.specs.Option.{option_cmp}
@@ -11,11 +11,11 @@ use Rattle.std.specs.Prelude.{slice_get}
 use Rattle.std.specs.BinaryHeap.{IsHeap, IsUpperBound, lt_by_cmp}
 use Rattle.std.specs.BinaryHeap.Sift.{SiftsUp, SiftsDown, RestoresHeap}
 use Rattle.std.specs.Slice.Heapsort.{IsHeapWithin}
-use Rattle.std.proofs.lemmas.List.Sorted.{IsPermutation-refl, IsPermutation-trans, IsPermutation-to_front, IsPermutation-sym, IsPermutation-cons, IsPermutation-insert, IsPermutation-middle, IsPermutation-append_left, IsPermutation-append_right, IsPermutation-swap_remove, length_permutation, All-permutation}
+use Rattle.std.proofs.lemmas.List.Sorted.{IsPermutation-trans, IsPermutation-to_front, IsPermutation-sym, IsPermutation-cons, IsPermutation-insert, IsPermutation-middle, IsPermutation-append_left, IsPermutation-append_right, IsPermutation-swap_remove, length_permutation, All-permutation}
 use Rattle.std.proofs.lemmas.List.Elements.{All-from_recursion, recursion_from_All}
-use Rattle.rstar_base.specs.SmallHeaps.{Held, items_of, present, Rises, IsOrdered}
+use Rattle.rstar_base.specs.SmallHeaps.{Held, present, Rises, IsOrdered}
 use Rattle.rstar_base.proofs.Lists.{all-append}
-use Rattle.rstar_base.proofs.Present.{AreFull, present-permutation, full-permutation, none-present}
+use Rattle.rstar_base.proofs.Present.{AreFull, present-permutation}
 
 -- ---- lists
 

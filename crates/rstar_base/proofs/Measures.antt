@@ -8,7 +8,7 @@ use Rattle.rstar_base.specs.Points.{table}
 use Rattle.rstar_base.specs.Boxes.{between_corners}
 use Rattle.rstar_base.specs.Sums.{sum_below, product_below}
 use Rattle.rstar_base.specs.Measures.{extent, extent_product, extent_sum, overlap, box_center}
-use Rattle.rstar_base.proofs.Squares.{clamped_pos}
+use Rattle.rstar_base.proofs.Squares.{clamped_pos, min_left, min_right}
 
 -- ---- products
 
@@ -44,12 +44,6 @@ product_left a zero top h k = omega arith
 product_left a (suc b) top h k =
     let l = top_times (suc b) top (omega arith) in
     let r = times_up a (suc b) top k in omega (arith, l, r)
-
-min_left : (x t : ℕ) → x ≤ t → min x t ≡ x
-min_left x t h = omega arith
-
-min_right : (x t : ℕ) → t ≤ x → min x t ≡ t
-min_right x t h = omega arith
 
 turned : (a b top : ℕ) → min (a * b) top ≡ min (b * a) top
 turned a b top = ap (λ w. min w top) (grind arith)

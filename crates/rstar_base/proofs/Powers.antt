@@ -1,8 +1,8 @@
 -- Powers and roots.
-use Rattle.std.proofs.Common.{◌≡◌, ℕ, ◌+◌, ◌-◌, ◌*◌, ◌/◌, ◌%◌, ◌^◌, ◌<◌, ◌≤◌, arith, ap}
+use Rattle.std.proofs.Common.{◌≡◌, ℕ, ◌+◌, ◌-◌, ◌*◌, ◌/◌, ◌^◌, ◌<◌, ◌≤◌, arith, ap}
 use Prim.Native.Nat.{zero, suc}
 use Rattle.std.specs.Int.{div_ceil}
-use Rattle.std.proofs.Math.Nat.{one-le-pow, pow-le-pow_left, pow-le-pow_right, le-div_iff_mul-le, pow-suc, lt_of_not-le, mul-le-mul, lt_of_mul-lt-mul_left}
+use Rattle.std.proofs.Math.Nat.{one-le-pow, pow-le-pow_right, le-div_iff_mul-le, pow-suc, lt_of_not-le, mul-le-mul, lt_of_mul-lt-mul_left}
 use Rattle.std.proofs.lemmas.Grind.{pow_more, div_ceil_times}
 use Rattle.rstar_base.specs.Clusters.{IsLeastPower}
 

@@ -1,15 +1,13 @@
 -- The values that a list of full places holds.
-use Rattle.std.proofs.Common.{◌≡◌, ℕ, ◌+◌, ◌≤◌, List, [], ◌∷◌, ◌++◌, length, take, drop, map, refl, sym, ap, subst, ◌∙◌, arith, false, IsSome, Option, Some, None, unwrap_or, length-append, length-drop, rules, All}
+use Rattle.std.proofs.Common.{◌≡◌, ℕ, List, [], ◌∷◌, ◌++◌, length, take, drop, map, refl, ap, arith, false, IsSome, Option, Some, None, unwrap_or}
 use Rattle.std.specs.List.{AllByRecursion, refill}
 use Rattle.std.specs.List.Sorted.{IsPermutation}
-use Rattle.std.specs.Option.{option_cmp, option_to_list}
+use Rattle.std.specs.Option.{option_cmp}
 use Rattle.std.specs.Ordering.{is_lt}
 use Rattle.std.specs.declared.cmp.Ordering.{Ordering}
 use Rattle.std.specs.BinaryHeap.{lt_by_cmp}
-use Rattle.std.proofs.lemmas.List.{take-append-le}
-use Rattle.std.proofs.lemmas.List.Sorted.{IsPermutation-map, All-permutation, length_permutation}
+use Rattle.std.proofs.lemmas.List.Sorted.{IsPermutation-map, All-permutation}
 use Rattle.std.proofs.lemmas.List.Elements.{All-from_recursion, recursion_from_All}
-use Rattle.std.proofs.lemmas.Grind.{common_steps}
 use Rattle.rstar_base.specs.SmallHeaps.{present}
 
 abbrev pub AreFull : {X : Type 0} → List (Option X) → Type 0
@@ -32,10 +30,6 @@ pub length-present : {X : Type 0} (os : List (Option X)) → AreFull os → leng
 length-present [] h = refl
 length-present (None ∷ os) h = let n = h.0 in cc
 length-present (Some x ∷ os) h = let e = length-present os h.1 in omega arith
-
-pub none-present : {X : Type 0} (os : List (Option X)) → length os ≡ 0 → present os ≡ []
-none-present [] e = refl
-none-present (o ∷ os) e = absurd (omega arith)
 
 pub full-append : {X : Type 0} (os : List (Option X)) (x : X) → AreFull os → AreFull (os ++ Some x ∷ [])
 full-append [] x h = (refl, tt)

@@ -3,6 +3,7 @@ use Rattle.std.proofs.Common.{◌≡◌, ◌<ℤ◌, ◌+ℤ◌, ◌-ℤ◌, ◌
 use Rattle.std.specs.Int.{int_min, int_max}
 use Rattle.std.proofs.lemmas.Int.{ints, by_lt_z}
 use Rattle.num_traits.specs.Laws.{between}
+use Rattle.rstar_base.specs.laws.DistanceLaws.{square_up}
 
 -- a number that is not negative, clamped
 pub clamped_pos : (low high : ℤ) (m : ℕ) → low <ℤ pos 0 → pos 0 <ℤ high → between (pos m) low high ≡ pos (min m (unsigned_abs high))
@@ -16,9 +17,6 @@ clamped_more low high x y s a b c h k e f g n =
     ∙ clamped_pos low high (min a (unsigned_abs high) + min b (unsigned_abs high)) h k
     ∙ ap pos (omega arith)
 
-square_up : (m n : ℕ) → m ≤ n → m * m ≤ n * n
-square_up m n h = grind arith
-
 no_less : (k : ℕ) → k + 1 ≤ (k + 1) * (k + 1)
 no_less k = grind arith
 
@@ -26,10 +24,10 @@ no_less-pos : (m : ℕ) → 0 < m → m ≤ m * m
 no_less-pos zero h = absurd (omega arith)
 no_less-pos (suc k) h = let l = no_less k in let e : suc k ≡ k + 1 = omega arith in rw e l
 
-min_left : (x t : ℕ) → x ≤ t → min x t ≡ x
+pub min_left : (x t : ℕ) → x ≤ t → min x t ≡ x
 min_left x t h = omega arith
 
-min_right : (x t : ℕ) → t ≤ x → min x t ≡ t
+pub min_right : (x t : ℕ) → t ≤ x → min x t ≡ t
 min_right x t h = omega arith
 
 square_clamped : (x top : ℕ) → 0 < top → min (min x top * min x top) top ≡ min (x * x) top

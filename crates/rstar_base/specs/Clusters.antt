@@ -1,5 +1,5 @@
 -- Into how many slabs a load cuts along each axis, after Lee and Lee (2003).
-use Rattle.std.specs.Prelude.{◌≡◌, ℕ, suc, ◌+◌, ◌^◌, ◌<◌, ◌≤◌}
+use Rattle.std.specs.Prelude.{ℕ, suc, ◌+◌, ◌^◌, ◌<◌, ◌≤◌}
 use Rattle.std.specs.Int.{div_ceil}
 
 -- d is the least number for which the power of the base reaches n

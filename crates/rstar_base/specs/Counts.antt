@@ -1,5 +1,5 @@
 -- Envelopes with a count of what was merged into them.
-use Rattle.std.specs.Prelude.{◌≡◌, ◌≢◌, ◌+◌, ◌≤◌, ◌==◌, ℕ, min, Bool, false}
+use Rattle.std.specs.Prelude.{◌≡◌, ◌≢◌, ◌+◌, ◌≤◌, ◌==◌, ℕ, min, false}
 use Rattle.rstar_base.specs.Envelopes.{Boxes}
 use Rattle.rstar_base.specs.Elements.{Objects}
 

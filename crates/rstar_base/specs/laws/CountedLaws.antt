@@ -1,6 +1,6 @@
 -- Envelopes with a count keep the laws of envelopes, and elements that count once those of elements.
-use Rattle.std.specs.Prelude.{◌≡◌, ◌≢◌, ◌↔◌, ◌&&◌, IsTrue, nat_eq, ◌+◌, ◌<◌, ◌<ℤ◌, ◌≤◌, ◌==◌, ℕ, ℤ, min, Bool, true, false, zero, suc, pos, List, [], ◌∷◌, length}
-use Rattle.std.proofs.Common.{refl, ap, arith, sym, ◌∙◌, inl, inr}
+use Rattle.std.specs.Prelude.{◌≡◌, ◌≢◌, ◌↔◌, ◌&&◌, IsTrue, nat_eq, ◌+◌, ◌<◌, ◌<ℤ◌, ◌==◌, ℕ, ℤ, min, Bool, true, false, zero, suc, pos, List, [], ◌∷◌, length}
+use Rattle.std.proofs.Common.{refl, ap, arith, ◌∙◌, inl, inr}
 use Rattle.std.proofs.lemmas.Bool.Decides.{eqb_tells}
 use Rattle.std.proofs.lemmas.Int.{ints}
 use Rattle.rstar_base.specs.laws.PointLemmas.{and_parts, and_both}

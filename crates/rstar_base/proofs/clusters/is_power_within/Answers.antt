@@ -1,4 +1,4 @@
-use Rattle.std.proofs.Common.{rules, arith, ◌≡◌, ◌^◌, ◌*◌, ◌<◌, ◌≤◌, ◌+◌, sym, ◌∙◌, ap}
+use Rattle.std.proofs.Common.{rules, arith, ◌^◌, ◌*◌, ◌<◌, ◌≤◌, sym, ◌∙◌, ap}
 use Rattle.std.proofs.lemmas.Grind.{pow_more}
 use Rattle.rstar_base.proofs.Powers.{one_more, too_large, positive}
 use Rattle.rstar_base.proofs.clusters.is_power_within.Goals as goal

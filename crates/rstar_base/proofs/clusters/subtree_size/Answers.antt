@@ -1,4 +1,4 @@
-use Rattle.std.proofs.Common.{rules, arith, ◌≡◌, ◌^◌, ◌*◌, ◌-◌, ◌<◌, ◌≤◌, ◌+◌, suc, sym, ◌∙◌, ap}
+use Rattle.std.proofs.Common.{arith, ◌*◌, ◌-◌, ◌≤◌, suc, sym, ◌∙◌, ap}
 use Rattle.std.proofs.Math.Nat.{pow-suc}
 use Rattle.rstar_base.proofs.Powers.{one_more, least_power, product_positive}
 use Rattle.rstar_base.proofs.clusters.subtree_size.Goals as goal

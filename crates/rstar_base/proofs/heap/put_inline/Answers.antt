@@ -1,4 +1,4 @@
-use Rattle.std.proofs.Common.{◌≡◌, ◌∷◌, Some, IsSome, refl, sym, subst}
+use Rattle.std.proofs.Common.{◌∷◌, Some, IsSome, refl, sym, subst}
 use Rattle.std.specs.List.{insert}
 use Rattle.std.specs.List.Sorted.{IsPermutation}
 use Rattle.std.specs.Option.{option_cmp}

@@ -1,4 +1,4 @@
-use Rattle.std.proofs.Common.{◌∙◌, ap, arith, length, ◌≡◌, ◌<◌, ◌≤◌, ◌/◌, ℕ, subst}
+use Rattle.std.proofs.Common.{◌∙◌, arith, length, subst}
 use Rattle.std.proofs.HeapSift as sifts
 use Rattle.std.specs.BinaryHeap.Sift.{IsGreaterChild}
 use Rattle.std.proofs.lemmas.List.Sorted.{IsPermutation-refl, IsPermutation-trans}

@@ -1,4 +1,4 @@
-use Rattle.std.proofs.Common.{◌≤◌, ◌≡◌, ◌-◌, ℕ, length}
+use Rattle.std.proofs.Common.{◌-◌, length}
 use Rattle.std.specs.List.Sorted.{IsPermutation}
 use Rattle.std.proofs.HeapSift.{Sinking}
 use Rattle.rstar_base.proofs.heap.sift_down.Given as goal

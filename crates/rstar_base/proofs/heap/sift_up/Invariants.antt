@@ -1,4 +1,4 @@
-use Rattle.std.proofs.Common.{◌≤◌, ◌≡◌, ℕ, length}
+use Rattle.std.proofs.Common.{◌≤◌}
 use Rattle.std.specs.List.Sorted.{IsPermutation}
 use Rattle.std.proofs.HeapSift.{Rising}
 use Rattle.rstar_base.proofs.heap.sift_up.Given as goal

@@ -1,4 +1,4 @@
-use Rattle.std.proofs.Common.{◌≡◌, ◌∷◌, ◌++◌, [], List, Option, Some, None, IfSome, ap, sym, subst, ◌∙◌, refl}
+use Rattle.std.proofs.Common.{◌≡◌, ◌∷◌, ◌++◌, [], List, Option, Some, None, IfSome, ap, sym, subst, ◌∙◌}
 use Rattle.std.specs.Option.{option_flatten, option_to_list}
 use Rattle.rstar_base.specs.SmallHeaps.{present}
 use Rattle.rstar_base.proofs.HeapParts.{present-snoc}

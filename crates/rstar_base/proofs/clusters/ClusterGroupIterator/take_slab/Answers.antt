@@ -1,4 +1,4 @@
-use Rattle.std.proofs.Common.{rules, arith, ◌-◌, ◌≡◌, [], ap, ◌∙◌}
+use Rattle.std.proofs.Common.{rules, ◌-◌, ap, ◌∙◌}
 use Rattle.rstar_base.proofs.Slabs.{slab_from_split, slab_of_all, fewer_slabs, no_slabs}
 use Rattle.rstar_base.proofs.clusters.ClusterGroupIterator.take_slab.Goals as goal
 
