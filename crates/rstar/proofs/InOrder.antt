@@ -11,7 +11,7 @@ use Rattle.rstar.specs.declared.node.RTreeNode.{Parent}
 use Rattle.rstar.specs.declared.node.ParentNode.{ParentNode}
 use Rattle.rstar.specs.declared.algorithm.nearest_neighbor.NearestNeighborDistance2Iterator.{NearestNeighborDistance2Iterator}
 use Rattle.rstar.specs.Nodes.{elements, all_elements, all_parents, elements_of, parents_of}
-use Rattle.rstar.specs.Walks.{usize_max}
+use Rattle.rstar_base.specs.Counts.{usize_max}
 use Rattle.rstar.specs.Neighbors.{AreInOrder, AreNearestFirst, IsFresh, IsNeighbor, GivesNeighbor, IsGoingOn, root_searched, point_searched, nodes_waiting, elements_waiting, parents_opened}
 use Rattle.rstar.proofs.Rows.{elements-Parent}
 

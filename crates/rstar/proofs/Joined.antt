@@ -16,7 +16,8 @@ use Rattle.rstar.specs.declared.node.RTreeNode.{RTreeNode, Leaf, Parent}
 use Rattle.rstar.specs.declared.node.ParentNode.{ParentNode}
 use Rattle.rstar.specs.declared.iterators.joins.IntersectionIterator.{IntersectionIterator}
 use Rattle.rstar.specs.Heights.{levels_below}
-use Rattle.rstar.specs.Walks.{usize_max, IsLevel}
+use Rattle.rstar_base.specs.Counts.{usize_max}
+use Rattle.rstar.specs.Walks.{IsLevel}
 use Rattle.rstar.specs.Nodes.{elements, all_elements, elements_of, envelope_of, children_of, node_box, is_leaf_node, total, IsTree, IsElement, IsInner, AreWhole, IsWhole}
 use Rattle.rstar.specs.Meets.{product, opened_to, both_leaves, count_parents, meet, meet_of_roots, meet_of_shown, pairs_at, opens_at, all_pairs, all_opens, pairs_from_roots}
 use Rattle.rstar.specs.Shown.{parent, row_of, shown}

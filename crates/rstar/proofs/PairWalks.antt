@@ -9,7 +9,8 @@ use Rattle.rstar.specs.declared.node.RTreeNode.{RTreeNode, Leaf, Parent}
 use Rattle.rstar.specs.declared.node.ParentNode.{ParentNode}
 use Rattle.rstar.specs.declared.iterators.joins.IntersectionIterator.{IntersectionIterator}
 use Rattle.rstar.specs.Nodes.{node_box, is_leaf_node}
-use Rattle.rstar.specs.Walks.{usize_max, IsLevel}
+use Rattle.rstar_base.specs.Counts.{usize_max}
+use Rattle.rstar.specs.Walks.{IsLevel}
 use Rattle.rstar.specs.Meets.{product, opened_to, both_leaves, pairs_at, opens_at, all_pairs, all_opens, meet_of_roots}
 use Rattle.rstar.specs.declared.iterators.joins.PairStep.{PairStep}
 use Rattle.rstar.specs.declared.iterators.joins.PairStep.TheVariants.{Found, Passed, Ended}

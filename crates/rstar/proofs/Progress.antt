@@ -13,7 +13,7 @@ use Rattle.rstar.specs.declared.algorithm.nearest_neighbor.search.Stage.{Stage}
 use Rattle.rstar.specs.declared.algorithm.nearest_neighbor.search.Stage.TheVariants.{Fresh, Running, Ended}
 use Rattle.rstar.specs.declared.algorithm.nearest_neighbor.search.NeighborSearch.{NeighborSearch}
 use Rattle.rstar.specs.Nodes.{all_elements, all_parents, parents_of}
-use Rattle.rstar.specs.Walks.{usize_max}
+use Rattle.rstar_base.specs.Counts.{usize_max}
 use Rattle.rstar.specs.Neighbors.{IsNeighbor}
 use Rattle.rstar.specs.Searches.{Item, waiting_at, calls_at, waiting_of, held_by, calls_left, IsUnrefused, IsCounted, IsReady, IsReadyAt}
 use Rattle.rstar.proofs.Searches.{fresh-counted}

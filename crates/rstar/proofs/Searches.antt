@@ -18,7 +18,7 @@ use Rattle.rstar_base.proofs.Lists.{all-append, all_along}
 use Rattle.rstar.specs.declared.node.RTreeNode.{RTreeNode, Leaf, Parent}
 use Rattle.rstar.specs.declared.node.ParentNode.{ParentNode}
 use Rattle.rstar.specs.Nodes.{fold_tree, elements, parents, far, all_elements, all_parents, all_far, far_of, IsTight, AreWhole, children_of, envelope_of}
-use Rattle.rstar.specs.Walks.{usize_max}
+use Rattle.rstar_base.specs.Counts.{usize_max}
 use Rattle.rstar.specs.Searches.{Item, waiting_nodes, distance_of, AreParts, IsCounted, IsFarKept}
 use Rattle.rstar.proofs.Nearness.{IsMeasured, IsPart, lower, above-node, above-Parent, parts}
 use Rattle.rstar.proofs.Rows.{elements-Parent, parents-Parent, far-Parent, elements-Leaf, far-Leaf, node_distance-Leaf, node_distance-Parent}

@@ -13,7 +13,7 @@ use Rattle.rstar_base.proofs.Lists.{all_along}
 use Rattle.rstar.specs.declared.node.RTreeNode.{RTreeNode, Leaf, Parent}
 use Rattle.rstar.specs.declared.node.ParentNode.{ParentNode}
 use Rattle.rstar.specs.Nodes.{all_elements, all_parents, parents, children_of}
-use Rattle.rstar.specs.Walks.{usize_max}
+use Rattle.rstar_base.specs.Counts.{usize_max}
 use Rattle.rstar.specs.Neighbors.{IsNeighbor}
 use Rattle.rstar.specs.Searches.{Item, waiting_nodes, distance_of, AreParts, AreWaiting, IsCounted, IsFarKept, IsRunning}
 use Rattle.rstar.proofs.Rows.{node_distance-Leaf, parents-Parent}

@@ -6,7 +6,8 @@ use Rattle.std.specs.Borrow.{Bor}
 use Rattle.rstar.specs.declared.node.RTreeNode.{RTreeNode, Leaf, Parent}
 use Rattle.rstar.specs.declared.node.ParentNode.{ParentNode}
 use Rattle.rstar.specs.Nodes.{total, reach, given, all_given, given_of, all_reach, reach_below, reach_of, children_of, envelope_of, IsTree}
-use Rattle.rstar.specs.Walks.{usize_max, given_from_slices, reach_from_slices, IsLevel, AreSlices, IsUnderWay, steps, steps_of}
+use Rattle.rstar_base.specs.Counts.{usize_max}
+use Rattle.rstar.specs.Walks.{given_from_slices, reach_from_slices, IsLevel, AreSlices, IsUnderWay, steps, steps_of}
 use Rattle.rstar_base.proofs.Lists.{all_map}
 use Rattle.rstar.proofs.Rows.{given-Leaf, reach-Leaf, steps-Leaf, given-Parent, reach-Parent, steps-Parent, parent_of, no_leaf, is_leaf, is_parent, IsLeafOf-Leaf, IsParentOf-Parent}
 

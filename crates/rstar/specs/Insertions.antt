@@ -12,7 +12,7 @@ use Rattle.rstar.specs.declared.params.InsertCause.TheVariants.{TooMany}
 use Rattle.rstar.specs.Heights.{height_of, spare_lists}
 use Rattle.rstar.specs.Shapes.{IsSized}
 use Rattle.rstar.specs.Trees.{root_of, size_of, elements_in, IsUnchanged, IsWholeTree}
-use Rattle.rstar.specs.Walks.{usize_max}
+use Rattle.rstar_base.specs.Counts.{usize_max}
 
 module _ {T D E P S X : Type 0} (v : Boxes E) (o : Objects T E) (min max reinserted : ℕ) where
   -- one element more, counted; or a refusal, which hands it back and leaves the tree as it shows itself

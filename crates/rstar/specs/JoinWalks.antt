@@ -9,7 +9,8 @@ use Rattle.rstar.specs.declared.iterators.joins.PairStep.{PairStep}
 use Rattle.rstar.specs.declared.iterators.joins.PairStep.TheVariants.{Found, Passed, Ended}
 use Rattle.rstar.specs.Nodes.{fold_tree, total}
 use Rattle.rstar.specs.Meets.{opened_to, meet_of_roots, all_pairs, all_opens}
-use Rattle.rstar.specs.Walks.{usize_max, IsLevel, steps}
+use Rattle.rstar_base.specs.Counts.{usize_max}
+use Rattle.rstar.specs.Walks.{IsLevel, steps}
 
 -- ---- frames, the last of them read first
 

@@ -9,7 +9,7 @@ use Rattle.rstar.specs.declared.node.ParentNode.{ParentNode}
 use Rattle.rstar.specs.declared.iterators.joins.IntersectionIterator.{IntersectionIterator}
 use Rattle.rstar.specs.Meets.{product, meet_of_roots}
 use Rattle.rstar.specs.JoinWalks.{pairs_by, HasItsPaths}
-use Rattle.rstar.specs.Walks.{usize_max}
+use Rattle.rstar_base.specs.Counts.{usize_max}
 
 -- ---- envelopes seen as those of another type
 

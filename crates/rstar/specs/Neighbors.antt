@@ -13,7 +13,7 @@ use Rattle.rstar.specs.declared.node.ParentNode.{ParentNode}
 use Rattle.rstar.specs.declared.algorithm.nearest_neighbor.NearestNeighborDistance2Iterator.{NearestNeighborDistance2Iterator}
 use Rattle.rstar.specs.declared.algorithm.nearest_neighbor.NearestNeighborIterator.{NearestNeighborIterator}
 use Rattle.rstar.specs.Nodes.{all_elements, all_parents, all_far, parents_of, far_of}
-use Rattle.rstar.specs.Walks.{usize_max}
+use Rattle.rstar_base.specs.Counts.{usize_max}
 use Rattle.rstar.specs.Searches.{IsUnrefused, waiting_of, calls_left, IsReady}
 
 -- ---- the nearest of a list

@@ -16,7 +16,7 @@ use Rattle.rstar.specs.declared.algorithm.nearest_neighbor.search.Stage.{Stage}
 use Rattle.rstar.specs.declared.algorithm.nearest_neighbor.search.Stage.TheVariants.{Fresh, Running, Ended}
 use Rattle.rstar.specs.declared.algorithm.nearest_neighbor.search.NeighborSearch.{NeighborSearch}
 use Rattle.rstar.specs.Nodes.{node_distance, all_elements, all_parents, all_far, parents_of, far_of, IsTree, IsInner, IsElement, IsWhole}
-use Rattle.rstar.specs.Walks.{usize_max}
+use Rattle.rstar_base.specs.Counts.{usize_max}
 
 -- an item of a search's heap: a node that is lent, at its distance
 abbrev pub Item : (T E P S X : Type 0) → Type 0

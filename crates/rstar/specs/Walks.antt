@@ -2,16 +2,13 @@
 use Rattle.std.specs.Prelude.{◌≡◌, ◌≢◌, ℕ, ◌+◌, ◌≤◌, ◌<◌, min, Bool, List, [], ◌∷◌, ◌++◌, map, ⊤}
 use Rattle.std.specs.List.{AllByRecursion}
 use Rattle.std.specs.Borrow.{Bor}
+use Rattle.rstar_base.specs.Counts.{usize_max}
 use Rattle.rstar.specs.declared.node.RTreeNode.{RTreeNode}
 use Rattle.rstar.specs.declared.node.ParentNode.{ParentNode}
 use Rattle.rstar.specs.declared.iterators.SelectionIterator.{SelectionIterator}
 use Rattle.rstar.specs.declared.iterators.Step.{Step}
 use Rattle.rstar.specs.declared.iterators.Step.TheVariants.{Found, Passed, Ended}
 use Rattle.rstar.specs.Nodes.{total, fold_tree, all_given, all_reach, reach_of, children_of, IsTree}
-
--- the greatest count that a `usize` holds
-abbrev pub usize_max : ℕ
-usize_max = 18446744073709551615
 
 -- ---- slices, the last of them read first
 

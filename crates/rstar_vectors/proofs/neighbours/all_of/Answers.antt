@@ -2,7 +2,7 @@ use Rattle.std.proofs.Common.{◌∷◌, [], ◌++◌, map, min, Some, sym, subs
 use Rattle.std.proofs.lemmas.List.{map-append}
 use Rattle.rstar_base.specs.Points.{table}
 use Rattle.rstar.specs.Nodes.{parents_of}
-use Rattle.rstar.specs.Walks.{usize_max}
+use Rattle.rstar_base.specs.Counts.{usize_max}
 use Rattle.rstar.specs.Neighbors.{with_distances, point_searched, elements_waiting, AreNearestFirst}
 use Rattle.rstar.proofs.Progress.{finite}
 use Rattle.rstar.proofs.InOrder.{none-first, all-first, gives-first, opened-all}

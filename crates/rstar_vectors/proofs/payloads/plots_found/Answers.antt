@@ -1,5 +1,5 @@
 use Rattle.std.proofs.Common.{◌∙◌, ap, min}
-use Rattle.rstar.specs.Walks.{usize_max}
+use Rattle.rstar_base.specs.Counts.{usize_max}
 use Rattle.rstar_vectors.proofs.Callers.{reached}
 use Rattle.rstar_vectors.proofs.payloads.plots_found.Goals as goal
 

@@ -1,6 +1,6 @@
 use Rattle.std.proofs.Common.{◌∙◌, ap, min, filter}
 use Rattle.rstar.specs.Nodes.{reach_of}
-use Rattle.rstar.specs.Walks.{usize_max}
+use Rattle.rstar_base.specs.Counts.{usize_max}
 use Rattle.rstar.specs.Trees.{root_of, elements_in}
 use Rattle.rstar_vectors.proofs.Callers.{reached}
 use Rattle.rstar_vectors.proofs.payloads.points_met.Goals as goal
