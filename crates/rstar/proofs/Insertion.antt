@@ -1,7 +1,8 @@
 -- What an insertion does to the lists of a tree.
 use Rattle.std.proofs.Common.{◌≡◌, ℕ, ℤ, zero, suc, ◌+◌, ◌-◌, ◌<◌, ◌≤◌, List, [], ◌∷◌, ◌++◌, length, get_or, set, refl, sym, ap, ◌∙◌, subst, arith, append_assoc, append-nil, sub-one, add-one, IsPermutation, Option, Some, None, IfSome, IfNone, vec_len}
 use Rattle.std.proofs.lemmas.List.Concat.{flat_map-append}
-use Rattle.std.proofs.lemmas.List.Sorted.{IsPermutation-trans, IsPermutation-sym, IsPermutation-append_left, IsPermutation-append_right, IsPermutation-append_comm, IsPermutation-middle, IsPermutation-to_front}
+use Rattle.std.proofs.lemmas.List.Sums.{sum_by-cons, sum_by-append}
+use Rattle.std.proofs.lemmas.List.Sorted.{sum_by-IsPermutation, IsPermutation-trans, IsPermutation-sym, IsPermutation-append_left, IsPermutation-append_right, IsPermutation-append_comm, IsPermutation-middle, IsPermutation-to_front}
 use Rattle.rstar_base.specs.Envelopes.{Boxes, EnvelopeLaws}
 use Rattle.rstar_base.specs.Elements.{Objects, ObjectLaws}
 use Rattle.rstar_base.specs.Hulls.{hull}
@@ -10,11 +11,11 @@ use Rattle.rstar_base.proofs.Lists.{all-append, all_first, all_second, all_along
 use Rattle.rstar_base.proofs.Hulls.{hull-value, hull_along, merge_empty_right}
 use Rattle.rstar.specs.declared.node.RTreeNode.{RTreeNode, Leaf, Parent}
 use Rattle.rstar.specs.declared.node.ParentNode.{ParentNode}
-use Rattle.rstar.specs.Nodes.{elements, all_elements, node_box, IsTree, IsElement, IsInner, AreWhole}
+use Rattle.rstar.specs.Nodes.{fold_tree, elements, all_elements, parents, all_parents, node_box, IsTree, IsElement, IsInner, AreWhole}
 use Rattle.rstar.specs.Shapes.{AreTrees, IsParentTree, IsAny, HasSize}
 use Rattle.rstar.specs.Kept.{HasRoom, IsKeptInner, IsFit, AreKept, IsKeptTree, second_children, as_node, IsSizedAfter}
 use Rattle.rstar.proofs.Places.{all_set, all_get}
-use Rattle.rstar.proofs.Rows.{elements-Leaf, elements-Parent, node_box-Parent, is_leaf, is_parent, parent_of, no_parent, IsLeafOf-Leaf, IsParentOf-Parent}
+use Rattle.rstar.proofs.Rows.{elements-Leaf, elements-Parent, parents-Parent, node_box-Parent, is_leaf, is_parent, parent_of, no_parent, IsLeafOf-Leaf, IsParentOf-Parent}
 use Rattle.rstar.proofs.Trees.{all_sound, values-of, merged_is_hull}
 
 module _ {T E P S X : Type 0} where
@@ -52,6 +53,66 @@ module _ {T E P S X : Type 0} where
   pub two_parents : (a b : ParentNode T E P S X) → all_elements (Parent a ∷ Parent b ∷ []) ≡ all_elements (a.children.items ++ b.children.items)
   two_parents a b = ap (λ (ts : List T). elements (Parent a) ++ ts) (all_elements-single (Parent b)) ∙ ap (λ (ts : List T). ts ++ elements (Parent b)) (elements-Parent a)
       ∙ ap (λ (ts : List T). all_elements a.children.items ++ ts) (elements-Parent b) ∙ sym (all_elements-append a.children.items b.children.items)
+
+-- ---- how many parents there are
+
+module _ (T E P S X : Type 0) where
+  parents-Leaf : (t : T) → parents {E = E} {P = P} {S = S} {X = X} (Leaf t) ≡ 0
+  unfolding parents fold_tree
+  parents-Leaf t = refl
+
+  no_parents-leaf : (t : T) → all_parents {E = E} {P = P} {S = S} {X = X} (Leaf t ∷ []) ≡ 0
+  no_parents-leaf t = sum_by-cons parents (Leaf t) [] ∙ ap (λ n. n + 0) (parents-Leaf t)
+
+module _ {T E P S X : Type 0} where
+  all_parents-append : (xs ys : List (RTreeNode T E P S X)) → all_parents (xs ++ ys) ≡ all_parents xs + all_parents ys
+  all_parents-append xs ys = sum_by-append parents xs ys
+
+  -- a leaf more is no parent more
+  pub leaf_counted : (ns : List (RTreeNode T E P S X)) (t : T) → all_parents (ns ++ Leaf t ∷ []) ≡ all_parents ns
+  leaf_counted ns t = let both = all_parents-append ns (Leaf t ∷ []) in let none = no_parents-leaf T E P S X t in omega (arith, both, none)
+
+  pub parents_along : (xs ys : List (RTreeNode T E P S X)) → IsPermutation xs ys → all_parents ys ≡ all_parents xs
+  parents_along xs ys same = sum_by-IsPermutation parents xs ys same
+
+  -- one node of a list is another
+  parents_of_set : (ns : List (RTreeNode T E P S X)) (i : ℕ) (d m : RTreeNode T E P S X) → i < length ns → all_parents (set ns i m) + parents (get_or ns i d) ≡ all_parents ns + parents m
+  parents_of_set [] i d m below = absurd (omega arith)
+  parents_of_set (n ∷ ns) zero d m below =
+      let a = sum_by-cons parents m ns in
+      let b = sum_by-cons parents n ns in omega (arith, a, b)
+  parents_of_set (n ∷ ns) (suc i) d m below =
+      let a = sum_by-cons parents n (set ns i m) in
+      let b = sum_by-cons parents n ns in
+      let c = parents_of_set ns i d m (omega arith) in omega (arith, a, b, c)
+
+  -- a parent that may be there counts itself and those below it
+  second_parents : (r : Option (ParentNode T E P S X)) → all_parents (as_node r) ≡ length (as_node r) + all_parents (second_children r)
+  second_parents None = refl
+  second_parents (Some q) =
+      let a = sum_by-cons parents (Parent q) [] in
+      let b = parents-Parent q in omega (arith, a, b)
+
+  pub two_counted : (a b : ParentNode T E P S X) → all_parents (Parent a ∷ Parent b ∷ []) ≡ 2 + all_parents (a.children.items ++ b.children.items)
+  two_counted a b =
+      let first = sum_by-cons parents (Parent a) (Parent b ∷ []) in
+      let second = sum_by-cons parents (Parent b) [] in
+      let all = all_parents-append a.children.items b.children.items in
+      let one = parents-Parent a in let other = parents-Parent b in omega (arith, first, second, all, one, other)
+
+  -- a child took spare lists for what it and the part that it handed out have more than it had
+  pub child_made : (old : List (RTreeNode T E P S X)) (i : ℕ) (a b : ParentNode T E P S X) (r : Option (ParentNode T E P S X)) (before after : ℕ)
+      → i < length old → Parent a ≡ get_or old i (Parent a)
+      → before + all_parents a.children.items ≡ after + all_parents (b.children.items ++ second_children r) + length (as_node r)
+      → before + all_parents old ≡ after + all_parents (set old i (Parent b) ++ as_node r)
+  child_made old i a b r before after below is made =
+      let change = parents_of_set old i (Parent a) (Parent b) below in
+      let at = ap parents (sym is) in
+      let one = parents-Parent a in let other = parents-Parent b in
+      let second = second_parents r in
+      let parts = all_parents-append b.children.items (second_children r) in
+      let all = all_parents-append (set old i (Parent b)) (as_node r) in
+      omega (arith, made, change, at, one, other, second, parts, all)
 
 module _ {T E P S X : Type 0} (Q : ParentNode T E P S X → Type 0) (R : T → Type 0) where
   pub tree_at : (h : ℕ) (p : ParentNode T E P S X) → 0 < h → IsTree Q R h (Parent p) → Q p × AreTrees Q R (h - 1) p.children.items

@@ -5,7 +5,7 @@ ghost use Rattle.std.specs.List.{AllByRecursion};
 ghost use Rattle.std.specs.List.Sorted.{IsPermutation};
 ghost use Rattle.rstar_base.specs.Hulls.{hull};
 ghost use Rattle.rstar.specs.declared.node.RTreeNode.{Parent};
-ghost use Rattle.rstar.specs.Nodes.{node_box, all_elements};
+ghost use Rattle.rstar.specs.Nodes.{node_box, all_elements, all_parents, parents_of};
 ghost use Rattle.rstar.specs.Shapes.{AreSized, IsSizedTree};
 ghost use Rattle.rstar.specs.Kept.{HasRoom, IsRoomy, IsSpare, IsKept, IsFit, AreKept, IsKeptTree, IsSizedAfter, second_children, as_node};
 
@@ -47,9 +47,9 @@ fn add_child<T: RTreeObject, Params: RTreeParams>(
     ensures lengths { IfSome result (λ p. vec_len node.new.children + vec_len p.children
         ≡ vec_len node.old.children + 1) }
 
-    // At most one spare list was used.
+    // The second part, where there is one, took a spare list.
     ensures spares { AllByRecursion (IsSpare widest) spares.new.items }
-    ensures used { vec_len spares.old ≤ vec_len spares.new + 1 }
+    ensures used { vec_len spares.old ≡ vec_len spares.new + length (as_node result) }
 {
     let Ok(()) = node.children.push(child) else {
         unreachable!()
@@ -94,6 +94,10 @@ fn insert_below<T: RTreeObject, Params: RTreeParams>(
         → IsSizedAfter Params.MIN_SIZE Params.MAX_SIZE levels (vec_len node.old.children) node.new result }
     ensures spares { AllByRecursion (IsSpare widest) spares.new.items }
     ensures used { vec_len spares.old ≤ vec_len spares.new + levels + 1 }
+
+    // Each parent that is new took one.
+    ensures made { vec_len spares.old + all_parents node.old.children.items ≡ vec_len spares.new
+        + all_parents (node.new.children.items ++ second_children result) + length (as_node result) }
 {
     let envelope = t.envelope();
     node.envelope.merge(&envelope);
@@ -134,6 +138,8 @@ fn insert_in_child<T: RTreeObject, Params: RTreeParams>(
     ensures capacity { vec_capacity children.new ≡ vec_capacity children.old }
     ensures spares { AllByRecursion (IsSpare widest) spares.new.items }
     ensures used { vec_len spares.old ≤ vec_len spares.new + levels }
+    ensures made { vec_len spares.old + all_parents children.old.items
+        ≡ vec_len spares.new + all_parents (children.new.items ++ as_node result) }
 {
     match &mut children[index] {
         RTreeNode::Parent(child) => insert_below::<T, Params>(child, t, levels - 1, widest, spares),
@@ -193,6 +199,9 @@ pub(crate) fn insert_at_root<T: RTreeObject, Params: RTreeParams>(
     ensures grown { result ≤ levels + 1 }
     ensures spares { AllByRecursion (IsSpare widest) spares.new.items }
     ensures used { vec_len spares.old ≤ vec_len spares.new + result + 1 }
+
+    // Each parent that is new took a spare list.
+    ensures made { vec_len spares.old + parents_of root.old ≡ vec_len spares.new + parents_of root.new }
 {
     match insert_below::<T, Params>(root, t, levels, widest, spares) {
         None => levels,

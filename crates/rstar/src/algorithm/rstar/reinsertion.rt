@@ -7,7 +7,7 @@ ghost use Rattle.std.specs.List.Sorted.{IsPermutation};
 ghost use Rattle.rstar_base.specs.Hulls.{hull};
 ghost use Rattle.rstar.specs.declared.node.RTreeNode.{Leaf};
 ghost use Rattle.rstar.specs.Heights.{spare_lists};
-ghost use Rattle.rstar.specs.Nodes.{node_box, all_elements};
+ghost use Rattle.rstar.specs.Nodes.{node_box, all_elements, parents_of};
 ghost use Rattle.rstar.specs.Shapes.{AreSized, IsSizedTree};
 ghost use Rattle.rstar.specs.Kept.{IsRoomy, IsSpare, IsKept, IsFit, AreKept, IsKeptTree, IsSizedAfter};
 
@@ -183,6 +183,7 @@ fn insert_again<T: RTreeObject, Params: RTreeParams>(
     ensures sized { IsSizedTree Params.MIN_SIZE Params.MAX_SIZE levels root.old
         → IsSizedTree Params.MIN_SIZE Params.MAX_SIZE result root.new }
     ensures spares { AllByRecursion (IsSpare widest) spares.new.items }
+    ensures made { vec_len spares.old + parents_of root.old ≡ vec_len spares.new + parents_of root.new }
     ensures none { handed.new.items ≡ [] }
     ensures capacity { vec_capacity handed.new ≡ vec_capacity handed.old }
 {

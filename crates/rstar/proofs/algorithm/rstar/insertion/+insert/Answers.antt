@@ -1,6 +1,6 @@
 use Rattle.std.proofs.Common.{◌<◌, ◌++◌, [], ap, ◌∙◌, arith, append-nil, length}
 use Rattle.rstar.specs.declared.node.RTreeNode.TheVariants.{outs-Parent}
-use Rattle.rstar.proofs.Insertion.{leaf_added, hull_grown, added, child_grown, child_at, tree_at, sized_leaf, sized_parts, sized_child, no_leaf_above}
+use Rattle.rstar.proofs.Insertion.{leaf_added, hull_grown, added, child_grown, child_at, tree_at, sized_leaf, sized_parts, sized_child, no_leaf_above, leaf_counted, parents_along, child_made}
 use Rattle.rstar.proofs.algorithm.rstar.insertion.+insert.Goals as goal
 
 -- ---- below a node
@@ -110,6 +110,20 @@ insert_below-returns-clause-sized g t c = λ sized.
     (rw c.in-Some.ensures.length at done.whole) done.low done.first_least done.second_least
     (rw c.in-Some.ensures.length at done.lengths)
 
+pub insert_below-returns-then-levels-eq0-clause-made : goal.insert_below-returns-then-levels-eq0-clause-made
+insert_below-returns-then-levels-eq0-clause-made g t c =
+    let same = parents_along _ _ c.add_child.ensures.same in
+    let leaf = leaf_counted c.args.node.now.children.items c.args.t in
+    omega (arith, same, leaf, c.add_child.ensures.used)
+
+pub insert_below-returns-in-None-clause-made : goal.insert_below-returns-in-None-clause-made
+insert_below-returns-in-None-clause-made g t c = omega (arith, c.in-None.ensures.made)
+
+pub insert_below-returns-clause-made : goal.insert_below-returns-clause-made
+insert_below-returns-clause-made g t c =
+    let same = parents_along _ _ c.add_child-in-Some.ensures.same in
+    omega (arith, same, c.in-Some.ensures.made, c.add_child-in-Some.ensures.used)
+
 -- ---- in a child
 
 pub insert_in_child-insert_below-requires : goal.insert_in_child-insert_below-requires
@@ -147,3 +161,8 @@ insert_in_child-returns-clause-sized g t c =
     simp (c.in-Parent.is, outs-Parent) (λ trees. sized_child _ _ g.Params.RTreeParams.min_positive _ _ _ _ _ _ c.requires.above
     within (rw c.in-Parent.is at c.index_mut.ensures.value) trees
     (λ below few. (rw c.in-Parent.child-is at c.insert_below.ensures.sized) (below, few)))
+
+pub insert_in_child-returns-clause-made : goal.insert_in_child-returns-clause-made
+insert_in_child-returns-clause-made g t c =
+    let within : c.args.index < length c.args.children.now.items = omega (arith, c.args.children.now.ok.0) in
+    simp (c.in-Parent.is, outs-Parent) (child_made _ _ _ _ _ _ _ within (rw c.in-Parent.is at c.index_mut.ensures.value) (rw c.in-Parent.child-is at c.insert_below.ensures.made))

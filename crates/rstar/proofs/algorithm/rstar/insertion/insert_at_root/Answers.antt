@@ -1,6 +1,6 @@
 use Rattle.std.proofs.Common.{◌∙◌, ap, arith}
-use Rattle.rstar.specs.Nodes.{all_elements}
-use Rattle.rstar.proofs.Insertion.{two_parents, root_grown, sized_above}
+use Rattle.rstar.specs.Nodes.{all_elements, all_parents}
+use Rattle.rstar.proofs.Insertion.{two_parents, two_counted, root_grown, sized_above}
 use Rattle.rstar.proofs.algorithm.rstar.insertion.insert_at_root.Goals as goal
 
 pub returns-in-Some-clause-bag : goal.returns-in-Some-clause-bag
@@ -24,3 +24,8 @@ returns-in-None-clause-sized g c = λ sized.
     let after = c.in-None.ensures.sized sized in
     let most = after.most in
     (after.below, omega (arith, most, c.insert_below.new.node.children.ok.0))
+
+pub returns-in-Some-clause-made : goal.returns-in-Some-clause-made
+returns-in-Some-clause-made g c =
+    let same = ap all_parents c.grow_root.ensures.children ∙ two_counted c.insert_below.new.node c.in-Some.second in
+    omega (arith, same, c.in-Some.ensures.made, c.grow_root.ensures.used)

@@ -1,7 +1,7 @@
 use Rattle.std.proofs.Common.{◌≡◌, ◌+◌, ◌*◌, ◌≤◌, ◌++◌, vec_len, vec_capacity}
 use Rattle.std.specs.List.{AllByRecursion}
 use Rattle.std.specs.List.Sorted.{IsPermutation}
-use Rattle.rstar.specs.Nodes.{all_elements}
+use Rattle.rstar.specs.Nodes.{all_elements, parents_of}
 use Rattle.rstar.specs.Shapes.{IsSizedTree}
 use Rattle.rstar.specs.Kept.{IsSpare, AreKept, IsKeptTree}
 use Rattle.rstar.proofs.algorithm.rstar.reinsertion.insert_again.Given as goal
@@ -17,6 +17,7 @@ invariant-loop-leaf g l = record {
   -- the root grew at most once for each leaf that went in
   grown : l.current + vec_len l.handed ≤ l.levels + vec_len l.initial.handed;
   enough : vec_len l.handed * (l.levels + vec_len l.initial.handed + 1) ≤ vec_len l.spares;
+  made : vec_len l.initial.spares + parents_of l.initial.root ≡ vec_len l.spares + parents_of l.root;
   capacity : vec_capacity l.handed ≡ vec_capacity l.initial.handed;
 }
 
