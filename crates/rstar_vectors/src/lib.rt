@@ -24,6 +24,8 @@ mod joins;
 #[cfg(test)]
 mod loads;
 #[cfg(test)]
+mod neighbour_rows;
+#[cfg(test)]
 mod neighbours;
 #[cfg(test)]
 mod payloads;
