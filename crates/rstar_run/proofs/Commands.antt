@@ -5,11 +5,12 @@ use Rattle.std.proofs.lemmas.Str.{IsUtf8-from_ascii}
 use Rattle.std.proofs.lemmas.List.{length-map}
 use Rattle.std.proofs.lemmas.Slice.Eq.{bytes_eq-Decides}
 use Rattle.rstar_run.specs.Numerals.{◌>>=◌}
-use Rattle.rstar_run.specs.Grammar.{command_of, drain_of, line_of, verb_of, known}
+use Rattle.rstar_run.specs.Grammar.{command_of, drain_of, line_of, verb_of, known, entry_of}
 use Rattle.rstar_run.specs.declared.command.Corners.{Corners}
 use Rattle.rstar_run.specs.declared.command.Line.TheVariants as line
+use Rattle.rstar_run.specs.declared.command.Entry.TheVariants as entry
 use Rattle.rstar_run.specs.declared.command.Verb.{Verb}
-use Rattle.rstar_run.specs.declared.command.Verb.TheVariants.{Insert, Remove, RemoveAt, Pop, Drain, In, Hit, At, Within, Near, Size}
+use Rattle.rstar_run.specs.declared.command.Verb.TheVariants.{Insert, Remove, RemoveAt, Pop, Drain, In, Hit, At, Within, Near, Size, Load}
 
 -- how many words come after a verb
 abbrev pub arity : Verb → ℕ
@@ -24,6 +25,7 @@ arity At = 2
 arity Within = 3
 arity Near = 3
 arity Size = 0
+arity Load = 1
 
 -- with another number of words there is no command
 pub command_none : (v : Verb) (ws : List (List ℕ)) → length ws ≢ arity v → None ≡ command_of v ws
@@ -85,6 +87,9 @@ command_none Near (a ∷ b ∷ c ∷ []) h = absurd (h refl)
 command_none Near (a ∷ b ∷ c ∷ d ∷ ws) h = refl
 command_none Size [] h = absurd (h refl)
 command_none Size (a ∷ ws) h = refl
+command_none Load [] h = refl
+command_none Load (a ∷ []) h = absurd (h refl)
+command_none Load (a ∷ b ∷ ws) h = refl
 
 -- the same of words that are lent
 pub lent_none : (v : Verb) (ws : List (Bor (List ℕ))) → length ws ≢ arity v → None ≡ command_of v (map (λ word. word.now) ws)
@@ -110,7 +115,8 @@ verb_none w h =
     let within : bytes_eq w (codes "within") ≡ false = is_not w (codes "within") h (IsUtf8-from_ascii _ (search rules)) in
     let near : bytes_eq w (codes "near") ≡ false = is_not w (codes "near") h (IsUtf8-from_ascii _ (search rules)) in
     let size : bytes_eq w (codes "size") ≡ false = is_not w (codes "size") h (IsUtf8-from_ascii _ (search rules)) in
-    sym (rw (insert, remove, remove_at, pop, drain, in_box, hit, at, within, near, size) refl)
+    let load : bytes_eq w (codes "load") ≡ false = is_not w (codes "load") h (IsUtf8-from_ascii _ (search rules)) in
+    sym (rw (insert, remove, remove_at, pop, drain, in_box, hit, at, within, near, size, load) refl)
 
 pub drain_none : (w : List ℕ) (corners : Corners) (most : ℕ) → ¬ (IsUtf8 w) → None ≡ drain_of w corners most
 drain_none w corners most h =
@@ -134,7 +140,25 @@ line_bad (w ∷ ws) h = bad (verb_of w) where
   many Within e = omega arith
   many Near e = omega arith
   many Size e = omega arith
+  many Load e = omega arith
 
   bad : (v : Option Verb) → line.Bad ≡ known (v >>= (λ v. command_of v ws))
   bad None = refl
   bad (Some v) = ap known (command_none v ws (many v))
+
+-- inside a load, words of another number than a rectangle has are bad
+entry_none_of : (ws : List (List ℕ)) → length ws ≢ 0 → length ws ≢ 5 → entry.Bad ≡ entry_of ws
+entry_none_of [] h k = absurd (h refl)
+entry_none_of (a ∷ []) h k = refl
+entry_none_of (a ∷ b ∷ []) h k = refl
+entry_none_of (a ∷ b ∷ c ∷ []) h k = refl
+entry_none_of (a ∷ b ∷ c ∷ d ∷ []) h k = refl
+entry_none_of (a ∷ b ∷ c ∷ d ∷ e ∷ []) h k = absurd (k refl)
+entry_none_of (a ∷ b ∷ c ∷ d ∷ e ∷ f ∷ ws) h k = refl
+
+-- the same of words that are lent
+pub entry_none : (ws : List (Bor (List ℕ))) → length ws ≢ 0 → length ws ≢ 5 → entry.Bad ≡ entry_of (map (λ word. word.now) ws)
+entry_none ws h k = entry_none_of (map (λ word. word.now) ws) (rw length-map h) (rw length-map k)
+
+pub entry_bad : (ws : List (List ℕ)) → 8 < length ws → entry.Bad ≡ entry_of ws
+entry_bad ws h = entry_none_of ws (λ e. omega (arith, e, h)) (λ e. omega (arith, e, h))

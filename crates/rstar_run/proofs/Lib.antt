@@ -1,11 +1,8 @@
 pub mod Numerals
+pub mod Ids
 pub mod Pieces
 pub mod Commands
-pub mod Selections
-pub mod Ids
-pub mod Taken
-pub mod Drained
-pub mod Nearest
 pub mod Prints
 pub mod Reading
 pub mod Runs
+pub mod Loads

@@ -1,12 +1,14 @@
 -- Texts that are printed piece by piece.
 use Rattle.std.proofs.Common.{◌≡◌, ◌∙◌, ℕ, ◌+◌, ◌<◌, ◌≤◌, List, [], ◌∷◌, ◌++◌, length, get_or, drop, drop-cons, drop_of_length-le, add-one, take, take_all, ◌-◌, Option, Result, Ok, Err, refl, sym, ap, subst, append_assoc, append-nil, arith}
-use Rattle.std.specs.Prelude.{codes, decimal, OnOk}
+use Rattle.std.specs.Prelude.{codes, decimal, map, OnOk, IfErr}
 use Rattle.std.specs.List.{flat_map}
+use Rattle.std.specs.Result.{IsErrAnd}
 use Rattle.std.specs.Io.KnownBytes.{Appends, Keeps}
 use Rattle.std.proofs.KnownBytes.{Appends-nil, Appends-trans, Appends-kept}
 use Rattle.rstar_run.specs.Texts.{list_text}
-use Rattle.rstar_run.specs.Prints.{AppendsFront, Prints}
+use Rattle.rstar_run.specs.Prints.{AppendsFront, Prints, PrintsSome}
 use Rattle.rstar_run.specs.declared.program.Stop.{Stop}
+use Rattle.rstar_run.specs.declared.program.Stop.TheVariants as stop
 
 -- ---- a front of a text
 
@@ -125,21 +127,34 @@ write_kept {u} {v} w p k = record { front = p.front; appended = Appends-kept u v
 pub write_end : {u v : Option (List ℕ)} {text left : List ℕ} → Prints u v [] text left → left ≡ [] → Appends u v text
 write_end {u} {v} p none = subst (λ (l : List ℕ). Appends u v l) (sym (p.text_is ∙ ap (λ (l : List ℕ). p.front ++ l) none ∙ append-nil p.front)) p.appended
 
+-- a text of a kind is printed whole
+pub printed_some : (u v : Option (List ℕ)) (held held' : List ℕ) (Kind : List ℕ → Type 0) (text : List ℕ) → Kind text → (r : Result (Unit {0}) Stop) → OnOk r (Prints u v held text held') → AppendsFront u v (held ++ text)
+    → IfErr r (λ s. s ≡ stop.Output) → PrintsSome Kind u v held held' r
+printed_some u v held held' Kind text k (Ok x) all front h = (text, k, all)
+printed_some u v held held' Kind text k (Err e) all front h = subst (λ (s : Stop). PrintsSome Kind u v held held' (Err s)) (sym h) (text, k, front)
+
+-- a write fails before the text of a kind is printed whole
+pub printed_front : (u v : Option (List ℕ)) (held held' : List ℕ) (Kind : List ℕ → Type 0) (text : List ℕ) → Kind text → AppendsFront u v (held ++ text) → (s : Stop) → s ≡ stop.Output → (r : Result (Unit {0}) Stop)
+    → IsErrAnd r (λ e. e ≡ s) → PrintsSome Kind u v held held' r
+printed_front u v held held' Kind text k front s m (Ok x) h = absurd h
+printed_front u v held held' Kind text k front s m (Err e) h = subst (λ (o : Stop). PrintsSome Kind u v held held' (Err o)) (sym (h ∙ m)) (text, k, front)
+
 -- ---- lists of numbers
 
--- the numbers from an index on
-pub next_number : (ns : List ℕ) (i : ℕ) → i < length ns
-    → flat_map (λ n. codes " " ++ decimal n) (drop i ns) ++ codes "\n" ≡ codes " " ++ (decimal (get_or ns i 0) ++ (flat_map (λ n. codes " " ++ decimal n) (drop (i + 1) ns) ++ codes "\n"))
-next_number ns i h =
-    let d : drop i ns ≡ get_or ns i 0 ∷ drop (i + 1) ns = rw add-one (drop-cons ns i 0 h) in
-    rw d (append_assoc (codes " " ++ decimal (get_or ns i 0)) _ (codes "\n"))
+-- the numbers of items from an index on
+pub next_item : {T : Type 0} (f : T → ℕ) (ts : List T) (i : ℕ) (t : T) (n : ℕ) → t ≡ get_or ts i t → n ≡ f t → i < length ts
+    → flat_map (λ n. codes " " ++ decimal n) (map f (drop i ts)) ++ codes "\n" ≡ codes " " ++ (decimal n ++ (flat_map (λ n. codes " " ++ decimal n) (map f (drop (i + 1) ts)) ++ codes "\n"))
+next_item {T} f ts i t n is e h =
+    let cut : drop i ts ≡ get_or ts i t ∷ drop (i + 1) ts = rw add-one (drop-cons ts i t h) in
+    let same : drop i ts ≡ t ∷ drop (i + 1) ts = cut ∙ ap (λ (u : T). u ∷ drop (i + 1) ts) (sym is) in
+    rw (same, e) (append_assoc (codes " " ++ decimal (f t)) _ (codes "\n"))
 
-pub no_number : (ns : List ℕ) (i : ℕ) → length ns ≤ i → flat_map (λ n. codes " " ++ decimal n) (drop i ns) ++ codes "\n" ≡ codes "\n"
-no_number ns i h = rw (drop_of_length-le ns h) refl
+pub no_item : {T : Type 0} (f : T → ℕ) (ts : List T) (i : ℕ) → length ts ≤ i → flat_map (λ n. codes " " ++ decimal n) (map f (drop i ts)) ++ codes "\n" ≡ codes "\n"
+no_item f ts i h = rw (drop_of_length-le ts h) refl
 
-pub first_number : (ns : List ℕ) → 0 < length ns
-    → list_text ns ++ codes "\n" ≡ decimal (get_or ns 0 0) ++ (flat_map (λ n. codes " " ++ decimal n) (take (length ns - 1) (drop 1 ns)) ++ codes "\n")
-first_number [] h = absurd (omega arith)
-first_number (n ∷ ns) h =
-    append_assoc (decimal n) (flat_map (λ k. codes " " ++ decimal k) ns) (codes "\n")
-    ∙ ap (λ (l : List ℕ). decimal n ++ (flat_map (λ k. codes " " ++ decimal k) l ++ codes "\n")) (sym (take_all (length (n ∷ ns) - 1) ns (omega arith)))
+pub first_item : {T : Type 0} (f : T → ℕ) (ts : List T) (t : T) (n : ℕ) → t ≡ get_or ts 0 t → n ≡ f t → 0 < length ts
+    → list_text (map f ts) ++ codes "\n" ≡ decimal n ++ (flat_map (λ n. codes " " ++ decimal n) (map f (take (length ts - 1) (drop 1 ts))) ++ codes "\n")
+first_item f [] t n is e h = absurd (omega arith)
+first_item {T} f (u ∷ ts) t n is e h =
+    let rest : take (length (u ∷ ts) - 1) ts ≡ ts = take_all (length (u ∷ ts) - 1) ts (omega arith) in
+    rw (rest, e, is) (append_assoc (decimal (f u)) (flat_map (λ k. codes " " ++ decimal k) (map f ts)) (codes "\n"))

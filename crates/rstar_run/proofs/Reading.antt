@@ -1,10 +1,10 @@
 -- Lines that are read one after another.
-use Rattle.std.proofs.Common.{◌≡◌, ◌∙◌, ℕ, zero, suc, ◌+◌, ◌<◌, zero-le, add-one, true≢false, take, drop, length-take-le, Bool, true, false, cond, eqb, List, [], ◌∷◌, ◌++◌, length, Option, Some, None, IfSome, refl, sym, ap, subst, append_assoc, arith}
+use Rattle.std.proofs.Common.{◌≡◌, ◌∙◌, ℕ, zero, suc, ◌+◌, ◌<◌, zero-le, add-one, true≢false, take, drop, length-take-le, Bool, true, false, cond, eqb, List, [], ◌∷◌, ◌++◌, length, Option, Some, None, IfSome, refl, sym, ap, subst, append_assoc, append-nil, arith}
 use Rattle.std.specs.Prelude.{slice_index, if◌then◌else◌, ◌==◌}
 use Rattle.std.specs.Io.KnownBytes.{IsAtEnd, prepend_known}
 use Rattle.memchr.specs.Find.{IsFirstByte, is_byte}
 use Rattle.std.specs.Io.BufRead.{take_through, drop_through}
-use Rattle.rstar_run.specs.Lines.{into_first, lines_of, TakesLine}
+use Rattle.rstar_run.specs.Lines.{into_first, lines_of, TakesLine, TakesLines}
 
 -- the first line of some bytes
 cut : (bytes : List ℕ) (b : ℕ) → lines_of (b ∷ bytes) ≡ take_through 10 (b ∷ bytes) ∷ lines_of (drop_through 10 (b ∷ bytes))
@@ -50,10 +50,22 @@ reads_rest None v lines r = tt
 reads_rest (Some xs) None lines r = absurd r
 reads_rest (Some xs) (Some ys) lines r = r
 
-pub reads_next : (u v : Option (List ℕ)) (lines : List (List ℕ)) (line : List ℕ) → Reads u v (lines ++ line ∷ []) → IfSome u (λ bytes. lines_of bytes ≡ lines ++ line ∷ rest_of v)
-reads_next None v lines line r = tt
-reads_next (Some xs) None lines line r = absurd r
-reads_next (Some xs) (Some ys) lines line r = r ∙ append_assoc lines (line ∷ []) (lines_of ys)
+-- more lines are read
+pub reads_lines : (u v w : Option (List ℕ)) (lines more : List (List ℕ)) → Reads u v lines → TakesLines v w more → Reads u w (lines ++ more)
+reads_lines u v w lines [] r e =
+    subst (λ (o : Option (List ℕ)). Reads u o (lines ++ [])) (sym e) (subst (λ (ls : List (List ℕ)). Reads u v ls) (sym (append-nil lines)) r)
+reads_lines u v w lines (line ∷ more) r (mid, t, ts) =
+    subst (λ (ls : List (List ℕ)). Reads u w ls) (append_assoc lines (line ∷ []) more) (reads_lines u mid w (lines ++ line ∷ []) more (reads_more u v mid lines line r t) ts)
+
+-- one more line is taken
+pub takes_more : (u v w : Option (List ℕ)) (lines : List (List ℕ)) (line : List ℕ) → TakesLines u v lines → TakesLine v w line → TakesLines u w (lines ++ line ∷ [])
+takes_more u v w [] line e t = (w, subst (λ (o : Option (List ℕ)). TakesLine o w line) e t, refl)
+takes_more u v w (l ∷ lines) line (mid, t, ts) more = (mid, t, takes_more mid v w lines line ts more)
+
+-- none is left at the end
+pub none_at_end : (v : Option (List ℕ)) → IsAtEnd v → rest_of v ≡ []
+none_at_end None h = refl
+none_at_end (Some ys) h = ap lines_of h
 
 pub reads_all : (u v : Option (List ℕ)) (lines : List (List ℕ)) → Reads u v lines → IsAtEnd v → IfSome u (λ bytes. lines_of bytes ≡ lines ++ [])
 reads_all None v lines r e = tt

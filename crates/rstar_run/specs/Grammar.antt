@@ -3,12 +3,13 @@ use Rattle.std.specs.Prelude.{ℕ, ℤ, List, [], ◌∷◌, Option, Some, None,
 use Rattle.std.specs.Str.{bytes_eq}
 use Rattle.rstar_run.specs.Numerals.{◌>>=◌, unsigned_of, signed_of}
 use Rattle.rstar_run.specs.declared.command.Corners.{Corners}
-use Rattle.rstar_run.specs.declared.command.Command.{Command}
-use Rattle.rstar_run.specs.declared.command.Command.TheVariants as command
+use Rattle.rstar_run.specs.declared.command.Request.TheVariants as request
 use Rattle.rstar_run.specs.declared.command.Verb.{Verb}
-use Rattle.rstar_run.specs.declared.command.Verb.TheVariants.{Insert, Remove, RemoveAt, Pop, Drain, In, Hit, At, Within, Near, Size}
+use Rattle.rstar_run.specs.declared.command.Verb.TheVariants.{Insert, Remove, RemoveAt, Pop, Drain, In, Hit, At, Within, Near, Size, Load}
 use Rattle.rstar_run.specs.declared.command.Line.{Line}
 use Rattle.rstar_run.specs.declared.command.Line.TheVariants as line
+use Rattle.rstar_run.specs.declared.command.Entry.{Entry}
+use Rattle.rstar_run.specs.declared.command.Entry.TheVariants as entry
 
 -- a point
 abbrev pub point_of : List ℕ → List ℕ → Option (List ℤ)
@@ -37,58 +38,62 @@ verb_of word =
     if bytes_eq word (codes "at") then Some At else (
     if bytes_eq word (codes "within") then Some Within else (
     if bytes_eq word (codes "near") then Some Near else (
-    if bytes_eq word (codes "size") then Some Size else None))))))))))
+    if bytes_eq word (codes "size") then Some Size else (
+    if bytes_eq word (codes "load") then Some Load else None)))))))))))
 
 -- the drain that the word after `drain` names
-abbrev pub drain_of : List ℕ → Corners → ℕ → Option Command
+abbrev pub drain_of : List ℕ → Corners → ℕ → Option Line
 drain_of area corners most =
-    if bytes_eq area (codes "in") then Some (command.DrainIn corners most) else (
-    if bytes_eq area (codes "hit") then Some (command.DrainHit corners most) else None)
+    if bytes_eq area (codes "in") then Some (line.Request (request.DrainIn corners most)) else (
+    if bytes_eq area (codes "hit") then Some (line.Request (request.DrainHit corners most)) else None)
 
--- the command of a verb and the words after it
-abbrev pub command_of : Verb → List (List ℕ) → Option Command
+-- a line of a verb and the words after it
+abbrev pub command_of : Verb → List (List ℕ) → Option Line
 command_of Insert (id ∷ x1 ∷ y1 ∷ x2 ∷ y2 ∷ []) = do
   id' ← unsigned_of id
   corners ← corners_of x1 y1 x2 y2
-  Some (command.Insert id' corners)
+  Some (line.Request (request.Insert id' corners))
 command_of Remove (id ∷ x1 ∷ y1 ∷ x2 ∷ y2 ∷ []) = do
   id' ← unsigned_of id
   corners ← corners_of x1 y1 x2 y2
-  Some (command.Remove id' corners)
+  Some (line.Request (request.Remove id' corners))
 command_of RemoveAt (x ∷ y ∷ []) = do
   p ← point_of x y
-  Some (command.RemoveAt p)
+  Some (line.Request (request.RemoveAt p))
 command_of Pop (x ∷ y ∷ []) = do
   p ← point_of x y
-  Some (command.Pop p)
+  Some (line.Request (request.Pop p))
 command_of Drain (area ∷ x1 ∷ y1 ∷ x2 ∷ y2 ∷ most ∷ []) = do
   corners ← corners_of x1 y1 x2 y2
   most' ← unsigned_of most
   drain_of area corners most'
 command_of In (x1 ∷ y1 ∷ x2 ∷ y2 ∷ []) = do
   corners ← corners_of x1 y1 x2 y2
-  Some (command.In corners)
+  Some (line.Request (request.In corners))
 command_of Hit (x1 ∷ y1 ∷ x2 ∷ y2 ∷ []) = do
   corners ← corners_of x1 y1 x2 y2
-  Some (command.Hit corners)
+  Some (line.Request (request.Hit corners))
 command_of At (x ∷ y ∷ []) = do
   p ← point_of x y
-  Some (command.At p)
+  Some (line.Request (request.At p))
 command_of Within (x ∷ y ∷ limit ∷ []) = do
   p ← point_of x y
   limit' ← signed_of limit
-  Some (command.Within p limit')
+  Some (line.Request (request.Within p limit'))
 command_of Near (x ∷ y ∷ most ∷ []) = do
   p ← point_of x y
   most' ← unsigned_of most
-  Some (command.Near p most')
-command_of Size [] = Some command.Size
+  Some (line.Request (request.Near p most'))
+command_of Size [] = Some line.Size
+command_of Load (count ∷ []) = do
+  count' ← unsigned_of count
+  Some (line.Load count')
 command_of _ _ = None
 
 -- a line that has words
-abbrev pub known : Option Command → Line
+abbrev pub known : Option Line → Line
 known None = line.Bad
-known (Some c) = line.Command c
+known (Some l) = l
 
 -- what a line of these words is
 abbrev pub line_of : List (List ℕ) → Line
@@ -96,3 +101,21 @@ line_of [] = line.Blank
 line_of (word ∷ args) = known (do
   verb ← verb_of word
   command_of verb args)
+
+-- a rectangle of a load
+abbrev pub rectangle_of : List ℕ → List ℕ → List ℕ → List ℕ → List ℕ → Option Entry
+rectangle_of id x1 y1 x2 y2 = do
+  id' ← unsigned_of id
+  corners ← corners_of x1 y1 x2 y2
+  Some (entry.Rectangle id' corners)
+
+-- a line of a load that has words
+abbrev pub listed : Option Entry → Entry
+listed None = entry.Bad
+listed (Some e) = e
+
+-- what a line of these words is inside a load
+abbrev pub entry_of : List (List ℕ) → Entry
+entry_of [] = entry.Blank
+entry_of (id ∷ x1 ∷ y1 ∷ x2 ∷ y2 ∷ []) = listed (rectangle_of id x1 y1 x2 y2)
+entry_of _ = entry.Bad

@@ -1,7 +1,8 @@
 pub mod Numerals
 pub mod Words
 pub mod Grammar
-pub mod Answers
+pub mod Items
+pub mod Requests
 pub mod Statuses
 pub mod Texts
 pub mod Prints

@@ -22,3 +22,8 @@ bytes_left remaining lines = reader_remaining (λ source. remaining source.0) li
 abbrev pub TakesLine : Option (List ℕ) → Option (List ℕ) → List ℕ → Type 0
 TakesLine old new line = IfSome old (λ bytes.
     (0 < length line) × (line ≡ take_through 10 bytes) × (new ≡ Some (drop_through 10 bytes)))
+
+-- some lines were taken, one after another
+abbrev pub TakesLines : Option (List ℕ) → Option (List ℕ) → List (List ℕ) → Type 0
+TakesLines old new [] = new ≡ old
+TakesLines old new (line ∷ lines) = (mid : Option (List ℕ)) × TakesLine old mid line × TakesLines mid new lines

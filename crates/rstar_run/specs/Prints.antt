@@ -1,6 +1,6 @@
 -- What stands on an output, and what is held for it. An output is known by its bytes, `None` where std does not
 -- know them.
-use Rattle.std.specs.Prelude.{◌≡◌, ℕ, List, ◌++◌, Option, Result, Ok, Err}
+use Rattle.std.specs.Prelude.{◌≡◌, ℕ, List, [], ◌++◌, Option, Result, Ok, Err}
 use Rattle.std.specs.Io.KnownBytes.{Appends}
 use Rattle.rstar_run.specs.declared.program.Stop.{Stop}
 use Rattle.rstar_run.specs.declared.program.Stop.TheVariants as stop
@@ -26,3 +26,12 @@ Printed (Err (stop.Line _)) old new held text held' = Prints old new held text h
 Printed (Err stop.Memory) old new held text held' = Prints old new held text held'
 Printed (Err stop.Input) old new held text held' = Prints old new held text held'
 Printed (Err stop.Output) old new held text held' = AppendsFront old new (held ++ text)
+
+-- a text of this kind is printed whole; where memory was refused nothing is, where a write failed a front of such a text
+abbrev pub PrintsSome : (List ℕ → Type 0) → Option (List ℕ) → Option (List ℕ) → List ℕ → List ℕ
+    → Result (Unit {0}) Stop → Type 0
+PrintsSome Kind old new held held' (Ok _) = (text : List ℕ) × Kind text × Prints old new held text held'
+PrintsSome Kind old new held held' (Err (stop.Line _)) = ⊥
+PrintsSome Kind old new held held' (Err stop.Memory) = Prints old new held [] held'
+PrintsSome Kind old new held held' (Err stop.Input) = ⊥
+PrintsSome Kind old new held held' (Err stop.Output) = (text : List ℕ) × Kind text × AppendsFront old new (held ++ text)

@@ -1,14 +1,19 @@
 -- What a run reads and prints.
-use Rattle.std.specs.Prelude.{◌≡◌, ℕ, ℤ, ◌+◌, Bool, true, false, List, [], ◌∷◌, ◌++◌, length, Option, IfSome, Result, Ok, Err, ⊤, ◌⊎◌}
+use Rattle.std.specs.Prelude.{◌≡◌, ℕ, ◌+◌, ◌<◌, Bool, true, false, List, [], ◌∷◌, ◌++◌, length, decimal, codes, Option, IfSome, Result, Ok, Err, ⊤, ◌⊎◌}
+use Rattle.std.specs.Global.{Vec}
 use Rattle.std.specs.Io.KnownBytes.{Appends, IsAtEnd}
+use Rattle.rstar.specs.Steps.{Step}
+use Rattle.rstar.specs.declared.replay.Command.TheVariants as command
 use Rattle.rstar_run.specs.Words.{words_of, without_end}
-use Rattle.rstar_run.specs.Grammar.{line_of}
-use Rattle.rstar_run.specs.Answers.{Answers}
+use Rattle.rstar_run.specs.Grammar.{line_of, entry_of}
+use Rattle.rstar_run.specs.Items.{Item, Command, Reply, questions, IsRectangle}
+use Rattle.rstar_run.specs.Requests.{Asks}
 use Rattle.rstar_run.specs.Statuses.{status_of}
-use Rattle.rstar_run.specs.Texts.{text_of, end_text}
-use Rattle.rstar_run.specs.Lines.{lines_of, TakesLine}
+use Rattle.rstar_run.specs.Texts.{Spells, end_text}
+use Rattle.rstar_run.specs.Lines.{lines_of, TakesLine, TakesLines}
 use Rattle.rstar_run.specs.Prints.{AppendsFront, Prints}
-use Rattle.rstar_run.specs.declared.answers.Reply.{Reply}
+use Rattle.rstar_run.specs.declared.command.Entry.{Entry}
+use Rattle.rstar_run.specs.declared.command.Entry.TheVariants as entry
 use Rattle.rstar_run.specs.declared.command.Line.{Line}
 use Rattle.rstar_run.specs.declared.command.Line.TheVariants as line
 use Rattle.rstar_run.specs.declared.program.Stop.{Stop}
@@ -18,20 +23,44 @@ use Rattle.rstar_run.specs.declared.program.Stop.TheVariants as stop
 abbrev pub meaning : List ℕ → Line
 meaning line = line_of (words_of (without_end line))
 
--- the boxes in the store, each with its ID
-abbrev pub Rectangles : Type 0
-Rectangles = List (List (ℤ × ℤ) × ℕ)
+-- what a line means inside a load
+abbrev pub entry_meant : List ℕ → Entry
+entry_meant line = entry_of (words_of (without_end line))
 
--- what a line of this meaning says where the store holds `old`, and the store after it; `more` are the lines that its
--- command takes besides its own, and today's commands take none
-abbrev pub Tells : Rectangles → Line → List (List ℕ) → List ℕ → Rectangles → Type 0
+-- the items of one line of a load: one, or none where it is blank
+abbrev pub IsEntry : Entry → List Item → Type 0
+IsEntry entry.Blank items = items ≡ []
+IsEntry (entry.Rectangle id corners) items = (item : Item) × IsRectangle id corners item × (items ≡ item ∷ [])
+IsEntry entry.Bad items = ⊥
+
+-- the lines of a load, and their items, in order
+abbrev pub Lists : List (List ℕ) → List Item → Type 0
+Lists [] items = items ≡ []
+Lists (line ∷ lines) items =
+    (first : List Item) × (others : List Item)
+    × IsEntry (entry_meant line) first × Lists lines others × (items ≡ first ++ others)
+
+-- the store takes a step by a command of this kind, and the reply is said
+abbrev pub Replies : (Command → Type 0) → List Item → List ℕ → List Item → Type 0
+Replies Kind old said new =
+    (c : Command) × Kind c × ((reply : Reply) × Step questions old c reply new × Spells reply said)
+
+-- the command is a load of so many items, those of these lines
+abbrev pub IsLoad : ℕ → List (List ℕ) → Command → Type 0
+IsLoad count lines c =
+    (list : Vec Item) × (c ≡ command.Load list) × Lists lines list.items × (length list.items ≡ count)
+
+-- what a line of this meaning says where the store holds `old`, and the store after it; `more` are the lines that it
+-- takes besides its own, as a load does
+abbrev pub Tells : List Item → Line → List (List ℕ) → List ℕ → List Item → Type 0
 Tells old line.Blank more said new = (more ≡ []) × (said ≡ []) × (new ≡ old)
-Tells old (line.Command command) more said new =
-    (more ≡ []) × ((reply : Reply) × Answers old command reply new × (said ≡ text_of reply))
+Tells old (line.Request request) more said new = (more ≡ []) × Replies (Asks request) old said new
+Tells old line.Size more said new = (more ≡ []) × (said ≡ decimal (length old) ++ codes "\n") × (new ≡ old)
+Tells old (line.Load count) more said new = Replies (IsLoad count more) old said new
 Tells old line.Bad more said new = ⊥
 
--- what the lines of one turn say: the first, and those that its command takes
-abbrev pub Says : Rectangles → List (List ℕ) → List ℕ → Rectangles → Type 0
+-- what the lines of one turn say: the first, and those that it takes
+abbrev pub Says : List Item → List (List ℕ) → List ℕ → List Item → Type 0
 Says old [] said new = ⊥
 Says old (first ∷ more) said new = Tells old (meaning first) more said new
 
@@ -41,21 +70,34 @@ lines_in [] = []
 lines_in (turn ∷ turns) = turn ++ lines_in turns
 
 -- what turns say, one after another, and the store after them
-abbrev pub SaysAll : Rectangles → List (List (List ℕ)) → List ℕ → Rectangles → Type 0
+abbrev pub SaysAll : List Item → List (List (List ℕ)) → List ℕ → List Item → Type 0
 SaysAll old [] said new = (said ≡ []) × (new ≡ old)
 SaysAll old (turn ∷ turns) said new =
-    (first : List ℕ) × (others : List ℕ) × (store : Rectangles)
+    (first : List ℕ) × (others : List ℕ) × (store : List Item)
     × Says old turn first store × SaysAll store turns others new × (said ≡ first ++ others)
 
--- the first line is a bad one
-abbrev pub StartsBad : List (List ℕ) → Type 0
-StartsBad [] = ⊥
-StartsBad (first ∷ rest) = meaning first ≡ line.Bad
+-- no line of a load comes next: a bad one does, or the end of the input
+abbrev pub IsNoEntry : List (List ℕ) → Type 0
+IsNoEntry [] = ⊤
+IsNoEntry (line ∷ lines) = entry_meant line ≡ entry.Bad
+
+-- behind a line of this meaning, the first line that is bad, counted from that one as the first
+abbrev pub BreaksAt : Line → List (List ℕ) → ℕ → Type 0
+BreaksAt line.Bad rest at = at ≡ 1
+BreaksAt (line.Load count) rest at =
+    (good : List (List ℕ)) × (bad : List (List ℕ)) × (items : List Item)
+    × (rest ≡ good ++ bad) × Lists good items × (length items < count) × IsNoEntry bad × (at ≡ length good + 2)
+BreaksAt _ rest at = ⊥
+
+-- these lines start with a bad one, or with a load that breaks off; the bad line is the one of this number, from 1
+abbrev pub StartsBad : List (List ℕ) → ℕ → Type 0
+StartsBad [] at = ⊥
+StartsBad (first ∷ rest) at = BreaksAt (meaning first) rest at
 
 -- why a run ends after n lines, before the rest of them: there is no rest, or it starts with a bad line, by its number
 abbrev pub Why : Result (Unit {0}) Stop → ℕ → List (List ℕ) → Type 0
 Why (Ok _) n rest = rest ≡ []
-Why (Err (stop.Line number)) n rest = (number ≡ n + 1) × StartsBad rest
+Why (Err (stop.Line number)) n rest = (at : ℕ) × (number ≡ n + at) × StartsBad rest at
 Why (Err stop.Memory) n rest = ⊤
 Why (Err stop.Input) n rest = ⊤
 Why (Err stop.Output) n rest = ⊤
@@ -64,7 +106,7 @@ Why (Err stop.Output) n rest = ⊤
 pub record Run (input : Option (List ℕ)) (ended : Result (Unit {0}) Stop) (said : List ℕ) : Type 0 where
   pub turns : List (List (List ℕ))
   pub rest : List (List ℕ)
-  pub store : Rectangles
+  pub store : List Item
   pub input_is : IfSome input (λ bytes. lines_of bytes ≡ lines_in turns ++ rest)
   pub says : SaysAll [] turns said store
   pub why : Why ended (length (lines_in turns)) rest
@@ -79,26 +121,72 @@ pub record Ran (input old new : Option (List ℕ)) (status : ℕ) : Type 0 where
       ((status ≡ status_of ended) × Appends old new (said ++ end_text ended))
       ⊎ ((status ≡ 4) × AppendsFront old new (said ++ end_text ended))
 
--- the first of the lines that were left was taken, and says `said`
-pub record TakesTurn (left left' : Option (List ℕ)) (store : Rectangles) (said : List ℕ)
-    (store' : Rectangles) : Type 0 where
-  pub line : List ℕ
-  pub taken : TakesLine left left' line
-  pub says : Says store (line ∷ []) said store'
+-- ---- what a call reads
 
--- one turn: a line in and its answer out, false at the end of the input; the output and what is held for it are
+-- a read that stops without a line: memory was refused, or a read or a write failed
+abbrev pub IsNoLine : Stop → Type 0
+IsNoLine (stop.Line n) = ⊥
+IsNoLine stop.Memory = ⊤
+IsNoLine stop.Input = ⊤
+IsNoLine stop.Output = ⊤
+
+-- the first lines of those that were left were taken, and counted; they are those of these items
+pub record TakesItems (left left' : Option (List ℕ)) (number number' : ℕ) (items : List Item) : Type 0 where
+  pub lines : List (List ℕ)
+  pub taken : TakesLines left left' lines
+  pub lists : Lists lines items
+  pub count : number' ≡ number + length lines
+
+-- a load breaks off at the line of this number, and these lines were read; none comes behind them at the end
+pub record LoadBreaks (count : ℕ) (left left' : Option (List ℕ)) (number n : ℕ) : Type 0 where
+  pub lines : List (List ℕ)
+  pub good : List (List ℕ)
+  pub items : List Item
+  pub taken : TakesLines left left' lines
+  pub lists : Lists good items
+  pub few : length items < count
+  pub number_is : n ≡ number + (length good + 1)
+  pub breaks : (more : List (List ℕ)) → (IsAtEnd left' → more ≡ [])
+      → (bad : List (List ℕ)) × (lines ++ more ≡ good ++ bad) × IsNoEntry bad
+
+-- the lines of a load of so many items are read
+abbrev pub ReadsLoad : ℕ → Option (List ℕ) → Option (List ℕ) → ℕ → ℕ → Result (Vec Item) Stop → Type 0
+ReadsLoad count left left' number number' (Ok list) =
+    TakesItems left left' number number' list.items × (length list.items ≡ count)
+ReadsLoad count left left' number number' (Err (stop.Line n)) =
+    (mid : Option (List ℕ)) × LoadBreaks count left mid number n
+ReadsLoad count left left' number number' (Err stop.Memory) = ⊤
+ReadsLoad count left left' number number' (Err stop.Input) = ⊤
+ReadsLoad count left left' number number' (Err stop.Output) = ⊤
+
+-- the first lines of those that were left were taken, and counted; they are those of one turn, and say `said`
+pub record TakesTurn (left left' : Option (List ℕ)) (number number' : ℕ) (store : List Item) (said : List ℕ)
+    (store' : List Item) : Type 0 where
+  pub lines : List (List ℕ)
+  pub taken : TakesLines left left' lines
+  pub count : number' ≡ number + length lines
+  pub says : Says store lines said store'
+
+-- the turn breaks off at the line of this number, and these lines were read; none comes behind them at the end
+pub record TurnBreaks (left left' : Option (List ℕ)) (number n : ℕ) : Type 0 where
+  pub lines : List (List ℕ)
+  pub at : ℕ
+  pub taken : TakesLines left left' lines
+  pub number_is : n ≡ number + at
+  pub breaks : (more : List (List ℕ)) → (IsAtEnd left' → more ≡ []) → StartsBad (lines ++ more) at
+
+-- one turn: its lines in and its answer out, false at the end of the input; the output and what is held for it are
 -- `old` and `held` before, `new` and `held'` after
-abbrev pub Turn : Option (List ℕ) → Option (List ℕ) → ℕ → Rectangles → Rectangles
+abbrev pub Turn : Option (List ℕ) → Option (List ℕ) → ℕ → ℕ → List Item → List Item
     → Option (List ℕ) → Option (List ℕ) → List ℕ → List ℕ → Result Bool Stop → Type 0
-Turn left left' number store store' old new held held' (Ok true) =
-    (said : List ℕ) × TakesTurn left left' store said store' × Prints old new held said held'
-Turn left left' number store store' old new held held' (Ok false) =
+Turn left left' number number' store store' old new held held' (Ok true) =
+    (said : List ℕ) × TakesTurn left left' number number' store said store' × Prints old new held said held'
+Turn left left' number number' store store' old new held held' (Ok false) =
     IsAtEnd left × (store' ≡ store) × Prints old new held [] held'
-Turn left left' number store store' old new held held' (Err (stop.Line n)) =
-    (bad : List ℕ) × TakesLine left left' bad × (meaning bad ≡ line.Bad) × (n ≡ number + 1)
-    × Prints old new held [] held'
-Turn left left' number store store' old new held held' (Err stop.Memory) = Prints old new held [] held'
-Turn left left' number store store' old new held held' (Err stop.Input) = Prints old new held [] held'
-Turn left left' number store store' old new held held' (Err stop.Output) =
+Turn left left' number number' store store' old new held held' (Err (stop.Line n)) =
+    ((mid : Option (List ℕ)) × TurnBreaks left mid number n) × Prints old new held [] held'
+Turn left left' number number' store store' old new held held' (Err stop.Memory) = Prints old new held [] held'
+Turn left left' number number' store store' old new held held' (Err stop.Input) = Prints old new held [] held'
+Turn left left' number number' store store' old new held held' (Err stop.Output) =
     AppendsFront old new held
-    ⊎ ((said : List ℕ) × TakesTurn left left' store said store' × AppendsFront old new (held ++ said))
+    ⊎ ((said : List ℕ) × TakesTurn left left' number number' store said store' × AppendsFront old new (held ++ said))

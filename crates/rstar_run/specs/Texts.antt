@@ -1,8 +1,9 @@
--- How answers and ends are spelled.
-use Rattle.std.specs.Prelude.{ℕ, List, [], ◌∷◌, ◌++◌, codes, decimal, vec_items, Some, None, Result, Ok, Err}
+-- How replies and ends are spelled.
+use Rattle.std.specs.Prelude.{◌≡◌, ℕ, List, [], ◌∷◌, ◌++◌, codes, decimal, map, unsigned_abs, Some, None, Result, Ok, Err}
 use Rattle.std.specs.List.{join_by}
-use Rattle.rstar_run.specs.declared.answers.Reply.{Reply}
-use Rattle.rstar_run.specs.declared.answers.Reply.TheVariants.{Done, Ids, Taken, Distances, Size}
+use Rattle.std.specs.List.Sorted.{IsPermutation, IsNonDecreasing}
+use Rattle.rstar.specs.declared.replay.Reply.TheVariants as reply
+use Rattle.rstar_run.specs.Items.{Item, Reply}
 use Rattle.rstar_run.specs.declared.program.Stop.{Stop}
 use Rattle.rstar_run.specs.declared.program.Stop.TheVariants.{Line, Memory, Input, Output}
 
@@ -11,14 +12,19 @@ abbrev pub list_text : List ℕ → List ℕ
 list_text [] = codes "-"
 list_text (n ∷ ns) = join_by decimal (codes " ") (n ∷ ns)
 
--- the line of an answer
-abbrev pub text_of : Reply → List ℕ
-text_of Done = codes "ok\n"
-text_of (Ids ids) = list_text (vec_items ids) ++ codes "\n"
-text_of (Taken (Some id)) = list_text (id ∷ []) ++ codes "\n"
-text_of (Taken None) = list_text [] ++ codes "\n"
-text_of (Distances distances) = list_text (vec_items distances) ++ codes "\n"
-text_of (Size n) = decimal n ++ codes "\n"
+-- the IDs of just these items, ascending
+pub record AreIds (items : List Item) (ids : List ℕ) : Type 0 where
+  pub just_those : IsPermutation (map (λ item. item.1) items) ids
+  pub ascending : IsNonDecreasing ids
+
+-- the line of a reply
+abbrev pub Spells : Reply → List ℕ → Type 0
+Spells reply.Done text = text ≡ codes "ok\n"
+Spells (reply.Taken None) text = text ≡ codes "-\n"
+Spells (reply.Taken (Some item)) text = text ≡ decimal item.1 ++ codes "\n"
+Spells (reply.Elements items) text = (ids : List ℕ) × AreIds items.items ids × (text ≡ list_text ids ++ codes "\n")
+Spells (reply.Neighbours found) text = text ≡ list_text (map (λ n. unsigned_abs n.1) found.items) ++ codes "\n"
+Spells _ _ = ⊥
 
 -- what is said where a run stops; nothing after a failed write
 abbrev pub stop_text : Stop → List ℕ

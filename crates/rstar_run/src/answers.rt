@@ -1,95 +1,104 @@
-//! Answers, and their text.
+//! Replies, as text.
 
-ghost use Rattle.std.specs.Prelude.{◌≡◌, ◌++◌, codes, IfOk, IfErr, OnOk};
-ghost use Rattle.rstar_run.specs.Answers.{Answers};
-ghost use Rattle.rstar_run.specs.Prints.{AppendsFront, Prints};
-ghost use Rattle.rstar_run.specs.Texts.{list_text, text_of};
+ghost use Rattle.std.specs.Prelude.{◌≡◌, ◌++◌, ℕ, codes, decimal, map, unsigned_abs, IfErr, OnOk};
+ghost use Rattle.rstar_run.specs.Prints.{AppendsFront, Prints, PrintsSome};
+ghost use Rattle.rstar_run.specs.Texts.{list_text, Spells};
 
-use super::command::Command;
 use super::print::Printer;
 use super::program::Stop;
-use super::store::Store;
-use std::alloc::Global;
+use super::store::Item;
+use rstar::replay::Reply;
 use std::io::Write;
 
-/// What a command answers.
-#[derive(Debug, Drop)]
-pub enum Reply {
-    Done,
-    Ids(Vec<u64>),
-    Taken(Option<u64>),
-    Distances(Vec<u64>),
-    Size(usize),
+/// What is printed as a number in a list.
+trait Numbered {
+    // The number.
+    ghost number_of: { Self → ℕ };
+
+    /// The number.
+    fn number(&self) -> u64
+        ensures { result ≡ number_of self.now };
 }
 
-/// Carries out a command. All memory that its answer needs is taken here.
-pub fn answer(alloc: Global, store: &mut Store, command: &Command) -> Result<Reply, Stop>
-    ensures answered { IfOk result (λ reply. Answers store.old command.now reply store.new) }
-    ensures refused { IfErr result (λ stop. (stop ≡ Stop.Memory) × (store.new ≡ store.old)) }
-{
-    match command {
-        Command::Insert(id, corners) => {
-            store.insert(*id, corners)?;
-            Ok(Reply::Done)
-        }
-        Command::Remove(id, corners) => Ok(Reply::Taken(store.remove(*id, corners))),
-        Command::RemoveAt(point) => Ok(Reply::Taken(store.remove_at(*point))),
-        Command::Pop(point) => Ok(Reply::Taken(store.pop(*point)?)),
-        Command::DrainIn(corners, most) => {
-            Ok(Reply::Ids(store.drain_in(alloc, corners, *most)?))
-        }
-        Command::DrainHit(corners, most) => {
-            Ok(Reply::Ids(store.drain_hit(alloc, corners, *most)?))
-        }
-        Command::In(corners) => Ok(Reply::Ids(store.ids_in(alloc, corners)?)),
-        Command::Hit(corners) => Ok(Reply::Ids(store.ids_hit(alloc, corners)?)),
-        Command::At(point) => Ok(Reply::Ids(store.ids_at(alloc, *point)?)),
-        Command::Within(point, limit) => Ok(Reply::Ids(store.ids_within(alloc, *point, *limit)?)),
-        Command::Near(point, most) => { Ok(Reply::Distances(store.near(alloc, *point, *most)?)) }
-        Command::Size => Ok(Reply::Size(store.size())),
+/// A rectangle is printed as its ID.
+impl Numbered for Item {
+    ghost number_of = { λ item. item.1 };
+
+    fn number(&self) -> u64 {
+        self.data
     }
 }
 
-/// Prints the line of an answer.
+/// A rectangle with its distance is printed as the distance.
+impl Numbered for (Item, i64) {
+    ghost number_of = { λ found. unsigned_abs found.1 };
+
+    fn number(&self) -> u64 {
+        self.1.unsigned_abs()
+    }
+}
+
+/// Prints the line of a reply. Where that says that memory was refused, or that the tree is full,
+/// the error does, and nothing is printed. It takes no memory.
 pub fn print_reply<W: Write>(
     printer: &mut Printer,
     output: &mut W,
-    reply: &Reply,
+    reply: Reply<Item>,
 ) -> Result<(), Stop>
-    ensures all { OnOk result (Prints (W.contents output.old) (W.contents output.new)
-        printer.old.held.items (text_of reply.now) printer.new.held.items) }
-    ensures front { AppendsFront (W.contents output.old) (W.contents output.new)
-        (printer.old.held.items ++ text_of reply.now) }
-    ensures stop { IfErr result (λ stop. stop ≡ Stop.Output) }
+    ensures { PrintsSome (Spells reply) (W.contents output.old) (W.contents output.new)
+        printer.old.held.items printer.new.held.items result }
 {
     match reply {
         Reply::Done => printer.put(output, b"ok\n"),
-        Reply::Size(size) => {
-            printer.put_number(output, *size as u64)?;
-            printer.put(output, b"\n")
+        Reply::Taken(Some(item)) => print_list(printer, output, &[item]),
+        Reply::Taken(None) => printer.put(output, b"-\n"),
+        Reply::Elements(items) => {
+            let mut items = items;
+            items.sort_unstable_by_key(
+                |item: &Item| -> u64
+                    ensures { result ≡ item.now.1 }
+                { item.data },
+            );
+            print_list(printer, output, items.as_slice())
         }
-        Reply::Taken(Some(id)) => print_list(printer, output, &[*id]),
-        Reply::Taken(None) => print_list(printer, output, &[]),
-        Reply::Ids(ids) => print_list(printer, output, ids.as_slice()),
-        Reply::Distances(distances) => print_list(printer, output, distances.as_slice()),
+        Reply::Neighbours(found) => print_list(printer, output, found.as_slice()),
+        // Refusals: no line asks for what has another reply.
+        _other => Err(Stop::Memory),
     }
 }
 
+/// Prints the line of a number.
+pub fn print_number<W: Write>(
+    printer: &mut Printer,
+    output: &mut W,
+    number: u64,
+) -> Result<(), Stop>
+    ensures { PrintsSome (λ text. text ≡ decimal number ++ codes "\n") (W.contents output.old) (W.contents output.new)
+        printer.old.held.items printer.new.held.items result }
+{
+    printer.put_number(output, number)?;
+    printer.put(output, b"\n")
+}
+
 /// Prints a line of numbers with single spaces, `-` where there is none.
-fn print_list<W: Write>(printer: &mut Printer, output: &mut W, numbers: &[u64]) -> Result<(), Stop>
+fn print_list<T: Numbered, W: Write>(
+    printer: &mut Printer,
+    output: &mut W,
+    items: &[T],
+) -> Result<(), Stop>
     ensures all { OnOk result (Prints (W.contents output.old) (W.contents output.new)
-        printer.old.held.items (list_text numbers.now ++ codes "\n") printer.new.held.items) }
+        printer.old.held.items (list_text (map T.number_of items.now) ++ codes "\n") printer.new.held.items) }
     ensures front { AppendsFront (W.contents output.old) (W.contents output.new)
-        (printer.old.held.items ++ (list_text numbers.now ++ codes "\n")) }
+        (printer.old.held.items ++ (list_text (map T.number_of items.now) ++ codes "\n")) }
     ensures stop { IfErr result (λ stop. stop ≡ Stop.Output) }
 {
-    match numbers {
+    match items {
         [] => printer.put(output, b"-\n"),
         [first, rest @ ..] => {
-            printer.put_number(output, *first)?;
-            for number in rest {
+            printer.put_number(output, first.number())?;
+            for item in rest {
                 printer.put(output, b" ")?;
-                printer.put_number(output, *number)?;
+                printer.put_number(output, item.number())?;
             }
             printer.put(output, b"\n")
         }

@@ -1,7 +1,7 @@
-//! Commands, and the lines that give them.
+//! What lines ask for.
 
 ghost use Rattle.std.specs.Prelude.{◌≡◌, ◌<◌, length, map, IfSome, IfNone};
-ghost use Rattle.rstar_run.specs.Grammar.{point_of, corners_of, verb_of, drain_of, command_of, line_of};
+ghost use Rattle.rstar_run.specs.Grammar.{point_of, corners_of, rectangle_of, verb_of, drain_of, command_of, line_of, entry_of};
 ghost use Rattle.rstar_run.specs.Words.{words_of};
 
 use super::number::{signed, unsigned};
@@ -15,9 +15,9 @@ pub struct Corners {
     pub other: [i64; 2],
 }
 
-/// What a line asks for.
+/// What a line asks of the tree alone.
 #[derive(Clone, Copy, Debug, PartialEq, Eq)]
-pub enum Command {
+pub enum Request {
     /// Insert a rectangle with an ID.
     Insert(u64, Corners),
     /// Take out a rectangle with an ID, and print the ID.
@@ -40,11 +40,9 @@ pub enum Command {
     Within([i64; 2], i64),
     /// Print the squared distances of the first so many rectangles from a point, the nearest first.
     Near([i64; 2], usize),
-    /// Print the number of rectangles.
-    Size,
 }
 
-/// The first word of a command.
+/// The first word of a line.
 #[derive(Clone, Copy, Debug, PartialEq, Eq)]
 pub enum Verb {
     Insert,
@@ -58,13 +56,27 @@ pub enum Verb {
     Within,
     Near,
     Size,
+    Load,
 }
 
 /// What a line is.
 #[derive(Clone, Copy, Debug, PartialEq, Eq)]
 pub enum Line {
     Blank,
-    Command(Command),
+    Request(Request),
+    /// Print the number of rectangles.
+    Size,
+    /// Put a load of so many rectangles in the place of all that are there: those of the next lines.
+    Load(usize),
+    Bad,
+}
+
+/// What a line inside a load is.
+#[derive(Clone, Copy, Debug, PartialEq, Eq)]
+pub enum Entry {
+    Blank,
+    /// A rectangle with an ID.
+    Rectangle(u64, Corners),
     Bad,
 }
 
@@ -99,35 +111,38 @@ fn parse_verb(word: &[u8]) -> Option<Verb>
         "within" => Some(Verb::Within),
         "near" => Some(Verb::Near),
         "size" => Some(Verb::Size),
+        "load" => Some(Verb::Load),
         _ => None,
     }
 }
 
 /// The drain of an area, `in` or `hit`, between two corners.
 #[tactic(auto, using(crate::proofs::Commands::drain_none))]
-fn drain_of(area: &[u8], corners: Corners, most: usize) -> Option<Command>
+fn drain_of(area: &[u8], corners: Corners, most: usize) -> Option<Line>
     ensures { result ≡ drain_of area.now corners most }
 {
     match str::from_utf8(area).ok()? {
-        "in" => Some(Command::DrainIn(corners, most)),
-        "hit" => Some(Command::DrainHit(corners, most)),
+        "in" => Some(Line::Request(Request::DrainIn(corners, most))),
+        "hit" => Some(Line::Request(Request::DrainHit(corners, most))),
         _ => None,
     }
 }
 
 #[tactic(auto, using(crate::proofs::Commands::lent_none))]
-fn parse_command(verb: Verb, args: &[&[u8]]) -> Option<Command>
+fn parse_command(verb: Verb, args: &[&[u8]]) -> Option<Line>
     ensures { result ≡ command_of verb (map (λ word. word.now) args.now) }
 {
     match (verb, args) {
         (Verb::Insert, [id, x1, y1, x2, y2]) => {
-            Some(Command::Insert(unsigned(id)?, parse_corners(x1, y1, x2, y2)?))
+            let id = unsigned(id)?;
+            Some(Line::Request(Request::Insert(id, parse_corners(x1, y1, x2, y2)?)))
         }
         (Verb::Remove, [id, x1, y1, x2, y2]) => {
-            Some(Command::Remove(unsigned(id)?, parse_corners(x1, y1, x2, y2)?))
+            let id = unsigned(id)?;
+            Some(Line::Request(Request::Remove(id, parse_corners(x1, y1, x2, y2)?)))
         }
-        (Verb::RemoveAt, [x, y]) => Some(Command::RemoveAt(parse_point(x, y)?)),
-        (Verb::Pop, [x, y]) => Some(Command::Pop(parse_point(x, y)?)),
+        (Verb::RemoveAt, [x, y]) => Some(Line::Request(Request::RemoveAt(parse_point(x, y)?))),
+        (Verb::Pop, [x, y]) => Some(Line::Request(Request::Pop(parse_point(x, y)?))),
         (Verb::Drain, [area, x1, y1, x2, y2, most]) => {
             drain_of(
                 area,
@@ -135,18 +150,30 @@ fn parse_command(verb: Verb, args: &[&[u8]]) -> Option<Command>
                 unsigned(most)? as usize,
             )
         }
-        (Verb::In, [x1, y1, x2, y2]) => Some(Command::In(parse_corners(x1, y1, x2, y2)?)),
-        (Verb::Hit, [x1, y1, x2, y2]) => Some(Command::Hit(parse_corners(x1, y1, x2, y2)?)),
-        (Verb::At, [x, y]) => Some(Command::At(parse_point(x, y)?)),
+        (Verb::In, [x1, y1, x2, y2]) => {
+            Some(Line::Request(Request::In(parse_corners(x1, y1, x2, y2)?)))
+        }
+        (Verb::Hit, [x1, y1, x2, y2]) => {
+            Some(Line::Request(Request::Hit(parse_corners(x1, y1, x2, y2)?)))
+        }
+        (Verb::At, [x, y]) => Some(Line::Request(Request::At(parse_point(x, y)?))),
         (Verb::Within, [x, y, limit]) => {
-            Some(Command::Within(parse_point(x, y)?, signed(limit)?))
+            Some(Line::Request(Request::Within(parse_point(x, y)?, signed(limit)?)))
         }
         (Verb::Near, [x, y, most]) => {
-            Some(Command::Near(parse_point(x, y)?, unsigned(most)? as usize))
+            Some(Line::Request(Request::Near(parse_point(x, y)?, unsigned(most)? as usize)))
         }
-        (Verb::Size, []) => Some(Command::Size),
+        (Verb::Size, []) => Some(Line::Size),
+        (Verb::Load, [count]) => Some(Line::Load(unsigned(count)? as usize)),
         _ => None,
     }
+}
+
+/// A line of a load, by its words.
+fn parse_rectangle(id: &[u8], x1: &[u8], y1: &[u8], x2: &[u8], y2: &[u8]) -> Option<Entry>
+    ensures { result ≡ rectangle_of id.now x1.now y1.now x2.now y2.now }
+{
+    Some(Entry::Rectangle(unsigned(id)?, parse_corners(x1, y1, x2, y2)?))
 }
 
 /// Reads the words of a line.
@@ -172,9 +199,24 @@ impl<'a> Parser<'a> {
         match self.words.as_slice() {
             [] => Line::Blank,
             [word, args @ ..] => match parse_verb(word).and_then(|verb| parse_command(verb, args)) {
-                Some(command) => Line::Command(command),
+                Some(line) => line,
                 None => Line::Bad,
             },
+        }
+    }
+
+    /// What the line is inside a load.
+    #[tactic(auto, using(crate::proofs::Commands::entry_none))]
+    pub fn entry(&self) -> Entry
+        ensures { result ≡ entry_of (map (λ word. word.now) self.now.words.items) }
+    {
+        match self.words.as_slice() {
+            [] => Entry::Blank,
+            [id, x1, y1, x2, y2] => match parse_rectangle(id, x1, y1, x2, y2) {
+                Some(entry) => entry,
+                None => Entry::Bad,
+            },
+            _ => Entry::Bad,
         }
     }
 }
@@ -187,5 +229,16 @@ pub fn parse_line(text: &[u8]) -> Line
     match Parser::new(text) {
         Some(parser) => parser.line(),
         None => Line::Bad,
+    }
+}
+
+/// What a line inside a load is, without its end.
+#[tactic(auto, using(crate::proofs::Commands::entry_bad))]
+pub fn parse_entry(text: &[u8]) -> Entry
+    ensures { result ≡ entry_of (words_of text.now) }
+{
+    match Parser::new(text) {
+        Some(parser) => parser.entry(),
+        None => Entry::Bad,
     }
 }

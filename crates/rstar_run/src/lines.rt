@@ -79,7 +79,7 @@ impl<R: Read + Drop> Lines<R> {
         requires { IsFirstByte (is_byte 10) (reader_buffer self.old.reader) end }
         ensures line { result ≡ Ok true → TakesLine (bytes_left R.remaining self.old)
             (bytes_left R.remaining self.new) self.new.line.items }
-        ensures number { result ≡ Ok true → self.new.number ≡ self.old.number + 1 }
+        ensures number { IfOk result (λ _. self.new.number ≡ self.old.number + 1) }
         ensures end { result ≡ Ok false → IsAtEnd (bytes_left R.remaining self.old) }
         ensures stop { IfErr result (λ stop. (stop ≡ Stop.Memory) ⊎ (stop ≡ Stop.Input)) }
     {

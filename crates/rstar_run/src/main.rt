@@ -7,6 +7,7 @@ mod lines;
 mod number;
 mod print;
 mod program;
+mod request;
 mod store;
 #[cfg(test)]
 mod tests;

@@ -1,21 +1,24 @@
 //! Lines in, lines out.
 
-ghost use Rattle.std.specs.Prelude.{◌≡◌, ◌+◌, ◌++◌, ℕ, List, [], Ok, Err, true, IsErr, OnOk, IfErr};
-ghost use Rattle.std.specs.Io.KnownBytes.{Appends, Keeps};
-ghost use Rattle.rstar_run.specs.Lines.{bytes_left};
-ghost use Rattle.rstar_run.specs.Prints.{AppendsFront, Prints, Printed};
-ghost use Rattle.rstar_run.specs.Runs.{Turn, Run, Ran};
+ghost use Rattle.std.specs.Prelude.{◌≡◌, ◌+◌, ◌++◌, ℕ, List, [], Ok, Err, true, false, All, IsErr, OnOk, IfOk, IfErr};
+ghost use Rattle.std.specs.Io.KnownBytes.{Appends, IsAtEnd, Keeps};
+ghost use Rattle.rstar.specs.Steps.{IsFit, Step};
+ghost use Rattle.rstar_run.specs.Items.{Reply, questions};
+ghost use Rattle.rstar_run.specs.Lines.{bytes_left, TakesLine};
+ghost use Rattle.rstar_run.specs.Prints.{AppendsFront, Prints, Printed, PrintsSome};
+ghost use Rattle.rstar_run.specs.Runs.{IsNoLine, ReadsLoad, Turn, Run, Ran};
 ghost use Rattle.rstar_run.specs.Statuses.{status_of};
-ghost use Rattle.rstar_run.specs.Texts.{end_text, stop_text};
+ghost use Rattle.rstar_run.specs.Texts.{Spells, end_text, stop_text};
 ghost use Rattle.rstar_run.specs.declared.program.Stop.TheVariants.{Memory};
 
-use super::answers::{answer, print_reply};
-use super::command::{Line, parse_line};
+use super::answers::{print_number, print_reply};
+use super::command::{Entry, Line, parse_entry, parse_line};
 use super::lines::Lines;
 use super::print::Printer;
-use super::store::Store;
-use rstar::InsertError;
-use std::alloc::{AllocError, Global};
+use super::request::command_of;
+use super::store::{Item, Store, item};
+use rstar::replay::Command;
+use std::alloc::{AllocError, AllocFailed, Global};
 use std::io::{Read, Write};
 
 /// Why a run ends before its input does.
@@ -39,10 +42,10 @@ impl From<AllocError> for Stop {
     }
 }
 
-impl<T: Drop> From<InsertError<T>> for Stop {
+impl<T: Drop> From<AllocFailed<T>> for Stop {
     ghost from_gives = { λ _ e. e ≡ Memory };
 
-    fn from(_e: InsertError<T>) -> Stop {
+    fn from(_e: AllocFailed<T>) -> Stop {
         Stop::Memory
     }
 }
@@ -64,6 +67,73 @@ fn show_before_reading<W: Write>(
     }
 }
 
+/// Reads the next line, once what was printed is shown. False at the end of the input.
+fn next_line<R: Read + Drop, W: Write>(
+    lines: &mut Lines<R>,
+    printer: &mut Printer,
+    output: &mut W,
+) -> Result<bool, Stop>
+    ensures line { result ≡ Ok true → TakesLine (bytes_left R.remaining lines.old)
+        (bytes_left R.remaining lines.new) lines.new.line.items }
+    ensures number { IfOk result (λ _. lines.new.number ≡ lines.old.number + 1) }
+    ensures end { result ≡ Ok false → IsAtEnd (bytes_left R.remaining lines.old) }
+    ensures stop { IfErr result IsNoLine }
+    ensures shown { Printed result (W.contents output.old) (W.contents output.new)
+        printer.old.held.items [] printer.new.held.items }
+{
+    let next_end = lines.next_end();
+    show_before_reading(next_end, printer, output)?;
+    lines.advance(next_end)
+}
+
+/// Reads the lines of a load of so many rectangles. The list grows by the lines that are read.
+fn read_load<R: Read + Drop, W: Write>(
+    alloc: Global,
+    count: usize,
+    lines: &mut Lines<R>,
+    printer: &mut Printer,
+    output: &mut W,
+) -> Result<Vec<Item>, Stop>
+    ensures load { ReadsLoad count (bytes_left R.remaining lines.old) (bytes_left R.remaining lines.new)
+        lines.old.number lines.new.number result }
+    ensures filled { IfOk result (λ items. All (λ t. questions.is_empty (questions.box_of t) ≡ false) items.items) }
+    ensures shown { Printed result (W.contents output.old) (W.contents output.new)
+        printer.old.held.items [] printer.new.held.items }
+{
+    let mut items = Vec::new(alloc);
+    for _ in 0..u64::MAX {
+        if items.len() == count {
+            return Ok(items);
+        }
+        if !next_line(lines, printer, output)? {
+            return Err(Stop::Line(lines.number()));
+        }
+        match parse_entry(lines.text()) {
+            Entry::Blank => {}
+            Entry::Rectangle(id, corners) => items.push(item(id, &corners))?,
+            Entry::Bad => return Err(Stop::Line(lines.number())),
+        }
+    }
+    // More lines than can be numbered.
+    Err(Stop::Input)
+}
+
+/// Runs a command and prints its reply.
+fn run_command<W: Write>(
+    store: &mut Store,
+    command: Command<Item>,
+    printer: &mut Printer,
+    output: &mut W,
+) -> Result<(), Stop>
+    requires { IsFit questions 2 command }
+    ensures { PrintsSome (λ text. (reply : Reply) × Step questions store.old command reply store.new
+        × Spells reply text) (W.contents output.old) (W.contents output.new) printer.old.held.items
+        printer.new.held.items result }
+{
+    let reply = store.step(command);
+    print_reply(printer, output, reply)
+}
+
 /// Reads the next line and answers it. False at the end of the input.
 fn answer_next<R: Read + Drop, W: Write>(
     alloc: Global,
@@ -72,22 +142,27 @@ fn answer_next<R: Read + Drop, W: Write>(
     printer: &mut Printer,
     output: &mut W,
 ) -> Result<bool, Stop>
-    ensures turn { Turn (bytes_left R.remaining lines.old) (bytes_left R.remaining lines.new) lines.old.number
-        store.old store.new (W.contents output.old) (W.contents output.new) printer.old.held.items
-        printer.new.held.items result }
-    ensures number { result ≡ Ok true → lines.new.number ≡ lines.old.number + 1 }
+    ensures { Turn (bytes_left R.remaining lines.old) (bytes_left R.remaining lines.new) lines.old.number
+        lines.new.number store.old store.new (W.contents output.old) (W.contents output.new)
+        printer.old.held.items printer.new.held.items result }
 {
-    let next_end = lines.next_end();
-    show_before_reading(next_end, printer, output)?;
-    if !lines.advance(next_end)? {
+    if !next_line(lines, printer, output)? {
         return Ok(false);
     }
     match parse_line(lines.text()) {
         Line::Blank => Ok(true),
         Line::Bad => Err(Stop::Line(lines.number())),
-        Line::Command(command) => {
-            let reply = answer(alloc, store, &command)?;
-            print_reply(printer, output, &reply)?;
+        Line::Size => {
+            print_number(printer, output, store.size() as u64)?;
+            Ok(true)
+        }
+        Line::Load(count) => {
+            let list = read_load(alloc, count, lines, printer, output)?;
+            run_command(store, Command::Load(list), printer, output)?;
+            Ok(true)
+        }
+        Line::Request(request) => {
+            run_command(store, command_of(&request), printer, output)?;
             Ok(true)
         }
     }

@@ -33,7 +33,7 @@ fn expect_run(rt: &(impl AllocGlobal + Abort), input: &[u8], want: &str, status:
 
 #[test]
 fn answers_lines(rt: HostRuntime) {
-    let rows: [(&[u8], &str); 30] = [
+    let rows: [(&[u8], &str); 35] = [
         (b"", ""),
         (b"insert 7 0 0 2 2\nin 0 0 2 2\nsize\n", "ok\n7\n1\n"),
         // Equal rectangles and IDs count as often as they were inserted.
@@ -130,6 +130,21 @@ fn answers_lines(rt: HostRuntime) {
             b"pop 0 0\ninsert 1 3 4 3 4\ninsert 2 0 1 9 1\npop 0 0\npop 0 0\npop 0 0\n",
             "-\nok\nok\n2\n1\n-\n",
         ),
+        // A load takes the place of all that was there, and its blank lines are none of its lines.
+        (b"load 0\nsize\n", "ok\n0\n"),
+        (b"insert 7 0 0 2 2\nload 0\nin 0 0 9 9\n", "ok\nok\n-\n"),
+        (
+            b"insert 7 0 0 2 2\nload 3\n9 0 0 1 1\n\n10 1 1 0 0\r\n  \n2   2 2 3 3\n\nin 0 0 9 9\nsize\nin 0 0 1 1\n",
+            "ok\nok\n2 9 10\n3\n9 10\n",
+        ),
+        (
+            b"load 1\n5 0 0 1 1\ninsert 4 0 0 1 1\nload 2\n7 0 0 1 1\n7 0 0 1 1\nremove 7 1 1 0 0\nhit 1 1 1 1\nremove 5 0 0 1 1\n",
+            "ok\nok\nok\n7\n7\n-\n",
+        ),
+        (
+            b"load 7\n7 0 0 0 0\n6 1 0 1 0\n5 2 0 2 0\n4 100 0 100 0\n3 101 0 101 0\n2 102 0 102 0\n1 103 0 103 0\nhit 0 0 200 0\nnear 0 0 4\ndrain in 0 0 2 2 9\nsize",
+            "ok\n1 2 3 4 5 6 7\n0 1 4 10000\n5 6 7\n4\n",
+        ),
     ];
     for (input, want) in rows {
         expect_run(&rt, input, want, 0);
@@ -217,7 +232,7 @@ fn answers_over_three_levels(rt: HostRuntime) -> Result<(), Fail> {
 
 #[test]
 fn stops_at_a_bad_line(rt: HostRuntime) {
-    let rows: [&[u8]; 66] = [
+    let rows: [&[u8]; 72] = [
         b"insert 7 0 0 2\n",
         b"insert 7 0 0 2 2 2\n",
         b"insert 7 0 0 2 2 2 2 2 2 2\n",
@@ -284,8 +299,14 @@ fn stops_at_a_bad_line(rt: HostRuntime) {
         b"size \xff\n",
         b"\xff\n",
         b"siz\xc3\xa9\n",
-        // A line that other programs of this kind know.
-        b"load 0\n",
+        b"load\n",
+        b"load x\n",
+        b"load -1\n",
+        b"load 18446744073709551616\n",
+        b"load 1 1\n",
+        b"loads 1\n",
+        // A line of a load alone.
+        b"1 0 0 1 1\n",
     ];
     for bad in rows {
         expect_run(&rt, bad, "error: line 1\n", 2);
@@ -295,6 +316,20 @@ fn stops_at_a_bad_line(rt: HostRuntime) {
         (b"size\nin 1 2 3", "0\nerror: line 2\n"),
         // Blank lines are counted, and no line after a bad one runs.
         (b"\n\r\n \nsize\n\nbad\nsize\n", "0\nerror: line 6\n"),
+        // A bad line inside a load has its own number, and the end of the input the next one.
+        (b"load 2\n1 0 0 1 1\nsize\n2 0 0 1 1\n", "error: line 3\n"),
+        (
+            b"size\nload 2\n1 0 0 1 1\n\n2 0 0 1\nsize\n",
+            "0\nerror: line 5\n",
+        ),
+        (b"load 1\n1 0 0 1 1 1\n", "error: line 2\n"),
+        (b"load 1\ninsert 1 0 0 1 1\n", "error: line 2\n"),
+        (b"load 1\n1 0 0 1 1 1 1 1 1\n", "error: line 2\n"),
+        (b"load 1\n-1 0 0 1 1\n", "error: line 2\n"),
+        (b"load 2\n1 0 0 1 1", "error: line 3\n"),
+        (b"load 2\n1 0 0 1 1\n\n \n", "error: line 5\n"),
+        (b"load 1", "error: line 2\n"),
+        (b"load 18446744073709551615\n1 0 0 1 1\n", "error: line 3\n"),
     ] {
         expect_run(&rt, input, want, 2);
     }

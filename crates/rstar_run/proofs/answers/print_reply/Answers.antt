@@ -1,20 +1,17 @@
-use Rattle.std.proofs.Common.{[], refl, ap}
-use Rattle.std.specs.Prelude.{codes}
-use Rattle.std.proofs.lemmas.Result.{on_ok_weaker}
-use Rattle.rstar_run.specs.Texts.{text_of}
-use Rattle.rstar_run.proofs.Prints.{at_first, more, last, some_more}
+use Rattle.std.proofs.Common.{rules, ◌++◌, map, refl, sym, subst, codes}
+use Rattle.std.proofs.lemmas.List.Sorted.{IsNonDecreasingBy-from_sort_by_key, IsPermutation-map}
+use Rattle.rstar_run.specs.Texts.{list_text, AreIds, Spells}
+use Rattle.rstar_run.proofs.Ids.{ascending}
+use Rattle.rstar_run.proofs.Prints.{printed_some}
 use Rattle.rstar_run.proofs.answers.print_reply.Goals as goal
 
-pub returns-in_err-put_number-in-Size-clause-front : goal.returns-in_err-put_number-in-Size-clause-front
-returns-in_err-put_number-in-Size-clause-front g c =
-    some_more _ (codes "\n") (at_first _ _ _) (ap text_of c.in-Size.is) c.put_number.ensures.front
-
-pub returns-in_ok-put_number-in-Size-clause-all : goal.returns-in_ok-put_number-in-Size-clause-all
-returns-in_ok-put_number-in-Size-clause-all g c =
-    let spelled = more (codes "\n") (at_first _ _ _) (ap text_of c.in-Size.is) c.in_ok-put_number-in-Size.ensures.all in
-    on_ok_weaker c.put-in-Size.result (λ p. last spelled refl p) c.put-in-Size.ensures.all
-
-pub returns-in_ok-put_number-in-Size-clause-front : goal.returns-in_ok-put_number-in-Size-clause-front
-returns-in_ok-put_number-in-Size-clause-front g c =
-    let spelled = more (codes "\n") (at_first _ _ _) (ap text_of c.in-Size.is) c.in_ok-put_number-in-Size.ensures.all in
-    some_more (codes "\n") [] spelled refl c.put-in-Size.ensures.front
+pub returns-in-Elements : goal.returns-in-Elements
+returns-in-Elements g c =
+    let sorted = c.sort_unstable_by_key.new.self.items in
+    let up = ascending (λ item. item.1) sorted (IsNonDecreasingBy-from_sort_by_key (λ item. item.1) sorted c.sort_unstable_by_key.ensures.sorted (λ a r q k. search rules)) in
+    let those = IsPermutation-map (λ item. item.1) c.in-Elements.items.items sorted c.sort_unstable_by_key.ensures.permutation in
+    let ids = map (λ item. item.1) c.as_slice.result.now in
+    let are = subst (λ items. AreIds c.in-Elements.items.items (map (λ item. item.1) items)) (sym c.as_slice.ensures.value) (record { just_those = those; ascending = up }) in
+    let text = list_text ids ++ codes "\n" in
+    printed_some _ _ _ _ (Spells c.args.reply) text (subst (λ reply. Spells reply text) (sym c.in-Elements.is) (ids, are, refl))
+    c.print_list-in-Elements.result c.print_list-in-Elements.ensures.all c.print_list-in-Elements.ensures.front c.print_list-in-Elements.ensures.stop

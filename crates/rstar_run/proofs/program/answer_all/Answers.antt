@@ -20,9 +20,9 @@ pub returns-in_err-answer_next : goal.returns-in_err-answer_next
 returns-in_err-answer_next g c =
     let stopped = c.in_err-answer_next.field-0.0 in
     ended_at _ _ _ _ _ stopped (
-    reached_stop (g.R.Read.remaining c.args.input) (bytes_left g.R.Read.remaining c.loop.lines) (bytes_left g.R.Read.remaining c.answer_next.new.lines) c.loop.lines.number c.loop.store c.answer_next.new.store
+    reached_stop (g.R.Read.remaining c.args.input) (bytes_left g.R.Read.remaining c.loop.lines) (bytes_left g.R.Read.remaining c.answer_next.new.lines) c.loop.lines.number c.answer_next.new.lines.number c.loop.store c.answer_next.new.store
     (g.W.Write.contents c.args.output.now) (g.W.Write.contents c.loop.output) (g.W.Write.contents c.answer_next.new.output) c.args.printer.now.held.items c.loop.printer.held.items c.answer_next.new.printer.held.items c.loop.invariant
-    stopped c.in_err-answer_next.ensures.turn)
+    stopped c.in_err-answer_next.ensures)
     stopped refl c.from_residual-in_err-answer_next.result c.from_residual-in_err-answer_next.ensures.1
 
 pub returns-then-not-branch : goal.returns-then-not-branch
@@ -33,8 +33,8 @@ returns-then-not-branch g c =
     let new' = g.W.Write.contents c.answer_next.new.output in
     let mid = c.loop.printer.held.items in
     let held' = c.answer_next.new.printer.held.items in
-    reached_end (g.R.Read.remaining c.args.input) left left' c.loop.lines.number c.loop.store c.answer_next.new.store (g.W.Write.contents c.args.output.now) new new' c.args.printer.now.held.items mid held' c.loop.invariant
-    (subst (λ (b : Bool). Turn left left' c.loop.lines.number c.loop.store c.answer_next.new.store new new' mid held' (Ok b)) c.if-not-branch.true c.in_ok-answer_next.ensures.turn)
+    reached_end (g.R.Read.remaining c.args.input) left left' c.loop.lines.number c.answer_next.new.lines.number c.loop.store c.answer_next.new.store (g.W.Write.contents c.args.output.now) new new' c.args.printer.now.held.items mid held' c.loop.invariant
+    (subst (λ (b : Bool). Turn left left' c.loop.lines.number c.answer_next.new.lines.number c.loop.store c.answer_next.new.store new new' mid held' (Ok b)) c.if-not-branch.true c.in_ok-answer_next.ensures)
 
 pub loop-preserved : goal.loop-preserved
 loop-preserved g c =
@@ -44,14 +44,13 @@ loop-preserved g c =
     let new' = g.W.Write.contents c.answer_next.new.output in
     let mid = c.loop.printer.held.items in
     let held' = c.answer_next.new.printer.held.items in
-    reached_more (g.R.Read.remaining c.args.input) left left' c.loop.lines.number c.loop.store c.answer_next.new.store (g.W.Write.contents c.args.output.now) new new' c.args.printer.now.held.items mid held' c.loop.invariant
-    c.answer_next.new.lines.number (c.answer_next.ensures.number (c.in_ok-answer_next.was ∙ ap Ok c.if-not-branch.false))
-    (subst (λ (b : Bool). Turn left left' c.loop.lines.number c.loop.store c.answer_next.new.store new new' mid held' (Ok b)) c.if-not-branch.false c.in_ok-answer_next.ensures.turn)
+    reached_more (g.R.Read.remaining c.args.input) left left' c.loop.lines.number c.answer_next.new.lines.number c.loop.store c.answer_next.new.store (g.W.Write.contents c.args.output.now) new new' c.args.printer.now.held.items mid held' c.loop.invariant
+    (subst (λ (b : Bool). Turn left left' c.loop.lines.number c.answer_next.new.lines.number c.loop.store c.answer_next.new.store new new' mid held' (Ok b)) c.if-not-branch.false c.in_ok-answer_next.ensures)
 
 pub returns : goal.returns
 returns g c =
     let left = bytes_left g.R.Read.remaining c.loop.lines in
     let new = g.W.Write.contents c.loop.output in
     let mid = c.loop.printer.held.items in
-    reached_stop (g.R.Read.remaining c.args.input) left left c.loop.lines.number c.loop.store c.loop.store (g.W.Write.contents c.args.output.now) new new c.args.printer.now.held.items mid mid c.loop.invariant
+    reached_stop (g.R.Read.remaining c.args.input) left left c.loop.lines.number c.loop.lines.number c.loop.store c.loop.store (g.W.Write.contents c.args.output.now) new new c.args.printer.now.held.items mid mid c.loop.invariant
     stop.Input (nothing new mid)

@@ -1,0 +1,69 @@
+-- Rectangles with IDs, as the tree holds them, and what a scan asks of them.
+use Rattle.std.specs.Prelude.{◌≡◌, ◌^◌, ◌-◌, ◌&&◌, ◌==◌, ℕ, ℤ, Bool, List, pos, negsuc, slice_index_or}
+use Rattle.std.specs.Int.{int_min, int_max}
+use Rattle.std.specs.Ordering.{int_eq}
+use Rattle.std.specs.Cmp.Lexicographic.{pointwise}
+use Rattle.std.specs.declared.num.ParseIntError.{ParseIntError}
+use Rattle.rstar_base.specs.declared.primitives.Rectangle.{Rectangle}
+use Rattle.rstar_base.specs.BoxData.{box_data}
+use Rattle.rstar.specs.Boxes.{between_corners}
+use Rattle.rstar.specs.Elements.{Objects, Distances, carried_objects, carried_distances}
+use Rattle.rstar.specs.Rectangles.{rectangle_objects, rectangle_distances}
+use Rattle.rstar.specs.Steps as steps
+use Rattle.rstar.specs.declared.replay.Command as commands
+use Rattle.rstar.specs.declared.replay.Reply as replies
+use Rattle.rstar_run.specs.declared.command.Corners.{Corners}
+
+-- a rectangle and its ID
+abbrev pub Item : Type 0
+Item = Rectangle (List ℤ) × ℕ
+
+-- the intervals of a box, and the coordinates of a point
+abbrev pub Box : Type 0
+Box = List (ℤ × ℤ)
+
+abbrev pub Place : Type 0
+Place = List ℤ
+
+-- commands and replies over such items; ParseIntError is the error of the coordinates' type
+abbrev pub Command : Type 0
+Command = commands.Command Item Box Place ℤ ParseIntError
+
+abbrev pub Reply : Type 0
+Reply = replies.Reply Item Box Place ℤ ParseIntError
+
+-- the least and the greatest coordinate
+abbrev pub low : ℤ
+low = negsuc (2 ^ 63 - 1)
+
+abbrev pub high : ℤ
+high = pos (2 ^ 63 - 1)
+
+abbrev pub coordinate : Place → ℕ → ℤ
+coordinate p axis = slice_index_or p axis (pos 0)
+
+-- an item is where its rectangle is
+abbrev pub item_objects : Objects Item Box
+item_objects =
+    carried_objects (rectangle_objects low high 2 (λ r. coordinate r.lower) (λ r. coordinate r.upper)) (λ item. item.0)
+
+abbrev pub item_distances : Distances Item
+item_distances =
+    carried_distances (rectangle_distances low high 2 (λ r. coordinate r.lower) (λ r. coordinate r.upper)) (λ item. item.0)
+
+-- equal items have equal corners and the same ID
+abbrev pub same_item : Item → Item → Bool
+same_item a b =
+    (pointwise int_eq a.0.lower b.0.lower && pointwise int_eq a.0.upper b.0.upper) && a.1 == b.1
+
+abbrev pub questions : steps.Questions Item Box Place ℤ
+questions = steps.questions_of (box_data low high 2) item_objects item_distances 2 coordinate (λ n. n) same_item
+
+-- the box of two opposite corners: on each axis from the lesser coordinate to the greater
+abbrev pub box_between : Corners → Box
+box_between c = between_corners 2 (λ axis. int_min (coordinate c.one axis) (coordinate c.other axis))
+    (λ axis. int_max (coordinate c.one axis) (coordinate c.other axis))
+
+-- the item is the rectangle between these corners, with this ID
+abbrev pub IsRectangle : ℕ → Corners → Item → Type 0
+IsRectangle id corners item = (item_objects.box_of item ≡ box_between corners) × (item.1 ≡ id)
