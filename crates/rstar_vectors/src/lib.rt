@@ -38,6 +38,8 @@ mod reinsertion;
 #[cfg(test)]
 mod removal;
 #[cfg(test)]
+mod replays;
+#[cfg(test)]
 mod selections;
 #[cfg(test)]
 mod slabs;

@@ -195,7 +195,7 @@ fn held<T: RTreeObject + Clone>(
 // ---- loads
 
 /// Whether no element has an empty envelope, as loads ask.
-fn none_empty<T: RTreeObject>(elements: &[T]) -> bool
+pub(crate) fn none_empty<T: RTreeObject>(elements: &[T]) -> bool
     ensures { IsTrue result → NoneEmpty T.Envelope.boxes T.object elements.now }
 {
     for element in elements {
