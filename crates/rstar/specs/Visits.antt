@@ -38,9 +38,10 @@ Visits {V} {A} {T} {B} now step v (t ∷ ts) r w =
     ⊎ ((x : A) × (u : V) × (now x ≡ t) × step v x (Continue tt) u × Visits now step u ts r w)
 
 -- the same, whatever state the last call left
-abbrev pub IsVisit : {V A T B : Type 0} → (A → T) → (V → A → ControlFlow B (Unit {0}) → V → Type 0)
-    → V → List T → ControlFlow B (Unit {0}) → Type 0
-IsVisit {V} now step first xs r = (last : V) × Visits now step first xs r last
+pub record IsVisit {V A T B : Type 0} (now : A → T) (step : V → A → ControlFlow B (Unit {0}) → V → Type 0)
+    (first : V) (xs : List T) (r : ControlFlow B (Unit {0})) : Type 0 where
+  pub last : V
+  pub visits : Visits now step first xs r last
 
 -- a visit of some of the items, and of all of them where a condition holds
 pub record IsVisitWithin {V A T B : Type 0} (now : A → T) (step : V → A → ControlFlow B (Unit {0}) → V → Type 0)

@@ -34,6 +34,8 @@ mod places;
 #[cfg(test)]
 mod points;
 #[cfg(test)]
+mod readings;
+#[cfg(test)]
 mod reinsertion;
 #[cfg(test)]
 mod removal;

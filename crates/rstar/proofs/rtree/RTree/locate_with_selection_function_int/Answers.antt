@@ -15,5 +15,5 @@ returns g c =
       visited = given_of accepts selects root;
       part = part-root v o accepts selects root c.requires.whole.root_whole;
       complete = λ lawful. all-root g.met.T.Envelope.Envelope.envelope_laws g.met.T.RTreeObject.object_law accepts selects lawful root c.requires.whole.root_whole;
-      visit = (c.select_nodes.new.visitor, c.select_nodes.ensures);
+      visit = record { last = c.select_nodes.new.visitor; visits = c.select_nodes.ensures };
     }
