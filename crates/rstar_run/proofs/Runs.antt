@@ -1,14 +1,13 @@
 -- Runs, turn by turn.
-use Rattle.std.proofs.Common.{◌≡◌, ◌∙◌, ◌⊎◌, inl, inr, ℕ, ◌+◌, Bool, true, false, List, [], ◌∷◌, ◌++◌, length, length-append, Option, IfSome, Result, Ok, Err, refl, sym, ap, subst, append_assoc, append-nil, arith}
+use Rattle.std.proofs.Common.{◌≡◌, ◌∙◌, inl, inr, ℕ, ◌+◌, Bool, true, false, List, [], ◌∷◌, ◌++◌, length, length-append, Option, IfSome, Result, Ok, Err, refl, sym, ap, subst, append_assoc, append-nil, arith}
 use Rattle.std.specs.Io.KnownBytes.{Appends, Keeps}
 use Rattle.std.proofs.KnownBytes.{Appends-trans}
 use Rattle.std.specs.Result.{IsErrAnd}
 use Rattle.rstar_run.specs.Prints.{AppendsFront, Prints, Printed, PrintsSome}
 use Rattle.rstar_run.specs.Items.{Item}
-use Rattle.rstar_run.specs.Grammar.{line_of}
 use Rattle.rstar_run.specs.Lines.{lines_of, TakesLine, TakesLines}
 use Rattle.rstar_run.specs.declared.command.Line.{Line}
-use Rattle.rstar_run.specs.Runs.{meaning, BreaksAt, Tells, Says, SaysAll, StartsBad, lines_in, Run, Ran, IsNoLine, LoadBreaks, ReadsLoad, TakesTurn, TurnBreaks, Turn}
+use Rattle.rstar_run.specs.Runs.{meaning, BreaksAt, Says, SaysAll, lines_in, Run, Ran, IsNoLine, LoadBreaks, ReadsLoad, TakesTurn, TurnBreaks, Turn}
 use Rattle.rstar_run.specs.declared.command.Line.TheVariants as line
 use Rattle.rstar_run.specs.Statuses.{status_of}
 use Rattle.rstar_run.specs.Texts.{end_text}

@@ -10,7 +10,7 @@ use Rattle.rstar_run.specs.Items.{Item, Command, Reply, questions, IsRectangle}
 use Rattle.rstar_run.specs.Requests.{Asks}
 use Rattle.rstar_run.specs.Statuses.{status_of}
 use Rattle.rstar_run.specs.Texts.{Spells, end_text}
-use Rattle.rstar_run.specs.Lines.{lines_of, TakesLine, TakesLines}
+use Rattle.rstar_run.specs.Lines.{lines_of, TakesLines}
 use Rattle.rstar_run.specs.Prints.{AppendsFront, Prints}
 use Rattle.rstar_run.specs.declared.command.Entry.{Entry}
 use Rattle.rstar_run.specs.declared.command.Entry.TheVariants as entry

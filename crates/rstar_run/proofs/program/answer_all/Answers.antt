@@ -1,4 +1,4 @@
-use Rattle.std.proofs.Common.{◌∙◌, Bool, refl, ap, subst, Ok}
+use Rattle.std.proofs.Common.{Bool, refl, subst, Ok}
 use Rattle.rstar_run.specs.Lines.{bytes_left}
 use Rattle.rstar_run.specs.Runs.{Turn}
 use Rattle.rstar_run.specs.declared.program.Stop.TheVariants as stop

@@ -4,7 +4,6 @@ use Rattle.std.specs.Prelude.{All}
 use Rattle.std.specs.Global.{Vec}
 use Rattle.rstar_run.specs.Grammar.{entry_of}
 use Rattle.rstar_run.specs.Items.{Item, questions}
-use Rattle.rstar_run.specs.Lines.{bytes_left}
 use Rattle.rstar_run.specs.Runs.{IsEntry}
 use Rattle.rstar_run.specs.Words.{words_of}
 use Rattle.rstar_run.specs.declared.program.Stop.TheVariants as stop
