@@ -7,7 +7,7 @@ ghost use Rattle.rstar.specs.Trees.{elements_in, IsWholeTree};
 ghost use Rattle.rstar.specs.Visits.{IsFirst};
 
 use crate::payloads::Plot;
-use rstar::algorithm::selection_functions::SelectEqualsFunction;
+use rstar::algorithm::selection_functions::SelectAtPointFunction;
 use rstar::point::Point;
 use rstar::{AABB, DefaultParams, Envelope, PointDistance, RTree, RTreeObject, RTreeParams};
 use std::ops::ControlFlow;
@@ -71,6 +71,36 @@ fn plots_come_upon(
     )
 }
 
+/// The first point that a selection function selects: by `locate_with_selection_function_int`.
+fn point_selected(tree: &RTree<At>, point: At) -> Option<&At>
+    requires { IsWholeTree ⟦<AABB<[i64; 2]> as Envelope>⟧.boxes ⟦<[i64; 2] as RTreeObject>⟧.object
+        ⟦<DefaultParams as RTreeParams>⟧.MAX_SIZE tree.now }
+    ensures { IsFirst (filter (λ t. ⟦<[i64; 2] as PointDistance>⟧.distances.contains_point t
+        (table 2 (⟦<[i64; 2] as Point>⟧.coord point))) (elements_in tree.now)) result }
+{
+    let func = SelectAtPointFunction::new(point);
+    let found = tree.locate_with_selection_function_int(
+        func,
+        |found: &At| ControlFlow::Break(found),
+    );
+    found.break_value()
+}
+
+/// The same of plots.
+fn plot_selected(tree: &RTree<Plot>, point: At) -> Option<&Plot>
+    requires { IsWholeTree ⟦<AABB<[i64; 2]> as Envelope>⟧.boxes ⟦<Plot as RTreeObject>⟧.object
+        ⟦<DefaultParams as RTreeParams>⟧.MAX_SIZE tree.now }
+    ensures { IsFirst (filter (λ t. ⟦<Plot as PointDistance>⟧.distances.contains_point t
+        (table 2 (⟦<[i64; 2] as Point>⟧.coord point))) (elements_in tree.now)) result }
+{
+    let func = SelectAtPointFunction::new(point);
+    let found = tree.locate_with_selection_function_int(
+        func,
+        |found: &Plot| ControlFlow::Break(found),
+    );
+    found.break_value()
+}
+
 #[cfg(test)]
 mod tests {
     use super::*;
@@ -97,6 +127,8 @@ mod tests {
             let found = plots_come_upon(&plots, area, other);
             assert_eq!(rt; (found.0.is_some(), found.1.is_some()), (plot, touched));
             assert_eq!(rt; found.2.is_some(), other[0] <= 2);
+            assert_eq!(rt; point_selected(&points, one).is_some(), one == [1, 1]);
+            assert_eq!(rt; plot_selected(&plots, other).is_some(), other[0] <= 2);
         }
         Ok(())
     }
