@@ -26,6 +26,10 @@ Spells (reply.Elements items) text = (ids : List ℕ) × AreIds items.items ids 
 Spells (reply.Neighbours found) text = text ≡ list_text (map (λ n. unsigned_abs n.1) found.items) ++ codes "\n"
 Spells _ _ = ⊥
 
+-- no text spells the reply: it says that memory was refused or that the tree is full, or no line asks for it
+abbrev pub HasNoText : Reply → Type 0
+HasNoText reply = (text : List ℕ) → Spells reply text → ⊥
+
 -- what is said where a run stops; nothing after a failed write
 abbrev pub stop_text : Stop → List ℕ
 stop_text (Line n) = codes "error: line " ++ decimal n ++ codes "\n"

@@ -1,8 +1,8 @@
 //! Replies, as text.
 
-ghost use Rattle.std.specs.Prelude.{◌≡◌, ◌++◌, ℕ, codes, decimal, map, unsigned_abs, IfErr, OnOk};
+ghost use Rattle.std.specs.Prelude.{◌≡◌, ◌++◌, ℕ, codes, decimal, map, unsigned_abs, Err, IfErr, OnOk};
 ghost use Rattle.rstar_run.specs.Prints.{AppendsFront, Prints, PrintsSome};
-ghost use Rattle.rstar_run.specs.Texts.{list_text, Spells};
+ghost use Rattle.rstar_run.specs.Texts.{list_text, HasNoText, Spells};
 
 use super::print::Printer;
 use super::program::Stop;
@@ -45,8 +45,9 @@ pub fn print_reply<W: Write>(
     output: &mut W,
     reply: Reply<Item>,
 ) -> Result<(), Stop>
-    ensures { PrintsSome (Spells reply) (W.contents output.old) (W.contents output.new)
+    ensures printed { PrintsSome (Spells reply) (W.contents output.old) (W.contents output.new)
         printer.old.held.items printer.new.held.items result }
+    ensures silent { result ≡ Err Stop.Memory → HasNoText reply }
 {
     match reply {
         Reply::Done => printer.put(output, b"ok\n"),

@@ -8,7 +8,7 @@ ghost use Rattle.rstar_run.specs.Lines.{bytes_left, TakesLine};
 ghost use Rattle.rstar_run.specs.Prints.{AppendsFront, Prints, Printed, PrintsSome};
 ghost use Rattle.rstar_run.specs.Runs.{IsNoLine, ReadsLoad, Turn, Run, Ran};
 ghost use Rattle.rstar_run.specs.Statuses.{status_of};
-ghost use Rattle.rstar_run.specs.Texts.{Spells, end_text, stop_text};
+ghost use Rattle.rstar_run.specs.Texts.{HasNoText, Spells, end_text, stop_text};
 ghost use Rattle.rstar_run.specs.declared.program.Stop.TheVariants.{Memory};
 
 use super::answers::{print_number, print_reply};
@@ -126,9 +126,11 @@ fn run_command<W: Write>(
     output: &mut W,
 ) -> Result<(), Stop>
     requires { IsFit questions 2 command }
-    ensures { PrintsSome (λ text. (reply : Reply) × Step questions store.old command reply store.new
+    ensures printed { PrintsSome (λ text. (reply : Reply) × Step questions store.old command reply store.new
         × Spells reply text) (W.contents output.old) (W.contents output.new) printer.old.held.items
         printer.new.held.items result }
+    ensures silent { result ≡ Err Stop.Memory → (reply : Reply) × Step questions store.old command reply store.new
+        × HasNoText reply }
 {
     let reply = store.step(command);
     print_reply(printer, output, reply)

@@ -5,8 +5,8 @@ use Rattle.rstar_run.proofs.Ids.{ascending}
 use Rattle.rstar_run.proofs.Prints.{printed_some}
 use Rattle.rstar_run.proofs.answers.print_reply.Goals as goal
 
-pub returns-in-Elements : goal.returns-in-Elements
-returns-in-Elements g c =
+pub returns-in-Elements-clause-printed : goal.returns-in-Elements-clause-printed
+returns-in-Elements-clause-printed g c =
     let sorted = c.sort_unstable_by_key.new.self.items in
     let up = ascending (λ item. item.1) sorted (IsNonDecreasingBy-from_sort_by_key (λ item. item.1) sorted c.sort_unstable_by_key.ensures.sorted (λ a r q k. search rules)) in
     let those = IsPermutation-map (λ item. item.1) c.in-Elements.items.items sorted c.sort_unstable_by_key.ensures.permutation in

@@ -64,7 +64,7 @@ returns-in_err-run_command-in-Request g c =
     said_some (bytes_left g.R.Read.remaining c.args.lines.now) (bytes_left g.R.Read.remaining c.next_line.new.lines) c.args.lines.now.number c.next_line.new.lines.number c.args.store.now c.run_command-in-Request.new.store
     (g.W.Write.contents c.args.output.now) _ (g.W.Write.contents c.run_command-in-Request.new.output) c.args.printer.now.held.items _ c.run_command-in-Request.new.printer.held.items (bytes ∷ []) (λ text. (reply : Reply) × Step questions c.args.store.now c.command_of.result reply c.run_command-in-Request.new.store × Spells reply text) (_, took, refl) c.in_ok-next_line.ensures.number
     (λ text k. subst (λ l. Tells c.args.store.now l [] text c.run_command-in-Request.new.store) (sym means) (refl, (c.command_of.result, c.command_of.ensures.asked, k))) c.in_ok-next_line.ensures.shown
-    c.in_err-run_command-in-Request.field-0.0 c.in_err-run_command-in-Request.ensures c.from_residual-in_err-run_command-in-Request.result c.from_residual-in_err-run_command-in-Request.ensures.1
+    c.in_err-run_command-in-Request.field-0.0 c.in_err-run_command-in-Request.ensures.printed c.from_residual-in_err-run_command-in-Request.result c.from_residual-in_err-run_command-in-Request.ensures.1
 
 pub returns-in_err-run_command-in-Load : goal.returns-in_err-run_command-in-Load
 returns-in_err-run_command-in-Load g c =
@@ -77,7 +77,7 @@ returns-in_err-run_command-in-Load g c =
     (g.W.Write.contents c.args.output.now) _ (g.W.Write.contents c.run_command.new.output) c.args.printer.now.held.items _ c.run_command.new.printer.held.items (bytes ∷ load.0.lines) (λ text. (reply : Reply) × Step questions c.args.store.now (command.Load list) reply c.run_command.new.store × Spells reply text) (_, took, load.0.taken)
     (omega (arith, c.in_ok-next_line.ensures.number, load.0.count))
     (λ text k. subst (λ l. Tells c.args.store.now l load.0.lines text c.run_command.new.store) (sym means) (command.Load list, (list, refl, load.0.lists, load.1), k)) (prints_both c.in_ok-next_line.ensures.shown c.in_ok-list-in-Load.ensures.shown)
-    c.in_err-run_command-in-Load.field-0.0 c.in_err-run_command-in-Load.ensures c.from_residual-in_err-run_command-in-Load.result c.from_residual-in_err-run_command-in-Load.ensures.1
+    c.in_err-run_command-in-Load.field-0.0 c.in_err-run_command-in-Load.ensures.printed c.from_residual-in_err-run_command-in-Load.result c.from_residual-in_err-run_command-in-Load.ensures.1
 
 pub returns-in_ok-run_command-in-Request : goal.returns-in_ok-run_command-in-Request
 returns-in_ok-run_command-in-Request g c =
@@ -87,7 +87,7 @@ returns-in_ok-run_command-in-Request g c =
     said_all (bytes_left g.R.Read.remaining c.args.lines.now) (bytes_left g.R.Read.remaining c.next_line.new.lines) c.args.lines.now.number c.next_line.new.lines.number c.args.store.now c.run_command-in-Request.new.store
     (g.W.Write.contents c.args.output.now) _ (g.W.Write.contents c.run_command-in-Request.new.output) c.args.printer.now.held.items _ c.run_command-in-Request.new.printer.held.items (bytes ∷ []) (λ text. (reply : Reply) × Step questions c.args.store.now c.command_of.result reply c.run_command-in-Request.new.store × Spells reply text) (_, took, refl) c.in_ok-next_line.ensures.number
     (λ text k. subst (λ l. Tells c.args.store.now l [] text c.run_command-in-Request.new.store) (sym means) (refl, (c.command_of.result, c.command_of.ensures.asked, k))) c.in_ok-next_line.ensures.shown
-    c.in_ok-run_command-in-Request.ensures
+    c.in_ok-run_command-in-Request.ensures.printed
 
 pub returns-in_ok-run_command-in-Load : goal.returns-in_ok-run_command-in-Load
 returns-in_ok-run_command-in-Load g c =
@@ -100,7 +100,7 @@ returns-in_ok-run_command-in-Load g c =
     (g.W.Write.contents c.args.output.now) _ (g.W.Write.contents c.run_command.new.output) c.args.printer.now.held.items _ c.run_command.new.printer.held.items (bytes ∷ load.0.lines) (λ text. (reply : Reply) × Step questions c.args.store.now (command.Load list) reply c.run_command.new.store × Spells reply text) (_, took, load.0.taken)
     (omega (arith, c.in_ok-next_line.ensures.number, load.0.count))
     (λ text k. subst (λ l. Tells c.args.store.now l load.0.lines text c.run_command.new.store) (sym means) (command.Load list, (list, refl, load.0.lists, load.1), k)) (prints_both c.in_ok-next_line.ensures.shown c.in_ok-list-in-Load.ensures.shown)
-    c.in_ok-run_command-in-Load.ensures
+    c.in_ok-run_command-in-Load.ensures.printed
 
 pub returns-in_err-list-in-Load : goal.returns-in_err-list-in-Load
 returns-in_err-list-in-Load g c =
