@@ -5,9 +5,9 @@ use Rattle.std.specs.Cmp.{IsTotalOrder, IsStrictWeakOrder}
 use Rattle.std.specs.Option.{option_cmp}
 use Rattle.std.specs.Ordering.{is_lt}
 use Rattle.std.specs.declared.cmp.Ordering.{Ordering}
-use Rattle.std.specs.List.{AllByRecursion, insert, swap_remove}
+use Rattle.std.specs.List.{AllByRecursion, insert, swap, swap_remove}
 use Rattle.std.specs.List.Sorted.{IsPermutation}
-use Rattle.std.specs.Prelude.{slice_get}
+use Rattle.std.specs.Prelude.{slice_get, slice_set}
 use Rattle.std.specs.BinaryHeap.{IsHeap, IsUpperBound, lt_by_cmp}
 use Rattle.std.specs.BinaryHeap.Sift.{SiftsUp, SiftsDown, RestoresHeap}
 use Rattle.std.specs.Slice.Heapsort.{IsHeapWithin}
@@ -23,6 +23,21 @@ pub all-insert : {X : Type 0} (P : X → Type 0) (xs : List X) (i : ℕ) (x : X)
 all-insert P xs zero x h p = (p, h)
 all-insert P [] (suc i) x h p = (p, tt)
 all-insert P (a ∷ xs) (suc i) x h p = (h.0, all-insert P xs i x h.1 p)
+
+-- an item put in at the end, or one place further down
+pub insert-end : {X : Type 0} (xs : List X) (x : X) → insert xs (length xs) x ≡ xs ++ x ∷ []
+insert-end [] x = refl
+insert-end (a ∷ xs) x = ap (λ l. a ∷ l) (insert-end xs x)
+
+exchanged : {X : Type 0} (xs : List X) (i : ℕ) (x d : X) → i < length xs
+    → slice_set (slice_set (insert xs (suc i) x) i (slice_index_or (insert xs (suc i) x) (suc i) d)) (suc i) (slice_index_or (insert xs (suc i) x) i d) ≡ insert xs i x
+exchanged [] i x d less = absurd (omega (arith, less))
+exchanged (a ∷ xs) zero x d less = refl
+exchanged (a ∷ xs) (suc i) x d less = ap (λ l. a ∷ l) (exchanged xs i x d (omega (arith, less)))
+
+pub swap-insert : {X : Type 0} (xs : List X) (i j : ℕ) (x : X) → suc i ≡ j → i < length xs → swap (insert xs j x) i j ≡ insert xs i x
+swap-insert [] i j x next less = absurd (omega (arith, less))
+swap-insert (a ∷ xs) i j x next less = subst (λ k. swap (insert (a ∷ xs) k x) i k ≡ insert (a ∷ xs) i x) next (exchanged (a ∷ xs) i x a less)
 
 all-first : {X : Type 0} (P : X → Type 0) (xs : List X) (x : X) → AllByRecursion P (xs ++ x ∷ []) → AllByRecursion P xs × P x
 all-first P [] x h = (tt, h.0)

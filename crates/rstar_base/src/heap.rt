@@ -68,7 +68,7 @@ impl<T: Ord + Drop> SmallHeap<T> {
             put_inline(&mut self.inline, item);
             return Ok(());
         }
-        match self.rest.reserve(1) {
+        match make_room(&mut self.rest) {
             Ok(()) => {
                 put_in_heap(&mut self.rest, item);
                 Ok(())
@@ -150,9 +150,21 @@ fn put_inline<T: Ord + Drop>(inline: &mut SmallVec<Option<T>, 32>, item: T)
 {
     let item = Some(item);
     let at = place_of(inline.as_slice(), &item);
-    let Ok(()) = inline.insert(at, item) else {
-        unreachable!();
-    };
+    inline.push_reserved(item);
+    // Most items move past few others, which costs less than a move of all of them at once.
+    move_last_to(inline.as_mut_slice(), at);
+}
+
+/// Moves the last item to a place, and those from there on one place up.
+fn move_last_to<X>(items: &mut [X], to: usize)
+    requires { to < length items.old }
+    ensures { (front : List X) (last : X) → items.old ≡ front ++ last ∷ [] → items.new ≡ insert front to last }
+{
+    let mut at = items.len() - 1;
+    while to < at {
+        items.swap(at - 1, at);
+        at -= 1;
+    }
 }
 
 /// Where an item goes into a list that rises: behind those that are not greater.
@@ -165,6 +177,17 @@ fn place_of<X: Ord>(items: &[X], item: &X) -> usize
         at -= 1;
     }
     at
+}
+
+/// Makes room for an item. Where there is none it is made for as many as lie inline, so that few items come to move.
+fn make_room<T>(rest: &mut Vec<T>) -> Result<(), AllocError>
+    ensures items { rest.new.items ≡ rest.old.items }
+    ensures room { OnOk result (vec_len rest.new < vec_capacity rest.new) }
+{
+    if rest.len() < rest.capacity() {
+        return Ok(());
+    }
+    rest.reserve(INLINE)
 }
 
 /// Adds an item for which there is room.

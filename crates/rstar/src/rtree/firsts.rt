@@ -16,7 +16,7 @@ use std::alloc::AllocError;
 
 impl<T: PointDistance + Clone, Params: RTreeParams> RTree<T, Params> {
     /// Clones of so many elements, the nearest to a point first, with their squared distances; of all where there are
-    /// fewer.
+    /// fewer. Its list takes memory once, and for no more than there are.
     #[tactic(auto, unfolding(crate::specs::Trees::IsWholeTree))]
     pub(crate) fn first_neighbors(
         &self,
@@ -29,6 +29,6 @@ impl<T: PointDistance + Clone, Params: RTreeParams> RTree<T, Params> {
             (table T.Envelope.Point.DIMENSIONS (T.Envelope.Point.coord point.now))) T.Envelope.Point.Scalar.value most
             (elements_in self.now) found.items) }
     {
-        first_nearest(&self.root, point, most)
+        first_nearest(&self.root, point, most, most.min(self.size))
     }
 }

@@ -14,10 +14,12 @@ use rstar_base::point::{Point, RTreeNum};
 use std::alloc::AllocError;
 
 /// Clones of so many elements, the nearest to a point first, with their squared distances; of all where there are fewer.
+/// The list has room for a number of them before the first is looked for.
 pub(crate) fn first_nearest<T: PointDistance + Clone>(
     root: &ParentNode<T>,
     point: &PointOf<T>,
     most: usize,
+    room: usize,
 ) -> Result<Vec<(T, Distance<T>)>, AllocError>
     requires whole { IsWhole T.Envelope.boxes T.object root.now }
     requires clones { ClonesEqual T.is_clone }
@@ -25,8 +27,8 @@ pub(crate) fn first_nearest<T: PointDistance + Clone>(
         (table T.Envelope.Point.DIMENSIONS (T.Envelope.Point.coord point.now))) T.Envelope.Point.Scalar.value most
         (elements_of root.now) found.items) }
 {
+    let mut found = Vec::with_capacity(*root.children.allocator(), room)?;
     let mut search = NeighborSearch::new(root);
-    let mut found = Vec::new(*root.children.allocator());
     for _turn in 0..most {
         let Some(next) = search.next_neighbor(point) else {
             return Ok(found);

@@ -17,14 +17,14 @@ pub returns-then-len-lt-INLINE-clause-ok : goal.returns-then-len-lt-INLINE-claus
 returns-then-len-lt-INLINE-clause-ok g c = subst (λ h. IsPermutation (c.args.item ∷ items_of h) (present c.put_inline.new.inline.items ++ c.self.inside.rest.items)) c.self.view_is (IsPermutation-append_left c.self.inside.rest.items (c.args.item ∷ present c.self.inside.inline.items) (present c.put_inline.new.inline.items) c.put_inline.ensures.bag)
 
 pub put_in_heap-requires-clause-heap : goal.put_in_heap-requires-clause-heap
-put_in_heap-requires-clause-heap g c = subst (IsHeap g.T.Ord.cmp) (sym c.reserve.ensures.items) (rest-of g.T.Ord.cmp _ (subst (IsOrdered g.T.Ord.cmp) (sym c.self.view_is) c.requires))
+put_in_heap-requires-clause-heap g c = subst (IsHeap g.T.Ord.cmp) (sym c.make_room.ensures.items) (rest-of g.T.Ord.cmp _ (subst (IsOrdered g.T.Ord.cmp) (sym c.self.view_is) c.requires))
 
 pub returns-in-Ok-clause-ordered : goal.returns-in-Ok-clause-ordered
 returns-in-Ok-clause-ordered g c = ordered-of g.T.Ord.cmp _ (inline-of g.T.Ord.cmp _ (subst (IsOrdered g.T.Ord.cmp) (sym c.self.view_is) c.requires)) c.put_in_heap.ensures.heap
 
 pub returns-in-Ok-clause-ok : goal.returns-in-Ok-clause-ok
 returns-in-Ok-clause-ok g c = subst (λ h. IsPermutation (c.args.item ∷ items_of h) (present c.self.inside.inline.items ++ c.put_in_heap.new.rest.items)) c.self.view_is
-    (bag-rest-more (present c.self.inside.inline.items) c.self.inside.rest.items c.put_in_heap.new.rest.items c.args.item (subst (λ l. IsPermutation (c.args.item ∷ l) c.put_in_heap.new.rest.items) c.reserve.ensures.items c.put_in_heap.ensures.bag))
+    (bag-rest-more (present c.self.inside.inline.items) c.self.inside.rest.items c.put_in_heap.new.rest.items c.args.item (subst (λ l. IsPermutation (c.args.item ∷ l) c.put_in_heap.new.rest.items) c.make_room.ensures.items c.put_in_heap.ensures.bag))
 
 pub returns-in-Err-clause-inline : goal.returns-in-Err-clause-inline
 returns-in-Err-clause-inline g c = λ few.

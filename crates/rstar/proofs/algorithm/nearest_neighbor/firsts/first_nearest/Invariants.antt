@@ -1,4 +1,4 @@
-use Rattle.std.proofs.Common.{◌≡◌, vec_len}
+use Rattle.std.proofs.Common.{◌≡◌, length}
 use Rattle.rstar_base.specs.Points.{table}
 use Rattle.rstar.specs.Nodes.{all_elements, elements_of}
 use Rattle.rstar.specs.Searches.{waiting_of, IsReady, IsUnrefused}
@@ -11,5 +11,5 @@ invariant-loop-turn g l = record {
   ready : IsReady g.T.Envelope.Envelope.boxes g.T.PointDistance.distances (table g.T.Envelope.Point.Point.DIMENSIONS (g.T.Envelope.Point.Point.coord l.fn.point)) g.T.Envelope.Point.Scalar.Ord.cmp g.T.Envelope.Point.Scalar.Number.value g.T.RTreeObject.object l.search;
   unrefused : IsUnrefused l.search.stage;
   begun : IsBegun (λ t. g.T.PointDistance.distances.distance_2 t (table g.T.Envelope.Point.Point.DIMENSIONS (g.T.Envelope.Point.Point.coord l.fn.point))) g.T.Envelope.Point.Scalar.Number.value (elements_of l.fn.root) l.found.items (all_elements (waiting_of l.search));
-  count : vec_len l.found ≡ l._turn;
+  count : length l.found.items ≡ l._turn;
 }
