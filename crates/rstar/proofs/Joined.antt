@@ -1,5 +1,5 @@
 -- What the walk of a join gives of whole nodes, and what it opens: the join of their elements, reordered, and all that Meet counts.
-use Rattle.std.proofs.Common.{◌≡◌, ◌≢◌, ℕ, ℤ, zero, suc, ◌+◌, ◌*◌, ◌≤◌, min, List, [], ◌∷◌, ◌++◌, map, refl, ap, ◌∙◌, sym, subst, arith, Bool, true, false, append-nil, if◌then◌else◌, flat_map, sum_by, inl, inr, ◌⊎◌, max}
+use Rattle.std.proofs.Common.{◌≡◌, ◌≢◌, ℕ, ℤ, zero, suc, ◌+◌, ◌≤◌, min, List, [], ◌∷◌, ◌++◌, map, refl, ap, ◌∙◌, sym, subst, arith, Bool, true, false, append-nil, if◌then◌else◌, flat_map, sum_by, inl, inr, ◌⊎◌, max}
 use Rattle.std.specs.List.{AllByRecursion}
 use Rattle.std.specs.Prelude.{⊤}
 use Rattle.std.specs.Borrow.{Bor}
@@ -21,14 +21,15 @@ use Rattle.rstar.specs.Walks.{IsLevel}
 use Rattle.rstar.specs.Nodes.{elements, all_elements, elements_of, envelope_of, children_of, node_box, is_leaf_node, total, IsTree, IsElement, IsInner, AreWhole, IsWhole}
 use Rattle.rstar.specs.Meets.{product, opened_to, both_leaves, count_parents, meet, meet_of_roots, meet_of_shown, pairs_at, opens_at, all_pairs, all_opens, pairs_from_roots}
 use Rattle.rstar.specs.Shown.{parent, row_of, shown}
-use Rattle.rstar.specs.JoinWalks.{Frame, FitsIn, AreFrames, one_if_several, frames_of, pairs_from_frames, opens_from_frames, HasItsPaths}
+use Rattle.rstar.specs.JoinWalks.{marked, Frame, IsFrame, AreFrames, in_hand, frames_of, pairs_with, opens_with, pairs_from_frames, opens_from_frames, HasItsPaths}
 use Rattle.rstar.specs.Joins.{SeenLaws, meets_by, join}
 use Rattle.rstar.proofs.Rows.{is_leaf, is_parent, elements-Leaf, elements-Parent, node_box-Leaf, node_box-Parent, total-map}
 use Rattle.rstar.proofs.Heights.{levels_are}
 use Rattle.rstar.proofs.Walks.{tree-weaker}
 use Rattle.rstar.proofs.Trees.{sound, all_sound, values-of, box_is_hull, merged_is_hull}
 use Rattle.rstar.proofs.PairRows.{the_pair, sum_by-same, product-none, node-cases, leaf-found, opened, opened_to-Leaf, opened_to-Parent, sum_by-row, meet-Leaf, meet-Parent, meet-roots, count_parents-Leaf, count_parents-Parent, is_leaf-Leaf, pairs-leaves, opens-leaves}
-use Rattle.rstar.proofs.PairWalks.{one-frame, several}
+use Rattle.rstar.proofs.PairWalks.{one-frame, fresh-pairs, fresh-opens}
+use Rattle.rstar.proofs.Marked.{marked-zero}
 use Rattle.rstar.proofs.Meets.{IsJoined, all-joined, join-none, hull-meets-left, hull-meets-right}
 
 -- what comes after a node holds the same elements, and lies one level lower, but for a leaf
@@ -299,48 +300,71 @@ module _ {T E U F P S X Q R Y : Type 0} (meets : E → F → Bool) (left_box : T
   pub roots-refused : meets (envelope_of left) (envelope_of other) ≡ false → pairs_from_roots meets left_box right_box left other ≡ []
   roots-refused is = ap (λ (b : Bool). if b then all_pairs meets left_box right_box (children_of left) (children_of other) else []) is
 
+  pub roots-met : meets (envelope_of left) (envelope_of other) ≡ true → pairs_from_roots meets left_box right_box left other ≡ all_pairs meets left_box right_box (children_of left) (children_of other)
+  roots-met is = ap (λ (b : Bool). if b then all_pairs meets left_box right_box (children_of left) (children_of other) else []) is
+
 -- ---- the start of a walk
 
 module _ {T E P S X U F Q R Y : Type 0} (meets : E → F → Bool) (left_box : T → E) (right_box : U → F) (it : IntersectionIterator T U E P S X F Q R Y)
     (none : it.path.items ≡ []) where
-  alone : frames_of it ≡ (it.lefts, it.rights) ∷ []
-  alone = ap (λ l. l ++ (it.lefts, it.rights) ∷ []) none
+  alone : frames_of it ≡ in_hand it ∷ []
+  alone = ap (λ l. l ++ in_hand it ∷ []) none
 
-  pub starts : FitsIn it.path.capacity (it.lefts, it.rights)
+  pub starts : IsFrame meets left_box right_box it.path.capacity (in_hand it) → it.marks ≡ 0 → it.later.now ≡ it.rights.now
       → (count : ℕ) → it.opened ≡ min count usize_max → count + all_opens meets left_box right_box it.lefts.now it.rights.now ≡ meet_of_roots meets left_box right_box it.left.now it.right.now
       → HasItsPaths meets left_box right_box it
-  starts at count counted all = record {
-    frames = subst (AreFrames (it.path.capacity + 1)) (sym alone) (one-frame (it.path.capacity + 1) it.path.capacity (it.lefts, it.rights) refl at);
-    count = record { count = count; counted = counted; all = (let e = ap (opens_from_frames meets left_box right_box) alone in omega (arith, e, all)) };
+  starts at unmarked fresh count counted all = record {
+    frames = subst (AreFrames meets left_box right_box (it.path.capacity + 1)) (sym alone) (one-frame meets left_box right_box (it.path.capacity + 1) it.path.capacity (in_hand it) refl at);
+    count = record {
+      count = count;
+      counted = counted;
+      all =
+          let e = ap (opens_from_frames meets left_box right_box) alone in
+          let f : opens_with meets left_box right_box it.lefts.now (marked it.marks it.asked.now ++ it.later.now) it.rights.now ≡ all_opens meets left_box right_box it.lefts.now it.rights.now =
+          (λ i. opens_with meets left_box right_box it.lefts.now (marked (unmarked i) it.asked.now ++ fresh i) it.rights.now)
+          ∙ ap (λ x. opens_with meets left_box right_box it.lefts.now (x ++ it.rights.now) it.rights.now) (marked-zero it.asked.now) ∙ fresh-opens meets left_box right_box it.lefts.now it.rights.now in
+          omega (arith, e, f, all);
+    };
   }
 
--- a frame with no nodes on the left gives nothing
-pub starts-none : {T E P S X U F Q R Y : Type 0} (meets : E → F → Bool) (left_box : T → E) (right_box : U → F) (frames : List (Frame T E P S X U F Q R Y)) (ls : Bor (List (RTreeNode T E P S X))) (rs : Bor (List (RTreeNode U F Q R Y)))
-    → frames ≡ [] → ls.now ≡ [] → pairs_from_frames meets left_box right_box (frames ++ (ls, rs) ∷ []) ≡ []
-starts-none meets left_box right_box frames ls rs none empty =
-    ap (λ fs. pairs_from_frames meets left_box right_box (fs ++ (ls, rs) ∷ [])) none ∙ ap (λ l. all_pairs meets left_box right_box l rs.now) empty
+module _ {T E P S X U F Q R Y : Type 0} (meets : E → F → Bool) (left_box : T → E) (right_box : U → F) (ls : Bor (List (RTreeNode T E P S X))) (asked rs : Bor (List (RTreeNode U F Q R Y))) where
+  -- a frame with no nodes on the left gives nothing, and another one all pairs
+  pub starts-none : (frames : List (Frame T E P S X U F Q R Y)) → frames ≡ [] → ls.now ≡ [] → pairs_from_frames meets left_box right_box (frames ++ (ls, asked, 0, rs, rs) ∷ []) ≡ []
+  starts-none frames none empty =
+      ap (λ fs. pairs_from_frames meets left_box right_box (fs ++ (ls, asked, 0, rs, rs) ∷ [])) none ∙ ap (λ l. pairs_with meets left_box right_box l (marked 0 asked.now ++ rs.now) rs.now) empty
 
--- the first frame: slices with no nodes, and the nodes below two whole roots
-pub fits-none : {T E P S X U F Q R Y : Type 0} (ls : Bor (List (RTreeNode T E P S X))) (rs : Bor (List (RTreeNode U F Q R Y))) (room : ℕ) → ls.now ≡ [] → rs.now ≡ [] → FitsIn room (ls, rs)
-fits-none ls rs room none none' = record {
-  left_height = 0;
-  right_height = 0;
-  lefts = subst (AllByRecursion (IsLevel 0)) (sym none) tt;
-  rights = subst (AllByRecursion (IsLevel 0)) (sym none') tt;
-  fits = (let e = ap one_if_several none in omega (arith, e));
-}
+  pub starts-all : (frames : List (Frame T E P S X U F Q R Y)) → frames ≡ [] → pairs_from_frames meets left_box right_box (frames ++ (ls, asked, 0, rs, rs) ∷ []) ≡ all_pairs meets left_box right_box ls.now rs.now
+  starts-all frames none =
+      ap (λ fs. pairs_from_frames meets left_box right_box (fs ++ (ls, asked, 0, rs, rs) ∷ [])) none
+      ∙ ap (λ x. pairs_with meets left_box right_box ls.now (x ++ rs.now) rs.now) (marked-zero asked.now) ∙ fresh-pairs meets left_box right_box ls.now rs.now
 
-pub fits-whole : {T E P S X U F Q R Y : Type 0} (v : Boxes E) (w : Boxes F) (o : Objects T E) (o' : Objects U F) (ls : Bor (List (RTreeNode T E P S X))) (rs : Bor (List (RTreeNode U F Q R Y)))
+  -- the first frame: slices with no nodes, and the nodes below two whole roots
+  pub fits-none : (room : ℕ) → ls.now ≡ [] → rs.now ≡ [] → IsFrame meets left_box right_box room (ls, asked, 0, rs, rs)
+  fits-none room none none' = record {
+    left_height = 0;
+    right_height = 0;
+    lefts = subst (AllByRecursion (IsLevel 0)) (sym none) tt;
+    met = subst (AllByRecursion (IsLevel 0)) (sym (marked-zero asked.now)) tt;
+    later = subst (AllByRecursion (IsLevel 0)) (sym none') tt;
+    rights = subst (AllByRecursion (IsLevel 0)) (sym none') tt;
+    fits = omega arith;
+    meeting = λ l others e. subst (AllByRecursion (λ r. meets (node_box left_box l) (node_box right_box r) ≡ true)) (sym (marked-zero asked.now)) tt;
+  }
+
+pub fits-whole : {T E P S X U F Q R Y : Type 0} (v : Boxes E) (w : Boxes F) (o : Objects T E) (o' : Objects U F) (meets : E → F → Bool) (ls : Bor (List (RTreeNode T E P S X))) (asked rs : Bor (List (RTreeNode U F Q R Y)))
     (as' : List (RTreeNode T E P S X)) (bs : List (RTreeNode U F Q R Y)) (room h k : ℕ) → ls.now ≡ as' → rs.now ≡ bs → as' ≢ [] → bs ≢ [] → AreWhole v o h as' → AreWhole w o' k bs
-    → 2 * max (levels_below as') (levels_below bs) + 1 ≤ room → FitsIn room (ls, rs)
-fits-whole v w o o' ls rs as' bs room h k is is' some some' hl hr fits =
+    → max (levels_below as') (levels_below bs) ≤ room → IsFrame meets o.box_of o'.box_of room (ls, asked, 0, rs, rs)
+fits-whole v w o o' meets ls asked rs as' bs room h k is is' some some' hl hr fits =
     let a = levels_are (IsInner v o) (IsElement v o) (λ p q. q.1) h as' some hl in
     let b = levels_are (IsInner w o') (IsElement w o') (λ p q. q.1) k bs some' hr in
-    let c = several ls.now in
+    let rights = subst (AllByRecursion (IsLevel k)) (sym is') (all_map _ (IsLevel k) (tree-weaker (IsInner w o') (λ p. children_of p ≢ []) (IsElement w o') (λ t. ⊤) (λ p q. q.1) (λ t q. tt) k) bs hr) in
     record {
       left_height = h;
       right_height = k;
       lefts = subst (AllByRecursion (IsLevel h)) (sym is) (all_map _ (IsLevel h) (tree-weaker (IsInner v o) (λ p. children_of p ≢ []) (IsElement v o) (λ t. ⊤) (λ p q. q.1) (λ t q. tt) h) as' hl);
-      rights = subst (AllByRecursion (IsLevel k)) (sym is') (all_map _ (IsLevel k) (tree-weaker (IsInner w o') (λ p. children_of p ≢ []) (IsElement w o') (λ t. ⊤) (λ p q. q.1) (λ t q. tt) k) bs hr);
-      fits = omega (arith, a, b, c, fits);
+      met = subst (AllByRecursion (IsLevel k)) (sym (marked-zero asked.now)) tt;
+      later = rights;
+      rights = rights;
+      fits = omega (arith, a, b, fits);
+      meeting = λ l others e. subst (AllByRecursion (λ r. meets (node_box o.box_of l) (node_box o'.box_of r) ≡ true)) (sym (marked-zero asked.now)) tt;
     }

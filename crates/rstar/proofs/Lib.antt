@@ -36,6 +36,7 @@ pub mod Popped
 pub mod Room
 pub mod Fits
 pub mod PairRows
+pub mod Marked
 pub mod PairWalks
 pub mod Meets
 pub mod Joined

@@ -7,11 +7,10 @@ use Rattle.rstar.specs.declared.node.RTreeNode.TheVariants.{outs-Parent, outs-Le
 use Rattle.rstar.specs.declared.node.RTreeNode.TheOpen as layer
 use Rattle.rstar.specs.declared.node.ParentNode.{ParentNode}
 use Rattle.rstar.specs.Nodes.{Layer, children_of, fold_tree, total, reach, given, all_given, all_reach, node_box, is_leaf_node}
-use Rattle.rstar.specs.Walks.{steps}
 use Rattle.rstar.specs.Meets.{product, opened_to, next_nodes, next_shown, shown_box, count_shown, meet_shown, both_leaves, count_parents, meet, pairs_at, opens_at, all_pairs, all_opens}
 use Rattle.rstar.specs.Shown.{Shown, parent, nodes_in, row_of, fold_shown, fold_shown_row, shown}
-use Rattle.rstar.specs.JoinWalks.{row_steps, frame_steps, steps_at}
-use Rattle.rstar.proofs.Rows.{fold_tree-Parent, given-Leaf, given-Parent, reach-Leaf, reach-Parent, steps-Leaf, steps-Parent, node_box-Leaf, node_box-Parent, shown-Leaf, shown-Parent, total-map}
+use Rattle.rstar.specs.JoinWalks.{row_steps, all_steps, steps_at, steps_beside}
+use Rattle.rstar.proofs.Rows.{fold_tree-Parent, given-Leaf, given-Parent, reach-Leaf, reach-Parent, node_box-Leaf, node_box-Parent, shown-Leaf, shown-Parent, total-map}
 
 -- ---- products
 
@@ -80,9 +79,8 @@ total-applied : {A C : Type 0} (f : C → A) (g : A → ℕ) (xs : List C) → t
 total-applied f g [] = refl
 total-applied f g (x ∷ xs) = ap (λ n. g (f x) + n) (total-applied f g xs)
 
-pub frame_steps-applied : {A B : Type 0} (f : A → B → ℕ) (xs : List A) (ys : List B) → frame_steps (λ (b : B → ℕ) n. b n) (map f xs) ys ≡ frame_steps f xs ys
-frame_steps-applied f [] ys = refl
-frame_steps-applied f (x ∷ xs) ys = ap (λ n. row_steps f x ys + n) (total-applied f (λ (b : _ → ℕ). 1 + row_steps (λ (b : _ → ℕ) n. b n) b ys) xs)
+pub all_steps-applied : {A B : Type 0} (f : A → B → ℕ) (xs : List A) (ys : List B) → all_steps (λ (b : B → ℕ) n. b n) (map f xs) ys ≡ all_steps f xs ys
+all_steps-applied f xs ys = ap (λ n. 1 + n) (total-applied f (λ (b : _ → ℕ). row_steps (λ (b : _ → ℕ) n. b n) b ys) xs)
 
 -- ---- what a row shows
 
@@ -199,17 +197,25 @@ module _ {T E P S X U F Q R Y : Type 0} (meets : E → F → Bool) (left_box : T
       → meet_shown meets left_box right_box (parent e (row_of (map shown ls))) (parent f (row_of (map shown rs))) ≡ (if meets e f then 1 else 0) + sum_by (λ (q : RTreeNode T E P S X × RTreeNode U F Q R Y). meet meets left_box right_box q.0 q.1) (product ls rs)
   meet-roots e f ls rs = meet-row e ls (parent f (row_of (map shown rs))) rs (nodes-row (map shown rs))
 
+steps-beside-Leaf : (U F Q R Y : Type 0) (u : U) → steps_beside {F = F} {Q = Q} {R = R} {Y = Y} (Leaf u) ≡ 1
+unfolding steps_beside fold_tree
+steps-beside-Leaf U F Q R Y u = refl
+
+steps-beside-Parent : {U F Q R Y : Type 0} (q : ParentNode U F Q R Y) → steps_beside (Parent q) ≡ 3 + total (map (λ r. 1 + steps_beside r) (children_of q))
+unfolding steps_beside
+steps-beside-Parent q = fold_tree-Parent _ _ q ∙ ap (λ n. 3 + n) (total-applied steps_beside (λ n. 1 + n) (children_of q))
+
 module _ (T E P S X U F Q R Y : Type 0) where
-  pub steps-at-Leaf : (t : T) (r : RTreeNode U F Q R Y) → steps_at {E = E} {P = P} {S = S} {X = X} (Leaf t) r ≡ steps r
+  steps-at-Leaf : (t : T) (r : RTreeNode U F Q R Y) → steps_at {E = E} {P = P} {S = S} {X = X} (Leaf t) r ≡ steps_beside r
   unfolding steps_at fold_tree
   steps-at-Leaf t r = refl
 
 module _ {T E P S X U F Q R Y : Type 0} where
-  pub steps-at-Parent : (p : ParentNode T E P S X) (r : RTreeNode U F Q R Y) → steps_at (Parent p) r ≡ 1 + frame_steps steps_at (children_of p) (opened_to r)
+  steps-at-Parent : (p : ParentNode T E P S X) (r : RTreeNode U F Q R Y) → steps_at (Parent p) r ≡ 1 + all_steps steps_at (children_of p) (opened_to r)
   unfolding steps_at
   steps-at-Parent p r =
       ap (λ (f : RTreeNode U F Q R Y → ℕ). f r) (fold_tree-Parent {A = RTreeNode U F Q R Y → ℕ} _ _ p)
-      ∙ ap (λ n. 1 + n) (frame_steps-applied steps_at (children_of p) (opened_to r))
+      ∙ ap (λ n. 1 + n) (all_steps-applied steps_at (children_of p) (opened_to r))
 
 -- a list with one node
 pub opened-single : {T E P S X : Type 0} (ns rest : List (RTreeNode T E P S X)) (n : RTreeNode T E P S X) → ns ≡ n ∷ rest → length ns ≡ 1 → flat_map opened_to ns ≡ opened_to n
@@ -238,7 +244,7 @@ if-map : {A B : Type 0} (h : A → B) (b : Bool) (xs : List A) → map h (if b t
 if-map h true xs = refl
 if-map h false xs = refl
 
-steps-row : (T E P S X : Type 0) {U F Q R Y : Type 0} (t : T) (rs : List (RTreeNode U F Q R Y)) → total (map (steps_at {E = E} {P = P} {S = S} {X = X} (Leaf t)) rs) ≡ total (map steps rs)
+steps-row : (T E P S X : Type 0) {U F Q R Y : Type 0} (t : T) (rs : List (RTreeNode U F Q R Y)) → total (map (λ r. 1 + steps_at {E = E} {P = P} {S = S} {X = X} (Leaf t) r) rs) ≡ total (map (λ r. 1 + steps_beside r) rs)
 steps-row T E P S X t [] = refl
 steps-row T E P S X {U} {F} {Q} {R} {Y} t (r ∷ rs) = let a = steps-at-Leaf T E P S X U F Q R Y t r in let b = steps-row T E P S X t rs in omega arith
 
@@ -285,17 +291,17 @@ module _ {T E P S X U F Q R Y : Type 0} (meets : E → F → Bool) (left_box : T
   pub record IsOpened (l : RTreeNode T E P S X) (r : RTreeNode U F Q R Y) : Type 0 where
     pub pairs : pairs_at meets left_box right_box l r ≡ (if does_meet l r then all_pairs meets left_box right_box (opened_to l) (opened_to r) else [])
     pub opens : opens_at meets left_box right_box l r ≡ (if does_meet l r then 1 + all_opens meets left_box right_box (opened_to l) (opened_to r) else 0)
-    pub steps : steps_at l r ≡ 1 + frame_steps steps_at (opened_to l) (opened_to r)
+    pub steps : steps_at l r ≡ 1 + all_steps steps_at (opened_to l) (opened_to r)
 
   opened-from : (l : RTreeNode T E P S X) (r : RTreeNode U F Q R Y) (e : E) (f : F) (ls : List (RTreeNode T E P S X)) (rs : List (RTreeNode U F Q R Y))
       → e ≡ node_box left_box l → f ≡ node_box right_box r → ls ≡ opened_to l → rs ≡ opened_to r
       → pairs_at meets left_box right_box l r ≡ (if meets e f then all_pairs meets left_box right_box ls rs else [])
       → opens_at meets left_box right_box l r ≡ (if meets e f then 1 + all_opens meets left_box right_box ls rs else 0)
-      → steps_at l r ≡ 1 + frame_steps steps_at ls rs → IsOpened l r
+      → steps_at l r ≡ 1 + all_steps steps_at ls rs → IsOpened l r
   opened-from l r e f ls rs is_e is_f is_ls is_rs p o s = record {
     pairs = p ∙ (λ i. if meets (is_e i) (is_f i) then all_pairs meets left_box right_box (is_ls i) (is_rs i) else []);
     opens = o ∙ (λ i. if meets (is_e i) (is_f i) then 1 + all_opens meets left_box right_box (is_ls i) (is_rs i) else 0);
-    steps = s ∙ (λ i. 1 + frame_steps steps_at (is_ls i) (is_rs i));
+    steps = s ∙ (λ i. 1 + all_steps steps_at (is_ls i) (is_rs i));
   }
 
   opened-Parent : (p : ParentNode T E P S X) (r : RTreeNode U F Q R Y) → IsOpened (Parent p) r
@@ -305,7 +311,7 @@ module _ {T E P S X U F Q R Y : Type 0} (meets : E → F → Bool) (left_box : T
 
   opened-beside : (t : T) (q : ParentNode U F Q R Y) → IsOpened (Leaf t) (Parent q)
   opened-beside t q =
-      let a = steps-at-Leaf T E P S X U F Q R Y t (Parent q) in let b = steps-Parent q in let c = steps-row T E P S X t (children_of q) in
+      let a = steps-at-Leaf T E P S X U F Q R Y t (Parent q) in let b = steps-beside-Parent q in let c = steps-row T E P S X t (children_of q) in
       opened-from (Leaf t) (Parent q) (left_box t) q.envelope (Leaf t ∷ []) (children_of q) (sym (node_box-Leaf T E P S X left_box t)) (sym (node_box-Parent right_box q))
       (sym (opened_to-Leaf T E P S X t)) (sym (opened_to-Parent q))
       (pairs-beside T E P S X U F Q R Y meets left_box right_box t q) (opens-beside T E P S X U F Q R Y meets left_box right_box t q) (omega (arith, a, b, c))
@@ -353,5 +359,5 @@ pub steps-positive : {T E P S X U F Q R Y : Type 0} (l : RTreeNode T E P S X) (r
 steps-positive {T} {E} {P} {S} {X} {U} {F} {Q} {R} {Y} l r = by_cases (node-cases l) (node-cases r) where
   by_cases : ((t : T) × (l ≡ Leaf t)) ⊎ ((p : ParentNode T E P S X) × (l ≡ Parent p)) → ((u : U) × (r ≡ Leaf u)) ⊎ ((q : ParentNode U F Q R Y) × (r ≡ Parent q)) → 1 ≤ steps_at l r
   by_cases (inr a) b = let e = ap (λ x. steps_at x r) a.1 ∙ steps-at-Parent a.0 r in omega (arith, e)
-  by_cases (inl a) (inl b) = let e = ap (λ x. steps_at x r) a.1 ∙ steps-at-Leaf T E P S X U F Q R Y a.0 r ∙ ap steps b.1 ∙ steps-Leaf U F Q R Y b.0 in omega (arith, e)
-  by_cases (inl a) (inr b) = let e = ap (λ x. steps_at x r) a.1 ∙ steps-at-Leaf T E P S X U F Q R Y a.0 r ∙ ap steps b.1 ∙ steps-Parent b.0 in omega (arith, e)
+  by_cases (inl a) (inl b) = let e = ap (λ x. steps_at x r) a.1 ∙ steps-at-Leaf T E P S X U F Q R Y a.0 r ∙ ap steps_beside b.1 ∙ steps-beside-Leaf U F Q R Y b.0 in omega (arith, e)
+  by_cases (inl a) (inr b) = let e = ap (λ x. steps_at x r) a.1 ∙ steps-at-Leaf T E P S X U F Q R Y a.0 r ∙ ap steps_beside b.1 ∙ steps-beside-Parent b.0 in omega (arith, e)

@@ -1,5 +1,5 @@
 -- One step of a join over frames.
-use Rattle.std.proofs.Common.{◌≡◌, ◌≢◌, ℕ, zero, suc, ◌+◌, ◌<◌, ◌≤◌, List, [], ◌∷◌, ◌++◌, length, map, flat_map, sum_by, refl, ap, ◌∙◌, sym, subst, arith, Bool, append_assoc, append-nil, if◌then◌else◌, true, false, min, max, inl, inr, ◌⊎◌}
+use Rattle.std.proofs.Common.{◌≡◌, ℕ, zero, suc, ◌+◌, ◌<◌, ◌≤◌, List, [], ◌∷◌, ◌++◌, length, map, filter, flat_map, sum_by, refl, ap, ◌∙◌, sym, subst, arith, Bool, append_assoc, append-nil, if◌then◌else◌, true, false, min, max, inl, inr, ◌⊎◌}
 use Rattle.std.proofs.lemmas.Bool.{true≢false}
 use Rattle.std.proofs.lemmas.List.Sums.{sum_by-cons, sum_by-append}
 use Rattle.std.proofs.lemmas.List.Concat.{flat_map-append}
@@ -8,81 +8,32 @@ use Rattle.std.specs.Borrow.{Bor}
 use Rattle.rstar.specs.declared.node.RTreeNode.{RTreeNode, Leaf, Parent}
 use Rattle.rstar.specs.declared.node.ParentNode.{ParentNode}
 use Rattle.rstar.specs.declared.iterators.joins.IntersectionIterator.{IntersectionIterator}
-use Rattle.rstar.specs.Nodes.{node_box, is_leaf_node}
+use Rattle.rstar.specs.Nodes.{is_leaf_node, total}
 use Rattle.rstar_base.specs.Counts.{usize_max}
 use Rattle.rstar.specs.Walks.{IsLevel}
 use Rattle.rstar.specs.Meets.{product, opened_to, both_leaves, pairs_at, opens_at, all_pairs, all_opens, meet_of_roots}
 use Rattle.rstar.specs.declared.iterators.joins.PairStep.{PairStep}
 use Rattle.rstar.specs.declared.iterators.joins.PairStep.TheVariants.{Found, Passed, Ended}
-use Rattle.rstar.specs.JoinWalks.{Frame, FitsIn, AreFrames, one_if_several, IsFromFirst, frames_of, pairs_by, pairs_from_frames, opens_from_frames, IsCounted, frame_steps, steps_at, steps_of_frames, IsGivenPair, IsNearerPair, IsPairStep}
+use Rattle.rstar.specs.JoinWalks.{marked, Frame, IsFrame, AreFrames, met_of, frames_of, pairs_with, opens_with, pairs_by, pairs_from_frames, opens_from_frames, IsCounted, row_steps, all_steps, steps_with, steps_at, steps_of_frame, steps_of_frames, IsGivenPair, IsNearerPair, IsPairStep}
 use Rattle.rstar.proofs.Rows.{no_parent}
 use Rattle.rstar.proofs.Walks.{level-Parent}
-use Rattle.rstar.proofs.PairRows.{the_pair, product-none, node-cases, does_meet, opened, passed, steps-positive, opened_to-Leaf, opened_to-Parent, is_leaf-Leaf, is_leaf-Parent}
+use Rattle.rstar.proofs.PairRows.{the_pair, node-cases, does_meet, opened, passed, steps-positive, opened_to-Leaf, opened_to-Parent, is_leaf-Leaf, is_leaf-Parent}
+use Rattle.rstar.proofs.Marked.{marked-zero, all-marked}
 
-module _ {T E P S X U F Q R Y : Type 0} where
-  -- ---- frames at the end
+steps-after : {T E P S X U F Q R Y : Type 0} (xs ys : List (Frame T E P S X U F Q R Y)) → steps_of_frames (xs ++ ys) ≡ steps_of_frames xs + steps_of_frames ys
+steps-after [] ys = omega arith
+steps-after (x ∷ xs) ys = let r = steps-after xs ys in omega (arith, r)
 
-  -- the frame that is being read
-  abbrev pub in_hand : IntersectionIterator T U E P S X F Q R Y → Frame T E P S X U F Q R Y
-  in_hand it = (it.lefts, it.rights)
+all-drop : {A : Type 0} (Q : A → Type 0) (xs ys : List A) → AllByRecursion Q (xs ++ ys) → AllByRecursion Q xs × AllByRecursion Q ys
+all-drop Q [] ys all = (tt, all)
+all-drop Q (x ∷ xs) ys all = let r = all-drop Q xs ys all.1 in ((all.0, r.0), r.1)
 
-  steps-after : (xs ys : List (Frame T E P S X U F Q R Y)) → steps_of_frames (xs ++ ys) ≡ steps_of_frames xs + steps_of_frames ys
-  steps-after [] ys = omega arith
-  steps-after (x ∷ xs) ys = let r = steps-after xs ys in omega (arith, r)
-
-  frames-after : (n m : ℕ) (xs ys : List (Frame T E P S X U F Q R Y)) → m + length xs ≡ n → AreFrames n xs → AreFrames m ys → AreFrames n (xs ++ ys)
-  frames-after n m [] ys e is more = let same : m ≡ n = omega (arith, e) in subst (λ k. AreFrames k ys) same more
-  frames-after zero m (x ∷ xs) ys e is more = absurd is
-  frames-after (suc n) m (x ∷ xs) ys e is more = (is.0, frames-after n m xs ys (omega (arith, e)) is.1 more)
-
-  pub frames-along : (n m : ℕ) → n ≡ m → (xs ys : List (Frame T E P S X U F Q R Y)) → xs ≡ ys → AreFrames n xs → AreFrames m ys
-  frames-along n m same xs ys is at = subst (λ k. AreFrames k ys) same (subst (AreFrames n) is at)
-
-  frames-last : (n : ℕ) (xs : List (Frame T E P S X U F Q R Y)) (x : Frame T E P S X U F Q R Y) → AreFrames n (xs ++ x ∷ []) → (k : ℕ) × (k + 1 + length xs ≡ n) × AreFrames n xs × FitsIn k x
-  frames-last zero [] x is = absurd is
-  frames-last zero (y ∷ xs) x is = absurd is
-  frames-last (suc n) [] x is = (n, omega arith, tt, is.0)
-  frames-last (suc n) (y ∷ xs) x is = let r = frames-last n xs x is.1 in (r.0, omega (arith, r.1), (is.0, r.2), r.3)
-
--- ---- items that are passed over
-
-pub all-rest : {A : Type 0} (Q : A → Type 0) (xs ys : List A) → AllByRecursion Q (xs ++ ys) → AllByRecursion Q ys
-all-rest Q [] ys all = all
-all-rest Q (x ∷ xs) ys all = all-rest Q xs ys all.1
-
-all-one : {A : Type 0} (Q : A → Type 0) (xs : List A) (x : A) → AllByRecursion Q xs → Q x → AllByRecursion Q (xs ++ x ∷ [])
-all-one Q [] x all one = (one, tt)
-all-one Q (y ∷ xs) x all one = (all.0, all-one Q xs x all.1 one)
-
--- those before the rest fail the test
-abbrev pub HasPassed : {A : Type 0} → (A → Bool) → List A → List A → Type 0
-HasPassed {A} test items rest = (skipped : List A) × (items ≡ skipped ++ rest) × AllByRecursion (λ x. test x ≡ false) skipped
-
-pub passed-none : {A : Type 0} (test : A → Bool) (items : List A) → HasPassed test items items
-passed-none test items = ([], refl, tt)
-
-pub passed-more : {A : Type 0} (test : A → Bool) (items rest more : List A) (x : A) → HasPassed test items rest → rest ≡ x ∷ more → test x ≡ false → HasPassed test items more
-passed-more test items rest more x past is fail = (
-  past.0 ++ x ∷ [],
-  past.1 ∙ ap (λ r. past.0 ++ r) is ∙ sym (append_assoc past.0 (x ∷ []) more),
-  all-one (λ y. test y ≡ false) past.0 x past.2 fail,
-)
-
-pub from-met : {A : Type 0} (test : A → Bool) (items rest more : List A) (x : A) → HasPassed test items rest → rest ≡ x ∷ more → test x ≡ true → IsFromFirst test items rest
-from-met test items rest more x past is pass = record {
-  skipped = past.0;
-  all = past.1;
-  fail = past.2;
-  first = λ y others e. let same : x ∷ more ≡ y ∷ others = sym is ∙ e in let head : x ≡ y = cc in ap test (sym head) ∙ pass;
-}
-
-pub from-none : {A : Type 0} (test : A → Bool) (items rest : List A) → HasPassed test items rest → length rest ≡ 0 → IsFromFirst test items rest
-from-none test items rest past none = record {
-  skipped = past.0;
-  all = past.1;
-  fail = past.2;
-  first = λ y others e. let long = ap length e in absurd (omega (arith, none, long));
-}
+filter-passes : {A : Type 0} (test : A → Bool) (xs : List A) → AllByRecursion (λ x. test x ≡ true) (filter test xs)
+filter-passes test [] = tt
+filter-passes test (x ∷ xs) = by_test (test x) refl (filter-passes test xs) where
+  by_test : (b : Bool) → test x ≡ b → AllByRecursion (λ y. test y ≡ true) (filter test xs) → AllByRecursion (λ y. test y ≡ true) (if b then x ∷ filter test xs else filter test xs)
+  by_test true is rest = (is, rest)
+  by_test false is rest = rest
 
 -- a leaf lies on the lowest level
 level-Leaf : (T E P S X : Type 0) (h : ℕ) (t : T) → IsLevel {T = T} {E = E} {P = P} {S = S} {X = X} h (Leaf t) → h ≡ 0
@@ -110,52 +61,37 @@ levels-lower b b' h k h' k' apart (inl a) (inr c) = omega (arith, a.1, a.2, c.1)
 levels-lower b b' h k h' k' apart (inr a) (inl c) = omega (arith, a.1, c.1, c.2)
 levels-lower b b' h k h' k' apart (inr a) (inr c) = omega (arith, a.1, c.1)
 
-several-more : {A : Type 0} (x : A) (xs : List A) → xs ≢ [] → one_if_several (x ∷ xs) ≡ 1
-several-more x [] some = absurd (some refl)
-several-more x (y ∷ xs) some = refl
+module _ {T E P S X U F Q R Y : Type 0} (meets : E → F → Bool) (left_box : T → E) (right_box : U → F) where
+  -- ---- frames at the end
 
-part-steps : {A B : Type 0} (f : A → B → ℕ) (x : A) (xs : List A) (ys : List B) → xs ≢ [] → frame_steps f (x ∷ []) ys + frame_steps f xs ys < frame_steps f (x ∷ xs) ys
-part-steps f x [] ys some = absurd (some refl)
-part-steps f x (z ∷ xs) ys some = omega arith
+  frames-after : (n m : ℕ) (xs ys : List (Frame T E P S X U F Q R Y)) → m + length xs ≡ n → AreFrames meets left_box right_box n xs → AreFrames meets left_box right_box m ys → AreFrames meets left_box right_box n (xs ++ ys)
+  frames-after n m [] ys e is more = let same : m ≡ n = omega (arith, e) in subst (λ k. AreFrames meets left_box right_box k ys) same more
+  frames-after zero m (x ∷ xs) ys e is more = absurd is
+  frames-after (suc n) m (x ∷ xs) ys e is more = (is.0, frames-after n m xs ys (omega (arith, e)) is.1 more)
 
-module _ {T E P S X U F Q R Y : Type 0} where
-  pub one-frame : (n k : ℕ) (x : Frame T E P S X U F Q R Y) → n ≡ k + 1 → FitsIn k x → AreFrames n (x ∷ [])
+  pub frames-along : (n m : ℕ) → n ≡ m → (xs ys : List (Frame T E P S X U F Q R Y)) → xs ≡ ys → AreFrames meets left_box right_box n xs → AreFrames meets left_box right_box m ys
+  frames-along n m same xs ys is at = subst (λ k. AreFrames meets left_box right_box k ys) same (subst (AreFrames meets left_box right_box n) is at)
+
+  frames-last : (n : ℕ) (xs : List (Frame T E P S X U F Q R Y)) (x : Frame T E P S X U F Q R Y) → AreFrames meets left_box right_box n (xs ++ x ∷ []) → (k : ℕ) × (k + 1 + length xs ≡ n) × AreFrames meets left_box right_box n xs × IsFrame meets left_box right_box k x
+  frames-last zero [] x is = absurd is
+  frames-last zero (y ∷ xs) x is = absurd is
+  frames-last (suc n) [] x is = (n, omega arith, tt, is.0)
+  frames-last (suc n) (y ∷ xs) x is = let r = frames-last n xs x is.1 in (r.0, omega (arith, r.1), (is.0, r.2), r.3)
+
+  pub one-frame : (n k : ℕ) (x : Frame T E P S X U F Q R Y) → n ≡ k + 1 → IsFrame meets left_box right_box k x → AreFrames meets left_box right_box n (x ∷ [])
   one-frame zero k x e at = absurd (omega (arith, e))
-  one-frame (suc n) k x e at = let same : k ≡ n = omega (arith, e) in (subst (λ m. FitsIn m x) same at, tt)
+  one-frame (suc n) k x e at = let same : k ≡ n = omega (arith, e) in (subst (λ m. IsFrame meets left_box right_box m x) same at, tt)
 
-  two-frames : (n k : ℕ) (x y : Frame T E P S X U F Q R Y) → n ≡ k + 1 → 1 ≤ k → FitsIn k x → ((j : ℕ) → j + 1 ≡ k → FitsIn j y) → AreFrames n (x ∷ y ∷ [])
+  two-frames : (n k : ℕ) (x y : Frame T E P S X U F Q R Y) → n ≡ k + 1 → 1 ≤ k → IsFrame meets left_box right_box k x → ((j : ℕ) → j + 1 ≡ k → IsFrame meets left_box right_box j y) → AreFrames meets left_box right_box n (x ∷ y ∷ [])
   two-frames zero k x y e some at next = absurd (omega (arith, e))
   two-frames (suc zero) k x y e some at next = absurd (omega (arith, e, some))
-  two-frames (suc (suc n)) k x y e some at next = let same : k ≡ suc n = omega (arith, e) in (subst (λ m. FitsIn m x) same at, (next n (omega (arith, e)), tt))
+  two-frames (suc (suc n)) k x y e some at next = let same : k ≡ suc n = omega (arith, e) in (subst (λ m. IsFrame meets left_box right_box m x) same at, (next n (omega (arith, e)), tt))
 
-pub several : {A : Type 0} (xs : List A) → one_if_several xs ≤ 1
-several [] = omega arith
-several (x ∷ []) = omega arith
-several (x ∷ y ∷ xs) = omega arith
-
-module _ {T E P S X U F Q R Y : Type 0} where
-  -- room for a push, where the frame that is read wants some
-  pub path-room : (room : ℕ) (xs : List (Frame T E P S X U F Q R Y)) (x : Frame T E P S X U F Q R Y) → AreFrames (room + 1) (xs ++ x ∷ []) → ((k : ℕ) → FitsIn k x → 1 ≤ k) → length xs < room
-  path-room room xs x at wants = let last = frames-last (room + 1) xs x at in let k = wants last.0 last.3 in omega (arith, last.1, k)
-
-  pub part-room : (ls : Bor (List (RTreeNode T E P S X))) (rs : Bor (List (RTreeNode U F Q R Y))) (l : RTreeNode T E P S X) (more : List (RTreeNode T E P S X)) → ls.now ≡ l ∷ more → more ≢ []
-      → (k : ℕ) → FitsIn k (ls, rs) → 1 ≤ k
-  part-room ls rs l more is some k at = let many : one_if_several ls.now ≡ 1 = ap one_if_several is ∙ several-more l more some in omega (arith, at.fits, many)
-
-  pub open-room : (ls : Bor (List (RTreeNode T E P S X))) (rs : Bor (List (RTreeNode U F Q R Y))) (l : RTreeNode T E P S X) (r : RTreeNode U F Q R Y) (rest : List (RTreeNode U F Q R Y)) → ls.now ≡ l ∷ [] → rs.now ≡ r ∷ rest
-      → both_leaves l r ≡ false → (k : ℕ) → FitsIn k (ls, rs) → 1 ≤ k
-  open-room ls rs l r rest only is inner k at =
-      let below = level-opened at.left_height l (subst (AllByRecursion (IsLevel at.left_height)) only at.lefts).0 in
-      let below' = level-opened at.right_height r (subst (AllByRecursion (IsLevel at.right_height)) is at.rights).0 in
-      let lower = levels-lower (is_leaf_node l) (is_leaf_node r) at.left_height below.0 at.right_height below'.0 inner below.2 below'.2 in
-      omega (arith, at.fits, lower)
-
-module _ {T E P S X U F Q R Y : Type 0} (meets : E → F → Bool) (left_box : T → E) (right_box : U → F) where
   pairs-after : (xs ys : List (Frame T E P S X U F Q R Y)) → pairs_from_frames meets left_box right_box (xs ++ ys) ≡ pairs_from_frames meets left_box right_box ys ++ pairs_from_frames meets left_box right_box xs
   pairs-after [] ys = sym (append-nil _)
   pairs-after (x ∷ xs) ys =
-      ap (λ l. l ++ all_pairs meets left_box right_box x.0.now x.1.now) (pairs-after xs ys)
-      ∙ append_assoc (pairs_from_frames meets left_box right_box ys) (pairs_from_frames meets left_box right_box xs) (all_pairs meets left_box right_box x.0.now x.1.now)
+      let here = pairs_with meets left_box right_box x.0.now (met_of x ++ x.3.now) x.4.now in
+      ap (λ l. l ++ here) (pairs-after xs ys) ∙ append_assoc (pairs_from_frames meets left_box right_box ys) (pairs_from_frames meets left_box right_box xs) here
 
   opens-after : (xs ys : List (Frame T E P S X U F Q R Y)) → opens_from_frames meets left_box right_box (xs ++ ys) ≡ opens_from_frames meets left_box right_box xs + opens_from_frames meets left_box right_box ys
   opens-after [] ys = omega arith
@@ -163,10 +99,10 @@ module _ {T E P S X U F Q R Y : Type 0} (meets : E → F → Bool) (left_box : T
 
   -- the last frame is replaced by others, which give the same but for what was given, and open the same but for what was opened
   pub record IsMove (frame : Frame T E P S X U F Q R Y) (news : List (Frame T E P S X U F Q R Y)) (gives : List (T × U)) (opens : ℕ) : Type 0 where
-    pub pairs : all_pairs meets left_box right_box frame.0.now frame.1.now ≡ gives ++ pairs_from_frames meets left_box right_box news
-    pub opened : all_opens meets left_box right_box frame.0.now frame.1.now ≡ opens + opens_from_frames meets left_box right_box news
-    pub room : (k : ℕ) → FitsIn k frame → AreFrames (k + 1) news
-    pub nearer : steps_of_frames news < frame_steps steps_at frame.0.now frame.1.now
+    pub pairs : pairs_with meets left_box right_box frame.0.now (met_of frame ++ frame.3.now) frame.4.now ≡ gives ++ pairs_from_frames meets left_box right_box news
+    pub opened : opens_with meets left_box right_box frame.0.now (met_of frame ++ frame.3.now) frame.4.now ≡ opens + opens_from_frames meets left_box right_box news
+    pub room : (k : ℕ) → IsFrame meets left_box right_box k frame → AreFrames meets left_box right_box (k + 1) news
+    pub nearer : steps_of_frames news < steps_of_frame frame
 
   module _ {frame : Frame T E P S X U F Q R Y} {news : List (Frame T E P S X U F Q R Y)} {gives : List (T × U)} {opens : ℕ} (move : IsMove frame news gives opens)
       (left old new : List (Frame T E P S X U F Q R Y)) (was : old ≡ left ++ frame ∷ []) (is : new ≡ left ++ news) where
@@ -182,9 +118,9 @@ module _ {T E P S X U F Q R Y : Type 0} (meets : E → F → Bool) (left_box : T
         let a = ap steps_of_frames was in let b = ap steps_of_frames is in let c = steps-after left (frame ∷ []) in let d = steps-after left news in let e = move.nearer in
         omega arith
 
-    pub move-frames : (n m : ℕ) → m ≡ n → AreFrames (n + 1) old → AreFrames (m + 1) new
+    pub move-frames : (n m : ℕ) → m ≡ n → AreFrames meets left_box right_box (n + 1) old → AreFrames meets left_box right_box (m + 1) new
     move-frames n m same at =
-        let last = frames-last (n + 1) left frame (subst (AreFrames (n + 1)) was at) in
+        let last = frames-last (n + 1) left frame (subst (AreFrames meets left_box right_box (n + 1)) was at) in
         frames-along (n + 1) (m + 1) (ap (λ k. k + 1) (sym same)) (left ++ news) new (sym is)
         (frames-after (n + 1) (last.0 + 1) left news last.1 last.2 (move.room last.0 last.3))
 
@@ -195,173 +131,258 @@ module _ {T E P S X U F Q R Y : Type 0} (meets : E → F → Bool) (left_box : T
         let c = opens-after left (frame ∷ []) in let d = opens-after left news in let e = move.opened in let f = h.all in
         record { count = h.count + opens; counted = omega (arith, h.counted, more); all = omega arith }
 
+  -- ---- rows
+
+  abbrev row_pairs : RTreeNode T E P S X → List (RTreeNode U F Q R Y) → List (T × U)
+  row_pairs l rs = all_pairs meets left_box right_box (l ∷ []) rs
+
+  abbrev row_opens : RTreeNode T E P S X → List (RTreeNode U F Q R Y) → ℕ
+  row_opens l rs = all_opens meets left_box right_box (l ∷ []) rs
+
+  abbrev pairs_of : RTreeNode T E P S X × RTreeNode U F Q R Y → List (T × U)
+  pairs_of p = pairs_at meets left_box right_box p.0 p.1
+
+  abbrev opens_of : RTreeNode T E P S X × RTreeNode U F Q R Y → ℕ
+  opens_of p = opens_at meets left_box right_box p.0 p.1
+
+  -- where nothing of the first row was read
+  pub fresh-pairs : (ls : List (RTreeNode T E P S X)) (rs : List (RTreeNode U F Q R Y)) → pairs_with meets left_box right_box ls rs rs ≡ all_pairs meets left_box right_box ls rs
+  fresh-pairs [] rs = refl
+  fresh-pairs (l ∷ ls) rs =
+      let row = map (λ y. the_pair l y) rs in
+      sym (flat_map-append pairs_of row (product ls rs) ∙ ap (λ x. x ++ all_pairs meets left_box right_box ls rs) (sym (ap (flat_map pairs_of) (append-nil row))))
+
+  pub fresh-opens : (ls : List (RTreeNode T E P S X)) (rs : List (RTreeNode U F Q R Y)) → opens_with meets left_box right_box ls rs rs ≡ all_opens meets left_box right_box ls rs
+  fresh-opens [] rs = refl
+  fresh-opens (l ∷ ls) rs =
+      let row = map (λ y. the_pair l y) rs in
+      let a = sum_by-append opens_of row (product ls rs) in let b = ap (sum_by opens_of) (append-nil row) in omega (arith, a, b)
+
+  fresh-steps : (ls : List (RTreeNode T E P S X)) (rs : List (RTreeNode U F Q R Y)) → steps_with steps_at ls [] rs rs ≡ all_steps steps_at ls rs
+  fresh-steps [] rs = omega arith
+  fresh-steps (l ∷ ls) rs = omega arith
+
+  -- those that are asked and do not meet the first on the left give nothing
+  module _ (l : RTreeNode T E P S X) (r : RTreeNode U F Q R Y) (asked later : List (RTreeNode U F Q R Y)) where
+    abbrev kept_if : Bool → List (RTreeNode U F Q R Y)
+    kept_if b = if b then r ∷ filter (does_meet meets left_box right_box l) asked else filter (does_meet meets left_box right_box l) asked
+
+    kept-pair : (b : Bool) → does_meet meets left_box right_box l r ≡ b → row_pairs l (asked ++ later) ≡ row_pairs l (filter (does_meet meets left_box right_box l) asked ++ later)
+        → row_pairs l (r ∷ (asked ++ later)) ≡ row_pairs l (kept_if b ++ later)
+    kept-pair true is rest = ap (λ w. pairs_at meets left_box right_box l r ++ w) rest
+    kept-pair false is rest = ap (λ w. w ++ row_pairs l (asked ++ later)) (passed meets left_box right_box l r is).0 ∙ rest
+
+    kept-open : (b : Bool) → does_meet meets left_box right_box l r ≡ b → row_opens l (asked ++ later) ≡ row_opens l (filter (does_meet meets left_box right_box l) asked ++ later)
+        → row_opens l (r ∷ (asked ++ later)) ≡ row_opens l (kept_if b ++ later)
+    kept-open true is rest =
+        let a : row_opens l (r ∷ (asked ++ later)) ≡ opens_at meets left_box right_box l r + row_opens l (asked ++ later) = sum_by-cons opens_of (the_pair l r) (product (l ∷ []) (asked ++ later)) in
+        let b : row_opens l (r ∷ (filter (does_meet meets left_box right_box l) asked ++ later)) ≡ opens_at meets left_box right_box l r + row_opens l (filter (does_meet meets left_box right_box l) asked ++ later) =
+        sum_by-cons opens_of (the_pair l r) (product (l ∷ []) (filter (does_meet meets left_box right_box l) asked ++ later)) in
+        omega (arith, a, b, rest)
+    kept-open false is rest =
+        let a : row_opens l (r ∷ (asked ++ later)) ≡ opens_at meets left_box right_box l r + row_opens l (asked ++ later) = sum_by-cons opens_of (the_pair l r) (product (l ∷ []) (asked ++ later)) in
+        let b = (passed meets left_box right_box l r is).1 in omega (arith, a, b, rest)
+
+    kept-step : (b : Bool) → total (map (steps_at l) (filter (does_meet meets left_box right_box l) asked)) + row_steps steps_at l later + length asked ≤ row_steps steps_at l (asked ++ later)
+        → total (map (steps_at l) (kept_if b)) + row_steps steps_at l later + length (r ∷ asked) ≤ row_steps steps_at l (r ∷ (asked ++ later))
+    kept-step true rest = omega (arith, rest)
+    kept-step false rest = omega (arith, rest)
+
+  kept-pairs : (l : RTreeNode T E P S X) (asked later : List (RTreeNode U F Q R Y)) → row_pairs l (asked ++ later) ≡ row_pairs l (filter (does_meet meets left_box right_box l) asked ++ later)
+  kept-pairs l [] later = refl
+  kept-pairs l (r ∷ asked) later = kept-pair l r asked later (does_meet meets left_box right_box l r) refl (kept-pairs l asked later)
+
+  kept-opens : (l : RTreeNode T E P S X) (asked later : List (RTreeNode U F Q R Y)) → row_opens l (asked ++ later) ≡ row_opens l (filter (does_meet meets left_box right_box l) asked ++ later)
+  kept-opens l [] later = refl
+  kept-opens l (r ∷ asked) later = kept-open l r asked later (does_meet meets left_box right_box l r) refl (kept-opens l asked later)
+
+  kept-steps : (l : RTreeNode T E P S X) (asked later : List (RTreeNode U F Q R Y))
+      → total (map (steps_at l) (filter (does_meet meets left_box right_box l) asked)) + row_steps steps_at l later + length asked ≤ row_steps steps_at l (asked ++ later)
+  kept-steps l [] later = omega arith
+  kept-steps l (r ∷ asked) later = kept-step l r asked later (does_meet meets left_box right_box l r) (kept-steps l asked later)
+
   -- ---- the moves of a step
 
-  -- a frame with nothing left on one side
-  pub move-drop : (frame : Frame T E P S X U F Q R Y) → (frame.0.now ≡ []) ⊎ (frame.1.now ≡ []) → IsMove frame [] [] 0
-  move-drop frame none = record { pairs = none-pairs; opened = none-opens; room = λ k at. tt; nearer = positive frame.0.now } where
-    no_product : (frame.0.now ≡ []) ⊎ (frame.1.now ≡ []) → product frame.0.now frame.1.now ≡ []
-    no_product (inl e) = ap (λ l. product l frame.1.now) e
-    no_product (inr e) = ap (product frame.0.now) e ∙ product-none frame.0.now
+  -- a frame with nothing left on the left
+  pub move-drop : (frame : Frame T E P S X U F Q R Y) → frame.0.now ≡ [] → IsMove frame [] [] 0
+  move-drop frame none = record {
+    pairs = ap (λ l. pairs_with meets left_box right_box l (met_of frame ++ frame.3.now) frame.4.now) none;
+    opened = ap (λ l. opens_with meets left_box right_box l (met_of frame ++ frame.3.now) frame.4.now) none;
+    room = λ k at. tt;
+    nearer = let e : steps_of_frame frame ≡ 1 = ap (λ l. steps_with steps_at l (met_of frame) frame.3.now frame.4.now) none in omega (arith, e);
+  }
 
-    none-pairs : all_pairs meets left_box right_box frame.0.now frame.1.now ≡ []
-    none-pairs = ap (flat_map (λ p. pairs_at meets left_box right_box p.0 p.1)) (no_product none)
-
-    none-opens : all_opens meets left_box right_box frame.0.now frame.1.now ≡ 0
-    none-opens = ap (sum_by (λ p. opens_at meets left_box right_box p.0 p.1)) (no_product none)
-
-    positive : (ls : List (RTreeNode T E P S X)) → 0 < frame_steps steps_at ls frame.1.now
-    positive [] = omega arith
-    positive (l ∷ ls) = omega arith
-
-  -- the first node on the left is parted from the others
-  pub move-part : (ls more one : Bor (List (RTreeNode T E P S X))) (rs : Bor (List (RTreeNode U F Q R Y))) (l : RTreeNode T E P S X)
-      → ls.now ≡ l ∷ more.now → more.now ≢ [] → one.now ≡ l ∷ [] → IsMove (ls, rs) ((more, rs) ∷ (one, rs) ∷ []) [] 0
-  move-part ls more one rs l is some only =
-      let pairs_of = λ (p : RTreeNode T E P S X × RTreeNode U F Q R Y). pairs_at meets left_box right_box p.0 p.1 in
-      let opens_of = λ (p : RTreeNode T E P S X × RTreeNode U F Q R Y). opens_at meets left_box right_box p.0 p.1 in
-      let row = map (λ y. the_pair l y) rs.now in
-      let a : all_opens meets left_box right_box ls.now rs.now ≡ sum_by opens_of (row ++ product more.now rs.now) = ap (λ l. all_opens meets left_box right_box l rs.now) is in
-      let b : sum_by opens_of (row ++ product more.now rs.now) ≡ sum_by opens_of row + all_opens meets left_box right_box more.now rs.now = sum_by-append opens_of row (product more.now rs.now) in
-      let c : all_opens meets left_box right_box one.now rs.now ≡ sum_by opens_of row = ap (λ l. all_opens meets left_box right_box l rs.now) only ∙ ap (sum_by opens_of) (append-nil row) in
-      let whole : frame_steps steps_at ls.now rs.now ≡ frame_steps steps_at (l ∷ more.now) rs.now = ap (λ l. frame_steps steps_at l rs.now) is in
-      let alone : frame_steps steps_at one.now rs.now ≡ frame_steps steps_at (l ∷ []) rs.now = ap (λ l. frame_steps steps_at l rs.now) only in
-      let less = part-steps steps_at l more.now rs.now some in
+  -- the first row is at its end
+  pub move-row : (ls more : Bor (List (RTreeNode T E P S X))) (asked later rights : Bor (List (RTreeNode U F Q R Y))) (marks : ℕ) (l : RTreeNode T E P S X)
+      → ls.now ≡ l ∷ more.now → marked marks asked.now ≡ [] → later.now ≡ [] → IsMove (ls, asked, marks, later, rights) ((more, asked, marks, rights, rights) ∷ []) [] 0
+  move-row ls more asked later rights marks l is none over =
+      let R = rights.now in
+      let old-steps : steps_with steps_at ls.now (marked marks asked.now) later.now R ≡ steps_with steps_at (l ∷ more.now) [] [] R = (λ i. steps_with steps_at (is i) (none i) (over i) R) in
+      let new-steps : steps_with steps_at more.now (marked marks asked.now) R R ≡ all_steps steps_at more.now R = ap (λ x. steps_with steps_at more.now x R R) none ∙ fresh-steps more.now R in
+      let old-opens : opens_with meets left_box right_box ls.now (marked marks asked.now ++ later.now) R ≡ opens_with meets left_box right_box (l ∷ more.now) [] R = (λ i. opens_with meets left_box right_box (is i) (none i ++ over i) R) in
+      let new-opens : opens_with meets left_box right_box more.now (marked marks asked.now ++ R) R ≡ all_opens meets left_box right_box more.now R = ap (λ x. opens_with meets left_box right_box more.now (x ++ R) R) none ∙ fresh-opens more.now R in
       record {
-        pairs = ap (λ l. all_pairs meets left_box right_box l rs.now) is ∙ flat_map-append pairs_of row (product more.now rs.now)
-            ∙ ap (λ x. x ++ all_pairs meets left_box right_box more.now rs.now) (sym (ap (λ l. all_pairs meets left_box right_box l rs.now) only ∙ ap (flat_map pairs_of) (append-nil row)));
-        opened = omega (arith, a, b, c);
+        pairs = (λ i. pairs_with meets left_box right_box (is i) (none i ++ over i) R) ∙ sym (ap (λ x. pairs_with meets left_box right_box more.now (x ++ R) R) none ∙ fresh-pairs more.now R);
+        opened = omega (arith, old-opens, new-opens);
+        room = λ k at. one-frame (k + 1) k (more, asked, marks, rights, rights) refl (record {
+          left_height = at.left_height;
+          right_height = at.right_height;
+          lefts = (subst (AllByRecursion (IsLevel at.left_height)) is at.lefts).1;
+          met = subst (AllByRecursion (IsLevel at.right_height)) (sym none) tt;
+          later = at.rights;
+          rights = at.rights;
+          fits = at.fits;
+          meeting = λ x others e. subst (AllByRecursion (λ r. does_meet meets left_box right_box x r ≡ true)) (sym none) tt;
+        });
+        nearer = omega (arith, old-steps, new-steps);
+      }
+
+  -- the next nodes on the right are asked
+  pub move-ask : (ls : Bor (List (RTreeNode T E P S X))) (asked later chunk rest rights : Bor (List (RTreeNode U F Q R Y))) (marks more : ℕ) (l : RTreeNode T E P S X) (others : List (RTreeNode T E P S X))
+      → ls.now ≡ l ∷ others → marked marks asked.now ≡ [] → later.now ≡ chunk.now ++ rest.now → 0 < length chunk.now
+      → marked more chunk.now ≡ filter (does_meet meets left_box right_box l) chunk.now → IsMove (ls, asked, marks, later, rights) ((ls, chunk, more, rest, rights) ∷ []) [] 0
+  move-ask ls asked later chunk rest rights marks more l others is none split some made =
+      let R = rights.now in
+      let old-steps : steps_with steps_at ls.now (marked marks asked.now) later.now R ≡ steps_with steps_at (l ∷ others) [] (chunk.now ++ rest.now) R = (λ i. steps_with steps_at (is i) (none i) (split i) R) in
+      let new-steps : steps_with steps_at ls.now (marked more chunk.now) rest.now R ≡ steps_with steps_at (l ∷ others) (filter (does_meet meets left_box right_box l) chunk.now) rest.now R = (λ i. steps_with steps_at (is i) (made i) rest.now R) in
+      let less = kept-steps l chunk.now rest.now in
+      let old-opens : opens_with meets left_box right_box ls.now (marked marks asked.now ++ later.now) R ≡ opens_with meets left_box right_box (l ∷ others) (chunk.now ++ rest.now) R = (λ i. opens_with meets left_box right_box (is i) (none i ++ split i) R) in
+      let new-opens : opens_with meets left_box right_box ls.now (marked more chunk.now ++ rest.now) R ≡ opens_with meets left_box right_box (l ∷ others) (filter (does_meet meets left_box right_box l) chunk.now ++ rest.now) R = (λ i. opens_with meets left_box right_box (is i) (made i ++ rest.now) R) in
+      let kept = kept-opens l chunk.now rest.now in
+      record {
+        pairs = (λ i. pairs_with meets left_box right_box (is i) (none i ++ split i) R) ∙ ap (λ w. w ++ all_pairs meets left_box right_box others R) (kept-pairs l chunk.now rest.now)
+            ∙ sym (λ i. pairs_with meets left_box right_box (is i) (made i ++ rest.now) R);
+        opened = omega (arith, old-opens, new-opens, kept);
         room = λ k at.
-            let many : one_if_several ls.now ≡ 1 = ap one_if_several is ∙ several-more l more.now some in
-            let lefts = subst (AllByRecursion (IsLevel at.left_height)) is at.lefts in
-            let bound = several more.now in
-            two-frames (k + 1) k (more, rs) (one, rs) refl (omega (arith, at.fits, many))
-            (record { left_height = at.left_height; right_height = at.right_height; lefts = lefts.1; rights = at.rights; fits = omega (arith, at.fits, many, bound) })
-            (λ j e. record { left_height = at.left_height; right_height = at.right_height; lefts = subst (AllByRecursion (IsLevel at.left_height)) (sym only) (lefts.0, tt); rights = at.rights; fits = (let o : one_if_several one.now ≡ 0 = ap one_if_several only in omega (arith, at.fits, many, o, e)) });
-        nearer = omega (arith, whole, alone, less);
+            let parts = all-drop (IsLevel at.right_height) chunk.now rest.now (subst (AllByRecursion (IsLevel at.right_height)) split at.later) in
+            one-frame (k + 1) k (ls, chunk, more, rest, rights) refl (record {
+              left_height = at.left_height;
+              right_height = at.right_height;
+              lefts = at.lefts;
+              met = all-marked (IsLevel at.right_height) more chunk.now parts.0;
+              later = parts.1;
+              rights = at.rights;
+              fits = at.fits;
+              meeting = λ x xs e.
+                  let same : l ∷ others ≡ x ∷ xs = sym is ∙ e in let head : l ≡ x = cc in
+                  subst (λ y. AllByRecursion (λ r. does_meet meets left_box right_box y r ≡ true) (marked more chunk.now)) head
+                  (subst (AllByRecursion (λ r. does_meet meets left_box right_box l r ≡ true)) (sym made) (filter-passes (does_meet meets left_box right_box l) chunk.now));
+            });
+        nearer = omega (arith, old-steps, new-steps, less, some);
       }
 
-  -- a pair of nodes that is not opened
-  pub move-read : (ls : Bor (List (RTreeNode T E P S X))) (rs rest : Bor (List (RTreeNode U F Q R Y))) (l : RTreeNode T E P S X) (r : RTreeNode U F Q R Y) (gives : List (T × U))
-      → ls.now ≡ l ∷ [] → rs.now ≡ r ∷ rest.now → pairs_at meets left_box right_box l r ≡ gives → opens_at meets left_box right_box l r ≡ 0 → IsMove (ls, rs) ((ls, rest) ∷ []) gives 0
-  move-read ls rs rest l r gives only is given none =
-      let opens_of = λ (p : RTreeNode T E P S X × RTreeNode U F Q R Y). opens_at meets left_box right_box p.0 p.1 in
-      let a : all_opens meets left_box right_box ls.now rs.now ≡ all_opens meets left_box right_box (l ∷ []) (r ∷ rest.now) = (λ i. all_opens meets left_box right_box (only i) (is i)) in
-      let b : all_opens meets left_box right_box (l ∷ []) (r ∷ rest.now) ≡ opens_at meets left_box right_box l r + all_opens meets left_box right_box (l ∷ []) rest.now = sum_by-cons opens_of (the_pair l r) (product (l ∷ []) rest.now) in
-      let c : all_opens meets left_box right_box ls.now rest.now ≡ all_opens meets left_box right_box (l ∷ []) rest.now = ap (λ l. all_opens meets left_box right_box l rest.now) only in
-      let whole : frame_steps steps_at ls.now rs.now ≡ frame_steps steps_at (l ∷ []) (r ∷ rest.now) = (λ i. frame_steps steps_at (only i) (is i)) in
-      let others : frame_steps steps_at ls.now rest.now ≡ frame_steps steps_at (l ∷ []) rest.now = ap (λ l. frame_steps steps_at l rest.now) only in
-      let some = steps-positive l r in
-      record {
-        pairs = (λ i. all_pairs meets left_box right_box (only i) (is i)) ∙ (λ i. given i ++ all_pairs meets left_box right_box (sym only i) rest.now);
-        opened = omega (arith, a, b, c, none);
-        room = λ k at. one-frame (k + 1) k (ls, rest) refl (record { left_height = at.left_height; right_height = at.right_height; lefts = at.lefts; rights = (subst (AllByRecursion (IsLevel at.right_height)) is at.rights).1; fits = at.fits });
-        nearer = omega (arith, whole, others, some);
-      }
+  -- ---- a node on the right that is read
 
-  -- a pair of nodes that is opened
-  pub move-open : (ls ls' : Bor (List (RTreeNode T E P S X))) (rs rest rs' : Bor (List (RTreeNode U F Q R Y))) (l : RTreeNode T E P S X) (r : RTreeNode U F Q R Y)
-      → ls.now ≡ l ∷ [] → rs.now ≡ r ∷ rest.now → both_leaves l r ≡ false → meets (node_box left_box l) (node_box right_box r) ≡ true
-      → ls'.now ≡ opened_to l → rs'.now ≡ opened_to r → IsMove (ls, rs) ((ls, rest) ∷ (ls', rs') ∷ []) [] 1
-  move-open ls ls' rs rest rs' l r only is inner meeting down down' =
-      let opens_of = λ (p : RTreeNode T E P S X × RTreeNode U F Q R Y). opens_at meets left_box right_box p.0 p.1 in
-      let o = opened meets left_box right_box l r inner in
-      let gone : pairs_at meets left_box right_box l r ≡ all_pairs meets left_box right_box ls'.now rs'.now =
-      o.pairs ∙ ap (λ (b : Bool). if b then all_pairs meets left_box right_box (opened_to l) (opened_to r) else []) meeting ∙ (λ i. all_pairs meets left_box right_box (sym down i) (sym down' i)) in
-      let opening : opens_at meets left_box right_box l r ≡ 1 + all_opens meets left_box right_box ls'.now rs'.now =
-      o.opens ∙ ap (λ (b : Bool). if b then 1 + all_opens meets left_box right_box (opened_to l) (opened_to r) else 0) meeting ∙ (λ i. 1 + all_opens meets left_box right_box (sym down i) (sym down' i)) in
-      let stepping : steps_at l r ≡ 1 + frame_steps steps_at ls'.now rs'.now = o.steps ∙ (λ i. 1 + frame_steps steps_at (sym down i) (sym down' i)) in
-      let a : all_opens meets left_box right_box ls.now rs.now ≡ all_opens meets left_box right_box (l ∷ []) (r ∷ rest.now) = (λ i. all_opens meets left_box right_box (only i) (is i)) in
-      let b : all_opens meets left_box right_box (l ∷ []) (r ∷ rest.now) ≡ opens_at meets left_box right_box l r + all_opens meets left_box right_box (l ∷ []) rest.now = sum_by-cons opens_of (the_pair l r) (product (l ∷ []) rest.now) in
-      let c : all_opens meets left_box right_box ls.now rest.now ≡ all_opens meets left_box right_box (l ∷ []) rest.now = ap (λ l. all_opens meets left_box right_box l rest.now) only in
-      let whole : frame_steps steps_at ls.now rs.now ≡ frame_steps steps_at (l ∷ []) (r ∷ rest.now) = (λ i. frame_steps steps_at (only i) (is i)) in
-      let others : frame_steps steps_at ls.now rest.now ≡ frame_steps steps_at (l ∷ []) rest.now = ap (λ l. frame_steps steps_at l rest.now) only in
-      record {
-        pairs = (λ i. all_pairs meets left_box right_box (only i) (is i)) ∙ (λ i. gone i ++ all_pairs meets left_box right_box (sym only i) rest.now);
-        opened = omega (arith, a, b, c, opening);
-        room = λ k at.
-            let lefts = subst (AllByRecursion (IsLevel at.left_height)) only at.lefts in
-            let rights = subst (AllByRecursion (IsLevel at.right_height)) is at.rights in
-            let below = level-opened at.left_height l lefts.0 in
-            let below' = level-opened at.right_height r rights.0 in
-            let none : one_if_several ls.now ≡ 0 = ap one_if_several only in
-            let bound = several ls'.now in
-            let lower = levels-lower (is_leaf_node l) (is_leaf_node r) at.left_height below.0 at.right_height below'.0 inner below.2 below'.2 in
-            two-frames (k + 1) k (ls, rest) (ls', rs') refl (omega (arith, at.fits, none, lower))
-            (record { left_height = at.left_height; right_height = at.right_height; lefts = at.lefts; rights = rights.1; fits = at.fits })
-            (λ j e. record { left_height = below.0; right_height = below'.0; lefts = subst (AllByRecursion (IsLevel below.0)) (sym down) below.1; rights = subst (AllByRecursion (IsLevel below'.0)) (sym down') below'.1; fits = omega (arith, at.fits, none, bound, lower, e) });
-        nearer = omega (arith, whole, others, stepping);
-      }
+  module _ (ls : Bor (List (RTreeNode T E P S X))) (asked later rights : Bor (List (RTreeNode U F Q R Y))) (marks more : ℕ) (l : RTreeNode T E P S X) (others : List (RTreeNode T E P S X)) (r : RTreeNode U F Q R Y)
+      (is : ls.now ≡ l ∷ others) (first : marked marks asked.now ≡ r ∷ marked more asked.now) where
+    -- it meets
+    pub read-meets : {k : ℕ} → IsFrame meets left_box right_box k (ls, asked, marks, later, rights) → does_meet meets left_box right_box l r ≡ true
+    read-meets at = (subst (AllByRecursion (λ x. does_meet meets left_box right_box l x ≡ true)) first (at.meeting l others is)).0
 
-  -- ---- nodes on the right that are passed over
-
-  skip-pairs : (l : RTreeNode T E P S X) (skipped met : List (RTreeNode U F Q R Y)) → AllByRecursion (λ r. does_meet meets left_box right_box l r ≡ false) skipped
-      → all_pairs meets left_box right_box (l ∷ []) (skipped ++ met) ≡ all_pairs meets left_box right_box (l ∷ []) met
-  skip-pairs l [] met apart = refl
-  skip-pairs l (r ∷ skipped) met apart =
-      ap (λ w. w ++ all_pairs meets left_box right_box (l ∷ []) (skipped ++ met)) (passed meets left_box right_box l r apart.0).0 ∙ skip-pairs l skipped met apart.1
-
-  skip-opens : (l : RTreeNode T E P S X) (skipped met : List (RTreeNode U F Q R Y)) → AllByRecursion (λ r. does_meet meets left_box right_box l r ≡ false) skipped
-      → all_opens meets left_box right_box (l ∷ []) (skipped ++ met) ≡ all_opens meets left_box right_box (l ∷ []) met
-  skip-opens l [] met apart = refl
-  skip-opens l (r ∷ skipped) met apart =
-      let opens_of = λ (p : RTreeNode T E P S X × RTreeNode U F Q R Y). opens_at meets left_box right_box p.0 p.1 in
-      let a : all_opens meets left_box right_box (l ∷ []) (r ∷ (skipped ++ met)) ≡ opens_at meets left_box right_box l r + all_opens meets left_box right_box (l ∷ []) (skipped ++ met) = sum_by-cons opens_of (the_pair l r) (product (l ∷ []) (skipped ++ met)) in
-      let b = (passed meets left_box right_box l r apart.0).1 in
-      let c = skip-opens l skipped met apart.1 in
-      omega (arith, a, b, c)
-
-  skip-steps : (l : RTreeNode T E P S X) (skipped met : List (RTreeNode U F Q R Y)) → frame_steps steps_at (l ∷ []) met + length skipped ≤ frame_steps steps_at (l ∷ []) (skipped ++ met)
-  skip-steps l [] met = omega arith
-  skip-steps l (r ∷ skipped) met = let ih = skip-steps l skipped met in let some = steps-positive l r in omega (arith, ih, some)
-
-  module _ (ls : Bor (List (RTreeNode T E P S X))) (rs met : Bor (List (RTreeNode U F Q R Y))) (l : RTreeNode T E P S X) (only : ls.now ≡ l ∷ [])
-      (from : IsFromFirst (does_meet meets left_box right_box l) rs.now met.now) where
-    pub skip-room : (k : ℕ) → FitsIn k (ls, rs) → FitsIn k (ls, met)
-    skip-room k at = record {
+    read-frame : (k : ℕ) → IsFrame meets left_box right_box k (ls, asked, marks, later, rights) → IsFrame meets left_box right_box k (ls, asked, more, later, rights)
+    read-frame k at = record {
       left_height = at.left_height;
       right_height = at.right_height;
       lefts = at.lefts;
-      rights = all-rest (IsLevel at.right_height) from.skipped met.now (subst (AllByRecursion (IsLevel at.right_height)) from.all at.rights);
+      met = (subst (AllByRecursion (IsLevel at.right_height)) first at.met).1;
+      later = at.later;
+      rights = at.rights;
       fits = at.fits;
+      meeting = λ x xs e. (subst (AllByRecursion (λ y. does_meet meets left_box right_box x y ≡ true)) first (at.meeting x xs e)).1;
     }
 
-    same-pairs : all_pairs meets left_box right_box ls.now rs.now ≡ all_pairs meets left_box right_box ls.now met.now
-    same-pairs = (λ i. all_pairs meets left_box right_box (only i) (from.all i)) ∙ skip-pairs l from.skipped met.now from.fail ∙ (λ i. all_pairs meets left_box right_box (sym only i) met.now)
+    read-pairs : pairs_with meets left_box right_box ls.now (marked marks asked.now ++ later.now) rights.now ≡ pairs_at meets left_box right_box l r ++ pairs_with meets left_box right_box ls.now (marked more asked.now ++ later.now) rights.now
+    read-pairs =
+        (λ i. pairs_with meets left_box right_box (is i) (first i ++ later.now) rights.now)
+        ∙ append_assoc (pairs_at meets left_box right_box l r) (row_pairs l (marked more asked.now ++ later.now)) (all_pairs meets left_box right_box others rights.now)
+        ∙ ap (λ x. pairs_at meets left_box right_box l r ++ pairs_with meets left_box right_box x (marked more asked.now ++ later.now) rights.now) (sym is)
 
-    same-opens : all_opens meets left_box right_box ls.now rs.now ≡ all_opens meets left_box right_box ls.now met.now
-    same-opens = (λ i. all_opens meets left_box right_box (only i) (from.all i)) ∙ skip-opens l from.skipped met.now from.fail ∙ (λ i. all_opens meets left_box right_box (sym only i) met.now)
-
-    less-steps : frame_steps steps_at ls.now met.now + length from.skipped ≤ frame_steps steps_at ls.now rs.now
-    less-steps =
-        let a : frame_steps steps_at ls.now rs.now ≡ frame_steps steps_at (l ∷ []) (from.skipped ++ met.now) = (λ i. frame_steps steps_at (only i) (from.all i)) in
-        let b : frame_steps steps_at ls.now met.now ≡ frame_steps steps_at (l ∷ []) met.now = ap (λ x. frame_steps steps_at x met.now) only in
-        let c = skip-steps l from.skipped met.now in
+    read-opens : opens_with meets left_box right_box ls.now (marked marks asked.now ++ later.now) rights.now ≡ opens_at meets left_box right_box l r + opens_with meets left_box right_box ls.now (marked more asked.now ++ later.now) rights.now
+    read-opens =
+        let a : opens_with meets left_box right_box ls.now (marked marks asked.now ++ later.now) rights.now ≡ opens_with meets left_box right_box (l ∷ others) (r ∷ (marked more asked.now ++ later.now)) rights.now = (λ i. opens_with meets left_box right_box (is i) (first i ++ later.now) rights.now) in
+        let b : row_opens l (r ∷ (marked more asked.now ++ later.now)) ≡ opens_at meets left_box right_box l r + row_opens l (marked more asked.now ++ later.now) = sum_by-cons opens_of (the_pair l r) (product (l ∷ []) (marked more asked.now ++ later.now)) in
+        let c : opens_with meets left_box right_box ls.now (marked more asked.now ++ later.now) rights.now ≡ opens_with meets left_box right_box (l ∷ others) (marked more asked.now ++ later.now) rights.now = ap (λ x. opens_with meets left_box right_box x (marked more asked.now ++ later.now) rights.now) is in
         omega (arith, a, b, c)
 
-    -- all of them
-    pub move-pass : met.now ≡ [] → rs.now ≢ [] → IsMove (ls, rs) ((ls, met) ∷ []) [] 0
-    move-pass none some = record {
-      pairs = same-pairs;
-      opened = let e = same-opens in omega (arith, e);
-      room = λ k at. one-frame (k + 1) k (ls, met) refl (skip-room k at);
-      nearer =
-          let e = less-steps in
-          let k = some-skipped from.skipped (λ gone. some (from.all ∙ (λ i. gone i ++ none i))) in
-          omega (arith, e, k);
-    } where
-      some-skipped : (skipped : List (RTreeNode U F Q R Y)) → skipped ≢ [] → 1 ≤ length skipped
-      some-skipped [] h = absurd (h refl)
-      some-skipped (r ∷ skipped) h = omega arith
+    read-steps : steps_with steps_at ls.now (marked marks asked.now) later.now rights.now ≡ steps_at l r + steps_with steps_at ls.now (marked more asked.now) later.now rights.now
+    read-steps =
+        let a : steps_with steps_at ls.now (marked marks asked.now) later.now rights.now ≡ steps_with steps_at (l ∷ others) (r ∷ marked more asked.now) later.now rights.now = (λ i. steps_with steps_at (is i) (first i) later.now rights.now) in
+        let b : steps_with steps_at ls.now (marked more asked.now) later.now rights.now ≡ steps_with steps_at (l ∷ others) (marked more asked.now) later.now rights.now = ap (λ x. steps_with steps_at x (marked more asked.now) later.now rights.now) is in
+        omega (arith, a, b)
 
-    -- those before a move
-    pub after-pass : {news : List (Frame T E P S X U F Q R Y)} {gives : List (T × U)} {opens : ℕ} → IsMove (ls, met) news gives opens → IsMove (ls, rs) news gives opens
-    after-pass move = record {
-      pairs = same-pairs ∙ move.pairs;
-      opened = let e = same-opens in let f = move.opened in omega (arith, e, f);
-      room = λ k at. move.room k (skip-room k at);
-      nearer = let e = less-steps in let f = move.nearer in omega (arith, e, f);
-    }
+    -- two leaves
+    pub move-read : (gives : List (T × U)) → pairs_at meets left_box right_box l r ≡ gives → opens_at meets left_box right_box l r ≡ 0
+        → IsMove (ls, asked, marks, later, rights) ((ls, asked, more, later, rights) ∷ []) gives 0
+    move-read gives given none =
+        let opens = read-opens in let steps = read-steps in let some = steps-positive l r in
+        record {
+          pairs = read-pairs ∙ ap (λ g. g ++ pairs_with meets left_box right_box ls.now (marked more asked.now ++ later.now) rights.now) given;
+          opened = omega (arith, opens, none);
+          room = λ k at. one-frame (k + 1) k (ls, asked, more, later, rights) refl (read-frame k at);
+          nearer = omega (arith, steps, some);
+        }
+
+    -- what comes after the two lies lower
+    lower : {k : ℕ} (at : IsFrame meets left_box right_box k (ls, asked, marks, later, rights)) → both_leaves l r ≡ false
+        → (h h' : ℕ) × AllByRecursion (IsLevel h) (opened_to l) × AllByRecursion (IsLevel h') (opened_to r) × (max at.left_height at.right_height ≡ max h h' + 1)
+    lower at inner =
+        let a = level-opened at.left_height l (subst (AllByRecursion (IsLevel at.left_height)) is at.lefts).0 in
+        let b = level-opened at.right_height r (subst (AllByRecursion (IsLevel at.right_height)) first at.met).0 in
+        (a.0, b.0, a.1, b.1, levels-lower (is_leaf_node l) (is_leaf_node r) at.left_height a.0 at.right_height b.0 inner a.2 b.2)
+
+    -- room for a push
+    pub open-room : {k : ℕ} → IsFrame meets left_box right_box k (ls, asked, marks, later, rights) → both_leaves l r ≡ false → 1 ≤ k
+    open-room at inner = let low = lower at inner in omega (arith, at.fits, low.4)
+
+    -- a pair that is opened
+    module _ (ls' : Bor (List (RTreeNode T E P S X))) (rs' : Bor (List (RTreeNode U F Q R Y))) (inner : both_leaves l r ≡ false) (down : ls'.now ≡ opened_to l) (down' : rs'.now ≡ opened_to r) where
+      abbrev below_frame : Frame T E P S X U F Q R Y
+      below_frame = (ls', asked, 0, rs', rs')
+
+      below-pairs : does_meet meets left_box right_box l r ≡ true → pairs_at meets left_box right_box l r ≡ pairs_with meets left_box right_box ls'.now (marked 0 asked.now ++ rs'.now) rs'.now
+      below-pairs meeting =
+          (opened meets left_box right_box l r inner).pairs ∙ ap (λ (b : Bool). if b then all_pairs meets left_box right_box (opened_to l) (opened_to r) else []) meeting
+          ∙ (λ i. all_pairs meets left_box right_box (sym down i) (sym down' i)) ∙ sym (fresh-pairs ls'.now rs'.now) ∙ ap (λ x. pairs_with meets left_box right_box ls'.now (x ++ rs'.now) rs'.now) (sym (marked-zero asked.now))
+
+      below-opens : does_meet meets left_box right_box l r ≡ true → opens_at meets left_box right_box l r ≡ 1 + opens_with meets left_box right_box ls'.now (marked 0 asked.now ++ rs'.now) rs'.now
+      below-opens meeting =
+          (opened meets left_box right_box l r inner).opens ∙ ap (λ (b : Bool). if b then 1 + all_opens meets left_box right_box (opened_to l) (opened_to r) else 0) meeting
+          ∙ (λ i. 1 + all_opens meets left_box right_box (sym down i) (sym down' i)) ∙ ap (λ n. 1 + n) (sym (fresh-opens ls'.now rs'.now) ∙ ap (λ x. opens_with meets left_box right_box ls'.now (x ++ rs'.now) rs'.now) (sym (marked-zero asked.now)))
+
+      below-steps : steps_at l r ≡ 1 + steps_with steps_at ls'.now (marked 0 asked.now) rs'.now rs'.now
+      below-steps =
+          (opened meets left_box right_box l r inner).steps ∙ (λ i. 1 + all_steps steps_at (sym down i) (sym down' i))
+          ∙ ap (λ n. 1 + n) (sym (fresh-steps ls'.now rs'.now) ∙ ap (λ x. steps_with steps_at ls'.now x rs'.now rs'.now) (sym (marked-zero asked.now)))
+
+      pub move-open : does_meet meets left_box right_box l r ≡ true → IsMove (ls, asked, marks, later, rights) ((ls, asked, more, later, rights) ∷ below_frame ∷ []) [] 1
+      move-open meeting =
+          let opens = read-opens in let steps = read-steps in let b = below-opens meeting in let s = below-steps in
+          record {
+            pairs = read-pairs ∙ ap (λ g. g ++ pairs_with meets left_box right_box ls.now (marked more asked.now ++ later.now) rights.now) (below-pairs meeting);
+            opened = omega (arith, opens, b);
+            room = λ k at.
+                let low = lower at inner in
+                two-frames (k + 1) k (ls, asked, more, later, rights) below_frame refl (omega (arith, at.fits, low.4)) (read-frame k at)
+                (λ j e. record {
+                  left_height = low.0;
+                  right_height = low.1;
+                  lefts = subst (AllByRecursion (IsLevel low.0)) (sym down) low.2;
+                  met = subst (AllByRecursion (IsLevel low.1)) (sym (marked-zero asked.now)) tt;
+                  later = subst (AllByRecursion (IsLevel low.1)) (sym down') low.3;
+                  rights = subst (AllByRecursion (IsLevel low.1)) (sym down') low.3;
+                  fits = omega (arith, at.fits, low.4, e);
+                  meeting = λ x xs e. subst (AllByRecursion (λ y. does_meet meets left_box right_box x y ≡ true)) (sym (marked-zero asked.now)) tt;
+                });
+            nearer = omega (arith, steps, s);
+          }
+
+  -- room for a push, where the frame that is read wants some
+  pub path-room : (room : ℕ) (xs : List (Frame T E P S X U F Q R Y)) (x : Frame T E P S X U F Q R Y) → AreFrames meets left_box right_box (room + 1) (xs ++ x ∷ []) → ((k : ℕ) → IsFrame meets left_box right_box k x → 1 ≤ k) → length xs < room
+  path-room room xs x at wants = let last = frames-last (room + 1) xs x at in let k = wants last.0 last.3 in omega (arith, last.1, k)
+
+  -- the frame that is read is one
+  pub last-frame : (room : ℕ) (xs : List (Frame T E P S X U F Q R Y)) (x : Frame T E P S X U F Q R Y) → AreFrames meets left_box right_box (room + 1) (xs ++ x ∷ []) → (k : ℕ) × IsFrame meets left_box right_box k x
+  last-frame room xs x at = let last = frames-last (room + 1) xs x at in (last.0, last.3)
 
   -- a step after a move that gives nothing
   pub step-after : (old mid new : IntersectionIterator T U E P S X F Q R Y) (r : PairStep T U) → mid.left.now ≡ old.left.now → mid.right.now ≡ old.right.now

@@ -1,5 +1,5 @@
--- The inside of a join: the slices of nodes that are still to be paired, and one step.
-use Rattle.std.specs.Prelude.{◌≡◌, ℕ, zero, suc, ◌+◌, ◌*◌, ◌<◌, ◌≤◌, min, max, Bool, true, false, List, [], ◌∷◌, ◌++◌, map, length, ⊤, ◌⊎◌}
+-- The inside of a join: the nodes that are still to be paired, and one step.
+use Rattle.std.specs.Prelude.{◌≡◌, ℕ, zero, suc, ◌+◌, ◌/◌, ◌%◌, ◌<◌, ◌≤◌, min, max, Bool, true, List, [], ◌∷◌, ◌++◌, map, length, ⊤, ◌==◌, if◌then◌else◌}
 use Rattle.std.specs.List.{AllByRecursion}
 use Rattle.std.specs.Borrow.{Bor}
 use Rattle.rstar.specs.declared.node.RTreeNode.{RTreeNode}
@@ -7,69 +7,92 @@ use Rattle.rstar.specs.declared.node.ParentNode.{ParentNode}
 use Rattle.rstar.specs.declared.iterators.joins.IntersectionIterator.{IntersectionIterator}
 use Rattle.rstar.specs.declared.iterators.joins.PairStep.{PairStep}
 use Rattle.rstar.specs.declared.iterators.joins.PairStep.TheVariants.{Found, Passed, Ended}
-use Rattle.rstar.specs.Nodes.{fold_tree, total}
+use Rattle.rstar.specs.Nodes.{fold_tree, node_box, total}
 use Rattle.rstar.specs.Meets.{opened_to, meet_of_roots, all_pairs, all_opens}
 use Rattle.rstar_base.specs.Counts.{usize_max}
-use Rattle.rstar.specs.Walks.{IsLevel, steps}
+use Rattle.rstar.specs.Walks.{IsLevel}
+
+-- ---- marks: the binary digits of a number, the lowest for the first item
+
+-- the items that are marked
+abbrev pub marked : {A : Type 0} → ℕ → List A → List A
+marked marks [] = []
+marked marks (x ∷ xs) = if marks % 2 == 1 then x ∷ marked (marks / 2) xs else marked (marks / 2) xs
+
+-- the first item that is marked, with all behind it, and marks for the others
+pub record IsFirstMarked {A : Type 0} (items : List A) (marks : ℕ) (from : List A) (others : ℕ) : Type 0 where
+  pub first : A
+  pub behind : List A
+  pub begins : from ≡ first ∷ behind
+  pub all : marked marks items ≡ first ∷ marked others items
 
 -- ---- frames, the last of them read first
 
--- two slices of nodes, each on the left to be paired with each on the right
+-- nodes on the left, for the first of them nodes on the right that were asked, with marks for those that it meets and
+-- that are still to be read, those that are to be asked later, and all on the right for the others
 abbrev pub Frame : (T E P S X U F Q R Y : Type 0) → Type 0
-Frame T E P S X U F Q R Y = Bor (List (RTreeNode T E P S X)) × Bor (List (RTreeNode U F Q R Y))
-
--- one more where there are several
-abbrev pub one_if_several : {A : Type 0} → List A → ℕ
-one_if_several [] = 0
-one_if_several (x ∷ []) = 0
-one_if_several (x ∷ y ∷ xs) = 1
+Frame T E P S X U F Q R Y = Bor (List (RTreeNode T E P S X)) × Bor (List (RTreeNode U F Q R Y)) × ℕ
+    × Bor (List (RTreeNode U F Q R Y)) × Bor (List (RTreeNode U F Q R Y))
 
 -- the list has one item
 abbrev pub IsSingle : {A : Type 0} → List A → Type 0
 IsSingle xs = length xs ≡ 1
 
--- the items from the first one on that passes a test: those before it do not
-pub record IsFromFirst {A : Type 0} (test : A → Bool) (items rest : List A) : Type 0 where
-  pub skipped : List A
-  pub all : items ≡ skipped ++ rest
-  pub fail : AllByRecursion (λ x. test x ≡ false) skipped
-  pub first : (x : A) (more : List A) → rest ≡ x ∷ more → test x ≡ true
-
 module _ {T E P S X U F Q R Y : Type 0} where
-  -- no more than `room` frames come after a frame: two for each level of the higher side, and one more for several
-  -- nodes on the left
-  pub record FitsIn (room : ℕ) (frame : Frame T E P S X U F Q R Y) : Type 0 where
+  -- those on the right that the first on the left meets and that are still to be read
+  abbrev pub met_of : Frame T E P S X U F Q R Y → List (RTreeNode U F Q R Y)
+  met_of frame = marked frame.2 frame.1.now
+
+  -- the frames of an iterator: those that are left, and behind them the one that is being read
+  abbrev pub in_hand : IntersectionIterator T U E P S X F Q R Y → Frame T E P S X U F Q R Y
+  in_hand it = (it.lefts, it.asked, it.marks, it.later, it.rights)
+
+  abbrev pub frames_of : IntersectionIterator T U E P S X F Q R Y → List (Frame T E P S X U F Q R Y)
+  frames_of it = it.path.items ++ in_hand it ∷ []
+
+module _ {T E P S X U F Q R Y : Type 0} (meets : E → F → Bool) (left_box : T → E) (right_box : U → F) where
+  -- no more than `room` frames come after a frame, one for each level of the higher side, and the nodes that are marked
+  -- meet the first on the left
+  pub record IsFrame (room : ℕ) (frame : Frame T E P S X U F Q R Y) : Type 0 where
     pub left_height : ℕ
     pub right_height : ℕ
     pub lefts : AllByRecursion (IsLevel left_height) frame.0.now
-    pub rights : AllByRecursion (IsLevel right_height) frame.1.now
-    pub fits : 2 * max left_height right_height + one_if_several frame.0.now ≤ room
+    pub met : AllByRecursion (IsLevel right_height) (met_of frame)
+    pub later : AllByRecursion (IsLevel right_height) frame.3.now
+    pub rights : AllByRecursion (IsLevel right_height) frame.4.now
+    pub fits : max left_height right_height ≤ room
+    pub meeting : (l : RTreeNode T E P S X) (others : List (RTreeNode T E P S X)) → frame.0.now ≡ l ∷ others
+        → AllByRecursion (λ r. meets (node_box left_box l) (node_box right_box r) ≡ true) (met_of frame)
 
   -- each frame has the room that those before it leave
   abbrev pub AreFrames : ℕ → List (Frame T E P S X U F Q R Y) → Type 0
   AreFrames n [] = ⊤
   AreFrames zero (frame ∷ frames) = ⊥
-  AreFrames (suc n) (frame ∷ frames) = FitsIn n frame × AreFrames n frames
+  AreFrames (suc n) (frame ∷ frames) = IsFrame n frame × AreFrames n frames
 
-  -- the frames of an iterator: those that are left, and behind them the one that is being read
-  abbrev pub frames_of : IntersectionIterator T U E P S X F Q R Y → List (Frame T E P S X U F Q R Y)
-  frames_of it = it.path.items ++ (it.lefts, it.rights) ∷ []
+  -- what nodes on the left give, the first with some on the right and the others with all, and how many pairs are
+  -- opened from there
+  abbrev pub pairs_with : List (RTreeNode T E P S X) → List (RTreeNode U F Q R Y) → List (RTreeNode U F Q R Y)
+      → List (T × U)
+  pairs_with [] some all = []
+  pairs_with (l ∷ ls) some all = all_pairs meets left_box right_box (l ∷ []) some
+      ++ all_pairs meets left_box right_box ls all
 
-  -- nothing is left in hand on one of the two sides
-  abbrev pub IsDone : IntersectionIterator T U E P S X F Q R Y → Type 0
-  IsDone it = (it.lefts.now ≡ []) ⊎ (it.rights.now ≡ [])
+  abbrev pub opens_with : List (RTreeNode T E P S X) → List (RTreeNode U F Q R Y) → List (RTreeNode U F Q R Y) → ℕ
+  opens_with [] some all = 0
+  opens_with (l ∷ ls) some all = all_opens meets left_box right_box (l ∷ []) some
+      + all_opens meets left_box right_box ls all
 
-module _ {T E P S X U F Q R Y : Type 0} (meets : E → F → Bool) (left_box : T → E) (right_box : U → F) where
-  -- what frames give, the last frame first, and how many pairs are opened from there
+  -- the same of frames, the last frame first
   abbrev pub pairs_from_frames : List (Frame T E P S X U F Q R Y) → List (T × U)
   pairs_from_frames [] = []
   pairs_from_frames (frame ∷ frames) =
-      pairs_from_frames frames ++ all_pairs meets left_box right_box frame.0.now frame.1.now
+      pairs_from_frames frames ++ pairs_with frame.0.now (met_of frame ++ frame.3.now) frame.4.now
 
   abbrev pub opens_from_frames : List (Frame T E P S X U F Q R Y) → ℕ
   opens_from_frames [] = 0
   opens_from_frames (frame ∷ frames) =
-      opens_from_frames frames + all_opens meets left_box right_box frame.0.now frame.1.now
+      opens_from_frames frames + opens_with frame.0.now (met_of frame ++ frame.3.now) frame.4.now
 
   -- the pairs opened and those still to be opened are all that Meet counts
   pub record IsCounted (left : ParentNode T E P S X) (right : ParentNode U F Q R Y)
@@ -89,24 +112,36 @@ module _ {T E P S X U F Q R Y : Type 0} (meets : E → F → Bool) (left_box : T
 
 -- ---- steps
 
--- how many steps a pair of lists takes where each pair of items takes so many: one for each row's end, and one for each
--- parting
+-- how many steps a pair of lists takes where each pair of items takes so many: one for each pair that is asked, one for
+-- each row's end, and one for the list's
 abbrev pub row_steps : {A B : Type 0} → (A → B → ℕ) → A → List B → ℕ
-row_steps f a bs = 1 + total (map (f a) bs)
+row_steps f a bs = 1 + total (map (λ b. 1 + f a b) bs)
 
-abbrev pub frame_steps : {A B : Type 0} → (A → B → ℕ) → List A → List B → ℕ
-frame_steps f [] bs = 1
-frame_steps f (a ∷ rest) bs = row_steps f a bs + total (map (λ x. 1 + row_steps f x bs) rest)
+abbrev pub all_steps : {A B : Type 0} → (A → B → ℕ) → List A → List B → ℕ
+all_steps f as' bs = 1 + total (map (λ a. row_steps f a bs) as')
+
+-- the same, where of the first row some are met and some are to be asked later
+abbrev pub steps_with : {A B : Type 0} → (A → B → ℕ) → List A → List B → List B → List B → ℕ
+steps_with f [] met later all = 1
+steps_with f (a ∷ rest) met later all =
+    1 + (total (map (f a) met) + row_steps f a later) + total (map (λ x. row_steps f x all) rest)
+
+-- how many steps a leaf beside a node takes
+unfoldable pub steps_beside : {U F Q R Y : Type 0} → RTreeNode U F Q R Y → ℕ
+steps_beside r = fold_tree (λ u. 1) (λ e below. 3 + total (map (λ n. 1 + n) below)) r
 
 -- how many steps a pair of nodes takes: one, and those of what comes after it
 unfoldable pub steps_at : {T E P S X U F Q R Y : Type 0} → RTreeNode T E P S X → RTreeNode U F Q R Y → ℕ
-steps_at {U = U} {F = F} {Q = Q} {R = R} {Y = Y} l r = fold_tree {A = RTreeNode U F Q R Y → ℕ} (λ t r. steps r)
-    (λ e below r. 1 + frame_steps (λ b n. b n) below (opened_to r)) l r
+steps_at {U = U} {F = F} {Q = Q} {R = R} {Y = Y} l r = fold_tree {A = RTreeNode U F Q R Y → ℕ} (λ t r. steps_beside r)
+    (λ e below r. 1 + all_steps (λ b n. b n) below (opened_to r)) l r
 
 -- how many steps frames take
+abbrev pub steps_of_frame : {T E P S X U F Q R Y : Type 0} → Frame T E P S X U F Q R Y → ℕ
+steps_of_frame frame = steps_with steps_at frame.0.now (met_of frame) frame.3.now frame.4.now
+
 abbrev pub steps_of_frames : {T E P S X U F Q R Y : Type 0} → List (Frame T E P S X U F Q R Y) → ℕ
 steps_of_frames [] = 0
-steps_of_frames (frame ∷ frames) = steps_of_frames frames + frame_steps steps_at frame.0.now frame.1.now
+steps_of_frames (frame ∷ frames) = steps_of_frames frames + steps_of_frame frame
 
 -- what a step did to the pairs that are to come
 abbrev pub IsGivenPair : {T U : Type 0} → List (T × U) → PairStep T U → List (T × U) → Type 0

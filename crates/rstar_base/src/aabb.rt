@@ -37,7 +37,7 @@ pub(crate) fn bound<P: Point>(lower: &P, upper: &P, above: &P, below: &P) -> boo
             ensures { result
                 ≡ (int_le (P.coord lower.entry.now i) (P.coord above.entry.now i)
                 && int_le (P.coord below.entry.now i) (P.coord upper.entry.now i)) }
-        { not_above(lower.nth(i), above.nth(i)) && not_above(below.nth(i), upper.nth(i)) },
+        { not_above(lower.nth(i), above.nth(i)) & not_above(below.nth(i), upper.nth(i)) },
     )
 }
 

@@ -22,18 +22,18 @@ pub(crate) fn generated<P: Point, F: Fn(usize) -> P::Scalar + Drop>(f: F) -> P
     P::generate(f)
 }
 
-/// Whether a test holds on every axis.
+/// Whether a test holds on every axis. All axes are tested, with no branch in between: which one fails is seldom
+/// foreseen.
 pub(crate) fn every_axis<P: Point, F: Fn(usize) -> bool + Drop>(test: F) -> bool
     requires { (i : ℕ) → i < P.DIMENSIONS → F.pre test i }
     ensures { (t : ℕ → Bool) → ((i : ℕ) (b : Bool) → i < P.DIMENSIONS → F.post test i b → b ≡ t i)
         → result ≡ all_below P.DIMENSIONS t }
 {
+    let mut all = true;
     for i in 0..P::DIMENSIONS {
-        if !test(i) {
-            return false;
-        }
+        all = all & test(i);
     }
-    true
+    all
 }
 
 /// The clamped sum of a number for each axis.

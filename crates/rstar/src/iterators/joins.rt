@@ -1,12 +1,12 @@
 //! Joins: the pairs of elements of two trees whose envelopes intersect, by a walk through both trees together.
 
-ghost use Rattle.std.specs.Prelude.{◌≡◌, ◌≢◌, ◌<◌, ◌≤◌, [], ◌∷◌, max, false, refl, IsOk, IfOk, IfSome, IfNone, flat_map, length, take};
+ghost use Rattle.std.specs.Prelude.{◌≡◌, ◌+◌, ◌*◌, ◌^◌, ◌<◌, ◌≤◌, [], ◌∷◌, List, max, false, refl, IsOk, IfOk, IfSome, IfNone, filter, flat_map, length, take, if◌then◌else◌};
 ghost use Rattle.std.specs.Iterator.{item_count};
 ghost use Rattle.rstar.specs.declared.node.RTreeNode.{Leaf};
 ghost use Rattle.rstar.specs.Heights.{levels_below};
 ghost use Rattle.rstar.specs.Nodes.{children_of, node_box, IsWhole};
 ghost use Rattle.rstar.specs.Meets.{opened_to, both_leaves, pairs_from_roots};
-ghost use Rattle.rstar.specs.JoinWalks.{IsSingle, IsDone, IsFromFirst, HasItsPaths, IsPairStep};
+ghost use Rattle.rstar.specs.JoinWalks.{marked, IsFirstMarked, IsSingle, HasItsPaths, IsPairStep};
 ghost use Rattle.rstar.specs.Joins.{SeenLaws, meets_by, pairs_opened, pairs_to_come, IsJoinMade, IsJoining, GivesPair};
 
 use crate::node::{ParentNode, RTreeNode};
@@ -42,6 +42,9 @@ impl<T: RTreeObject> InEnvelope<T::Envelope> for T {
     } };
 }
 
+/// How many nodes are asked at once, with a mark for each.
+const MARKS: usize = 64;
+
 /// The pairs of elements of two trees whose envelopes intersect, each pair of places once, in some order, and then
 /// `None`.
 ///
@@ -52,10 +55,22 @@ impl<T: RTreeObject> InEnvelope<T::Envelope> for T {
 pub struct IntersectionIterator<'a, T: RTreeObject, U: InEnvelope<T::Envelope> = T> {
     left: &'a ParentNode<T>,
     right: &'a ParentNode<U>,
-    // The nodes that are being read, each on the left with each on the right, and in the path those left for them.
+    // The nodes that are being read: for the first on the left those on the right that were asked and are marked, and
+    // those to be asked later, and for the others on the left all on the right. The path has what was left of others.
     lefts: &'a [RTreeNode<T>],
+    asked: &'a [RTreeNode<U>],
+    marks: u64,
+    later: &'a [RTreeNode<U>],
     rights: &'a [RTreeNode<U>],
-    path: Path<(&'a [RTreeNode<T>], &'a [RTreeNode<U>])>,
+    path: Path<
+        (
+            &'a [RTreeNode<T>],
+            &'a [RTreeNode<U>],
+            u64,
+            &'a [RTreeNode<U>],
+            &'a [RTreeNode<U>],
+        ),
+    >,
     opened: usize,
 }
 
@@ -102,22 +117,45 @@ fn meets_node<E: Envelope, U: InEnvelope<E>>(envelope: &E, node: &RTreeNode<U>) 
     }
 }
 
-/// The nodes from the first one on that an envelope meets; none where it meets none.
-fn from_first_met<'a, E: Envelope, U: InEnvelope<E>>(
-    envelope: &E,
-    nodes: &'a [RTreeNode<U>],
-) -> &'a [RTreeNode<U>]
-    ensures { IsFromFirst (λ n. meets_by E.boxes U.seen envelope.now (node_box U.object.box_of n))
-        nodes.now result.now }
+/// Marks with one more in front of them.
+fn with_mark(marks: u64, mark: bool) -> u64
+    requires { marks < 2 ^ 63 }
+    ensures { result ≡ (if mark then 1 else 0) + 2 * marks }
 {
+    if mark { 2 * marks + 1 } else { 2 * marks }
+}
+
+/// Marks for those of at most 64 nodes that an envelope meets.
+fn marks_of<E: Envelope, U: InEnvelope<E>>(envelope: &E, nodes: &[RTreeNode<U>]) -> u64
+    requires { length nodes.now ≤ 64 }
+    ensures { marked result nodes.now
+        ≡ filter (λ n. meets_by E.boxes U.seen envelope.now (node_box U.object.box_of n)) nodes.now }
+{
+    let mut marks = 0;
     let mut rest = nodes;
-    while let Some((node, more)) = rest.split_first() {
-        if meets_node(envelope, node) {
-            return rest;
-        }
-        rest = more;
+    while let Some((node, before)) = rest.split_last() {
+        marks = with_mark(marks, meets_node(envelope, node));
+        rest = before;
     }
-    rest
+    marks
+}
+
+/// The nodes from the first marked one on, and marks for the others.
+fn first_marked<T: RTreeObject>(
+    nodes: &[RTreeNode<T>],
+    marks: u64,
+) -> Option<(&[RTreeNode<T>], u64)>
+    ensures some { IfSome result (λ r. IsFirstMarked nodes.now marks r.0.now r.1) }
+    ensures none { IfNone result (marked marks nodes.now ≡ []) }
+{
+    if marks == 0 {
+        return None;
+    }
+    let place = marks.trailing_zeros() as usize;
+    if nodes.len() <= place {
+        return None;
+    }
+    Some((&nodes[place..], marks & (marks - 1)))
 }
 
 /// The elements of two leaves.
@@ -161,24 +199,31 @@ impl<'a, T: RTreeObject, U: InEnvelope<T::Envelope>> IntersectionIterator<'a, T,
     {
         let lefts = &left.children[..0];
         let rights = &right.children[..0];
-        let room = levels.saturating_mul(2).saturating_add(1);
-        let path = Path::with_room(*left.children.allocator(), (lefts, rights), room)?;
+        let blank = (lefts, rights, 0, rights, rights);
+        let path = Path::with_room(*left.children.allocator(), blank, levels)?;
         let empty = left.children.is_empty() || right.children.is_empty();
         if empty || !left.envelope.intersects(U::seen(&right.envelope)) {
             return Ok(IntersectionIterator {
                 left,
                 right,
                 lefts,
+                asked: rights,
+                marks: 0,
+                later: rights,
                 rights,
                 path,
                 opened: 0,
             });
         }
+        let nodes = right.children.as_slice();
         Ok(IntersectionIterator {
             left,
             right,
             lefts: left.children.as_slice(),
-            rights: right.children.as_slice(),
+            asked: rights,
+            marks: 0,
+            later: nodes,
+            rights: nodes,
             path,
             opened: 1,
         })
@@ -192,62 +237,75 @@ impl<'a, T: RTreeObject, U: InEnvelope<T::Envelope>> IntersectionIterator<'a, T,
         self.opened
     }
 
-    /// Parts the first node on the left from the others, and reads on with it; or goes back to what was left last.
+    /// Reads a node on the right that the first one on the left meets, or asks the next ones; or goes on with the next
+    /// one on the left; or goes back to what was left last.
     fn step(&mut self) -> PairStep<'a, T, U>
         requires { HasItsPaths (meets_by T.Envelope.boxes U.seen) T.object.box_of U.object.box_of self.old }
         ensures { IsPairStep (meets_by T.Envelope.boxes U.seen) T.object.box_of U.object.box_of
             self.old result self.new }
     {
-        let Some((left, more_lefts)) = self.lefts.split_first() else {
+        let Some((left, others)) = self.lefts.split_first() else {
             return self.go_back();
         };
-        if self.rights.is_empty() {
-            return self.go_back();
+        if let Some((met, marks)) = first_marked(self.asked, self.marks) {
+            return self.read(left, met, marks);
         }
-        if more_lefts.is_empty() {
-            return self.read(left);
+        if self.later.is_empty() {
+            self.lefts = others;
+            self.later = self.rights;
+            return PairStep::Passed;
         }
-        self.path.push_reserved((more_lefts, self.rights));
-        self.lefts = first_alone(self.lefts);
-        self.read(left)
+        let (asked, later) = self.later.split_at(self.later.len().min(MARKS));
+        self.marks = marks_of(&left.envelope(), asked);
+        self.asked = asked;
+        self.later = later;
+        PairStep::Passed
     }
 
-    /// Passes over the nodes on the right that the one on the left does not meet, and gives or opens the first pair that
-    /// meets; or goes back.
-    fn read(&mut self, left: &'a RTreeNode<T>) -> PairStep<'a, T, U>
+    /// Gives or opens the pair of the first node on the left and the first marked one on the right.
+    fn read(
+        &mut self,
+        left: &'a RTreeNode<T>,
+        met: &'a [RTreeNode<U>],
+        marks: u64,
+    ) -> PairStep<'a, T, U>
         requires paths { HasItsPaths (meets_by T.Envelope.boxes U.seen) T.object.box_of U.object.box_of self.old }
-        requires alone { self.old.lefts.now ≡ left.now ∷ [] }
-        requires some { self.old.rights.now ≢ [] }
+        requires first { (others : List _) × (self.old.lefts.now ≡ left.now ∷ others) }
+        requires met { IsFirstMarked self.old.asked.now self.old.marks met.now marks }
         ensures { IsPairStep (meets_by T.Envelope.boxes U.seen) T.object.box_of U.object.box_of
             self.old result self.new }
     {
-        let met = from_first_met(&left.envelope(), self.rights);
-        let Some((right, more_rights)) = met.split_first() else {
-            self.rights = met;
-            return self.go_back();
+        let Some((right, _behind)) = met.split_first() else {
+            return PairStep::Ended;
         };
+        self.marks = marks;
         if let Some((t, u)) = two_leaves(left, right) {
-            self.rights = more_rights;
             return PairStep::Found(t, u);
         }
         self.opened = self.opened.saturating_add(1);
-        self.path.push_reserved((self.lefts, more_rights));
-        self.lefts = opened_nodes(self.lefts);
+        self.path
+            .push_reserved((self.lefts, self.asked, marks, self.later, self.rights));
+        self.lefts = opened_nodes(first_alone(self.lefts));
         self.rights = opened_nodes(first_alone(met));
+        self.marks = 0;
+        self.later = self.rights;
         PairStep::Passed
     }
 
     /// Goes back to what was left last, where nothing is left in hand.
     fn go_back(&mut self) -> PairStep<'a, T, U>
         requires paths { HasItsPaths (meets_by T.Envelope.boxes U.seen) T.object.box_of U.object.box_of self.old }
-        requires none { IsDone self.old }
+        requires none { self.old.lefts.now ≡ [] }
         ensures { IsPairStep (meets_by T.Envelope.boxes U.seen) T.object.box_of U.object.box_of
             self.old result self.new }
     {
-        let Some((lefts, rights)) = self.path.pop() else {
+        let Some((lefts, asked, marks, later, rights)) = self.path.pop() else {
             return PairStep::Ended;
         };
         self.lefts = lefts;
+        self.asked = asked;
+        self.marks = marks;
+        self.later = later;
         self.rights = rights;
         PairStep::Passed
     }

@@ -1,7 +1,7 @@
 use Rattle.std.proofs.Common.{◌∷◌, ◌++◌, [], ◌∙◌, ap, sym, refl, arith, subst, append-nil, ◌≡◌, ◌+◌}
-use Rattle.rstar.specs.JoinWalks.{frames_of, IsCounted, pairs_from_frames, opens_from_frames}
+use Rattle.rstar.specs.JoinWalks.{in_hand, frames_of, IsCounted, pairs_from_frames, opens_from_frames}
 use Rattle.rstar.specs.Joins.{meets_by}
-use Rattle.rstar.proofs.PairWalks.{in_hand, frames-along, move-drop, move-pairs, move-nearer, move-frames, move-count}
+use Rattle.rstar.proofs.PairWalks.{frames-along, move-drop, move-pairs, move-nearer, move-frames, move-count}
 use Rattle.rstar.proofs.iterators.joins.IntersectionIterator.go_back.Goals as goal
 
 pub returns-in_default : goal.returns-in_default
@@ -18,7 +18,7 @@ returns-in_default g c =
     let move = move-drop meets left_box right_box frame c.requires.none in
     record {
       joining = record {
-        frames = frames-along _ _ (ap (λ n. n + 1) (sym room)) _ _ same c.requires.paths.frames;
+        frames = frames-along meets left_box right_box _ _ (ap (λ n. n + 1) (sym room)) _ _ same c.requires.paths.frames;
         count = subst (λ f. IsCounted meets left_box right_box self.left.now self.right.now f self.opened) same c.requires.paths.count;
       };
       left = refl;
@@ -39,7 +39,7 @@ returns g c =
     let self = c.args.self.now in
     let frame = in_hand self in
     let move = move-drop meets left_box right_box frame c.requires.none in
-    let frames = c.pop.new.self.items ++ (c.in-Some.lefts, c.in-Some.rights) ∷ [] in
+    let frames = c.pop.new.self.items ++ (c.in-Some.lefts, c.in-Some.asked, c.in-Some.marks, c.in-Some.later, c.in-Some.rights) ∷ [] in
     let was : frames_of self ≡ frames ++ frame ∷ [] = ap (λ l. l ++ frame ∷ []) c.in-Some.ensures.some in
     let is = sym (append-nil frames) in
     record {

@@ -1,10 +1,10 @@
 use Rattle.std.proofs.Common.{◌≡◌, ◌≢◌, ◌⊎◌, inl, inr, [], ◌∙◌, ap, sym, refl, arith, ◌+◌}
 use Rattle.std.proofs.lemmas.Bool.{true≢false}
 use Rattle.rstar.specs.Joins.{meets_by, IsJoining, pairs_to_come}
-use Rattle.rstar.specs.Meets.{meet_of_roots, pairs_from_roots, all_opens}
+use Rattle.rstar.specs.Meets.{meet_of_roots, pairs_from_roots, all_pairs, all_opens}
 use Rattle.rstar.specs.Nodes.{children_of, envelope_of}
 use Rattle.rstar.proofs.Walks.{no-items, some-items}
-use Rattle.rstar.proofs.Joined.{starts, starts-none, fits-none, fits-whole, roots-counted, roots-apart, roots-empty, roots-refused}
+use Rattle.rstar.proofs.Joined.{starts, starts-none, starts-all, fits-none, fits-whole, roots-counted, roots-apart, roots-empty, roots-refused, roots-met}
 use Rattle.rstar.proofs.iterators.joins.IntersectionIterator.new.Goals as goal
 use Rattle.rstar.proofs.iterators.joins.IntersectionIterator.new.Goals.{then-is_empty, else-is_empty, then-empty-via-then-empty, then-empty-via-else-empty+then-not-intersects}
 
@@ -27,7 +27,7 @@ returns-then-empty-clause-gives g c =
           roots-refused meets left_box right_box left right
           (ap (meets_by g.T.Envelope.Envelope.boxes (λ e. e) (envelope_of left)) (sym w.seen.ensures) ∙ sym w.intersects.ensures.test ∙ w.if-not-intersects.true)
     ] in
-    starts-none meets left_box right_box _ _ _ c.in_ok-path.ensures.empty refl ∙ sym none
+    starts-none meets left_box right_box _ _ _ _ c.in_ok-path.ensures.empty refl ∙ sym none
 
 pub returns-then-empty-clause-joining : goal.returns-then-empty-clause-joining
 unfolding IsJoining
@@ -49,7 +49,7 @@ returns-then-empty-clause-joining g c =
           left right c.requires.left c.requires.right
           (ap (meets_by g.T.Envelope.Envelope.boxes (λ e. e) (envelope_of left)) (sym w.seen.ensures) ∙ sym w.intersects.ensures.test ∙ w.if-not-intersects.true)
     ] in
-    starts meets left_box right_box _ c.in_ok-path.ensures.empty (fits-none _ _ _ refl refl) 0 (omega arith) (sym none)
+    starts meets left_box right_box _ c.in_ok-path.ensures.empty (fits-none meets left_box right_box _ _ _ _ refl refl) refl refl 0 (omega arith) (sym none)
 
 pub returns-clause-joining : goal.returns-clause-joining
 unfolding IsJoining
@@ -72,15 +72,12 @@ returns-clause-joining g c =
     ] in
     let all = roots-counted g.met.T.Envelope.Envelope.envelope_laws g.met.U.Envelope.Envelope.envelope_laws g.met.U.InEnvelope.seen_laws g.met.T.RTreeObject.object_law g.met.U.RTreeObject.object_law
     left right c.requires.left c.requires.right does some some' in
-    let here : 1 + all_opens meets left_box right_box c.as_slice.result.now c.as_slice-2.result.now ≡ 1 + all_opens meets left_box right_box (children_of left) (children_of right) = λ i. 1 + all_opens meets left_box right_box (c.as_slice.ensures.value i) (c.as_slice-2.ensures.value i) in
-    let levels = c.requires.levels in
-    let twice = c.saturating_mul.ensures in
-    let more = c.saturating_add-room.ensures in
+    let here : 1 + all_opens meets left_box right_box c.as_slice.result.now c.as_slice-nodes.result.now ≡ 1 + all_opens meets left_box right_box (children_of left) (children_of right) = λ i. 1 + all_opens meets left_box right_box (c.as_slice.ensures.value i) (c.as_slice-nodes.ensures.value i) in
     starts meets left_box right_box _ c.in_ok-path.ensures.empty
-    (fits-whole v w g.T.RTreeObject.object g.U.RTreeObject.object _ _ (children_of left) (children_of right) c.in_ok-path.path.capacity c.requires.left.height c.requires.right.height
-    c.as_slice.ensures.value c.as_slice-2.ensures.value some some' c.requires.left.below c.requires.right.below
-    (omega (arith, levels, twice, more, c.in_ok-path.ensures.room, c.in_ok-path.ensures.small)))
-    1 (omega arith) (here ∙ sym all)
+    (fits-whole v w g.T.RTreeObject.object g.U.RTreeObject.object meets _ _ _ (children_of left) (children_of right) c.in_ok-path.path.capacity c.requires.left.height c.requires.right.height
+    c.as_slice.ensures.value c.as_slice-nodes.ensures.value some some' c.requires.left.below c.requires.right.below
+    (omega (arith, c.requires.levels, c.in_ok-path.ensures.room)))
+    refl refl 1 (omega arith) (here ∙ sym all)
 
 pub returns-clause-made : goal.returns-clause-made
 returns-clause-made g c =
@@ -99,3 +96,16 @@ returns-clause-made g c =
     let all = roots-counted g.met.T.Envelope.Envelope.envelope_laws g.met.U.Envelope.Envelope.envelope_laws g.met.U.InEnvelope.seen_laws g.met.T.RTreeObject.object_law g.met.U.RTreeObject.object_law
     left right c.requires.left c.requires.right does some some' in
     record { left_over = refl; right_over = refl; opened = omega arith; at_most = omega (arith, all) }
+
+pub returns-clause-gives : goal.returns-clause-gives
+unfolding pairs_to_come
+returns-clause-gives g c =
+    let v = g.T.Envelope.Envelope.boxes in
+    let meets = meets_by v g.U.InEnvelope.seen in
+    let left_box = g.T.RTreeObject.object.box_of in
+    let right_box = g.U.RTreeObject.object.box_of in
+    let left = c.args.left.now in
+    let right = c.args.right.now in
+    let does = ap (meets_by v (λ e. e) (envelope_of left)) (sym c.seen.ensures) ∙ sym c.intersects.ensures.test ∙ c.if-not-intersects.false in
+    starts-all meets left_box right_box _ _ _ _ c.in_ok-path.ensures.empty
+    ∙ (λ i. all_pairs meets left_box right_box (c.as_slice.ensures.value i) (c.as_slice-nodes.ensures.value i)) ∙ sym (roots-met meets left_box right_box left right does)

@@ -1,32 +1,31 @@
-use Rattle.std.proofs.Common.{◌∷◌, ◌++◌, [], ◌∙◌, ap, refl, arith, append_assoc, take}
-use Rattle.rstar.specs.JoinWalks.{frames_of}
+use Rattle.std.proofs.Common.{◌≡◌, ◌<◌, refl, arith, subst, length, filter}
+use Rattle.std.proofs.lemmas.Bool.Decides.{nat_tests}
+use Rattle.rstar.specs.JoinWalks.{marked, frames_of}
 use Rattle.rstar.specs.Joins.{meets_by}
-use Rattle.rstar.proofs.Walks.{some-items}
-use Rattle.rstar.proofs.PairWalks.{move-part, move-pairs, move-nearer, move-frames, move-count, step-after, path-room, part-room}
+use Rattle.rstar.specs.Nodes.{node_box}
+use Rattle.rstar.proofs.Walks.{no-items}
+use Rattle.rstar.proofs.PairWalks.{move-row, move-ask, move-pairs, move-nearer, move-frames, move-count}
 use Rattle.rstar.proofs.iterators.joins.IntersectionIterator.step.Goals as goal
 
-pub push_reserved-requires : goal.push_reserved-requires
-push_reserved-requires g c =
-    let self = c.args.self.now in
-    let is = c.in-Some.ensures.cases.0 in
-    let some = some-items c.in-Some.more_lefts.now _ _ c.is_empty-2.ensures c.if-is_empty-2.false refl in
-    path-room self.path.capacity self.path.items (self.lefts, self.rights) c.requires.frames (part-room self.lefts self.rights c.in-Some.left.now c.in-Some.more_lefts.now is some)
-
-pub read-requires-2-clause-paths : goal.read-requires-2-clause-paths
-read-requires-2-clause-paths g c =
+pub returns-then-is_empty : goal.returns-then-is_empty
+returns-then-is_empty g c =
     let meets = meets_by g.T.Envelope.Envelope.boxes g.U.InEnvelope.seen in
     let left_box = g.T.RTreeObject.object.box_of in
     let right_box = g.U.RTreeObject.object.box_of in
     let self = c.args.self.now in
     let above = self.path.items in
-    let is = c.in-Some.ensures.cases.0 in
-    let some = some-items c.in-Some.more_lefts.now _ _ c.is_empty-2.ensures c.if-is_empty-2.false refl in
-    let alone = c.first_alone-self.ensures ∙ ap (take 1) is in
-    let move = move-part meets left_box right_box self.lefts c.in-Some.more_lefts c.first_alone-self.result self.rights c.in-Some.left.now is some alone in
-    let is-new = ap (λ f. f ++ (c.first_alone-self.result, self.rights) ∷ []) c.push_reserved.ensures.items ∙ append_assoc above ((c.in-Some.more_lefts, self.rights) ∷ []) ((c.first_alone-self.result, self.rights) ∷ []) in
+    let over = no-items self.later.now _ _ c.is_empty.ensures c.if-is_empty.true refl in
+    let move = move-row meets left_box right_box self.lefts c.in-Some.others self.asked self.later self.rights self.marks c.in-Some.left.now c.in-Some.ensures.cases.0 c.in_default-first_marked.ensures.none over in
     record {
-      frames = move-frames meets left_box right_box move above (frames_of self) _ refl is-new _ _ c.push_reserved.ensures.capacity c.requires.frames;
-      count = move-count meets left_box right_box move above (frames_of self) _ refl is-new _ _ self.opened _ (omega (arith, c.requires.count.counted)) c.requires.count;
+      joining = record {
+        frames = move-frames meets left_box right_box move above (frames_of self) _ refl refl _ _ refl c.requires.frames;
+        count = move-count meets left_box right_box move above (frames_of self) _ refl refl _ _ self.opened self.opened (omega (arith, c.requires.count.counted)) c.requires.count;
+      };
+      left = refl;
+      right = refl;
+      given = move-pairs meets left_box right_box move above (frames_of self) _ refl refl;
+      nearer = move-nearer meets left_box right_box move above (frames_of self) _ refl refl;
+      over = tt;
     }
 
 pub returns : goal.returns
@@ -36,12 +35,18 @@ returns g c =
     let right_box = g.U.RTreeObject.object.box_of in
     let self = c.args.self.now in
     let above = self.path.items in
-    let is = c.in-Some.ensures.cases.0 in
-    let some = some-items c.in-Some.more_lefts.now _ _ c.is_empty-2.ensures c.if-is_empty-2.false refl in
-    let alone = c.first_alone-self.ensures ∙ ap (take 1) is in
-    let move = move-part meets left_box right_box self.lefts c.in-Some.more_lefts c.first_alone-self.result self.rights c.in-Some.left.now is some alone in
-    let is-new = ap (λ f. f ++ (c.first_alone-self.result, self.rights) ∷ []) c.push_reserved.ensures.items ∙ append_assoc above ((c.in-Some.more_lefts, self.rights) ∷ []) ((c.first_alone-self.result, self.rights) ∷ []) in
-    step-after meets left_box right_box self _ _ _ refl refl
-    (move-pairs meets left_box right_box move above (frames_of self) _ refl is-new)
-    (move-nearer meets left_box right_box move above (frames_of self) _ refl is-new)
-    c.read-2.ensures
+    let chunk = c.split_at.result.0 in
+    let some : 0 < length chunk.now = grind (arith, nat_tests, c.is_empty.ensures, c.if-is_empty.false, c.min.ensures, c.split_at.ensures.front_len) in
+    let made = subst (λ e. marked c.marks_of-self.result chunk.now ≡ filter (λ n. meets e (node_box right_box n)) chunk.now) c.envelope.ensures.value c.marks_of-self.ensures in
+    let move = move-ask meets left_box right_box self.lefts self.asked self.later chunk c.split_at.result.1 self.rights self.marks c.marks_of-self.result c.in-Some.left.now c.in-Some.others.now c.in-Some.ensures.cases.0 c.in_default-first_marked.ensures.none c.split_at.ensures.by_index.0 some made in
+    record {
+      joining = record {
+        frames = move-frames meets left_box right_box move above (frames_of self) _ refl refl _ _ refl c.requires.frames;
+        count = move-count meets left_box right_box move above (frames_of self) _ refl refl _ _ self.opened self.opened (omega (arith, c.requires.count.counted)) c.requires.count;
+      };
+      left = refl;
+      right = refl;
+      given = move-pairs meets left_box right_box move above (frames_of self) _ refl refl;
+      nearer = move-nearer meets left_box right_box move above (frames_of self) _ refl refl;
+      over = tt;
+    }
