@@ -20,13 +20,10 @@ module _ {A : Type 0} where
   pub len_front : (l : List A) (i : ℕ) → i < length l → length (take i l) ≡ i
   len_front l i within = length-take-le i l (omega arith)
 
-  pub take_removed : (l : List A) (i : ℕ) → i < length l → take i (remove l i) ≡ take i l
-  take_removed l i within = take_at (take i l) (drop (suc i) l) i (len_front l i within)
-
   pub drop_removed : (l : List A) (i : ℕ) → i < length l → drop i (remove l i) ≡ drop (suc i) l
   drop_removed l i within = drop_at (take i l) (drop (suc i) l) i (len_front l i within)
 
-  pub take_set : (l : List A) (i : ℕ) (a : A) → i < length l → take i (set l i a) ≡ take i l
+  take_set : (l : List A) (i : ℕ) (a : A) → i < length l → take i (set l i a) ≡ take i l
   take_set l i a within = ap (take i) (set_split l i a within) ∙ take_at (take i l) (a ∷ drop (suc i) l) i (len_front l i within)
 
   pub drop_set : (l : List A) (i : ℕ) (a : A) → i < length l → drop i (set l i a) ≡ a ∷ drop (suc i) l
@@ -35,17 +32,13 @@ module _ {A : Type 0} where
   len_more : (l : List A) (i : ℕ) (a : A) → i < length l → length (take i l ++ a ∷ []) ≡ i + 1
   len_more l i a within = omega (arith, length-append (take i l) (a ∷ []), len_front l i within)
 
-  pub take_set_more : (l : List A) (i : ℕ) (a : A) → i < length l → take (i + 1) (set l i a) ≡ take i l ++ a ∷ []
-  take_set_more l i a within =
-      ap (take (i + 1)) (set_split l i a within ∙ sym (append_assoc (take i l) (a ∷ []) (drop (suc i) l)))
-      ∙ take_at (take i l ++ a ∷ []) (drop (suc i) l) (i + 1) (len_more l i a within)
+  pub drop_set_more : (l : List A) (i : ℕ) (a : A) → i < length l → drop (suc i) (set l i a) ≡ drop (suc i) l
+  drop_set_more l i a within =
+      ap (drop (suc i)) (set_split l i a within ∙ sym (append_assoc (take i l) (a ∷ []) (drop (suc i) l)))
+      ∙ drop_at (take i l ++ a ∷ []) (drop (suc i) l) (suc i) (omega (arith, len_more l i a within))
 
   pub remove_set : (l : List A) (i : ℕ) (a : A) → i < length l → remove (set l i a) i ≡ remove l i
-  remove_set l i a within =
-      let after : drop (suc i) (set l i a) ≡ drop (suc i) l =
-      ap (drop (suc i)) (set_split l i a within ∙ sym (append_assoc (take i l) (a ∷ []) (drop (suc i) l)))
-      ∙ drop_at (take i l ++ a ∷ []) (drop (suc i) l) (suc i) (omega (arith, len_more l i a within)) in
-      ap (λ z. z ++ drop (suc i) (set l i a)) (take_set l i a within) ∙ ap (λ z. take i l ++ z) after
+  remove_set l i a within = ap (λ z. z ++ drop (suc i) (set l i a)) (take_set l i a within) ∙ ap (λ z. take i l ++ z) (drop_set_more l i a within)
 
   pub same_read : (l : List A) (i : ℕ) (a b : A) → i < length l → a ≡ get_or l i a → b ≡ get_or l i b → a ≡ b
   same_read [] i a b within here here' = absurd (omega arith)
@@ -55,8 +48,8 @@ module _ {A : Type 0} where
   pub drop_here : (l : List A) (i : ℕ) (a : A) → i < length l → a ≡ get_or l i a → drop i l ≡ a ∷ drop (suc i) l
   drop_here l i a within read = ap (drop i) (split_at l i a within read) ∙ drop_at (take i l) (a ∷ drop (suc i) l) i (len_front l i within)
 
-  pub drop_end : (l : List A) → drop (length l) l ≡ []
-  drop_end l = ap (drop (length l)) (sym (append-nil l)) ∙ drop_at l [] (length l) refl
+  pub drop_all : (l : List A) → drop (length l - 0) l ≡ []
+  drop_all l = drop_of_length-le l {i = length l - 0} (omega arith)
 
   pub same_without : (xs xs' ys ys' : List A) (r : Option A) → xs ≡ xs' → ys ≡ ys' → IsWithout xs r ys → IsWithout xs' r ys'
   same_without xs xs' ys ys' None e e' same = sym e' ∙ same ∙ e
@@ -100,26 +93,35 @@ module _ {T E P S X : Type 0} where
   pub elements_removed : (l : List (RTreeNode T E P S X)) (i : ℕ) → all_elements (remove l i) ≡ all_elements (take i l) ++ all_elements (drop (suc i) l)
   elements_removed l i = flat_map-append elements (take i l) (drop (suc i) l)
 
+drop_none : {A : Type 0} (i : ℕ) → drop {A = A} i [] ≡ []
+drop_none zero = refl
+drop_none (suc i) = refl
+
 pub past_nothing : {T : Type 0} (E P S X : Type 0) (selects : T → Bool) (path : List ℕ) → IsPast {T = T} {E = E} {P = P} {S = S} {X = X} selects path []
 past_nothing E P S X selects [] = tt
-past_nothing E P S X selects (zero ∷ path) = (tt, past_nothing E P S X selects path)
-past_nothing E P S X selects ((suc i) ∷ path) = (tt, past_nothing E P S X selects path)
+past_nothing {T} E P S X selects (i ∷ path) = (
+  subst (λ (ns : List (RTreeNode T E P S X)). NoneSelected selects (all_elements ns)) (sym (drop_none (0 - i))) tt,
+  subst (λ (ns : List (RTreeNode T E P S X)). IsPast selects path (first_children ns)) (sym (drop_none (0 - suc i))) (past_nothing E P S X selects path),
+)
 
 module _ {T E P S X : Type 0} where
   module _ (selects : T → Bool) where
     pub past_parts : (path : List ℕ) (ns : List (RTreeNode T E P S X)) → IsPast selects path ns
-        → NoneSelected selects (all_elements (take (first_number path) ns)) × IsPast selects (lower_numbers path) (first_children (drop (first_number path) ns))
-    past_parts [] ns past = (tt, tt)
+        → NoneSelected selects (all_elements (drop (length ns - first_number path) ns)) × IsPast selects (lower_numbers path) (first_children (drop (length ns - suc (first_number path)) ns))
+    past_parts [] ns past = (subst (λ (l : List (RTreeNode T E P S X)). NoneSelected selects (all_elements l)) (sym (drop_all ns)) tt, tt)
     past_parts (i ∷ path) ns past = past
 
-    pub past_made : (path : List ℕ) (ns : List (RTreeNode T E P S X)) (i : ℕ) → NoneSelected selects (all_elements (take i ns))
-        → IsPast selects (lower_numbers path) (first_children (drop i ns)) → IsPast selects (with_first path i) ns
-    past_made [] ns i before below = tt
-    past_made (j ∷ path) ns i before below = (before, below)
+    pub past_made : (path : List ℕ) (ns : List (RTreeNode T E P S X)) (i : ℕ) → NoneSelected selects (all_elements (drop (length ns - i) ns))
+        → IsPast selects (lower_numbers path) (first_children (drop (length ns - suc i) ns)) → IsPast selects (with_first path i) ns
+    past_made [] ns i behind below = tt
+    past_made (j ∷ path) ns i behind below = (behind, below)
 
     pub past_zeros : (n : ℕ) (ns : List (RTreeNode T E P S X)) → IsPast selects (replicate n 0) ns
     past_zeros zero ns = tt
-    past_zeros (suc n) ns = (tt, past_zeros n (first_children ns))
+    past_zeros (suc n) ns = (
+      subst (λ (l : List (RTreeNode T E P S X)). NoneSelected selects (all_elements l)) (sym (drop_all ns)) tt,
+      past_zeros n (first_children (drop (length ns - 1) ns)),
+    )
 
 -- the lower levels of a place, as the part of it that a call is lent
 pub lower_lent : (p : List ℕ) (n : ℕ) → n ≡ min (length p) 1 → take (length p - n) (drop n p) ≡ lower_numbers p

@@ -1,8 +1,8 @@
 -- One scan of a list of nodes for the next selected element.
-use Rattle.std.proofs.Common.{◌≡◌, ℕ, ℤ, zero, suc, ◌+◌, ◌<◌, ◌≤◌, Bool, true, false, List, [], ◌∷◌, ◌++◌, refl, sym, ◌∙◌, ap, subst, arith, length, get_or, set, take, drop, replicate, Option, Some, None, IfNone, is_some, length-set, filter, if◌then◌else◌, vec_len, vec_capacity}
+use Rattle.std.proofs.Common.{◌≡◌, ℕ, ℤ, zero, suc, ◌+◌, ◌<◌, ◌≤◌, Bool, true, false, List, [], ◌∷◌, ◌++◌, refl, sym, ◌∙◌, ap, subst, arith, length, get_or, set, take, drop, replicate, ◌-◌, Option, Some, None, IfNone, is_some, length-set, filter, if◌then◌else◌, vec_len, vec_capacity}
 use Rattle.std.specs.List.{remove}
-use Rattle.std.proofs.lemmas.List.{append-nil, take_all, set-get_or}
-use Rattle.std.proofs.lemmas.List.Concat.{flat_map-append}
+use Rattle.std.proofs.lemmas.List.{set-get_or}
+use Rattle.std.proofs.lemmas.List.Edits.{length-remove}
 use Rattle.rstar_base.specs.Envelopes.{Boxes, EnvelopeLaws}
 use Rattle.rstar_base.specs.Elements.{Objects, ObjectLaws}
 use Rattle.rstar_base.specs.Hulls.{hull}
@@ -22,7 +22,7 @@ use Rattle.rstar.proofs.Rows.{elements-Leaf, elements-Parent, is_leaf, parent_of
 use Rattle.rstar.proofs.Trees.{all_sound, values-of, merged_is_hull}
 use Rattle.rstar.proofs.Insertion.{whole_of_kept}
 use Rattle.rstar.proofs.Complete.{none-selected}
-use Rattle.rstar.proofs.Parts.{take_removed, drop_removed, drop_here, drop_end, same_without, take_set, drop_set, take_set_more, remove_set, without_middle, elements_split, elements_set, elements_removed, past_parts, past_made, past_zeros, past_nothing, all_take, all_drop, shorter_removed}
+use Rattle.rstar.proofs.Parts.{drop_removed, drop_here, same_without, drop_set, drop_set_more, remove_set, without_middle, elements_split, elements_set, elements_removed, past_parts, past_made, past_zeros, past_nothing, all_take, all_drop, shorter_removed}
 
 -- all leaves of the node lie h levels below it, its parents are tight and have room
 abbrev pub IsKeptNode : {T E P S X : Type 0} → Boxes E → Objects T E → ℕ → ℕ → ℕ → RTreeNode T E P S X → Type 0
@@ -32,12 +32,12 @@ abbrev elements_in_layer : {T E P S X : Type 0} → Layer T E P S X → List T
 elements_in_layer (layer.Leaf t) = t ∷ []
 elements_in_layer (layer.Parent p) = all_elements (children_of p)
 
--- the nodes in front of i were passed over, and none was changed
+-- so many nodes from the last on were passed over, and none was changed
 pub record Scanned {T E P S X : Type 0} (v : Boxes E) (o : Objects T E) (accepts : E → Bool) (selects : T → Bool)
-    (old : List (RTreeNode T E P S X)) (start : List ℕ) (cur : List (RTreeNode T E P S X)) (path : List ℕ) (i : ℕ) : Type 0 where
+    (old : List (RTreeNode T E P S X)) (start : List ℕ) (cur : List (RTreeNode T E P S X)) (path : List ℕ) (p : ℕ) : Type 0 where
   pub same : cur ≡ old
   pub past : IsLawful v o accepts selects → (m w h : ℕ) → AreKept v o m w h old → IsPast selects start old
-      → NoneSelected selects (all_elements (take i cur)) × IsPast selects (lower_numbers path) (first_children (drop i cur))
+      → NoneSelected selects (all_elements (drop (length cur - p) cur)) × IsPast selects (lower_numbers path) (first_children (drop (length cur - suc p) cur))
 
 pub if_none : {A P Q : Type 0} (r : Option A) → (P → Q) → IfNone r P → IfNone r Q
 if_none None f p = f p
@@ -164,138 +164,171 @@ module _ {T E P S X : Type 0} (v : Boxes E) (o : Objects T E) (accepts : E → B
         (below_then v o m w (NoneSelected selects (all_elements p.children.items)) h p k (λ h' a b. refused laws ok accepts selects lawful h' p a.tight (whole_of_kept laws ok m w h' p.children.items b) no_entry));
   }
 
-  -- before the first node
-  pub begins : (ns : List (RTreeNode T E P S X)) (path : List ℕ) (i : ℕ) → i ≡ first_number path → Scanned v o accepts selects ns path ns path i
-  begins ns path i e = record {
+  -- before the last node
+  pub begins : (ns : List (RTreeNode T E P S X)) (path : List ℕ) (p : ℕ) → p ≡ first_number path → Scanned v o accepts selects ns path ns path p
+  begins ns path p e = record {
     same = refl;
     past = λ lawful m w h k past.
-        subst (λ (j : ℕ). NoneSelected selects (all_elements (take j ns)) × IsPast selects (lower_numbers path) (first_children (drop j ns))) (sym e) (past_parts selects path ns past);
+        subst (λ (q : ℕ). NoneSelected selects (all_elements (drop (length ns - q) ns)) × IsPast selects (lower_numbers path) (first_children (drop (length ns - suc q) ns))) (sym e) (past_parts selects path ns past);
   }
 
-  module _ (old : List (RTreeNode T E P S X)) (start : List ℕ) (cur : List (RTreeNode T E P S X)) (path : List ℕ) (i : ℕ) (s : Scanned v o accepts selects old start cur path i) where
+  module _ (old : List (RTreeNode T E P S X)) (start : List ℕ) (cur : List (RTreeNode T E P S X)) (path : List ℕ) (p : ℕ) (s : Scanned v o accepts selects old start cur path p) where
     same_length : length cur ≡ length old
     same_length = ap length s.same
 
     kept_now : (m w h : ℕ) → AreKept v o m w h old → AreKept v o m w h cur
     kept_now m w h k = subst (AreKept v o m w h) (sym s.same) k
 
-    without_one : (m w h : ℕ) → AreKept v o m w h cur → AreKept v o m w h (remove cur i)
-    without_one m w h k = all-append (IsKeptNode v o m w h) (take i cur) (drop (suc i) cur) (all_take (IsKeptNode v o m w h) i cur k) (all_drop (IsKeptNode v o m w h) (suc i) cur k)
+    -- the node at i comes next
+    module _ (i : ℕ) (next : length cur ≡ suc (i + p)) where
+      within : i < length cur
+      within = omega (arith, next)
 
-    here_whole : (m w h : ℕ) (n : RTreeNode T E P S X) → i < length cur → n ≡ get_or cur i n → AreKept v o m w h cur → IsKeptNode v o m w h n
-    here_whole m w h n within here k = subst (IsKeptNode v o m w h) (sym here) (all_get (IsKeptNode v o m w h) cur i n within k)
+      without_one : (m w h : ℕ) → AreKept v o m w h cur → AreKept v o m w h (remove cur i)
+      without_one m w h k = all-append (IsKeptNode v o m w h) (take i cur) (drop (suc i) cur) (all_take (IsKeptNode v o m w h) i cur k) (all_drop (IsKeptNode v o m w h) (suc i) cur k)
 
-    -- beside a leaf stand leaves alone
-    beside_leaf : (m w h : ℕ) (t : T) → i < length cur → Leaf t ≡ get_or cur i (Leaf t) → AreKept v o m w h cur
-        → IsPast selects (lower_numbers path) (first_children (drop (suc i) cur))
-    beside_leaf m w zero t within here k =
-        subst (IsPast selects (lower_numbers path)) (sym (leaves_alone v o m w (drop (suc i) cur) (all_drop (IsKeptNode v o m w 0) (suc i) cur k)))
-        (past_nothing E P S X selects (lower_numbers path))
-    beside_leaf m w (suc h) t within here k = absurd (leaf_no_parent v o m w h (get_or cur i (Leaf t)) t (sym here) (all_get (IsKeptNode v o m w (suc h)) cur i (Leaf t) within k))
+      here_whole : (m w h : ℕ) (n : RTreeNode T E P S X) → n ≡ get_or cur i n → AreKept v o m w h cur → IsKeptNode v o m w h n
+      here_whole m w h n here k = subst (IsKeptNode v o m w h) (sym here) (all_get (IsKeptNode v o m w h) cur i n within k)
 
-    -- the node at i is a leaf that is given
-    pub gives_leaf : (t : T) → i < length cur → Leaf t ≡ get_or cur i (Leaf t) → selects t ≡ true
-        → Takes v o accepts selects old start (Some t) (remove cur i) (with_first path i)
-    gives_leaf t within here chosen =
-        let parts : all_elements cur ≡ all_elements (take i cur) ++ ((t ∷ []) ++ all_elements (drop (suc i) cur)) =
-        elements_split cur i (Leaf t) within here ∙ ap (λ (z : List T). all_elements (take i cur) ++ (z ++ all_elements (drop (suc i) cur))) (elements-Leaf T E P S X t) in
-        let short = shorter_removed cur i in let len = same_length in
-        record {
-          taken = record { before = all_elements (take i cur); after = all_elements (drop (suc i) cur); was = sym (ap all_elements s.same) ∙ parts; is = elements_removed cur i };
-          selected = chosen;
-          whole = λ m w h k. without_one m w h (kept_now m w h k);
-          shorter = omega arith;
-          past = λ lawful m w h k past. past_made selects path (remove cur i) i
-              (subst (λ (ns : List (RTreeNode T E P S X)). NoneSelected selects (all_elements ns)) (sym (take_removed cur i within)) (s.past lawful m w h k past).0)
-              (subst (λ (ns : List (RTreeNode T E P S X)). IsPast selects (lower_numbers path) (first_children ns)) (sym (drop_removed cur i within)) (beside_leaf m w h t within here (kept_now m w h k)));
-          missed = tt;
-        }
+      -- beside a leaf stand leaves alone
+      beside_leaf : (m w h j : ℕ) (t : T) → Leaf t ≡ get_or cur i (Leaf t) → AreKept v o m w h cur
+          → IsPast selects (lower_numbers path) (first_children (drop j (remove cur i)))
+      beside_leaf m w zero j t here k =
+          subst (IsPast selects (lower_numbers path)) (sym (leaves_alone v o m w (drop j (remove cur i)) (all_drop (IsKeptNode v o m w 0) j (remove cur i) (without_one m w 0 k))))
+          (past_nothing E P S X selects (lower_numbers path))
+      beside_leaf m w (suc h) j t here k = absurd (leaf_no_parent v o m w h (get_or cur i (Leaf t)) t (sym here) (all_get (IsKeptNode v o m w (suc h)) cur i (Leaf t) within k))
 
-    module _ (n n' : RTreeNode T E P S X) (path' : List ℕ) (r : Option T) (within : i < length cur) (here : n ≡ get_or cur i n)
-        (ins : TakesInside v o accepts selects n (lower_numbers path) r n' (lower_numbers path')) where
-      -- what the list holds with n' in the place of n
-      pub without_here : IsWithout (all_elements old) r (all_elements (set cur i n'))
-      without_here =
-          same_without (all_elements (take i cur) ++ (elements n ++ all_elements (drop (suc i) cur))) (all_elements old)
-          (all_elements (take i cur) ++ (elements n' ++ all_elements (drop (suc i) cur))) (all_elements (set cur i n')) r
-          (sym (elements_split cur i n within here) ∙ ap all_elements s.same) (sym (elements_set cur i n' within))
-          (without_middle (all_elements (take i cur)) (elements n) (elements n') (all_elements (drop (suc i) cur)) r ins.taken)
+      behind_here : IsLawful v o accepts selects → (m w h : ℕ) → AreKept v o m w h old → IsPast selects start old → NoneSelected selects (all_elements (drop (suc i) cur))
+      behind_here lawful m w h k past =
+          let at : length cur - p ≡ suc i = omega (arith, next) in
+          subst (λ (j : ℕ). NoneSelected selects (all_elements (drop j cur))) at (s.past lawful m w h k past).0
 
-      before_here : IsLawful v o accepts selects → (m w h : ℕ) → AreKept v o m w h old → IsPast selects start old → NoneSelected selects (all_elements (take i cur))
-      before_here lawful m w h k past = (s.past lawful m w h k past).0
+      -- the nodes from i on, in a list without the node at i
+      none_behind : NoneSelected selects (all_elements (drop (suc i) cur)) → NoneSelected selects (all_elements (drop (length (remove cur i) - p) (remove cur i)))
+      none_behind none =
+          let long = length-remove cur i within in
+          let at : length (remove cur i) - p ≡ i = omega (arith, next, long) in
+          subst (λ (j : ℕ). NoneSelected selects (all_elements (drop j (remove cur i)))) (sym at)
+          (subst (λ (ns : List (RTreeNode T E P S X)). NoneSelected selects (all_elements ns)) (sym (drop_removed cur i within)) none)
 
-      below_here : IsLawful v o accepts selects → (m w h : ℕ) → AreKept v o m w h old → IsPast selects start old → IsPast selects (lower_numbers path) (node_children n)
-      below_here lawful m w h k past = subst (λ (ns : List (RTreeNode T E P S X)). IsPast selects (lower_numbers path) (first_children ns)) (drop_here cur i n within here) (s.past lawful m w h k past).1
-
-      -- something below the node at i was given, and the node stays
-      pub gives_inside : is_some r ≡ true → is_childless n' ≡ false → Takes v o accepts selects old start r (set cur i n') (with_first path' i)
-      gives_inside some has =
-          let len = same_length in let long = length-set cur i n' in
+      -- it is a leaf that is given
+      pub gives_leaf : (t : T) → Leaf t ≡ get_or cur i (Leaf t) → selects t ≡ true
+          → Takes v o accepts selects old start (Some t) (remove cur i) (with_first path p)
+      gives_leaf t here chosen =
+          let parts : all_elements cur ≡ all_elements (take i cur) ++ ((t ∷ []) ++ all_elements (drop (suc i) cur)) =
+          elements_split cur i (Leaf t) within here ∙ ap (λ (z : List T). all_elements (take i cur) ++ (z ++ all_elements (drop (suc i) cur))) (elements-Leaf T E P S X t) in
+          let short = shorter_removed cur i in let len = same_length in
           record {
-            taken = without_here;
-            selected = ins.selected;
-            whole = λ m w h k. all_set (IsKeptNode v o m w h) cur i n' (kept_now m w h k) (ins.whole m w h (here_whole m w h n within here (kept_now m w h k)) has);
+            taken = record { before = all_elements (take i cur); after = all_elements (drop (suc i) cur); was = sym (ap all_elements s.same) ∙ parts; is = elements_removed cur i };
+            selected = chosen;
+            whole = λ m w h k. without_one m w h (kept_now m w h k);
             shorter = omega arith;
-            past = λ lawful m w h k past. past_made selects path' (set cur i n') i
-                (subst (λ (ns : List (RTreeNode T E P S X)). NoneSelected selects (all_elements ns)) (sym (take_set cur i n' within)) (before_here lawful m w h k past))
-                (subst (λ (ns : List (RTreeNode T E P S X)). IsPast selects (lower_numbers path') (first_children ns)) (sym (drop_set cur i n' within))
-                (ins.past lawful m w h (here_whole m w h n within here (kept_now m w h k)) (below_here lawful m w h k past)));
-            missed = some_one _ r some;
+            past = λ lawful m w h k past. past_made selects path (remove cur i) p (none_behind (behind_here lawful m w h k past))
+                (beside_leaf m w h (length (remove cur i) - suc p) t here (kept_now m w h k));
+            missed = tt;
           }
 
-      -- something below the node at i was given, and it was the last thing there
-      pub gives_last : is_some r ≡ true → is_childless n' ≡ true → (path'' : List ℕ) (d : ℕ) → lower_numbers path'' ≡ replicate d 0
-          → Takes v o accepts selects old start r (remove (set cur i n') i) (with_first path'' i)
-      gives_last some empty path'' d cleared =
-          let len = same_length in let long = length-set cur i n' in let short = shorter_removed (set cur i n') i in
-          record {
-            taken = same_without (all_elements old) (all_elements old) (all_elements (set cur i n')) (all_elements (remove (set cur i n') i)) r refl
-                (elements_set cur i n' within ∙ ap (λ (z : List T). all_elements (take i cur) ++ (z ++ all_elements (drop (suc i) cur))) (no_elements n' empty)
-                ∙ sym (elements_removed cur i) ∙ ap all_elements (sym (remove_set cur i n' within))) without_here;
-            selected = ins.selected;
-            whole = λ m w h k. subst (AreKept v o m w h) (sym (remove_set cur i n' within)) (without_one m w h (kept_now m w h k));
-            shorter = omega arith;
-            past = λ lawful m w h k past. past_made selects path'' (remove (set cur i n') i) i
-                (subst (λ (ns : List (RTreeNode T E P S X)). NoneSelected selects (all_elements ns)) (sym (ap (take i) (remove_set cur i n' within) ∙ take_removed cur i within)) (before_here lawful m w h k past))
-                (subst (λ (q : List ℕ). IsPast selects q (first_children (drop i (remove (set cur i n') i)))) (sym cleared) (past_zeros selects d (first_children (drop i (remove (set cur i n') i)))));
-            missed = some_one _ r some;
-          }
+      module _ (n n' : RTreeNode T E P S X) (path' : List ℕ) (r : Option T) (here : n ≡ get_or cur i n)
+          (ins : TakesInside v o accepts selects n (lower_numbers path) r n' (lower_numbers path')) where
+        -- what the list holds with n' in the place of n
+        without_here : IsWithout (all_elements old) r (all_elements (set cur i n'))
+        without_here =
+            same_without (all_elements (take i cur) ++ (elements n ++ all_elements (drop (suc i) cur))) (all_elements old)
+            (all_elements (take i cur) ++ (elements n' ++ all_elements (drop (suc i) cur))) (all_elements (set cur i n')) r
+            (sym (elements_split cur i n within here) ∙ ap all_elements s.same) (sym (elements_set cur i n' within))
+            (without_middle (all_elements (take i cur)) (elements n) (elements n') (all_elements (drop (suc i) cur)) r ins.taken)
 
-    module _ (n n' : RTreeNode T E P S X) (path' : List ℕ) (within : i < length cur) (here : n ≡ get_or cur i n)
-        (ins : TakesInside v o accepts selects n (lower_numbers path) None n' (lower_numbers path')) where
-      -- the node at i is passed over
-      pub passes : is_selected_leaf selects n ≡ false → (path'' : List ℕ) (d : ℕ) → lower_numbers path'' ≡ replicate d 0
-          → Scanned v o accepts selects old start (set cur i n') path'' (i + 1)
-      passes chosen path'' d cleared = record {
-        same = ap (λ z. set cur i z) ins.kept ∙ ap (set cur i) here ∙ set-get_or cur i n ∙ s.same;
-        past = λ lawful m w h k past. (
-          subst (λ (ns : List (RTreeNode T E P S X)). NoneSelected selects (all_elements ns)) (sym (take_set_more cur i n' within))
-              (subst (NoneSelected selects) (sym (flat_map-append elements (take i cur) (n' ∷ [])))
-              (all-append (λ t. selects t ≡ false) (all_elements (take i cur)) (elements n' ++ []) ((s.past lawful m w h k past).0)
-              (subst (NoneSelected selects) (sym (append-nil (elements n') ∙ ins.taken))
-              (node_none selects n chosen (ins.missed lawful m w h (here_whole m w h n within here (kept_now m w h k)) (below_here n n' path' None within here ins lawful m w h k past)))))),
-          subst (λ (q : List ℕ). IsPast selects q (first_children (drop (i + 1) (set cur i n')))) (sym cleared) (past_zeros selects d (first_children (drop (i + 1) (set cur i n')))),
-        );
-      }
+        below_here : IsLawful v o accepts selects → (m w h : ℕ) → AreKept v o m w h old → IsPast selects start old → IsPast selects (lower_numbers path) (node_children n)
+        below_here lawful m w h k past =
+            let at : length cur - suc p ≡ i = omega (arith, next) in
+            subst (λ (ns : List (RTreeNode T E P S X)). IsPast selects (lower_numbers path) (first_children ns)) (drop_here cur i n within here)
+            (subst (λ (j : ℕ). IsPast selects (lower_numbers path) (first_children (drop j cur))) at (s.past lawful m w h k past).1)
 
-    pub passes_any : (n n' : RTreeNode T E P S X) (path' : List ℕ) (r : Option T) → is_some r ≡ false → i < length cur → n ≡ get_or cur i n
-        → TakesInside v o accepts selects n (lower_numbers path) r n' (lower_numbers path') → is_selected_leaf selects n ≡ false
-        → (path'' : List ℕ) (d : ℕ) → lower_numbers path'' ≡ replicate d 0 → Scanned v o accepts selects old start (set cur i n') path'' (i + 1)
-    passes_any n n' path' None nothing within here ins chosen path'' d cleared = passes n n' path' within here ins chosen path'' d cleared
-    passes_any n n' path' (Some x) nothing within here ins chosen path'' d cleared = cc
+        -- something below it was given, and it stays
+        pub gives_inside : is_some r ≡ true → is_childless n' ≡ false → Takes v o accepts selects old start r (set cur i n') (with_first path' p)
+        gives_inside some has =
+            let len = same_length in let long = length-set cur i n' in
+            let at : length (set cur i n') - p ≡ suc i = omega (arith, next, long) in
+            let at_here : length (set cur i n') - suc p ≡ i = omega (arith, next, long) in
+            record {
+              taken = without_here;
+              selected = ins.selected;
+              whole = λ m w h k. all_set (IsKeptNode v o m w h) cur i n' (kept_now m w h k) (ins.whole m w h (here_whole m w h n here (kept_now m w h k)) has);
+              shorter = omega arith;
+              past = λ lawful m w h k past. past_made selects path' (set cur i n') p
+                  (subst (λ (j : ℕ). NoneSelected selects (all_elements (drop j (set cur i n')))) (sym at)
+                  (subst (λ (ns : List (RTreeNode T E P S X)). NoneSelected selects (all_elements ns)) (sym (drop_set_more cur i n' within)) (behind_here lawful m w h k past)))
+                  (subst (λ (j : ℕ). IsPast selects (lower_numbers path') (first_children (drop j (set cur i n')))) (sym at_here)
+                  (subst (λ (ns : List (RTreeNode T E P S X)). IsPast selects (lower_numbers path') (first_children ns)) (sym (drop_set cur i n' within))
+                  (ins.past lawful m w h (here_whole m w h n here (kept_now m w h k)) (below_here lawful m w h k past))));
+              missed = some_one _ r some;
+            }
+
+        -- something below it was given, and it was the last thing there
+        pub gives_last : is_some r ≡ true → is_childless n' ≡ true → (path'' : List ℕ) (d : ℕ) → lower_numbers path'' ≡ replicate d 0
+            → Takes v o accepts selects old start r (remove (set cur i n') i) (with_first path'' p)
+        gives_last some empty path'' d cleared =
+            let len = same_length in let long = length-set cur i n' in let short = shorter_removed (set cur i n') i in
+            record {
+              taken = same_without (all_elements old) (all_elements old) (all_elements (set cur i n')) (all_elements (remove (set cur i n') i)) r refl
+                  (elements_set cur i n' within ∙ ap (λ (z : List T). all_elements (take i cur) ++ (z ++ all_elements (drop (suc i) cur))) (no_elements n' empty)
+                  ∙ sym (elements_removed cur i) ∙ ap all_elements (sym (remove_set cur i n' within))) without_here;
+              selected = ins.selected;
+              whole = λ m w h k. subst (AreKept v o m w h) (sym (remove_set cur i n' within)) (without_one m w h (kept_now m w h k));
+              shorter = omega arith;
+              past = λ lawful m w h k past. past_made selects path'' (remove (set cur i n') i) p
+                  (subst (λ (ns : List (RTreeNode T E P S X)). NoneSelected selects (all_elements (drop (length ns - p) ns))) (sym (remove_set cur i n' within)) (none_behind (behind_here lawful m w h k past)))
+                  (subst (λ (q : List ℕ). IsPast selects q (first_children (drop (length (remove (set cur i n') i) - suc p) (remove (set cur i n') i)))) (sym cleared)
+                  (past_zeros selects d (first_children (drop (length (remove (set cur i n') i) - suc p) (remove (set cur i n') i)))));
+              missed = some_one _ r some;
+            }
+
+      module _ (n n' : RTreeNode T E P S X) (path' : List ℕ) (here : n ≡ get_or cur i n)
+          (ins : TakesInside v o accepts selects n (lower_numbers path) None n' (lower_numbers path')) where
+        -- it is passed over
+        passes : is_selected_leaf selects n ≡ false → (path'' : List ℕ) (d : ℕ) → lower_numbers path'' ≡ replicate d 0
+            → Scanned v o accepts selects old start (set cur i n') path'' (p + 1)
+        passes chosen path'' d cleared =
+            let long = length-set cur i n' in
+            let at : length (set cur i n') - (p + 1) ≡ i = omega (arith, next, long) in
+            record {
+              same = ap (λ z. set cur i z) ins.kept ∙ ap (set cur i) here ∙ set-get_or cur i n ∙ s.same;
+              past = λ lawful m w h k past. (
+                subst (λ (j : ℕ). NoneSelected selects (all_elements (drop j (set cur i n')))) (sym at)
+                    (subst (λ (ns : List (RTreeNode T E P S X)). NoneSelected selects (all_elements ns)) (sym (drop_set cur i n' within))
+                    (all-append (λ t. selects t ≡ false) (elements n') (all_elements (drop (suc i) cur))
+                    (subst (NoneSelected selects) (sym ins.taken)
+                    (node_none selects n chosen (ins.missed lawful m w h (here_whole m w h n here (kept_now m w h k)) (below_here n n' path' None here ins lawful m w h k past))))
+                    (behind_here lawful m w h k past))),
+                subst (λ (q : List ℕ). IsPast selects q (first_children (drop (length (set cur i n') - suc (p + 1)) (set cur i n')))) (sym cleared)
+                    (past_zeros selects d (first_children (drop (length (set cur i n') - suc (p + 1)) (set cur i n')))),
+              );
+            }
+
+      pub passes_any : (n n' : RTreeNode T E P S X) (path' : List ℕ) (r : Option T) → is_some r ≡ false → n ≡ get_or cur i n
+          → TakesInside v o accepts selects n (lower_numbers path) r n' (lower_numbers path') → is_selected_leaf selects n ≡ false
+          → (path'' : List ℕ) (d : ℕ) → lower_numbers path'' ≡ replicate d 0 → Scanned v o accepts selects old start (set cur i n') path'' (p + 1)
+      passes_any n n' path' None nothing here ins chosen path'' d cleared = passes n n' path' here ins chosen path'' d cleared
+      passes_any n n' path' (Some x) nothing here ins chosen path'' d cleared = cc
 
     -- all nodes were passed over
-    pub finishes : length cur ≤ i → (e : ℕ) → e ≡ length cur → Takes v o accepts selects old start None cur (with_first path e)
-    finishes over e at_end = let len = same_length in record {
-      taken = ap all_elements s.same;
-      selected = tt;
-      whole = kept_now;
-      shorter = omega arith;
-      past = λ lawful m w h k past. past_made selects path cur e
-          (subst (λ (ns : List (RTreeNode T E P S X)). NoneSelected selects (all_elements ns)) (take_all i cur over ∙ sym (take_all e cur (omega arith))) (s.past lawful m w h k past).0)
-          (subst (λ (ns : List (RTreeNode T E P S X)). IsPast selects (lower_numbers path) (first_children ns)) (sym (ap (λ (j : ℕ). drop j cur) at_end ∙ drop_end cur)) (past_nothing E P S X selects (lower_numbers path)));
-      missed = λ lawful m w h k past. subst (NoneSelected selects) (ap all_elements (take_all i cur over ∙ s.same)) (s.past lawful m w h k past).0;
-    }
+    pub finishes : length cur ≤ p → (e : ℕ) → e ≡ length cur → Takes v o accepts selects old start None cur (with_first path e)
+    finishes over e at_end =
+        let len = same_length in
+        let all : length cur - p ≡ 0 = omega arith in
+        let behind : length cur - e ≡ length cur - p = omega arith in
+        let below : length cur - suc e ≡ length cur - suc p = omega arith in
+        record {
+          taken = ap all_elements s.same;
+          selected = tt;
+          whole = kept_now;
+          shorter = omega arith;
+          past = λ lawful m w h k past. past_made selects path cur e
+              (subst (λ (j : ℕ). NoneSelected selects (all_elements (drop j cur))) (sym behind) (s.past lawful m w h k past).0)
+              (subst (λ (j : ℕ). IsPast selects (lower_numbers path) (first_children (drop j cur))) (sym below) (s.past lawful m w h k past).1);
+          missed = λ lawful m w h k past. subst (NoneSelected selects) (ap all_elements s.same)
+              (subst (λ (j : ℕ). NoneSelected selects (all_elements (drop j cur))) all (s.past lawful m w h k past).0);
+        }
 
 -- a parent whose list lost some children, and whose envelope was made anew, is kept
 module _ {T E : Type 0} {IsPoint : List ℤ → Type 0} {v : Boxes E} {o : Objects T E} (laws : EnvelopeLaws IsPoint v) (ok : ObjectLaws v o) (m w : ℕ) {P S X : Type 0} where

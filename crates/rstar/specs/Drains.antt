@@ -40,7 +40,7 @@ pub record DrainsBy {T F D E P S X : Type 0} (v : Boxes E) (o : Objects T E) (ac
 
 module _ {T F D E P S X : Type 0} (v : Boxes E) (o : Objects T E) (max : ℕ) (accepts : F → E → Bool)
     (selects : F → T → Bool) where
-  -- a whole tree, with nothing that is selected left of the place from which the drain goes on
+  -- a whole tree, with nothing that is selected right of the place from which the drain goes on
   abbrev pub HasItsPlace : DrainIterator T F D (Vec ℕ Global) E P S X → Type 0
   HasItsPlace it = IsWholeTree v o max (drained it)
       × (IsLawful v o (accepts (drain_question it)) (selects (drain_question it))

@@ -1,5 +1,5 @@
 -- The inside of a removal: the place in a tree that it goes on from, and what it leaves at each level.
-use Rattle.std.specs.Prelude.{◌≡◌, ℕ, ◌≤◌, Bool, true, false, List, [], ◌∷◌, take, drop, length, ⊤, Option}
+use Rattle.std.specs.Prelude.{◌≡◌, ℕ, ◌≤◌, Bool, true, false, List, [], ◌∷◌, drop, length, ◌-◌, suc, ⊤, Option}
 use Rattle.std.specs.Prelude.{IfSome, IfNone}
 use Rattle.rstar_base.specs.Envelopes.{Boxes}
 use Rattle.rstar_base.specs.Elements.{Objects}
@@ -57,11 +57,12 @@ is_childless n = childless_in (layer_of n)
 
 -- ---- places
 
--- no element left of this place is selected: at each level, the number of children to the left
+-- no element right of this place is selected: at each level, the number of children to the right, which were passed over
 abbrev pub IsPast : {T E P S X : Type 0} → (T → Bool) → List ℕ → List (RTreeNode T E P S X) → Type 0
 IsPast selects [] ns = ⊤
 IsPast selects (i ∷ path) ns =
-    NoneSelected selects (all_elements (take i ns)) × IsPast selects path (first_children (drop i ns))
+    NoneSelected selects (all_elements (drop (length ns - i) ns))
+    × IsPast selects path (first_children (drop (length ns - suc i) ns))
 
 -- a place with another number at the first level
 abbrev pub with_first : List ℕ → ℕ → List ℕ

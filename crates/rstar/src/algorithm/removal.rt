@@ -15,8 +15,9 @@ use rstar_base::object::RTreeObject;
 
 /// Takes out the next selected element below a parent, from a place on, and makes its envelope anew.
 ///
-/// The place is the number of children to the left, a number for each level. Where there are fewer numbers the search
-/// begins at the first child of the levels below.
+/// Children are looked at from the last to the first, so that a drain of everything shifts none. The place is the number
+/// of children passed over, those to the right, a number for each level. Where there are fewer numbers the search begins
+/// at the last child of the levels below.
 #[cycle(take)]
 pub(crate) fn take_below<T: RTreeObject, R: SelectionFunction<T>>(
     node: &mut ParentNode<T>,
@@ -49,10 +50,11 @@ fn take_among<T: RTreeObject, R: SelectionFunction<T>>(
     ensures capacity { vec_capacity children.new ≡ vec_capacity children.old }
     ensures same { IfNone result (children.new ≡ children.old) }
 {
-    for i in first_number(path)..children.len() {
+    for passed in first_number(path)..children.len() {
+        let i = children.len() - 1 - passed;
         if is_selected_leaf(&children[i], func) {
             let taken = take_leaf(children, i);
-            set_first(path, i);
+            set_first(path, passed);
             return Some(taken);
         }
         let taken = take_inside(&mut children[i], path, func);
@@ -61,7 +63,7 @@ fn take_among<T: RTreeObject, R: SelectionFunction<T>>(
                 drop_child(children, i);
                 clear_lower(path);
             }
-            set_first(path, i);
+            set_first(path, passed);
             return taken;
         }
         clear_lower(path);
@@ -147,11 +149,11 @@ fn first_number(path: &[usize]) -> usize
 }
 
 /// Writes the place among the nodes of the first level.
-fn set_first(path: &mut [usize], i: usize)
-    ensures { path.new ≡ with_first path.old i }
+fn set_first(path: &mut [usize], passed: usize)
+    ensures { path.new ≡ with_first path.old passed }
 {
     if !path.is_empty() {
-        path[0] = i;
+        path[0] = passed;
     }
 }
 

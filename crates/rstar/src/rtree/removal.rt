@@ -38,9 +38,9 @@ impl<T: RTreeObject, Params: RTreeParams> RTree<T, Params> {
         self.take_next(&mut [], &func)
     }
 
-    /// Takes the next selected element out, from a place on: a number for each level, of the children to the left.
+    /// Takes the next selected element out, from a place on: a number for each level, of the children to the right.
     ///
-    /// A path that is too short, or a place that is not there, only begins further left or finds less.
+    /// A path that is too short, or a place that is not there, only begins further right or finds less.
     #[tactic(auto, unfolding(crate::specs::Trees::IsWholeTree))]
     pub(crate) fn take_next<R: SelectionFunction<T>>(
         &mut self,
