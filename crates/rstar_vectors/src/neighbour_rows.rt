@@ -10,7 +10,10 @@ use crate::insertion::{ALONG_A_LINE, Points};
 use crate::loads::loaded;
 use crate::reinsertion::a_thousand_points;
 use crate::selections::planted;
-use rstar::algorithm::nearest_neighbor::NearestNeighborDistance2Iterator;
+use rstar::algorithm::nearest_neighbor::{
+    NearestNeighborDistance2Iterator, nearest_neighbor_with_distance_2,
+    nearest_neighbors_with_distance_2,
+};
 use rstar::object::{Distance, PointDistance, PointOf, RTreeObject};
 use rstar::point::{Point, RTreeNum};
 use rstar::primitives::{GeomWithData, Line, Rectangle};
@@ -236,6 +239,50 @@ fn all_nearest_are_given(rt: HostRuntime) -> Result<(), Fail> {
         let all = Points::inserted(rt.alloc(), points)?;
         assert_eq!(rt; nearest(all.tree(), place)?, found, "at {place:?}");
     }
+    Ok(())
+}
+
+/// Whether nothing is found: by each call that leaves the tree, and by both functions below its root.
+fn nothing_is_near(tree: &RTree<At>, place: At) -> Result<[bool; 8], AllocError>
+    requires { IsWholeTree ⟦<AABB<[i32; 2]> as Envelope>⟧.boxes ⟦<[i32; 2] as RTreeObject>⟧.object
+        ⟦<DefaultParams as RTreeParams>⟧.MAX_SIZE tree.now }
+{
+    Ok([
+        tree.nearest_neighbor(place)?.is_none(),
+        tree.nearest_neighbor_with_distance_2(place)?.is_none(),
+        tree.nearest_neighbors(&place)?.is_empty(),
+        tree.nearest_neighbors_with_distance_2(&place)?.is_none(),
+        tree.nearest_neighbor_iter(place).next().is_none(),
+        tree.nearest_neighbor_iter_with_distance_2(place)
+            .next()
+            .is_none(),
+        nearest_neighbor_with_distance_2(tree.root(), place)?.is_none(),
+        nearest_neighbors_with_distance_2(tree.root(), place)?.is_none(),
+    ])
+}
+
+#[test]
+fn in_an_empty_tree_nothing_is_near(rt: HostRuntime) -> Result<(), Fail> {
+    let mut tree = RTree::new(rt.alloc());
+    assert_eq!(rt; nothing_is_near(&tree, [0, 213])?, [true; 8]);
+    assert!(rt; tree.pop_nearest_neighbor([0, 213])?.is_none());
+    Ok(())
+}
+
+// Two points: each is the nearest on its own side, and the third time nothing is popped.
+#[test]
+fn of_two_points_the_nearer_comes_first(rt: HostRuntime) -> Result<(), Fail> {
+    let points = Vec::from_array(rt.alloc(), [[0i32, 0], [0, 1]])?;
+    let mut tree = planted(rt.alloc(), points.clone()?)?;
+    for (place, nearest) in [([-1, 0], [0, 0]), ([0, 2], [0, 1])] {
+        let found = tree.nearest_neighbor_with_distance_2(place)?;
+        assert!(rt;
+            matches!(found, Some((point, 1)) if *point == nearest),
+            "{place:?}"
+        );
+    }
+    let places = Vec::from_array(rt.alloc(), [[0, 0], [0, 0], [0, 0]])?;
+    assert_eq!(rt; popped(rt.alloc(), &mut tree, places)?, points);
     Ok(())
 }
 
