@@ -4,52 +4,26 @@ use Rattle.std.proofs.Math.ListN.{drop_of_length-le}
 use Rattle.std.proofs.Math.Nat.{ℕ_set}
 use Rattle.std.specs.Vec.{with_item}
 use Rattle.std.specs.declared.alloc.Global.{Global}
-use Rattle.std.proofs.Common.{◌≡◌, ℕ, zero, suc, ◌+◌, ◌<◌, ◌≤◌, Bool, false, List, [], ◌∷◌, ◌++◌, refl, sym, ◌∙◌, ap, subst, arith, length, get_or, set, min, ◌-◌, take, drop, replicate, append_assoc, length-append, Option, Some, None, Vec, length-set}
-use Rattle.std.specs.Bool.{◌==◌}
+use Rattle.std.proofs.Common.{◌≡◌, ℕ, zero, suc, ◌+◌, ◌<◌, ◌≤◌, Bool, List, [], ◌∷◌, ◌++◌, refl, sym, ◌∙◌, ap, subst, arith, length, get_or, set, min, ◌-◌, take, drop, replicate, append_assoc, length-append, Option, Some, None, Vec, length-set}
 use Rattle.std.specs.List.{AllByRecursion, remove}
 use Rattle.std.proofs.lemmas.List.{append-nil, take_all, set_split, set-get_or, take_at, drop_at, length-take-le}
 use Rattle.std.proofs.lemmas.List.Concat.{flat_map-append}
 use Rattle.rstar.specs.declared.node.RTreeNode.{RTreeNode}
 use Rattle.rstar.specs.Nodes.{elements, all_elements}
 use Rattle.rstar.specs.Removals.{IsWithout, NoneSelected}
-use Rattle.rstar_base.specs.Elements.{Objects}
-use Rattle.rstar_base.specs.Envelopes.{Boxes}
-use Rattle.rstar_base.specs.Hulls.{hull}
-use Rattle.rstar.specs.declared.algorithm.removal.Place.{Place}
-use Rattle.rstar.specs.Nodes.{node_box}
-use Rattle.rstar.specs.Taking.{IsFresh, AtPlaces, IsPastHere, IsPast, IsRest, AreRests, first_children, with_first, first_number, lower_places}
+use Rattle.rstar.specs.Taking.{IsPast, first_children, with_first, first_number, lower_numbers}
 
 module _ {A : Type 0} where
-  abbrev first_of : A → List A → A
-  first_of x [] = x
-  first_of x (y ∷ l) = y
-
-  abbrev rest_of : List A → List A
-  rest_of [] = []
-  rest_of (y ∷ l) = l
-
   pub split_at : (l : List A) (i : ℕ) (a : A) → i < length l → a ≡ get_or l i a → l ≡ take i l ++ a ∷ drop (suc i) l
   split_at l i a within read = sym (set-get_or l i a) ∙ ap (set l i) (sym read) ∙ set_split l i a within
 
   pub len_front : (l : List A) (i : ℕ) → i < length l → length (take i l) ≡ i
   len_front l i within = length-take-le i l (omega arith)
 
-  pub take_removed : (l : List A) (i : ℕ) → i < length l → take i (remove l i) ≡ take i l
-  take_removed l i within = take_at (take i l) (drop (suc i) l) i (len_front l i within)
-
-  -- the same front, and so a shorter one
-  pub take_less : (c k : ℕ) (l l' : List A) → c ≤ k → take k l ≡ take k l' → take c l ≡ take c l'
-  take_less zero k l l' less same = refl
-  take_less (suc c) zero l l' less same = absurd (omega arith)
-  take_less (suc c) (suc k) [] [] less same = refl
-  take_less (suc c) (suc k) [] (y ∷ l') less same = cc
-  take_less (suc c) (suc k) (x ∷ l) [] less same = cc
-  take_less (suc c) (suc k) (x ∷ l) (y ∷ l') less same = ap (λ z. z ∷ take c l) (ap (first_of x) same) ∙ ap (λ z. y ∷ z) (take_less c k l l' (omega arith) (ap rest_of same))
-
   pub drop_removed : (l : List A) (i : ℕ) → i < length l → drop i (remove l i) ≡ drop (suc i) l
   drop_removed l i within = drop_at (take i l) (drop (suc i) l) i (len_front l i within)
 
-  pub take_set : (l : List A) (i : ℕ) (a : A) → i < length l → take i (set l i a) ≡ take i l
+  take_set : (l : List A) (i : ℕ) (a : A) → i < length l → take i (set l i a) ≡ take i l
   take_set l i a within = ap (take i) (set_split l i a within) ∙ take_at (take i l) (a ∷ drop (suc i) l) i (len_front l i within)
 
   pub drop_set : (l : List A) (i : ℕ) (a : A) → i < length l → drop i (set l i a) ≡ a ∷ drop (suc i) l
@@ -123,118 +97,44 @@ drop_none : {A : Type 0} (i : ℕ) → drop {A = A} i [] ≡ []
 drop_none zero = refl
 drop_none (suc i) = refl
 
-pub not_empty : {A : Type 0} (l : List A) → false ≡ (length l == 0) → 0 < length l
-not_empty [] e = cc
-not_empty (x ∷ l) e = omega arith
+pub past_nothing : {T : Type 0} (E P S X : Type 0) (selects : T → Bool) (path : List ℕ) → IsPast {T = T} {E = E} {P = P} {S = S} {X = X} selects path []
+past_nothing E P S X selects [] = tt
+past_nothing {T} E P S X selects (i ∷ path) = (
+  subst (λ (ns : List (RTreeNode T E P S X)). NoneSelected selects (all_elements ns)) (sym (drop_none (0 - i))) tt,
+  subst (λ (ns : List (RTreeNode T E P S X)). IsPast selects path (first_children ns)) (sym (drop_none (0 - suc i))) (past_nothing E P S X selects path),
+)
 
--- ---- what holds at the places of a path
+module _ {T E P S X : Type 0} where
+  module _ (selects : T → Bool) where
+    pub past_parts : (path : List ℕ) (ns : List (RTreeNode T E P S X)) → IsPast selects path ns
+        → NoneSelected selects (all_elements (drop (length ns - first_number path) ns)) × IsPast selects (lower_numbers path) (first_children (drop (length ns - suc (first_number path)) ns))
+    past_parts [] ns past = (subst (λ (l : List (RTreeNode T E P S X)). NoneSelected selects (all_elements l)) (sym (drop_all ns)) tt, tt)
+    past_parts (i ∷ path) ns past = past
 
-module _ {T E P S X : Type 0} (F : Place E → List (RTreeNode T E P S X) → Type 0) where
-  pub at_nothing : ((p : Place E) → F p []) → (path : List (Place E)) → AtPlaces F path []
-  at_nothing none [] = tt
-  at_nothing none (p ∷ path) = (
-    none p,
-    subst (λ (ns : List (RTreeNode T E P S X)). AtPlaces F path (first_children ns)) (sym (drop_none (0 - suc p.passed))) (at_nothing none path),
-  )
+    pub past_made : (path : List ℕ) (ns : List (RTreeNode T E P S X)) (i : ℕ) → NoneSelected selects (all_elements (drop (length ns - i) ns))
+        → IsPast selects (lower_numbers path) (first_children (drop (length ns - suc i) ns)) → IsPast selects (with_first path i) ns
+    past_made [] ns i behind below = tt
+    past_made (j ∷ path) ns i behind below = (behind, below)
 
-  pub at_fresh : ((p : Place E) (ns : List (RTreeNode T E P S X)) → IsFresh p → F p ns) → (path : List (Place E)) (ns : List (RTreeNode T E P S X)) → AllByRecursion IsFresh path
-      → AtPlaces F path ns
-  at_fresh holds [] ns all = tt
-  at_fresh holds (p ∷ path) ns all = (holds p ns all.0, at_fresh holds path (first_children (drop (length ns - suc p.passed) ns)) all.1)
-
-  pub at_itself : (path : List (Place E)) (ns : List (RTreeNode T E P S X)) → AtPlaces F path ns → AtPlaces F (with_first path (first_number path)) ns
-  at_itself [] ns at = tt
-  at_itself (p ∷ path) ns at = at
-
-  pub at_lower : (path : List (Place E)) (i : ℕ) (ns : List (RTreeNode T E P S X)) → AtPlaces F (with_first path i) ns
-      → AtPlaces F (lower_places path) (first_children (drop (length ns - suc i) ns))
-  at_lower [] i ns at = tt
-  at_lower (p ∷ path) i ns at = at.1
-
-  -- a path with the same first place, at other nodes
-  pub at_changed : (path path' : List (Place E)) (i j : ℕ) (ns ns' : List (RTreeNode T E P S X)) → take 1 path' ≡ take 1 path → AtPlaces F (with_first path i) ns
-      → ((p : Place E) → F (record p { passed = i }) ns → F (record p { passed = j }) ns')
-      → AtPlaces F (lower_places path') (first_children (drop (length ns' - suc j) ns')) → AtPlaces F (with_first path' j) ns'
-  at_changed path [] i j ns ns' same at goes below = tt
-  at_changed [] (q ∷ path') i j ns ns' same at goes below = cc
-  at_changed (p ∷ path) (q ∷ path') i j ns ns' same at goes below =
-      (subst (λ (z : Place E). F (record z { passed = j }) ns') (sym (ap (first_of p) same)) (goes p at.0), below)
-
-  -- the first place of a path, and what holds there
-  pub at_first : (path : List (Place E)) (p : Place E) (ns : List (RTreeNode T E P S X)) → 0 < length path → p ≡ get_or path 0 p → AtPlaces F path ns → F p ns
-  at_first [] p ns some read at = absurd (omega arith)
-  at_first (q ∷ path) p ns some read at = subst (λ (z : Place E). F z ns) (sym read) at.0
-
-  pub at_written : (path : List (Place E)) (p q : Place E) (ns : List (RTreeNode T E P S X)) → 0 < length path → p ≡ get_or path 0 p → q.passed ≡ p.passed → F q ns
-      → AtPlaces F path ns → AtPlaces F (set path 0 q) ns
-  at_written [] p q ns some read same holds at = absurd (omega arith)
-  at_written (x ∷ path) p q ns some read same holds at =
-      (holds, subst (λ (i : ℕ). AtPlaces F path (first_children (drop (length ns - suc i) ns))) (sym (same ∙ ap (λ (z : Place E). z.passed) read)) at.1)
-
-module _ {T E P S X : Type 0} (selects : T → Bool) where
-  none_right : (p : Place E) (ns : List (RTreeNode T E P S X)) → drop (length ns - p.passed) ns ≡ [] → IsPastHere selects p ns
-  none_right p ns none = subst (λ (l : List (RTreeNode T E P S X)). NoneSelected selects (all_elements l)) (sym none) tt
-
-  pub past_fresh : (path : List (Place E)) (ns : List (RTreeNode T E P S X)) → AllByRecursion IsFresh path → IsPast selects path ns
-  past_fresh path ns all = at_fresh (IsPastHere selects) (λ p l fresh. none_right p l (ap (λ (i : ℕ). drop (length l - i) l) fresh.passed ∙ drop_all l)) path ns all
-
-  pub past_parts : (path : List (Place E)) (ns : List (RTreeNode T E P S X)) → IsPast selects path ns
-      → NoneSelected selects (all_elements (drop (length ns - first_number path) ns)) × IsPast selects (lower_places path) (first_children (drop (length ns - suc (first_number path)) ns))
-  past_parts [] ns past = (subst (λ (l : List (RTreeNode T E P S X)). NoneSelected selects (all_elements l)) (sym (drop_all ns)) tt, tt)
-  past_parts (p ∷ path) ns past = past
-
-  pub past_made : (path : List (Place E)) (ns : List (RTreeNode T E P S X)) (i : ℕ) → NoneSelected selects (all_elements (drop (length ns - i) ns))
-      → IsPast selects (lower_places path) (first_children (drop (length ns - suc i) ns)) → IsPast selects (with_first path i) ns
-  past_made [] ns i behind below = tt
-  past_made (p ∷ path) ns i behind below = (behind, below)
-
-  pub past_written : (path : List (Place E)) (p q : Place E) (ns : List (RTreeNode T E P S X)) → 0 < length path → p ≡ get_or path 0 p → q.passed ≡ p.passed
-      → IsPast selects path ns → IsPast selects (set path 0 q) ns
-  past_written path p q ns some read same past =
-      at_written (IsPastHere selects) path p q ns some read same
-      (subst (λ (i : ℕ). NoneSelected selects (all_elements (drop (length ns - i) ns))) (sym same) (at_first (IsPastHere selects) path p ns some read past)) past
-
-pub past_nothing : {T E : Type 0} (P S X : Type 0) (selects : T → Bool) (path : List (Place E)) → IsPast {P = P} {S = S} {X = X} selects path []
-past_nothing P S X selects path = at_nothing (IsPastHere {P = P} {S = S} {X = X} selects) (λ p. none_right {P = P} {S = S} {X = X} selects p [] (drop_none (0 - p.passed))) path
-
-pub rests_nothing : {T E : Type 0} (P S X : Type 0) (v : Boxes E) (o : Objects T E) (path : List (Place E)) → AreRests {P = P} {S = S} {X = X} v o path []
-rests_nothing P S X v o path = at_nothing (IsRest {P = P} {S = S} {X = X} v o) (λ p some within. absurd (omega (arith, within))) path
-
--- envelopes that were kept
-module _ {T E P S X : Type 0} (v : Boxes E) (o : Objects T E) where
-  pub rests_fresh : (path : List (Place E)) (ns : List (RTreeNode T E P S X)) → AllByRecursion IsFresh path → AreRests v o path ns
-  rests_fresh path ns all = at_fresh (IsRest v o) (λ p l fresh some within. absurd (omega (arith, some, fresh.closed))) path ns all
-
-  -- they stay where the nodes in front do
-  pub rest_stays : (p : Place E) (i j k : ℕ) (ns ns' : List (RTreeNode T E P S X)) → i ≤ j → length ns' ≤ length ns → length ns' ≤ k + suc j → take k ns' ≡ take k ns
-      → IsRest v o (record p { passed = i }) ns → IsRest v o (record p { passed = j }) ns'
-  rest_stays p i j k ns ns' on short over same rest = λ some within.
-      let before = rest some (omega (arith, within)) in
-      let front : take p.closed ns' ≡ take p.closed ns = take_less p.closed k ns' ns (omega (arith, within)) same in
-      record {
-        values = subst (λ (l : List (RTreeNode T E P S X)). AllByRecursion (λ n. v.IsValue (node_box o.box_of n)) l) (sym front) before.values;
-        merged = before.merged ∙ ap (hull v (node_box o.box_of)) (sym front);
-      }
+    pub past_zeros : (n : ℕ) (ns : List (RTreeNode T E P S X)) → IsPast selects (replicate n 0) ns
+    past_zeros zero ns = tt
+    past_zeros (suc n) ns = (
+      subst (λ (l : List (RTreeNode T E P S X)). NoneSelected selects (all_elements l)) (sym (drop_all ns)) tt,
+      past_zeros n (first_children (drop (length ns - 1) ns)),
+    )
 
 -- the lower levels of a place, as the part of it that a call is lent
-pub lower_lent : {E : Type 0} (p : List (Place E)) (n : ℕ) → n ≡ min (length p) 1 → take (length p - n) (drop n p) ≡ lower_places p
+pub lower_lent : (p : List ℕ) (n : ℕ) → n ≡ min (length p) 1 → take (length p - n) (drop n p) ≡ lower_numbers p
 lower_lent [] n e = let none_taken : n ≡ 0 = omega arith in rw none_taken refl
 lower_lent (x ∷ p) n e = let one : n ≡ 1 = omega arith in rw one (take_all (suc (length p) - 1) p (omega arith))
 
-pub lower_left : {E : Type 0} (p r : List (Place E)) (n : ℕ) → n ≡ min (length p) 1 → length r ≡ length (take (length p - n) (drop n p))
-    → lower_places (take n p ++ (r ++ post_of n (length p - n) p)) ≡ r
+pub lower_left : (p r : List ℕ) (n : ℕ) → n ≡ min (length p) 1 → length r ≡ length (take (length p - n) (drop n p))
+    → lower_numbers (take n p ++ (r ++ post_of n (length p - n) p)) ≡ r
 lower_left [] [] n e l = let none_taken : n ≡ 0 = omega arith in rw none_taken refl
 lower_left [] (y ∷ r) n e l = let none_taken : n ≡ 0 = omega arith in let longer = rw none_taken at l in absurd (omega (arith, longer))
 lower_left (x ∷ p) r n e l =
     let one : n ≡ 1 = omega arith in
     rw one (ap (λ z. r ++ z) (drop_of_length-le p {i = suc (length p) - 1} (omega arith)) ∙ append-nil r)
-
--- the first place, which it is not lent
-pub first_left : {E : Type 0} (p r : List (Place E)) (n : ℕ) → n ≡ min (length p) 1 → length r ≡ length (take (length p - n) (drop n p))
-    → take 1 (take n p ++ (r ++ post_of n (length p - n) p)) ≡ take 1 p
-first_left [] [] n e l = let none_taken : n ≡ 0 = omega arith in rw none_taken refl
-first_left [] (y ∷ r) n e l = let none_taken : n ≡ 0 = omega arith in let longer = rw none_taken at l in absurd (omega (arith, longer))
-first_left (x ∷ p) r n e l = let one : n ≡ 1 = omega arith in rw one refl
 
 -- a vector with an item written to where it stood
 abbrev holding : {A : Type 0} (v : Vec A Global) (ys : List A) → v.len ≡ length ys → Vec A Global

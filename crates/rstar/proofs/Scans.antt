@@ -1,14 +1,14 @@
 -- One scan of a list of nodes for the next selected element.
-use Rattle.std.proofs.Common.{◌≡◌, ℕ, ℤ, zero, suc, ◌+◌, ◌<◌, ◌≤◌, Bool, true, false, List, [], ◌∷◌, ◌++◌, refl, sym, ◌∙◌, ap, subst, arith, length, get_or, set, take, drop, ◌-◌, Option, Some, None, IfNone, is_some, length-set, filter, if◌then◌else◌, vec_len, vec_capacity}
-use Rattle.std.specs.List.{AllByRecursion, remove}
-use Rattle.std.proofs.lemmas.List.{set-get_or, take-append-drop}
+use Rattle.std.proofs.Common.{◌≡◌, ℕ, ℤ, zero, suc, ◌+◌, ◌<◌, ◌≤◌, Bool, true, false, List, [], ◌∷◌, ◌++◌, refl, sym, ◌∙◌, ap, subst, arith, length, get_or, set, take, drop, replicate, ◌-◌, Option, Some, None, IfNone, is_some, length-set, filter, if◌then◌else◌, vec_len, vec_capacity}
+use Rattle.std.specs.List.{remove}
+use Rattle.std.proofs.lemmas.List.{set-get_or}
 use Rattle.std.proofs.lemmas.List.Edits.{length-remove}
 use Rattle.rstar_base.specs.Envelopes.{Boxes, EnvelopeLaws}
 use Rattle.rstar_base.specs.Elements.{Objects, ObjectLaws}
 use Rattle.rstar_base.specs.Hulls.{hull}
 use Rattle.rstar_base.specs.Selections.{IsLawful}
 use Rattle.rstar_base.proofs.Lists.{all-append}
-use Rattle.rstar_base.proofs.Hulls.{hull-value, hull-append}
+use Rattle.rstar_base.proofs.Hulls.{hull-value}
 use Rattle.rstar.specs.declared.node.RTreeNode.{RTreeNode, Leaf, Parent, out-RTreeNode, roll-out-RTreeNode, roll-RTreeNode}
 use Rattle.rstar.specs.declared.node.RTreeNode.TheVariants.{outs-Leaf, outs-Parent, rolls-Leaf, rolls-Parent}
 use Rattle.rstar.specs.declared.node.RTreeNode.TheOpen as layer
@@ -16,15 +16,13 @@ use Rattle.rstar.specs.declared.node.ParentNode.{ParentNode}
 use Rattle.rstar.specs.Nodes.{Layer, node_box, elements, all_elements, elements_of, children_of, IsElement, IsTree, IsTight, AreWhole}
 use Rattle.rstar.specs.Kept.{IsKept, IsKeptInner, AreKept}
 use Rattle.rstar.specs.Removals.{NoneSelected, IsWithout}
-use Rattle.rstar.specs.declared.algorithm.removal.Place.{Place}
-use Rattle.rstar.specs.Taking.{IsFresh, IsPast, IsRest, IsClosed, AreRests, Takes, TakesInside, first_children, node_children, children_in, with_first, first_number, lower_places, is_selected_leaf, selects_in, is_childless, childless_in, is_nil}
+use Rattle.rstar.specs.Taking.{IsPast, Takes, TakesInside, first_children, node_children, children_in, with_first, first_number, lower_numbers, is_selected_leaf, selects_in, is_childless, childless_in, is_nil}
 use Rattle.rstar.proofs.Places.{all_set, all_get}
 use Rattle.rstar.proofs.Rows.{elements-Leaf, elements-Parent, is_leaf, parent_of, no_leaf, no_parent, IsParentOf-Parent}
 use Rattle.rstar.proofs.Trees.{all_sound, values-of, merged_is_hull}
 use Rattle.rstar.proofs.Insertion.{whole_of_kept}
 use Rattle.rstar.proofs.Complete.{none-selected}
-use Rattle.rstar.proofs.Parts.{take_removed, drop_removed, drop_here, same_without, take_set, drop_set, drop_set_more, remove_set, without_middle, elements_split, elements_set, elements_removed}
-use Rattle.rstar.proofs.Parts.{past_parts, past_made, past_fresh, past_nothing, past_written, rests_nothing, rests_fresh, rest_stays, at_itself, at_lower, at_changed, at_first, at_written, all_take, all_drop, shorter_removed}
+use Rattle.rstar.proofs.Parts.{drop_removed, drop_here, same_without, drop_set, drop_set_more, remove_set, without_middle, elements_split, elements_set, elements_removed, past_parts, past_made, past_zeros, past_nothing, all_take, all_drop, shorter_removed}
 
 -- all leaves of the node lie h levels below it, its parents are tight and have room
 abbrev pub IsKeptNode : {T E P S X : Type 0} → Boxes E → Objects T E → ℕ → ℕ → ℕ → RTreeNode T E P S X → Type 0
@@ -36,11 +34,10 @@ elements_in_layer (layer.Parent p) = all_elements (children_of p)
 
 -- so many nodes from the last on were passed over, and none was changed
 pub record Scanned {T E P S X : Type 0} (v : Boxes E) (o : Objects T E) (accepts : E → Bool) (selects : T → Bool)
-    (old : List (RTreeNode T E P S X)) (start : List (Place E)) (cur : List (RTreeNode T E P S X)) (path : List (Place E)) (p : ℕ) : Type 0 where
+    (old : List (RTreeNode T E P S X)) (start : List ℕ) (cur : List (RTreeNode T E P S X)) (path : List ℕ) (p : ℕ) : Type 0 where
   pub same : cur ≡ old
   pub past : IsLawful v o accepts selects → (m w h : ℕ) → AreKept v o m w h old → IsPast selects start old
-      → NoneSelected selects (all_elements (drop (length cur - p) cur)) × IsPast selects (lower_places path) (first_children (drop (length cur - suc p) cur))
-  pub rests : (m w h : ℕ) → AreKept v o m w h old → AreRests v o start old → AreRests v o (with_first path p) cur
+      → NoneSelected selects (all_elements (drop (length cur - p) cur)) × IsPast selects (lower_numbers path) (first_children (drop (length cur - suc p) cur))
 
 pub if_none : {A P Q : Type 0} (r : Option A) → (P → Q) → IfNone r P → IfNone r Q
 if_none None f p = f p
@@ -134,20 +131,14 @@ module _ {T E : Type 0} {IsPoint : List ℤ → Type 0} {v : Boxes E} {o : Objec
 
 module _ {T E P S X : Type 0} (v : Boxes E) (o : Objects T E) (accepts : E → Bool) (selects : T → Bool) where
   -- a parent that was opened
-  pub entered : (p q : ParentNode T E P S X) (path path' : List (Place E)) (r : Option T)
+  pub entered : (p q : ParentNode T E P S X) (path path' : List ℕ) (r : Option T)
       → Takes v o accepts selects p.children.items path r q.children.items path'
-      → ((m w h : ℕ) → IsKept v o m w p → AreKept v o m w h p.children.items → AreRests v o path p.children.items → IsKept v o m w q) → IfNone r (q ≡ p)
+      → ((m w h : ℕ) → IsKept v o m w p → AreKept v o m w h p.children.items → IsKept v o m w q) → IfNone r (q ≡ p)
       → TakesInside v o accepts selects (Parent p) path r (Parent q) path'
   entered p q path path' r takes kept same = record {
     taken = rw (elements-Parent p, elements-Parent q) takes.taken;
     selected = takes.selected;
-    whole = λ m w h k rests has.
-        let before : AreRests v o path p.children.items = subst (AreRests v o path) (children_parent p) rests in
-        whole_again v o m w h p q (λ h' a b. (kept m w h' a b before, takes.whole m w h' b before)) k has;
-    rests = λ m w h k rests.
-        let before : AreRests v o path p.children.items = subst (AreRests v o path) (children_parent p) rests in
-        subst (AreRests v o path') (sym (children_parent q))
-        (below_then v o m w (AreRests v o path' q.children.items) h p k (λ h' a b. takes.rests m w h' b before));
+    whole = λ m w h k has. whole_again v o m w h p q (λ h' a b. (kept m w h' a b, takes.whole m w h' b)) k has;
     kept = if_none r (λ (e : q ≡ p). ap Parent e) same;
     past = λ lawful m w h k past.
         let before : IsPast selects path p.children.items = subst (IsPast selects path) (children_parent p) past in
@@ -161,13 +152,12 @@ module _ {T E P S X : Type 0} (v : Boxes E) (o : Objects T E) (accepts : E → B
   }
 
   -- a parent that was not opened
-  pub not_entered : {IsPoint : List ℤ → Type 0} (laws : EnvelopeLaws IsPoint v) (ok : ObjectLaws v o) (p : ParentNode T E P S X) (path : List (Place E)) → accepts p.envelope ≡ false
+  pub not_entered : {IsPoint : List ℤ → Type 0} (laws : EnvelopeLaws IsPoint v) (ok : ObjectLaws v o) (p : ParentNode T E P S X) (path : List ℕ) → accepts p.envelope ≡ false
       → TakesInside v o accepts selects (Parent p) path None (Parent p) path
   not_entered laws ok p path no_entry = record {
     taken = refl;
     selected = tt;
-    whole = λ m w h k rests has. k;
-    rests = λ m w h k rests. rests;
+    whole = λ m w h k has. k;
     kept = refl;
     past = λ lawful m w h k past. past;
     missed = λ lawful m w h k past. subst (λ (ns : List (RTreeNode T E P S X)). NoneSelected selects (all_elements ns)) (sym (children_parent p))
@@ -175,15 +165,14 @@ module _ {T E P S X : Type 0} (v : Boxes E) (o : Objects T E) (accepts : E → B
   }
 
   -- before the last node
-  pub begins : (ns : List (RTreeNode T E P S X)) (path : List (Place E)) (p : ℕ) → p ≡ first_number path → Scanned v o accepts selects ns path ns path p
+  pub begins : (ns : List (RTreeNode T E P S X)) (path : List ℕ) (p : ℕ) → p ≡ first_number path → Scanned v o accepts selects ns path ns path p
   begins ns path p e = record {
     same = refl;
     past = λ lawful m w h k past.
-        subst (λ (q : ℕ). NoneSelected selects (all_elements (drop (length ns - q) ns)) × IsPast selects (lower_places path) (first_children (drop (length ns - suc q) ns))) (sym e) (past_parts selects path ns past);
-    rests = λ m w h k rests. subst (λ (q : ℕ). AreRests v o (with_first path q) ns) (sym e) (at_itself (IsRest v o) path ns rests);
+        subst (λ (q : ℕ). NoneSelected selects (all_elements (drop (length ns - q) ns)) × IsPast selects (lower_numbers path) (first_children (drop (length ns - suc q) ns))) (sym e) (past_parts selects path ns past);
   }
 
-  module _ (old : List (RTreeNode T E P S X)) (start : List (Place E)) (cur : List (RTreeNode T E P S X)) (path : List (Place E)) (p : ℕ) (s : Scanned v o accepts selects old start cur path p) where
+  module _ (old : List (RTreeNode T E P S X)) (start : List ℕ) (cur : List (RTreeNode T E P S X)) (path : List ℕ) (p : ℕ) (s : Scanned v o accepts selects old start cur path p) where
     same_length : length cur ≡ length old
     same_length = ap length s.same
 
@@ -202,8 +191,11 @@ module _ {T E P S X : Type 0} (v : Boxes E) (o : Objects T E) (accepts : E → B
       here_whole m w h n here k = subst (IsKeptNode v o m w h) (sym here) (all_get (IsKeptNode v o m w h) cur i n within k)
 
       -- beside a leaf stand leaves alone
-      beside_leaf : (m w h j : ℕ) (t : T) → Leaf t ≡ get_or cur i (Leaf t) → AreKept v o m w h cur → first_children (drop j (remove cur i)) ≡ []
-      beside_leaf m w zero j t here k = leaves_alone v o m w (drop j (remove cur i)) (all_drop (IsKeptNode v o m w 0) j (remove cur i) (without_one m w 0 k))
+      beside_leaf : (m w h j : ℕ) (t : T) → Leaf t ≡ get_or cur i (Leaf t) → AreKept v o m w h cur
+          → IsPast selects (lower_numbers path) (first_children (drop j (remove cur i)))
+      beside_leaf m w zero j t here k =
+          subst (IsPast selects (lower_numbers path)) (sym (leaves_alone v o m w (drop j (remove cur i)) (all_drop (IsKeptNode v o m w 0) j (remove cur i) (without_one m w 0 k))))
+          (past_nothing E P S X selects (lower_numbers path))
       beside_leaf m w (suc h) j t here k = absurd (leaf_no_parent v o m w h (get_or cur i (Leaf t)) t (sym here) (all_get (IsKeptNode v o m w (suc h)) cur i (Leaf t) within k))
 
       behind_here : IsLawful v o accepts selects → (m w h : ℕ) → AreKept v o m w h old → IsPast selects start old → NoneSelected selects (all_elements (drop (suc i) cur))
@@ -219,17 +211,6 @@ module _ {T E P S X : Type 0} (v : Boxes E) (o : Objects T E) (accepts : E → B
           subst (λ (j : ℕ). NoneSelected selects (all_elements (drop j (remove cur i)))) (sym at)
           (subst (λ (ns : List (RTreeNode T E P S X)). NoneSelected selects (all_elements ns)) (sym (drop_removed cur i within)) none)
 
-      -- the nodes in front of i stay, and so what was kept of them
-      rests_removed : (q : Place E) → IsRest v o (record q { passed = p }) cur → IsRest v o (record q { passed = p }) (remove cur i)
-      rests_removed q rest =
-          let long = length-remove cur i within in
-          rest_stays v o q p p i cur (remove cur i) (omega arith) (omega (arith, long)) (omega (arith, long, next)) (take_removed cur i within) rest
-
-      rests_set : (q : Place E) (n' : RTreeNode T E P S X) (j : ℕ) → p ≤ j → IsRest v o (record q { passed = p }) cur → IsRest v o (record q { passed = j }) (set cur i n')
-      rests_set q n' j on rest =
-          let long = length-set cur i n' in
-          rest_stays v o q p j i cur (set cur i n') on (omega (arith, long)) (omega (arith, long, next)) (take_set cur i n' within) rest
-
       -- it is a leaf that is given
       pub gives_leaf : (t : T) → Leaf t ≡ get_or cur i (Leaf t) → selects t ≡ true
           → Takes v o accepts selects old start (Some t) (remove cur i) (with_first path p)
@@ -240,23 +221,15 @@ module _ {T E P S X : Type 0} (v : Boxes E) (o : Objects T E) (accepts : E → B
           record {
             taken = record { before = all_elements (take i cur); after = all_elements (drop (suc i) cur); was = sym (ap all_elements s.same) ∙ parts; is = elements_removed cur i };
             selected = chosen;
-            whole = λ m w h k rests. without_one m w h (kept_now m w h k);
-            rests = λ m w h k rests. at_changed (IsRest v o) path path p p cur (remove cur i) refl (s.rests m w h k rests) rests_removed
-                (subst (AreRests v o (lower_places path)) (sym (beside_leaf m w h (length (remove cur i) - suc p) t here (kept_now m w h k))) (rests_nothing P S X v o (lower_places path)));
+            whole = λ m w h k. without_one m w h (kept_now m w h k);
             shorter = omega arith;
             past = λ lawful m w h k past. past_made selects path (remove cur i) p (none_behind (behind_here lawful m w h k past))
-                (subst (IsPast selects (lower_places path)) (sym (beside_leaf m w h (length (remove cur i) - suc p) t here (kept_now m w h k))) (past_nothing P S X selects (lower_places path)));
+                (beside_leaf m w h (length (remove cur i) - suc p) t here (kept_now m w h k));
             missed = tt;
           }
 
-      module _ (n n' : RTreeNode T E P S X) (path' : List (Place E)) (r : Option T) (here : n ≡ get_or cur i n)
-          (ins : TakesInside v o accepts selects n (lower_places path) r n' (lower_places path')) where
-        rests_here : (m w h : ℕ) → AreKept v o m w h old → AreRests v o start old → AreRests v o (lower_places path) (node_children n)
-        rests_here m w h k rests =
-            let at : length cur - suc p ≡ i = omega (arith, next) in
-            subst (λ (ns : List (RTreeNode T E P S X)). AreRests v o (lower_places path) (first_children ns)) (drop_here cur i n within here)
-            (subst (λ (j : ℕ). AreRests v o (lower_places path) (first_children (drop j cur))) at (at_lower (IsRest v o) path p cur (s.rests m w h k rests)))
-
+      module _ (n n' : RTreeNode T E P S X) (path' : List ℕ) (r : Option T) (here : n ≡ get_or cur i n)
+          (ins : TakesInside v o accepts selects n (lower_numbers path) r n' (lower_numbers path')) where
         -- what the list holds with n' in the place of n
         without_here : IsWithout (all_elements old) r (all_elements (set cur i n'))
         without_here =
@@ -265,63 +238,57 @@ module _ {T E P S X : Type 0} (v : Boxes E) (o : Objects T E) (accepts : E → B
             (sym (elements_split cur i n within here) ∙ ap all_elements s.same) (sym (elements_set cur i n' within))
             (without_middle (all_elements (take i cur)) (elements n) (elements n') (all_elements (drop (suc i) cur)) r ins.taken)
 
-        below_here : IsLawful v o accepts selects → (m w h : ℕ) → AreKept v o m w h old → IsPast selects start old → IsPast selects (lower_places path) (node_children n)
+        below_here : IsLawful v o accepts selects → (m w h : ℕ) → AreKept v o m w h old → IsPast selects start old → IsPast selects (lower_numbers path) (node_children n)
         below_here lawful m w h k past =
             let at : length cur - suc p ≡ i = omega (arith, next) in
-            subst (λ (ns : List (RTreeNode T E P S X)). IsPast selects (lower_places path) (first_children ns)) (drop_here cur i n within here)
-            (subst (λ (j : ℕ). IsPast selects (lower_places path) (first_children (drop j cur))) at (s.past lawful m w h k past).1)
+            subst (λ (ns : List (RTreeNode T E P S X)). IsPast selects (lower_numbers path) (first_children ns)) (drop_here cur i n within here)
+            (subst (λ (j : ℕ). IsPast selects (lower_numbers path) (first_children (drop j cur))) at (s.past lawful m w h k past).1)
 
         -- something below it was given, and it stays
-        pub gives_inside : is_some r ≡ true → is_childless n' ≡ false → take 1 path' ≡ take 1 path → Takes v o accepts selects old start r (set cur i n') (with_first path' p)
-        gives_inside some has first =
+        pub gives_inside : is_some r ≡ true → is_childless n' ≡ false → Takes v o accepts selects old start r (set cur i n') (with_first path' p)
+        gives_inside some has =
             let len = same_length in let long = length-set cur i n' in
             let at : length (set cur i n') - p ≡ suc i = omega (arith, next, long) in
             let at_here : length (set cur i n') - suc p ≡ i = omega (arith, next, long) in
             record {
               taken = without_here;
               selected = ins.selected;
-              whole = λ m w h k rests. all_set (IsKeptNode v o m w h) cur i n' (kept_now m w h k) (ins.whole m w h (here_whole m w h n here (kept_now m w h k)) (rests_here m w h k rests) has);
-              rests = λ m w h k rests. at_changed (IsRest v o) path path' p p cur (set cur i n') first (s.rests m w h k rests) (λ q. rests_set q n' p (omega arith))
-                  (subst (λ (j : ℕ). AreRests v o (lower_places path') (first_children (drop j (set cur i n')))) (sym at_here)
-                  (subst (λ (ns : List (RTreeNode T E P S X)). AreRests v o (lower_places path') (first_children ns)) (sym (drop_set cur i n' within))
-                  (ins.rests m w h (here_whole m w h n here (kept_now m w h k)) (rests_here m w h k rests))));
+              whole = λ m w h k. all_set (IsKeptNode v o m w h) cur i n' (kept_now m w h k) (ins.whole m w h (here_whole m w h n here (kept_now m w h k)) has);
               shorter = omega arith;
               past = λ lawful m w h k past. past_made selects path' (set cur i n') p
                   (subst (λ (j : ℕ). NoneSelected selects (all_elements (drop j (set cur i n')))) (sym at)
                   (subst (λ (ns : List (RTreeNode T E P S X)). NoneSelected selects (all_elements ns)) (sym (drop_set_more cur i n' within)) (behind_here lawful m w h k past)))
-                  (subst (λ (j : ℕ). IsPast selects (lower_places path') (first_children (drop j (set cur i n')))) (sym at_here)
-                  (subst (λ (ns : List (RTreeNode T E P S X)). IsPast selects (lower_places path') (first_children ns)) (sym (drop_set cur i n' within))
+                  (subst (λ (j : ℕ). IsPast selects (lower_numbers path') (first_children (drop j (set cur i n')))) (sym at_here)
+                  (subst (λ (ns : List (RTreeNode T E P S X)). IsPast selects (lower_numbers path') (first_children ns)) (sym (drop_set cur i n' within))
                   (ins.past lawful m w h (here_whole m w h n here (kept_now m w h k)) (below_here lawful m w h k past))));
               missed = some_one _ r some;
             }
 
         -- something below it was given, and it was the last thing there
-        pub gives_last : is_some r ≡ true → is_childless n' ≡ true → (path'' : List (Place E)) → take 1 path'' ≡ take 1 path → AllByRecursion IsFresh (lower_places path'')
+        pub gives_last : is_some r ≡ true → is_childless n' ≡ true → (path'' : List ℕ) (d : ℕ) → lower_numbers path'' ≡ replicate d 0
             → Takes v o accepts selects old start r (remove (set cur i n') i) (with_first path'' p)
-        gives_last some empty path'' first cleared =
+        gives_last some empty path'' d cleared =
             let len = same_length in let long = length-set cur i n' in let short = shorter_removed (set cur i n') i in
             record {
               taken = same_without (all_elements old) (all_elements old) (all_elements (set cur i n')) (all_elements (remove (set cur i n') i)) r refl
                   (elements_set cur i n' within ∙ ap (λ (z : List T). all_elements (take i cur) ++ (z ++ all_elements (drop (suc i) cur))) (no_elements n' empty)
                   ∙ sym (elements_removed cur i) ∙ ap all_elements (sym (remove_set cur i n' within))) without_here;
               selected = ins.selected;
-              whole = λ m w h k rests. subst (AreKept v o m w h) (sym (remove_set cur i n' within)) (without_one m w h (kept_now m w h k));
-              rests = λ m w h k rests. subst (AreRests v o (with_first path'' p)) (sym (remove_set cur i n' within))
-                  (at_changed (IsRest v o) path path'' p p cur (remove cur i) first (s.rests m w h k rests) rests_removed
-                  (rests_fresh v o (lower_places path'') (first_children (drop (length (remove cur i) - suc p) (remove cur i))) cleared));
+              whole = λ m w h k. subst (AreKept v o m w h) (sym (remove_set cur i n' within)) (without_one m w h (kept_now m w h k));
               shorter = omega arith;
               past = λ lawful m w h k past. past_made selects path'' (remove (set cur i n') i) p
                   (subst (λ (ns : List (RTreeNode T E P S X)). NoneSelected selects (all_elements (drop (length ns - p) ns))) (sym (remove_set cur i n' within)) (none_behind (behind_here lawful m w h k past)))
-                  (past_fresh selects (lower_places path'') (first_children (drop (length (remove (set cur i n') i) - suc p) (remove (set cur i n') i))) cleared);
+                  (subst (λ (q : List ℕ). IsPast selects q (first_children (drop (length (remove (set cur i n') i) - suc p) (remove (set cur i n') i)))) (sym cleared)
+                  (past_zeros selects d (first_children (drop (length (remove (set cur i n') i) - suc p) (remove (set cur i n') i)))));
               missed = some_one _ r some;
             }
 
-      module _ (n n' : RTreeNode T E P S X) (path' : List (Place E)) (here : n ≡ get_or cur i n)
-          (ins : TakesInside v o accepts selects n (lower_places path) None n' (lower_places path')) where
+      module _ (n n' : RTreeNode T E P S X) (path' : List ℕ) (here : n ≡ get_or cur i n)
+          (ins : TakesInside v o accepts selects n (lower_numbers path) None n' (lower_numbers path')) where
         -- it is passed over
-        passes : is_selected_leaf selects n ≡ false → (path'' : List (Place E)) → take 1 path'' ≡ take 1 path → AllByRecursion IsFresh (lower_places path'')
+        passes : is_selected_leaf selects n ≡ false → (path'' : List ℕ) (d : ℕ) → lower_numbers path'' ≡ replicate d 0
             → Scanned v o accepts selects old start (set cur i n') path'' (p + 1)
-        passes chosen path'' first cleared =
+        passes chosen path'' d cleared =
             let long = length-set cur i n' in
             let at : length (set cur i n') - (p + 1) ≡ i = omega (arith, next, long) in
             record {
@@ -333,17 +300,16 @@ module _ {T E P S X : Type 0} (v : Boxes E) (o : Objects T E) (accepts : E → B
                     (subst (NoneSelected selects) (sym ins.taken)
                     (node_none selects n chosen (ins.missed lawful m w h (here_whole m w h n here (kept_now m w h k)) (below_here n n' path' None here ins lawful m w h k past))))
                     (behind_here lawful m w h k past))),
-                past_fresh selects (lower_places path'') (first_children (drop (length (set cur i n') - suc (p + 1)) (set cur i n'))) cleared,
+                subst (λ (q : List ℕ). IsPast selects q (first_children (drop (length (set cur i n') - suc (p + 1)) (set cur i n')))) (sym cleared)
+                    (past_zeros selects d (first_children (drop (length (set cur i n') - suc (p + 1)) (set cur i n')))),
               );
-              rests = λ m w h k rests. at_changed (IsRest v o) path path'' p (p + 1) cur (set cur i n') first (s.rests m w h k rests) (λ q. rests_set q n' (p + 1) (omega arith))
-                  (rests_fresh v o (lower_places path'') (first_children (drop (length (set cur i n') - suc (p + 1)) (set cur i n'))) cleared);
             }
 
-      pub passes_any : (n n' : RTreeNode T E P S X) (path' : List (Place E)) (r : Option T) → is_some r ≡ false → n ≡ get_or cur i n
-          → TakesInside v o accepts selects n (lower_places path) r n' (lower_places path') → is_selected_leaf selects n ≡ false
-          → (path'' : List (Place E)) → take 1 path'' ≡ take 1 path → AllByRecursion IsFresh (lower_places path'') → Scanned v o accepts selects old start (set cur i n') path'' (p + 1)
-      passes_any n n' path' None nothing here ins chosen path'' first cleared = passes n n' path' here ins chosen path'' first cleared
-      passes_any n n' path' (Some x) nothing here ins chosen path'' first cleared = cc
+      pub passes_any : (n n' : RTreeNode T E P S X) (path' : List ℕ) (r : Option T) → is_some r ≡ false → n ≡ get_or cur i n
+          → TakesInside v o accepts selects n (lower_numbers path) r n' (lower_numbers path') → is_selected_leaf selects n ≡ false
+          → (path'' : List ℕ) (d : ℕ) → lower_numbers path'' ≡ replicate d 0 → Scanned v o accepts selects old start (set cur i n') path'' (p + 1)
+      passes_any n n' path' None nothing here ins chosen path'' d cleared = passes n n' path' here ins chosen path'' d cleared
+      passes_any n n' path' (Some x) nothing here ins chosen path'' d cleared = cc
 
     -- all nodes were passed over
     pub finishes : length cur ≤ p → (e : ℕ) → e ≡ length cur → Takes v o accepts selects old start None cur (with_first path e)
@@ -355,39 +321,14 @@ module _ {T E P S X : Type 0} (v : Boxes E) (o : Objects T E) (accepts : E → B
         record {
           taken = ap all_elements s.same;
           selected = tt;
-          whole = λ m w h k rests. kept_now m w h k;
-          rests = λ m w h k rests. at_changed (IsRest v o) path path p e cur cur refl (s.rests m w h k rests) (λ q rest some within. absurd (omega (arith, within, at_end)))
-              (subst (λ (j : ℕ). AreRests v o (lower_places path) (first_children (drop j cur))) (sym below) (at_lower (IsRest v o) path p cur (s.rests m w h k rests)));
+          whole = kept_now;
           shorter = omega arith;
           past = λ lawful m w h k past. past_made selects path cur e
               (subst (λ (j : ℕ). NoneSelected selects (all_elements (drop j cur))) (sym behind) (s.past lawful m w h k past).0)
-              (subst (λ (j : ℕ). IsPast selects (lower_places path) (first_children (drop j cur))) (sym below) (s.past lawful m w h k past).1);
+              (subst (λ (j : ℕ). IsPast selects (lower_numbers path) (first_children (drop j cur))) (sym below) (s.past lawful m w h k past).1);
           missed = λ lawful m w h k past. subst (NoneSelected selects) (ap all_elements s.same)
               (subst (λ (j : ℕ). NoneSelected selects (all_elements (drop j cur))) all (s.past lawful m w h k past).0);
         }
-
--- a step after which the first place was written once more
-pub along : {T E P S X : Type 0} (v : Boxes E) (o : Objects T E) (accepts : E → Bool) (selects : T → Bool) (old new : List (RTreeNode T E P S X)) (path path' path'' : List (Place E))
-    (r : Option T) → Takes v o accepts selects old path r new path' → (AreRests v o path' new → AreRests v o path'' new) → (IsPast selects path' new → IsPast selects path'' new)
-    → Takes v o accepts selects old path r new path''
-along v o accepts selects old new path path' path'' r takes rests past = record {
-  taken = takes.taken;
-  selected = takes.selected;
-  whole = takes.whole;
-  rests = λ m w h k before. rests (takes.rests m w h k before);
-  shorter = takes.shorter;
-  past = λ lawful m w h k before. past (takes.past lawful m w h k before);
-  missed = takes.missed;
-}
-
--- the merge of the envelopes of nodes, in two parts
-module _ {T E : Type 0} {IsPoint : List ℤ → Type 0} {v : Boxes E} (laws : EnvelopeLaws IsPoint v) (o : Objects T E) {P S X : Type 0} where
-  pub merged_parts : (p : Place E) (ns back : List (RTreeNode T E P S X)) (x : E) → back ≡ drop p.closed ns → IsClosed v o p ns
-      → AllByRecursion (λ n. v.IsValue (node_box o.box_of n)) back → x ≡ v.merge p.rest (hull v (node_box o.box_of) back) → x ≡ hull v (node_box o.box_of) ns
-  merged_parts p ns back x behind closed values made =
-      made ∙ ap (λ (e : E). v.merge e (hull v (node_box o.box_of) back)) closed.merged
-      ∙ sym (hull-append laws (node_box o.box_of) (take p.closed ns) back closed.values values)
-      ∙ ap (hull v (node_box o.box_of)) (ap (λ (l : List (RTreeNode T E P S X)). take p.closed ns ++ l) behind ∙ take-append-drop p.closed ns)
 
 -- a parent whose list lost some children, and whose envelope was made anew, is kept
 module _ {T E : Type 0} {IsPoint : List ℤ → Type 0} {v : Boxes E} {o : Objects T E} (laws : EnvelopeLaws IsPoint v) (ok : ObjectLaws v o) (m w : ℕ) {P S X : Type 0} where

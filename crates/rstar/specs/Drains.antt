@@ -6,14 +6,13 @@ use denote.RattleType.{RattleType}
 use Rattle.rstar_base.specs.Envelopes.{Boxes}
 use Rattle.rstar_base.specs.Elements.{Objects}
 use Rattle.rstar_base.specs.Selections.{IsLawful}
-use Rattle.rstar.specs.declared.algorithm.removal.Place.{Place}
 use Rattle.rstar.specs.declared.rtree.RTree.{RTree}
 use Rattle.rstar.specs.declared.iterators.drain.DrainIterator.{DrainIterator}
 use Rattle.rstar.specs.contracts.rtree.RTree.{the_row as tree_row}
 use Rattle.rstar.specs.Nodes.{children_of}
 use Rattle.rstar.specs.Trees.{root_of, elements_in, IsWholeTree}
 use Rattle.rstar.specs.Removals.{NoneSelected, IsWithout}
-use Rattle.rstar.specs.Taking.{IsPast, AreRests}
+use Rattle.rstar.specs.Taking.{IsPast}
 
 -- ---- what it shows: the tree that it drains, the tree's elements, and its question
 
@@ -35,27 +34,26 @@ module _ (T D E P S X : RattleType) where
 
 -- a drain of a lawful question, which selects these elements
 pub record DrainsBy {T F D E P S X : Type 0} (v : Boxes E) (o : Objects T E) (accepts : F → E → Bool)
-    (selects : F → T → Bool) (asked : T → Bool) (it : DrainIterator T F D (Vec (Place E) Global) E P S X) : Type 0 where
+    (selects : F → T → Bool) (asked : T → Bool) (it : DrainIterator T F D (Vec ℕ Global) E P S X) : Type 0 where
   pub lawful : IsLawful v o (accepts (drain_question it)) (selects (drain_question it))
   pub asks : selects (drain_question it) ≡ asked
 
 module _ {T F D E P S X : Type 0} (v : Boxes E) (o : Objects T E) (max : ℕ) (accepts : F → E → Bool)
     (selects : F → T → Bool) where
-  -- a whole tree, with nothing that is selected right of the place from which the drain goes on, and envelopes kept
-  -- there that are those of the children
-  abbrev pub HasItsPlace : DrainIterator T F D (Vec (Place E) Global) E P S X → Type 0
-  HasItsPlace it = IsWholeTree v o max (drained it) × AreRests v o it.path.items (children_of (root_of (drained it)))
+  -- a whole tree, with nothing that is selected right of the place from which the drain goes on
+  abbrev pub HasItsPlace : DrainIterator T F D (Vec ℕ Global) E P S X → Type 0
+  HasItsPlace it = IsWholeTree v o max (drained it)
       × (IsLawful v o (accepts (drain_question it)) (selects (drain_question it))
       → IsPast (selects (drain_question it)) it.path.items (children_of (root_of (drained it))))
 
   -- what it keeps, so that `next` may be called
-  unfoldable pub IsDraining : DrainIterator T F D (Vec (Place E) Global) E P S X → Type 0
+  unfoldable pub IsDraining : DrainIterator T F D (Vec ℕ Global) E P S X → Type 0
   IsDraining it = HasItsPlace it
 
   -- a call of `next` takes a selected element out of the tree, which stays whole; where it gives none, none is selected
   -- and the tree is as it was
-  pub record TakesNext (old : DrainIterator T F D (Vec (Place E) Global) E P S X) (r : Option T)
-      (new : DrainIterator T F D (Vec (Place E) Global) E P S X) : Type 0 where
+  pub record TakesNext (old : DrainIterator T F D (Vec ℕ Global) E P S X) (r : Option T)
+      (new : DrainIterator T F D (Vec ℕ Global) E P S X) : Type 0 where
     pub taken : IsWithout (elements_left old) r (elements_left new)
     pub selected : IfSome r (λ x. selects (drain_question old) x ≡ true)
     pub ended : IfNone r (IsLawful v o (accepts (drain_question old)) (selects (drain_question old))

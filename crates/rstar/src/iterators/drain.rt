@@ -6,7 +6,6 @@ ghost use Rattle.rstar.specs.Taking.{Removes};
 ghost use Rattle.rstar.specs.Drains.{elements_left, IsDraining, TakesNext};
 ghost use Rattle.rstar.specs.Trees.{IsWholeTree};
 
-use crate::algorithm::removal::Place;
 use crate::rtree::RTree;
 use rstar_base::algorithm::selection_functions::SelectionFunction;
 use rstar_base::envelope::Envelope;
@@ -17,16 +16,16 @@ use rstar_base::params::{DefaultParams, RTreeParams};
 /// them where the selection function is lawful, and never another element.
 ///
 /// Each `next` leaves a whole tree without the element that it gives, and takes no memory: the place from which it goes
-/// on, one for each level, was reserved when the drain was made. Dropping or forgetting it does nothing more, so
+/// on, a number for each level, was reserved when the drain was made. Dropping or forgetting it does nothing more, so
 /// the tree is then the one of its last `next`.
 ///
-/// `Path` is the list of these places. Users leave it out.
+/// `Path` is the list of these numbers. Users leave it out.
 pub struct DrainIterator<
     'a,
     T: RTreeObject,
     R: SelectionFunction<T>,
     Params: RTreeParams = DefaultParams,
-    Path: Drop = Vec<Place<<T as RTreeObject>::Envelope>>,
+    Path: Drop = Vec<usize>,
 > {
     tree: &'a mut RTree<T, Params>,
     func: R,
@@ -53,12 +52,8 @@ impl<'a, T: RTreeObject, R: SelectionFunction<T>, Params: RTreeParams> DrainIter
     R,
     Params,
 > {
-    /// A drain of a tree, with a path.
-    pub(crate) fn new(
-        tree: &'a mut RTree<T, Params>,
-        func: R,
-        path: Vec<Place<T::Envelope>>,
-    ) -> Self
+    /// A drain from the beginning of a tree on, with a path of zeros.
+    pub(crate) fn new(tree: &'a mut RTree<T, Params>, func: R, path: Vec<usize>) -> Self
         ensures same_reference { result.tree.ghost_name ≡ tree.entry.ghost_name }
         ensures tree { result.tree.now ≡ tree.old }
         ensures func { result.func ≡ func }

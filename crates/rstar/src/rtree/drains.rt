@@ -8,7 +8,6 @@ ghost use Rattle.rstar.specs.Drains.{drained, drain_question, DrainsBy, IsDraini
 ghost use Rattle.rstar.specs.IntoIters.{left_to_give, IsGiving};
 ghost use Rattle.rstar.specs.Trees.{elements_in, IsWholeTree};
 
-use crate::algorithm::removal::fresh_path;
 use crate::iterators::{DrainIterator, IntoIter};
 use crate::rtree::RTree;
 use rstar_base::algorithm::selection_functions::{
@@ -24,7 +23,7 @@ use std::alloc::AllocError;
 impl<T: RTreeObject, Params: RTreeParams> RTree<T, Params> {
     /// Takes all elements out, one for each `next`, in some order.
     ///
-    /// It is refused where the allocator refuses the path, a place for each level, and the tree is then left. Where it
+    /// It is refused where the allocator refuses the path, a number for each level, and the tree is then left. Where it
     /// is dropped or forgotten the tree is the one of the last `next`.
     pub fn drain(&mut self) -> Result<DrainIterator<'_, T, SelectAllFunc, Params>, AllocError>
         requires { IsWholeTree T.Envelope.boxes T.object Params.MAX_SIZE self.old }
@@ -44,7 +43,7 @@ impl<T: RTreeObject, Params: RTreeParams> RTree<T, Params> {
 
     /// Takes the elements whose envelopes an envelope contains out, one for each `next`, in some order.
     ///
-    /// It is refused where the allocator refuses the path, a place for each level, and the tree is then left. Where it
+    /// It is refused where the allocator refuses the path, a number for each level, and the tree is then left. Where it
     /// is dropped or forgotten the tree is the one of the last `next`.
     pub fn drain_in_envelope(
         &mut self,
@@ -68,7 +67,7 @@ impl<T: RTreeObject, Params: RTreeParams> RTree<T, Params> {
     /// Takes the elements whose envelopes an envelope intersects out, one for each `next`, in some order. Touching is
     /// enough.
     ///
-    /// It is refused where the allocator refuses the path, a place for each level, and the tree is then left. Where it
+    /// It is refused where the allocator refuses the path, a number for each level, and the tree is then left. Where it
     /// is dropped or forgotten the tree is the one of the last `next`.
     pub fn drain_in_envelope_intersecting(
         &mut self,
@@ -92,7 +91,7 @@ impl<T: RTreeObject, Params: RTreeParams> RTree<T, Params> {
     /// Takes the elements that a function selects out, one for each `next`, in some order. A function that is not
     /// lawful may miss some.
     ///
-    /// It is refused where the allocator refuses the path, a place for each level, and the tree is then left. Where it
+    /// It is refused where the allocator refuses the path, a number for each level, and the tree is then left. Where it
     /// is dropped or forgotten the tree is the one of the last `next`.
     #[tactic(auto, unfolding(crate::specs::Drains::IsDraining))]
     pub fn drain_with_selection_function<R: SelectionFunction<T>>(
@@ -107,7 +106,7 @@ impl<T: RTreeObject, Params: RTreeParams> RTree<T, Params> {
         ensures draining { IfOk result (IsDraining T.Envelope.boxes T.object Params.MAX_SIZE R.accepts R.selects) }
     {
         let alloc = *self.root.children.allocator();
-        let path = fresh_path(alloc, self.levels.saturating_add(1))?;
+        let path = vec![in alloc; 0; self.levels.saturating_add(1)]?;
         Ok(DrainIterator::new(self, func, path))
     }
 }
@@ -137,7 +136,7 @@ impl<T: PointDistance, Params: RTreeParams> RTree<T, Params> {
     /// Takes the elements whose distance from a point is at most a limit out, one for each `next`, in some order.
     /// Distances are squared.
     ///
-    /// It is refused where the allocator refuses the path, a place for each level, and the tree is then left. Where it
+    /// It is refused where the allocator refuses the path, a number for each level, and the tree is then left. Where it
     /// is dropped or forgotten the tree is the one of the last `next`.
     pub fn drain_within_distance(
         &mut self,

@@ -9,7 +9,7 @@ ghost use Rattle.rstar.specs.Removals.{NoneSelected};
 ghost use Rattle.rstar.specs.Taking.{Removes};
 ghost use Rattle.rstar.specs.Trees.{size_of, elements_in, IsWholeTree};
 
-use crate::algorithm::removal::{Place, take_below};
+use crate::algorithm::removal::take_below;
 use crate::rtree::RTree;
 use rstar_base::algorithm::selection_functions::{
     SelectAtPointFunction, SelectEqualsFunction, SelectionFunction,
@@ -35,17 +35,16 @@ impl<T: RTreeObject, Params: RTreeParams> RTree<T, Params> {
         ensures kept { IfNone result (self.new ≡ self.old) }
         ensures whole { IsWholeTree T.Envelope.boxes T.object Params.MAX_SIZE self.new }
     {
-        let mut path: [Place<T::Envelope>; 0] = [];
-        self.take_next(&mut path, &func)
+        self.take_next(&mut [], &func)
     }
 
-    /// Takes the next selected element out, from a place on: one for each level.
+    /// Takes the next selected element out, from a place on: a number for each level, of the children to the right.
     ///
     /// A path that is too short, or a place that is not there, only begins further right or finds less.
     #[tactic(auto, unfolding(crate::specs::Trees::IsWholeTree))]
     pub(crate) fn take_next<R: SelectionFunction<T>>(
         &mut self,
-        path: &mut [Place<T::Envelope>],
+        path: &mut [usize],
         func: &R,
     ) -> Option<T>
         requires { IsWholeTree T.Envelope.boxes T.object Params.MAX_SIZE self.old }

@@ -1,8 +1,8 @@
 use Rattle.std.proofs.Common.{◌≡◌, ◌∙◌, ◌<◌, sym, refl, arith, ap, length, suc, ◌+◌, ◌-◌, get_or, get_or-set_same, Vec}
 use Rattle.rstar.specs.declared.node.RTreeNode.TheVariants.{outs-Leaf, outs-Parent}
 use Rattle.rstar.specs.Taking.{selects_in, is_selected_leaf, is_childless}
-use Rattle.rstar.proofs.Parts.{same_read, same_item, lower_lent, lower_left, first_left}
-use Rattle.rstar.proofs.Scans.{begins, gives_leaf, gives_inside, gives_last, passes_any, finishes, entered, not_entered, kept_anew, none_gives, along}
+use Rattle.rstar.proofs.Parts.{same_read, same_item, lower_lent, lower_left}
+use Rattle.rstar.proofs.Scans.{begins, gives_leaf, gives_inside, gives_last, passes_any, finishes, entered, not_entered, kept_anew, none_gives}
 use Rattle.rstar.proofs.algorithm.removal.+take.Goals as goal
 use Rattle.rstar.proofs.algorithm.removal.+take.Goals.{take_among-then-is_childless, take_among-else-is_childless}
 
@@ -35,12 +35,12 @@ take_among-returns-then-is_some-clause-takes g t c =
     elim c.if-is_childless.branch [
       | take_among-then-is_childless w ↦
           rw (c.set_first-then-is_some.ensures, w.path-is, w.children-is, w.drop_child.ensures.items)
-          (gives_last _ _ _ _ _ _ _ _ _ c.loop-passed.invariant.scanned i next _ _ c.take_inside-taken.new.path _ c.index_mut.ensures.value c.take_inside-taken.ensures.takes (sym c.is_some.ensures ∙ c.if-is_some.true)
-          (sym (ap is_childless written) ∙ sym c.is_childless.ensures ∙ w.if-is_childless.true) _ (w.clear_lower.ensures.first ∙ c.take_inside-taken.ensures.first) w.clear_lower.ensures.lower)
+          (gives_last _ _ _ _ _ _ _ _ _ c.loop-passed.invariant.scanned i next _ _ c.take_inside-taken.new.path _ c.index_mut.ensures.value c.take_inside-taken.ensures (sym c.is_some.ensures ∙ c.if-is_some.true)
+          (sym (ap is_childless written) ∙ sym c.is_childless.ensures ∙ w.if-is_childless.true) _ _ w.clear_lower.ensures)
       | take_among-else-is_childless w ↦
           rw (c.set_first-then-is_some.ensures, w.path-is, w.children-is)
-          (gives_inside _ _ _ _ _ _ _ _ _ c.loop-passed.invariant.scanned i next _ _ c.take_inside-taken.new.path _ c.index_mut.ensures.value c.take_inside-taken.ensures.takes (sym c.is_some.ensures ∙ c.if-is_some.true)
-          (sym (ap is_childless written) ∙ sym c.is_childless.ensures ∙ w.if-is_childless.false) c.take_inside-taken.ensures.first)
+          (gives_inside _ _ _ _ _ _ _ _ _ c.loop-passed.invariant.scanned i next _ _ c.take_inside-taken.new.path _ c.index_mut.ensures.value c.take_inside-taken.ensures (sym c.is_some.ensures ∙ c.if-is_some.true)
+          (sym (ap is_childless written) ∙ sym c.is_childless.ensures ∙ w.if-is_childless.false))
     ]
 
 pub take_among-loop-passed-preserved : goal.take_among-loop-passed-preserved
@@ -50,10 +50,10 @@ take_among-loop-passed-preserved g t c =
     let next : length c.loop-passed.children.items ≡ suc (i + c.loop-passed.passed) = omega (arith, c.args.children.now.ok.0, same, c.len.ensures) in
     let within : i < length c.loop-passed.children.items = omega (arith, next) in
     let here = same_read _ _ _ _ within c.index.ensures c.index_mut.ensures.value in
-    let unchanged = same_item c.loop-passed.children i c.take_inside-taken.new.child _ (none_gives _ (sym c.is_some.ensures ∙ c.if-is_some.false) c.take_inside-taken.ensures.takes.kept ∙ c.index_mut.ensures.value) ∙ c.loop-passed.invariant.same in
+    let unchanged = same_item c.loop-passed.children i c.take_inside-taken.new.child _ (none_gives _ (sym c.is_some.ensures ∙ c.if-is_some.false) c.take_inside-taken.ensures.kept ∙ c.index_mut.ensures.value) ∙ c.loop-passed.invariant.same in
     record {
-      scanned = passes_any _ _ _ _ _ _ _ _ _ c.loop-passed.invariant.scanned i next _ _ c.take_inside-taken.new.path _ (sym c.is_some.ensures ∙ c.if-is_some.false) c.index_mut.ensures.value c.take_inside-taken.ensures.takes
-          (sym (ap (is_selected_leaf (g.R.SelectionFunction.selects c.args.func.now)) here) ∙ sym c.is_selected_leaf.ensures ∙ c.if-is_selected_leaf.false) _ (c.clear_lower-in-loop-passed.ensures.first ∙ c.take_inside-taken.ensures.first) c.clear_lower-in-loop-passed.ensures.lower;
+      scanned = passes_any _ _ _ _ _ _ _ _ _ c.loop-passed.invariant.scanned i next _ _ c.take_inside-taken.new.path _ (sym c.is_some.ensures ∙ c.if-is_some.false) c.index_mut.ensures.value c.take_inside-taken.ensures
+          (sym (ap (is_selected_leaf (g.R.SelectionFunction.selects c.args.func.now)) here) ∙ sym c.is_selected_leaf.ensures ∙ c.if-is_selected_leaf.false) _ _ c.clear_lower-in-loop-passed.ensures;
       unvisited = λ k d. ap (λ (v : Vec _ _). get_or v.items k d) unchanged;
       same = unchanged;
     }
@@ -65,33 +65,23 @@ take_among-returns-clause-takes g t c =
 
 pub take_below-returns-then-is_some-clause-kept :
     goal.take_below-returns-then-is_some-clause-kept
-take_below-returns-then-is_some-clause-kept g t c = λ m w h kept below rests.
+take_below-returns-then-is_some-clause-kept g t c = λ m w h kept below.
     let takes = c.take_among-taken.ensures.takes in
-    let made = (rw c.deref.ensures.value at c.merge_along.ensures.merged) (takes.rests m w h below rests) in
-    kept_anew g.met.T.Envelope.Envelope.envelope_laws g.met.T.RTreeObject.object_law m w h c.args.node.now _ kept (takes.whole m w h below rests) takes.shorter c.take_among-taken.new.children.ok.0 c.args.node.now.children.ok.0 c.take_among-taken.ensures.capacity made
+    let made = rw c.deref.ensures.value at c.envelope_for_children.ensures in
+    kept_anew g.met.T.Envelope.Envelope.envelope_laws g.met.T.RTreeObject.object_law m w h c.args.node.now _ kept (takes.whole m w h below) takes.shorter c.take_among-taken.new.children.ok.0 c.args.node.now.children.ok.0 c.take_among-taken.ensures.capacity made
 
-pub take_below-returns-then-is_some-clause-takes :
-    goal.take_below-returns-then-is_some-clause-takes
-take_below-returns-then-is_some-clause-takes g t c =
-    let selects = g.R.SelectionFunction.selects c.args.func.now in
-    along _ _ _ selects _ _ _ _ _ _ c.take_among-taken.ensures.takes (rw c.deref.ensures.value at c.merge_along.ensures.rests) ((rw c.deref.ensures.value at c.merge_along.ensures.past) selects)
-
-pub take_inside-returns-then-should_unpack_parent-clause-takes :
-    goal.take_inside-returns-then-should_unpack_parent-clause-takes
-take_inside-returns-then-should_unpack_parent-clause-takes g t c =
+pub take_inside-returns-then-should_unpack_parent :
+    goal.take_inside-returns-then-should_unpack_parent
+take_inside-returns-then-should_unpack_parent g t c =
     let takes = rw (c.in-Parent.parent-is, lower_lent _ _ c.min-lower.ensures) at c.take_below.ensures.takes in
-    let kept = rw (c.in-Parent.parent-is, lower_lent _ _ c.min-lower.ensures) at c.take_below.ensures.kept in
+    let kept = rw c.in-Parent.parent-is at c.take_below.ensures.kept in
     let same = rw c.in-Parent.parent-is at c.take_below.ensures.same in
     let len = c.take_below.auto.path in
     rw (c.in-Parent.is, outs-Parent c.in-Parent.parent, lower_left _ _ _ c.min-lower.ensures len) (entered _ _ _ _ _ _ _ _ _ takes kept same)
 
-pub take_inside-returns-then-should_unpack_parent-clause-first :
-    goal.take_inside-returns-then-should_unpack_parent-clause-first
-take_inside-returns-then-should_unpack_parent-clause-first g t c = first_left _ _ _ c.min-lower.ensures c.take_below.auto.path
-
-pub take_inside-returns-else-should_unpack_parent-clause-takes :
-    goal.take_inside-returns-else-should_unpack_parent-clause-takes
-take_inside-returns-else-should_unpack_parent-clause-takes g t c =
+pub take_inside-returns-else-should_unpack_parent :
+    goal.take_inside-returns-else-should_unpack_parent
+take_inside-returns-else-should_unpack_parent g t c =
     let refused = rw c.in-Parent.parent-is at c.should_unpack_parent.ensures in
     rw (c.in-Parent.is, outs-Parent c.in-Parent.parent)
     (not_entered _ _ _ _ g.met.T.Envelope.Envelope.envelope_laws g.met.T.RTreeObject.object_law _ _ (sym refused ∙ c.if-should_unpack_parent.false))
