@@ -11,7 +11,7 @@ use rstar::algorithm::selection_functions::{
 };
 use rstar::iterators::DrainIterator;
 use rstar::node::{ParentNode, RTreeNode};
-use rstar::primitives::{GeomWithData, Rectangle};
+use rstar::primitives::{GeomWithData, Line, Rectangle};
 use rstar::{AABB, DefaultParams, Envelope, InsertError, RTree, RTreeObject, RTreeParams};
 use std::alloc::{AllocError, Global};
 use std::marker::Model;
@@ -20,6 +20,8 @@ use std::ops::ControlFlow;
 use std::test::Fail;
 
 type Fence = GeomWithData<Rectangle<[i64; 2]>, u64>;
+
+type Edge = Line<[i32; 2]>;
 
 /// Two points are drained, the drain is dropped, and one is inserted.
 fn two_out_one_in(tree: &mut RTree<[i64; 2]>) -> Result<usize, AllocError>
@@ -239,6 +241,39 @@ impl Marks {
     }
 }
 
+/// Lines in a tree, which is whole.
+#[derive(Drop)]
+struct Edges {
+    tree: RTree<Edge>,
+}
+
+impl Model for Edges {
+    ghost use Rattle.std.specs.Prelude.{ℤ, List, map};
+    ghost use Rattle.rstar.specs.Trees.{elements_in, IsWholeTree};
+
+    ghost Value = { List (List (ℤ × ℤ)) };
+
+    ghost view = { λ s. map ⟦<Edge as RTreeObject>⟧.object.box_of (elements_in s.tree) };
+
+    ghost invariant = { λ s. IsWholeTree ⟦<AABB<[i32; 2]> as Envelope>⟧.boxes
+        ⟦<Edge as RTreeObject>⟧.object ⟦<DefaultParams as RTreeParams>⟧.MAX_SIZE s.tree };
+}
+
+impl Edges {
+    fn insert(&mut self, edge: Edge) -> Result<(), InsertError<Edge>> {
+        self.tree.insert(edge)
+    }
+
+    /// Whether a line leaves once, and is then gone.
+    fn leaves_once(&mut self, edge: Edge) -> bool {
+        let before = self.tree.size();
+        let taken = self.tree.remove(&edge);
+        taken == Some(edge)
+            && self.tree.remove(&edge).is_none()
+            && self.tree.size().checked_add(1) == Some(before)
+    }
+}
+
 /// The seven points along a line.
 fn along_a_line(alloc: Global) -> Result<RTree<[i32; 2]>, InsertError<[i32; 2]>>
     ensures { IfOk result (IsWholeTree ⟦<AABB<[i32; 2]> as Envelope>⟧.boxes ⟦<[i32; 2] as RTreeObject>⟧.object
@@ -273,6 +308,19 @@ fn inside(marks: &Marks, area: AABB<[i32; 2]>) -> usize {
 fn mark(i: usize) -> [i32; 2] {
     let i = i % 300;
     [((37 * i) % 101) as i32, ((53 * i) % 103) as i32]
+}
+
+/// A short line for each number below 300, from its point on.
+fn edge(i: usize) -> Edge {
+    let [x, y] = mark(i);
+    let i = i % 300;
+    Line::new(
+        [x, y],
+        [
+            x.wrapping_add(((29 * i) % 11) as i32).wrapping_sub(5),
+            y.wrapping_add(((31 * i) % 13) as i32).wrapping_sub(6),
+        ],
+    )
 }
 
 /// So many points.
@@ -359,6 +407,23 @@ fn an_emptied_tree_is_drained(rt: HostRuntime) -> Result<(), Fail> {
     assert!(rt; tree.drain_within_distance([0, 0, 0], 10)?.next().is_none());
     assert_eq!(rt; tree.size(), 0);
     assert!(rt; tree.root().envelope().is_empty());
+    Ok(())
+}
+
+// rstar's test `test_remove`, on other lines: each leaves once.
+#[test]
+fn lines_leave_once(rt: HostRuntime) -> Result<(), Fail> {
+    let mut edges = Edges {
+        tree: RTree::new(rt.alloc()),
+    };
+    for i in 0..300 {
+        edges.insert(edge(i))?;
+    }
+    for i in 0..300 {
+        assert!(rt; edges.leaves_once(edge(i)), "{i}");
+        assert!(rt; i % 50 > 0 || stands(&edges.tree), "{i}");
+    }
+    assert_eq!(rt; edges.tree.size(), 0);
     Ok(())
 }
 
