@@ -57,7 +57,7 @@ module _ {T E P S X : Type 0} where
 -- ---- how many parents there are
 
 module _ (T E P S X : Type 0) where
-  parents-Leaf : (t : T) → parents {E = E} {P = P} {S = S} {X = X} (Leaf t) ≡ 0
+  pub parents-Leaf : (t : T) → parents {E = E} {P = P} {S = S} {X = X} (Leaf t) ≡ 0
   unfolding parents fold_tree
   parents-Leaf t = refl
 
@@ -65,7 +65,7 @@ module _ (T E P S X : Type 0) where
   no_parents-leaf t = sum_by-cons parents (Leaf t) [] ∙ ap (λ n. n + 0) (parents-Leaf t)
 
 module _ {T E P S X : Type 0} where
-  all_parents-append : (xs ys : List (RTreeNode T E P S X)) → all_parents (xs ++ ys) ≡ all_parents xs + all_parents ys
+  pub all_parents-append : (xs ys : List (RTreeNode T E P S X)) → all_parents (xs ++ ys) ≡ all_parents xs + all_parents ys
   all_parents-append xs ys = sum_by-append parents xs ys
 
   -- a leaf more is no parent more
@@ -85,6 +85,14 @@ module _ {T E P S X : Type 0} where
       let a = sum_by-cons parents n (set ns i m) in
       let b = sum_by-cons parents n ns in
       let c = parents_of_set ns i d m (omega arith) in omega (arith, a, b, c)
+
+  -- a child has as many parents below it as before
+  pub child_same : (old : List (RTreeNode T E P S X)) (i : ℕ) (a b : ParentNode T E P S X) → i < length old → Parent a ≡ get_or old i (Parent a)
+      → all_parents b.children.items ≡ all_parents a.children.items → all_parents (set old i (Parent b)) ≡ all_parents old
+  child_same old i a b below is same =
+      let change = parents_of_set old i (Parent a) (Parent b) below in
+      let at = ap parents (sym is) in
+      let one = parents-Parent a in let other = parents-Parent b in omega (arith, same, change, at, one, other)
 
   -- a parent that may be there counts itself and those below it
   second_parents : (r : Option (ParentNode T E P S X)) → all_parents (as_node r) ≡ length (as_node r) + all_parents (second_children r)

@@ -1,6 +1,7 @@
 -- What handing leaves out, and putting them in again, does to the lists of a tree.
-use Rattle.std.proofs.Common.{◌≡◌, ℕ, ◌+◌, ◌-◌, ◌*◌, ◌<◌, ◌≤◌, max, List, [], ◌∷◌, ◌++◌, length, get_or, set, sym, ap, ◌∙◌, subst, arith, append_assoc, IsPermutation, None, vec_len}
+use Rattle.std.proofs.Common.{◌≡◌, ℕ, ◌+◌, ◌-◌, ◌*◌, ◌<◌, ◌≤◌, max, List, [], ◌∷◌, ◌++◌, length, get_or, set, refl, sym, ap, ◌∙◌, subst, arith, append_assoc, IsPermutation, None, vec_len}
 use Rattle.std.proofs.lemmas.Nat.{mul-le}
+use Rattle.std.proofs.lemmas.List.Sums.{sum_by-cons}
 use Rattle.std.proofs.lemmas.List.Sorted.{IsPermutation-trans, IsPermutation-append_left, IsPermutation-to_front}
 use Rattle.rstar_base.specs.Envelopes.{Boxes, EnvelopeLaws}
 use Rattle.rstar_base.specs.Elements.{Objects, ObjectLaws}
@@ -9,13 +10,13 @@ use Rattle.rstar_base.proofs.Lists.{all_first, all_second, all_along}
 use Rattle.rstar.specs.declared.node.RTreeNode.{RTreeNode, Leaf, Parent}
 use Rattle.rstar.specs.declared.node.ParentNode.{ParentNode}
 use Rattle.rstar.specs.Heights.{spare_lists}
-use Rattle.rstar.specs.Nodes.{all_elements, node_box, IsTree, IsElement}
+use Rattle.rstar.specs.Nodes.{all_elements, parents, all_parents, node_box, IsTree, IsElement}
 use Rattle.rstar.specs.Shapes.{AreTrees, IsAny, HasSize}
 use Rattle.rstar.specs.Kept.{IsKeptInner, IsFit, AreKept, IsKeptTree, IsSizedAfter}
 use Rattle.rstar.proofs.Places.{all_set}
 use Rattle.rstar.proofs.Rows.{elements-Leaf, elements-Parent, is_leaf, leaf_of}
 use Rattle.rstar.proofs.Trees.{merged_is_hull}
-use Rattle.rstar.proofs.Insertion.{all_elements-append, all_elements-single, elements_along, bag_of_set, tree_of, whole_of_kept, inner_of_fit}
+use Rattle.rstar.proofs.Insertion.{all_elements-append, all_elements-single, elements_along, bag_of_set, tree_of, whole_of_kept, inner_of_fit, parents-Leaf, all_parents-append, leaf_counted, parents_along}
 
 module _ {T E P S X : Type 0} where
   -- the last leaf of a list leaves it and goes into the tree
@@ -27,6 +28,25 @@ module _ {T E P S X : Type 0} where
       let moved : old ++ all_elements handed ≡ (old ++ all_elements rest) ++ t ∷ [] = ap (λ (ts : List T). old ++ ts) last ∙ sym (append_assoc old (all_elements rest) (t ∷ [])) in
       IsPermutation-trans start ((old ++ all_elements rest) ++ t ∷ []) (new ++ all_elements rest) (subst (IsPermutation start) moved before)
       (IsPermutation-trans ((old ++ all_elements rest) ++ t ∷ []) (t ∷ old ++ all_elements rest) (new ++ all_elements rest) (IsPermutation-to_front (old ++ all_elements rest) t) (IsPermutation-append_left (all_elements rest) (t ∷ old) new step))
+
+module _ {T E P S X : Type 0} (Q : ParentNode T E P S X → Type 0) (R : T → Type 0) where
+  -- leaves are no parents
+  pub no_parents : (ns : List (RTreeNode T E P S X)) → AreTrees Q R 0 ns → all_parents ns ≡ 0
+  no_parents [] trees = refl
+  no_parents (n ∷ ns) trees =
+      let leaf = is_leaf R n trees.0 in
+      let here = ap parents leaf.1 ∙ parents-Leaf T E P S X leaf.0 in
+      let both = sum_by-cons parents n ns in
+      let rest = no_parents ns trees.1 in omega (arith, here, both, rest)
+
+  -- a lowest parent has none below it, after a leaf came in and some went
+  pub leaf_left : (h : ℕ) (t : T) (old new out : List (RTreeNode T E P S X)) → h ≡ 0 → AreTrees Q R h old → IsPermutation (old ++ Leaf t ∷ []) (new ++ out)
+      → all_parents new ≡ all_parents old
+  leaf_left h t old new out low trees same =
+      let none = no_parents old (subst (λ (n : ℕ). AreTrees Q R n old) low trees) in
+      let leaf = leaf_counted old t in
+      let along = parents_along (old ++ Leaf t ∷ []) (new ++ out) same in
+      let both = all_parents-append new out in omega (arith, none, leaf, along, both)
 
 module _ {T E : Type 0} (v : Boxes E) (o : Objects T E) (max widest : ℕ) {P S X : Type 0} where
   -- the last of some leaves

@@ -1,11 +1,11 @@
 //! The tree.
 
-ghost use Rattle.std.specs.Prelude.{◌≡◌, ◌⊎◌, ◌∷◌, ◌+◌, ◌<◌, ◌≤◌, [], false, length, OnOk, IfSome, IfNone, vec_len};
+ghost use Rattle.std.specs.Prelude.{◌≡◌, ◌⊎◌, ◌∷◌, ◌+◌, ◌<◌, ◌≤◌, [], false, length, max, OnOk, IfSome, IfNone, vec_len};
 ghost use Rattle.std.specs.List.Sorted.{IsPermutation};
 ghost use Rattle.rstar.specs.Heights.{height_of, spare_lists};
 ghost use Rattle.rstar.specs.Insertions.{Inserts};
 ghost use Rattle.rstar.specs.Kept.{HasRoom};
-ghost use Rattle.rstar.specs.Nodes.{children_of, IsWhole};
+ghost use Rattle.rstar.specs.Nodes.{children_of, parents_of, IsWhole};
 ghost use Rattle.rstar.specs.Shapes.{IsSized};
 ghost use Rattle.rstar.specs.Trees.{root_of, size_of, elements_in, IsUnchanged, IsWholeTree};
 
@@ -158,7 +158,7 @@ impl<T: RTreeObject, Params: RTreeParams> RTree<T, Params> {
         ensures same { children_of (root_of self.new) ≡ children_of (root_of self.old) }
         ensures whole { IsWholeTree T.Envelope.boxes T.object Params.MAX_SIZE self.new }
         ensures room { OnOk result (HasRoom Params.MAX_SIZE self.new.root.children) }
-        ensures enough { OnOk result (wanted ≤ vec_len self.new.spares) }
+        ensures spares { OnOk result (vec_len self.new.spares ≡ max (vec_len self.old.spares) wanted) }
     {
         let alloc = *self.root.children.allocator();
         top_up(&mut self.spares, wanted, self.widest, alloc)?;
@@ -182,6 +182,10 @@ impl<T: RTreeObject, Params: RTreeParams> RTree<T, Params> {
         ensures whole { IsWholeTree T.Envelope.boxes T.object Params.MAX_SIZE self.new }
         ensures sized { IsSized Params.MIN_SIZE Params.MAX_SIZE (root_of self.old)
             → IsSized Params.MIN_SIZE Params.MAX_SIZE (root_of self.new) }
+
+        // Each parent that is new took a spare list, and no other list is gone.
+        ensures made { vec_len self.old.spares + parents_of (root_of self.old)
+            ≡ vec_len self.new.spares + parents_of (root_of self.new) }
     {
         self.levels = insert_with_reinsertion::<T, Params>(
             &mut self.root,

@@ -50,6 +50,9 @@ fn add_child<T: RTreeObject, Params: RTreeParams>(
     // The second part, where there is one, took a spare list.
     ensures spares { AllByRecursion (IsSpare widest) spares.new.items }
     ensures used { vec_len spares.old ≡ vec_len spares.new + length (as_node result) }
+
+    // A list that is handed back has its place.
+    ensures places { vec_capacity spares.new ≡ vec_capacity spares.old }
 {
     let Ok(()) = node.children.push(child) else {
         unreachable!()
@@ -94,6 +97,8 @@ fn insert_below<T: RTreeObject, Params: RTreeParams>(
         → IsSizedAfter Params.MIN_SIZE Params.MAX_SIZE levels (vec_len node.old.children) node.new result }
     ensures spares { AllByRecursion (IsSpare widest) spares.new.items }
     ensures used { vec_len spares.old ≤ vec_len spares.new + levels + 1 }
+    ensures fewer { vec_len spares.new ≤ vec_len spares.old }
+    ensures places { vec_capacity spares.new ≡ vec_capacity spares.old }
 
     // Each parent that is new took one.
     ensures made { vec_len spares.old + all_parents node.old.children.items ≡ vec_len spares.new
@@ -138,6 +143,8 @@ fn insert_in_child<T: RTreeObject, Params: RTreeParams>(
     ensures capacity { vec_capacity children.new ≡ vec_capacity children.old }
     ensures spares { AllByRecursion (IsSpare widest) spares.new.items }
     ensures used { vec_len spares.old ≤ vec_len spares.new + levels }
+    ensures fewer { vec_len spares.new ≤ vec_len spares.old }
+    ensures places { vec_capacity spares.new ≡ vec_capacity spares.old }
     ensures made { vec_len spares.old + all_parents children.old.items
         ≡ vec_len spares.new + all_parents (children.new.items ++ as_node result) }
 {
@@ -162,6 +169,7 @@ fn grow_root<T: RTreeObject, Params: RTreeParams>(
     ensures room { HasRoom Params.MAX_SIZE root.new.children }
     ensures spares { AllByRecursion (IsSpare widest) spares.new.items }
     ensures used { vec_len spares.old ≡ vec_len spares.new + 1 }
+    ensures places { vec_capacity spares.new ≡ vec_capacity spares.old }
 {
     let Some(children) = spares.pop() else {
         unreachable!()
@@ -199,6 +207,8 @@ pub(crate) fn insert_at_root<T: RTreeObject, Params: RTreeParams>(
     ensures grown { result ≤ levels + 1 }
     ensures spares { AllByRecursion (IsSpare widest) spares.new.items }
     ensures used { vec_len spares.old ≤ vec_len spares.new + result + 1 }
+    ensures fewer { vec_len spares.new ≤ vec_len spares.old }
+    ensures places { vec_capacity spares.new ≡ vec_capacity spares.old }
 
     // Each parent that is new took a spare list.
     ensures made { vec_len spares.old + parents_of root.old ≡ vec_len spares.new + parents_of root.new }

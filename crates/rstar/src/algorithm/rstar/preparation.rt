@@ -1,6 +1,6 @@
 //! The memory of an insertion, which is taken before the first change.
 
-ghost use Rattle.std.specs.Prelude.{◌≡◌, ◌+◌, ◌<◌, ◌≤◌, OnOk, IfSome, IfNone, vec_len};
+ghost use Rattle.std.specs.Prelude.{◌≡◌, ◌+◌, ◌<◌, ◌≤◌, max, OnOk, IfSome, IfNone, vec_len};
 ghost use Rattle.std.specs.List.{AllByRecursion};
 ghost use Rattle.rstar.specs.Heights.{spare_lists};
 ghost use Rattle.rstar.specs.Kept.{IsSpare};
@@ -32,7 +32,7 @@ pub(crate) fn top_up<T: RTreeObject>(
     requires spares { AllByRecursion (IsSpare widest) spares.old.items }
     requires fits { widest < usize.MAX }
     ensures spares { AllByRecursion (IsSpare widest) spares.new.items }
-    ensures enough { OnOk result (wanted ≤ vec_len spares.new) }
+    ensures count { OnOk result (vec_len spares.new ≡ max (vec_len spares.old) wanted) }
 {
     while spares.len() < wanted {
         let list = Vec::with_capacity(alloc, widest + 1)?;

@@ -7,7 +7,7 @@ ghost use Rattle.std.specs.List.Sorted.{IsPermutation};
 ghost use Rattle.rstar_base.specs.Hulls.{hull};
 ghost use Rattle.rstar.specs.declared.node.RTreeNode.{Leaf};
 ghost use Rattle.rstar.specs.Heights.{spare_lists};
-ghost use Rattle.rstar.specs.Nodes.{node_box, all_elements, parents_of};
+ghost use Rattle.rstar.specs.Nodes.{node_box, all_elements, all_parents, parents_of};
 ghost use Rattle.rstar.specs.Shapes.{AreSized, IsSizedTree};
 ghost use Rattle.rstar.specs.Kept.{IsRoomy, IsSpare, IsKept, IsFit, AreKept, IsKeptTree, IsSizedAfter};
 
@@ -113,6 +113,9 @@ fn insert_first<T: RTreeObject, Params: RTreeParams>(
     ensures sized { IsSizedTree Params.MIN_SIZE Params.MAX_SIZE levels node.old
         → IsSizedAfter Params.MIN_SIZE Params.MAX_SIZE levels (vec_len node.old.children) node.new None }
     ensures capacity { vec_capacity handed.old ≤ vec_capacity handed.new }
+
+    // No parent is new, and none goes.
+    ensures parents { all_parents node.new.children.items ≡ all_parents node.old.children.items }
 {
     let envelope = t.envelope();
     node.envelope.merge(&envelope);
@@ -154,6 +157,7 @@ fn insert_first_in_child<T: RTreeObject, Params: RTreeParams>(
     ensures length { vec_len children.new ≡ vec_len children.old }
     ensures capacity { vec_capacity children.new ≡ vec_capacity children.old }
     ensures handed_capacity { vec_capacity handed.old ≤ vec_capacity handed.new }
+    ensures parents { all_parents children.new.items ≡ all_parents children.old.items }
 {
     match &mut children[index] {
         RTreeNode::Parent(child) => {
@@ -183,6 +187,8 @@ fn insert_again<T: RTreeObject, Params: RTreeParams>(
     ensures sized { IsSizedTree Params.MIN_SIZE Params.MAX_SIZE levels root.old
         → IsSizedTree Params.MIN_SIZE Params.MAX_SIZE result root.new }
     ensures spares { AllByRecursion (IsSpare widest) spares.new.items }
+    ensures fewer { vec_len spares.new ≤ vec_len spares.old }
+    ensures places { vec_capacity spares.new ≡ vec_capacity spares.old }
     ensures made { vec_len spares.old + parents_of root.old ≡ vec_len spares.new + parents_of root.new }
     ensures none { handed.new.items ≡ [] }
     ensures capacity { vec_capacity handed.new ≡ vec_capacity handed.old }
@@ -219,6 +225,9 @@ pub(crate) fn insert_with_reinsertion<T: RTreeObject, Params: RTreeParams>(
     ensures sized { IsSizedTree Params.MIN_SIZE Params.MAX_SIZE levels root.old
         → IsSizedTree Params.MIN_SIZE Params.MAX_SIZE result root.new }
     ensures spares { AllByRecursion (IsSpare widest) spares.new.items }
+
+    // Each parent that is new took a spare list, and no other list is gone.
+    ensures made { vec_len spares.old + parents_of root.old ≡ vec_len spares.new + parents_of root.new }
 {
     if Params::REINSERTION_COUNT == 0 {
         return insert_at_root::<T, Params>(root, t, levels, widest, spares);
@@ -229,8 +238,6 @@ pub(crate) fn insert_with_reinsertion<T: RTreeObject, Params: RTreeParams>(
     insert_first::<T, Params>(root, t, levels, widest, &mut handed);
     let grown = insert_again::<T, Params>(root, &mut handed, levels, widest, spares);
     // The list that is empty again goes back to its place, which is still there.
-    if spares.len() < spares.capacity() {
-        spares.push_reserved(handed);
-    }
+    spares.push_reserved(handed);
     grown
 }

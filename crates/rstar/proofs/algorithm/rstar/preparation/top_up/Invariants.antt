@@ -1,10 +1,14 @@
-use Rattle.std.proofs.Common.{◌-◌, vec_len}
+use Rattle.std.proofs.Common.{◌-◌, ◌≤◌, max, vec_len}
 use Rattle.std.specs.List.{AllByRecursion}
 use Rattle.rstar.specs.Kept.{IsSpare}
 use Rattle.rstar.proofs.algorithm.rstar.preparation.top_up.Given as goal
 
 abbrev pub invariant-loop-alloc : goal.invariant-loop-alloc
-invariant-loop-alloc g l = AllByRecursion (IsSpare l.widest) l.spares.items
+invariant-loop-alloc g l = record {
+  spares : AllByRecursion (IsSpare l.widest) l.spares.items;
+  more : vec_len l.initial.spares ≤ vec_len l.spares;
+  most : vec_len l.spares ≤ max (vec_len l.initial.spares) l.wanted;
+}
 
 abbrev pub decreases-loop-alloc : goal.decreases-loop-alloc
 decreases-loop-alloc g l = l.wanted - vec_len l.spares

@@ -4,8 +4,8 @@ use Rattle.rstar.specs.declared.node.RTreeNode.{Leaf, Parent}
 use Rattle.rstar.specs.declared.node.RTreeNode.TheVariants.{outs-Parent}
 use Rattle.rstar.specs.Nodes.{IsElement}
 use Rattle.rstar.specs.Kept.{IsKeptInner}
-use Rattle.rstar.proofs.Insertion.{leaf_added, hull_grown, child_at, tree_at, sized_leaf, sized_child, no_leaf_above}
-use Rattle.rstar.proofs.Reinsertion.{leaf_handed, child_handed, made_anew, sized_kept}
+use Rattle.rstar.proofs.Insertion.{leaf_added, hull_grown, child_at, tree_at, sized_leaf, sized_child, no_leaf_above, child_same}
+use Rattle.rstar.proofs.Reinsertion.{leaf_handed, child_handed, made_anew, sized_kept, leaf_left}
 use Rattle.rstar.proofs.algorithm.rstar.reinsertion.+first.Goals as goal
 
 -- ---- below a node
@@ -34,6 +34,11 @@ pub insert_first-returns-then-levels-eq0-clause-sized : goal.insert_first-return
 insert_first-returns-then-levels-eq0-clause-sized g t c = λ sized.
     sized_kept g.Params.RTreeParams.MIN_SIZE g.Params.RTreeParams.MAX_SIZE c.args.levels (vec_len c.args.node.now.children) (c.args.node.now.children.items ++ Leaf c.args.t ∷ []) c.add_leaf.new.handed.items c.add_leaf.new.node
     (sized_leaf g.Params.RTreeParams.MIN_SIZE g.Params.RTreeParams.MAX_SIZE g.Params.RTreeParams.min_positive c.args.levels c.args.t c.args.node.now.children.items c.if-levels-eq0.true sized.0) c.add_leaf.ensures.same (c.add_leaf.ensures.most sized.1) c.add_leaf.ensures.least
+
+pub insert_first-returns-then-levels-eq0-clause-parents : goal.insert_first-returns-then-levels-eq0-clause-parents
+insert_first-returns-then-levels-eq0-clause-parents g t c =
+    leaf_left (IsKeptInner g.T.Envelope.Envelope.boxes g.T.RTreeObject.object g.Params.RTreeParams.MAX_SIZE c.args.widest) (IsElement g.T.Envelope.Envelope.boxes g.T.RTreeObject.object) c.args.levels c.args.t c.args.node.now.children.items c.add_leaf.new.node.children.items c.add_leaf.new.handed.items
+    c.if-levels-eq0.true c.requires.below c.add_leaf.ensures.same
 
 pub insert_first-returns-then-not-is_empty-clause-kept : goal.insert_first-returns-then-not-is_empty-clause-kept
 insert_first-returns-then-not-is_empty-clause-kept g t c =
@@ -82,3 +87,7 @@ insert_first_in_child-returns-clause-below g t c =
 pub insert_first_in_child-returns-clause-sized : goal.insert_first_in_child-returns-clause-sized
 insert_first_in_child-returns-clause-sized g t c =
     simp (c.in-Parent.is, outs-Parent) (λ trees. rw append-nil at (sized_child g.Params.RTreeParams.MIN_SIZE g.Params.RTreeParams.MAX_SIZE g.Params.RTreeParams.min_positive c.args.levels c.args.children.now.items c.args.index c.in-Parent.child c.insert_first.new.node None c.requires.above (omega (arith, c.args.children.now.ok.0)) (rw c.in-Parent.is at c.index_mut.ensures.value) trees (λ below few. (rw c.in-Parent.child-is at c.insert_first.ensures.sized) (below, few))))
+
+pub insert_first_in_child-returns-clause-parents : goal.insert_first_in_child-returns-clause-parents
+insert_first_in_child-returns-clause-parents g t c =
+    simp (c.in-Parent.is, outs-Parent) (child_same c.args.children.now.items c.args.index c.in-Parent.child c.insert_first.new.node (omega (arith, c.args.children.now.ok.0)) (rw c.in-Parent.is at c.index_mut.ensures.value) (rw c.in-Parent.child-is at c.insert_first.ensures.parents))

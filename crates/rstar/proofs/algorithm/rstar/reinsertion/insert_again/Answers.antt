@@ -13,6 +13,8 @@ loop-leaf-init g c = record {
   spares = c.requires.spares;
   grown = omega arith;
   enough = c.requires.enough;
+  fewer = omega arith;
+  places = refl;
   made = refl;
   capacity = refl;
 }
@@ -41,6 +43,8 @@ loop-leaf-preserved g c =
       spares = c.insert_at_root-current.ensures.spares;
       grown = omega (arith, grown, len, more);
       enough = one_less (vec_len c.pop.new.self) (vec_len c.loop-leaf.handed) (c.args.levels + vec_len c.args.handed.now + 1) (vec_len c.loop-leaf.spares) (vec_len c.insert_at_root-current.new.spares) len c.loop-leaf.invariant.enough (omega (arith, grown, more, used, len));
+      fewer = omega (arith, c.loop-leaf.invariant.fewer, c.insert_at_root-current.ensures.fewer);
+      places = c.insert_at_root-current.ensures.places ∙ c.loop-leaf.invariant.places;
       made = c.loop-leaf.invariant.made ∙ c.insert_at_root-current.ensures.made;
       capacity = c.in-Some.ensures.capacity ∙ c.loop-leaf.invariant.capacity;
     }

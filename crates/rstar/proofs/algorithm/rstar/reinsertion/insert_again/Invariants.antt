@@ -17,6 +17,9 @@ invariant-loop-leaf g l = record {
   -- the root grew at most once for each leaf that went in
   grown : l.current + vec_len l.handed ≤ l.levels + vec_len l.initial.handed;
   enough : vec_len l.handed * (l.levels + vec_len l.initial.handed + 1) ≤ vec_len l.spares;
+  -- a list that is handed back has its place
+  fewer : vec_len l.spares ≤ vec_len l.initial.spares;
+  places : vec_capacity l.spares ≡ vec_capacity l.initial.spares;
   made : vec_len l.initial.spares + parents_of l.initial.root ≡ vec_len l.spares + parents_of l.root;
   capacity : vec_capacity l.handed ≡ vec_capacity l.initial.handed;
 }

@@ -13,16 +13,28 @@ insert_again-grown-requires-clause-enough g c =
     enough_again g.Params.RTreeParams.REINSERTION_COUNT c.args.levels (vec_len c.insert_first.new.handed) (vec_len c.pop.new.self) (omega arith) c.insert_first.ensures.count
     (subst (λ n. spare_lists g.Params.RTreeParams.REINSERTION_COUNT (1 + c.args.levels) ≤ n) len c.requires.enough)
 
-pub returns-then-len-capacity-clause-bag : goal.returns-then-len-capacity-clause-bag
-returns-then-len-capacity-clause-bag g c = IsPermutation-trans _ _ _ c.insert_first.ensures.bag c.insert_again-grown.ensures.bag
+pub push_reserved-requires : goal.push_reserved-requires
+push_reserved-requires g c =
+    let popped = c.in-Some.ensures.len in
+    let same = c.in-Some.ensures.capacity in
+    let fewer = c.insert_again-grown.ensures.fewer in
+    let places = c.insert_again-grown.ensures.places in
+    omega (arith, popped, same, fewer, places, c.args.spares.now.ok)
 
-pub returns-else-len-capacity-clause-bag : goal.returns-else-len-capacity-clause-bag
-returns-else-len-capacity-clause-bag g c = IsPermutation-trans _ _ _ c.insert_first.ensures.bag c.insert_again-grown.ensures.bag
+pub returns-clause-bag : goal.returns-clause-bag
+returns-clause-bag g c = IsPermutation-trans _ _ _ c.insert_first.ensures.bag c.insert_again-grown.ensures.bag
 
-pub returns-then-len-capacity-clause-spares : goal.returns-then-len-capacity-clause-spares
-returns-then-len-capacity-clause-spares g c =
+pub returns-clause-spares : goal.returns-clause-spares
+returns-clause-spares g c =
     let spare = (all_second (IsSpare c.args.widest) c.pop.new.self.items (c.in-Some.handed ∷ []) (subst (AllByRecursion (IsSpare c.args.widest)) c.in-Some.ensures.items c.requires.spares)).0 in
     let first = c.insert_first.ensures.capacity in
     let again = c.insert_again-grown.ensures.capacity in
     rw c.push_reserved.ensures.items (all-append (IsSpare c.args.widest) c.insert_again-grown.new.spares.items (c.insert_again-grown.new.handed ∷ []) c.insert_again-grown.ensures.spares
     ((c.insert_again-grown.ensures.none, omega (arith, spare.1, first, again)), tt))
+
+pub returns-clause-made : goal.returns-clause-made
+returns-clause-made g c =
+    let popped = c.in-Some.ensures.len in
+    let first = c.insert_first.ensures.parents in
+    let again = c.insert_again-grown.ensures.made in
+    omega (arith, popped, first, again, c.push_reserved.ensures.len)
