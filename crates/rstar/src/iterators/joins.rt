@@ -195,7 +195,7 @@ impl<'a, T: RTreeObject, U: InEnvelope<T::Envelope>> IntersectionIterator<'a, T,
             T.object.box_of U.object.box_of left.now right.now it) }
         ensures joining { IfOk result (λ it. IsJoining (meets_by T.Envelope.boxes U.seen)
             T.object.box_of U.object.box_of it) }
-        ensures near { levels ≤ 5 → IsOk result }
+        ensures near { levels ≤ 12 → IsOk result }
     {
         let lefts = &left.children[..0];
         let rights = &right.children[..0];

@@ -18,7 +18,7 @@ impl<T: RTreeObject, Params: RTreeParams> RTree<T, Params> {
     /// in some order. Touching is enough.
     ///
     /// It opens the pairs of nodes whose envelopes intersect. It is refused where the allocator refuses the paths of
-    /// trees of which one has more than 6 levels of parents.
+    /// trees of which one has more than 13 levels of parents.
     #[tactic(auto, unfolding(crate::specs::Trees::IsWholeTree))]
     pub fn intersection_candidates_with_other_tree<
         'a,
@@ -38,7 +38,7 @@ impl<T: RTreeObject, Params: RTreeParams> RTree<T, Params> {
             T.object.box_of U.object.box_of (root_of self.now) (root_of other.now) it) }
         ensures joining { IfOk result (λ it. IsJoining (meets_by T.Envelope.boxes U.seen)
             T.object.box_of U.object.box_of it) }
-        ensures near { max (height_of (root_of self.now)) (height_of (root_of other.now)) ≤ 6 → IsOk result }
+        ensures near { max (height_of (root_of self.now)) (height_of (root_of other.now)) ≤ 13 → IsOk result }
     {
         IntersectionIterator::new(&self.root, &other.root, self.levels.max(other.levels))
     }
