@@ -21,7 +21,7 @@ use Rattle.rstar.specs.Walks.{IsLevel}
 use Rattle.rstar.specs.Nodes.{elements, all_elements, elements_of, envelope_of, children_of, node_box, is_leaf_node, total, IsTree, IsElement, IsInner, AreWhole, IsWhole}
 use Rattle.rstar.specs.Meets.{product, opened_to, both_leaves, count_parents, meet, meet_of_roots, meet_of_shown, pairs_at, opens_at, all_pairs, all_opens, pairs_from_roots}
 use Rattle.rstar.specs.Shown.{parent, row_of, shown}
-use Rattle.rstar.specs.JoinWalks.{marked, Frame, IsFrame, AreFrames, in_hand, frames_of, pairs_with, opens_with, pairs_from_frames, opens_from_frames, HasItsPaths}
+use Rattle.rstar.specs.JoinWalks.{frame_of, marked, Frame, IsFrame, AreFrames, in_hand, frames_of, pairs_with, opens_with, pairs_from_frames, opens_from_frames, HasItsPaths}
 use Rattle.rstar.specs.Joins.{SeenLaws, meets_by, join}
 use Rattle.rstar.proofs.Rows.{is_leaf, is_parent, elements-Leaf, elements-Parent, node_box-Leaf, node_box-Parent, total-map}
 use Rattle.rstar.proofs.Heights.{levels_are}
@@ -329,17 +329,17 @@ module _ {T E P S X U F Q R Y : Type 0} (meets : E → F → Bool) (left_box : T
 
 module _ {T E P S X U F Q R Y : Type 0} (meets : E → F → Bool) (left_box : T → E) (right_box : U → F) (ls : Bor (List (RTreeNode T E P S X))) (asked rs : Bor (List (RTreeNode U F Q R Y))) where
   -- a frame with no nodes on the left gives nothing, and another one all pairs
-  pub starts-none : (frames : List (Frame T E P S X U F Q R Y)) → frames ≡ [] → ls.now ≡ [] → pairs_from_frames meets left_box right_box (frames ++ (ls, asked, 0, rs, rs) ∷ []) ≡ []
+  pub starts-none : (frames : List (Frame T E P S X U F Q R Y)) → frames ≡ [] → ls.now ≡ [] → pairs_from_frames meets left_box right_box (frames ++ (frame_of ls asked 0 rs rs) ∷ []) ≡ []
   starts-none frames none empty =
-      ap (λ fs. pairs_from_frames meets left_box right_box (fs ++ (ls, asked, 0, rs, rs) ∷ [])) none ∙ ap (λ l. pairs_with meets left_box right_box l (marked 0 asked.now ++ rs.now) rs.now) empty
+      ap (λ fs. pairs_from_frames meets left_box right_box (fs ++ (frame_of ls asked 0 rs rs) ∷ [])) none ∙ ap (λ l. pairs_with meets left_box right_box l (marked 0 asked.now ++ rs.now) rs.now) empty
 
-  pub starts-all : (frames : List (Frame T E P S X U F Q R Y)) → frames ≡ [] → pairs_from_frames meets left_box right_box (frames ++ (ls, asked, 0, rs, rs) ∷ []) ≡ all_pairs meets left_box right_box ls.now rs.now
+  pub starts-all : (frames : List (Frame T E P S X U F Q R Y)) → frames ≡ [] → pairs_from_frames meets left_box right_box (frames ++ (frame_of ls asked 0 rs rs) ∷ []) ≡ all_pairs meets left_box right_box ls.now rs.now
   starts-all frames none =
-      ap (λ fs. pairs_from_frames meets left_box right_box (fs ++ (ls, asked, 0, rs, rs) ∷ [])) none
+      ap (λ fs. pairs_from_frames meets left_box right_box (fs ++ (frame_of ls asked 0 rs rs) ∷ [])) none
       ∙ ap (λ x. pairs_with meets left_box right_box ls.now (x ++ rs.now) rs.now) (marked-zero asked.now) ∙ fresh-pairs meets left_box right_box ls.now rs.now
 
   -- the first frame: slices with no nodes, and the nodes below two whole roots
-  pub fits-none : (room : ℕ) → ls.now ≡ [] → rs.now ≡ [] → IsFrame meets left_box right_box room (ls, asked, 0, rs, rs)
+  pub fits-none : (room : ℕ) → ls.now ≡ [] → rs.now ≡ [] → IsFrame meets left_box right_box room (frame_of ls asked 0 rs rs)
   fits-none room none none' = record {
     left_height = 0;
     right_height = 0;
@@ -353,7 +353,7 @@ module _ {T E P S X U F Q R Y : Type 0} (meets : E → F → Bool) (left_box : T
 
 pub fits-whole : {T E P S X U F Q R Y : Type 0} (v : Boxes E) (w : Boxes F) (o : Objects T E) (o' : Objects U F) (meets : E → F → Bool) (ls : Bor (List (RTreeNode T E P S X))) (asked rs : Bor (List (RTreeNode U F Q R Y)))
     (as' : List (RTreeNode T E P S X)) (bs : List (RTreeNode U F Q R Y)) (room h k : ℕ) → ls.now ≡ as' → rs.now ≡ bs → as' ≢ [] → bs ≢ [] → AreWhole v o h as' → AreWhole w o' k bs
-    → max (levels_below as') (levels_below bs) ≤ room → IsFrame meets o.box_of o'.box_of room (ls, asked, 0, rs, rs)
+    → max (levels_below as') (levels_below bs) ≤ room → IsFrame meets o.box_of o'.box_of room (frame_of ls asked 0 rs rs)
 fits-whole v w o o' meets ls asked rs as' bs room h k is is' some some' hl hr fits =
     let a = levels_are (IsInner v o) (IsElement v o) (λ p q. q.1) h as' some hl in
     let b = levels_are (IsInner w o') (IsElement w o') (λ p q. q.1) k bs some' hr in

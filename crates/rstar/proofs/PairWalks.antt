@@ -14,7 +14,7 @@ use Rattle.rstar.specs.Walks.{IsLevel}
 use Rattle.rstar.specs.Meets.{product, opened_to, both_leaves, pairs_at, opens_at, all_pairs, all_opens, meet_of_roots}
 use Rattle.rstar.specs.declared.iterators.joins.PairStep.{PairStep}
 use Rattle.rstar.specs.declared.iterators.joins.PairStep.TheVariants.{Found, Passed, Ended}
-use Rattle.rstar.specs.JoinWalks.{marked, Frame, IsFrame, AreFrames, met_of, frames_of, pairs_with, opens_with, pairs_by, pairs_from_frames, opens_from_frames, IsCounted, row_steps, all_steps, steps_with, steps_at, steps_of_frame, steps_of_frames, IsGivenPair, IsNearerPair, IsPairStep}
+use Rattle.rstar.specs.JoinWalks.{frame_of, marked, Frame, IsFrame, AreFrames, met_of, frames_of, pairs_with, opens_with, pairs_by, pairs_from_frames, opens_from_frames, IsCounted, row_steps, all_steps, steps_with, steps_at, steps_of_frame, steps_of_frames, IsGivenPair, IsNearerPair, IsPairStep}
 use Rattle.rstar.proofs.Rows.{no_parent}
 use Rattle.rstar.proofs.Walks.{level-Parent}
 use Rattle.rstar.proofs.PairRows.{the_pair, node-cases, does_meet, opened, passed, steps-positive, opened_to-Leaf, opened_to-Parent, is_leaf-Leaf, is_leaf-Parent}
@@ -90,7 +90,7 @@ module _ {T E P S X U F Q R Y : Type 0} (meets : E → F → Bool) (left_box : T
   pairs-after : (xs ys : List (Frame T E P S X U F Q R Y)) → pairs_from_frames meets left_box right_box (xs ++ ys) ≡ pairs_from_frames meets left_box right_box ys ++ pairs_from_frames meets left_box right_box xs
   pairs-after [] ys = sym (append-nil _)
   pairs-after (x ∷ xs) ys =
-      let here = pairs_with meets left_box right_box x.0.now (met_of x ++ x.3.now) x.4.now in
+      let here = pairs_with meets left_box right_box x.lefts.now (met_of x ++ x.later.now) x.rights.now in
       ap (λ l. l ++ here) (pairs-after xs ys) ∙ append_assoc (pairs_from_frames meets left_box right_box ys) (pairs_from_frames meets left_box right_box xs) here
 
   opens-after : (xs ys : List (Frame T E P S X U F Q R Y)) → opens_from_frames meets left_box right_box (xs ++ ys) ≡ opens_from_frames meets left_box right_box xs + opens_from_frames meets left_box right_box ys
@@ -99,8 +99,8 @@ module _ {T E P S X U F Q R Y : Type 0} (meets : E → F → Bool) (left_box : T
 
   -- the last frame is replaced by others, which give the same but for what was given, and open the same but for what was opened
   pub record IsMove (frame : Frame T E P S X U F Q R Y) (news : List (Frame T E P S X U F Q R Y)) (gives : List (T × U)) (opens : ℕ) : Type 0 where
-    pub pairs : pairs_with meets left_box right_box frame.0.now (met_of frame ++ frame.3.now) frame.4.now ≡ gives ++ pairs_from_frames meets left_box right_box news
-    pub opened : opens_with meets left_box right_box frame.0.now (met_of frame ++ frame.3.now) frame.4.now ≡ opens + opens_from_frames meets left_box right_box news
+    pub pairs : pairs_with meets left_box right_box frame.lefts.now (met_of frame ++ frame.later.now) frame.rights.now ≡ gives ++ pairs_from_frames meets left_box right_box news
+    pub opened : opens_with meets left_box right_box frame.lefts.now (met_of frame ++ frame.later.now) frame.rights.now ≡ opens + opens_from_frames meets left_box right_box news
     pub room : (k : ℕ) → IsFrame meets left_box right_box k frame → AreFrames meets left_box right_box (k + 1) news
     pub nearer : steps_of_frames news < steps_of_frame frame
 
@@ -204,17 +204,17 @@ module _ {T E P S X U F Q R Y : Type 0} (meets : E → F → Bool) (left_box : T
   -- ---- the moves of a step
 
   -- a frame with nothing left on the left
-  pub move-drop : (frame : Frame T E P S X U F Q R Y) → frame.0.now ≡ [] → IsMove frame [] [] 0
+  pub move-drop : (frame : Frame T E P S X U F Q R Y) → frame.lefts.now ≡ [] → IsMove frame [] [] 0
   move-drop frame none = record {
-    pairs = ap (λ l. pairs_with meets left_box right_box l (met_of frame ++ frame.3.now) frame.4.now) none;
-    opened = ap (λ l. opens_with meets left_box right_box l (met_of frame ++ frame.3.now) frame.4.now) none;
+    pairs = ap (λ l. pairs_with meets left_box right_box l (met_of frame ++ frame.later.now) frame.rights.now) none;
+    opened = ap (λ l. opens_with meets left_box right_box l (met_of frame ++ frame.later.now) frame.rights.now) none;
     room = λ k at. tt;
-    nearer = let e : steps_of_frame frame ≡ 1 = ap (λ l. steps_with steps_at l (met_of frame) frame.3.now frame.4.now) none in omega (arith, e);
+    nearer = let e : steps_of_frame frame ≡ 1 = ap (λ l. steps_with steps_at l (met_of frame) frame.later.now frame.rights.now) none in omega (arith, e);
   }
 
   -- the first row is at its end
   pub move-row : (ls more : Bor (List (RTreeNode T E P S X))) (asked later rights : Bor (List (RTreeNode U F Q R Y))) (marks : ℕ) (l : RTreeNode T E P S X)
-      → ls.now ≡ l ∷ more.now → marked marks asked.now ≡ [] → later.now ≡ [] → IsMove (ls, asked, marks, later, rights) ((more, asked, marks, rights, rights) ∷ []) [] 0
+      → ls.now ≡ l ∷ more.now → marked marks asked.now ≡ [] → later.now ≡ [] → IsMove (frame_of ls asked marks later rights) ((frame_of more asked marks rights rights) ∷ []) [] 0
   move-row ls more asked later rights marks l is none over =
       let R = rights.now in
       let old-steps : steps_with steps_at ls.now (marked marks asked.now) later.now R ≡ steps_with steps_at (l ∷ more.now) [] [] R = (λ i. steps_with steps_at (is i) (none i) (over i) R) in
@@ -224,7 +224,7 @@ module _ {T E P S X U F Q R Y : Type 0} (meets : E → F → Bool) (left_box : T
       record {
         pairs = (λ i. pairs_with meets left_box right_box (is i) (none i ++ over i) R) ∙ sym (ap (λ x. pairs_with meets left_box right_box more.now (x ++ R) R) none ∙ fresh-pairs more.now R);
         opened = omega (arith, old-opens, new-opens);
-        room = λ k at. one-frame (k + 1) k (more, asked, marks, rights, rights) refl (record {
+        room = λ k at. one-frame (k + 1) k (frame_of more asked marks rights rights) refl (record {
           left_height = at.left_height;
           right_height = at.right_height;
           lefts = (subst (AllByRecursion (IsLevel at.left_height)) is at.lefts).1;
@@ -240,7 +240,7 @@ module _ {T E P S X U F Q R Y : Type 0} (meets : E → F → Bool) (left_box : T
   -- the next nodes on the right are asked
   pub move-ask : (ls : Bor (List (RTreeNode T E P S X))) (asked later chunk rest rights : Bor (List (RTreeNode U F Q R Y))) (marks more : ℕ) (l : RTreeNode T E P S X) (others : List (RTreeNode T E P S X))
       → ls.now ≡ l ∷ others → marked marks asked.now ≡ [] → later.now ≡ chunk.now ++ rest.now → 0 < length chunk.now
-      → marked more chunk.now ≡ filter (does_meet meets left_box right_box l) chunk.now → IsMove (ls, asked, marks, later, rights) ((ls, chunk, more, rest, rights) ∷ []) [] 0
+      → marked more chunk.now ≡ filter (does_meet meets left_box right_box l) chunk.now → IsMove (frame_of ls asked marks later rights) ((frame_of ls chunk more rest rights) ∷ []) [] 0
   move-ask ls asked later chunk rest rights marks more l others is none split some made =
       let R = rights.now in
       let old-steps : steps_with steps_at ls.now (marked marks asked.now) later.now R ≡ steps_with steps_at (l ∷ others) [] (chunk.now ++ rest.now) R = (λ i. steps_with steps_at (is i) (none i) (split i) R) in
@@ -255,7 +255,7 @@ module _ {T E P S X U F Q R Y : Type 0} (meets : E → F → Bool) (left_box : T
         opened = omega (arith, old-opens, new-opens, kept);
         room = λ k at.
             let parts = all-drop (IsLevel at.right_height) chunk.now rest.now (subst (AllByRecursion (IsLevel at.right_height)) split at.later) in
-            one-frame (k + 1) k (ls, chunk, more, rest, rights) refl (record {
+            one-frame (k + 1) k (frame_of ls chunk more rest rights) refl (record {
               left_height = at.left_height;
               right_height = at.right_height;
               lefts = at.lefts;
@@ -276,10 +276,10 @@ module _ {T E P S X U F Q R Y : Type 0} (meets : E → F → Bool) (left_box : T
   module _ (ls : Bor (List (RTreeNode T E P S X))) (asked later rights : Bor (List (RTreeNode U F Q R Y))) (marks more : ℕ) (l : RTreeNode T E P S X) (others : List (RTreeNode T E P S X)) (r : RTreeNode U F Q R Y)
       (is : ls.now ≡ l ∷ others) (first : marked marks asked.now ≡ r ∷ marked more asked.now) where
     -- it meets
-    pub read-meets : {k : ℕ} → IsFrame meets left_box right_box k (ls, asked, marks, later, rights) → does_meet meets left_box right_box l r ≡ true
+    pub read-meets : {k : ℕ} → IsFrame meets left_box right_box k (frame_of ls asked marks later rights) → does_meet meets left_box right_box l r ≡ true
     read-meets at = (subst (AllByRecursion (λ x. does_meet meets left_box right_box l x ≡ true)) first (at.meeting l others is)).0
 
-    read-frame : (k : ℕ) → IsFrame meets left_box right_box k (ls, asked, marks, later, rights) → IsFrame meets left_box right_box k (ls, asked, more, later, rights)
+    read-frame : (k : ℕ) → IsFrame meets left_box right_box k (frame_of ls asked marks later rights) → IsFrame meets left_box right_box k (frame_of ls asked more later rights)
     read-frame k at = record {
       left_height = at.left_height;
       right_height = at.right_height;
@@ -312,18 +312,18 @@ module _ {T E P S X U F Q R Y : Type 0} (meets : E → F → Bool) (left_box : T
 
     -- two leaves
     pub move-read : (gives : List (T × U)) → pairs_at meets left_box right_box l r ≡ gives → opens_at meets left_box right_box l r ≡ 0
-        → IsMove (ls, asked, marks, later, rights) ((ls, asked, more, later, rights) ∷ []) gives 0
+        → IsMove (frame_of ls asked marks later rights) ((frame_of ls asked more later rights) ∷ []) gives 0
     move-read gives given none =
         let opens = read-opens in let steps = read-steps in let some = steps-positive l r in
         record {
           pairs = read-pairs ∙ ap (λ g. g ++ pairs_with meets left_box right_box ls.now (marked more asked.now ++ later.now) rights.now) given;
           opened = omega (arith, opens, none);
-          room = λ k at. one-frame (k + 1) k (ls, asked, more, later, rights) refl (read-frame k at);
+          room = λ k at. one-frame (k + 1) k (frame_of ls asked more later rights) refl (read-frame k at);
           nearer = omega (arith, steps, some);
         }
 
     -- what comes after the two lies lower
-    lower : {k : ℕ} (at : IsFrame meets left_box right_box k (ls, asked, marks, later, rights)) → both_leaves l r ≡ false
+    lower : {k : ℕ} (at : IsFrame meets left_box right_box k (frame_of ls asked marks later rights)) → both_leaves l r ≡ false
         → (h h' : ℕ) × AllByRecursion (IsLevel h) (opened_to l) × AllByRecursion (IsLevel h') (opened_to r) × (max at.left_height at.right_height ≡ max h h' + 1)
     lower at inner =
         let a = level-opened at.left_height l (subst (AllByRecursion (IsLevel at.left_height)) is at.lefts).0 in
@@ -331,13 +331,13 @@ module _ {T E P S X U F Q R Y : Type 0} (meets : E → F → Bool) (left_box : T
         (a.0, b.0, a.1, b.1, levels-lower (is_leaf_node l) (is_leaf_node r) at.left_height a.0 at.right_height b.0 inner a.2 b.2)
 
     -- room for a push
-    pub open-room : {k : ℕ} → IsFrame meets left_box right_box k (ls, asked, marks, later, rights) → both_leaves l r ≡ false → 1 ≤ k
+    pub open-room : {k : ℕ} → IsFrame meets left_box right_box k (frame_of ls asked marks later rights) → both_leaves l r ≡ false → 1 ≤ k
     open-room at inner = let low = lower at inner in omega (arith, at.fits, low.4)
 
     -- a pair that is opened
     module _ (ls' : Bor (List (RTreeNode T E P S X))) (rs' : Bor (List (RTreeNode U F Q R Y))) (inner : both_leaves l r ≡ false) (down : ls'.now ≡ opened_to l) (down' : rs'.now ≡ opened_to r) where
       abbrev below_frame : Frame T E P S X U F Q R Y
-      below_frame = (ls', asked, 0, rs', rs')
+      below_frame = (frame_of ls' asked 0 rs' rs')
 
       below-pairs : does_meet meets left_box right_box l r ≡ true → pairs_at meets left_box right_box l r ≡ pairs_with meets left_box right_box ls'.now (marked 0 asked.now ++ rs'.now) rs'.now
       below-pairs meeting =
@@ -354,7 +354,7 @@ module _ {T E P S X U F Q R Y : Type 0} (meets : E → F → Bool) (left_box : T
           (opened meets left_box right_box l r inner).steps ∙ (λ i. 1 + all_steps steps_at (sym down i) (sym down' i))
           ∙ ap (λ n. 1 + n) (sym (fresh-steps ls'.now rs'.now) ∙ ap (λ x. steps_with steps_at ls'.now x rs'.now rs'.now) (sym (marked-zero asked.now)))
 
-      pub move-open : does_meet meets left_box right_box l r ≡ true → IsMove (ls, asked, marks, later, rights) ((ls, asked, more, later, rights) ∷ below_frame ∷ []) [] 1
+      pub move-open : does_meet meets left_box right_box l r ≡ true → IsMove (frame_of ls asked marks later rights) ((frame_of ls asked more later rights) ∷ below_frame ∷ []) [] 1
       move-open meeting =
           let opens = read-opens in let steps = read-steps in let b = below-opens meeting in let s = below-steps in
           record {
@@ -362,7 +362,7 @@ module _ {T E P S X U F Q R Y : Type 0} (meets : E → F → Bool) (left_box : T
             opened = omega (arith, opens, b);
             room = λ k at.
                 let low = lower at inner in
-                two-frames (k + 1) k (ls, asked, more, later, rights) below_frame refl (omega (arith, at.fits, low.4)) (read-frame k at)
+                two-frames (k + 1) k (frame_of ls asked more later rights) below_frame refl (omega (arith, at.fits, low.4)) (read-frame k at)
                 (λ j e. record {
                   left_height = low.0;
                   right_height = low.1;

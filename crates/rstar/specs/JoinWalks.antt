@@ -5,6 +5,7 @@ use Rattle.std.specs.Borrow.{Bor}
 use Rattle.rstar.specs.declared.node.RTreeNode.{RTreeNode}
 use Rattle.rstar.specs.declared.node.ParentNode.{ParentNode}
 use Rattle.rstar.specs.declared.iterators.joins.IntersectionIterator.{IntersectionIterator}
+use Rattle.rstar.specs.declared.iterators.joins.Frame.{Frame as Kept}
 use Rattle.rstar.specs.declared.iterators.joins.PairStep.{PairStep}
 use Rattle.rstar.specs.declared.iterators.joins.PairStep.TheVariants.{Found, Passed, Ended}
 use Rattle.rstar.specs.Nodes.{fold_tree, node_box, total}
@@ -31,8 +32,11 @@ pub record IsFirstMarked {A : Type 0} (items : List A) (marks : ℕ) (from : Lis
 -- nodes on the left, for the first of them nodes on the right that were asked, with marks for those that it meets and
 -- that are still to be read, those that are to be asked later, and all on the right for the others
 abbrev pub Frame : (T E P S X U F Q R Y : Type 0) → Type 0
-Frame T E P S X U F Q R Y = Bor (List (RTreeNode T E P S X)) × Bor (List (RTreeNode U F Q R Y)) × ℕ
-    × Bor (List (RTreeNode U F Q R Y)) × Bor (List (RTreeNode U F Q R Y))
+Frame T E P S X U F Q R Y = Kept (Bor (List (RTreeNode T E P S X))) (Bor (List (RTreeNode U F Q R Y)))
+
+abbrev pub frame_of : {L R : Type 0} → L → R → ℕ → R → R → Kept L R
+frame_of lefts asked marks later rights =
+    record { lefts = lefts; asked = asked; marks = marks; later = later; rights = rights }
 
 -- the list has one item
 abbrev pub IsSingle : {A : Type 0} → List A → Type 0
@@ -41,11 +45,11 @@ IsSingle xs = length xs ≡ 1
 module _ {T E P S X U F Q R Y : Type 0} where
   -- those on the right that the first on the left meets and that are still to be read
   abbrev pub met_of : Frame T E P S X U F Q R Y → List (RTreeNode U F Q R Y)
-  met_of frame = marked frame.2 frame.1.now
+  met_of frame = marked frame.marks frame.asked.now
 
   -- the frames of an iterator: those that are left, and behind them the one that is being read
   abbrev pub in_hand : IntersectionIterator T U E P S X F Q R Y → Frame T E P S X U F Q R Y
-  in_hand it = (it.lefts, it.asked, it.marks, it.later, it.rights)
+  in_hand it = frame_of it.lefts it.asked it.marks it.later it.rights
 
   abbrev pub frames_of : IntersectionIterator T U E P S X F Q R Y → List (Frame T E P S X U F Q R Y)
   frames_of it = it.path.items ++ in_hand it ∷ []
@@ -56,12 +60,12 @@ module _ {T E P S X U F Q R Y : Type 0} (meets : E → F → Bool) (left_box : T
   pub record IsFrame (room : ℕ) (frame : Frame T E P S X U F Q R Y) : Type 0 where
     pub left_height : ℕ
     pub right_height : ℕ
-    pub lefts : AllByRecursion (IsLevel left_height) frame.0.now
+    pub lefts : AllByRecursion (IsLevel left_height) frame.lefts.now
     pub met : AllByRecursion (IsLevel right_height) (met_of frame)
-    pub later : AllByRecursion (IsLevel right_height) frame.3.now
-    pub rights : AllByRecursion (IsLevel right_height) frame.4.now
+    pub later : AllByRecursion (IsLevel right_height) frame.later.now
+    pub rights : AllByRecursion (IsLevel right_height) frame.rights.now
     pub fits : max left_height right_height ≤ room
-    pub meeting : (l : RTreeNode T E P S X) (others : List (RTreeNode T E P S X)) → frame.0.now ≡ l ∷ others
+    pub meeting : (l : RTreeNode T E P S X) (others : List (RTreeNode T E P S X)) → frame.lefts.now ≡ l ∷ others
         → AllByRecursion (λ r. meets (node_box left_box l) (node_box right_box r) ≡ true) (met_of frame)
 
   -- each frame has the room that those before it leave
@@ -87,12 +91,12 @@ module _ {T E P S X U F Q R Y : Type 0} (meets : E → F → Bool) (left_box : T
   abbrev pub pairs_from_frames : List (Frame T E P S X U F Q R Y) → List (T × U)
   pairs_from_frames [] = []
   pairs_from_frames (frame ∷ frames) =
-      pairs_from_frames frames ++ pairs_with frame.0.now (met_of frame ++ frame.3.now) frame.4.now
+      pairs_from_frames frames ++ pairs_with frame.lefts.now (met_of frame ++ frame.later.now) frame.rights.now
 
   abbrev pub opens_from_frames : List (Frame T E P S X U F Q R Y) → ℕ
   opens_from_frames [] = 0
   opens_from_frames (frame ∷ frames) =
-      opens_from_frames frames + opens_with frame.0.now (met_of frame ++ frame.3.now) frame.4.now
+      opens_from_frames frames + opens_with frame.lefts.now (met_of frame ++ frame.later.now) frame.rights.now
 
   -- the pairs opened and those still to be opened are all that Meet counts
   pub record IsCounted (left : ParentNode T E P S X) (right : ParentNode U F Q R Y)
@@ -137,7 +141,7 @@ steps_at {U = U} {F = F} {Q = Q} {R = R} {Y = Y} l r = fold_tree {A = RTreeNode 
 
 -- how many steps frames take
 abbrev pub steps_of_frame : {T E P S X U F Q R Y : Type 0} → Frame T E P S X U F Q R Y → ℕ
-steps_of_frame frame = steps_with steps_at frame.0.now (met_of frame) frame.3.now frame.4.now
+steps_of_frame frame = steps_with steps_at frame.lefts.now (met_of frame) frame.later.now frame.rights.now
 
 abbrev pub steps_of_frames : {T E P S X U F Q R Y : Type 0} → List (Frame T E P S X U F Q R Y) → ℕ
 steps_of_frames [] = 0

@@ -62,16 +62,18 @@ pub struct IntersectionIterator<'a, T: RTreeObject, U: InEnvelope<T::Envelope> =
     marks: u64,
     later: &'a [RTreeNode<U>],
     rights: &'a [RTreeNode<U>],
-    path: Path<
-        (
-            &'a [RTreeNode<T>],
-            &'a [RTreeNode<U>],
-            u64,
-            &'a [RTreeNode<U>],
-            &'a [RTreeNode<U>],
-        ),
-    >,
+    path: Path<Frame<&'a [RTreeNode<T>], &'a [RTreeNode<U>]>>,
     opened: usize,
+}
+
+/// What a join leaves for later: as in `IntersectionIterator`.
+#[derive(Clone, Copy)]
+struct Frame<L, R> {
+    lefts: L,
+    asked: R,
+    marks: u64,
+    later: R,
+    rights: R,
 }
 
 /// What one step of a join did.
@@ -199,7 +201,13 @@ impl<'a, T: RTreeObject, U: InEnvelope<T::Envelope>> IntersectionIterator<'a, T,
     {
         let lefts = &left.children[..0];
         let rights = &right.children[..0];
-        let blank = (lefts, rights, 0, rights, rights);
+        let blank = Frame {
+            lefts,
+            asked: rights,
+            marks: 0,
+            later: rights,
+            rights,
+        };
         let path = Path::with_room(*left.children.allocator(), blank, levels)?;
         let empty = left.children.is_empty() || right.children.is_empty();
         if empty || !left.envelope.intersects(U::seen(&right.envelope)) {
@@ -283,8 +291,13 @@ impl<'a, T: RTreeObject, U: InEnvelope<T::Envelope>> IntersectionIterator<'a, T,
             return PairStep::Found(t, u);
         }
         self.opened = self.opened.saturating_add(1);
-        self.path
-            .push_reserved((self.lefts, self.asked, marks, self.later, self.rights));
+        self.path.push_reserved(Frame {
+            lefts: self.lefts,
+            asked: self.asked,
+            marks,
+            later: self.later,
+            rights: self.rights,
+        });
         self.lefts = opened_nodes(first_alone(self.lefts));
         self.rights = opened_nodes(first_alone(met));
         self.marks = 0;
@@ -299,14 +312,14 @@ impl<'a, T: RTreeObject, U: InEnvelope<T::Envelope>> IntersectionIterator<'a, T,
         ensures { IsPairStep (meets_by T.Envelope.boxes U.seen) T.object.box_of U.object.box_of
             self.old result self.new }
     {
-        let Some((lefts, asked, marks, later, rights)) = self.path.pop() else {
+        let Some(frame) = self.path.pop() else {
             return PairStep::Ended;
         };
-        self.lefts = lefts;
-        self.asked = asked;
-        self.marks = marks;
-        self.later = later;
-        self.rights = rights;
+        self.lefts = frame.lefts;
+        self.asked = frame.asked;
+        self.marks = frame.marks;
+        self.later = frame.later;
+        self.rights = frame.rights;
         PairStep::Passed
     }
 }

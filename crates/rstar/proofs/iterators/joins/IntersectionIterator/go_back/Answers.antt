@@ -39,7 +39,7 @@ returns g c =
     let self = c.args.self.now in
     let frame = in_hand self in
     let move = move-drop meets left_box right_box frame c.requires.none in
-    let frames = c.pop.new.self.items ++ (c.in-Some.lefts, c.in-Some.asked, c.in-Some.marks, c.in-Some.later, c.in-Some.rights) ∷ [] in
+    let frames = c.pop.new.self.items ++ c.in-Some.frame ∷ [] in
     let was : frames_of self ≡ frames ++ frame ∷ [] = ap (λ l. l ++ frame ∷ []) c.in-Some.ensures.some in
     let is = sym (append-nil frames) in
     record {

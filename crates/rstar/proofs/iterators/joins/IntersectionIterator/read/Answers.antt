@@ -1,5 +1,5 @@
 use Rattle.std.proofs.Common.{◌∷◌, ◌++◌, [], ◌∙◌, ap, refl, arith, append-nil, append_assoc, take, flat_map, sym, ◌≡◌, length}
-use Rattle.rstar.specs.JoinWalks.{in_hand, frames_of}
+use Rattle.rstar.specs.JoinWalks.{frame_of, in_hand, frames_of}
 use Rattle.rstar.specs.Joins.{meets_by}
 use Rattle.rstar.specs.Meets.{opened_to, both_leaves}
 use Rattle.rstar.proofs.PairRows.{found}
@@ -70,7 +70,7 @@ returns g c =
     let down = c.opened_nodes-self.ensures ∙ ap (flat_map opened_to) (c.first_alone.ensures ∙ ap (take 1) c.requires.first.1) ∙ append-nil (opened_to left) in
     let down' = c.opened_nodes-self-2.ensures ∙ ap (flat_map opened_to) (c.first_alone-2.ensures ∙ ap (take 1) met.begins) ∙ append-nil (opened_to right) in
     let move = move-open meets left_box right_box self.lefts self.asked self.later self.rights self.marks c.args.marks left c.requires.first.0 right c.requires.first.1 met.all c.opened_nodes-self.result c.opened_nodes-self-2.result inner down down' meeting in
-    let is-new = ap (λ f. f ++ (c.opened_nodes-self.result, self.asked, 0, c.opened_nodes-self-2.result, c.opened_nodes-self-2.result) ∷ []) c.push_reserved.ensures.items ∙ append_assoc above ((self.lefts, self.asked, c.args.marks, self.later, self.rights) ∷ []) ((c.opened_nodes-self.result, self.asked, 0, c.opened_nodes-self-2.result, c.opened_nodes-self-2.result) ∷ []) in
+    let is-new = ap (λ f. f ++ (frame_of c.opened_nodes-self.result self.asked 0 c.opened_nodes-self-2.result c.opened_nodes-self-2.result) ∷ []) c.push_reserved.ensures.items ∙ append_assoc above ((frame_of self.lefts self.asked c.args.marks self.later self.rights) ∷ []) ((frame_of c.opened_nodes-self.result self.asked 0 c.opened_nodes-self-2.result c.opened_nodes-self-2.result) ∷ []) in
     record {
       joining = record {
         frames = move-frames meets left_box right_box move above (frames_of self) _ refl is-new _ _ c.push_reserved.ensures.capacity c.requires.paths.frames;
