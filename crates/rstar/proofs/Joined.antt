@@ -1,5 +1,5 @@
 -- What the walk of a join gives of whole nodes, and what it opens: the join of their elements, reordered, and all that Meet counts.
-use Rattle.std.proofs.Common.{◌≡◌, ◌≢◌, ℕ, ℤ, zero, suc, ◌+◌, ◌≤◌, min, List, [], ◌∷◌, ◌++◌, map, refl, ap, ◌∙◌, sym, subst, arith, Bool, true, false, append-nil, if◌then◌else◌, flat_map, sum_by, inl, inr, ◌⊎◌, max}
+use Rattle.std.proofs.Common.{◌≡◌, ◌≢◌, ℕ, ℤ, zero, suc, ◌+◌, ◌≤◌, min, List, [], ◌∷◌, ◌++◌, map, refl, ap, ◌∙◌, sym, subst, arith, Bool, true, false, append-nil, if◌then◌else◌, flat_map, sum_by, take, drop, inl, inr, ◌⊎◌, max}
 use Rattle.std.specs.List.{AllByRecursion}
 use Rattle.std.specs.Prelude.{⊤}
 use Rattle.std.specs.Borrow.{Bor}
@@ -21,14 +21,14 @@ use Rattle.rstar.specs.Walks.{IsLevel}
 use Rattle.rstar.specs.Nodes.{elements, all_elements, elements_of, envelope_of, children_of, node_box, is_leaf_node, total, IsTree, IsElement, IsInner, AreWhole, IsWhole}
 use Rattle.rstar.specs.Meets.{product, opened_to, both_leaves, count_parents, meet, meet_of_roots, meet_of_shown, pairs_at, opens_at, all_pairs, all_opens, pairs_from_roots}
 use Rattle.rstar.specs.Shown.{parent, row_of, shown}
-use Rattle.rstar.specs.JoinWalks.{frame_of, marked, Frame, IsFrame, AreFrames, in_hand, frames_of, pairs_with, opens_with, pairs_from_frames, opens_from_frames, HasItsPaths}
+use Rattle.rstar.specs.JoinWalks.{frame_of, marked, rows_beside, Frame, IsMetPair, IsFrame, AreFrames, met_of, unasked_of, in_hand, frames_of, pairs_below, opens_below, pairs_from_frames, opens_from_frames, HasItsPaths}
 use Rattle.rstar.specs.Joins.{SeenLaws, meets_by, join}
 use Rattle.rstar.proofs.Rows.{is_leaf, is_parent, elements-Leaf, elements-Parent, node_box-Leaf, node_box-Parent, total-map}
 use Rattle.rstar.proofs.Heights.{levels_are}
 use Rattle.rstar.proofs.Walks.{tree-weaker}
 use Rattle.rstar.proofs.Trees.{sound, all_sound, values-of, box_is_hull, merged_is_hull}
 use Rattle.rstar.proofs.PairRows.{the_pair, sum_by-same, product-none, node-cases, leaf-found, opened, opened_to-Leaf, opened_to-Parent, sum_by-row, meet-Leaf, meet-Parent, meet-roots, count_parents-Leaf, count_parents-Parent, is_leaf-Leaf, pairs-leaves, opens-leaves}
-use Rattle.rstar.proofs.PairWalks.{one-frame, fresh-pairs, fresh-opens}
+use Rattle.rstar.proofs.PairWalks.{one-frame, fresh}
 use Rattle.rstar.proofs.Marked.{marked-zero}
 use Rattle.rstar.proofs.Meets.{IsJoined, all-joined, join-none, hull-meets-left, hull-meets-right}
 
@@ -313,16 +313,17 @@ module _ {T E P S X U F Q R Y : Type 0} (meets : E → F → Bool) (left_box : T
   pub starts : IsFrame meets left_box right_box it.path.capacity (in_hand it) → it.marks ≡ 0 → it.later.now ≡ it.rights.now
       → (count : ℕ) → it.opened ≡ min count usize_max → count + all_opens meets left_box right_box it.lefts.now it.rights.now ≡ meet_of_roots meets left_box right_box it.left.now it.right.now
       → HasItsPaths meets left_box right_box it
-  starts at unmarked fresh count counted all = record {
+  starts at unmarked untouched count counted all = record {
     frames = subst (AreFrames meets left_box right_box (it.path.capacity + 1)) (sym alone) (one-frame meets left_box right_box (it.path.capacity + 1) it.path.capacity (in_hand it) refl at);
     count = record {
       count = count;
       counted = counted;
       all =
           let e = ap (opens_from_frames meets left_box right_box) alone in
-          let f : opens_with meets left_box right_box it.lefts.now (marked it.marks it.asked.now ++ it.later.now) it.rights.now ≡ all_opens meets left_box right_box it.lefts.now it.rights.now =
-          (λ i. opens_with meets left_box right_box it.lefts.now (marked (unmarked i) it.asked.now ++ fresh i) it.rights.now)
-          ∙ ap (λ x. opens_with meets left_box right_box it.lefts.now (x ++ it.rights.now) it.rights.now) (marked-zero it.asked.now) ∙ fresh-opens meets left_box right_box it.lefts.now it.rights.now in
+          let k = rows_beside it.rights.now in
+          let f : opens_below meets left_box right_box (met_of (in_hand it) ++ unasked_of (in_hand it)) ≡ all_opens meets left_box right_box it.lefts.now it.rights.now =
+          (λ i. opens_below meets left_box right_box (marked (unmarked i) (product (take k it.lefts.now) it.asked.now) ++ (product (take k it.lefts.now) (untouched i) ++ product (drop k it.lefts.now) it.rights.now)))
+          ∙ ap (opens_below meets left_box right_box) (fresh meets left_box right_box it.lefts it.asked it.rights) in
           omega (arith, e, f, all);
     };
   }
@@ -331,12 +332,13 @@ module _ {T E P S X U F Q R Y : Type 0} (meets : E → F → Bool) (left_box : T
   -- a frame with no nodes on the left gives nothing, and another one all pairs
   pub starts-none : (frames : List (Frame T E P S X U F Q R Y)) → frames ≡ [] → ls.now ≡ [] → pairs_from_frames meets left_box right_box (frames ++ (frame_of ls asked 0 rs rs) ∷ []) ≡ []
   starts-none frames none empty =
-      ap (λ fs. pairs_from_frames meets left_box right_box (fs ++ (frame_of ls asked 0 rs rs) ∷ [])) none ∙ ap (λ l. pairs_with meets left_box right_box l (marked 0 asked.now ++ rs.now) rs.now) empty
+      ap (λ fs. pairs_from_frames meets left_box right_box (fs ++ (frame_of ls asked 0 rs rs) ∷ [])) none
+      ∙ ap (pairs_below meets left_box right_box) (fresh meets left_box right_box ls asked rs) ∙ ap (λ l. pairs_below meets left_box right_box (product l rs.now)) empty
 
   pub starts-all : (frames : List (Frame T E P S X U F Q R Y)) → frames ≡ [] → pairs_from_frames meets left_box right_box (frames ++ (frame_of ls asked 0 rs rs) ∷ []) ≡ all_pairs meets left_box right_box ls.now rs.now
   starts-all frames none =
       ap (λ fs. pairs_from_frames meets left_box right_box (fs ++ (frame_of ls asked 0 rs rs) ∷ [])) none
-      ∙ ap (λ x. pairs_with meets left_box right_box ls.now (x ++ rs.now) rs.now) (marked-zero asked.now) ∙ fresh-pairs meets left_box right_box ls.now rs.now
+      ∙ ap (pairs_below meets left_box right_box) (fresh meets left_box right_box ls asked rs)
 
   -- the first frame: slices with no nodes, and the nodes below two whole roots
   pub fits-none : (room : ℕ) → ls.now ≡ [] → rs.now ≡ [] → IsFrame meets left_box right_box room (frame_of ls asked 0 rs rs)
@@ -344,11 +346,11 @@ module _ {T E P S X U F Q R Y : Type 0} (meets : E → F → Bool) (left_box : T
     left_height = 0;
     right_height = 0;
     lefts = subst (AllByRecursion (IsLevel 0)) (sym none) tt;
-    met = subst (AllByRecursion (IsLevel 0)) (sym (marked-zero asked.now)) tt;
+    met = subst (AllByRecursion (IsMetPair meets left_box right_box 0 0)) (sym (marked-zero (product (take (rows_beside rs.now) ls.now) asked.now))) tt;
     later = subst (AllByRecursion (IsLevel 0)) (sym none') tt;
     rights = subst (AllByRecursion (IsLevel 0)) (sym none') tt;
+    no_more = omega arith;
     fits = omega arith;
-    meeting = λ l others e. subst (AllByRecursion (λ r. meets (node_box left_box l) (node_box right_box r) ≡ true)) (sym (marked-zero asked.now)) tt;
   }
 
 pub fits-whole : {T E P S X U F Q R Y : Type 0} (v : Boxes E) (w : Boxes F) (o : Objects T E) (o' : Objects U F) (meets : E → F → Bool) (ls : Bor (List (RTreeNode T E P S X))) (asked rs : Bor (List (RTreeNode U F Q R Y)))
@@ -362,9 +364,9 @@ fits-whole v w o o' meets ls asked rs as' bs room h k is is' some some' hl hr fi
       left_height = h;
       right_height = k;
       lefts = subst (AllByRecursion (IsLevel h)) (sym is) (all_map _ (IsLevel h) (tree-weaker (IsInner v o) (λ p. children_of p ≢ []) (IsElement v o) (λ t. ⊤) (λ p q. q.1) (λ t q. tt) h) as' hl);
-      met = subst (AllByRecursion (IsLevel k)) (sym (marked-zero asked.now)) tt;
+      met = subst (AllByRecursion (IsMetPair meets o.box_of o'.box_of h k)) (sym (marked-zero (product (take (rows_beside rs.now) ls.now) asked.now))) tt;
       later = rights;
       rights = rights;
+      no_more = omega arith;
       fits = omega (arith, a, b, fits);
-      meeting = λ l others e. subst (AllByRecursion (λ r. meets (node_box o.box_of l) (node_box o'.box_of r) ≡ true)) (sym (marked-zero asked.now)) tt;
     }

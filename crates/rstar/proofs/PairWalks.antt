@@ -1,6 +1,11 @@
 -- One step of a join over frames.
-use Rattle.std.proofs.Common.{◌≡◌, ℕ, zero, suc, ◌+◌, ◌<◌, ◌≤◌, List, [], ◌∷◌, ◌++◌, length, map, filter, flat_map, sum_by, refl, ap, ◌∙◌, sym, subst, arith, Bool, append_assoc, append-nil, if◌then◌else◌, true, false, min, max, inl, inr, ◌⊎◌}
+use Rattle.std.proofs.Common.{◌≡◌, ℕ, zero, suc, ◌+◌, ◌*◌, ◌<◌, ◌≤◌, List, [], ◌∷◌, ◌++◌, length, map, filter, sum_by, take, drop, refl, ap, ◌∙◌, sym, subst, arith, Bool, append_assoc, append-nil, length-append, if◌then◌else◌, true, false, min, max, inl, inr, ◌⊎◌}
+use Rattle.std.specs.Prelude.{nat_le}
+use Rattle.std.proofs.lemmas.List.{take-append-drop, length-drop, length-take, map-append, take_all, drop_all, nil_from_length}
+use Rattle.std.proofs.Math.Seq.{take-append_seam, drop-append_seam}
+use Rattle.std.proofs.lemmas.Nat.{mul-le}
 use Rattle.std.proofs.lemmas.Bool.{true≢false}
+use Rattle.std.proofs.lemmas.Bool.Decides.{nat_tests}
 use Rattle.std.proofs.lemmas.List.Sums.{sum_by-cons, sum_by-append}
 use Rattle.std.proofs.lemmas.List.Concat.{flat_map-append}
 use Rattle.std.specs.List.{AllByRecursion}
@@ -14,11 +19,11 @@ use Rattle.rstar.specs.Walks.{IsLevel}
 use Rattle.rstar.specs.Meets.{product, opened_to, both_leaves, pairs_at, opens_at, all_pairs, all_opens, meet_of_roots}
 use Rattle.rstar.specs.declared.iterators.joins.PairStep.{PairStep}
 use Rattle.rstar.specs.declared.iterators.joins.PairStep.TheVariants.{Found, Passed, Ended}
-use Rattle.rstar.specs.JoinWalks.{frame_of, marked, Frame, IsFrame, AreFrames, met_of, frames_of, pairs_with, opens_with, pairs_by, pairs_from_frames, opens_from_frames, IsCounted, row_steps, all_steps, steps_with, steps_at, steps_of_frame, steps_of_frames, IsGivenPair, IsNearerPair, IsPairStep}
+use Rattle.rstar.specs.JoinWalks.{frame_of, marked, rows_beside, Frame, IsMetPair, IsFrame, AreFrames, met_of, unasked_of, frames_of, pairs_below, opens_below, pairs_by, pairs_from_frames, opens_from_frames, IsCounted, all_steps, steps_at, steps_of_pair, steps_of_frame, steps_of_frames, IsGivenPair, IsNearerPair, IsPairStep}
 use Rattle.rstar.proofs.Rows.{no_parent}
 use Rattle.rstar.proofs.Walks.{level-Parent}
-use Rattle.rstar.proofs.PairRows.{the_pair, node-cases, does_meet, opened, passed, steps-positive, opened_to-Leaf, opened_to-Parent, is_leaf-Leaf, is_leaf-Parent}
-use Rattle.rstar.proofs.Marked.{marked-zero, all-marked}
+use Rattle.rstar.proofs.PairRows.{the_pair, product-none, node-cases, does_meet, opened, passed, steps-positive, opened_to-Leaf, opened_to-Parent, is_leaf-Leaf, is_leaf-Parent}
+use Rattle.rstar.proofs.Marked.{marked-zero}
 
 steps-after : {T E P S X U F Q R Y : Type 0} (xs ys : List (Frame T E P S X U F Q R Y)) → steps_of_frames (xs ++ ys) ≡ steps_of_frames xs + steps_of_frames ys
 steps-after [] ys = omega arith
@@ -28,12 +33,108 @@ all-drop : {A : Type 0} (Q : A → Type 0) (xs ys : List A) → AllByRecursion Q
 all-drop Q [] ys all = (tt, all)
 all-drop Q (x ∷ xs) ys all = let r = all-drop Q xs ys all.1 in ((all.0, r.0), r.1)
 
-filter-passes : {A : Type 0} (test : A → Bool) (xs : List A) → AllByRecursion (λ x. test x ≡ true) (filter test xs)
-filter-passes test [] = tt
-filter-passes test (x ∷ xs) = by_test (test x) refl (filter-passes test xs) where
-  by_test : (b : Bool) → test x ≡ b → AllByRecursion (λ y. test y ≡ true) (filter test xs) → AllByRecursion (λ y. test y ≡ true) (if b then x ∷ filter test xs else filter test xs)
-  by_test true is rest = (is, rest)
-  by_test false is rest = rest
+-- ---- products
+
+all-row : {A B : Type 0} (Q : A → Type 0) (R : B → Type 0) (x : A) (ys : List B) (rest : List (A × B)) → Q x → AllByRecursion R ys → AllByRecursion (λ (p : A × B). Q p.0 × R p.1) rest
+    → AllByRecursion (λ (p : A × B). Q p.0 × R p.1) (map (λ y. the_pair x y) ys ++ rest)
+all-row Q R x [] rest q rs all = all
+all-row Q R x (y ∷ ys) rest q rs all = ((q, rs.0), all-row Q R x ys rest q rs.1 all)
+
+all-product : {A B : Type 0} (Q : A → Type 0) (R : B → Type 0) (xs : List A) (ys : List B) → AllByRecursion Q xs → AllByRecursion R ys → AllByRecursion (λ (p : A × B). Q p.0 × R p.1) (product xs ys)
+all-product Q R [] ys qs rs = tt
+all-product Q R (x ∷ xs) ys qs rs = all-row Q R x ys (product xs ys) qs.0 rs (all-product Q R xs ys qs.1 rs)
+
+product-rows : {A B : Type 0} (xs xs' : List A) (ys : List B) → product (xs ++ xs') ys ≡ product xs ys ++ product xs' ys
+product-rows [] xs' ys = refl
+product-rows (x ∷ xs) xs' ys = ap (λ l. map (λ y. the_pair x y) ys ++ l) (product-rows xs xs' ys) ∙ sym (append_assoc (map (λ y. the_pair x y) ys) (product xs ys) (product xs' ys))
+
+product-parts : {A B : Type 0} (k : ℕ) (xs : List A) (ys : List B) → product (take k xs) ys ++ product (drop k xs) ys ≡ product xs ys
+product-parts k xs ys = sym (product-rows (take k xs) (drop k xs) ys) ∙ ap (λ l. product l ys) (take-append-drop k xs)
+
+-- of one row, or where nothing comes behind
+product-columns : {A B : Type 0} (xs : List A) (ys zs : List B) → (zs ≡ []) ⊎ (length xs ≤ 1) → product xs (ys ++ zs) ≡ product xs ys ++ product xs zs
+product-columns xs ys zs (inl none) =
+    ap (λ l. product xs (ys ++ l)) none ∙ ap (product xs) (append-nil ys) ∙ sym (append-nil (product xs ys))
+    ∙ ap (λ l. product xs ys ++ l) (sym (product-none xs) ∙ ap (product xs) (sym none))
+product-columns [] ys zs (inr one) = refl
+product-columns (x ∷ []) ys zs (inr one) =
+    append-nil (map (λ y. the_pair x y) (ys ++ zs)) ∙ map-append (λ y. the_pair x y) ys zs
+    ∙ (λ i. sym (append-nil (map (λ y. the_pair x y) ys)) i ++ sym (append-nil (map (λ y. the_pair x y) zs)) i)
+product-columns (x ∷ x' ∷ xs) ys zs (inr one) = absurd (omega (arith, one))
+
+product-some : {A B : Type 0} (xs : List A) (ys : List B) → 0 < length xs → 0 < length ys → 0 < length (product xs ys)
+product-some [] ys some some' = absurd (omega (arith, some))
+product-some (x ∷ xs) [] some some' = absurd (omega (arith, some'))
+product-some (x ∷ xs) (y ∷ ys) some some' = omega arith
+
+le-either : (m n : ℕ) → (m ≤ n) ⊎ (n ≤ m)
+le-either zero n = inl (omega arith)
+le-either (suc m) zero = inr (omega arith)
+le-either (suc m) (suc n) = one_more (le-either m n) where
+  one_more : (m ≤ n) ⊎ (n ≤ m) → (suc m ≤ suc n) ⊎ (suc n ≤ suc m)
+  one_more (inl h) = inl (omega (arith, h))
+  one_more (inr h) = inr (omega (arith, h))
+
+-- the two parts that a list is split in
+pub parts-are : {A : Type 0} (k : ℕ) (xs front back : List A) → xs ≡ front ++ back → length front ≡ min (length xs) k → (front ≡ take k xs) × (back ≡ drop k xs)
+parts-are {A} k xs front back is long = by_size (le-either k (length xs)) where
+  by_size : (k ≤ length xs) ⊎ (length xs ≤ k) → (front ≡ take k xs) × (back ≡ drop k xs)
+  by_size (inl le) =
+      let n : length front ≡ k = omega (arith, long, le) in
+      (sym (take-append_seam front back) ∙ (λ i. take (n i) (sym is i)), sym (drop-append_seam front back) ∙ (λ i. drop (n i) (sym is i)))
+  by_size (inr le) =
+      let a = ap length is in let b = length-append front back in
+      let none : back ≡ [] = nil_from_length back (omega (arith, a, b, long, le)) in
+      let whole : xs ≡ front = is ∙ ap (λ l. front ++ l) none ∙ append-nil front in
+      (sym whole ∙ sym (take_all k xs le), none ∙ sym (drop_all k xs le))
+
+rows-positive : {A : Type 0} (rights : List A) → 1 ≤ rows_beside rights
+rows-positive rights = by_test (nat_le (length rights) 8) where
+  by_test : (b : Bool) → 1 ≤ (if b then 8 else 1)
+  by_test true = omega arith
+  by_test false = omega arith
+
+-- so many pairs are asked together that 64 marks are enough, and either one row alone or all of the rows
+pub block-fits : {A B : Type 0} (rights later chunk rest : List B) (xs : List A) → length later ≤ length rights → later ≡ chunk ++ rest → length chunk ≡ min (length later) 64
+    → (length (take (rows_beside rights) xs) * length chunk ≤ 64) × ((rest ≡ []) ⊎ (length (take (rows_beside rights) xs) ≤ 1))
+block-fits {A} {B} rights later chunk rest xs fewer split long =
+    let a = ap length split in let b = length-append chunk rest in
+    by_test (nat_le (length rights) 8) refl (omega (arith, a, b, long)) (omega (arith, a, b, long))
+  where
+    block : (k m : ℕ) → k * m ≤ 64 → length chunk ≤ m → length (take k xs) * length chunk ≤ 64
+    block k m few short =
+        let t = length-take k xs in
+        let p = mul-le (length (take k xs)) (length chunk) k m (omega (arith, t)) short in omega (arith, p, few)
+
+    by_test : (b : Bool) → nat_le (length rights) 8 ≡ b → length chunk ≤ 64 → (length later ≤ 64 → length rest ≡ 0)
+        → (length (take (if b then 8 else 1) xs) * length chunk ≤ 64) × ((rest ≡ []) ⊎ (length (take (if b then 8 else 1) xs) ≤ 1))
+    by_test true is short whole =
+        let few : length rights ≤ 8 = grind (arith, nat_tests, is) in
+        let t : length chunk ≤ length later = omega (arith, long) in
+        (block 8 8 (omega arith) (omega (arith, few, fewer, t)), inl (nil_from_length rest (whole (omega (arith, few, fewer)))))
+    by_test false is short whole = let t = length-take 1 xs in (block 1 64 (omega arith) short, inr (omega (arith, t)))
+
+pub block-some : {A B : Type 0} (rights : List B) (xs : List A) → 0 < length xs → 0 < length (take (rows_beside rights) xs)
+block-some rights xs some = let t = length-take (rows_beside rights) xs in let p = rows-positive rights in omega (arith, t, p, some)
+
+-- the steps of all pairs of two lists, and one for each row
+steps-listed : {A B : Type 0} (f : A → B → ℕ) (xs : List A) (ys : List B) → all_steps f xs ys ≡ 1 + length xs + sum_by (λ (p : A × B). 1 + f p.0 p.1) (product xs ys)
+steps-listed f [] ys = omega arith
+steps-listed {A} {B} f (x ∷ xs) ys =
+    let a = sum_by-append (λ (p : A × B). 1 + f p.0 p.1) (map (λ y. the_pair x y) ys) (product xs ys) in
+    let b = row ys in let c = steps-listed f xs ys in omega (arith, a, b, c)
+  where
+    row : (zs : List B) → total (map (λ z. 1 + f x z) zs) ≡ sum_by (λ (p : A × B). 1 + f p.0 p.1) (map (λ z. the_pair x z) zs)
+    row [] = refl
+    row (z ∷ zs) = let a = sum_by-cons (λ (p : A × B). 1 + f p.0 p.1) (the_pair x z) (map (λ z. the_pair x z) zs) in let b = row zs in omega (arith, a, b)
+
+take-nil : {A : Type 0} (k : ℕ) → take {A = A} k [] ≡ []
+take-nil zero = refl
+take-nil (suc k) = refl
+
+drop-nil : {A : Type 0} (k : ℕ) → drop {A = A} k [] ≡ []
+drop-nil zero = refl
+drop-nil (suc k) = refl
 
 -- a leaf lies on the lowest level
 level-Leaf : (T E P S X : Type 0) (h : ℕ) (t : T) → IsLevel {T = T} {E = E} {P = P} {S = S} {X = X} h (Leaf t) → h ≡ 0
@@ -90,7 +191,7 @@ module _ {T E P S X U F Q R Y : Type 0} (meets : E → F → Bool) (left_box : T
   pairs-after : (xs ys : List (Frame T E P S X U F Q R Y)) → pairs_from_frames meets left_box right_box (xs ++ ys) ≡ pairs_from_frames meets left_box right_box ys ++ pairs_from_frames meets left_box right_box xs
   pairs-after [] ys = sym (append-nil _)
   pairs-after (x ∷ xs) ys =
-      let here = pairs_with meets left_box right_box x.lefts.now (met_of x ++ x.later.now) x.rights.now in
+      let here = pairs_below meets left_box right_box (met_of x ++ unasked_of x) in
       ap (λ l. l ++ here) (pairs-after xs ys) ∙ append_assoc (pairs_from_frames meets left_box right_box ys) (pairs_from_frames meets left_box right_box xs) here
 
   opens-after : (xs ys : List (Frame T E P S X U F Q R Y)) → opens_from_frames meets left_box right_box (xs ++ ys) ≡ opens_from_frames meets left_box right_box xs + opens_from_frames meets left_box right_box ys
@@ -99,8 +200,8 @@ module _ {T E P S X U F Q R Y : Type 0} (meets : E → F → Bool) (left_box : T
 
   -- the last frame is replaced by others, which give the same but for what was given, and open the same but for what was opened
   pub record IsMove (frame : Frame T E P S X U F Q R Y) (news : List (Frame T E P S X U F Q R Y)) (gives : List (T × U)) (opens : ℕ) : Type 0 where
-    pub pairs : pairs_with meets left_box right_box frame.lefts.now (met_of frame ++ frame.later.now) frame.rights.now ≡ gives ++ pairs_from_frames meets left_box right_box news
-    pub opened : opens_with meets left_box right_box frame.lefts.now (met_of frame ++ frame.later.now) frame.rights.now ≡ opens + opens_from_frames meets left_box right_box news
+    pub pairs : pairs_below meets left_box right_box (met_of frame ++ unasked_of frame) ≡ gives ++ pairs_from_frames meets left_box right_box news
+    pub opened : opens_below meets left_box right_box (met_of frame ++ unasked_of frame) ≡ opens + opens_from_frames meets left_box right_box news
     pub room : (k : ℕ) → IsFrame meets left_box right_box k frame → AreFrames meets left_box right_box (k + 1) news
     pub nearer : steps_of_frames news < steps_of_frame frame
 
@@ -131,13 +232,7 @@ module _ {T E P S X U F Q R Y : Type 0} (meets : E → F → Bool) (left_box : T
         let c = opens-after left (frame ∷ []) in let d = opens-after left news in let e = move.opened in let f = h.all in
         record { count = h.count + opens; counted = omega (arith, h.counted, more); all = omega arith }
 
-  -- ---- rows
-
-  abbrev row_pairs : RTreeNode T E P S X → List (RTreeNode U F Q R Y) → List (T × U)
-  row_pairs l rs = all_pairs meets left_box right_box (l ∷ []) rs
-
-  abbrev row_opens : RTreeNode T E P S X → List (RTreeNode U F Q R Y) → ℕ
-  row_opens l rs = all_opens meets left_box right_box (l ∷ []) rs
+  -- ---- pairs of nodes
 
   abbrev pairs_of : RTreeNode T E P S X × RTreeNode U F Q R Y → List (T × U)
   pairs_of p = pairs_at meets left_box right_box p.0 p.1
@@ -145,193 +240,217 @@ module _ {T E P S X U F Q R Y : Type 0} (meets : E → F → Bool) (left_box : T
   abbrev opens_of : RTreeNode T E P S X × RTreeNode U F Q R Y → ℕ
   opens_of p = opens_at meets left_box right_box p.0 p.1
 
-  -- where nothing of the first row was read
-  pub fresh-pairs : (ls : List (RTreeNode T E P S X)) (rs : List (RTreeNode U F Q R Y)) → pairs_with meets left_box right_box ls rs rs ≡ all_pairs meets left_box right_box ls rs
-  fresh-pairs [] rs = refl
-  fresh-pairs (l ∷ ls) rs =
-      let row = map (λ y. the_pair l y) rs in
-      sym (flat_map-append pairs_of row (product ls rs) ∙ ap (λ x. x ++ all_pairs meets left_box right_box ls rs) (sym (ap (flat_map pairs_of) (append-nil row))))
+  abbrev asked_step : RTreeNode T E P S X × RTreeNode U F Q R Y → ℕ
+  asked_step p = 1 + steps_of_pair p
 
-  pub fresh-opens : (ls : List (RTreeNode T E P S X)) (rs : List (RTreeNode U F Q R Y)) → opens_with meets left_box right_box ls rs rs ≡ all_opens meets left_box right_box ls rs
-  fresh-opens [] rs = refl
-  fresh-opens (l ∷ ls) rs =
-      let row = map (λ y. the_pair l y) rs in
-      let a = sum_by-append opens_of row (product ls rs) in let b = ap (sum_by opens_of) (append-nil row) in omega (arith, a, b)
+  abbrev pub meets_pair : RTreeNode T E P S X × RTreeNode U F Q R Y → Bool
+  meets_pair p = does_meet meets left_box right_box p.0 p.1
 
-  fresh-steps : (ls : List (RTreeNode T E P S X)) (rs : List (RTreeNode U F Q R Y)) → steps_with steps_at ls [] rs rs ≡ all_steps steps_at ls rs
-  fresh-steps [] rs = omega arith
-  fresh-steps (l ∷ ls) rs = omega arith
+  -- those that do not meet give nothing
+  kept-pairs : (ps : List (RTreeNode T E P S X × RTreeNode U F Q R Y)) → pairs_below meets left_box right_box ps ≡ pairs_below meets left_box right_box (filter meets_pair ps)
+  kept-pairs [] = refl
+  kept-pairs (p ∷ ps) = by_test (meets_pair p) refl (kept-pairs ps) where
+    by_test : (b : Bool) → meets_pair p ≡ b → pairs_below meets left_box right_box ps ≡ pairs_below meets left_box right_box (filter meets_pair ps)
+        → pairs_of p ++ pairs_below meets left_box right_box ps ≡ pairs_below meets left_box right_box (if b then p ∷ filter meets_pair ps else filter meets_pair ps)
+    by_test true is rest = ap (λ w. pairs_of p ++ w) rest
+    by_test false is rest = ap (λ w. w ++ pairs_below meets left_box right_box ps) (passed meets left_box right_box p.0 p.1 is).0 ∙ rest
 
-  -- those that are asked and do not meet the first on the left give nothing
-  module _ (l : RTreeNode T E P S X) (r : RTreeNode U F Q R Y) (asked later : List (RTreeNode U F Q R Y)) where
-    abbrev kept_if : Bool → List (RTreeNode U F Q R Y)
-    kept_if b = if b then r ∷ filter (does_meet meets left_box right_box l) asked else filter (does_meet meets left_box right_box l) asked
+  kept-opens : (ps : List (RTreeNode T E P S X × RTreeNode U F Q R Y)) → opens_below meets left_box right_box ps ≡ opens_below meets left_box right_box (filter meets_pair ps)
+  kept-opens [] = refl
+  kept-opens (p ∷ ps) = by_test (meets_pair p) refl (kept-opens ps) where
+    by_test : (b : Bool) → meets_pair p ≡ b → opens_below meets left_box right_box ps ≡ opens_below meets left_box right_box (filter meets_pair ps)
+        → opens_below meets left_box right_box (p ∷ ps) ≡ opens_below meets left_box right_box (if b then p ∷ filter meets_pair ps else filter meets_pair ps)
+    by_test true is rest = let a = sum_by-cons opens_of p ps in let b = sum_by-cons opens_of p (filter meets_pair ps) in omega (arith, a, b, rest)
+    by_test false is rest = let a = sum_by-cons opens_of p ps in let b = (passed meets left_box right_box p.0 p.1 is).1 in omega (arith, a, b, rest)
 
-    kept-pair : (b : Bool) → does_meet meets left_box right_box l r ≡ b → row_pairs l (asked ++ later) ≡ row_pairs l (filter (does_meet meets left_box right_box l) asked ++ later)
-        → row_pairs l (r ∷ (asked ++ later)) ≡ row_pairs l (kept_if b ++ later)
-    kept-pair true is rest = ap (λ w. pairs_at meets left_box right_box l r ++ w) rest
-    kept-pair false is rest = ap (λ w. w ++ row_pairs l (asked ++ later)) (passed meets left_box right_box l r is).0 ∙ rest
+  -- each pair that was asked is a step
+  kept-steps : (ps : List (RTreeNode T E P S X × RTreeNode U F Q R Y)) → sum_by steps_of_pair (filter meets_pair ps) + length ps ≤ sum_by asked_step ps
+  kept-steps [] = omega arith
+  kept-steps (p ∷ ps) = by_test (meets_pair p) (kept-steps ps) where
+    by_test : (b : Bool) → sum_by steps_of_pair (filter meets_pair ps) + length ps ≤ sum_by asked_step ps
+        → sum_by steps_of_pair (if b then p ∷ filter meets_pair ps else filter meets_pair ps) + length (p ∷ ps) ≤ sum_by asked_step (p ∷ ps)
+    by_test true rest = let a = sum_by-cons steps_of_pair p (filter meets_pair ps) in let b = sum_by-cons asked_step p ps in omega (arith, a, b, rest)
+    by_test false rest = let b = sum_by-cons asked_step p ps in omega (arith, b, rest)
 
-    kept-open : (b : Bool) → does_meet meets left_box right_box l r ≡ b → row_opens l (asked ++ later) ≡ row_opens l (filter (does_meet meets left_box right_box l) asked ++ later)
-        → row_opens l (r ∷ (asked ++ later)) ≡ row_opens l (kept_if b ++ later)
-    kept-open true is rest =
-        let a : row_opens l (r ∷ (asked ++ later)) ≡ opens_at meets left_box right_box l r + row_opens l (asked ++ later) = sum_by-cons opens_of (the_pair l r) (product (l ∷ []) (asked ++ later)) in
-        let b : row_opens l (r ∷ (filter (does_meet meets left_box right_box l) asked ++ later)) ≡ opens_at meets left_box right_box l r + row_opens l (filter (does_meet meets left_box right_box l) asked ++ later) =
-        sum_by-cons opens_of (the_pair l r) (product (l ∷ []) (filter (does_meet meets left_box right_box l) asked ++ later)) in
-        omega (arith, a, b, rest)
-    kept-open false is rest =
-        let a : row_opens l (r ∷ (asked ++ later)) ≡ opens_at meets left_box right_box l r + row_opens l (asked ++ later) = sum_by-cons opens_of (the_pair l r) (product (l ∷ []) (asked ++ later)) in
-        let b = (passed meets left_box right_box l r is).1 in omega (arith, a, b, rest)
+  kept-met : (h k : ℕ) (ps : List (RTreeNode T E P S X × RTreeNode U F Q R Y)) → AllByRecursion (λ p. IsLevel h p.0 × IsLevel k p.1) ps → AllByRecursion (IsMetPair meets left_box right_box h k) (filter meets_pair ps)
+  kept-met h k [] all = tt
+  kept-met h k (p ∷ ps) all = by_test (meets_pair p) refl (kept-met h k ps all.1) where
+    by_test : (b : Bool) → meets_pair p ≡ b → AllByRecursion (IsMetPair meets left_box right_box h k) (filter meets_pair ps)
+        → AllByRecursion (IsMetPair meets left_box right_box h k) (if b then p ∷ filter meets_pair ps else filter meets_pair ps)
+    by_test true is rest = (record { left = all.0.0; right = all.0.1; meeting = is }, rest)
+    by_test false is rest = rest
 
-    kept-step : (b : Bool) → total (map (steps_at l) (filter (does_meet meets left_box right_box l) asked)) + row_steps steps_at l later + length asked ≤ row_steps steps_at l (asked ++ later)
-        → total (map (steps_at l) (kept_if b)) + row_steps steps_at l later + length (r ∷ asked) ≤ row_steps steps_at l (r ∷ (asked ++ later))
-    kept-step true rest = omega (arith, rest)
-    kept-step false rest = omega (arith, rest)
+  -- ---- a frame of which nothing was asked
 
-  kept-pairs : (l : RTreeNode T E P S X) (asked later : List (RTreeNode U F Q R Y)) → row_pairs l (asked ++ later) ≡ row_pairs l (filter (does_meet meets left_box right_box l) asked ++ later)
-  kept-pairs l [] later = refl
-  kept-pairs l (r ∷ asked) later = kept-pair l r asked later (does_meet meets left_box right_box l r) refl (kept-pairs l asked later)
+  module _ (ls : Bor (List (RTreeNode T E P S X))) (asked rights : Bor (List (RTreeNode U F Q R Y))) where
+    fresh-met : met_of (frame_of ls asked 0 rights rights) ≡ []
+    fresh-met = marked-zero (product (take (rows_beside rights.now) ls.now) asked.now)
 
-  kept-opens : (l : RTreeNode T E P S X) (asked later : List (RTreeNode U F Q R Y)) → row_opens l (asked ++ later) ≡ row_opens l (filter (does_meet meets left_box right_box l) asked ++ later)
-  kept-opens l [] later = refl
-  kept-opens l (r ∷ asked) later = kept-open l r asked later (does_meet meets left_box right_box l r) refl (kept-opens l asked later)
+    fresh-unasked : unasked_of (frame_of ls asked 0 rights rights) ≡ product ls.now rights.now
+    fresh-unasked = product-parts (rows_beside rights.now) ls.now rights.now
 
-  kept-steps : (l : RTreeNode T E P S X) (asked later : List (RTreeNode U F Q R Y))
-      → total (map (steps_at l) (filter (does_meet meets left_box right_box l) asked)) + row_steps steps_at l later + length asked ≤ row_steps steps_at l (asked ++ later)
-  kept-steps l [] later = omega arith
-  kept-steps l (r ∷ asked) later = kept-step l r asked later (does_meet meets left_box right_box l r) (kept-steps l asked later)
+    pub fresh : met_of (frame_of ls asked 0 rights rights) ++ unasked_of (frame_of ls asked 0 rights rights) ≡ product ls.now rights.now
+    fresh = ap (λ m. m ++ unasked_of (frame_of ls asked 0 rights rights)) fresh-met ∙ fresh-unasked
+
+    fresh-steps : steps_of_frame (frame_of ls asked 0 rights rights) ≡ all_steps steps_at ls.now rights.now
+    fresh-steps =
+        let a = ap (sum_by steps_of_pair) fresh-met in let b = ap (sum_by asked_step) fresh-unasked in let c = steps-listed steps_at ls.now rights.now in
+        omega (arith, a, b, c)
 
   -- ---- the moves of a step
 
   -- a frame with nothing left on the left
   pub move-drop : (frame : Frame T E P S X U F Q R Y) → frame.lefts.now ≡ [] → IsMove frame [] [] 0
-  move-drop frame none = record {
-    pairs = ap (λ l. pairs_with meets left_box right_box l (met_of frame ++ frame.later.now) frame.rights.now) none;
-    opened = ap (λ l. opens_with meets left_box right_box l (met_of frame ++ frame.later.now) frame.rights.now) none;
-    room = λ k at. tt;
-    nearer = let e : steps_of_frame frame ≡ 1 = ap (λ l. steps_with steps_at l (met_of frame) frame.later.now frame.rights.now) none in omega (arith, e);
-  }
-
-  -- the first row is at its end
-  pub move-row : (ls more : Bor (List (RTreeNode T E P S X))) (asked later rights : Bor (List (RTreeNode U F Q R Y))) (marks : ℕ) (l : RTreeNode T E P S X)
-      → ls.now ≡ l ∷ more.now → marked marks asked.now ≡ [] → later.now ≡ [] → IsMove (frame_of ls asked marks later rights) ((frame_of more asked marks rights rights) ∷ []) [] 0
-  move-row ls more asked later rights marks l is none over =
-      let R = rights.now in
-      let old-steps : steps_with steps_at ls.now (marked marks asked.now) later.now R ≡ steps_with steps_at (l ∷ more.now) [] [] R = (λ i. steps_with steps_at (is i) (none i) (over i) R) in
-      let new-steps : steps_with steps_at more.now (marked marks asked.now) R R ≡ all_steps steps_at more.now R = ap (λ x. steps_with steps_at more.now x R R) none ∙ fresh-steps more.now R in
-      let old-opens : opens_with meets left_box right_box ls.now (marked marks asked.now ++ later.now) R ≡ opens_with meets left_box right_box (l ∷ more.now) [] R = (λ i. opens_with meets left_box right_box (is i) (none i ++ over i) R) in
-      let new-opens : opens_with meets left_box right_box more.now (marked marks asked.now ++ R) R ≡ all_opens meets left_box right_box more.now R = ap (λ x. opens_with meets left_box right_box more.now (x ++ R) R) none ∙ fresh-opens more.now R in
+  move-drop frame none =
+      let k = rows_beside frame.rights.now in
+      let met : met_of frame ≡ [] = ap (λ l. marked frame.marks (product l frame.asked.now)) (ap (take k) none ∙ take-nil k) in
+      let unasked : unasked_of frame ≡ [] = (λ i. product ((ap (take k) none ∙ take-nil k) i) frame.later.now ++ product ((ap (drop k) none ∙ drop-nil k) i) frame.rights.now) in
+      let both : met_of frame ++ unasked_of frame ≡ [] = (λ i. met i ++ unasked i) in
       record {
-        pairs = (λ i. pairs_with meets left_box right_box (is i) (none i ++ over i) R) ∙ sym (ap (λ x. pairs_with meets left_box right_box more.now (x ++ R) R) none ∙ fresh-pairs more.now R);
-        opened = omega (arith, old-opens, new-opens);
-        room = λ k at. one-frame (k + 1) k (frame_of more asked marks rights rights) refl (record {
+        pairs = ap (pairs_below meets left_box right_box) both;
+        opened = ap (opens_below meets left_box right_box) both;
+        room = λ k at. tt;
+        nearer = omega arith;
+      }
+
+  -- those that were asked together are read
+  pub move-row : (ls more : Bor (List (RTreeNode T E P S X))) (asked later rights : Bor (List (RTreeNode U F Q R Y))) (marks : ℕ) → more.now ≡ drop (rows_beside rights.now) ls.now → 0 < length ls.now
+      → met_of (frame_of ls asked marks later rights) ≡ [] → later.now ≡ [] → IsMove (frame_of ls asked marks later rights) ((frame_of more asked 0 rights rights) ∷ []) [] 0
+  move-row ls more asked later rights marks is some none over =
+      let k = rows_beside rights.now in
+      let old = frame_of ls asked marks later rights in
+      let unasked : unasked_of old ≡ product more.now rights.now =
+      (λ i. product (take k ls.now) (over i) ++ product (sym is i) rights.now) ∙ ap (λ x. x ++ product more.now rights.now) (product-none (take k ls.now)) in
+      let both : met_of old ++ unasked_of old ≡ product more.now rights.now = (λ i. none i ++ unasked i) in
+      let same = both ∙ sym (fresh more asked rights) in
+      let a = ap (sum_by steps_of_pair) none in let b = ap (sum_by asked_step) unasked in
+      let c = ap (sum_by steps_of_pair) (fresh-met more asked rights) in let d = ap (sum_by asked_step) (fresh-unasked more asked rights) in
+      let fewer = ap length is in let dropped = length-drop k ls.now in let positive = rows-positive rights.now in
+      record {
+        pairs = ap (pairs_below meets left_box right_box) same;
+        opened = (let e = ap (opens_below meets left_box right_box) same in omega (arith, e));
+        room = λ n at. one-frame (n + 1) n (frame_of more asked 0 rights rights) refl (record {
           left_height = at.left_height;
           right_height = at.right_height;
-          lefts = (subst (AllByRecursion (IsLevel at.left_height)) is at.lefts).1;
-          met = subst (AllByRecursion (IsLevel at.right_height)) (sym none) tt;
+          lefts = subst (AllByRecursion (IsLevel at.left_height)) (sym is) (all-drop (IsLevel at.left_height) (take k ls.now) (drop k ls.now) (subst (AllByRecursion (IsLevel at.left_height)) (sym (take-append-drop k ls.now)) at.lefts)).1;
+          met = subst (AllByRecursion (IsMetPair meets left_box right_box at.left_height at.right_height)) (sym (fresh-met more asked rights)) tt;
           later = at.rights;
           rights = at.rights;
+          no_more = omega arith;
           fits = at.fits;
-          meeting = λ x others e. subst (AllByRecursion (λ r. does_meet meets left_box right_box x r ≡ true)) (sym none) tt;
         });
-        nearer = omega (arith, old-steps, new-steps);
+        nearer = omega (arith, a, b, c, d, fewer, dropped, positive, some);
       }
 
   -- the next nodes on the right are asked
-  pub move-ask : (ls : Bor (List (RTreeNode T E P S X))) (asked later chunk rest rights : Bor (List (RTreeNode U F Q R Y))) (marks more : ℕ) (l : RTreeNode T E P S X) (others : List (RTreeNode T E P S X))
-      → ls.now ≡ l ∷ others → marked marks asked.now ≡ [] → later.now ≡ chunk.now ++ rest.now → 0 < length chunk.now
-      → marked more chunk.now ≡ filter (does_meet meets left_box right_box l) chunk.now → IsMove (frame_of ls asked marks later rights) ((frame_of ls chunk more rest rights) ∷ []) [] 0
-  move-ask ls asked later chunk rest rights marks more l others is none split some made =
-      let R = rights.now in
-      let old-steps : steps_with steps_at ls.now (marked marks asked.now) later.now R ≡ steps_with steps_at (l ∷ others) [] (chunk.now ++ rest.now) R = (λ i. steps_with steps_at (is i) (none i) (split i) R) in
-      let new-steps : steps_with steps_at ls.now (marked more chunk.now) rest.now R ≡ steps_with steps_at (l ∷ others) (filter (does_meet meets left_box right_box l) chunk.now) rest.now R = (λ i. steps_with steps_at (is i) (made i) rest.now R) in
-      let less = kept-steps l chunk.now rest.now in
-      let old-opens : opens_with meets left_box right_box ls.now (marked marks asked.now ++ later.now) R ≡ opens_with meets left_box right_box (l ∷ others) (chunk.now ++ rest.now) R = (λ i. opens_with meets left_box right_box (is i) (none i ++ split i) R) in
-      let new-opens : opens_with meets left_box right_box ls.now (marked more chunk.now ++ rest.now) R ≡ opens_with meets left_box right_box (l ∷ others) (filter (does_meet meets left_box right_box l) chunk.now ++ rest.now) R = (λ i. opens_with meets left_box right_box (is i) (made i ++ rest.now) R) in
-      let kept = kept-opens l chunk.now rest.now in
+  pub move-ask : (ls : Bor (List (RTreeNode T E P S X))) (asked later chunk rest rights : Bor (List (RTreeNode U F Q R Y))) (marks more : ℕ) → met_of (frame_of ls asked marks later rights) ≡ []
+      → later.now ≡ chunk.now ++ rest.now → 0 < length chunk.now → 0 < length (take (rows_beside rights.now) ls.now) → (rest.now ≡ []) ⊎ (length (take (rows_beside rights.now) ls.now) ≤ 1)
+      → marked more (product (take (rows_beside rights.now) ls.now) chunk.now) ≡ filter meets_pair (product (take (rows_beside rights.now) ls.now) chunk.now)
+      → IsMove (frame_of ls asked marks later rights) ((frame_of ls chunk more rest rights) ∷ []) [] 0
+  move-ask ls asked later chunk rest rights marks more none split some some' narrow made =
+      let k = rows_beside rights.now in
+      let block = take k ls.now in
+      let old = frame_of ls asked marks later rights in
+      let new = frame_of ls chunk more rest rights in
+      let unasked : unasked_of old ≡ product block chunk.now ++ unasked_of new =
+      ap (λ x. product block x ++ product (drop k ls.now) rights.now) split
+      ∙ ap (λ x. x ++ product (drop k ls.now) rights.now) (product-columns block chunk.now rest.now narrow)
+      ∙ append_assoc (product block chunk.now) (product block rest.now) (product (drop k ls.now) rights.now) in
+      let both : met_of old ++ unasked_of old ≡ product block chunk.now ++ unasked_of new = (λ i. none i ++ unasked i) in
+      let a = ap (opens_below meets left_box right_box) both in
+      let b = sum_by-append opens_of (product block chunk.now) (unasked_of new) in
+      let c = kept-opens (product block chunk.now) in
+      let d = sum_by-append opens_of (filter meets_pair (product block chunk.now)) (unasked_of new) in
+      let e = ap (λ m. opens_below meets left_box right_box (m ++ unasked_of new)) made in
+      let a' = ap (sum_by steps_of_pair) none in
+      let b' = ap (sum_by asked_step) unasked in
+      let c' = sum_by-append asked_step (product block chunk.now) (unasked_of new) in
+      let d' = kept-steps (product block chunk.now) in
+      let e' = ap (sum_by steps_of_pair) made in
+      let f' = product-some block chunk.now some' some in
       record {
-        pairs = (λ i. pairs_with meets left_box right_box (is i) (none i ++ split i) R) ∙ ap (λ w. w ++ all_pairs meets left_box right_box others R) (kept-pairs l chunk.now rest.now)
-            ∙ sym (λ i. pairs_with meets left_box right_box (is i) (made i ++ rest.now) R);
-        opened = omega (arith, old-opens, new-opens, kept);
-        room = λ k at.
+        pairs = ap (pairs_below meets left_box right_box) both ∙ flat_map-append pairs_of (product block chunk.now) (unasked_of new)
+            ∙ ap (λ x. x ++ pairs_below meets left_box right_box (unasked_of new)) (kept-pairs (product block chunk.now))
+            ∙ sym (flat_map-append pairs_of (filter meets_pair (product block chunk.now)) (unasked_of new))
+            ∙ ap (λ m. pairs_below meets left_box right_box (m ++ unasked_of new)) (sym made);
+        opened = omega (arith, a, b, c, d, e);
+        room = λ n at.
             let parts = all-drop (IsLevel at.right_height) chunk.now rest.now (subst (AllByRecursion (IsLevel at.right_height)) split at.later) in
-            one-frame (k + 1) k (frame_of ls chunk more rest rights) refl (record {
+            let lefts = all-drop (IsLevel at.left_height) block (drop k ls.now) (subst (AllByRecursion (IsLevel at.left_height)) (sym (take-append-drop k ls.now)) at.lefts) in
+            let long = ap length split in let longer = length-append chunk.now rest.now in
+            one-frame (n + 1) n new refl (record {
               left_height = at.left_height;
               right_height = at.right_height;
               lefts = at.lefts;
-              met = all-marked (IsLevel at.right_height) more chunk.now parts.0;
+              met = subst (AllByRecursion (IsMetPair meets left_box right_box at.left_height at.right_height)) (sym made)
+                  (kept-met at.left_height at.right_height (product block chunk.now) (all-product (IsLevel at.left_height) (IsLevel at.right_height) block chunk.now lefts.0 parts.0));
               later = parts.1;
               rights = at.rights;
+              no_more = omega (arith, long, longer, at.no_more);
               fits = at.fits;
-              meeting = λ x xs e.
-                  let same : l ∷ others ≡ x ∷ xs = sym is ∙ e in let head : l ≡ x = cc in
-                  subst (λ y. AllByRecursion (λ r. does_meet meets left_box right_box y r ≡ true) (marked more chunk.now)) head
-                  (subst (AllByRecursion (λ r. does_meet meets left_box right_box l r ≡ true)) (sym made) (filter-passes (does_meet meets left_box right_box l) chunk.now));
             });
-        nearer = omega (arith, old-steps, new-steps, less, some);
+        nearer = omega (arith, a', b', c', d', e', f');
       }
 
-  -- ---- a node on the right that is read
+  -- ---- a pair that is read
 
-  module _ (ls : Bor (List (RTreeNode T E P S X))) (asked later rights : Bor (List (RTreeNode U F Q R Y))) (marks more : ℕ) (l : RTreeNode T E P S X) (others : List (RTreeNode T E P S X)) (r : RTreeNode U F Q R Y)
-      (is : ls.now ≡ l ∷ others) (first : marked marks asked.now ≡ r ∷ marked more asked.now) where
+  module _ (ls : Bor (List (RTreeNode T E P S X))) (asked later rights : Bor (List (RTreeNode U F Q R Y))) (marks more : ℕ) (l : RTreeNode T E P S X) (r : RTreeNode U F Q R Y)
+      (first : met_of (frame_of ls asked marks later rights) ≡ the_pair l r ∷ met_of (frame_of ls asked more later rights)) where
+    abbrev read_old : Frame T E P S X U F Q R Y
+    read_old = frame_of ls asked marks later rights
+
+    abbrev read_new : Frame T E P S X U F Q R Y
+    read_new = frame_of ls asked more later rights
+
     -- it meets
-    pub read-meets : {k : ℕ} → IsFrame meets left_box right_box k (frame_of ls asked marks later rights) → does_meet meets left_box right_box l r ≡ true
-    read-meets at = (subst (AllByRecursion (λ x. does_meet meets left_box right_box l x ≡ true)) first (at.meeting l others is)).0
+    pub read-meets : {k : ℕ} → IsFrame meets left_box right_box k read_old → does_meet meets left_box right_box l r ≡ true
+    read-meets at = (subst (AllByRecursion (IsMetPair meets left_box right_box at.left_height at.right_height)) first at.met).0.meeting
 
-    read-frame : (k : ℕ) → IsFrame meets left_box right_box k (frame_of ls asked marks later rights) → IsFrame meets left_box right_box k (frame_of ls asked more later rights)
+    read-frame : (k : ℕ) → IsFrame meets left_box right_box k read_old → IsFrame meets left_box right_box k read_new
     read-frame k at = record {
       left_height = at.left_height;
       right_height = at.right_height;
       lefts = at.lefts;
-      met = (subst (AllByRecursion (IsLevel at.right_height)) first at.met).1;
+      met = (subst (AllByRecursion (IsMetPair meets left_box right_box at.left_height at.right_height)) first at.met).1;
       later = at.later;
       rights = at.rights;
+      no_more = at.no_more;
       fits = at.fits;
-      meeting = λ x xs e. (subst (AllByRecursion (λ y. does_meet meets left_box right_box x y ≡ true)) first (at.meeting x xs e)).1;
     }
 
-    read-pairs : pairs_with meets left_box right_box ls.now (marked marks asked.now ++ later.now) rights.now ≡ pairs_at meets left_box right_box l r ++ pairs_with meets left_box right_box ls.now (marked more asked.now ++ later.now) rights.now
-    read-pairs =
-        (λ i. pairs_with meets left_box right_box (is i) (first i ++ later.now) rights.now)
-        ∙ append_assoc (pairs_at meets left_box right_box l r) (row_pairs l (marked more asked.now ++ later.now)) (all_pairs meets left_box right_box others rights.now)
-        ∙ ap (λ x. pairs_at meets left_box right_box l r ++ pairs_with meets left_box right_box x (marked more asked.now ++ later.now) rights.now) (sym is)
+    read-pairs : pairs_below meets left_box right_box (met_of read_old ++ unasked_of read_old) ≡ pairs_at meets left_box right_box l r ++ pairs_below meets left_box right_box (met_of read_new ++ unasked_of read_new)
+    read-pairs = ap (λ m. pairs_below meets left_box right_box (m ++ unasked_of read_old)) first
 
-    read-opens : opens_with meets left_box right_box ls.now (marked marks asked.now ++ later.now) rights.now ≡ opens_at meets left_box right_box l r + opens_with meets left_box right_box ls.now (marked more asked.now ++ later.now) rights.now
-    read-opens =
-        let a : opens_with meets left_box right_box ls.now (marked marks asked.now ++ later.now) rights.now ≡ opens_with meets left_box right_box (l ∷ others) (r ∷ (marked more asked.now ++ later.now)) rights.now = (λ i. opens_with meets left_box right_box (is i) (first i ++ later.now) rights.now) in
-        let b : row_opens l (r ∷ (marked more asked.now ++ later.now)) ≡ opens_at meets left_box right_box l r + row_opens l (marked more asked.now ++ later.now) = sum_by-cons opens_of (the_pair l r) (product (l ∷ []) (marked more asked.now ++ later.now)) in
-        let c : opens_with meets left_box right_box ls.now (marked more asked.now ++ later.now) rights.now ≡ opens_with meets left_box right_box (l ∷ others) (marked more asked.now ++ later.now) rights.now = ap (λ x. opens_with meets left_box right_box x (marked more asked.now ++ later.now) rights.now) is in
-        omega (arith, a, b, c)
+    read-opens : opens_below meets left_box right_box (met_of read_old ++ unasked_of read_old) ≡ opens_at meets left_box right_box l r + opens_below meets left_box right_box (met_of read_new ++ unasked_of read_new)
+    read-opens = ap (λ m. opens_below meets left_box right_box (m ++ unasked_of read_old)) first ∙ sum_by-cons opens_of (the_pair l r) (met_of read_new ++ unasked_of read_new)
 
-    read-steps : steps_with steps_at ls.now (marked marks asked.now) later.now rights.now ≡ steps_at l r + steps_with steps_at ls.now (marked more asked.now) later.now rights.now
+    read-steps : steps_of_frame read_old ≡ steps_at l r + steps_of_frame read_new
     read-steps =
-        let a : steps_with steps_at ls.now (marked marks asked.now) later.now rights.now ≡ steps_with steps_at (l ∷ others) (r ∷ marked more asked.now) later.now rights.now = (λ i. steps_with steps_at (is i) (first i) later.now rights.now) in
-        let b : steps_with steps_at ls.now (marked more asked.now) later.now rights.now ≡ steps_with steps_at (l ∷ others) (marked more asked.now) later.now rights.now = ap (λ x. steps_with steps_at x (marked more asked.now) later.now rights.now) is in
-        omega (arith, a, b)
+        let a = ap (sum_by steps_of_pair) first ∙ sum_by-cons steps_of_pair (the_pair l r) (met_of read_new) in
+        omega (arith, a)
 
     -- two leaves
-    pub move-read : (gives : List (T × U)) → pairs_at meets left_box right_box l r ≡ gives → opens_at meets left_box right_box l r ≡ 0
-        → IsMove (frame_of ls asked marks later rights) ((frame_of ls asked more later rights) ∷ []) gives 0
+    pub move-read : (gives : List (T × U)) → pairs_at meets left_box right_box l r ≡ gives → opens_at meets left_box right_box l r ≡ 0 → IsMove read_old (read_new ∷ []) gives 0
     move-read gives given none =
         let opens = read-opens in let steps = read-steps in let some = steps-positive l r in
         record {
-          pairs = read-pairs ∙ ap (λ g. g ++ pairs_with meets left_box right_box ls.now (marked more asked.now ++ later.now) rights.now) given;
+          pairs = read-pairs ∙ ap (λ g. g ++ pairs_below meets left_box right_box (met_of read_new ++ unasked_of read_new)) given;
           opened = omega (arith, opens, none);
-          room = λ k at. one-frame (k + 1) k (frame_of ls asked more later rights) refl (read-frame k at);
+          room = λ k at. one-frame (k + 1) k read_new refl (read-frame k at);
           nearer = omega (arith, steps, some);
         }
 
     -- what comes after the two lies lower
-    lower : {k : ℕ} (at : IsFrame meets left_box right_box k (frame_of ls asked marks later rights)) → both_leaves l r ≡ false
+    lower : {k : ℕ} (at : IsFrame meets left_box right_box k read_old) → both_leaves l r ≡ false
         → (h h' : ℕ) × AllByRecursion (IsLevel h) (opened_to l) × AllByRecursion (IsLevel h') (opened_to r) × (max at.left_height at.right_height ≡ max h h' + 1)
     lower at inner =
-        let a = level-opened at.left_height l (subst (AllByRecursion (IsLevel at.left_height)) is at.lefts).0 in
-        let b = level-opened at.right_height r (subst (AllByRecursion (IsLevel at.right_height)) first at.met).0 in
+        let met = (subst (AllByRecursion (IsMetPair meets left_box right_box at.left_height at.right_height)) first at.met).0 in
+        let a = level-opened at.left_height l met.left in
+        let b = level-opened at.right_height r met.right in
         (a.0, b.0, a.1, b.1, levels-lower (is_leaf_node l) (is_leaf_node r) at.left_height a.0 at.right_height b.0 inner a.2 b.2)
 
     -- room for a push
-    pub open-room : {k : ℕ} → IsFrame meets left_box right_box k (frame_of ls asked marks later rights) → both_leaves l r ≡ false → 1 ≤ k
+    pub open-room : {k : ℕ} → IsFrame meets left_box right_box k read_old → both_leaves l r ≡ false → 1 ≤ k
     open-room at inner = let low = lower at inner in omega (arith, at.fits, low.4)
 
     -- a pair that is opened
@@ -339,39 +458,38 @@ module _ {T E P S X U F Q R Y : Type 0} (meets : E → F → Bool) (left_box : T
       abbrev below_frame : Frame T E P S X U F Q R Y
       below_frame = (frame_of ls' asked 0 rs' rs')
 
-      below-pairs : does_meet meets left_box right_box l r ≡ true → pairs_at meets left_box right_box l r ≡ pairs_with meets left_box right_box ls'.now (marked 0 asked.now ++ rs'.now) rs'.now
+      below-pairs : does_meet meets left_box right_box l r ≡ true → pairs_at meets left_box right_box l r ≡ pairs_below meets left_box right_box (met_of below_frame ++ unasked_of below_frame)
       below-pairs meeting =
           (opened meets left_box right_box l r inner).pairs ∙ ap (λ (b : Bool). if b then all_pairs meets left_box right_box (opened_to l) (opened_to r) else []) meeting
-          ∙ (λ i. all_pairs meets left_box right_box (sym down i) (sym down' i)) ∙ sym (fresh-pairs ls'.now rs'.now) ∙ ap (λ x. pairs_with meets left_box right_box ls'.now (x ++ rs'.now) rs'.now) (sym (marked-zero asked.now))
+          ∙ (λ i. all_pairs meets left_box right_box (sym down i) (sym down' i)) ∙ ap (pairs_below meets left_box right_box) (sym (fresh ls' asked rs'))
 
-      below-opens : does_meet meets left_box right_box l r ≡ true → opens_at meets left_box right_box l r ≡ 1 + opens_with meets left_box right_box ls'.now (marked 0 asked.now ++ rs'.now) rs'.now
+      below-opens : does_meet meets left_box right_box l r ≡ true → opens_at meets left_box right_box l r ≡ 1 + opens_below meets left_box right_box (met_of below_frame ++ unasked_of below_frame)
       below-opens meeting =
           (opened meets left_box right_box l r inner).opens ∙ ap (λ (b : Bool). if b then 1 + all_opens meets left_box right_box (opened_to l) (opened_to r) else 0) meeting
-          ∙ (λ i. 1 + all_opens meets left_box right_box (sym down i) (sym down' i)) ∙ ap (λ n. 1 + n) (sym (fresh-opens ls'.now rs'.now) ∙ ap (λ x. opens_with meets left_box right_box ls'.now (x ++ rs'.now) rs'.now) (sym (marked-zero asked.now)))
+          ∙ (λ i. 1 + all_opens meets left_box right_box (sym down i) (sym down' i)) ∙ ap (λ ps. 1 + opens_below meets left_box right_box ps) (sym (fresh ls' asked rs'))
 
-      below-steps : steps_at l r ≡ 1 + steps_with steps_at ls'.now (marked 0 asked.now) rs'.now rs'.now
+      below-steps : steps_at l r ≡ 1 + steps_of_frame below_frame
       below-steps =
-          (opened meets left_box right_box l r inner).steps ∙ (λ i. 1 + all_steps steps_at (sym down i) (sym down' i))
-          ∙ ap (λ n. 1 + n) (sym (fresh-steps ls'.now rs'.now) ∙ ap (λ x. steps_with steps_at ls'.now x rs'.now rs'.now) (sym (marked-zero asked.now)))
+          (opened meets left_box right_box l r inner).steps ∙ (λ i. 1 + all_steps steps_at (sym down i) (sym down' i)) ∙ ap (λ n. 1 + n) (sym (fresh-steps ls' asked rs'))
 
-      pub move-open : does_meet meets left_box right_box l r ≡ true → IsMove (frame_of ls asked marks later rights) ((frame_of ls asked more later rights) ∷ below_frame ∷ []) [] 1
+      pub move-open : does_meet meets left_box right_box l r ≡ true → IsMove read_old (read_new ∷ below_frame ∷ []) [] 1
       move-open meeting =
           let opens = read-opens in let steps = read-steps in let b = below-opens meeting in let s = below-steps in
           record {
-            pairs = read-pairs ∙ ap (λ g. g ++ pairs_with meets left_box right_box ls.now (marked more asked.now ++ later.now) rights.now) (below-pairs meeting);
+            pairs = read-pairs ∙ ap (λ g. g ++ pairs_below meets left_box right_box (met_of read_new ++ unasked_of read_new)) (below-pairs meeting);
             opened = omega (arith, opens, b);
             room = λ k at.
                 let low = lower at inner in
-                two-frames (k + 1) k (frame_of ls asked more later rights) below_frame refl (omega (arith, at.fits, low.4)) (read-frame k at)
+                two-frames (k + 1) k read_new below_frame refl (omega (arith, at.fits, low.4)) (read-frame k at)
                 (λ j e. record {
                   left_height = low.0;
                   right_height = low.1;
                   lefts = subst (AllByRecursion (IsLevel low.0)) (sym down) low.2;
-                  met = subst (AllByRecursion (IsLevel low.1)) (sym (marked-zero asked.now)) tt;
+                  met = subst (AllByRecursion (IsMetPair meets left_box right_box low.0 low.1)) (sym (fresh-met ls' asked rs')) tt;
                   later = subst (AllByRecursion (IsLevel low.1)) (sym down') low.3;
                   rights = subst (AllByRecursion (IsLevel low.1)) (sym down') low.3;
+                  no_more = omega arith;
                   fits = omega (arith, at.fits, low.4, e);
-                  meeting = λ x xs e. subst (AllByRecursion (λ y. does_meet meets left_box right_box x y ≡ true)) (sym (marked-zero asked.now)) tt;
                 });
             nearer = omega (arith, steps, s);
           }

@@ -1,5 +1,5 @@
 -- The inside of a join: the nodes that are still to be paired, and one step.
-use Rattle.std.specs.Prelude.{◌≡◌, ℕ, zero, suc, ◌+◌, ◌/◌, ◌%◌, ◌<◌, ◌≤◌, min, max, Bool, true, List, [], ◌∷◌, ◌++◌, map, length, ⊤, ◌==◌, if◌then◌else◌}
+use Rattle.std.specs.Prelude.{◌≡◌, ℕ, zero, suc, ◌+◌, ◌*◌, ◌/◌, ◌%◌, ◌<◌, ◌≤◌, nat_le, min, max, Bool, true, List, [], ◌∷◌, ◌++◌, map, flat_map, sum_by, length, take, drop, ⊤, ◌==◌, if◌then◌else◌}
 use Rattle.std.specs.List.{AllByRecursion}
 use Rattle.std.specs.Borrow.{Bor}
 use Rattle.rstar.specs.declared.node.RTreeNode.{RTreeNode}
@@ -9,7 +9,7 @@ use Rattle.rstar.specs.declared.iterators.joins.Frame.{Frame as Kept}
 use Rattle.rstar.specs.declared.iterators.joins.PairStep.{PairStep}
 use Rattle.rstar.specs.declared.iterators.joins.PairStep.TheVariants.{Found, Passed, Ended}
 use Rattle.rstar.specs.Nodes.{fold_tree, node_box, total}
-use Rattle.rstar.specs.Meets.{opened_to, meet_of_roots, all_pairs, all_opens}
+use Rattle.rstar.specs.Meets.{product, opened_to, meet_of_roots, pairs_at, opens_at}
 use Rattle.rstar_base.specs.Counts.{usize_max}
 use Rattle.rstar.specs.Walks.{IsLevel}
 
@@ -20,17 +20,26 @@ abbrev pub marked : {A : Type 0} → ℕ → List A → List A
 marked marks [] = []
 marked marks (x ∷ xs) = if marks % 2 == 1 then x ∷ marked (marks / 2) xs else marked (marks / 2) xs
 
--- the first item that is marked, with all behind it, and marks for the others
-pub record IsFirstMarked {A : Type 0} (items : List A) (marks : ℕ) (from : List A) (others : ℕ) : Type 0 where
-  pub first : A
-  pub behind : List A
-  pub begins : from ≡ first ∷ behind
-  pub all : marked marks items ≡ first ∷ marked others items
+-- the first pair that is marked, as the items from each of the two on, and marks for the others
+pub record IsFirstPair {A B : Type 0} (lefts : List A) (rights : List B) (marks : ℕ) (from : List A) (beside : List B)
+    (others : ℕ) : Type 0 where
+  pub left : A
+  pub right : B
+  pub left_behind : List A
+  pub right_behind : List B
+  pub left_begins : from ≡ left ∷ left_behind
+  pub right_begins : beside ≡ right ∷ right_behind
+  pub all : marked marks (product lefts rights) ≡ (left, right) ∷ marked others (product lefts rights)
+
+-- marks with one for each of these tests in front of them
+abbrev pub with_marks : List Bool → ℕ → ℕ
+with_marks [] marks = marks
+with_marks (b ∷ bs) marks = (if b then 1 else 0) + 2 * with_marks bs marks
 
 -- ---- frames, the last of them read first
 
--- nodes on the left, for the first of them nodes on the right that were asked, with marks for those that it meets and
--- that are still to be read, those that are to be asked later, and all on the right for the others
+-- nodes on the left, and those on the right; of the pairs of the first on the left, so many as are asked together, with
+-- those on the right, some were asked, with marks for those that meet and are still to be read, and some are asked later
 abbrev pub Frame : (T E P S X U F Q R Y : Type 0) → Type 0
 Frame T E P S X U F Q R Y = Kept (Bor (List (RTreeNode T E P S X))) (Bor (List (RTreeNode U F Q R Y)))
 
@@ -38,14 +47,22 @@ abbrev pub frame_of : {L R : Type 0} → L → R → ℕ → R → R → Kept L 
 frame_of lefts asked marks later rights =
     record { lefts = lefts; asked = asked; marks = marks; later = later; rights = rights }
 
+-- how many on the left are asked together: eight where those on the right are no more than that, and else one
+abbrev pub rows_beside : {A : Type 0} → List A → ℕ
+rows_beside rights = if nat_le (length rights) 8 then 8 else 1
+
 -- the list has one item
 abbrev pub IsSingle : {A : Type 0} → List A → Type 0
 IsSingle xs = length xs ≡ 1
 
 module _ {T E P S X U F Q R Y : Type 0} where
-  -- those on the right that the first on the left meets and that are still to be read
-  abbrev pub met_of : Frame T E P S X U F Q R Y → List (RTreeNode U F Q R Y)
-  met_of frame = marked frame.marks frame.asked.now
+  -- the pairs that meet and are still to be read, and those that are asked later
+  abbrev pub met_of : Frame T E P S X U F Q R Y → List (RTreeNode T E P S X × RTreeNode U F Q R Y)
+  met_of frame = marked frame.marks (product (take (rows_beside frame.rights.now) frame.lefts.now) frame.asked.now)
+
+  abbrev pub unasked_of : Frame T E P S X U F Q R Y → List (RTreeNode T E P S X × RTreeNode U F Q R Y)
+  unasked_of frame = product (take (rows_beside frame.rights.now) frame.lefts.now) frame.later.now
+      ++ product (drop (rows_beside frame.rights.now) frame.lefts.now) frame.rights.now
 
   -- the frames of an iterator: those that are left, and behind them the one that is being read
   abbrev pub in_hand : IntersectionIterator T U E P S X F Q R Y → Frame T E P S X U F Q R Y
@@ -55,18 +72,22 @@ module _ {T E P S X U F Q R Y : Type 0} where
   frames_of it = it.path.items ++ in_hand it ∷ []
 
 module _ {T E P S X U F Q R Y : Type 0} (meets : E → F → Bool) (left_box : T → E) (right_box : U → F) where
-  -- no more than `room` frames come after a frame, one for each level of the higher side, and the nodes that are marked
-  -- meet the first on the left
+  -- two nodes on these levels that meet
+  pub record IsMetPair (left_height right_height : ℕ) (p : RTreeNode T E P S X × RTreeNode U F Q R Y) : Type 0 where
+    pub left : IsLevel left_height p.0
+    pub right : IsLevel right_height p.1
+    pub meeting : meets (node_box left_box p.0) (node_box right_box p.1) ≡ true
+
+  -- no more than `room` frames come after a frame, one for each level of the higher side
   pub record IsFrame (room : ℕ) (frame : Frame T E P S X U F Q R Y) : Type 0 where
     pub left_height : ℕ
     pub right_height : ℕ
     pub lefts : AllByRecursion (IsLevel left_height) frame.lefts.now
-    pub met : AllByRecursion (IsLevel right_height) (met_of frame)
+    pub met : AllByRecursion (IsMetPair left_height right_height) (met_of frame)
     pub later : AllByRecursion (IsLevel right_height) frame.later.now
     pub rights : AllByRecursion (IsLevel right_height) frame.rights.now
+    pub no_more : length frame.later.now ≤ length frame.rights.now
     pub fits : max left_height right_height ≤ room
-    pub meeting : (l : RTreeNode T E P S X) (others : List (RTreeNode T E P S X)) → frame.lefts.now ≡ l ∷ others
-        → AllByRecursion (λ r. meets (node_box left_box l) (node_box right_box r) ≡ true) (met_of frame)
 
   -- each frame has the room that those before it leave
   abbrev pub AreFrames : ℕ → List (Frame T E P S X U F Q R Y) → Type 0
@@ -74,29 +95,21 @@ module _ {T E P S X U F Q R Y : Type 0} (meets : E → F → Bool) (left_box : T
   AreFrames zero (frame ∷ frames) = ⊥
   AreFrames (suc n) (frame ∷ frames) = IsFrame n frame × AreFrames n frames
 
-  -- what nodes on the left give, the first with some on the right and the others with all, and how many pairs are
-  -- opened from there
-  abbrev pub pairs_with : List (RTreeNode T E P S X) → List (RTreeNode U F Q R Y) → List (RTreeNode U F Q R Y)
-      → List (T × U)
-  pairs_with [] some all = []
-  pairs_with (l ∷ ls) some all = all_pairs meets left_box right_box (l ∷ []) some
-      ++ all_pairs meets left_box right_box ls all
+  -- what pairs of nodes give, and how many pairs are opened from there
+  abbrev pub pairs_below : List (RTreeNode T E P S X × RTreeNode U F Q R Y) → List (T × U)
+  pairs_below ps = flat_map (λ p. pairs_at meets left_box right_box p.0 p.1) ps
 
-  abbrev pub opens_with : List (RTreeNode T E P S X) → List (RTreeNode U F Q R Y) → List (RTreeNode U F Q R Y) → ℕ
-  opens_with [] some all = 0
-  opens_with (l ∷ ls) some all = all_opens meets left_box right_box (l ∷ []) some
-      + all_opens meets left_box right_box ls all
+  abbrev pub opens_below : List (RTreeNode T E P S X × RTreeNode U F Q R Y) → ℕ
+  opens_below ps = sum_by (λ p. opens_at meets left_box right_box p.0 p.1) ps
 
   -- the same of frames, the last frame first
   abbrev pub pairs_from_frames : List (Frame T E P S X U F Q R Y) → List (T × U)
   pairs_from_frames [] = []
-  pairs_from_frames (frame ∷ frames) =
-      pairs_from_frames frames ++ pairs_with frame.lefts.now (met_of frame ++ frame.later.now) frame.rights.now
+  pairs_from_frames (frame ∷ frames) = pairs_from_frames frames ++ pairs_below (met_of frame ++ unasked_of frame)
 
   abbrev pub opens_from_frames : List (Frame T E P S X U F Q R Y) → ℕ
   opens_from_frames [] = 0
-  opens_from_frames (frame ∷ frames) =
-      opens_from_frames frames + opens_with frame.lefts.now (met_of frame ++ frame.later.now) frame.rights.now
+  opens_from_frames (frame ∷ frames) = opens_from_frames frames + opens_below (met_of frame ++ unasked_of frame)
 
   -- the pairs opened and those still to be opened are all that Meet counts
   pub record IsCounted (left : ParentNode T E P S X) (right : ParentNode U F Q R Y)
@@ -124,12 +137,6 @@ row_steps f a bs = 1 + total (map (λ b. 1 + f a b) bs)
 abbrev pub all_steps : {A B : Type 0} → (A → B → ℕ) → List A → List B → ℕ
 all_steps f as' bs = 1 + total (map (λ a. row_steps f a bs) as')
 
--- the same, where of the first row some are met and some are to be asked later
-abbrev pub steps_with : {A B : Type 0} → (A → B → ℕ) → List A → List B → List B → List B → ℕ
-steps_with f [] met later all = 1
-steps_with f (a ∷ rest) met later all =
-    1 + (total (map (f a) met) + row_steps f a later) + total (map (λ x. row_steps f x all) rest)
-
 -- how many steps a leaf beside a node takes
 unfoldable pub steps_beside : {U F Q R Y : Type 0} → RTreeNode U F Q R Y → ℕ
 steps_beside r = fold_tree (λ u. 1) (λ e below. 3 + total (map (λ n. 1 + n) below)) r
@@ -139,9 +146,14 @@ unfoldable pub steps_at : {T E P S X U F Q R Y : Type 0} → RTreeNode T E P S X
 steps_at {U = U} {F = F} {Q = Q} {R = R} {Y = Y} l r = fold_tree {A = RTreeNode U F Q R Y → ℕ} (λ t r. steps_beside r)
     (λ e below r. 1 + all_steps (λ b n. b n) below (opened_to r)) l r
 
--- how many steps frames take
+-- how many steps frames take: those of the pairs that are to be read, and of those that are to be asked one more for each
+-- pair and one for each row
+abbrev pub steps_of_pair : {T E P S X U F Q R Y : Type 0} → RTreeNode T E P S X × RTreeNode U F Q R Y → ℕ
+steps_of_pair p = steps_at p.0 p.1
+
 abbrev pub steps_of_frame : {T E P S X U F Q R Y : Type 0} → Frame T E P S X U F Q R Y → ℕ
-steps_of_frame frame = steps_with steps_at frame.lefts.now (met_of frame) frame.later.now frame.rights.now
+steps_of_frame frame = 1 + length frame.lefts.now + sum_by steps_of_pair (met_of frame)
+    + sum_by (λ p. 1 + steps_of_pair p) (unasked_of frame)
 
 abbrev pub steps_of_frames : {T E P S X U F Q R Y : Type 0} → List (Frame T E P S X U F Q R Y) → ℕ
 steps_of_frames [] = 0

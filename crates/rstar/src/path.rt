@@ -1,6 +1,6 @@
 //! Paths of walks: lists that lie in the value itself up to twelve items.
 
-ghost use Rattle.std.specs.Prelude.{◌≡◌, ◌<◌, ◌≤◌, [], ◌∷◌, ◌++◌, length, IsOk, IfOk, IfNone, IfSome, slice_set, slice_index_or};
+ghost use Rattle.std.specs.Prelude.{◌≡◌, ◌-◌, ◌<◌, ◌≤◌, true, false, [], ◌∷◌, ◌++◌, length, take, IsOk, IfOk, IfNone, IfSome, slice_set};
 ghost use Rattle.rstar.specs.Paths.{near_items};
 
 use std::alloc::{AllocError, Global};
@@ -28,31 +28,35 @@ struct Near<X> {
 }
 
 impl<X: Copy> Near<X> {
-    /// The item at a place.
-    fn get(&self, place: usize) -> X
-        requires { place < 12 }
-        ensures { result ≡ slice_index_or (near_items self.now) place result }
+    /// The last of so many items.
+    fn last(&self, count: usize) -> Option<X>
+        requires { count ≤ 12 }
+        ensures some { IfSome result (λ item. take count (near_items self.now)
+            ≡ take (count - 1) (near_items self.now) ++ item ∷ []) }
+        ensures none { IfNone result (count ≡ 0) }
     {
-        match place {
-            0 => self.p0,
-            1 => self.p1,
-            2 => self.p2,
-            3 => self.p3,
-            4 => self.p4,
-            5 => self.p5,
-            6 => self.p6,
-            7 => self.p7,
-            8 => self.p8,
-            9 => self.p9,
-            10 => self.p10,
-            _ => self.p11,
+        match count {
+            0 => None,
+            1 => Some(self.p0),
+            2 => Some(self.p1),
+            3 => Some(self.p2),
+            4 => Some(self.p3),
+            5 => Some(self.p4),
+            6 => Some(self.p5),
+            7 => Some(self.p6),
+            8 => Some(self.p7),
+            9 => Some(self.p8),
+            10 => Some(self.p9),
+            11 => Some(self.p10),
+            _ => Some(self.p11),
         }
     }
 
-    /// Writes the item at a place.
-    fn set(&mut self, place: usize, item: X)
-        requires { place < 12 }
-        ensures { near_items self.new ≡ slice_set (near_items self.old) place item }
+    /// Writes the item at a place, and whether there is such a place.
+    fn set(&mut self, place: usize, item: X) -> bool
+        ensures set { result ≡ true
+            → (place < 12) × (near_items self.new ≡ slice_set (near_items self.old) place item) }
+        ensures none { result ≡ false → (12 ≤ place) × (self.new ≡ self.old) }
     {
         match place {
             0 => self.p0 = item,
@@ -66,8 +70,10 @@ impl<X: Copy> Near<X> {
             8 => self.p8 = item,
             9 => self.p9 = item,
             10 => self.p10 = item,
-            _ => self.p11 = item,
+            11 => self.p11 = item,
+            _ => return false,
         }
+        true
     }
 }
 
@@ -137,8 +143,7 @@ impl<X: Copy> Path<X> {
         ensures items { self.new.items ≡ self.old.items ++ item ∷ [] }
         ensures capacity { self.new.capacity ≡ self.old.capacity }
     {
-        if self.len < NEAR {
-            self.near.set(self.len, item);
+        if self.near.set(self.len, item) {
             self.len += 1;
         } else {
             self.far.push_reserved(item);
@@ -156,10 +161,8 @@ impl<X: Copy> Path<X> {
                 return Some(item);
             }
         }
-        if self.len == 0 {
-            return None;
-        }
+        let item = self.near.last(self.len)?;
         self.len -= 1;
-        Some(self.near.get(self.len))
+        Some(item)
     }
 }

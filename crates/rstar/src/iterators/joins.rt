@@ -1,12 +1,12 @@
 //! Joins: the pairs of elements of two trees whose envelopes intersect, by a walk through both trees together.
 
-ghost use Rattle.std.specs.Prelude.{◌≡◌, ◌+◌, ◌*◌, ◌^◌, ◌<◌, ◌≤◌, [], ◌∷◌, List, max, false, refl, IsOk, IfOk, IfSome, IfNone, filter, flat_map, length, take, if◌then◌else◌};
+ghost use Rattle.std.specs.Prelude.{◌≡◌, ◌+◌, ◌-◌, ◌*◌, ◌^◌, ◌<◌, ◌≤◌, [], max, false, refl, IsOk, IfOk, IfSome, IfNone, filter, map, flat_map, length, take, if◌then◌else◌};
 ghost use Rattle.std.specs.Iterator.{item_count};
 ghost use Rattle.rstar.specs.declared.node.RTreeNode.{Leaf};
 ghost use Rattle.rstar.specs.Heights.{levels_below};
 ghost use Rattle.rstar.specs.Nodes.{children_of, node_box, IsWhole};
-ghost use Rattle.rstar.specs.Meets.{opened_to, both_leaves, pairs_from_roots};
-ghost use Rattle.rstar.specs.JoinWalks.{marked, IsFirstMarked, IsSingle, HasItsPaths, IsPairStep};
+ghost use Rattle.rstar.specs.Meets.{product, opened_to, both_leaves, pairs_from_roots};
+ghost use Rattle.rstar.specs.JoinWalks.{marked, with_marks, rows_beside, IsFirstPair, IsSingle, HasItsPaths, IsPairStep};
 ghost use Rattle.rstar.specs.Joins.{SeenLaws, meets_by, pairs_opened, pairs_to_come, IsJoinMade, IsJoining, GivesPair};
 
 use crate::node::{ParentNode, RTreeNode};
@@ -42,8 +42,11 @@ impl<T: RTreeObject> InEnvelope<T::Envelope> for T {
     } };
 }
 
-/// How many nodes are asked at once, with a mark for each.
+/// How many pairs are asked at once, with a mark for each.
 const MARKS: usize = 64;
+
+/// How many nodes a list has at most of which some rows are asked at once.
+const NARROW: usize = 8;
 
 /// The pairs of elements of two trees whose envelopes intersect, each pair of places once, in some order, and then
 /// `None`.
@@ -55,8 +58,9 @@ const MARKS: usize = 64;
 pub struct IntersectionIterator<'a, T: RTreeObject, U: InEnvelope<T::Envelope> = T> {
     left: &'a ParentNode<T>,
     right: &'a ParentNode<U>,
-    // The nodes that are being read: for the first on the left those on the right that were asked and are marked, and
-    // those to be asked later, and for the others on the left all on the right. The path has what was left of others.
+    // The nodes that are being read: for the first on the left, eight or one, those on the right that were asked, with
+    // marks for the pairs that meet, and those to be asked later, and for the others on the left all on the right. The
+    // path has what was left of others.
     lefts: &'a [RTreeNode<T>],
     asked: &'a [RTreeNode<U>],
     marks: u64,
@@ -127,13 +131,18 @@ fn with_mark(marks: u64, mark: bool) -> u64
     if mark { 2 * marks + 1 } else { 2 * marks }
 }
 
-/// Marks for those of at most 64 nodes that an envelope meets.
-fn marks_of<E: Envelope, U: InEnvelope<E>>(envelope: &E, nodes: &[RTreeNode<U>]) -> u64
-    requires { length nodes.now ≤ 64 }
-    ensures { marked result nodes.now
-        ≡ filter (λ n. meets_by E.boxes U.seen envelope.now (node_box U.object.box_of n)) nodes.now }
+/// Marks with one for each node in front of them, whether an envelope meets it.
+fn row_marks<E: Envelope, U: InEnvelope<E>>(
+    envelope: &E,
+    nodes: &[RTreeNode<U>],
+    others: u64,
+) -> u64
+    requires few { length nodes.now ≤ 64 }
+    requires room { others < 2 ^ (64 - length nodes.now) }
+    ensures { result ≡ with_marks
+        (map (λ n. meets_by E.boxes U.seen envelope.now (node_box U.object.box_of n)) nodes.now) others }
 {
-    let mut marks = 0;
+    let mut marks = others;
     let mut rest = nodes;
     while let Some((node, before)) = rest.split_last() {
         marks = with_mark(marks, meets_node(envelope, node));
@@ -142,22 +151,54 @@ fn marks_of<E: Envelope, U: InEnvelope<E>>(envelope: &E, nodes: &[RTreeNode<U>])
     marks
 }
 
-/// The nodes from the first marked one on, and marks for the others.
-fn first_marked<T: RTreeObject>(
-    nodes: &[RTreeNode<T>],
+/// Marks for those of at most 64 pairs of nodes that meet.
+fn marks_of<T: RTreeObject, U: InEnvelope<T::Envelope>>(
+    lefts: &[RTreeNode<T>],
+    rights: &[RTreeNode<U>],
+) -> u64
+    requires { length lefts.now * length rights.now ≤ 64 }
+    ensures { marked result (product lefts.now rights.now)
+        ≡ filter (λ p. meets_by T.Envelope.boxes U.seen (node_box T.object.box_of p.0) (node_box U.object.box_of p.1))
+        (product lefts.now rights.now) }
+{
+    let mut marks = 0;
+    let mut rest = lefts;
+    while let Some((left, before)) = rest.split_last() {
+        marks = row_marks(&left.envelope(), rights, marks);
+        rest = before;
+    }
+    marks
+}
+
+/// The nodes from the two of the first marked pair on, and marks for the others.
+fn first_marked<'a, T: RTreeObject, U: RTreeObject>(
+    lefts: &'a [RTreeNode<T>],
+    rights: &'a [RTreeNode<U>],
     marks: u64,
-) -> Option<(&[RTreeNode<T>], u64)>
-    ensures some { IfSome result (λ r. IsFirstMarked nodes.now marks r.0.now r.1) }
-    ensures none { IfNone result (marked marks nodes.now ≡ []) }
+) -> Option<(&'a [RTreeNode<T>], &'a [RTreeNode<U>], u64)>
+    ensures some { IfSome result (λ r. IsFirstPair lefts.now rights.now marks r.0.now r.1.now r.2) }
+    ensures none { IfNone result (marked marks (product lefts.now rights.now) ≡ []) }
 {
     if marks == 0 {
         return None;
     }
-    let place = marks.trailing_zeros() as usize;
-    if nodes.len() <= place {
+    if rights.is_empty() {
         return None;
     }
-    Some((&nodes[place..], marks & (marks - 1)))
+    let place = marks.trailing_zeros() as usize;
+    let row = place / rights.len();
+    if lefts.len() <= row {
+        return None;
+    }
+    let column = place % rights.len();
+    Some((&lefts[row..], &rights[column..], marks & (marks - 1)))
+}
+
+/// How many nodes on the left are asked at once.
+fn rows_beside<U: RTreeObject>(rights: &[RTreeNode<U>]) -> usize
+    ensures { result ≡ rows_beside rights.now }
+{
+    if rights.len() <= NARROW { NARROW } else { 1 }
 }
 
 /// The elements of two leaves.
@@ -245,45 +286,51 @@ impl<'a, T: RTreeObject, U: InEnvelope<T::Envelope>> IntersectionIterator<'a, T,
         self.opened
     }
 
-    /// Reads a node on the right that the first one on the left meets, or asks the next ones; or goes on with the next
-    /// one on the left; or goes back to what was left last.
+    /// Reads a pair that meets, or asks the next ones; or goes on with the next nodes on the left; or goes back to what
+    /// was left last.
     fn step(&mut self) -> PairStep<'a, T, U>
         requires { HasItsPaths (meets_by T.Envelope.boxes U.seen) T.object.box_of U.object.box_of self.old }
         ensures { IsPairStep (meets_by T.Envelope.boxes U.seen) T.object.box_of U.object.box_of
             self.old result self.new }
     {
-        let Some((left, others)) = self.lefts.split_first() else {
+        if self.lefts.is_empty() {
             return self.go_back();
-        };
-        if let Some((met, marks)) = first_marked(self.asked, self.marks) {
-            return self.read(left, met, marks);
+        }
+        let rows = self.lefts.len().min(rows_beside(self.rights));
+        let (block, others) = self.lefts.split_at(rows);
+        if let Some((left, right, marks)) = first_marked(block, self.asked, self.marks) {
+            return self.read(left, right, marks);
         }
         if self.later.is_empty() {
             self.lefts = others;
+            self.marks = 0;
             self.later = self.rights;
             return PairStep::Passed;
         }
         let (asked, later) = self.later.split_at(self.later.len().min(MARKS));
-        self.marks = marks_of(&left.envelope(), asked);
+        self.marks = marks_of(block, asked);
         self.asked = asked;
         self.later = later;
         PairStep::Passed
     }
 
-    /// Gives or opens the pair of the first node on the left and the first marked one on the right.
+    /// Gives or opens a pair that meets: the first nodes of these.
     fn read(
         &mut self,
-        left: &'a RTreeNode<T>,
-        met: &'a [RTreeNode<U>],
+        lefts: &'a [RTreeNode<T>],
+        rights: &'a [RTreeNode<U>],
         marks: u64,
     ) -> PairStep<'a, T, U>
         requires paths { HasItsPaths (meets_by T.Envelope.boxes U.seen) T.object.box_of U.object.box_of self.old }
-        requires first { (others : List _) × (self.old.lefts.now ≡ left.now ∷ others) }
-        requires met { IsFirstMarked self.old.asked.now self.old.marks met.now marks }
+        requires met { IsFirstPair (take (rows_beside self.old.rights.now) self.old.lefts.now) self.old.asked.now
+            self.old.marks lefts.now rights.now marks }
         ensures { IsPairStep (meets_by T.Envelope.boxes U.seen) T.object.box_of U.object.box_of
             self.old result self.new }
     {
-        let Some((right, _behind)) = met.split_first() else {
+        let Some((left, _under)) = lefts.split_first() else {
+            return PairStep::Ended;
+        };
+        let Some((right, _behind)) = rights.split_first() else {
             return PairStep::Ended;
         };
         self.marks = marks;
@@ -298,8 +345,8 @@ impl<'a, T: RTreeObject, U: InEnvelope<T::Envelope>> IntersectionIterator<'a, T,
             later: self.later,
             rights: self.rights,
         });
-        self.lefts = opened_nodes(first_alone(self.lefts));
-        self.rights = opened_nodes(first_alone(met));
+        self.lefts = opened_nodes(first_alone(lefts));
+        self.rights = opened_nodes(first_alone(rights));
         self.marks = 0;
         self.later = self.rights;
         PairStep::Passed

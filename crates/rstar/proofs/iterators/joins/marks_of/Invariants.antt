@@ -1,12 +1,13 @@
 use Rattle.std.proofs.Common.{length}
 use Rattle.rstar.specs.Nodes.{node_box}
 use Rattle.rstar.specs.Joins.{meets_by}
-use Rattle.rstar.proofs.Marked.{AreMarked}
+use Rattle.rstar.proofs.Marked.{AreRows}
 use Rattle.rstar.proofs.iterators.joins.marks_of.Given as goal
 
--- those behind the rest are marked that the envelope meets
-abbrev pub invariant-loop-node : goal.invariant-loop-node
-invariant-loop-node g l = AreMarked (λ n. meets_by g.E.Envelope.boxes g.U.InEnvelope.seen l.envelope (node_box g.U.RTreeObject.object.box_of n)) l.nodes l.rest l.marks
+-- there are marks for the rows behind the rest
+abbrev pub invariant-loop-left : goal.invariant-loop-left
+invariant-loop-left g l =
+    AreRows (λ p. meets_by g.T.Envelope.Envelope.boxes g.U.InEnvelope.seen (node_box g.T.RTreeObject.object.box_of p.0) (node_box g.U.RTreeObject.object.box_of p.1)) l.lefts l.rest l.rights l.marks
 
-abbrev pub decreases-loop-node : goal.decreases-loop-node
-decreases-loop-node g l = length l.rest
+abbrev pub decreases-loop-left : goal.decreases-loop-left
+decreases-loop-left g l = length l.rest

@@ -7,7 +7,10 @@ use Rattle.rstar.proofs.PairWalks.{read-meets, move-read, move-open, open-room, 
 use Rattle.rstar.proofs.iterators.joins.IntersectionIterator.read.Goals as goal
 
 pub returns-in_default : goal.returns-in_default
-returns-in_default g c = let long = ap length c.requires.met.begins in absurd (omega (arith, long, c.in_default.ensures.cases))
+returns-in_default g c = let long = ap length c.requires.met.left_begins in absurd (omega (arith, long, c.in_default.ensures.cases))
+
+pub returns-in_default-split_first : goal.returns-in_default-split_first
+returns-in_default-split_first g c = let long = ap length c.requires.met.right_begins in absurd (omega (arith, long, c.in_default-split_first.ensures.cases))
 
 pub returns-in-Some-two_leaves : goal.returns-in-Some-two_leaves
 returns-in-Some-two_leaves g c =
@@ -15,16 +18,18 @@ returns-in-Some-two_leaves g c =
     let left_box = g.T.RTreeObject.object.box_of in
     let right_box = g.U.RTreeObject.object.box_of in
     let self = c.args.self.now in
-    let above = self.path.items in
-    let left = c.args.left.now in
     let met = c.requires.met in
-    let right = met.first in
-    let same : right ∷ met.behind ≡ c.in-Some.right.now ∷ c.in-Some._behind.now = sym met.begins ∙ c.in-Some.ensures.cases.0 in
-    let head : right ≡ c.in-Some.right.now = cc in
+    let left = met.left in
+    let right = met.right in
+    let same : left ∷ met.left_behind ≡ c.in-Some.left.now ∷ c.in-Some._under.now = sym met.left_begins ∙ c.in-Some.ensures.cases.0 in
+    let head : left ≡ c.in-Some.left.now = cc in
+    let same' : right ∷ met.right_behind ≡ c.in-Some-split_first.right.now ∷ c.in-Some-split_first._behind.now = sym met.right_begins ∙ c.in-Some-split_first.ensures.cases.0 in
+    let head' : right ≡ c.in-Some-split_first.right.now = cc in
+    let above = self.path.items in
     let frame = last-frame meets left_box right_box self.path.capacity above (in_hand self) c.requires.paths.frames in
-    let meeting = read-meets meets left_box right_box self.lefts self.asked self.later self.rights self.marks c.args.marks left c.requires.first.0 right c.requires.first.1 met.all frame.1 in
-    let two = found meets left_box right_box left right c.in-Some-two_leaves.t.now c.in-Some-two_leaves.u.now c.in-Some-two_leaves.ensures.some.0 (head ∙ c.in-Some-two_leaves.ensures.some.1) meeting in
-    let move = move-read meets left_box right_box self.lefts self.asked self.later self.rights self.marks c.args.marks left c.requires.first.0 right c.requires.first.1 met.all _ two.0 two.1 in
+    let meeting = read-meets meets left_box right_box self.lefts self.asked self.later self.rights self.marks c.args.marks left right met.all frame.1 in
+    let two = found meets left_box right_box left right c.in-Some-two_leaves.t.now c.in-Some-two_leaves.u.now (head ∙ c.in-Some-two_leaves.ensures.some.0) (head' ∙ c.in-Some-two_leaves.ensures.some.1) meeting in
+    let move = move-read meets left_box right_box self.lefts self.asked self.later self.rights self.marks c.args.marks left right met.all _ two.0 two.1 in
     record {
       joining = record {
         frames = move-frames meets left_box right_box move above (frames_of self) _ refl refl _ _ refl c.requires.paths.frames;
@@ -43,14 +48,16 @@ push_reserved-requires g c =
     let left_box = g.T.RTreeObject.object.box_of in
     let right_box = g.U.RTreeObject.object.box_of in
     let self = c.args.self.now in
-    let left = c.args.left.now in
     let met = c.requires.met in
-    let right = met.first in
-    let same : right ∷ met.behind ≡ c.in-Some.right.now ∷ c.in-Some._behind.now = sym met.begins ∙ c.in-Some.ensures.cases.0 in
-    let head : right ≡ c.in-Some.right.now = cc in
-    let inner = ap (both_leaves left) head ∙ c.in_default-two_leaves.ensures.none in
+    let left = met.left in
+    let right = met.right in
+    let same : left ∷ met.left_behind ≡ c.in-Some.left.now ∷ c.in-Some._under.now = sym met.left_begins ∙ c.in-Some.ensures.cases.0 in
+    let head : left ≡ c.in-Some.left.now = cc in
+    let same' : right ∷ met.right_behind ≡ c.in-Some-split_first.right.now ∷ c.in-Some-split_first._behind.now = sym met.right_begins ∙ c.in-Some-split_first.ensures.cases.0 in
+    let head' : right ≡ c.in-Some-split_first.right.now = cc in
+    let inner = (λ i. both_leaves (head i) (head' i)) ∙ c.in_default-two_leaves.ensures.none in
     path-room meets left_box right_box self.path.capacity self.path.items (in_hand self) c.requires.paths.frames
-    (λ k at. open-room meets left_box right_box self.lefts self.asked self.later self.rights self.marks c.args.marks left c.requires.first.0 right c.requires.first.1 met.all at inner)
+    (λ k at. open-room meets left_box right_box self.lefts self.asked self.later self.rights self.marks c.args.marks left right met.all at inner)
 
 pub returns : goal.returns
 returns g c =
@@ -58,18 +65,20 @@ returns g c =
     let left_box = g.T.RTreeObject.object.box_of in
     let right_box = g.U.RTreeObject.object.box_of in
     let self = c.args.self.now in
-    let above = self.path.items in
-    let left = c.args.left.now in
     let met = c.requires.met in
-    let right = met.first in
-    let same : right ∷ met.behind ≡ c.in-Some.right.now ∷ c.in-Some._behind.now = sym met.begins ∙ c.in-Some.ensures.cases.0 in
-    let head : right ≡ c.in-Some.right.now = cc in
-    let inner = ap (both_leaves left) head ∙ c.in_default-two_leaves.ensures.none in
+    let left = met.left in
+    let right = met.right in
+    let same : left ∷ met.left_behind ≡ c.in-Some.left.now ∷ c.in-Some._under.now = sym met.left_begins ∙ c.in-Some.ensures.cases.0 in
+    let head : left ≡ c.in-Some.left.now = cc in
+    let same' : right ∷ met.right_behind ≡ c.in-Some-split_first.right.now ∷ c.in-Some-split_first._behind.now = sym met.right_begins ∙ c.in-Some-split_first.ensures.cases.0 in
+    let head' : right ≡ c.in-Some-split_first.right.now = cc in
+    let above = self.path.items in
+    let inner = (λ i. both_leaves (head i) (head' i)) ∙ c.in_default-two_leaves.ensures.none in
     let frame = last-frame meets left_box right_box self.path.capacity above (in_hand self) c.requires.paths.frames in
-    let meeting = read-meets meets left_box right_box self.lefts self.asked self.later self.rights self.marks c.args.marks left c.requires.first.0 right c.requires.first.1 met.all frame.1 in
-    let down = c.opened_nodes-self.ensures ∙ ap (flat_map opened_to) (c.first_alone.ensures ∙ ap (take 1) c.requires.first.1) ∙ append-nil (opened_to left) in
-    let down' = c.opened_nodes-self-2.ensures ∙ ap (flat_map opened_to) (c.first_alone-2.ensures ∙ ap (take 1) met.begins) ∙ append-nil (opened_to right) in
-    let move = move-open meets left_box right_box self.lefts self.asked self.later self.rights self.marks c.args.marks left c.requires.first.0 right c.requires.first.1 met.all c.opened_nodes-self.result c.opened_nodes-self-2.result inner down down' meeting in
+    let meeting = read-meets meets left_box right_box self.lefts self.asked self.later self.rights self.marks c.args.marks left right met.all frame.1 in
+    let down = c.opened_nodes-self.ensures ∙ ap (flat_map opened_to) (c.first_alone.ensures ∙ ap (take 1) met.left_begins) ∙ append-nil (opened_to left) in
+    let down' = c.opened_nodes-self-2.ensures ∙ ap (flat_map opened_to) (c.first_alone-2.ensures ∙ ap (take 1) met.right_begins) ∙ append-nil (opened_to right) in
+    let move = move-open meets left_box right_box self.lefts self.asked self.later self.rights self.marks c.args.marks left right met.all c.opened_nodes-self.result c.opened_nodes-self-2.result inner down down' meeting in
     let is-new = ap (λ f. f ++ (frame_of c.opened_nodes-self.result self.asked 0 c.opened_nodes-self-2.result c.opened_nodes-self-2.result) ∷ []) c.push_reserved.ensures.items ∙ append_assoc above ((frame_of self.lefts self.asked c.args.marks self.later self.rights) ∷ []) ((frame_of c.opened_nodes-self.result self.asked 0 c.opened_nodes-self-2.result c.opened_nodes-self-2.result) ∷ []) in
     record {
       joining = record {

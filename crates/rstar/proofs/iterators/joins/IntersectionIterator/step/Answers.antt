@@ -1,21 +1,32 @@
-use Rattle.std.proofs.Common.{◌≡◌, ◌<◌, refl, arith, subst, length, filter}
+use Rattle.std.proofs.Common.{◌≡◌, ◌<◌, ◌∙◌, ◌*◌, ◌≤◌, ap, sym, refl, arith, subst, length, min, filter}
 use Rattle.std.proofs.lemmas.Bool.Decides.{nat_tests}
-use Rattle.rstar.specs.JoinWalks.{marked, frames_of}
+use Rattle.rstar.specs.Meets.{product}
+use Rattle.rstar.specs.JoinWalks.{marked, in_hand, frames_of, rows_beside, IsFirstPair}
 use Rattle.rstar.specs.Joins.{meets_by}
-use Rattle.rstar.specs.Nodes.{node_box}
 use Rattle.rstar.proofs.Walks.{no-items}
-use Rattle.rstar.proofs.PairWalks.{move-row, move-ask, move-pairs, move-nearer, move-frames, move-count}
+use Rattle.rstar.proofs.PairWalks.{parts-are, block-fits, block-some, last-frame, meets_pair, move-row, move-ask, move-pairs, move-nearer, move-frames, move-count}
 use Rattle.rstar.proofs.iterators.joins.IntersectionIterator.step.Goals as goal
 
-pub returns-then-is_empty : goal.returns-then-is_empty
-returns-then-is_empty g c =
+pub read-requires-clause-met : goal.read-requires-clause-met
+read-requires-clause-met g c =
+    let self = c.args.self.now in
+    let k = rows_beside self.rights.now in
+    let parts = parts-are k self.lefts.now c.split_at.result.0.now c.split_at.result.1.now c.split_at.ensures.by_index.0 (c.split_at.ensures.front_len ∙ c.min-rows.ensures ∙ ap (min (length self.lefts.now)) c.rows_beside.ensures) in
+    subst (λ b. IsFirstPair b self.asked.now self.marks c.in-Some.left.now c.in-Some.right.now c.in-Some.marks) parts.0 c.in-Some.ensures.some
+
+pub returns-then-is_empty-2 : goal.returns-then-is_empty-2
+returns-then-is_empty-2 g c =
     let meets = meets_by g.T.Envelope.Envelope.boxes g.U.InEnvelope.seen in
     let left_box = g.T.RTreeObject.object.box_of in
     let right_box = g.U.RTreeObject.object.box_of in
     let self = c.args.self.now in
     let above = self.path.items in
-    let over = no-items self.later.now _ _ c.is_empty.ensures c.if-is_empty.true refl in
-    let move = move-row meets left_box right_box self.lefts c.in-Some.others self.asked self.later self.rights self.marks c.in-Some.left.now c.in-Some.ensures.cases.0 c.in_default-first_marked.ensures.none over in
+    let k = rows_beside self.rights.now in
+    let parts = parts-are k self.lefts.now c.split_at.result.0.now c.split_at.result.1.now c.split_at.ensures.by_index.0 (c.split_at.ensures.front_len ∙ c.min-rows.ensures ∙ ap (min (length self.lefts.now)) c.rows_beside.ensures) in
+    let none = ap (λ b. marked self.marks (product b self.asked.now)) (sym parts.0) ∙ c.in_default.ensures.none in
+    let some : 0 < length self.lefts.now = grind (arith, nat_tests, c.is_empty.ensures, c.if-is_empty.false) in
+    let over = no-items self.later.now _ _ c.is_empty-2.ensures c.if-is_empty-2.true refl in
+    let move = move-row meets left_box right_box self.lefts c.split_at.result.1 self.asked self.later self.rights self.marks parts.1 some none over in
     record {
       joining = record {
         frames = move-frames meets left_box right_box move above (frames_of self) _ refl refl _ _ refl c.requires.frames;
@@ -28,6 +39,18 @@ returns-then-is_empty g c =
       over = tt;
     }
 
+pub marks_of-self-requires : goal.marks_of-self-requires
+marks_of-self-requires g c =
+    let meets = meets_by g.T.Envelope.Envelope.boxes g.U.InEnvelope.seen in
+    let left_box = g.T.RTreeObject.object.box_of in
+    let right_box = g.U.RTreeObject.object.box_of in
+    let self = c.args.self.now in
+    let k = rows_beside self.rights.now in
+    let parts = parts-are k self.lefts.now c.split_at.result.0.now c.split_at.result.1.now c.split_at.ensures.by_index.0 (c.split_at.ensures.front_len ∙ c.min-rows.ensures ∙ ap (min (length self.lefts.now)) c.rows_beside.ensures) in
+    let frame = last-frame meets left_box right_box self.path.capacity self.path.items (in_hand self) c.requires.frames in
+    let fits = block-fits self.rights.now self.later.now c.split_at-2.result.0.now c.split_at-2.result.1.now self.lefts.now frame.1.no_more c.split_at-2.ensures.by_index.0 (c.split_at-2.ensures.front_len ∙ c.min.ensures) in
+    subst (λ b. length b * length c.split_at-2.result.0.now ≤ 64) (sym parts.0) fits.0
+
 pub returns : goal.returns
 returns g c =
     let meets = meets_by g.T.Envelope.Envelope.boxes g.U.InEnvelope.seen in
@@ -35,10 +58,17 @@ returns g c =
     let right_box = g.U.RTreeObject.object.box_of in
     let self = c.args.self.now in
     let above = self.path.items in
-    let chunk = c.split_at.result.0 in
-    let some : 0 < length chunk.now = grind (arith, nat_tests, c.is_empty.ensures, c.if-is_empty.false, c.min.ensures, c.split_at.ensures.front_len) in
-    let made = subst (λ e. marked c.marks_of-self.result chunk.now ≡ filter (λ n. meets e (node_box right_box n)) chunk.now) c.envelope.ensures.value c.marks_of-self.ensures in
-    let move = move-ask meets left_box right_box self.lefts self.asked self.later chunk c.split_at.result.1 self.rights self.marks c.marks_of-self.result c.in-Some.left.now c.in-Some.others.now c.in-Some.ensures.cases.0 c.in_default-first_marked.ensures.none c.split_at.ensures.by_index.0 some made in
+    let k = rows_beside self.rights.now in
+    let chunk = c.split_at-2.result.0 in
+    let parts = parts-are k self.lefts.now c.split_at.result.0.now c.split_at.result.1.now c.split_at.ensures.by_index.0 (c.split_at.ensures.front_len ∙ c.min-rows.ensures ∙ ap (min (length self.lefts.now)) c.rows_beside.ensures) in
+    let none = ap (λ b. marked self.marks (product b self.asked.now)) (sym parts.0) ∙ c.in_default.ensures.none in
+    let frame = last-frame meets left_box right_box self.path.capacity above (in_hand self) c.requires.frames in
+    let fits = block-fits self.rights.now self.later.now chunk.now c.split_at-2.result.1.now self.lefts.now frame.1.no_more c.split_at-2.ensures.by_index.0 (c.split_at-2.ensures.front_len ∙ c.min.ensures) in
+    let lefts : 0 < length self.lefts.now = grind (arith, nat_tests, c.is_empty.ensures, c.if-is_empty.false) in
+    let some : 0 < length chunk.now = grind (arith, nat_tests, c.is_empty-2.ensures, c.if-is_empty-2.false, c.min.ensures, c.split_at-2.ensures.front_len) in
+    let made = subst (λ b. marked c.marks_of-self.result (product b chunk.now) ≡ filter (meets_pair meets left_box right_box) (product b chunk.now)) parts.0 c.marks_of-self.ensures in
+    let move = move-ask meets left_box right_box self.lefts self.asked self.later chunk c.split_at-2.result.1 self.rights self.marks c.marks_of-self.result none c.split_at-2.ensures.by_index.0 some
+    (block-some self.rights.now self.lefts.now lefts) fits.1 made in
     record {
       joining = record {
         frames = move-frames meets left_box right_box move above (frames_of self) _ refl refl _ _ refl c.requires.frames;
