@@ -15,22 +15,23 @@ use Rattle.rstar.proofs.Removed.{one_less}
 
 module _ {T F D E P S X : Type 0} (v : Boxes E) (o : Objects T E) (max : ℕ) (accepts : F → E → Bool) (selects : F → T → Bool) where
   pub takes_next : (old new : DrainIterator T F D (Vec ℕ Global) E P S X) (r : Option T) → IsDraining v o max accepts selects old → drain_question new ≡ drain_question old
-      → Removes v o max (accepts (drain_question old)) (selects (drain_question old)) (drained old) old.path.items r (drained new) new.path.items
+      → Removes v o max (accepts (drain_question old)) (selects (drain_question old)) (drained old) old.path.items old.rest r (drained new) new.path.items new.rest
       → TakesNext v o max accepts selects old r new
   unfolding IsDraining
   takes_next old new r is question removes = record {
     taken = removes.taken;
     selected = removes.selected;
     ended = if_none r (λ (missed : IsLawful v o (accepts (drain_question old)) (selects (drain_question old)) → IsPast (selects (drain_question old)) old.path.items (children_of (root_of (drained old))) → NoneSelected (selects (drain_question old)) (elements_left old)).
-        λ lawful. missed lawful (is.1 lawful)) removes.missed;
+        λ lawful. missed lawful (is.2 lawful)) removes.missed;
     kept = removes.kept;
-    whole = removes.whole;
+    whole = removes.whole is.1;
     question = question;
     draining = (
-      removes.whole,
+      removes.whole is.1,
+      removes.rests is.1,
       λ lawful.
           let lawful_old : IsLawful v o (accepts (drain_question old)) (selects (drain_question old)) = subst (λ (f : F). IsLawful v o (accepts f) (selects f)) question lawful in
-          subst (λ (f : F). IsPast (selects f) new.path.items (children_of (root_of (drained new)))) (sym question) (removes.past lawful_old (is.1 lawful_old)),
+          subst (λ (f : F). IsPast (selects f) new.path.items (children_of (root_of (drained new)))) (sym question) (removes.past lawful_old (is.2 lawful_old)),
     );
   }
 

@@ -8,22 +8,46 @@ use Rattle.std.proofs.Common.{◌≡◌, ℕ, zero, suc, ◌+◌, ◌<◌, ◌�
 use Rattle.std.specs.List.{AllByRecursion, remove}
 use Rattle.std.proofs.lemmas.List.{append-nil, take_all, set_split, set-get_or, take_at, drop_at, length-take-le}
 use Rattle.std.proofs.lemmas.List.Concat.{flat_map-append}
+use Rattle.rstar_base.specs.Elements.{Objects}
+use Rattle.rstar_base.specs.Envelopes.{Boxes}
+use Rattle.rstar_base.specs.Hulls.{hull}
+use Rattle.rstar.specs.declared.algorithm.removal.Rest.{Rest}
 use Rattle.rstar.specs.declared.node.RTreeNode.{RTreeNode}
-use Rattle.rstar.specs.Nodes.{elements, all_elements}
+use Rattle.rstar.specs.Nodes.{node_box, elements, all_elements}
 use Rattle.rstar.specs.Removals.{IsWithout, NoneSelected}
-use Rattle.rstar.specs.Taking.{IsPast, first_children, with_first, first_number, lower_numbers}
+use Rattle.rstar.specs.Taking.{IsPast, IsRest, IsRestAt, first_children, with_first, first_number, lower_numbers}
 
 module _ {A : Type 0} where
+  abbrev first_of : A → List A → A
+  first_of x [] = x
+  first_of x (y ∷ l) = y
+
+  abbrev rest_of : List A → List A
+  rest_of [] = []
+  rest_of (y ∷ l) = l
+
   pub split_at : (l : List A) (i : ℕ) (a : A) → i < length l → a ≡ get_or l i a → l ≡ take i l ++ a ∷ drop (suc i) l
   split_at l i a within read = sym (set-get_or l i a) ∙ ap (set l i) (sym read) ∙ set_split l i a within
 
   pub len_front : (l : List A) (i : ℕ) → i < length l → length (take i l) ≡ i
   len_front l i within = length-take-le i l (omega arith)
 
+  pub take_removed : (l : List A) (i : ℕ) → i < length l → take i (remove l i) ≡ take i l
+  take_removed l i within = take_at (take i l) (drop (suc i) l) i (len_front l i within)
+
+  -- the same front, and so a shorter one
+  pub take_less : (c k : ℕ) (l l' : List A) → c ≤ k → take k l ≡ take k l' → take c l ≡ take c l'
+  take_less zero k l l' less same = refl
+  take_less (suc c) zero l l' less same = absurd (omega arith)
+  take_less (suc c) (suc k) [] [] less same = refl
+  take_less (suc c) (suc k) [] (y ∷ l') less same = cc
+  take_less (suc c) (suc k) (x ∷ l) [] less same = cc
+  take_less (suc c) (suc k) (x ∷ l) (y ∷ l') less same = ap (λ z. z ∷ take c l) (ap (first_of x) same) ∙ ap (λ z. y ∷ z) (take_less c k l l' (omega arith) (ap rest_of same))
+
   pub drop_removed : (l : List A) (i : ℕ) → i < length l → drop i (remove l i) ≡ drop (suc i) l
   drop_removed l i within = drop_at (take i l) (drop (suc i) l) i (len_front l i within)
 
-  take_set : (l : List A) (i : ℕ) (a : A) → i < length l → take i (set l i a) ≡ take i l
+  pub take_set : (l : List A) (i : ℕ) (a : A) → i < length l → take i (set l i a) ≡ take i l
   take_set l i a within = ap (take i) (set_split l i a within) ∙ take_at (take i l) (a ∷ drop (suc i) l) i (len_front l i within)
 
   pub drop_set : (l : List A) (i : ℕ) (a : A) → i < length l → drop i (set l i a) ≡ a ∷ drop (suc i) l
@@ -122,6 +146,59 @@ module _ {T E P S X : Type 0} where
       subst (λ (l : List (RTreeNode T E P S X)). NoneSelected selects (all_elements l)) (sym (drop_all ns)) tt,
       past_zeros n (first_children (drop (length ns - 1) ns)),
     )
+
+-- envelopes that are kept at a place: of no nodes
+rest_of_none : {T E : Type 0} (P S X : Type 0) (v : Boxes E) (o : Objects T E) (rest : Option (Rest E)) (i : ℕ) → IsRest {P = P} {S = S} {X = X} v o rest i []
+rest_of_none P S X v o None i = tt
+rest_of_none P S X v o (Some r) i = λ within. absurd (omega (arith, within))
+
+pub rest_nothing : {T E : Type 0} (P S X : Type 0) (v : Boxes E) (o : Objects T E) (rest : Option (Rest E)) (path : List ℕ) → IsRestAt {P = P} {S = S} {X = X} v o rest path []
+rest_nothing P S X v o rest [] = tt
+rest_nothing {T} {E} P S X v o rest (i ∷ path) = (
+  λ last. rest_of_none P S X v o rest i,
+  subst (λ (ns : List (RTreeNode T E P S X)). IsRestAt v o rest path (first_children ns)) (sym (drop_none (0 - suc i))) (rest_nothing P S X v o rest path),
+)
+
+module _ {T E P S X : Type 0} (v : Boxes E) (o : Objects T E) where
+  -- none is
+  pub rest_none : (path : List ℕ) (ns : List (RTreeNode T E P S X)) → IsRestAt v o None path ns
+  rest_none [] ns = tt
+  rest_none (i ∷ path) ns = (λ last. tt, rest_none path (first_children (drop (length ns - suc i) ns)))
+
+  pub rest_itself : (rest : Option (Rest E)) (path : List ℕ) (ns : List (RTreeNode T E P S X)) → IsRestAt v o rest path ns
+      → IsRestAt v o rest (with_first path (first_number path)) ns
+  rest_itself rest [] ns at = tt
+  rest_itself rest (i ∷ path) ns at = at
+
+  pub rest_lower : (rest : Option (Rest E)) (path : List ℕ) (i : ℕ) (ns : List (RTreeNode T E P S X)) → IsRestAt v o rest (with_first path i) ns
+      → IsRestAt v o rest (lower_numbers path) (first_children (drop (length ns - suc i) ns))
+  rest_lower rest [] i ns at = tt
+  rest_lower rest (j ∷ path) i ns at = at.1
+
+  pub rest_here : (rest : Option (Rest E)) (path : List ℕ) (i : ℕ) (ns : List (RTreeNode T E P S X)) → length path ≡ 1 → IsRestAt v o rest (with_first path i) ns → IsRest v o rest i ns
+  rest_here rest [] i ns one at = absurd (omega (arith, one))
+  rest_here rest (j ∷ path) i ns one at = at.0 (omega (arith, one))
+
+  pub rest_made : (rest : Option (Rest E)) (path : List ℕ) (i : ℕ) (ns : List (RTreeNode T E P S X)) → (length path ≡ 1 → IsRest v o rest i ns)
+      → IsRestAt v o rest (lower_numbers path) (first_children (drop (length ns - suc i) ns)) → IsRestAt v o rest (with_first path i) ns
+  rest_made rest [] i ns here below = tt
+  rest_made rest (j ∷ path) i ns here below = (λ last. here (omega (arith, last)), below)
+
+  -- it stays where the nodes in front do
+  pub rest_stays : (rest : Option (Rest E)) (i j k : ℕ) (ns ns' : List (RTreeNode T E P S X)) → i ≤ j → length ns' ≤ length ns → length ns' ≤ k + suc j → take k ns' ≡ take k ns
+      → IsRest v o rest i ns → IsRest v o rest j ns'
+  rest_stays None i j k ns ns' on short over same rest = tt
+  rest_stays (Some r) i j k ns ns' on short over same rest = λ within.
+      let before = rest (omega (arith, within)) in
+      let front : take r.count ns' ≡ take r.count ns = take_less r.count k ns' ns (omega (arith, within)) same in
+      record {
+        values = subst (λ (l : List (RTreeNode T E P S X)). AllByRecursion (λ n. v.IsValue (node_box o.box_of n)) l) (sym front) before.values;
+        merged = before.merged ∙ ap (hull v (node_box o.box_of)) (sym front);
+      }
+
+pub lower_length : (path : List ℕ) → length (lower_numbers path) ≡ length path - 1
+lower_length [] = refl
+lower_length (i ∷ path) = omega arith
 
 -- the lower levels of a place, as the part of it that a call is lent
 pub lower_lent : (p : List ℕ) (n : ℕ) → n ≡ min (length p) 1 → take (length p - n) (drop n p) ≡ lower_numbers p

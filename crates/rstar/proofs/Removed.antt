@@ -6,6 +6,7 @@ use Rattle.std.proofs.lemmas.List.Sorted.{IsPermutation-middle}
 use Rattle.rstar_base.specs.Envelopes.{Boxes, EnvelopeLaws}
 use Rattle.rstar_base.specs.Elements.{Objects, ObjectLaws}
 use Rattle.rstar_base.specs.Selections.{IsLawful}
+use Rattle.rstar.specs.declared.algorithm.removal.Rest.{Rest}
 use Rattle.rstar.specs.declared.node.ParentNode.{ParentNode}
 use Rattle.rstar.specs.declared.node.RTreeNode.{RTreeNode}
 use Rattle.rstar.specs.declared.rtree.RTree.{RTree}
@@ -15,7 +16,7 @@ use Rattle.rstar.specs.Trees.{root_of, elements_in, IsWholeTree}
 use Rattle.rstar.specs.Heights.{levels_below}
 use Rattle.rstar.specs.Removals.{NoneSelected, IsWithout}
 use Rattle.rstar.specs.Visits.{IsOneOf}
-use Rattle.rstar.specs.Taking.{IsPast, Takes, Removes}
+use Rattle.rstar.specs.Taking.{IsPast, IsRestAt, Takes, Removes}
 use Rattle.rstar.proofs.Heights.{levels_are}
 use Rattle.rstar.proofs.Insertion.{whole_of_kept}
 use Rattle.rstar.proofs.WholeTrees.{all_kept, tree_kept, rooms_of}
@@ -66,35 +67,37 @@ module _ {T D E P S X : Type 0} where
 module _ {T E : Type 0} {IsPoint : List ℤ → Type 0} {v : Boxes E} {o : Objects T E} (laws : EnvelopeLaws IsPoint v) (ok : ObjectLaws v o) (max : ℕ)
     (accepts : E → Bool) (selects : T → Bool) {D P S X : Type 0} where
   -- a removal below a root with children
-  pub removes : (old new : RTree T D E P S X) (path path' : List ℕ) (r : Option T) → IsWholeTree v o max old → children_of (root_of old) ≢ []
-      → Takes v o accepts selects (children_of (root_of old)) path r (children_of (root_of new)) path'
-      → ((m w h : ℕ) → IsKept v o m w (root_of old) → AreKept v o m w h (children_of (root_of old)) → IsKept v o m w (root_of new))
+  pub removes : (old new : RTree T D E P S X) (path path' : List ℕ) (rest rest' : Option (Rest E)) (r : Option T) → IsWholeTree v o max old → children_of (root_of old) ≢ []
+      → Takes v o accepts selects (children_of (root_of old)) path rest r (children_of (root_of new)) path' rest'
+      → ((m w h : ℕ) → IsKept v o m w (root_of old) → AreKept v o m w h (children_of (root_of old)) → IsRestAt v o rest path (children_of (root_of old)) → IsKept v o m w (root_of new))
       → IfNone r (new ≡ old)
       → new.widest ≡ old.widest → new.spares.items ≡ old.spares.items → new.size ≡ length (elements_in new)
       → (children_of (root_of new) ≡ [] → new.levels ≡ 0) → (children_of (root_of new) ≢ [] → new.levels ≡ old.levels)
-      → Removes v o max accepts selects old path r new path'
+      → Removes v o max accepts selects old path rest r new path' rest'
   unfolding IsWholeTree
-  removes old new path path' r whole some takes kept same same_widest same_spares counted none_left some_left =
+  removes old new path path' rest rest' r whole some takes kept same same_widest same_spares counted none_left some_left =
       let h = whole.root_whole.height in
       let root : IsKept v o max old.widest (root_of old) = record { tight = whole.root_whole.tight; roomy = record { narrow = whole.narrow; room = whole.root_room some } } in
       let below = all_kept v o max old.widest h (tree_kept v o max old.widest h) (children_of (root_of old)) whole.root_whole.below whole.rooms in
-      let root' : IsKept v o max old.widest (root_of new) = kept max old.widest h root below in
-      let below' : AreKept v o max old.widest h (children_of (root_of new)) = takes.whole max old.widest h below in
-      let leveled : new.levels ≡ levels_below (children_of (root_of new)) =
-      levels_left v o max old.widest h (children_of (root_of old)) (children_of (root_of new)) old.levels new.levels whole.leveled some below below' none_left some_left in
       record {
-        whole = record {
-          root_whole = record { height = h; tight = root'.tight; below = whole_of_kept laws ok max old.widest h (children_of (root_of new)) below' };
-          counted = counted;
-          leveled = leveled;
-          low = low_left v o (children_of (root_of new)) old.levels new.levels whole.low none_left some_left;
-          wide = rw same_widest whole.wide;
-          wide_fits = rw same_widest whole.wide_fits;
-          narrow = rw same_widest root'.roomy.narrow;
-          root_room = λ _. root'.roomy.room;
-          rooms = rw same_widest (rooms_of v o max old.widest h (children_of (root_of new)) below');
-          spares = rw (same_widest, same_spares) whole.spares;
-        };
+        whole = λ at.
+            let root' : IsKept v o max old.widest (root_of new) = kept max old.widest h root below at in
+            let below' : AreKept v o max old.widest h (children_of (root_of new)) = takes.whole max old.widest h below at in
+            let leveled : new.levels ≡ levels_below (children_of (root_of new)) =
+            levels_left v o max old.widest h (children_of (root_of old)) (children_of (root_of new)) old.levels new.levels whole.leveled some below below' none_left some_left in
+            record {
+              root_whole = record { height = h; tight = root'.tight; below = whole_of_kept laws ok max old.widest h (children_of (root_of new)) below' };
+              counted = counted;
+              leveled = leveled;
+              low = low_left v o (children_of (root_of new)) old.levels new.levels whole.low none_left some_left;
+              wide = rw same_widest whole.wide;
+              wide_fits = rw same_widest whole.wide_fits;
+              narrow = rw same_widest root'.roomy.narrow;
+              root_room = λ _. root'.roomy.room;
+              rooms = rw same_widest (rooms_of v o max old.widest h (children_of (root_of new)) below');
+              spares = rw (same_widest, same_spares) whole.spares;
+            };
+        rests = λ at. takes.rests max old.widest h below at;
         taken = takes.taken;
         selected = takes.selected;
         kept = same;
@@ -104,10 +107,11 @@ module _ {T E : Type 0} {IsPoint : List ℤ → Type 0} {v : Boxes E} {o : Objec
       }
 
   -- a root that is not opened, or that has no children
-  pub leaves : (tree : RTree T D E P S X) (path : List ℕ) → IsWholeTree v o max tree → (IsLawful v o accepts selects → NoneSelected selects (elements_in tree))
-      → Removes v o max accepts selects tree path None tree path
-  leaves tree path whole none = record {
-    whole = whole;
+  pub leaves : (tree : RTree T D E P S X) (path : List ℕ) (rest : Option (Rest E)) → IsWholeTree v o max tree → (IsLawful v o accepts selects → NoneSelected selects (elements_in tree))
+      → Removes v o max accepts selects tree path rest None tree path rest
+  leaves tree path rest whole none = record {
+    whole = λ at. whole;
+    rests = λ at. at;
     taken = refl;
     selected = tt;
     kept = refl;

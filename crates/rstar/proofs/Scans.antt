@@ -1,14 +1,15 @@
 -- One scan of a list of nodes for the next selected element.
 use Rattle.std.proofs.Common.{◌≡◌, ℕ, ℤ, zero, suc, ◌+◌, ◌<◌, ◌≤◌, Bool, true, false, List, [], ◌∷◌, ◌++◌, refl, sym, ◌∙◌, ap, subst, arith, length, get_or, set, take, drop, replicate, ◌-◌, Option, Some, None, IfNone, is_some, length-set, filter, if◌then◌else◌, vec_len, vec_capacity}
-use Rattle.std.specs.List.{remove}
-use Rattle.std.proofs.lemmas.List.{set-get_or}
+use Rattle.std.specs.List.{AllByRecursion, remove}
+use Rattle.std.proofs.lemmas.List.{set-get_or, take-append-drop}
 use Rattle.std.proofs.lemmas.List.Edits.{length-remove}
 use Rattle.rstar_base.specs.Envelopes.{Boxes, EnvelopeLaws}
 use Rattle.rstar_base.specs.Elements.{Objects, ObjectLaws}
 use Rattle.rstar_base.specs.Hulls.{hull}
 use Rattle.rstar_base.specs.Selections.{IsLawful}
 use Rattle.rstar_base.proofs.Lists.{all-append}
-use Rattle.rstar_base.proofs.Hulls.{hull-value}
+use Rattle.rstar_base.proofs.Hulls.{hull-value, hull-append}
+use Rattle.rstar.specs.declared.algorithm.removal.Rest.{Rest}
 use Rattle.rstar.specs.declared.node.RTreeNode.{RTreeNode, Leaf, Parent, out-RTreeNode, roll-out-RTreeNode, roll-RTreeNode}
 use Rattle.rstar.specs.declared.node.RTreeNode.TheVariants.{outs-Leaf, outs-Parent, rolls-Leaf, rolls-Parent}
 use Rattle.rstar.specs.declared.node.RTreeNode.TheOpen as layer
@@ -16,12 +17,13 @@ use Rattle.rstar.specs.declared.node.ParentNode.{ParentNode}
 use Rattle.rstar.specs.Nodes.{Layer, node_box, elements, all_elements, elements_of, children_of, IsElement, IsTree, IsTight, AreWhole}
 use Rattle.rstar.specs.Kept.{IsKept, IsKeptInner, AreKept}
 use Rattle.rstar.specs.Removals.{NoneSelected, IsWithout}
-use Rattle.rstar.specs.Taking.{IsPast, Takes, TakesInside, first_children, node_children, children_in, with_first, first_number, lower_numbers, is_selected_leaf, selects_in, is_childless, childless_in, is_nil}
+use Rattle.rstar.specs.Taking.{IsPast, IsMerged, IsRest, IsRestAt, Takes, TakesInside, first_children, node_children, children_in, with_first, first_number, lower_numbers, is_selected_leaf, selects_in, is_childless, childless_in, is_nil}
 use Rattle.rstar.proofs.Places.{all_set, all_get}
 use Rattle.rstar.proofs.Rows.{elements-Leaf, elements-Parent, is_leaf, parent_of, no_leaf, no_parent, IsParentOf-Parent}
 use Rattle.rstar.proofs.Trees.{all_sound, values-of, merged_is_hull}
 use Rattle.rstar.proofs.Insertion.{whole_of_kept}
 use Rattle.rstar.proofs.Complete.{none-selected}
+use Rattle.rstar.proofs.Parts.{rest_none, rest_nothing, rest_itself, rest_lower, rest_here, rest_made, rest_stays, lower_length, take_removed, take_set}
 use Rattle.rstar.proofs.Parts.{drop_removed, drop_here, same_without, drop_set, drop_set_more, remove_set, without_middle, elements_split, elements_set, elements_removed, past_parts, past_made, past_zeros, past_nothing, all_take, all_drop, shorter_removed}
 
 -- all leaves of the node lie h levels below it, its parents are tight and have room
@@ -34,8 +36,11 @@ elements_in_layer (layer.Parent p) = all_elements (children_of p)
 
 -- so many nodes from the last on were passed over, and none was changed
 pub record Scanned {T E P S X : Type 0} (v : Boxes E) (o : Objects T E) (accepts : E → Bool) (selects : T → Bool)
-    (old : List (RTreeNode T E P S X)) (start : List ℕ) (cur : List (RTreeNode T E P S X)) (path : List ℕ) (p : ℕ) : Type 0 where
+    (old : List (RTreeNode T E P S X)) (start : List ℕ) (rest0 : Option (Rest E)) (cur : List (RTreeNode T E P S X)) (path : List ℕ) (rest : Option (Rest E)) (p : ℕ) : Type 0 where
   pub same : cur ≡ old
+  pub long : length path ≡ length start
+  pub still : length start ≡ 0 → rest ≡ rest0
+  pub rests : (m w h : ℕ) → AreKept v o m w h old → IsRestAt v o rest0 start old → IsRestAt v o rest (with_first path p) cur
   pub past : IsLawful v o accepts selects → (m w h : ℕ) → AreKept v o m w h old → IsPast selects start old
       → NoneSelected selects (all_elements (drop (length cur - p) cur)) × IsPast selects (lower_numbers path) (first_children (drop (length cur - suc p) cur))
 
@@ -131,14 +136,21 @@ module _ {T E : Type 0} {IsPoint : List ℤ → Type 0} {v : Boxes E} {o : Objec
 
 module _ {T E P S X : Type 0} (v : Boxes E) (o : Objects T E) (accepts : E → Bool) (selects : T → Bool) where
   -- a parent that was opened
-  pub entered : (p q : ParentNode T E P S X) (path path' : List ℕ) (r : Option T)
-      → Takes v o accepts selects p.children.items path r q.children.items path'
-      → ((m w h : ℕ) → IsKept v o m w p → AreKept v o m w h p.children.items → IsKept v o m w q) → IfNone r (q ≡ p)
-      → TakesInside v o accepts selects (Parent p) path r (Parent q) path'
-  entered p q path path' r takes kept same = record {
+  pub entered : (p q : ParentNode T E P S X) (path path' : List ℕ) (rest rest' : Option (Rest E)) (r : Option T)
+      → Takes v o accepts selects p.children.items path rest r q.children.items path' rest'
+      → ((m w h : ℕ) → IsKept v o m w p → AreKept v o m w h p.children.items → IsRestAt v o rest path p.children.items → IsKept v o m w q) → IfNone r (q ≡ p)
+      → TakesInside v o accepts selects (Parent p) path rest r (Parent q) path' rest'
+  entered p q path path' rest rest' r takes kept same = record {
     taken = rw (elements-Parent p, elements-Parent q) takes.taken;
     selected = takes.selected;
-    whole = λ m w h k has. whole_again v o m w h p q (λ h' a b. (kept m w h' a b, takes.whole m w h' b)) k has;
+    whole = λ m w h k at has.
+        let before : IsRestAt v o rest path p.children.items = subst (IsRestAt v o rest path) (children_parent p) at in
+        whole_again v o m w h p q (λ h' a b. (kept m w h' a b before, takes.whole m w h' b before)) k has;
+    rests = λ m w h k at.
+        let before : IsRestAt v o rest path p.children.items = subst (IsRestAt v o rest path) (children_parent p) at in
+        subst (IsRestAt v o rest' path') (sym (children_parent q))
+        (below_then v o m w (IsRestAt v o rest' path' q.children.items) h p k (λ h' a b. takes.rests m w h' b before));
+    still = takes.still;
     kept = if_none r (λ (e : q ≡ p). ap Parent e) same;
     past = λ lawful m w h k past.
         let before : IsPast selects path p.children.items = subst (IsPast selects path) (children_parent p) past in
@@ -152,27 +164,44 @@ module _ {T E P S X : Type 0} (v : Boxes E) (o : Objects T E) (accepts : E → B
   }
 
   -- a parent that was not opened
-  pub not_entered : {IsPoint : List ℤ → Type 0} (laws : EnvelopeLaws IsPoint v) (ok : ObjectLaws v o) (p : ParentNode T E P S X) (path : List ℕ) → accepts p.envelope ≡ false
-      → TakesInside v o accepts selects (Parent p) path None (Parent p) path
-  not_entered laws ok p path no_entry = record {
+  pub not_entered : {IsPoint : List ℤ → Type 0} (laws : EnvelopeLaws IsPoint v) (ok : ObjectLaws v o) (p : ParentNode T E P S X) (path : List ℕ) (rest : Option (Rest E)) → accepts p.envelope ≡ false
+      → TakesInside v o accepts selects (Parent p) path rest None (Parent p) path rest
+  not_entered laws ok p path rest no_entry = record {
     taken = refl;
     selected = tt;
-    whole = λ m w h k has. k;
+    whole = λ m w h k at has. k;
+    rests = λ m w h k at. at;
+    still = λ none. refl;
     kept = refl;
     past = λ lawful m w h k past. past;
     missed = λ lawful m w h k past. subst (λ (ns : List (RTreeNode T E P S X)). NoneSelected selects (all_elements ns)) (sym (children_parent p))
         (below_then v o m w (NoneSelected selects (all_elements p.children.items)) h p k (λ h' a b. refused laws ok accepts selects lawful h' p a.tight (whole_of_kept laws ok m w h' p.children.items b) no_entry));
   }
 
+  -- below a place that ends, or where no envelope is kept
+  rest_below : (path : List ℕ) (rest : Option (Rest E)) → (1 < length path → rest ≡ None) → (ns : List (RTreeNode T E P S X)) → IsRestAt v o rest (lower_numbers path) ns
+  rest_below [] rest gone ns = tt
+  rest_below (i ∷ []) rest gone ns = tt
+  rest_below (i ∷ (j ∷ path)) rest gone ns = subst (λ (z : Option (Rest E)). IsRestAt v o z (j ∷ path) ns) (sym (gone (omega arith))) (rest_none v o (j ∷ path) ns)
+
+  -- where all were passed over
+  rest_past : (rest : Option (Rest E)) (e : ℕ) (ns : List (RTreeNode T E P S X)) → length ns ≤ e → IsRest v o rest e ns
+  rest_past None e ns over = tt
+  rest_past (Some r) e ns over = λ within. absurd (omega (arith, within, over))
+
   -- before the last node
-  pub begins : (ns : List (RTreeNode T E P S X)) (path : List ℕ) (p : ℕ) → p ≡ first_number path → Scanned v o accepts selects ns path ns path p
-  begins ns path p e = record {
+  pub begins : (ns : List (RTreeNode T E P S X)) (path : List ℕ) (rest : Option (Rest E)) (p : ℕ) → p ≡ first_number path → Scanned v o accepts selects ns path rest ns path rest p
+  begins ns path rest p e = record {
     same = refl;
+    long = refl;
+    still = λ none. refl;
+    rests = λ m w h k at. subst (λ (q : ℕ). IsRestAt v o rest (with_first path q) ns) (sym e) (rest_itself v o rest path ns at);
     past = λ lawful m w h k past.
         subst (λ (q : ℕ). NoneSelected selects (all_elements (drop (length ns - q) ns)) × IsPast selects (lower_numbers path) (first_children (drop (length ns - suc q) ns))) (sym e) (past_parts selects path ns past);
   }
 
-  module _ (old : List (RTreeNode T E P S X)) (start : List ℕ) (cur : List (RTreeNode T E P S X)) (path : List ℕ) (p : ℕ) (s : Scanned v o accepts selects old start cur path p) where
+  module _ (old : List (RTreeNode T E P S X)) (start : List ℕ) (rest0 : Option (Rest E)) (cur : List (RTreeNode T E P S X)) (path : List ℕ) (rest : Option (Rest E)) (p : ℕ)
+      (s : Scanned v o accepts selects old start rest0 cur path rest p) where
     same_length : length cur ≡ length old
     same_length = ap length s.same
 
@@ -191,11 +220,8 @@ module _ {T E P S X : Type 0} (v : Boxes E) (o : Objects T E) (accepts : E → B
       here_whole m w h n here k = subst (IsKeptNode v o m w h) (sym here) (all_get (IsKeptNode v o m w h) cur i n within k)
 
       -- beside a leaf stand leaves alone
-      beside_leaf : (m w h j : ℕ) (t : T) → Leaf t ≡ get_or cur i (Leaf t) → AreKept v o m w h cur
-          → IsPast selects (lower_numbers path) (first_children (drop j (remove cur i)))
-      beside_leaf m w zero j t here k =
-          subst (IsPast selects (lower_numbers path)) (sym (leaves_alone v o m w (drop j (remove cur i)) (all_drop (IsKeptNode v o m w 0) j (remove cur i) (without_one m w 0 k))))
-          (past_nothing E P S X selects (lower_numbers path))
+      beside_leaf : (m w h j : ℕ) (t : T) → Leaf t ≡ get_or cur i (Leaf t) → AreKept v o m w h cur → first_children (drop j (remove cur i)) ≡ []
+      beside_leaf m w zero j t here k = leaves_alone v o m w (drop j (remove cur i)) (all_drop (IsKeptNode v o m w 0) j (remove cur i) (without_one m w 0 k))
       beside_leaf m w (suc h) j t here k = absurd (leaf_no_parent v o m w h (get_or cur i (Leaf t)) t (sym here) (all_get (IsKeptNode v o m w (suc h)) cur i (Leaf t) within k))
 
       behind_here : IsLawful v o accepts selects → (m w h : ℕ) → AreKept v o m w h old → IsPast selects start old → NoneSelected selects (all_elements (drop (suc i) cur))
@@ -211,9 +237,20 @@ module _ {T E P S X : Type 0} (v : Boxes E) (o : Objects T E) (accepts : E → B
           subst (λ (j : ℕ). NoneSelected selects (all_elements (drop j (remove cur i)))) (sym at)
           (subst (λ (ns : List (RTreeNode T E P S X)). NoneSelected selects (all_elements ns)) (sym (drop_removed cur i within)) none)
 
+      -- the nodes in front of i stay, and so what is kept of them
+      rest_removed : (rest' : Option (Rest E)) → IsRest v o rest' p cur → IsRest v o rest' p (remove cur i)
+      rest_removed rest' kept =
+          let long = length-remove cur i within in
+          rest_stays v o rest' p p i cur (remove cur i) (omega arith) (omega (arith, long)) (omega (arith, long, next)) (take_removed cur i within) kept
+
+      rest_set : (rest' : Option (Rest E)) (n' : RTreeNode T E P S X) (j : ℕ) → p ≤ j → IsRest v o rest' p cur → IsRest v o rest' j (set cur i n')
+      rest_set rest' n' j on kept =
+          let long = length-set cur i n' in
+          rest_stays v o rest' p j i cur (set cur i n') on (omega (arith, long)) (omega (arith, long, next)) (take_set cur i n' within) kept
+
       -- it is a leaf that is given
       pub gives_leaf : (t : T) → Leaf t ≡ get_or cur i (Leaf t) → selects t ≡ true
-          → Takes v o accepts selects old start (Some t) (remove cur i) (with_first path p)
+          → Takes v o accepts selects old start rest0 (Some t) (remove cur i) (with_first path p) rest
       gives_leaf t here chosen =
           let parts : all_elements cur ≡ all_elements (take i cur) ++ ((t ∷ []) ++ all_elements (drop (suc i) cur)) =
           elements_split cur i (Leaf t) within here ∙ ap (λ (z : List T). all_elements (take i cur) ++ (z ++ all_elements (drop (suc i) cur))) (elements-Leaf T E P S X t) in
@@ -221,15 +258,35 @@ module _ {T E P S X : Type 0} (v : Boxes E) (o : Objects T E) (accepts : E → B
           record {
             taken = record { before = all_elements (take i cur); after = all_elements (drop (suc i) cur); was = sym (ap all_elements s.same) ∙ parts; is = elements_removed cur i };
             selected = chosen;
-            whole = λ m w h k. without_one m w h (kept_now m w h k);
+            whole = λ m w h k at. without_one m w h (kept_now m w h k);
+            rests = λ m w h k at. rest_made v o rest path p (remove cur i) (λ one. rest_removed rest (rest_here v o rest path p cur one (s.rests m w h k at)))
+                (subst (IsRestAt v o rest (lower_numbers path)) (sym (beside_leaf m w h (length (remove cur i) - suc p) t here (kept_now m w h k))) (rest_nothing P S X v o rest (lower_numbers path)));
+            still = s.still;
             shorter = omega arith;
             past = λ lawful m w h k past. past_made selects path (remove cur i) p (none_behind (behind_here lawful m w h k past))
-                (beside_leaf m w h (length (remove cur i) - suc p) t here (kept_now m w h k));
+                (subst (IsPast selects (lower_numbers path)) (sym (beside_leaf m w h (length (remove cur i) - suc p) t here (kept_now m w h k))) (past_nothing E P S X selects (lower_numbers path)));
             missed = tt;
           }
 
-      module _ (n n' : RTreeNode T E P S X) (path' : List ℕ) (r : Option T) (here : n ≡ get_or cur i n)
-          (ins : TakesInside v o accepts selects n (lower_numbers path) r n' (lower_numbers path')) where
+      module _ (n n' : RTreeNode T E P S X) (path' : List ℕ) (rest' : Option (Rest E)) (r : Option T) (here : n ≡ get_or cur i n)
+          (ins : TakesInside v o accepts selects n (lower_numbers path) rest r n' (lower_numbers path') rest') (levels : length path' ≡ length path) where
+        -- where the place ends here, what is kept is left
+        same_rest : length path ≤ 1 → rest' ≡ rest
+        same_rest one = ins.still (omega (arith, one, lower_length path))
+
+        still_here : length start ≡ 0 → rest' ≡ rest0
+        still_here none = same_rest (omega (arith, none, s.long)) ∙ s.still none
+
+        at_here : (m w h : ℕ) → AreKept v o m w h old → IsRestAt v o rest0 start old → IsRestAt v o rest (lower_numbers path) (node_children n)
+        at_here m w h k at =
+            let spot : length cur - suc p ≡ i = omega (arith, next) in
+            subst (λ (ns : List (RTreeNode T E P S X)). IsRestAt v o rest (lower_numbers path) (first_children ns)) (drop_here cur i n within here)
+            (subst (λ (j : ℕ). IsRestAt v o rest (lower_numbers path) (first_children (drop j cur))) spot (rest_lower v o rest path p cur (s.rests m w h k at)))
+
+        kept_here : (m w h : ℕ) → AreKept v o m w h old → IsRestAt v o rest0 start old → length path ≡ 1 → IsRest v o rest' p cur
+        kept_here m w h k at one =
+            subst (λ (z : Option (Rest E)). IsRest v o z p cur) (sym (same_rest (omega (arith, one)))) (rest_here v o rest path p cur one (s.rests m w h k at))
+
         -- what the list holds with n' in the place of n
         without_here : IsWithout (all_elements old) r (all_elements (set cur i n'))
         without_here =
@@ -245,36 +302,55 @@ module _ {T E P S X : Type 0} (v : Boxes E) (o : Objects T E) (accepts : E → B
             (subst (λ (j : ℕ). IsPast selects (lower_numbers path) (first_children (drop j cur))) at (s.past lawful m w h k past).1)
 
         -- something below it was given, and it stays
-        pub gives_inside : is_some r ≡ true → is_childless n' ≡ false → Takes v o accepts selects old start r (set cur i n') (with_first path' p)
+        pub gives_inside : is_some r ≡ true → is_childless n' ≡ false → Takes v o accepts selects old start rest0 r (set cur i n') (with_first path' p) rest'
         gives_inside some has =
             let len = same_length in let long = length-set cur i n' in
             let at : length (set cur i n') - p ≡ suc i = omega (arith, next, long) in
-            let at_here : length (set cur i n') - suc p ≡ i = omega (arith, next, long) in
+            let spot : length (set cur i n') - suc p ≡ i = omega (arith, next, long) in
             record {
               taken = without_here;
               selected = ins.selected;
-              whole = λ m w h k. all_set (IsKeptNode v o m w h) cur i n' (kept_now m w h k) (ins.whole m w h (here_whole m w h n here (kept_now m w h k)) has);
+              whole = λ m w h k kept. all_set (IsKeptNode v o m w h) cur i n' (kept_now m w h k) (ins.whole m w h (here_whole m w h n here (kept_now m w h k)) (at_here m w h k kept) has);
+              rests = λ m w h k kept. rest_made v o rest' path' p (set cur i n') (λ one. rest_set rest' n' p (omega arith) (kept_here m w h k kept (omega (arith, one, levels))))
+                  (subst (λ (j : ℕ). IsRestAt v o rest' (lower_numbers path') (first_children (drop j (set cur i n')))) (sym spot)
+                  (subst (λ (ns : List (RTreeNode T E P S X)). IsRestAt v o rest' (lower_numbers path') (first_children ns)) (sym (drop_set cur i n' within))
+                  (ins.rests m w h (here_whole m w h n here (kept_now m w h k)) (at_here m w h k kept))));
+              still = still_here;
               shorter = omega arith;
               past = λ lawful m w h k past. past_made selects path' (set cur i n') p
                   (subst (λ (j : ℕ). NoneSelected selects (all_elements (drop j (set cur i n')))) (sym at)
                   (subst (λ (ns : List (RTreeNode T E P S X)). NoneSelected selects (all_elements ns)) (sym (drop_set_more cur i n' within)) (behind_here lawful m w h k past)))
-                  (subst (λ (j : ℕ). IsPast selects (lower_numbers path') (first_children (drop j (set cur i n')))) (sym at_here)
+                  (subst (λ (j : ℕ). IsPast selects (lower_numbers path') (first_children (drop j (set cur i n')))) (sym spot)
                   (subst (λ (ns : List (RTreeNode T E P S X)). IsPast selects (lower_numbers path') (first_children ns)) (sym (drop_set cur i n' within))
                   (ins.past lawful m w h (here_whole m w h n here (kept_now m w h k)) (below_here lawful m w h k past))));
               missed = some_one _ r some;
             }
 
         -- something below it was given, and it was the last thing there
-        pub gives_last : is_some r ≡ true → is_childless n' ≡ true → (path'' : List ℕ) (d : ℕ) → lower_numbers path'' ≡ replicate d 0
-            → Takes v o accepts selects old start r (remove (set cur i n') i) (with_first path'' p)
-        gives_last some empty path'' d cleared =
+        -- of no lower levels the place is kept with its envelope, and else without
+        cleared_still : (rest'' : Option (Rest E)) → (length path' ≤ 1 → rest'' ≡ rest') → length start ≡ 0 → rest'' ≡ rest0
+        cleared_still rest'' stay none = stay (omega (arith, none, s.long, levels)) ∙ still_here none
+
+        cleared_here : (rest'' : Option (Rest E)) → (length path' ≤ 1 → rest'' ≡ rest') → (m w h : ℕ) → AreKept v o m w h old → IsRestAt v o rest0 start old → length path' ≡ 1
+            → IsRest v o rest'' p cur
+        cleared_here rest'' stay m w h k at one =
+            subst (λ (z : Option (Rest E)). IsRest v o z p cur) (sym (stay (omega (arith, one)))) (kept_here m w h k at (omega (arith, one, levels)))
+
+        pub gives_last : is_some r ≡ true → is_childless n' ≡ true → (path'' : List ℕ) (rest'' : Option (Rest E)) (d : ℕ) → lower_numbers path'' ≡ replicate d 0
+            → length path'' ≡ length path' → (length path' ≤ 1 → rest'' ≡ rest') → (1 < length path' → rest'' ≡ None)
+            → Takes v o accepts selects old start rest0 r (remove (set cur i n') i) (with_first path'' p) rest''
+        gives_last some empty path'' rest'' d cleared levels'' stay gone =
             let len = same_length in let long = length-set cur i n' in let short = shorter_removed (set cur i n') i in
             record {
               taken = same_without (all_elements old) (all_elements old) (all_elements (set cur i n')) (all_elements (remove (set cur i n') i)) r refl
                   (elements_set cur i n' within ∙ ap (λ (z : List T). all_elements (take i cur) ++ (z ++ all_elements (drop (suc i) cur))) (no_elements n' empty)
                   ∙ sym (elements_removed cur i) ∙ ap all_elements (sym (remove_set cur i n' within))) without_here;
               selected = ins.selected;
-              whole = λ m w h k. subst (AreKept v o m w h) (sym (remove_set cur i n' within)) (without_one m w h (kept_now m w h k));
+              whole = λ m w h k kept. subst (AreKept v o m w h) (sym (remove_set cur i n' within)) (without_one m w h (kept_now m w h k));
+              rests = λ m w h k kept. subst (IsRestAt v o rest'' (with_first path'' p)) (sym (remove_set cur i n' within))
+                  (rest_made v o rest'' path'' p (remove cur i) (λ one. rest_removed rest'' (cleared_here rest'' stay m w h k kept (omega (arith, one, levels''))))
+                  (rest_below path'' rest'' (λ more. gone (omega (arith, more, levels''))) (first_children (drop (length (remove cur i) - suc p) (remove cur i)))));
+              still = cleared_still rest'' stay;
               shorter = omega arith;
               past = λ lawful m w h k past. past_made selects path'' (remove (set cur i n') i) p
                   (subst (λ (ns : List (RTreeNode T E P S X)). NoneSelected selects (all_elements (drop (length ns - p) ns))) (sym (remove_set cur i n' within)) (none_behind (behind_here lawful m w h k past)))
@@ -283,36 +359,44 @@ module _ {T E P S X : Type 0} (v : Boxes E) (o : Objects T E) (accepts : E → B
               missed = some_one _ r some;
             }
 
-      module _ (n n' : RTreeNode T E P S X) (path' : List ℕ) (here : n ≡ get_or cur i n)
-          (ins : TakesInside v o accepts selects n (lower_numbers path) None n' (lower_numbers path')) where
+      module _ (n n' : RTreeNode T E P S X) (path' : List ℕ) (rest' : Option (Rest E)) (here : n ≡ get_or cur i n)
+          (ins : TakesInside v o accepts selects n (lower_numbers path) rest None n' (lower_numbers path') rest') (levels : length path' ≡ length path) where
         -- it is passed over
-        passes : is_selected_leaf selects n ≡ false → (path'' : List ℕ) (d : ℕ) → lower_numbers path'' ≡ replicate d 0
-            → Scanned v o accepts selects old start (set cur i n') path'' (p + 1)
-        passes chosen path'' d cleared =
+        passes : is_selected_leaf selects n ≡ false → (path'' : List ℕ) (rest'' : Option (Rest E)) (d : ℕ) → lower_numbers path'' ≡ replicate d 0
+            → length path'' ≡ length path' → (length path' ≤ 1 → rest'' ≡ rest') → (1 < length path' → rest'' ≡ None)
+            → Scanned v o accepts selects old start rest0 (set cur i n') path'' rest'' (p + 1)
+        passes chosen path'' rest'' d cleared levels'' stay gone =
             let long = length-set cur i n' in
             let at : length (set cur i n') - (p + 1) ≡ i = omega (arith, next, long) in
             record {
               same = ap (λ z. set cur i z) ins.kept ∙ ap (set cur i) here ∙ set-get_or cur i n ∙ s.same;
+              long = levels'' ∙ levels ∙ s.long;
+              still = cleared_still n n' path' rest' None here ins levels rest'' stay;
+              rests = λ m w h k kept. rest_made v o rest'' path'' (p + 1) (set cur i n')
+                  (λ one. rest_set rest'' n' (p + 1) (omega arith) (cleared_here n n' path' rest' None here ins levels rest'' stay m w h k kept (omega (arith, one, levels''))))
+                  (rest_below path'' rest'' (λ more. gone (omega (arith, more, levels''))) (first_children (drop (length (set cur i n') - suc (p + 1)) (set cur i n'))));
               past = λ lawful m w h k past. (
                 subst (λ (j : ℕ). NoneSelected selects (all_elements (drop j (set cur i n')))) (sym at)
                     (subst (λ (ns : List (RTreeNode T E P S X)). NoneSelected selects (all_elements ns)) (sym (drop_set cur i n' within))
                     (all-append (λ t. selects t ≡ false) (elements n') (all_elements (drop (suc i) cur))
                     (subst (NoneSelected selects) (sym ins.taken)
-                    (node_none selects n chosen (ins.missed lawful m w h (here_whole m w h n here (kept_now m w h k)) (below_here n n' path' None here ins lawful m w h k past))))
+                    (node_none selects n chosen (ins.missed lawful m w h (here_whole m w h n here (kept_now m w h k)) (below_here n n' path' rest' None here ins levels lawful m w h k past))))
                     (behind_here lawful m w h k past))),
                 subst (λ (q : List ℕ). IsPast selects q (first_children (drop (length (set cur i n') - suc (p + 1)) (set cur i n')))) (sym cleared)
                     (past_zeros selects d (first_children (drop (length (set cur i n') - suc (p + 1)) (set cur i n')))),
               );
             }
 
-      pub passes_any : (n n' : RTreeNode T E P S X) (path' : List ℕ) (r : Option T) → is_some r ≡ false → n ≡ get_or cur i n
-          → TakesInside v o accepts selects n (lower_numbers path) r n' (lower_numbers path') → is_selected_leaf selects n ≡ false
-          → (path'' : List ℕ) (d : ℕ) → lower_numbers path'' ≡ replicate d 0 → Scanned v o accepts selects old start (set cur i n') path'' (p + 1)
-      passes_any n n' path' None nothing here ins chosen path'' d cleared = passes n n' path' here ins chosen path'' d cleared
-      passes_any n n' path' (Some x) nothing here ins chosen path'' d cleared = cc
+      pub passes_any : (n n' : RTreeNode T E P S X) (path' : List ℕ) (rest' : Option (Rest E)) (r : Option T) → is_some r ≡ false → n ≡ get_or cur i n
+          → TakesInside v o accepts selects n (lower_numbers path) rest r n' (lower_numbers path') rest' → length path' ≡ length path → is_selected_leaf selects n ≡ false
+          → (path'' : List ℕ) (rest'' : Option (Rest E)) (d : ℕ) → lower_numbers path'' ≡ replicate d 0 → length path'' ≡ length path' → (length path' ≤ 1 → rest'' ≡ rest')
+          → (1 < length path' → rest'' ≡ None) → Scanned v o accepts selects old start rest0 (set cur i n') path'' rest'' (p + 1)
+      passes_any n n' path' rest' None nothing here ins levels chosen path'' rest'' d cleared levels'' stay gone =
+          passes n n' path' rest' here ins levels chosen path'' rest'' d cleared levels'' stay gone
+      passes_any n n' path' rest' (Some x) nothing here ins levels chosen path'' rest'' d cleared levels'' stay gone = cc
 
     -- all nodes were passed over
-    pub finishes : length cur ≤ p → (e : ℕ) → e ≡ length cur → Takes v o accepts selects old start None cur (with_first path e)
+    pub finishes : length cur ≤ p → (e : ℕ) → e ≡ length cur → Takes v o accepts selects old start rest0 None cur (with_first path e) rest
     finishes over e at_end =
         let len = same_length in
         let all : length cur - p ≡ 0 = omega arith in
@@ -321,7 +405,10 @@ module _ {T E P S X : Type 0} (v : Boxes E) (o : Objects T E) (accepts : E → B
         record {
           taken = ap all_elements s.same;
           selected = tt;
-          whole = kept_now;
+          whole = λ m w h k kept. kept_now m w h k;
+          rests = λ m w h k kept. rest_made v o rest path e cur (λ one. rest_past rest e cur (omega (arith, at_end)))
+              (subst (λ (j : ℕ). IsRestAt v o rest (lower_numbers path) (first_children (drop j cur))) (sym below) (rest_lower v o rest path p cur (s.rests m w h k kept)));
+          still = s.still;
           shorter = omega arith;
           past = λ lawful m w h k past. past_made selects path cur e
               (subst (λ (j : ℕ). NoneSelected selects (all_elements (drop j cur))) (sym behind) (s.past lawful m w h k past).0)
@@ -329,6 +416,36 @@ module _ {T E P S X : Type 0} (v : Boxes E) (o : Objects T E) (accepts : E → B
           missed = λ lawful m w h k past. subst (NoneSelected selects) (ap all_elements s.same)
               (subst (λ (j : ℕ). NoneSelected selects (all_elements (drop j cur))) all (s.past lawful m w h k past).0);
         }
+
+-- a step after which what is kept was written once more
+pub along : {T E P S X : Type 0} (v : Boxes E) (o : Objects T E) (accepts : E → Bool) (selects : T → Bool) (old new : List (RTreeNode T E P S X)) (path path' : List ℕ)
+    (rest rest' rest'' : Option (Rest E)) (r : Option T) → Takes v o accepts selects old path rest r new path' rest' → length path' ≡ length path
+    → (IsRestAt v o rest' path' new → IsRestAt v o rest'' path' new) → (length path' ≡ 0 → rest'' ≡ rest')
+    → Takes v o accepts selects old path rest r new path' rest''
+along v o accepts selects old new path path' rest rest' rest'' r takes levels rests still = record {
+  taken = takes.taken;
+  selected = takes.selected;
+  whole = takes.whole;
+  rests = λ m w h k before. rests (takes.rests m w h k before);
+  still = λ none. still (omega (arith, none, levels)) ∙ takes.still none;
+  shorter = takes.shorter;
+  past = takes.past;
+  missed = takes.missed;
+}
+
+-- what is kept, where the next node is none of those that were merged
+pub left_front : {T E P S X : Type 0} (v : Boxes E) (o : Objects T E) (old : Option (Rest E)) (rest : Rest E) (ns : List (RTreeNode T E P S X)) (left passed : ℕ) → old ≡ Some rest
+    → rest.count < left → left ≡ length ns - passed → IsRest v o old passed ns → IsMerged v o rest ns
+left_front v o old rest ns left passed is less many at = (subst (λ z. IsRest v o z passed ns) is at) (omega (arith, less, many))
+
+-- the merge of the envelopes of nodes, in two parts
+module _ {T E : Type 0} {IsPoint : List ℤ → Type 0} {v : Boxes E} (laws : EnvelopeLaws IsPoint v) (o : Objects T E) {P S X : Type 0} where
+  pub merged_parts : (rest : Rest E) (ns back : List (RTreeNode T E P S X)) (x : E) → back ≡ drop rest.count ns → IsMerged v o rest ns
+      → AllByRecursion (λ n. v.IsValue (node_box o.box_of n)) back → x ≡ v.merge rest.envelope (hull v (node_box o.box_of) back) → x ≡ hull v (node_box o.box_of) ns
+  merged_parts rest ns back x behind front values made =
+      made ∙ ap (λ (e : E). v.merge e (hull v (node_box o.box_of) back)) front.merged
+      ∙ sym (hull-append laws (node_box o.box_of) (take rest.count ns) back front.values values)
+      ∙ ap (hull v (node_box o.box_of)) (ap (λ (l : List (RTreeNode T E P S X)). take rest.count ns ++ l) behind ∙ take-append-drop rest.count ns)
 
 -- a parent whose list lost some children, and whose envelope was made anew, is kept
 module _ {T E : Type 0} {IsPoint : List ℤ → Type 0} {v : Boxes E} {o : Objects T E} (laws : EnvelopeLaws IsPoint v) (ok : ObjectLaws v o) (m w : ℕ) {P S X : Type 0} where

@@ -12,7 +12,7 @@ use Rattle.rstar.specs.contracts.rtree.RTree.{the_row as tree_row}
 use Rattle.rstar.specs.Nodes.{children_of}
 use Rattle.rstar.specs.Trees.{root_of, elements_in, IsWholeTree}
 use Rattle.rstar.specs.Removals.{NoneSelected, IsWithout}
-use Rattle.rstar.specs.Taking.{IsPast}
+use Rattle.rstar.specs.Taking.{IsPast, IsRestAt}
 
 -- ---- what it shows: the tree that it drains, the tree's elements, and its question
 
@@ -40,9 +40,10 @@ pub record DrainsBy {T F D E P S X : Type 0} (v : Boxes E) (o : Objects T E) (ac
 
 module _ {T F D E P S X : Type 0} (v : Boxes E) (o : Objects T E) (max : ℕ) (accepts : F → E → Bool)
     (selects : F → T → Bool) where
-  -- a whole tree, with nothing that is selected right of the place from which the drain goes on
+  -- a whole tree, with nothing that is selected right of the place from which the drain goes on, and what is kept there
   abbrev pub HasItsPlace : DrainIterator T F D (Vec ℕ Global) E P S X → Type 0
   HasItsPlace it = IsWholeTree v o max (drained it)
+      × IsRestAt v o it.rest it.path.items (children_of (root_of (drained it)))
       × (IsLawful v o (accepts (drain_question it)) (selects (drain_question it))
       → IsPast (selects (drain_question it)) it.path.items (children_of (root_of (drained it))))
 

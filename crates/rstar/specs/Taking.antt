@@ -1,13 +1,16 @@
 -- The inside of a removal: the place in a tree that it goes on from, and what it leaves at each level.
-use Rattle.std.specs.Prelude.{◌≡◌, ℕ, ◌≤◌, Bool, true, false, List, [], ◌∷◌, drop, length, ◌-◌, suc, ⊤, Option}
-use Rattle.std.specs.Prelude.{IfSome, IfNone}
+use Rattle.std.specs.Prelude.{◌≡◌, ℕ, ◌≤◌, ◌<◌, ◌+◌, Bool, true, false, List, [], ◌∷◌, take, drop, length, ◌-◌, suc, ⊤}
+use Rattle.std.specs.Prelude.{Option, Some, None, IfSome, IfNone}
+use Rattle.std.specs.List.{AllByRecursion}
 use Rattle.rstar_base.specs.Envelopes.{Boxes}
 use Rattle.rstar_base.specs.Elements.{Objects}
+use Rattle.rstar_base.specs.Hulls.{hull}
 use Rattle.rstar_base.specs.Selections.{IsLawful}
+use Rattle.rstar.specs.declared.algorithm.removal.Rest.{Rest}
 use Rattle.rstar.specs.declared.node.RTreeNode.{RTreeNode}
 use Rattle.rstar.specs.declared.node.RTreeNode.TheOpen as layer
 use Rattle.rstar.specs.declared.rtree.RTree.{RTree}
-use Rattle.rstar.specs.Nodes.{Layer, layer_of, elements, all_elements, children_of, IsElement, IsTree}
+use Rattle.rstar.specs.Nodes.{Layer, layer_of, node_box, elements, all_elements, children_of, IsElement, IsTree}
 use Rattle.rstar.specs.Kept.{IsKeptInner, AreKept}
 use Rattle.rstar.specs.Trees.{root_of, elements_in, IsWholeTree}
 use Rattle.rstar.specs.Removals.{NoneSelected, IsWithout}
@@ -78,15 +81,36 @@ abbrev pub lower_numbers : List ℕ → List ℕ
 lower_numbers [] = []
 lower_numbers (p ∷ path) = path
 
+-- ---- an envelope that is kept at a place
+
+module _ {T E P S X : Type 0} (v : Boxes E) (o : Objects T E) where
+  -- it is the merge of the first nodes' envelopes, of as many as are counted
+  pub record IsMerged (rest : Rest E) (ns : List (RTreeNode T E P S X)) : Type 0 where
+    pub values : AllByRecursion (λ n. v.IsValue (node_box o.box_of n)) (take rest.count ns)
+    pub merged : rest.envelope ≡ hull v (node_box o.box_of) (take rest.count ns)
+
+  -- so it is where the next node, with so many to its right, is none of them
+  abbrev pub IsRest : Option (Rest E) → ℕ → List (RTreeNode T E P S X) → Type 0
+  IsRest None passed ns = ⊤
+  IsRest (Some rest) passed ns = rest.count + passed < length ns → IsMerged rest ns
+
+  -- and that at the last number of a place
+  abbrev pub IsRestAt : Option (Rest E) → List ℕ → List (RTreeNode T E P S X) → Type 0
+  IsRestAt rest [] ns = ⊤
+  IsRestAt rest (i ∷ path) ns =
+      (length path ≡ 0 → IsRest rest i ns) × IsRestAt rest path (first_children (drop (length ns - suc i) ns))
+
 -- ---- one step; m and w are the bounds of the nodes' lists, h the levels below
 
 module _ {T E P S X : Type 0} (v : Boxes E) (o : Objects T E) (accepts : E → Bool) (selects : T → Bool) where
-  -- what it does to a list of nodes and to the place in it
-  pub record Takes (old : List (RTreeNode T E P S X)) (path : List ℕ) (given : Option T)
-      (new : List (RTreeNode T E P S X)) (path' : List ℕ) : Type 0 where
+  -- what it does to a list of nodes, to the place in it and to the envelope that is kept there
+  pub record Takes (old : List (RTreeNode T E P S X)) (path : List ℕ) (rest : Option (Rest E)) (given : Option T)
+      (new : List (RTreeNode T E P S X)) (path' : List ℕ) (rest' : Option (Rest E)) : Type 0 where
     pub taken : IsWithout (all_elements old) given (all_elements new)
     pub selected : IfSome given (λ x. selects x ≡ true)
-    pub whole : (m w h : ℕ) → AreKept v o m w h old → AreKept v o m w h new
+    pub whole : (m w h : ℕ) → AreKept v o m w h old → IsRestAt v o rest path old → AreKept v o m w h new
+    pub rests : (m w h : ℕ) → AreKept v o m w h old → IsRestAt v o rest path old → IsRestAt v o rest' path' new
+    pub still : length path ≡ 0 → rest' ≡ rest
     pub shorter : length new ≤ length old
     pub past : IsLawful v o accepts selects → (m w h : ℕ) → AreKept v o m w h old
         → IsPast selects path old → IsPast selects path' new
@@ -94,12 +118,16 @@ module _ {T E P S X : Type 0} (v : Boxes E) (o : Objects T E) (accepts : E → B
         → IsPast selects path old → NoneSelected selects (all_elements old))
 
   -- what it does below one node, which may be left without children
-  pub record TakesInside (old : RTreeNode T E P S X) (path : List ℕ) (given : Option T) (new : RTreeNode T E P S X)
-      (path' : List ℕ) : Type 0 where
+  pub record TakesInside (old : RTreeNode T E P S X) (path : List ℕ) (rest : Option (Rest E)) (given : Option T)
+      (new : RTreeNode T E P S X) (path' : List ℕ) (rest' : Option (Rest E)) : Type 0 where
     pub taken : IsWithout (elements old) given (elements new)
     pub selected : IfSome given (λ x. selects x ≡ true)
-    pub whole : (m w h : ℕ) → IsTree (IsKeptInner v o m w) (IsElement v o) h old → is_childless new ≡ false
+    pub whole : (m w h : ℕ) → IsTree (IsKeptInner v o m w) (IsElement v o) h old
+        → IsRestAt v o rest path (node_children old) → is_childless new ≡ false
         → IsTree (IsKeptInner v o m w) (IsElement v o) h new
+    pub rests : (m w h : ℕ) → IsTree (IsKeptInner v o m w) (IsElement v o) h old
+        → IsRestAt v o rest path (node_children old) → IsRestAt v o rest' path' (node_children new)
+    pub still : length path ≡ 0 → rest' ≡ rest
     pub kept : IfNone given (new ≡ old)
     pub past : IsLawful v o accepts selects → (m w h : ℕ) → IsTree (IsKeptInner v o m w) (IsElement v o) h old
         → IsPast selects path (node_children old) → IsPast selects path' (node_children new)
@@ -110,9 +138,11 @@ module _ {T E P S X : Type 0} (v : Boxes E) (o : Objects T E) (accepts : E → B
 module _ {T D E P S X : Type 0} (v : Boxes E) (o : Objects T E) (max : ℕ) (accepts : E → Bool)
     (selects : T → Bool) where
   -- one removal from a place of a tree on
-  pub record Removes (old : RTree T D E P S X) (path : List ℕ) (given : Option T) (new : RTree T D E P S X)
-      (path' : List ℕ) : Type 0 where
-    pub whole : IsWholeTree v o max new
+  pub record Removes (old : RTree T D E P S X) (path : List ℕ) (rest : Option (Rest E)) (given : Option T)
+      (new : RTree T D E P S X) (path' : List ℕ) (rest' : Option (Rest E)) : Type 0 where
+    pub whole : IsRestAt v o rest path (children_of (root_of old)) → IsWholeTree v o max new
+    pub rests : IsRestAt v o rest path (children_of (root_of old))
+        → IsRestAt v o rest' path' (children_of (root_of new))
     pub taken : IsWithout (elements_in old) given (elements_in new)
     pub selected : IfSome given (λ x. selects x ≡ true)
     pub kept : IfNone given (new ≡ old)

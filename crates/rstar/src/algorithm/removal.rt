@@ -1,41 +1,125 @@
 //! Taking elements out: one selected element for each call, from a place on. Nothing here takes memory.
 
-ghost use Rattle.std.specs.Prelude.{◌≡◌, ℕ, ◌<◌, true, IfNone, length, replicate};
+ghost use Rattle.std.specs.Prelude.{◌≡◌, ℕ, ◌-◌, ◌<◌, ◌≤◌, true, None, IfNone, length, replicate};
 ghost use Rattle.std.specs.Prelude.{vec_len, vec_capacity, slice_index_or};
 ghost use Rattle.std.specs.List.{remove};
+ghost use Rattle.rstar_base.specs.Hulls.{hull};
 ghost use Rattle.rstar.specs.declared.node.RTreeNode.{Leaf};
 ghost use Rattle.rstar.specs.Kept.{IsKept, AreKept};
-ghost use Rattle.rstar.specs.Taking.{Takes, TakesInside, with_first, first_number, lower_numbers};
+ghost use Rattle.rstar.specs.Nodes.{node_box};
+ghost use Rattle.rstar.specs.Taking.{IsMerged, IsRest, IsRestAt, Takes, TakesInside};
+ghost use Rattle.rstar.specs.Taking.{with_first, first_number, lower_numbers};
 ghost use Rattle.rstar.specs.Taking.{is_selected_leaf, is_a_leaf, is_childless};
 
 use crate::node::{ParentNode, RTreeNode, envelope_for_children};
 use rstar_base::algorithm::selection_functions::SelectionFunction;
 use rstar_base::envelope::Envelope;
-use rstar_base::object::RTreeObject;
+use rstar_base::object::{RTreeObject, envelope_of_all};
+
+/// The merge of the envelopes of the first children of a node, and how many they are.
+///
+/// A drain keeps it where the last number of its place stands, of children that it has not come to. So the envelope of
+/// a wide node is made anew without looking at each of them.
+#[derive(Drop)]
+pub struct Rest<E> {
+    envelope: E,
+    count: usize,
+}
 
 /// Takes out the next selected element below a parent, from a place on, and makes its envelope anew.
 ///
-/// Children are looked at from the last to the first, so that a drain of everything shifts none. The place is the number
-/// of children passed over, those to the right, a number for each level. Where there are fewer numbers the search begins
-/// at the last child of the levels below.
+/// Children are looked at from the last to the first, so that a drain of everything shifts none. The place is the
+/// number of children passed over, those to the right, a number for each level. Where there are fewer numbers the
+/// search begins at the last child of the levels below. `rest` is of the node that the last number stands in.
 #[cycle(take)]
 pub(crate) fn take_below<T: RTreeObject, R: SelectionFunction<T>>(
     node: &mut ParentNode<T>,
     path: &mut [usize],
+    rest: &mut Option<Rest<T::Envelope>>,
     func: &R,
 ) -> Option<T>
     ensures takes { Takes T.Envelope.boxes T.object (R.accepts func.now) (R.selects func.now)
-        node.old.children.items path.old result node.new.children.items path.new }
+        node.old.children.items path.old rest.old result node.new.children.items path.new rest.new }
     ensures kept { (m w h : ℕ) → IsKept T.Envelope.boxes T.object m w node.old
         → AreKept T.Envelope.boxes T.object m w h node.old.children.items
+        → IsRestAt T.Envelope.boxes T.object rest.old path.old node.old.children.items
         → IsKept T.Envelope.boxes T.object m w node.new }
     ensures same { IfNone result (node.new ≡ node.old) }
 {
-    let taken = take_among(&mut node.children, path, func);
+    let taken = take_among(&mut node.children, path, rest, func);
     if taken.is_some() {
-        node.envelope = envelope_for_children(&node.children);
+        node.envelope = merge_along(&node.children, path, rest);
     }
     taken
+}
+
+/// The merge of the envelopes of these nodes, by what is kept at the place.
+fn merge_along<T: RTreeObject>(
+    children: &[RTreeNode<T>],
+    path: &[usize],
+    rest: &mut Option<Rest<T::Envelope>>,
+) -> T::Envelope
+    ensures merged { IsRestAt T.Envelope.boxes T.object rest.old path.now children.now
+        → result ≡ hull T.Envelope.boxes (node_box T.object.box_of) children.now }
+    ensures rests { IsRestAt T.Envelope.boxes T.object rest.old path.now children.now
+        → IsRestAt T.Envelope.boxes T.object rest.new path.now children.now }
+    ensures still { length path.now ≡ 0 → rest.new ≡ rest.old }
+{
+    if path.len() == 1 {
+        merge_at(children, path[0], rest)
+    } else {
+        envelope_for_children(children)
+    }
+}
+
+/// The merge of the envelopes of these nodes, of which so many to the right were passed over.
+///
+/// Where a drain takes all of n nodes, it so merges n for each root of n that are taken, and some root of n for each
+/// one. A few nodes are merged at once.
+fn merge_at<T: RTreeObject>(
+    children: &[RTreeNode<T>],
+    passed: usize,
+    rest: &mut Option<Rest<T::Envelope>>,
+) -> T::Envelope
+    ensures merged { IsRest T.Envelope.boxes T.object rest.old passed children.now
+        → result ≡ hull T.Envelope.boxes (node_box T.object.box_of) children.now }
+    ensures rest { IsRest T.Envelope.boxes T.object rest.old passed children.now
+        → IsRest T.Envelope.boxes T.object rest.new passed children.now }
+{
+    let left = children.len().saturating_sub(passed);
+    if left < 32 {
+        return envelope_for_children(children);
+    }
+    let front = front_of(children, left, rest);
+    let merged = front
+        .envelope
+        .merged(&envelope_of_all(&children[front.count..]));
+    *rest = Some(front);
+    merged
+}
+
+/// What is kept of the first nodes, made anew where the next one, the last of those that are left, is among them.
+fn front_of<T: RTreeObject>(
+    children: &[RTreeNode<T>],
+    left: usize,
+    rest: &mut Option<Rest<T::Envelope>>,
+) -> Rest<T::Envelope>
+    requires { left ≤ length children.now }
+    ensures within { result.count ≤ length children.now }
+    ensures merged { (passed : ℕ) → left ≡ length children.now - passed
+        → IsRest T.Envelope.boxes T.object rest.old passed children.now
+        → IsMerged T.Envelope.boxes T.object result children.now }
+{
+    match rest.take() {
+        Some(kept) if kept.count < left => kept,
+        _ => {
+            let count = left - left.isqrt();
+            Rest {
+                envelope: envelope_of_all(&children[..count]),
+                count,
+            }
+        }
+    }
 }
 
 /// Takes out the next selected element of these nodes, and drops a parent that lost its last child.
@@ -43,10 +127,11 @@ pub(crate) fn take_below<T: RTreeObject, R: SelectionFunction<T>>(
 fn take_among<T: RTreeObject, R: SelectionFunction<T>>(
     children: &mut Vec<RTreeNode<T>>,
     path: &mut [usize],
+    rest: &mut Option<Rest<T::Envelope>>,
     func: &R,
 ) -> Option<T>
     ensures takes { Takes T.Envelope.boxes T.object (R.accepts func.now) (R.selects func.now)
-        children.old.items path.old result children.new.items path.new }
+        children.old.items path.old rest.old result children.new.items path.new rest.new }
     ensures capacity { vec_capacity children.new ≡ vec_capacity children.old }
     ensures same { IfNone result (children.new ≡ children.old) }
 {
@@ -57,16 +142,16 @@ fn take_among<T: RTreeObject, R: SelectionFunction<T>>(
             set_first(path, passed);
             return Some(taken);
         }
-        let taken = take_inside(&mut children[i], path, func);
+        let taken = take_inside(&mut children[i], path, rest, func);
         if taken.is_some() {
             if is_childless(&children[i]) {
                 drop_child(children, i);
-                clear_lower(path);
+                clear_lower(path, rest);
             }
             set_first(path, passed);
             return taken;
         }
-        clear_lower(path);
+        clear_lower(path, rest);
     }
     set_first(path, children.len());
     None
@@ -77,17 +162,18 @@ fn take_among<T: RTreeObject, R: SelectionFunction<T>>(
 fn take_inside<T: RTreeObject, R: SelectionFunction<T>>(
     child: &mut RTreeNode<T>,
     path: &mut [usize],
+    rest: &mut Option<Rest<T::Envelope>>,
     func: &R,
 ) -> Option<T>
     ensures { TakesInside T.Envelope.boxes T.object (R.accepts func.now) (R.selects func.now)
-        child.old (lower_numbers path.old) result child.new (lower_numbers path.new) }
+        child.old (lower_numbers path.old) rest.old result child.new (lower_numbers path.new) rest.new }
 {
     match child {
         RTreeNode::Leaf(_) => None,
         RTreeNode::Parent(parent) => {
             if func.should_unpack_parent(&parent.envelope) {
                 let lower = path.len().min(1);
-                take_below(parent, &mut path[lower..], func)
+                take_below(parent, &mut path[lower..], rest, func)
             } else {
                 None
             }
@@ -157,12 +243,15 @@ fn set_first(path: &mut [usize], passed: usize)
     }
 }
 
-/// Goes back to the beginning on the levels below the first.
-fn clear_lower(path: &mut [usize])
-    ensures { lower_numbers path.new ≡ replicate (length (lower_numbers path.old)) 0 }
+/// Goes back to the beginning on the levels below the first, where there are some, and keeps no envelope then.
+fn clear_lower<E: Drop>(path: &mut [usize], rest: &mut Option<Rest<E>>)
+    ensures numbers { lower_numbers path.new ≡ replicate (length (lower_numbers path.old)) 0 }
+    ensures still { length path.old ≤ 1 → rest.new ≡ rest.old }
+    ensures none { 1 < length path.old → rest.new ≡ None }
 {
-    if !path.is_empty() {
+    if path.len() > 1 {
         clear(&mut path[1..]);
+        *rest = None;
     }
 }
 

@@ -1,11 +1,12 @@
 //! Iterators that take elements out of a tree.
 
-ghost use Rattle.std.specs.Prelude.{◌≡◌};
+ghost use Rattle.std.specs.Prelude.{◌≡◌, None};
 ghost use Rattle.std.specs.Iterator.{item_count};
 ghost use Rattle.rstar.specs.Taking.{Removes};
 ghost use Rattle.rstar.specs.Drains.{elements_left, IsDraining, TakesNext};
 ghost use Rattle.rstar.specs.Trees.{IsWholeTree};
 
+use crate::algorithm::removal::Rest;
 use crate::rtree::RTree;
 use rstar_base::algorithm::selection_functions::SelectionFunction;
 use rstar_base::envelope::Envelope;
@@ -30,6 +31,9 @@ pub struct DrainIterator<
     tree: &'a mut RTree<T, Params>,
     func: R,
     path: Path,
+    // What is kept of the node that the last number of the path stands in. It is an `Option`, since with an envelope as
+    // a plain field a caller's facts hold the envelope's parts too, and its proofs are no longer found.
+    rest: Option<Rest<T::Envelope>>,
 }
 
 impl<'a, T: RTreeObject, R: SelectionFunction<T>, Params: RTreeParams, Path: Drop> Drop
@@ -42,6 +46,7 @@ impl<'a, T: RTreeObject, R: SelectionFunction<T>, Params: RTreeParams, Path: Dro
             tree: _,
             func: _,
             path: _,
+            rest: _,
         } = self;
     }
 }
@@ -58,8 +63,14 @@ impl<'a, T: RTreeObject, R: SelectionFunction<T>, Params: RTreeParams> DrainIter
         ensures tree { result.tree.now ≡ tree.old }
         ensures func { result.func ≡ func }
         ensures path { result.path.items ≡ path.items }
+        ensures rest { result.rest ≡ None }
     {
-        DrainIterator { tree, func, path }
+        DrainIterator {
+            tree,
+            func,
+            path,
+            rest: None,
+        }
     }
 
     /// Takes out the next selected element.
@@ -69,9 +80,11 @@ impl<'a, T: RTreeObject, R: SelectionFunction<T>, Params: RTreeParams> DrainIter
         ensures same_question { self.new.func ≡ self.old.func }
         ensures removes { Removes T.Envelope.boxes T.object Params.MAX_SIZE
             (R.accepts self.old.func) (R.selects self.old.func)
-            self.old.tree.now self.old.path.items result self.new.tree.now self.new.path.items }
+            self.old.tree.now self.old.path.items self.old.rest
+            result self.new.tree.now self.new.path.items self.new.rest }
     {
-        self.tree.take_next(&mut self.path, &self.func)
+        self.tree
+            .take_next(&mut self.path, &mut self.rest, &self.func)
     }
 }
 

@@ -9,7 +9,7 @@ ghost use Rattle.rstar.specs.Removals.{NoneSelected};
 ghost use Rattle.rstar.specs.Taking.{Removes};
 ghost use Rattle.rstar.specs.Trees.{size_of, elements_in, IsWholeTree};
 
-use crate::algorithm::removal::take_below;
+use crate::algorithm::removal::{Rest, take_below};
 use crate::rtree::RTree;
 use rstar_base::algorithm::selection_functions::{
     SelectAtPointFunction, SelectEqualsFunction, SelectionFunction,
@@ -35,26 +35,28 @@ impl<T: RTreeObject, Params: RTreeParams> RTree<T, Params> {
         ensures kept { IfNone result (self.new ≡ self.old) }
         ensures whole { IsWholeTree T.Envelope.boxes T.object Params.MAX_SIZE self.new }
     {
-        self.take_next(&mut [], &func)
+        self.take_next(&mut [], &mut None, &func)
     }
 
     /// Takes the next selected element out, from a place on: a number for each level, of the children to the right.
     ///
-    /// A path that is too short, or a place that is not there, only begins further right or finds less.
+    /// A path that is too short, or a place that is not there, only begins further right or finds less. `rest` is what
+    /// is kept of the node that the last number stands in; without it a drain only takes longer.
     #[tactic(auto, unfolding(crate::specs::Trees::IsWholeTree))]
     pub(crate) fn take_next<R: SelectionFunction<T>>(
         &mut self,
         path: &mut [usize],
+        rest: &mut Option<Rest<T::Envelope>>,
         func: &R,
     ) -> Option<T>
         requires { IsWholeTree T.Envelope.boxes T.object Params.MAX_SIZE self.old }
         ensures { Removes T.Envelope.boxes T.object Params.MAX_SIZE (R.accepts func.now) (R.selects func.now)
-            self.old path.old result self.new path.new }
+            self.old path.old rest.old result self.new path.new rest.new }
     {
         if self.root.children.is_empty() || !func.should_unpack_parent(&self.root.envelope) {
             return None;
         }
-        let taken = take_below(&mut self.root, path, func);
+        let taken = take_below(&mut self.root, path, rest, func);
         if taken.is_some() {
             self.size -= 1;
             if self.root.children.is_empty() {

@@ -1,7 +1,7 @@
 use Rattle.std.proofs.Common.{◌≡◌, refl, replicate, rules}
 use Rattle.rstar.specs.Nodes.{children_of}
 use Rattle.rstar.specs.Drains.{IsDraining}
-use Rattle.rstar.proofs.Parts.{past_zeros}
+use Rattle.rstar.proofs.Parts.{past_zeros, rest_none}
 use Rattle.rstar.proofs.rtree.RTree.drain_with_selection_function.Goals as goal
 
 pub returns : goal.returns
@@ -13,6 +13,7 @@ returns g c =
         refused = tt;
         same = (c.new.ensures.tree, c.new.ensures.same_reference);
         question = c.new.ensures.func;
-        draining = rw (c.new.ensures.tree, c.new.ensures.func, c.new.ensures.path, zeros) (c.requires, λ lawful. past_zeros (g.R.SelectionFunction.selects c.args.func) c.saturating_add.result (children_of c.args.self.now.root));
+        draining = rw (c.new.ensures.tree, c.new.ensures.func, c.new.ensures.path, c.new.ensures.rest, zeros)
+            (c.requires, rest_none g.T.Envelope.Envelope.boxes g.T.RTreeObject.object (replicate c.saturating_add.result 0) (children_of c.args.self.now.root), λ lawful. past_zeros (g.R.SelectionFunction.selects c.args.func) c.saturating_add.result (children_of c.args.self.now.root));
       },
     )

@@ -10,4 +10,4 @@ returns-clause-none g c = none_from_start _ _ _ c.take_next.ensures.missed
 
 pub returns-clause-counted : goal.returns-clause-counted
 unfolding IsWholeTree
-returns-clause-counted g c = counted_down _ _ _ _ _ c.requires.counted c.take_next.ensures.whole.counted c.take_next.ensures.taken
+returns-clause-counted g c = counted_down _ _ _ _ _ c.requires.counted (c.take_next.ensures.whole tt).counted c.take_next.ensures.taken

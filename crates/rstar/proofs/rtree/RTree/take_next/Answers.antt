@@ -14,7 +14,7 @@ returns-then-is_empty g c =
     let ok = g.met.T.RTreeObject.object_law in
     let accepts = g.R.SelectionFunction.accepts c.args.func.now in
     let selects = g.R.SelectionFunction.selects c.args.func.now in
-    leaves laws ok g.Params.RTreeParams.MAX_SIZE accepts selects c.args.self.now c.args.path.now c.requires (elim c.then-is_empty.branch [
+    leaves laws ok g.Params.RTreeParams.MAX_SIZE accepts selects c.args.self.now c.args.path.now c.args.rest.now c.requires (elim c.then-is_empty.branch [
       | then-is_empty-via-then-is_empty w ↦ λ lawful. subst (λ (ns : List _). NoneSelected selects (all_elements ns)) (sym (no-items (children_of c.args.self.now.root) _ _ c.is_empty.ensures w.if-is_empty.true c.args.self.now.root.children.ok.0)) tt
       | then-is_empty-via-else-is_empty+then-not-should_unpack_parent w ↦ root_refused laws ok g.Params.RTreeParams.MAX_SIZE accepts selects c.args.self.now c.requires (sym w.should_unpack_parent.ensures ∙ w.if-not-should_unpack_parent.true)
     ])
@@ -26,7 +26,7 @@ returns-then-is_empty-2 g c =
     let taken = sym c.is_some.ensures ∙ c.if-is_some.true in
     let less = one_less _ _ _ taken c.take_below-taken.ensures.takes.taken in
     removes g.met.T.Envelope.Envelope.envelope_laws g.met.T.RTreeObject.object_law g.Params.RTreeParams.MAX_SIZE (g.R.SelectionFunction.accepts c.args.func.now) (g.R.SelectionFunction.selects c.args.func.now)
-    c.args.self.now _ _ _ _ c.requires (some-items (children_of c.args.self.now.root) _ _ c.is_empty.ensures c.if-is_empty.false c.args.self.now.root.children.ok.0)
+    c.args.self.now _ _ _ _ _ _ c.requires (some-items (children_of c.args.self.now.root) _ _ c.is_empty.ensures c.if-is_empty.false c.args.self.now.root.children.ok.0)
     c.take_below-taken.ensures.takes c.take_below-taken.ensures.kept (some_one _ _ taken) refl refl (omega arith)
     (λ _. refl) (λ some. absurd (some (no-items (children_of c.take_below-taken.new.node) _ _ c.is_empty-then-is_some.ensures c.if-is_empty-2.true c.take_below-taken.new.node.children.ok.0)))
 
@@ -37,7 +37,7 @@ returns-else-is_empty-2 g c =
     let taken = sym c.is_some.ensures ∙ c.if-is_some.true in
     let less = one_less _ _ _ taken c.take_below-taken.ensures.takes.taken in
     removes g.met.T.Envelope.Envelope.envelope_laws g.met.T.RTreeObject.object_law g.Params.RTreeParams.MAX_SIZE (g.R.SelectionFunction.accepts c.args.func.now) (g.R.SelectionFunction.selects c.args.func.now)
-    c.args.self.now _ _ _ _ c.requires (some-items (children_of c.args.self.now.root) _ _ c.is_empty.ensures c.if-is_empty.false c.args.self.now.root.children.ok.0)
+    c.args.self.now _ _ _ _ _ _ c.requires (some-items (children_of c.args.self.now.root) _ _ c.is_empty.ensures c.if-is_empty.false c.args.self.now.root.children.ok.0)
     c.take_below-taken.ensures.takes c.take_below-taken.ensures.kept (some_one _ _ taken) refl refl (omega arith)
     (λ none. absurd (some-items (children_of c.take_below-taken.new.node) _ _ c.is_empty-then-is_some.ensures c.if-is_empty-2.false c.take_below-taken.new.node.children.ok.0 none)) (λ _. refl)
 
@@ -50,6 +50,6 @@ returns-else-is_some g c =
     let root = none_gives _ none c.take_below-taken.ensures.same in
     let some = some-items (children_of c.args.self.now.root) _ _ c.is_empty.ensures c.if-is_empty.false c.args.self.now.root.children.ok.0 in
     removes g.met.T.Envelope.Envelope.envelope_laws g.met.T.RTreeObject.object_law g.Params.RTreeParams.MAX_SIZE (g.R.SelectionFunction.accepts c.args.func.now) (g.R.SelectionFunction.selects c.args.func.now)
-    c.args.self.now _ _ _ _ c.requires some
+    c.args.self.now _ _ _ _ _ _ c.requires some
     c.take_below-taken.ensures.takes c.take_below-taken.ensures.kept (same_tree c.args.self.now _ _ c.take_below-taken.ensures.same) refl refl (omega arith)
     (λ none. absurd (some (sym (ap children_of root) ∙ none))) (λ _. refl)
