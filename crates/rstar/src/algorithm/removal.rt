@@ -1,4 +1,6 @@
 //! Taking elements out: one selected element for each call, from a place on. Nothing here takes memory.
+//!
+//! What is not done for each element stays out of line (`#[inline(never)]`), so that the steps along the path are short.
 
 ghost use Rattle.std.specs.Prelude.{◌≡◌, ℕ, ◌-◌, ◌<◌, ◌≤◌, true, None, IfNone, length, replicate};
 ghost use Rattle.std.specs.Prelude.{vec_len, vec_capacity, slice_index_or};
@@ -54,6 +56,7 @@ pub(crate) fn take_below<T: RTreeObject, R: SelectionFunction<T>>(
 }
 
 /// The merge of the envelopes of these nodes, by what is kept at the place.
+#[inline(always)]
 fn merge_along<T: RTreeObject>(
     children: &[RTreeNode<T>],
     path: &[usize],
@@ -76,6 +79,7 @@ fn merge_along<T: RTreeObject>(
 ///
 /// Where a drain takes all of n nodes, it so merges n for each root of n that are taken, and some root of n for each
 /// one. A few nodes are merged at once.
+#[inline(always)]
 fn merge_at<T: RTreeObject>(
     children: &[RTreeNode<T>],
     passed: usize,
@@ -99,6 +103,7 @@ fn merge_at<T: RTreeObject>(
 }
 
 /// What is kept of the first nodes, made anew where the next one, the last of those that are left, is among them.
+#[inline(never)]
 fn front_of<T: RTreeObject>(
     children: &[RTreeNode<T>],
     left: usize,
@@ -216,6 +221,7 @@ fn take_leaf<T: RTreeObject>(children: &mut Vec<RTreeNode<T>>, index: usize) -> 
 }
 
 /// Drops the node at this place.
+#[inline(never)]
 fn drop_child<T: RTreeObject>(children: &mut Vec<RTreeNode<T>>, index: usize)
     requires { index < vec_len children.old }
     ensures items { children.new.items ≡ remove children.old.items index }
@@ -244,6 +250,7 @@ fn set_first(path: &mut [usize], passed: usize)
 }
 
 /// Goes back to the beginning on the levels below the first, where there are some, and keeps no envelope then.
+#[inline(never)]
 fn clear_lower<E: Drop>(path: &mut [usize], rest: &mut Option<Rest<E>>)
     ensures numbers { lower_numbers path.new ≡ replicate (length (lower_numbers path.old)) 0 }
     ensures still { length path.old ≤ 1 → rest.new ≡ rest.old }
