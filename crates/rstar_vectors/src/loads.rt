@@ -252,7 +252,7 @@ fn loads_well<T: RTreeObject + Clone + Ord, Params: RTreeParams>(
 }
 
 /// Points, each on a line that wraps around in both coordinates.
-fn points(alloc: Global, count: usize) -> Result<Vec<[i32; 2]>, AllocError> {
+pub(crate) fn points(alloc: Global, count: usize) -> Result<Vec<[i32; 2]>, AllocError> {
     let mut points = Vec::new(alloc);
     for i in 0..count {
         let near = i % 1000;

@@ -5,6 +5,7 @@ ghost use Rattle.rstar.specs.Drains.{drained, IsDraining};
 ghost use Rattle.rstar.specs.Trees.{IsWholeTree};
 
 use crate::insertion::ALONG_A_LINE;
+use crate::loads::{loaded, points};
 use crate::reinsertion::levels_of;
 use rstar::algorithm::selection_functions::{
     SelectAllFunc, SelectInEnvelopeFuncIntersecting, SelectionFunction,
@@ -18,6 +19,35 @@ use std::marker::Model;
 use std::mem::forget;
 use std::ops::ControlFlow;
 use std::test::Fail;
+
+/// Wide nodes.
+struct Wide;
+
+impl RTreeParams for Wide {
+    ghost use Rattle.std.proofs.Common.{arith};
+
+    ghost MIN_SIZE = { 20 };
+
+    ghost MAX_SIZE = { 100 };
+
+    ghost REINSERTION_COUNT = { 1 };
+
+    const MIN_SIZE: usize = 20;
+
+    const MAX_SIZE: usize = 100;
+
+    const REINSERTION_COUNT: usize = 1;
+
+    ghost max_at_least_four = { Prim.omega arith };
+
+    ghost max_fits = { Prim.omega arith };
+
+    ghost min_positive = { Prim.omega arith };
+
+    ghost min_at_most_half = { Prim.omega arith };
+
+    ghost reinsertion_leaves = { Prim.omega arith };
+}
 
 type Fence = GeomWithData<Rectangle<[i64; 2]>, u64>;
 
@@ -64,16 +94,13 @@ fn two_fences_out_one_in(tree: &mut RTree<Fence>, area: AABB<[i64; 2]>) -> Resul
 
 /// Calls a drain so many times, or until it ends, and gives how many elements came.
 #[tactic(auto, unfolding(rstar::specs::Drains::IsDraining))]
-fn call<T: RTreeObject, R: SelectionFunction<T>>(
-    drain: &mut DrainIterator<'_, T, R>,
+fn call<T: RTreeObject, R: SelectionFunction<T>, Params: RTreeParams>(
+    drain: &mut DrainIterator<'_, T, R, Params>,
     most: usize,
 ) -> usize
-    requires { IsDraining T.Envelope.boxes T.object ⟦<DefaultParams as RTreeParams>⟧.MAX_SIZE R.accepts R.selects
-        drain.old }
-    ensures draining { IsDraining T.Envelope.boxes T.object ⟦<DefaultParams as RTreeParams>⟧.MAX_SIZE
-        R.accepts R.selects drain.new }
-    ensures whole { IsWholeTree T.Envelope.boxes T.object ⟦<DefaultParams as RTreeParams>⟧.MAX_SIZE
-        (drained drain.new) }
+    requires { IsDraining T.Envelope.boxes T.object Params.MAX_SIZE R.accepts R.selects drain.old }
+    ensures draining { IsDraining T.Envelope.boxes T.object Params.MAX_SIZE R.accepts R.selects drain.new }
+    ensures whole { IsWholeTree T.Envelope.boxes T.object Params.MAX_SIZE (drained drain.new) }
     ensures same { drain.new.tree.ghost_name ≡ drain.old.tree.ghost_name }
 {
     for call in 0..most {
@@ -85,13 +112,13 @@ fn call<T: RTreeObject, R: SelectionFunction<T>>(
 }
 
 /// Drains at most so many elements, drops the drain, and gives how many came.
-pub(crate) fn drain_some<T: RTreeObject, R: SelectionFunction<T>>(
-    tree: &mut RTree<T>,
+pub(crate) fn drain_some<T: RTreeObject, R: SelectionFunction<T>, Params: RTreeParams>(
+    tree: &mut RTree<T, Params>,
     func: R,
     most: usize,
 ) -> Result<usize, AllocError>
-    requires { IsWholeTree T.Envelope.boxes T.object ⟦<DefaultParams as RTreeParams>⟧.MAX_SIZE tree.old }
-    ensures { IsWholeTree T.Envelope.boxes T.object ⟦<DefaultParams as RTreeParams>⟧.MAX_SIZE tree.new }
+    requires { IsWholeTree T.Envelope.boxes T.object Params.MAX_SIZE tree.old }
+    ensures { IsWholeTree T.Envelope.boxes T.object Params.MAX_SIZE tree.new }
 {
     let mut drain = tree.drain_with_selection_function(func)?;
     Ok(call(&mut drain, most))
@@ -183,7 +210,7 @@ fn is_tight<T: RTreeObject>(parent: &ParentNode<T>) -> bool {
 }
 
 /// Whether all elements lie on one level, each envelope is the merge of those below it, and `size` counts the elements.
-fn stands<T: RTreeObject>(tree: &RTree<T>) -> bool {
+fn stands<T: RTreeObject, Params: RTreeParams>(tree: &RTree<T, Params>) -> bool {
     let root = tree.root();
     is_tight(root) && count_below(root.children(), levels_of(root)) == Some(tree.size())
 }
@@ -443,6 +470,23 @@ fn drains_that_are_given_up(rt: HostRuntime) -> Result<(), Fail> {
         assert_eq!(rt; marks.size(), 8 - calls);
         assert!(rt; marks.stands() && marks.contains([5, 5]));
         assert!(rt; forgotten_stands(rt.alloc(), calls)?);
+    }
+    Ok(())
+}
+
+// A node of 90 leaves, and four of 75: a drain keeps the merge of those that it has not come to.
+#[test]
+fn wide_nodes_are_drained(rt: HostRuntime) -> Result<(), Fail> {
+    for count in [90, 300] {
+        for most in [0, 1, 9, 10, 57, 58, 59, 60, 75, 80, 90, 299, 300] {
+            let mut tree: RTree<[i32; 2], Wide> = loaded(points(rt.alloc(), count)?)?;
+            let came = drain_some(&mut tree, SelectAllFunc, most)?;
+            assert!(rt; came == most.min(count) && came <= count && tree.size() == count - came);
+            assert!(rt; stands(&tree), "{count} {most}");
+            let half = AABB::from_corners([0, 0], [50, 102]);
+            drain_some(&mut tree, SelectInEnvelopeFuncIntersecting::new(half), most)?;
+            assert!(rt; stands(&tree), "{count} {most}");
+        }
     }
     Ok(())
 }

@@ -5,6 +5,6 @@ use Rattle.rstar_vectors.proofs.removal.call.Given as goal
 -- it drains the same tree
 abbrev pub invariant-loop-call : goal.invariant-loop-call
 invariant-loop-call g l = record {
-  draining : IsDraining g.T.Envelope.Envelope.boxes g.T.RTreeObject.object 6 g.R.SelectionFunction.accepts g.R.SelectionFunction.selects l.drain;
+  draining : IsDraining g.T.Envelope.Envelope.boxes g.T.RTreeObject.object g.Params.RTreeParams.MAX_SIZE g.R.SelectionFunction.accepts g.R.SelectionFunction.selects l.drain;
   same : l.drain.tree.ghost_name ≡ l.initial.drain.tree.ghost_name;
 }
