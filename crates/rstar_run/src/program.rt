@@ -198,6 +198,7 @@ fn print_stop<W: Write>(printer: &mut Printer, output: &mut W, stop: Stop) -> Re
     ensures front { AppendsFront (W.contents output.old) (W.contents output.new)
         (printer.old.held.items ++ stop_text stop) }
     ensures silent { stop ≡ Stop.Output → IsErr result × Keeps (W.contents output.old) (W.contents output.new) }
+    ensures failed { IfErr result (λ why. why ≡ Stop.Output) }
 {
     match stop {
         Stop::Line(number) => {
@@ -223,6 +224,7 @@ fn close<W: Write>(
         (printer.old.held.items ++ end_text ended) }
     ensures silent { ended ≡ Err Stop.Output →
         IsErr result × Keeps (W.contents output.old) (W.contents output.new) }
+    ensures failed { IfErr result (λ why. why ≡ Stop.Output) }
 {
     match ended {
         Ok(()) => printer.flush(output),
