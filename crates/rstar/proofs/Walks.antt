@@ -357,17 +357,3 @@ no-items xs n b p q r = nil-length xs (grind (arith, nat_tests))
 pub some-items : {A : Type 0} (xs : List A) (n : ℕ) (b : Bool) → b ≡ (n == 0) → b ≡ false → n ≡ length xs → xs ≢ []
 some-items [] n b p q r = λ e. absurd (grind (arith, nat_tests))
 some-items (x ∷ xs) n b p q r = λ e. cc
-
--- ---- the counts of a walk, at the same root and question
-
-module _ {T F E P S X : Type 0} (accepts : F → E → Bool) (f f' : F) (r r' : ParentNode T E P S X) where
-  same-reach : f ≡ f' → r ≡ r' → reach_of (accepts f) r ≡ reach_of (accepts f') r'
-  same-reach e e' = ap (λ q. reach_of (accepts q) r) e ∙ ap (reach_of (accepts f')) e'
-
-  pub way-at_most : {slices : Slices T E P S X} {room opened : ℕ} → f ≡ f' → r ≡ r' → IsUnderWay (accepts f) r slices room opened → opened ≤ reach_of (accepts f') r'
-  way-at_most e e' way = let same = same-reach e e' in omega (arith, way.all, way.counted)
-
-  pub way-ended : {slices : Slices T E P S X} {room opened : ℕ} → f ≡ f' → r ≡ r' → reach_from_slices (accepts f) slices ≡ 0 → IsUnderWay (accepts f) r slices room opened
-      → opened ≡ min (reach_of (accepts f') r') usize_max
-  way-ended e e' nothing way =
-      way.counted ∙ ap (λ n. min n usize_max) (let n : way.count ≡ reach_of (accepts f) r = omega (arith, way.all) in n ∙ same-reach e e')

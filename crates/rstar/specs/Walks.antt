@@ -6,8 +6,6 @@ use Rattle.rstar_base.specs.Counts.{usize_max}
 use Rattle.rstar.specs.declared.node.RTreeNode.{RTreeNode}
 use Rattle.rstar.specs.declared.node.ParentNode.{ParentNode}
 use Rattle.rstar.specs.declared.iterators.SelectionIterator.{SelectionIterator}
-use Rattle.rstar.specs.declared.iterators.Step.{Step}
-use Rattle.rstar.specs.declared.iterators.Step.TheVariants.{Found, Passed, Ended}
 use Rattle.rstar.specs.Nodes.{total, fold_tree, all_given, all_reach, reach_of, children_of, IsTree}
 
 -- ---- slices, the last of them read first
@@ -72,30 +70,20 @@ abbrev pub steps_of : {T E P S X : Type 0} → List (Bor (List (RTreeNode T E P 
 steps_of [] = 0
 steps_of (nodes ∷ slices) = steps_of slices + (1 + total (map steps nodes.now))
 
--- what a step did to the elements that are to come
-abbrev pub IsGiven : {T : Type 0} → List T → Step T → List T → Type 0
-IsGiven old (Found t) new = old ≡ t.now ∷ new
-IsGiven old Passed new = old ≡ new
-IsGiven old Ended new = (old ≡ []) × (new ≡ [])
-
--- what it did to the steps that are to come
-abbrev pub IsNearer : {T : Type 0} → ℕ → Step T → ℕ → Type 0
-IsNearer old (Found t) new = Unit {0}
-IsNearer old Passed new = new < old
-IsNearer old Ended new = Unit {0}
-
--- at the end no parent is left to open
-abbrev pub IsOver : {T : Type 0} → Step T → ℕ → Type 0
-IsOver (Found t) left = Unit {0}
-IsOver Passed left = Unit {0}
-IsOver Ended left = left ≡ 0
-
--- a step keeps the walk, its root and its question, and goes on
+-- a step gives these elements, keeps the walk, its root and its question, and goes on
 pub record IsStep {T F E P S X : Type 0} (accepts : F → E → Bool) (selects : F → T → Bool)
-    (old : SelectionIterator T F E P S X) (r : Step T) (new : SelectionIterator T F E P S X) : Type 0 where
+    (old : SelectionIterator T F E P S X) (found : List T) (new : SelectionIterator T F E P S X) : Type 0 where
   pub walking : HasItsWay accepts new
   pub root : new.root.now ≡ old.root.now
   pub question : new.func ≡ old.func
-  pub given : IsGiven (given_by accepts selects old) r (given_by accepts selects new)
-  pub nearer : IsNearer (steps_of (slices_of old)) r (steps_of (slices_of new))
-  pub over : IsOver r (reach_from_slices (accepts new.func) (slices_of new))
+  pub given : given_by accepts selects old ≡ found ++ given_by accepts selects new
+  pub nearer : steps_of (slices_of new) < steps_of (slices_of old)
+
+-- at the end nothing is to come, and no parent is left to open
+pub record IsOver {T F E P S X : Type 0} (accepts : F → E → Bool) (selects : F → T → Bool)
+    (old new : SelectionIterator T F E P S X) : Type 0 where
+  pub walking : HasItsWay accepts new
+  pub root : new.root.now ≡ old.root.now
+  pub question : new.func ≡ old.func
+  pub given : (given_by accepts selects old ≡ []) × (given_by accepts selects new ≡ [])
+  pub over : reach_from_slices (accepts new.func) (slices_of new) ≡ 0

@@ -1,11 +1,12 @@
 //! Iterators over what a tree holds: walks that open the parents that a question accepts, and no other.
 
-ghost use Rattle.std.specs.Prelude.{◌≡◌, ◌≤◌, IsOk, IfOk};
+ghost use Rattle.std.specs.Prelude.{◌≡◌, ◌≤◌, if◌then◌else◌, true, false, [], ◌∷◌, IsOk, IfOk};
 ghost use Rattle.std.specs.Iterator.{item_count};
 ghost use Rattle.rstar.specs.Heights.{levels_below};
 ghost use Rattle.rstar.specs.Nodes.{children_of, given_of, IsWhole};
 ghost use Rattle.rstar.specs.Selections.{question_of, opened_by, to_come, IsMade, IsWalking, GivesNext};
-ghost use Rattle.rstar.specs.Walks.{HasItsWay, IsStep};
+ghost use Rattle.rstar.specs.Walks.{HasItsWay, IsStep, IsOver};
+ghost use Rattle.rstar.specs.declared.node.RTreeNode.{Leaf, Parent};
 
 mod drain;
 mod into_iter;
@@ -65,16 +66,6 @@ pub type LocateWithinDistanceIterator<'a, T> = SelectionIterator<
     SelectWithinDistanceFunction<T>,
 >;
 
-/// What one step of a walk did.
-enum Step<'a, T> {
-    /// It found an element.
-    Found(&'a T),
-    /// It went on.
-    Passed,
-    /// It was at the end.
-    Ended,
-}
-
 impl<'a, T: RTreeObject, Func: SelectionFunction<T>> SelectionIterator<'a, T, Func> {
     /// A selection below a root, with so many levels of parents below it.
     #[tactic(auto, unfolding(crate::specs::Selections::to_come, crate::specs::Selections::IsWalking))]
@@ -120,39 +111,46 @@ impl<'a, T: RTreeObject, Func: SelectionFunction<T>> SelectionIterator<'a, T, Fu
         self.opened
     }
 
-    /// Reads one node, or goes back to the nodes that were left last.
-    fn step(&mut self) -> Step<'a, T>
-        requires { HasItsWay Func.accepts self.old }
-        ensures { IsStep Func.accepts Func.selects self.old result self.new }
+    /// Leaves a leaf behind, and says whether it is selected.
+    fn leave(&mut self, t: &'a T, rest: &'a [RTreeNode<T>]) -> bool
+        requires way { HasItsWay Func.accepts self.old }
+        requires first { self.old.nodes.now ≡ Leaf t.now ∷ rest.now }
+        ensures { IsStep Func.accepts Func.selects self.old (if result then t.now ∷ [] else []) self.new }
     {
-        let Some((first, rest)) = self.nodes.split_first() else {
-            let Some(above) = self.path.pop() else {
-                return Step::Ended;
-            };
-            self.nodes = above;
-            return Step::Passed;
-        };
         self.nodes = rest;
-        match first {
-            RTreeNode::Leaf(t) => {
-                if self.func.should_unpack_leaf(t) {
-                    Step::Found(t)
-                } else {
-                    Step::Passed
-                }
+        self.func.should_unpack_leaf(t)
+    }
+
+    /// Enters a parent whose envelope the question accepts, and leaves the nodes behind it for later.
+    fn enter(&mut self, parent: &'a ParentNode<T>, rest: &'a [RTreeNode<T>])
+        requires way { HasItsWay Func.accepts self.old }
+        requires first { self.old.nodes.now ≡ Parent parent.now ∷ rest.now }
+        ensures { IsStep Func.accepts Func.selects self.old [] self.new }
+    {
+        if !self.func.should_unpack_parent(&parent.envelope) {
+            self.nodes = rest;
+            return;
+        }
+        self.opened = self.opened.saturating_add(1);
+        if !rest.is_empty() {
+            self.path.push_reserved(rest);
+        }
+        self.nodes = parent.children.as_slice();
+    }
+
+    /// Goes back to the nodes that were left last, if there are any.
+    fn back(&mut self) -> bool
+        requires way { HasItsWay Func.accepts self.old }
+        requires none { self.old.nodes.now ≡ [] }
+        ensures more { result ≡ true → IsStep Func.accepts Func.selects self.old [] self.new }
+        ensures over { result ≡ false → IsOver Func.accepts Func.selects self.old self.new }
+    {
+        match self.path.pop() {
+            Some(above) => {
+                self.nodes = above;
+                true
             }
-            RTreeNode::Parent(parent) => {
-                if self.func.should_unpack_parent(&parent.envelope) {
-                    self.opened = self.opened.saturating_add(1);
-                    if !rest.is_empty() {
-                        self.path.push_reserved(rest);
-                    }
-                    self.nodes = parent.children.as_slice();
-                    Step::Passed
-                } else {
-                    Step::Passed
-                }
-            }
+            None => false,
         }
     }
 }
@@ -169,10 +167,18 @@ impl<'a, T: RTreeObject, Func: SelectionFunction<T>> Iterator for SelectionItera
     #[tactic(auto, unfolding(crate::specs::Selections::to_come, crate::specs::Selections::IsWalking))]
     fn next(&mut self) -> Option<&'a T> {
         loop {
-            match self.step() {
-                Step::Found(t) => return Some(t),
-                Step::Passed => {}
-                Step::Ended => return None,
+            match self.nodes.split_first() {
+                Some((RTreeNode::Leaf(t), rest)) => {
+                    if self.leave(t, rest) {
+                        return Some(t);
+                    }
+                }
+                Some((RTreeNode::Parent(parent), rest)) => self.enter(parent, rest),
+                None => {
+                    if !self.back() {
+                        return None;
+                    }
+                }
             }
         }
     }

@@ -45,7 +45,7 @@ impl<T: RTreeObject> InEnvelope<T::Envelope> for T {
 /// How many pairs are asked at once, with a mark for each.
 const MARKS: usize = 64;
 
-/// How many nodes a list has at most of which some rows are asked at once.
+/// Up to so many nodes on the right, several nodes on the left are asked about them at once.
 const NARROW: usize = 8;
 
 /// The pairs of elements of two trees whose envelopes intersect, each pair of places once, in some order, and then

@@ -1,4 +1,4 @@
-use Rattle.std.proofs.Common.{◌∙◌, sym, arith}
+use Rattle.std.proofs.Common.{sym, arith}
 use Rattle.rstar.proofs.Scans.{left_front}
 use Rattle.rstar.proofs.algorithm.removal.front_of.Goals as goal
 
