@@ -113,6 +113,9 @@ two_more : (r b s : ℕ) → 0 < r → r * (b + 2) ≤ s + 1 → r * b ≤ s
 two_more r b s some lists = omega (arith, lists, some)
 
 -- the spare lists are enough for all that is handed out
+pub some_spare : (r height have : ℕ) → spare_lists r height ≤ have → 0 < have
+some_spare r height have lists = let one : 1 * 1 ≤ max 1 r * (height + r + 2) = mul-le 1 1 (max 1 r) (height + r + 2) (omega arith) (omega arith) in omega (arith, one)
+
 pub enough_again : (r levels handed have : ℕ) → 0 < r → handed ≤ r → spare_lists r (1 + levels) ≤ have + 1 → handed * (levels + handed + 1) ≤ have
 enough_again r levels handed have some few lists =
     let one : handed * (levels + handed + 1) ≤ r * (levels + r + 1) = mul-le handed (levels + handed + 1) r (levels + r + 1) few (omega (arith, few)) in

@@ -1,6 +1,6 @@
 //! Envelopes that count: elements of a user's own, each of which counts once in every parent above it.
 
-ghost use Rattle.std.specs.Prelude.{◌≡◌, min, length};
+ghost use Rattle.std.specs.Prelude.{◌≡◌, ◌≤◌, min, length};
 ghost use Rattle.rstar_base.specs.BoxData.{box_data};
 ghost use Rattle.rstar_base.specs.Counts.{counted_objects};
 ghost use Rattle.rstar_base.specs.PointElements.{point_object, point_distances};
@@ -9,13 +9,19 @@ ghost use Rattle.rstar_base.specs.laws.PointElementLaws.{point_distance_laws};
 ghost use Rattle.rstar_vectors.specs.laws.PlaceLaws.{place_equal};
 ghost use Rattle.rstar.specs.Trees.{elements_in, IsWholeTree};
 
+use crate::removal::drain_and_stand;
+use crate::scenarios::{inserted, loaded};
+use rstar::algorithm::selection_functions::SelectAllFunc;
+use rstar::node::RTreeNode;
 use rstar::{
     AABB, Counted, DefaultParams, Envelope, EqualEnvelopes, Point, PointDistance, RTree,
     RTreeObject, RTreeParams,
 };
+use std::alloc::{AllocError, Global};
+use std::test::Fail;
 
 /// A place with a number.
-#[derive(Clone, Debug, PartialEq, Drop)]
+#[derive(Clone, Copy, PartialEq, Drop)]
 pub struct Place<P> {
     /// Its number.
     pub number: u64,
@@ -67,153 +73,183 @@ pub fn count_at_root<P: Point>(tree: &RTree<Place<P>>) -> usize
     tree.root().envelope().count()
 }
 
-#[cfg(test)]
-mod tests {
-    use super::*;
-    use crate::loads::loaded;
-    use crate::removal::drain_some;
-    use rstar::algorithm::selection_functions::SelectAllFunc;
-    use rstar::{InsertError, RTreeNode};
-    use std::alloc::{AllocError, Global};
-    use std::marker::Model;
-    use std::test::Fail;
+/// Elements whose envelopes count.
+trait Counts: EqualEnvelopes {
+    /// How often an envelope counts.
+    fn count(envelope: &Self::Envelope) -> usize;
+}
 
-    // What is counted, merged with itself: the count before and after, and whether both are equal.
-    #[test]
-    fn merges_add_counts(rt: HostRuntime) {
-        let square = AABB::from_corners([0, 0], [2, 2]);
-        let rows: [(AABB<[i64; 2]>, usize, usize, bool); 3] = [
-            (AABB::from_point([1, 2]), 1, 2, false),
-            (square, 1, 2, false),
-            (AABB::new_empty(), 0, 0, true),
-        ];
-        for (aabb, count, twice, is_same) in rows {
-            let one = Counted::new(aabb);
-            let merged = one.merged(&one);
-            assert_eq!(rt; one.count(), count);
-            assert_eq!(rt; *one.aabb(), aabb);
-            assert_eq!(rt; merged.count(), twice);
-            assert_eq!(rt; *merged.aabb(), aabb);
-            assert_eq!(rt; merged == one, is_same);
-            assert_eq!(rt; one.is_empty(), count == 0);
-            assert_eq!(rt; Counted::new_empty() == one, count == 0);
+impl<P: Point> Counts for Place<P> {
+    fn count(envelope: &Counted<P>) -> usize {
+        envelope.count()
+    }
+}
+
+/// How many elements lie below some nodes, at most `levels` levels of parents down: none where a parent counts another
+/// number.
+fn count_below<T: Counts>(nodes: &[RTreeNode<T>], levels: usize) -> Option<usize> {
+    let mut count = 0usize;
+    for node in nodes {
+        let own = match node {
+            RTreeNode::Leaf(_) => 1,
+            RTreeNode::Parent(parent) => {
+                if levels == 0 {
+                    return None;
+                }
+                let below = count_below(parent.children(), levels - 1)?;
+                if T::count(parent.envelope()) != below {
+                    return None;
+                }
+                below
+            }
+        };
+        count = count.saturating_add(own);
+    }
+    Some(count)
+}
+
+/// Whether the root counts so many elements, and each parent those below it.
+fn counts_all<T: Counts>(tree: &RTree<T>, all: usize) -> bool {
+    let root = tree.root();
+    T::count(root.envelope()) == all
+        && tree.size() == all
+        && count_below(root.children(), 64) == Some(all)
+}
+
+/// Inserts elements, and tells whether all parents count what lies below them after each.
+fn count_in<T: Counts + Copy>(tree: &mut RTree<T>, elements: &[T]) -> bool
+    requires { IsWholeTree T.Envelope.boxes T.object ⟦<DefaultParams as RTreeParams>⟧.MAX_SIZE tree.old }
+    ensures { IsWholeTree T.Envelope.boxes T.object ⟦<DefaultParams as RTreeParams>⟧.MAX_SIZE tree.new }
+{
+    for element in elements {
+        let all = tree.size().saturating_add(1);
+        if element.envelope().is_empty()
+            || tree.insert(*element).is_err()
+            || !counts_all(tree, all)
+        {
+            return false;
         }
     }
+    true
+}
 
-    // A box with no axis is not empty, and counts; the count of nothing is 0.
-    #[test]
-    fn a_box_with_no_axis_counts(rt: HostRuntime) {
-        let none: [i64; 0] = [];
-        let one = Counted::new(AABB::from_point(none));
-        assert_eq!(rt; one.count(), 1);
-        assert!(rt; !one.is_empty());
-        let nothing: Counted<[i64; 0]> = Counted::new_empty();
-        assert!(rt; nothing.is_empty() && nothing != one);
-        assert_eq!(rt; nothing.merged(&one), one);
+/// Removes elements, and tells whether each was there, and all parents count what lies below them after each.
+fn count_out<T: Counts>(tree: &mut RTree<T>, elements: &[T]) -> bool
+    requires { IsWholeTree T.Envelope.boxes T.object ⟦<DefaultParams as RTreeParams>⟧.MAX_SIZE tree.old }
+    ensures { IsWholeTree T.Envelope.boxes T.object ⟦<DefaultParams as RTreeParams>⟧.MAX_SIZE tree.new }
+{
+    for element in elements {
+        let all = tree.size().saturating_sub(1);
+        if tree.remove(element).is_none() || !counts_all(tree, all) {
+            return false;
+        }
     }
+    true
+}
 
-    /// Places in a tree, which is whole.
-    #[derive(Drop)]
-    struct Places {
-        tree: RTree<Place<[i64; 2]>>,
+/// Drains at most so many elements again and again, and tells whether so many are left each time, and all parents count
+/// what lies below them.
+fn count_drained<T: Counts>(tree: &mut RTree<T>, most: usize, left: &[usize]) -> bool
+    requires { IsWholeTree T.Envelope.boxes T.object ⟦<DefaultParams as RTreeParams>⟧.MAX_SIZE tree.old }
+    ensures { IsWholeTree T.Envelope.boxes T.object ⟦<DefaultParams as RTreeParams>⟧.MAX_SIZE tree.new }
+{
+    for all in left {
+        if drain_and_stand(tree, SelectAllFunc, most).is_none() || !counts_all(tree, *all) {
+            return false;
+        }
     }
+    true
+}
 
-    impl Model for Places {
-        ghost use Rattle.std.specs.Prelude.{ℕ, ℤ, List, map};
-        ghost use Rattle.rstar.specs.Trees.{elements_in, IsWholeTree};
-
-        ghost Value = { List (List (ℤ × ℤ) × ℕ) };
-
-        ghost view = { λ s. map ⟦<Place<[i64; 2]> as RTreeObject>⟧.object.box_of (elements_in s.tree) };
-
-        ghost invariant = { λ s. IsWholeTree ⟦<Counted<[i64; 2]> as Envelope>⟧.boxes
-            ⟦<Place<[i64; 2]> as RTreeObject>⟧.object ⟦<DefaultParams as RTreeParams>⟧.MAX_SIZE s.tree };
+/// Whether all parents of a loaded tree count what lies below them, and so after each insertion, each removal and each
+/// drain of at most 300, after which so many are left.
+fn count_always<T: Counts + Copy>(
+    first: Vec<T>,
+    others: &[T],
+    removed: &[T],
+    left: &[usize],
+) -> bool
+    requires { 2 ≤ T.Envelope.Point.DIMENSIONS }
+{
+    let count = first.len();
+    match loaded(first) {
+        Ok(mut tree) => {
+            counts_all(&tree, count)
+                && count_in(&mut tree, others)
+                && count_out(&mut tree, removed)
+                && count_drained(&mut tree, 300, left)
+        }
+        Err(_) => false,
     }
+}
 
-    /// The place with this number, on a line that wraps around in both coordinates.
-    fn place(number: usize) -> Place<[i64; 2]> {
+/// Whether the root of a tree of these places counts them all.
+fn root_counts<P: Point + Copy>(alloc: Global, places: &[Place<P>]) -> bool {
+    match inserted(alloc, places) {
+        Some(tree) => count_at_root(&tree) == places.len(),
+        None => false,
+    }
+}
+
+/// The places with the numbers from one up to another, without that, on a line that wraps around in both coordinates.
+fn places(alloc: Global, from: usize, end: usize) -> Result<Vec<Place<[i64; 2]>>, AllocError> {
+    let mut places = Vec::new(alloc);
+    for number in from..end {
         let near = number % 10000;
-        Place {
+        places.push(Place {
             number: number as u64,
             at: [((37 * near) % 101) as i64, ((53 * near) % 103) as i64],
-        }
+        })?;
     }
+    Ok(places)
+}
 
-    /// How many elements lie below some nodes, at most `levels` levels of parents down: none where a parent counts
-    /// another number.
-    fn count_below(nodes: &[RTreeNode<Place<[i64; 2]>>], levels: usize) -> Option<usize> {
-        let mut count = 0usize;
-        for node in nodes {
-            let own = match node {
-                RTreeNode::Leaf(_) => 1,
-                RTreeNode::Parent(parent) => {
-                    if levels == 0 {
-                        return None;
-                    }
-                    let below = count_below(parent.children(), levels - 1)?;
-                    if parent.envelope().count() != below {
-                        return None;
-                    }
-                    below
-                }
-            };
-            count = count.saturating_add(own);
-        }
-        Some(count)
+/// Whether a box, given twice, counts so often, alone and merged with itself, and nothing merged with it is it; what
+/// nothing was merged into is empty, and equals the box where this counts 0.
+fn merges<P: Point>(aabb: AABB<P>, same: &AABB<P>, count: usize, twice: usize) -> bool {
+    let one = Counted::new(aabb);
+    let merged = one.merged(&one);
+    let nothing = Counted::new_empty();
+    one.count() == count
+        && *one.aabb() == *same
+        && merged.count() == twice
+        && *merged.aabb() == *same
+        && (merged == one) == (count == twice)
+        && one.is_empty() == (count == 0)
+        && nothing.is_empty()
+        && (nothing == one) == (count == 0)
+        && nothing.merged(&one) == one
+}
+
+// What is counted, merged with itself: the count before and after.
+#[test]
+fn merges_add_counts(rt: HostRuntime) {
+    let rows: [(AABB<[i64; 2]>, usize, usize); 3] = [
+        (AABB::from_point([1, 2]), 1, 2),
+        (AABB::from_corners([0, 0], [2, 2]), 1, 2),
+        (AABB::new_empty(), 0, 0),
+    ];
+    for (aabb, count, twice) in rows {
+        assert!(rt; merges(aabb, &aabb, count, twice));
     }
+}
 
-    impl Places {
-        /// The places with the numbers below a count, loaded.
-        fn loaded(alloc: Global, count: usize) -> Result<Places, AllocError> {
-            let mut places = Vec::new(alloc);
-            for number in 0..count {
-                places.push(place(number))?;
-            }
-            Ok(Places {
-                tree: loaded(places)?,
-            })
-        }
+// A box with no axis is not empty, and counts; the count of nothing is 0.
+#[test]
+fn a_box_with_no_axis_counts(rt: HostRuntime) {
+    let none: [i64; 0] = [];
+    let one = AABB::from_point(none);
+    assert!(rt; merges(one, &one, 1, 2));
+}
 
-        fn insert(&mut self, number: usize) -> Result<(), InsertError<Place<[i64; 2]>>> {
-            self.tree.insert(place(number))
-        }
-
-        fn remove(&mut self, number: usize) -> bool {
-            self.tree.remove(&place(number)).is_some()
-        }
-
-        fn drain(&mut self, most: usize) -> Result<usize, AllocError> {
-            drain_some(&mut self.tree, SelectAllFunc, most)
-        }
-
-        /// Whether the root counts so many elements, and each parent those below it.
-        fn count(&self, all: usize) -> bool {
-            let root = self.tree.root();
-            count_at_root(&self.tree) == all
-                && self.tree.size() == all
-                && count_below(root.children(), 64) == Some(all)
-        }
-    }
-
-    // rstar's `test_envelopes_merge_every_element_once`, and drains after it: a load of 500, 1,500 insertions, which
-    // reinsert, and 1,000 removals.
-    #[test]
-    fn every_element_is_merged_once(rt: HostRuntime) -> Result<(), Fail> {
-        let mut places = Places::loaded(rt.alloc(), 500)?;
-        assert!(rt; places.count(500));
-        for number in 500..2000 {
-            places.insert(number)?;
-            assert!(rt; places.count(number + 1), "{number}");
-        }
-        for number in 0..1000 {
-            assert!(rt; places.remove(number));
-            assert!(rt; places.count(1999 - number), "{number}");
-        }
-        for left in [700, 400, 100, 0] {
-            let most = if left == 0 { 100 } else { 300 };
-            assert_eq!(rt; places.drain(most)?, most);
-            assert!(rt; places.count(left));
-        }
-        Ok(())
-    }
+// rstar's `test_envelopes_merge_every_element_once`, and drains after it: a load of 500, 1,500 insertions, which
+// reinsert, and 1,000 removals.
+#[test]
+fn every_element_is_merged_once(rt: HostRuntime) -> Result<(), Fail> {
+    let first = places(rt.alloc(), 0, 500)?;
+    let others = places(rt.alloc(), 500, 2000)?;
+    let removed = places(rt.alloc(), 0, 1000)?;
+    assert!(rt; root_counts(rt.alloc(), &removed));
+    assert!(rt; count_always(first, &others, &removed, &[700, 400, 100, 0]));
+    Ok(())
 }

@@ -79,8 +79,9 @@ impl Fences {
 fn count_in<T: RTreeObject>(tree: &RTree<T>, envelope: T::Envelope) -> Result<usize, AllocError>
     requires { IsWholeTree T.Envelope.boxes T.object ⟦<DefaultParams as RTreeParams>⟧.MAX_SIZE tree.now }
 {
+    let mut found = tree.locate_in_envelope(envelope)?;
     let mut count = 0usize;
-    for _ in tree.locate_in_envelope(envelope)? {
+    while let Some(_) = found.next() {
         count = count.saturating_add(1);
     }
     Ok(count)
@@ -91,9 +92,21 @@ fn sum_in(tree: &RTree<Fence>, area: AABB<[i64; 2]>) -> Result<u64, AllocError>
     requires { IsWholeTree ⟦<AABB<[i64; 2]> as Envelope>⟧.boxes ⟦<Fence as RTreeObject>⟧.object
         ⟦<DefaultParams as RTreeParams>⟧.MAX_SIZE tree.now }
 {
+    sum_of(tree, area)
+}
+
+/// The sum of the numbers of a tree's elements in an envelope.
+fn sum_of<R: RTreeObject>(
+    tree: &RTree<GeomWithData<R, u64>>,
+    envelope: R::Envelope,
+) -> Result<u64, AllocError>
+    requires { IsWholeTree R.Envelope.boxes ⟦<GeomWithData<R, u64> as RTreeObject>⟧.object
+        ⟦<DefaultParams as RTreeParams>⟧.MAX_SIZE tree.now }
+{
+    let mut found = tree.locate_in_envelope(envelope)?;
     let mut sum = 0u64;
-    for fence in tree.locate_in_envelope(area)? {
-        sum = sum.saturating_add(fence.data);
+    while let Some(element) = found.next() {
+        sum = sum.saturating_add(element.data);
     }
     Ok(sum)
 }

@@ -1,101 +1,112 @@
 //! The small heap, by rows.
 
+ghost use Rattle.std.specs.Ordering.{int_cmp};
+ghost use Rattle.rstar_base.specs.SmallHeaps.{IsOrdered};
+
 use rstar_base::heap::SmallHeap;
-use std::alloc::{AllocError, Global};
-use std::marker::Model;
-use std::test::Fail;
+use std::alloc::Global;
 
-/// Numbers in a heap, which is in order.
+/// What is done to a heap.
 #[derive(Drop)]
-struct Numbers {
-    heap: SmallHeap<i32>,
+enum Step {
+    /// Pushes the numbers from one up to another, without that.
+    Push(i32, i32),
+    /// Extends it by these numbers at once.
+    Extend(i32, i32),
+    /// Pops the numbers from one down to another, with that.
+    Pop(i32, i32),
+    /// Pops, and there is none.
+    End,
 }
 
-impl Model for Numbers {
-    ghost use Rattle.std.specs.Prelude.{ℤ, List};
-    ghost use Rattle.rstar_base.specs.SmallHeaps.{items_of, IsOrdered};
-
-    ghost Value = { List ℤ };
-
-    ghost view = { λ n. items_of n.heap };
-
-    ghost invariant = { λ n. IsOrdered ⟦<i32 as Ord>⟧.cmp n.heap };
+/// Pushes the numbers from one up to another, without that, and tells whether each found its place.
+fn pushes(heap: &mut SmallHeap<i32>, from: i32, end: i32) -> bool
+    requires { IsOrdered int_cmp heap.old }
+    ensures { IsOrdered int_cmp heap.new }
+{
+    for number in from..end {
+        if heap.push(number).is_err() {
+            return false;
+        }
+    }
+    true
 }
 
-impl Numbers {
-    fn new(alloc: Global) -> Numbers {
-        Numbers {
-            heap: SmallHeap::new(alloc),
+/// Whether the next numbers are those from one down to another, with that.
+fn pops_down(heap: &mut SmallHeap<i32>, from: i32, end: i32) -> bool
+    requires { IsOrdered int_cmp heap.old }
+    ensures { IsOrdered int_cmp heap.new }
+{
+    for number in (end..from.saturating_add(1)).rev() {
+        if heap.pop() != Some(number) {
+            return false;
         }
     }
+    true
+}
 
-    /// Pushes the numbers from one up to another, without that, and tells whether each found its place.
-    fn push_all(&mut self, from: i32, end: i32) -> bool {
-        for number in from..end {
-            if !self.push(number) {
-                return false;
-            }
+/// Whether a step goes as it says.
+fn goes(heap: &mut SmallHeap<i32>, step: &Step) -> bool
+    requires { IsOrdered int_cmp heap.old }
+    ensures { IsOrdered int_cmp heap.new }
+{
+    match step {
+        Step::Push(from, end) => pushes(heap, *from, *end),
+        Step::Extend(from, end) => heap.extend(*from..*end).is_ok(),
+        Step::Pop(from, end) => pops_down(heap, *from, *end),
+        Step::End => heap.pop().is_none(),
+    }
+}
+
+/// Whether all steps go as they say, on one heap that is empty at first.
+fn all_go(alloc: Global, steps: &[Step]) -> bool {
+    let mut heap = SmallHeap::new(alloc);
+    for step in steps {
+        if !goes(&mut heap, step) {
+            return false;
         }
-        true
     }
-
-    fn push(&mut self, number: i32) -> bool {
-        self.heap.push(number).is_ok()
-    }
-
-    fn extend(&mut self, from: i32, end: i32) -> Result<(), AllocError> {
-        self.heap.extend(from..end)
-    }
-
-    fn pop(&mut self) -> Option<i32> {
-        self.heap.pop()
-    }
-
-    /// Whether the next numbers are those from one down to another, with that.
-    fn pops_down(&mut self, from: i32, end: i32) -> bool {
-        for number in (end..from.saturating_add(1)).rev() {
-            if self.pop() != Some(number) {
-                return false;
-            }
-        }
-        true
-    }
+    true
 }
 
 // Eight of forty numbers lie in the list, and leave first; a greater and a lesser one come in between.
 #[test]
 fn the_greatest_leaves_first(rt: HostRuntime) {
-    let mut numbers = Numbers::new(rt.alloc());
-    assert!(rt; numbers.push_all(1, 41));
-    assert!(rt; numbers.pops_down(40, 33));
-    assert!(rt; numbers.push(0));
-    assert!(rt; numbers.push(50));
-    assert_eq!(rt; numbers.pop(), Some(50));
-    assert!(rt; numbers.pops_down(32, 0));
-    assert_eq!(rt; numbers.pop(), None);
+    let steps = [
+        Step::Push(1, 41),
+        Step::Pop(40, 33),
+        Step::Push(0, 1),
+        Step::Push(50, 51),
+        Step::Pop(50, 50),
+        Step::Pop(32, 0),
+        Step::End,
+    ];
+    assert!(rt; all_go(rt.alloc(), &steps));
 }
 
-// Twenty of forty numbers left: twelve more find their places inline, whatever memory is refused.
+// Twenty of forty numbers left: twelve more find their places inline, which takes no memory.
 #[test]
 fn a_heap_that_was_long_takes_twelve_more(rt: HostRuntime) {
-    let mut numbers = Numbers::new(rt.alloc());
-    if numbers.push_all(1, 41) {
-        assert!(rt; numbers.pops_down(40, 21));
-        assert!(rt; numbers.push_all(100, 112));
-        assert!(rt; numbers.pops_down(111, 100));
-        assert!(rt; numbers.pops_down(20, 1));
-    }
+    let steps = [
+        Step::Push(1, 41),
+        Step::Pop(40, 21),
+        Step::Push(100, 112),
+        Step::Pop(111, 100),
+        Step::Pop(20, 1),
+    ];
+    assert!(rt; all_go(rt.alloc(), &steps));
 }
 
+// An emptied heap that was long is extended too; with few items held that takes no memory.
 #[test]
-fn an_extended_heap_gives_all(rt: HostRuntime) -> Result<(), Fail> {
-    let mut numbers = Numbers::new(rt.alloc());
-    numbers.extend(1, 41)?;
-    assert!(rt; numbers.pops_down(40, 1));
-    assert_eq!(rt; numbers.pop(), None);
-    // With few items held it takes no memory.
-    numbers.extend(1, 33)?;
-    numbers.extend(7, 7)?;
-    assert!(rt; numbers.pops_down(32, 1));
-    Ok(())
+fn an_extended_heap_gives_all(rt: HostRuntime) {
+    let steps = [
+        Step::Extend(1, 41),
+        Step::Pop(40, 1),
+        Step::End,
+        Step::Extend(1, 33),
+        Step::Extend(7, 7),
+        Step::Pop(32, 1),
+    ];
+    assert!(rt; all_go(rt.alloc(), &steps));
 }

@@ -1,7 +1,9 @@
 //! Insertion and splits: the shapes that fixed sequences of elements give.
 
+ghost use Rattle.std.specs.Prelude.{◌≡◌, ◌≤◌, false};
 ghost use Rattle.rstar.specs.Trees.{IsWholeTree};
 
+use crate::scenarios::{ALONG_A_LINE, inserted, levels_of, stands, stands_within};
 use rstar::algorithm::rstar::{RStarInsertionStrategy, split_children};
 use rstar::node::{RTreeNode, envelope_for_children};
 use rstar::params::{
@@ -10,7 +12,8 @@ use rstar::params::{
 use rstar::rtree::RTree;
 use rstar_base::aabb::AABB;
 use rstar_base::envelope::Envelope;
-use rstar_base::object::RTreeObject;
+use rstar_base::object::{EqualEnvelopes, RTreeObject};
+use rstar_base::point::Point;
 use std::alloc::{AllocError, Global};
 use std::marker::Model;
 use std::test::Fail;
@@ -44,90 +47,6 @@ impl RTreeParams for Huge {
     ghost reinsertion_leaves = { Prim.omega arith };
 }
 
-/// For each child how many children it has, none for a leaf, and its envelope.
-pub(crate) fn outlines(
-    alloc: Global,
-    nodes: &[RTreeNode<[i32; 2]>],
-) -> Result<Vec<(usize, AABB<[i32; 2]>)>, AllocError> {
-    let mut all = Vec::new(alloc);
-    for node in nodes {
-        match node {
-            RTreeNode::Leaf(point) => all.push((0, AABB::from_point(*point)))?,
-            RTreeNode::Parent(parent) => all.push((parent.children().len(), *parent.envelope()))?,
-        }
-    }
-    Ok(all)
-}
-
-/// Points in a tree, which is whole.
-#[derive(Drop)]
-pub(crate) struct Points {
-    tree: RTree<[i32; 2]>,
-}
-
-impl Model for Points {
-    ghost use Rattle.std.specs.Prelude.{ℤ, List};
-    ghost use Rattle.rstar.specs.Trees.{elements_in, IsWholeTree};
-
-    ghost Value = { List (List ℤ) };
-
-    ghost view = { λ s. elements_in s.tree };
-
-    ghost invariant = { λ s. IsWholeTree ⟦<AABB<[i32; 2]> as Envelope>⟧.boxes ⟦<[i32; 2] as RTreeObject>⟧.object
-        ⟦<DefaultParams as RTreeParams>⟧.MAX_SIZE s.tree };
-}
-
-impl Points {
-    /// The points, inserted in this order.
-    pub(crate) fn inserted(
-        alloc: Global,
-        points: &[[i32; 2]],
-    ) -> Result<Points, InsertError<[i32; 2]>> {
-        let mut all = Points {
-            tree: RTree::new(alloc),
-        };
-        for point in points {
-            all.insert(*point)?;
-        }
-        Ok(all)
-    }
-
-    fn insert(&mut self, point: [i32; 2]) -> Result<(), InsertError<[i32; 2]>> {
-        self.tree.insert(point)
-    }
-
-    /// Inserts a point; where memory is refused, looks that nothing has changed, and asks once more.
-    fn insert_again(&mut self, point: [i32; 2]) -> bool {
-        let before = self.tree.size();
-        match self.tree.insert(point) {
-            Ok(()) => true,
-            Err(refused) => {
-                let same = refused.cause == InsertCause::NoMemory && self.tree.size() == before;
-                self.tree.insert(refused.element).is_ok() && same
-            }
-        }
-    }
-
-    /// The tree.
-    pub(crate) fn tree(&self) -> &RTree<[i32; 2]>
-        ensures { IsWholeTree ⟦<AABB<[i32; 2]> as Envelope>⟧.boxes ⟦<[i32; 2] as RTreeObject>⟧.object
-            ⟦<DefaultParams as RTreeParams>⟧.MAX_SIZE result.now }
-    {
-        &self.tree
-    }
-}
-
-/// Seven points in two groups on a line, which lie under two parents.
-pub(crate) const ALONG_A_LINE: [[i32; 2]; 7] = [
-    [0, 0],
-    [1, 0],
-    [2, 0],
-    [100, 0],
-    [101, 0],
-    [102, 0],
-    [103, 0],
-];
-
 const TWO_HEAPS: [[i32; 2]; 7] = [[12, 12], [0, 0], [10, 10], [2, 2], [11, 11], [3, 3], [1, 1]];
 
 // The two heaps, and four points between and beside them.
@@ -157,37 +76,6 @@ const NINE: [[i32; 2]; 9] = [
     [5, 2],
 ];
 
-fn ten_without_axes(alloc: Global) -> Result<RTree<[i32; 0]>, InsertError<[i32; 0]>> {
-    let mut tree = RTree::default(alloc);
-    tree.insert([])?;
-    tree.insert([])?;
-    tree.insert([])?;
-    tree.insert([])?;
-    tree.insert([])?;
-    tree.insert([])?;
-    tree.insert([])?;
-    tree.insert([])?;
-    tree.insert([])?;
-    tree.insert([])?;
-    Ok(tree)
-}
-
-/// The seven leaves of the two heaps, cut in two.
-fn cut_heaps(
-    alloc: Global,
-) -> Result<(Vec<RTreeNode<[i32; 2]>>, Vec<RTreeNode<[i32; 2]>>), AllocError> {
-    let mut list = Vec::new(alloc);
-    list.push(RTreeNode::Leaf([12, 12]))?;
-    list.push(RTreeNode::Leaf([0, 0]))?;
-    list.push(RTreeNode::Leaf([10, 10]))?;
-    list.push(RTreeNode::Leaf([2, 2]))?;
-    list.push(RTreeNode::Leaf([11, 11]))?;
-    list.push(RTreeNode::Leaf([3, 3]))?;
-    list.push(RTreeNode::Leaf([1, 1]))?;
-    let spare = Vec::with_capacity(alloc, 7)?;
-    Ok(split_children::<[i32; 2], DefaultParams>(list, spare))
-}
-
 #[test]
 fn two_dimensions_are_wanted(rt: HostRuntime) {
     assert!(rt; !verify_parameters::<[i32; 1], DefaultParams>());
@@ -195,20 +83,69 @@ fn two_dimensions_are_wanted(rt: HostRuntime) {
     assert!(rt; verify_parameters::<[i32; 2], Huge>());
 }
 
+/// Whether the list of these leaves is cut in two: as many in each part, with such an envelope.
+fn is_cut_in<T: RTreeObject + Copy>(
+    alloc: Global,
+    elements: &[T],
+    one: &(usize, T::Envelope),
+    other: &(usize, T::Envelope),
+) -> Result<bool, AllocError> {
+    let mut list = Vec::new(alloc);
+    for element in elements {
+        list.push(RTreeNode::Leaf(*element))?;
+    }
+    if list.len() <= DefaultParams::MAX_SIZE {
+        return Ok(false);
+    }
+    let spare = Vec::with_capacity(alloc, list.len())?;
+    let (left, right) = split_children::<T, DefaultParams>(list, spare);
+    Ok(
+        left.len() == one.0
+            && right.len() == other.0
+            && envelope_for_children(&left) == one.1
+            && envelope_for_children(&right) == other.1,
+    )
+}
+
 #[test]
 fn a_list_is_cut_by_overlap_and_area(rt: HostRuntime) -> Result<(), Fail> {
-    let (left, right) = cut_heaps(rt.alloc())?;
-    assert_eq!(rt; left.len(), 4);
-    assert_eq!(rt; right.len(), 3);
-    assert_eq!(rt;
-        envelope_for_children(&left),
-        AABB::from_corners([0, 0], [3, 3])
-    );
-    assert_eq!(rt;
-        envelope_for_children(&right),
-        AABB::from_corners([10, 10], [12, 12])
-    );
+    let low = AABB::from_corners([0, 0], [3, 3]);
+    let high = AABB::from_corners([10, 10], [12, 12]);
+    assert!(rt; is_cut_in(rt.alloc(), &TWO_HEAPS, &(4, low), &(3, high))?);
     Ok(())
+}
+
+/// Whether one of some nodes has so many children, none for a leaf, and this envelope.
+fn has_node<T: RTreeObject>(nodes: &[RTreeNode<T>], count: usize, envelope: &T::Envelope) -> bool {
+    for node in nodes {
+        let held = match node {
+            RTreeNode::Leaf(_) => 0,
+            RTreeNode::Parent(parent) => parent.children().len(),
+        };
+        if held == count && node.envelope() == *envelope {
+            return true;
+        }
+    }
+    false
+}
+
+/// Whether elements, inserted in turn, give a tree that stands, and the root two children: how many children each has,
+/// and its envelope.
+fn is_shaped<T: RTreeObject + Copy>(
+    alloc: Global,
+    elements: &[T],
+    one: &(usize, T::Envelope),
+    other: &(usize, T::Envelope),
+) -> bool {
+    let Some(tree) = inserted::<T, DefaultParams>(alloc, elements) else {
+        return false;
+    };
+    let nodes = tree.root().children();
+    tree.size() == elements.len()
+        && stands(&tree)
+        && nodes.len() == 2
+        && has_node(nodes, one.0, &one.1)
+        && has_node(nodes, other.0, &other.1)
 }
 
 /// How many children a node has, and the corners of its envelope.
@@ -216,7 +153,7 @@ type Outline = (usize, [i32; 2], [i32; 2]);
 
 // Points, inserted in turn, and for both children of the root: how many children, and the envelope.
 #[test]
-fn insertions_shape_the_tree(rt: HostRuntime) -> Result<(), Fail> {
+fn insertions_shape_the_tree(rt: HostRuntime) {
     let rows: [(&[[i32; 2]], Outline, Outline); 4] = [
         (&ALONG_A_LINE, (3, [0, 0], [2, 0]), (4, [100, 0], [103, 0])),
         (&TWO_HEAPS, (4, [0, 0], [3, 3]), (3, [10, 10], [12, 12])),
@@ -226,31 +163,52 @@ fn insertions_shape_the_tree(rt: HostRuntime) -> Result<(), Fail> {
         (&ELEVEN, (6, [0, 0], [3, 3]), (5, [6, 6], [12, 12])),
     ];
     for (points, one, other) in rows {
-        let Ok(inserted) = Points::inserted(rt.alloc(), points) else {
-            assert!(rt; false);
-            return Ok(());
-        };
-        let tree = inserted.tree();
-        assert_eq!(rt; tree.size(), points.len());
-        let parts = outlines(rt.alloc(), tree.root().children())?;
-        assert_eq!(rt; parts.len(), 2);
-        for (count, lower, upper) in [one, other] {
-            assert!(rt;
-                parts.contains(&(count, AABB::from_corners(lower, upper))),
-                "{parts:?}"
-            );
+        let low = (one.0, AABB::from_corners(one.1, one.2));
+        let high = (other.0, AABB::from_corners(other.1, other.2));
+        assert!(rt; is_shaped(rt.alloc(), points, &low, &high), "{points:?}");
+    }
+}
+
+/// Inserts an element; where memory is refused, looks that nothing has changed, and asks once more.
+fn goes_in_again<T: EqualEnvelopes + Copy, Params: RTreeParams>(
+    tree: &mut RTree<T, Params>,
+    element: T,
+) -> bool
+    requires whole { IsWholeTree T.Envelope.boxes T.object Params.MAX_SIZE tree.old }
+    requires element { T.Envelope.boxes.is_empty (T.object.box_of element) ≡ false }
+    ensures { IsWholeTree T.Envelope.boxes T.object Params.MAX_SIZE tree.new }
+{
+    let before = tree.size();
+    match tree.insert(element) {
+        Ok(()) => true,
+        Err(refused) => {
+            let same = refused.cause == InsertCause::NoMemory
+                && refused.element == element
+                && tree.size() == before
+                && stands(tree);
+            tree.insert(refused.element).is_ok() && same
         }
     }
-    Ok(())
+}
+
+/// Whether all elements go into a tree, where one that is refused is asked for once more.
+fn all_go_in_again<T: EqualEnvelopes + Copy, Params: RTreeParams>(
+    alloc: Global,
+    elements: &[T],
+) -> bool {
+    let mut tree: RTree<T, Params> = RTree::default(alloc);
+    for element in elements {
+        if element.envelope().is_empty() || !goes_in_again(&mut tree, *element) {
+            return false;
+        }
+    }
+    tree.size() == elements.len() && stands(&tree)
 }
 
 /// Ten insertions; `rt try --test --fail-alloc N` refuses the Nth allocation.
 #[test]
 fn a_refused_insertion_loses_nothing(rt: HostRuntime) {
-    let mut points = Points {
-        tree: RTree::new(rt.alloc()),
-    };
-    for point in [
+    let points = [
         [0, 0],
         [1, 9],
         [2, 8],
@@ -261,41 +219,48 @@ fn a_refused_insertion_loses_nothing(rt: HostRuntime) {
         [7, 3],
         [8, 2],
         [9, 1],
-    ] {
-        assert!(rt; points.insert_again(point));
+    ];
+    assert!(rt; all_go_in_again::<[i32; 2], DefaultParams>(rt.alloc(), &points));
+}
+
+/// Whether an insertion that would need more lists than there can be is refused, and gives the element back.
+fn is_one_too_many<T: EqualEnvelopes + Copy>(alloc: Global, element: T) -> bool
+    requires { 2 ≤ T.Envelope.Point.DIMENSIONS }
+{
+    let mut tree: RTree<T, Huge> = RTree::new_with_params(alloc);
+    if element.envelope().is_empty() {
+        return false;
     }
-    assert_eq!(rt; points.tree().size(), 10);
+    match RStarInsertionStrategy::insert(&mut tree, element) {
+        Ok(()) => false,
+        Err(refused) => {
+            refused.cause == InsertCause::TooMany
+                && refused.element == element
+                && tree.size() == 0
+                && tree.root().children().is_empty()
+        }
+    }
 }
 
 #[test]
 fn too_many_lists_are_refused_first(rt: HostRuntime) {
-    let mut tree: RTree<[i32; 2], Huge> = RTree::new_with_params(rt.alloc());
-    match RStarInsertionStrategy::insert(&mut tree, [0, 0]) {
-        Ok(()) => assert!(rt; false),
-        Err(refused) => {
-            assert_eq!(rt; refused.cause, InsertCause::TooMany);
-            assert_eq!(rt; refused.element, [0, 0]);
-        }
-    }
-    assert_eq!(rt; tree.size(), 0);
-    assert!(rt; tree.root().children().is_empty());
+    assert!(rt; is_one_too_many(rt.alloc(), [0, 0]));
+}
+
+/// Whether the root of a tree of these elements has two parents of leaves, of three to six children each.
+fn splits_once<T: RTreeObject + Copy>(alloc: Global, elements: &[T]) -> bool {
+    let Some(tree) = inserted::<T, DefaultParams>(alloc, elements) else {
+        return false;
+    };
+    let root = tree.root();
+    tree.size() == elements.len()
+        && root.children().len() == 2
+        && levels_of(root) == 1
+        && stands_within(&tree, 3, 6)
 }
 
 #[test]
 fn points_without_axes_split_too(rt: HostRuntime) {
-    match ten_without_axes(rt.alloc()) {
-        Ok(tree) => {
-            assert_eq!(rt; tree.size(), 10);
-            assert_eq!(rt; tree.root().children().len(), 2);
-            for child in tree.root().children() {
-                match child {
-                    RTreeNode::Leaf(_) => assert!(rt; false),
-                    RTreeNode::Parent(parent) => {
-                        assert!(rt; 3 <= parent.children().len() && parent.children().len() <= 6);
-                    }
-                }
-            }
-        }
-        Err(_) => assert!(rt; false),
-    }
+    let ten: [[i32; 0]; 10] = [[]; 10];
+    assert!(rt; splits_once(rt.alloc(), &ten));
 }

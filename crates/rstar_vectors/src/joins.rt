@@ -1,28 +1,27 @@
 //! What joins give, and how many pairs of nodes they open.
+//!
+//! What is done to trees is generic, and a test gives it elements.
 
-ghost use Rattle.std.specs.Prelude.{◌≡◌, min, map, false, IfOk};
+ghost use Rattle.std.specs.Prelude.{◌≡◌, ◌≤◌, min, map, IfOk};
 ghost use Rattle.std.specs.List.Sorted.{IsPermutation};
 ghost use Rattle.rstar.specs.Boxes.{boxes_intersect};
 ghost use Rattle.rstar.specs.Joins.{meets_by, join, meet_by, pairs_to_come, IsJoining};
 ghost use Rattle.rstar.specs.Meets.{meet_of_roots};
 ghost use Rattle.rstar.specs.Trees.{root_of, elements_in, IsWholeTree};
 
-use crate::insertion::{ALONG_A_LINE, Points};
-use crate::loads::loaded;
 use crate::payloads::Plot;
+use crate::scenarios::{ALONG_A_LINE, inserted, loaded};
 use rstar::iterators::{InEnvelope, IntersectionIterator};
-use rstar::params::InsertError;
 use rstar::primitives::Rectangle;
-use rstar::{AABB, DefaultParams, Envelope, RTree, RTreeObject, RTreeParams};
+use rstar::{AABB, DefaultParams, Envelope, Point, RTree, RTreeObject, RTreeParams};
 use std::alloc::{AllocError, Global};
-use std::marker::Model;
 use std::test::Fail;
 
 /// Two corners.
 type Corners = ([i32; 2], [i32; 2]);
 
 /// Pairs of elements, and how many pairs of nodes were opened for them.
-type Paired<'a, T, U> = (Vec<(&'a T, &'a U)>, usize);
+pub type Paired<'a, T, U> = (Vec<(&'a T, &'a U)>, usize);
 
 /// What a join gives, and how many pairs of nodes it has opened at its end.
 fn paired<'a, T: RTreeObject, U: InEnvelope<T::Envelope>>(
@@ -42,29 +41,26 @@ fn paired<'a, T: RTreeObject, U: InEnvelope<T::Envelope>>(
     Ok((all, pairs.opened()))
 }
 
-/// The pairs of points of two trees that meet: those that a scan of all pairs finds, in some order.
-fn points_joined<'a>(
+/// The pairs of elements of two trees that meet: those that a scan of all pairs finds, in some order.
+fn joined<'a, T: RTreeObject, U: InEnvelope<T::Envelope>>(
     alloc: Global,
-    left: &'a RTree<[i64; 2]>,
-    right: &'a RTree<[i64; 2]>,
-) -> Result<Paired<'a, [i64; 2], [i64; 2]>, AllocError>
-    requires left { IsWholeTree ⟦<AABB<[i64; 2]> as Envelope>⟧.boxes ⟦<[i64; 2] as RTreeObject>⟧.object
-        ⟦<DefaultParams as RTreeParams>⟧.MAX_SIZE left.now }
-    requires right { IsWholeTree ⟦<AABB<[i64; 2]> as Envelope>⟧.boxes ⟦<[i64; 2] as RTreeObject>⟧.object
-        ⟦<DefaultParams as RTreeParams>⟧.MAX_SIZE right.now }
+    left: &'a RTree<T>,
+    right: &'a RTree<U>,
+) -> Result<Paired<'a, T, U>, AllocError>
+    requires left { IsWholeTree T.Envelope.boxes T.object ⟦<DefaultParams as RTreeParams>⟧.MAX_SIZE left.now }
+    requires right { IsWholeTree U.Envelope.boxes U.object ⟦<DefaultParams as RTreeParams>⟧.MAX_SIZE right.now }
     ensures all { IfOk result (λ r. IsPermutation (map (λ p. (p.0.now, p.1.now)) r.0.items)
-        (join boxes_intersect ⟦<[i64; 2] as RTreeObject>⟧.object.box_of ⟦<[i64; 2] as RTreeObject>⟧.object.box_of
+        (join (meets_by T.Envelope.boxes U.seen) T.object.box_of U.object.box_of
         (elements_in left.now) (elements_in right.now))) }
-    ensures opened { IfOk result (λ r. r.1 ≡ min (meet_of_roots boxes_intersect
-        ⟦<[i64; 2] as RTreeObject>⟧.object.box_of ⟦<[i64; 2] as RTreeObject>⟧.object.box_of
-        (root_of left.now) (root_of right.now)) usize.MAX) }
+    ensures opened { IfOk result (λ r. r.1 ≡ min (meet_of_roots (meets_by T.Envelope.boxes U.seen)
+        T.object.box_of U.object.box_of (root_of left.now) (root_of right.now)) usize.MAX) }
 {
     let joined = paired(alloc, left.intersection_candidates_with_other_tree(right)?)?;
     Ok(joined)
 }
 
 /// The pairs of a plot and a point that meet.
-fn plots_joined<'a>(
+pub fn plots_joined<'a>(
     alloc: Global,
     left: &'a RTree<Plot>,
     right: &'a RTree<[i64; 2]>,
@@ -80,82 +76,69 @@ fn plots_joined<'a>(
         ⟦<Plot as RTreeObject>⟧.object.box_of ⟦<[i64; 2] as RTreeObject>⟧.object.box_of
         (root_of left.now) (root_of right.now)) usize.MAX) }
 {
-    let joined = paired(alloc, left.intersection_candidates_with_other_tree(right)?)?;
-    Ok(joined)
+    joined(alloc, left, right)
 }
 
-/// How many pairs a join gives, and how many pairs of nodes it opens.
-fn counts<T: RTreeObject, U: InEnvelope<T::Envelope>>(
-    left: &RTree<T>,
-    right: &RTree<U>,
-) -> Result<(usize, usize), AllocError>
-    requires left { IsWholeTree T.Envelope.boxes T.object ⟦<DefaultParams as RTreeParams>⟧.MAX_SIZE left.now }
-    requires right { IsWholeTree U.Envelope.boxes U.object ⟦<DefaultParams as RTreeParams>⟧.MAX_SIZE right.now }
-{
-    let mut pairs = left.intersection_candidates_with_other_tree(right)?;
-    let mut given = 0usize;
-    for _ in pairs.by_ref() {
-        given = given.saturating_add(1);
-    }
-    Ok((given, pairs.opened()))
+/// How many pairs a join gives of two trees of elements, inserted in these orders, and how many pairs of nodes it opens;
+/// none where an element is refused.
+fn met<T: RTreeObject + Copy, U: InEnvelope<T::Envelope> + Copy>(
+    alloc: Global,
+    lefts: &[T],
+    rights: &[U],
+) -> Result<Option<(usize, usize)>, AllocError> {
+    let (Some(left), Some(right)) = (inserted(alloc, lefts), inserted(alloc, rights)) else {
+        return Ok(None);
+    };
+    let (pairs, opened) = joined(alloc, &left, &right)?;
+    Ok(Some((pairs.len(), opened)))
 }
 
-/// Rectangles in a tree, which is whole.
-#[derive(Drop)]
-struct Rectangles {
-    tree: RTree<Rectangle<[i32; 2]>>,
+/// Whether a join of two trees of elements of one type counts so, and that of the second with the first.
+fn meet_alike<T: RTreeObject + Copy>(
+    alloc: Global,
+    lefts: &[T],
+    rights: &[T],
+    counts: (usize, usize),
+) -> Result<bool, AllocError> {
+    Ok(met(alloc, lefts, rights)? == Some(counts) && met(alloc, rights, lefts)? == Some(counts))
 }
 
-impl Model for Rectangles {
-    ghost use Rattle.std.specs.Prelude.{ℤ, List, map};
-    ghost use Rattle.rstar.specs.Trees.{elements_in, IsWholeTree};
-
-    ghost Value = { List (List (ℤ × ℤ)) };
-
-    ghost view = { λ s. map ⟦<Rectangle<[i32; 2]> as RTreeObject>⟧.object.box_of (elements_in s.tree) };
-
-    ghost invariant = { λ s. IsWholeTree ⟦<AABB<[i32; 2]> as Envelope>⟧.boxes
-        ⟦<Rectangle<[i32; 2]> as RTreeObject>⟧.object ⟦<DefaultParams as RTreeParams>⟧.MAX_SIZE s.tree };
+/// The same of elements of two types.
+fn meet_both_ways<
+    T: InEnvelope<<U as RTreeObject>::Envelope> + Copy,
+    U: InEnvelope<<T as RTreeObject>::Envelope> + Copy,
+>(alloc: Global, lefts: &[T], rights: &[U], counts: (usize, usize)) -> Result<bool, AllocError> {
+    Ok(met(alloc, lefts, rights)? == Some(counts) && met(alloc, rights, lefts)? == Some(counts))
 }
 
-impl Rectangles {
-    /// The rectangles with these corners, inserted in this order.
-    fn inserted(
-        alloc: Global,
-        corners: &[Corners],
-    ) -> Result<Rectangles, InsertError<Rectangle<[i32; 2]>>> {
-        let mut all = Rectangles {
-            tree: RTree::new(alloc),
-        };
-        for (one, other) in corners {
-            all.insert(Rectangle::from_corners(*one, *other))?;
-        }
-        Ok(all)
+/// The rectangles with these corners.
+fn rectangles<P: Point + Copy>(
+    alloc: Global,
+    corners: &[(P, P)],
+) -> Result<Vec<Rectangle<P>>, AllocError> {
+    let mut all = Vec::new(alloc);
+    for (one, other) in corners {
+        all.push(Rectangle::from_corners(*one, *other))?;
     }
+    Ok(all)
+}
 
-    fn insert(
-        &mut self,
-        rectangle: Rectangle<[i32; 2]>,
-    ) -> Result<(), InsertError<Rectangle<[i32; 2]>>>
-        requires { ⟦<AABB<[i32; 2]> as Envelope>⟧.boxes.is_empty
-            (⟦<Rectangle<[i32; 2]> as RTreeObject>⟧.object.box_of rectangle) ≡ false }
-    {
-        self.tree.insert(rectangle)
-    }
-
-    /// What a join with other rectangles counts, and one of these with the points.
-    fn joined(
-        &self,
-        other: &Rectangles,
-        points: &Points,
-    ) -> Result<[(usize, usize); 4], AllocError> {
-        Ok([
-            counts(&self.tree, &other.tree)?,
-            counts(&other.tree, &self.tree)?,
-            counts(&self.tree, points.tree())?,
-            counts(points.tree(), &self.tree)?,
-        ])
-    }
+/// Whether elements meet others so, those points so, and the points themselves so.
+fn meet<
+    T: InEnvelope<<U as RTreeObject>::Envelope> + Copy,
+    U: InEnvelope<<T as RTreeObject>::Envelope> + Copy,
+>(
+    alloc: Global,
+    lefts: &[T],
+    rights: &[T],
+    points: &[U],
+    counts: [(usize, usize); 3],
+) -> Result<bool, AllocError> {
+    let [given, with_points, of_points] = counts;
+    let first = meet_alike(alloc, lefts, rights, given)?;
+    let second = meet_both_ways(alloc, lefts, points, with_points)?;
+    let third = meet_alike(alloc, points, points, of_points)?;
+    Ok(first && second && third)
 }
 
 const SQUARE: Corners = ([0, 0], [2, 2]);
@@ -171,31 +154,115 @@ const DIAGONAL: [Corners; 7] = [
     ([103, 103], [104, 104]),
 ];
 
+// The rectangles of two trees, and the points of a third; the pairs given and the pairs of nodes opened of the
+// rectangles, those of the first tree with the points, and those of the points with the same: trees of one height, and
+// of two, and empty ones on either side.
 #[test]
 fn pairs_that_intersect(rt: HostRuntime) -> Result<(), Fail> {
-    let line = Points::inserted(rt.alloc(), &ALONG_A_LINE)?;
-    let none = Points::inserted(rt.alloc(), &[])?;
-    // The tree with itself, and with an empty one on either side.
-    assert_eq!(rt; counts(line.tree(), line.tree())?, (7, 3));
-    assert_eq!(rt; counts(line.tree(), none.tree())?, (0, 0));
-    assert_eq!(rt; counts(none.tree(), line.tree())?, (0, 0));
-    // The rectangles of two trees, the pairs given and the pairs of nodes opened, and those of the first tree with
-    // seven points on a line: trees of one height, and of two.
-    let rows: [(&[Corners], &[Corners], (usize, usize), (usize, usize)); 6] = [
-        (&[SQUARE, SQUARE], &[([2, 2], [4, 4])], (2, 1), (6, 3)),
-        (&[([2, 2], [4, 4])], &[SQUARE, SQUARE], (2, 1), (0, 0)),
-        (&[SQUARE], &[([3, 3], [4, 4])], (0, 0), (3, 2)),
-        (&[SQUARE], &[], (0, 0), (3, 2)),
-        (&[SQUARE], &DIAGONAL, (3, 2), (3, 2)),
-        (&DIAGONAL, &DIAGONAL, (17, 3), (2, 2)),
+    let line = (7, 3);
+    let rows: [(&[Corners], &[Corners], &[[i32; 2]], [(usize, usize); 3]); 9] = [
+        (
+            &[SQUARE, SQUARE],
+            &[([2, 2], [4, 4])],
+            &ALONG_A_LINE,
+            [(2, 1), (6, 3), line],
+        ),
+        (
+            &[([2, 2], [4, 4])],
+            &[SQUARE, SQUARE],
+            &ALONG_A_LINE,
+            [(2, 1), (0, 0), line],
+        ),
+        (
+            &[SQUARE],
+            &[([3, 3], [4, 4])],
+            &ALONG_A_LINE,
+            [(0, 0), (3, 2), line],
+        ),
+        (&[SQUARE], &[], &ALONG_A_LINE, [(0, 0), (3, 2), line]),
+        (&[SQUARE], &DIAGONAL, &ALONG_A_LINE, [(3, 2), (3, 2), line]),
+        (&DIAGONAL, &DIAGONAL, &ALONG_A_LINE, [(17, 3), (2, 2), line]),
+        (&[], &[], &ALONG_A_LINE, [(0, 0), (0, 0), line]),
+        (&[SQUARE], &[SQUARE], &[], [(1, 1), (0, 0), (0, 0)]),
+        (
+            &[SQUARE],
+            &[SQUARE],
+            &[[0, 0], [2, 2], [2, 2], [5, 5]],
+            [(1, 1), (3, 1), (6, 1)],
+        ),
     ];
-    for (left, right, given, with_points) in rows {
-        let left = Rectangles::inserted(rt.alloc(), left)?;
-        let right = Rectangles::inserted(rt.alloc(), right)?;
-        let joined = left.joined(&right, &line)?;
-        assert_eq!(rt; joined, [given, given, with_points, with_points]);
+    for (left, right, points, counts) in rows {
+        let lefts = rectangles(rt.alloc(), left)?;
+        let rights = rectangles(rt.alloc(), right)?;
+        assert!(rt; meet(rt.alloc(), &lefts, &rights, points, counts)?);
     }
     Ok(())
+}
+
+/// The pairs of elements of two lists that meet, by a scan of all pairs.
+fn scanned<T: RTreeObject + Copy>(
+    alloc: Global,
+    lefts: &[T],
+    rights: &[T],
+) -> Result<Vec<(T, T)>, AllocError> {
+    let mut pairs = Vec::new(alloc);
+    for left in lefts {
+        for right in rights {
+            if left.envelope().intersects(&right.envelope()) {
+                pairs.push((*left, *right))?;
+            }
+        }
+    }
+    Ok(pairs)
+}
+
+/// Whether a join gives these pairs, in some order, which differ where elements do.
+fn gives<T: RTreeObject + PartialEq>(
+    alloc: Global,
+    left: &RTree<T>,
+    right: &RTree<T>,
+    wanted: &[(T, T)],
+) -> Result<bool, AllocError>
+    requires left { IsWholeTree T.Envelope.boxes T.object ⟦<DefaultParams as RTreeParams>⟧.MAX_SIZE left.now }
+    requires right { IsWholeTree T.Envelope.boxes T.object ⟦<DefaultParams as RTreeParams>⟧.MAX_SIZE right.now }
+{
+    let (pairs, _opened) = joined(alloc, left, right)?;
+    for (one, other) in wanted {
+        if !pairs.contains(&(one, other)) {
+            return Ok(false);
+        }
+    }
+    Ok(pairs.len() == wanted.len())
+}
+
+/// How many pairs a join of two loads gives; none where these are not what a scan of the lists finds.
+fn met_as_scanned<T: RTreeObject + PartialEq + Copy>(
+    lefts: Vec<T>,
+    rights: Vec<T>,
+) -> Result<Option<usize>, AllocError>
+    requires { 2 ≤ T.Envelope.Point.DIMENSIONS }
+{
+    let alloc = *lefts.allocator();
+    let wanted = scanned(alloc, &lefts, &rights)?;
+    let left = loaded(lefts)?;
+    let right = loaded(rights)?;
+    if gives(alloc, &left, &right, &wanted)? {
+        Ok(Some(wanted.len()))
+    } else {
+        Ok(None)
+    }
+}
+
+/// How many pairs a join of two loads gives, and one of the first with itself.
+fn met_by_loads<T: RTreeObject>(lefts: Vec<T>, rights: Vec<T>) -> Result<(usize, usize), AllocError>
+    requires { 2 ≤ T.Envelope.Point.DIMENSIONS }
+{
+    let alloc = *lefts.allocator();
+    let left = loaded(lefts)?;
+    let right = loaded(rights)?;
+    let (pairs, _opened) = joined(alloc, &left, &right)?;
+    let (own, _opened) = joined(alloc, &left, &left)?;
+    Ok((pairs.len(), own.len()))
 }
 
 /// The points `[i, 0]` for each number below a count.
@@ -209,10 +276,12 @@ fn on_a_line(alloc: Global, count: i32) -> Result<Vec<[i32; 2]>, AllocError> {
 
 #[test]
 fn loads_of_unequal_height(rt: HostRuntime) -> Result<(), Fail> {
-    let line = loaded(on_a_line(rt.alloc(), 28)?)?;
-    let twice = loaded(Vec::from_array(rt.alloc(), [[5, 0], [5, 0]])?)?;
-    assert_eq!(rt; counts(&line, &twice)?.0, 2);
-    assert_eq!(rt; counts(&twice, &line)?.0, 2);
+    let line = on_a_line(rt.alloc(), 28)?;
+    let twice = Vec::from_array(rt.alloc(), [[5, 0], [5, 0]])?;
+    assert_eq!(rt; met_by_loads(line, twice)?, (2, 28));
+    let line = on_a_line(rt.alloc(), 28)?;
+    let twice = Vec::from_array(rt.alloc(), [[5, 0], [5, 0]])?;
+    assert_eq!(rt; met_by_loads(twice, line)?, (2, 4));
     Ok(())
 }
 
@@ -230,14 +299,14 @@ fn apart(alloc: Global, count: usize, is_odd: bool) -> Result<Vec<[i32; 2]>, All
     Ok(points)
 }
 
-// rstar's `test_trivial_intersections`.
+// rstar's `test_trivial_intersections`: how many points of a parity, and how many of the other.
 #[test]
 fn points_meet_themselves_alone(rt: HostRuntime) -> Result<(), Fail> {
-    let even = loaded(apart(rt.alloc(), 1000, false)?)?;
-    let odd = loaded(apart(rt.alloc(), 2000, true)?)?;
-    assert_eq!(rt; counts(&even, &odd)?.0, 0);
-    assert_eq!(rt; counts(&even, &even)?.0, 1000);
-    assert_eq!(rt; counts(&odd, &odd)?.0, 2000);
+    for (count, is_odd, others) in [(1000, false, 2000), (2000, true, 1000)] {
+        let all = apart(rt.alloc(), count, is_odd)?;
+        let rest = apart(rt.alloc(), others, !is_odd)?;
+        assert_eq!(rt; met_by_loads(all, rest)?, (0, count));
+    }
     Ok(())
 }
 
@@ -253,65 +322,26 @@ fn spread(alloc: Global, count: u64, across: u64, along: u64) -> Result<Vec<Plot
     Ok(plots)
 }
 
-/// The numbers of the pairs of plots that meet, by a scan of all pairs.
-fn scanned(alloc: Global, lefts: &[Plot], rights: &[Plot]) -> Result<Vec<(u64, u64)>, AllocError> {
-    let mut pairs = Vec::new(alloc);
-    for left in lefts {
-        for right in rights {
-            if left.envelope().intersects(&right.envelope()) {
-                pairs.push((left.data, right.data))?;
-            }
-        }
-    }
-    Ok(pairs)
-}
-
-/// The numbers of the pairs of plots that meet, by a join of two loads, in rising order.
-fn joined(
-    alloc: Global,
-    lefts: Vec<Plot>,
-    rights: Vec<Plot>,
-) -> Result<Vec<(u64, u64)>, AllocError> {
-    let left: RTree<Plot> = loaded(lefts)?;
-    let right: RTree<Plot> = loaded(rights)?;
-    let mut pairs = Vec::new(alloc);
-    for (one, other) in left.intersection_candidates_with_other_tree(&right)? {
-        pairs.push((one.data, other.data))?;
-    }
-    pairs.sort_unstable();
-    Ok(pairs)
-}
-
 // rstar's `test_intersection_between_trees`: loads of 100 and of 42 rectangles; and some that split more.
 #[test]
 fn joins_give_what_a_scan_gives(rt: HostRuntime) -> Result<(), Fail> {
     for (left, right) in [(100, 42), (42, 100), (3, 500), (300, 300)] {
         let lefts = spread(rt.alloc(), left, 37, 53)?;
         let rights = spread(rt.alloc(), right, 59, 31)?;
-        let wanted = scanned(rt.alloc(), &lefts, &rights)?;
-        assert!(rt; !wanted.is_empty());
-        assert!(rt;
-            joined(rt.alloc(), lefts, rights)? == wanted,
-            "{left} {right}"
-        );
+        let met = met_as_scanned(lefts, rights)?;
+        assert!(rt; 0 < met.unwrap_or(0), "{left} {right}");
     }
     Ok(())
 }
 
-// Points and plots by the callers above: the pairs, and the pairs of nodes opened.
+// Plots and points: the pairs, and the pairs of nodes opened.
 #[test]
-fn callers_join_points_and_plots(rt: HostRuntime) -> Result<(), Fail> {
-    let mut points: RTree<[i64; 2]> = RTree::new(rt.alloc());
-    let mut plots: RTree<Plot> = RTree::new(rt.alloc());
-    points.insert([0, 0])?;
-    points.insert([2, 2])?;
-    points.insert([2, 2])?;
-    points.insert([5, 5])?;
-    plots.insert(Plot::new(Rectangle::from_corners([0, 0], [2, 2]), 7))?;
-    plots.insert(Plot::new(Rectangle::from_corners([2, 2], [4, 4]), 8))?;
-    let (pairs, opened) = points_joined(rt.alloc(), &points, &points)?;
-    assert_eq!(rt; (pairs.len(), opened), (6, 1));
-    let (pairs, opened) = plots_joined(rt.alloc(), &plots, &points)?;
-    assert_eq!(rt; (pairs.len(), opened), (5, 1));
+fn plots_and_points_are_joined(rt: HostRuntime) -> Result<(), Fail> {
+    let points = [[0i64, 0], [2, 2], [2, 2], [5, 5]];
+    let plots = [
+        Plot::new(Rectangle::from_corners([0, 0], [2, 2]), 7),
+        Plot::new(Rectangle::from_corners([2, 2], [4, 4]), 8),
+    ];
+    assert_eq!(rt; met(rt.alloc(), &plots, &points)?, Some((5, 1)));
     Ok(())
 }

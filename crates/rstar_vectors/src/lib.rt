@@ -42,6 +42,8 @@ mod removal;
 #[cfg(test)]
 mod replays;
 #[cfg(test)]
+mod scenarios;
+#[cfg(test)]
 mod selections;
 #[cfg(test)]
 mod slabs;

@@ -1,52 +1,23 @@
 //! Loads: what loaded trees look like, and that they take insertions; clones; the text of a tree.
 
-ghost use Rattle.std.specs.Prelude.{◌≡◌, ◌≤◌, ◌<◌, false, IsTrue, IfOk};
+ghost use Rattle.std.specs.Prelude.{◌≡◌, ◌≤◌, ◌<◌, false, IfOk};
 ghost use Rattle.rstar.specs.Clones.{ClonesEqual};
-ghost use Rattle.rstar.specs.Loaded.{NoneEmpty};
 ghost use Rattle.rstar.specs.Trees.{IsWholeTree};
 
-use crate::reinsertion::levels_of;
+use crate::scenarios::{Small, levels_of, loaded, none_empty, points, stands};
 use rstar::algorithm::bulk_load::bulk_load_sequential;
 use rstar::node::{ParentNode, RTreeNode};
+use rstar::object::PointOf;
 use rstar::params::{DefaultParams, RTreeParams};
 use rstar::primitives::{GeomWithData, Rectangle};
 use rstar::rtree::RTree;
 use rstar_base::aabb::AABB;
 use rstar_base::envelope::Envelope;
-use rstar_base::object::{RTreeObject, envelope_of_all};
+use rstar_base::object::{PointDistance, RTreeObject};
 use rstar_base::point::Point;
 use std::alloc::{AllocError, Global};
 use std::fmt::Debug;
 use std::test::Fail;
-
-/// Small nodes.
-struct Small;
-
-impl RTreeParams for Small {
-    ghost use Rattle.std.proofs.Common.{arith};
-
-    ghost MIN_SIZE = { 2 };
-
-    ghost MAX_SIZE = { 4 };
-
-    ghost REINSERTION_COUNT = { 1 };
-
-    const MIN_SIZE: usize = 2;
-
-    const MAX_SIZE: usize = 4;
-
-    const REINSERTION_COUNT: usize = 1;
-
-    ghost max_at_least_four = { Prim.omega arith };
-
-    ghost max_fits = { Prim.omega arith };
-
-    ghost min_positive = { Prim.omega arith };
-
-    ghost min_at_most_half = { Prim.omega arith };
-
-    ghost reinsertion_leaves = { Prim.omega arith };
-}
 
 // ---- what a root shows
 
@@ -101,27 +72,6 @@ fn are_parted<T: RTreeObject>(one: &[T], other: &[T]) -> bool {
         }
     }
     false
-}
-
-/// Whether a parent and each one below it keeps the envelope of its elements, which lie so many levels below.
-fn is_whole<T: RTreeObject + Clone>(
-    alloc: Global,
-    parent: &ParentNode<T>,
-    levels: usize,
-) -> Result<bool, AllocError> {
-    let mut all = Vec::new(alloc);
-    let level = gather(parent.children(), levels, &mut all)?;
-    if !level || *parent.envelope() != envelope_of_all(&all) {
-        return Ok(false);
-    }
-    for node in parent.children() {
-        if let RTreeNode::Parent(part) = node {
-            if levels == 0 || !is_whole(alloc, part, levels - 1)? {
-                return Ok(false);
-            }
-        }
-    }
-    Ok(true)
 }
 
 /// Whether parents, so many levels above the lowest of them, are cut as a load cuts: more than `MAX_SIZE` elements, at
@@ -194,33 +144,6 @@ fn held<T: RTreeObject + Clone>(
 
 // ---- loads
 
-/// Whether no element has an empty envelope, as loads ask.
-pub(crate) fn none_empty<T: RTreeObject>(elements: &[T]) -> bool
-    ensures { IsTrue result → NoneEmpty T.Envelope.boxes T.object elements.now }
-{
-    for element in elements {
-        if element.envelope().is_empty() {
-            return false;
-        }
-    }
-    true
-}
-
-/// A tree of elements, none of them with an empty envelope; none of them else.
-pub(crate) fn loaded<T: RTreeObject, Params: RTreeParams>(
-    elements: Vec<T>,
-) -> Result<RTree<T, Params>, AllocError>
-    requires { 2 ≤ T.Envelope.Point.DIMENSIONS }
-    ensures { IfOk result (IsWholeTree T.Envelope.boxes T.object Params.MAX_SIZE) }
-{
-    let alloc = *elements.allocator();
-    if none_empty(&elements) {
-        RTree::bulk_load_with_params(elements)
-    } else {
-        Ok(RTree::default(alloc))
-    }
-}
-
 /// Whether a load of these elements has them all, and is loaded.
 fn loads_well<T: RTreeObject + Clone + Ord, Params: RTreeParams>(
     alloc: Global,
@@ -245,23 +168,13 @@ fn loads_well<T: RTreeObject + Clone + Ord, Params: RTreeParams>(
         level
             && all == sources
             && tree.size() == count
-            && is_whole(alloc, root, levels)?
+            && stands(&tree)
             && is_cut::<T, Params>(alloc, root, levels, most)?
             && narrowest(root, levels) <= Params::MAX_SIZE,
     )
 }
 
-/// Points, each on a line that wraps around in both coordinates.
-pub(crate) fn points(alloc: Global, count: usize) -> Result<Vec<[i32; 2]>, AllocError> {
-    let mut points = Vec::new(alloc);
-    for i in 0..count {
-        let near = i % 1000;
-        points.push([((37 * near) % 101) as i32, ((53 * near) % 103) as i32])?;
-    }
-    Ok(points)
-}
-
-/// The same with a third coordinate.
+/// Points as `points` gives them, with a third coordinate.
 fn deep_points(alloc: Global, count: usize) -> Result<Vec<[i32; 3]>, AllocError> {
     let mut points = Vec::new(alloc);
     for i in 0..count {
@@ -304,83 +217,109 @@ fn loads_of_many_sizes_are_loaded(rt: HostRuntime) -> Result<(), Fail> {
     Ok(())
 }
 
-// How many points, how many of them are below each child of the root, and the levels of parents below it.
-#[test]
-fn loads_have_their_parts(rt: HostRuntime) -> Result<(), Fail> {
-    let rows: [(usize, &[usize], usize); 8] = [
-        (0, &[], 0),
-        (6, &[], 0),
-        (7, &[1, 2, 2, 2], 1),
-        (25, &[6, 6, 6, 7], 1),
-        (26, &[6, 6, 7, 7], 1),
-        (28, &[7, 7, 7, 7], 2),
-        (36, &[9, 9, 9, 9], 2),
-        (37, &[9, 9, 9, 10], 2),
-    ];
-    for (count, parts, levels) in rows {
-        let tree: RTree<[i32; 2]> = loaded(points(rt.alloc(), count)?)?;
-        assert_eq!(rt; levels_of(tree.root()), levels);
-        assert_eq!(rt; held(rt.alloc(), tree.root())?.as_slice(), parts);
-        for node in tree.root().children() {
-            if let RTreeNode::Parent(part) = node {
-                if count == 28 {
-                    assert_eq!(rt; held(rt.alloc(), part)?.as_slice(), [1, 2, 2, 2].as_slice());
+/// Whether each child of a root has its elements in such parts.
+fn children_have_parts<T: RTreeObject + Clone>(
+    alloc: Global,
+    root: &ParentNode<T>,
+    parts: &[usize],
+) -> Result<bool, AllocError> {
+    for node in root.children() {
+        match node {
+            RTreeNode::Leaf(_) => return Ok(false),
+            RTreeNode::Parent(part) => {
+                if held(alloc, part)?.as_slice() != parts {
+                    return Ok(false);
                 }
             }
         }
     }
-    let deep: RTree<[i32; 3]> = loaded(deep_points(rt.alloc(), 7)?)?;
-    assert_eq!(rt;
-        held(rt.alloc(), deep.root())?.as_slice(),
-        [1; 7].as_slice()
-    );
+    Ok(true)
+}
+
+/// Whether a load has so many levels of parents below its root, and so many elements below each child of it; and, where
+/// that is asked, so many below each child of such a child.
+fn loads_in_parts<T: RTreeObject + Clone>(
+    elements: Vec<T>,
+    levels: usize,
+    parts: &[usize],
+    below: Option<&[usize]>,
+) -> Result<bool, AllocError>
+    requires { 2 ≤ T.Envelope.Point.DIMENSIONS }
+{
+    let alloc = *elements.allocator();
+    let tree: RTree<T> = loaded(elements)?;
+    let root = tree.root();
+    if levels_of(root) != levels || held(alloc, root)?.as_slice() != parts {
+        return Ok(false);
+    }
+    match below {
+        Some(parts) => children_have_parts(alloc, root, parts),
+        None => Ok(true),
+    }
+}
+
+// How many points, the levels of parents below the root, how many points are below each child of the root, and where all
+// these are alike how many are below each child of them.
+#[test]
+fn loads_have_their_parts(rt: HostRuntime) -> Result<(), Fail> {
+    let rows: [(usize, usize, &[usize], Option<&[usize]>); 8] = [
+        (0, 0, &[], None),
+        (6, 0, &[], None),
+        (7, 1, &[1, 2, 2, 2], None),
+        (25, 1, &[6, 6, 6, 7], None),
+        (26, 1, &[6, 6, 7, 7], None),
+        (28, 2, &[7, 7, 7, 7], Some(&[1, 2, 2, 2])),
+        (36, 2, &[9, 9, 9, 9], None),
+        (37, 2, &[9, 9, 9, 10], None),
+    ];
+    for (count, levels, parts, below) in rows {
+        let flat = points(rt.alloc(), count)?;
+        assert!(rt; loads_in_parts(flat, levels, parts, below)?, "{count}");
+    }
+    let deep = deep_points(rt.alloc(), 7)?;
+    assert!(rt; loads_in_parts(deep, 1, &[1; 7], None)?);
     Ok(())
 }
 
-/// The root of a load of these elements, and none of no elements or where one has an empty envelope.
-fn root_of<T: RTreeObject, Params: RTreeParams>(
+/// Whether the root of a load, made by itself, has so many elements below each child; no elements make no root.
+fn root_has_parts<T: RTreeObject + Clone>(
     elements: Vec<T>,
-) -> Result<Option<ParentNode<T>>, AllocError>
+    parts: &[usize],
+) -> Result<bool, AllocError>
     requires { 2 ≤ T.Envelope.Point.DIMENSIONS }
 {
+    let alloc = *elements.allocator();
     if elements.is_empty() || !none_empty(&elements) {
-        return Ok(None);
+        return Ok(false);
     }
-    Ok(Some(bulk_load_sequential::<T, Params>(elements)?))
+    let root = bulk_load_sequential::<T, DefaultParams>(elements)?;
+    Ok(held(alloc, &root)?.as_slice() == parts)
 }
 
 #[test]
 fn a_root_alone_is_loaded(rt: HostRuntime) -> Result<(), Fail> {
-    match root_of::<[i32; 2], DefaultParams>(points(rt.alloc(), 25)?)? {
-        Some(root) => assert_eq!(rt;
-            held(rt.alloc(), &root)?.as_slice(),
-            [6, 6, 6, 7].as_slice()
-        ),
-        None => assert!(rt; false),
-    }
+    let flat = points(rt.alloc(), 25)?;
+    assert!(rt; root_has_parts(flat, &[6, 6, 6, 7])?);
     Ok(())
 }
 
 // ---- what loaded trees take
 
-/// Whether a loaded tree takes more elements, one after another, and stays whole.
-fn takes_more<T: RTreeObject + Clone, Params: RTreeParams>(
-    alloc: Global,
+/// Whether a loaded tree takes more elements, one after another, and stands after each.
+fn takes_more<T: RTreeObject + Copy, Params: RTreeParams>(
     elements: Vec<T>,
     more: &[T],
 ) -> Result<bool, AllocError>
     requires { 2 ≤ T.Envelope.Point.DIMENSIONS }
 {
+    let mut count = elements.len();
     let mut tree: RTree<T, Params> = loaded(elements)?;
-    let mut count = tree.size();
-    for source in more {
-        let element = source.clone()?;
-        if element.envelope().is_empty() || tree.insert(element).is_err() {
+    for element in more {
+        if element.envelope().is_empty() || tree.insert(*element).is_err() {
             return Ok(false);
         }
         count = count.saturating_add(1);
-        let root = tree.root();
-        if tree.size() != count || !is_whole(alloc, root, levels_of(root))? {
+        if tree.size() != count || !stands(&tree) {
             return Ok(false);
         }
     }
@@ -422,13 +361,13 @@ const INSERTED: [[i32; 3]; 10] = [
 #[test]
 fn loaded_trees_take_insertions(rt: HostRuntime) -> Result<(), Fail> {
     let sources = Vec::from_array(rt.alloc(), LOADED)?;
-    assert!(rt; takes_more::<[i32; 3], DefaultParams>(rt.alloc(), sources, &INSERTED)?);
+    assert!(rt; takes_more::<[i32; 3], DefaultParams>(sources, &INSERTED)?);
+    let more = points(rt.alloc(), 40)?;
     // The second has a parent of leaves that is too wide: 7 of 25.
     for count in [0, 25, 28, 37, 300] {
-        let more = points(rt.alloc(), 40)?;
         let flat = points(rt.alloc(), count)?;
         assert!(rt;
-            takes_more::<[i32; 2], DefaultParams>(rt.alloc(), flat, &more)?,
+            takes_more::<[i32; 2], DefaultParams>(flat, &more)?,
             "{count}"
         );
     }
@@ -437,119 +376,164 @@ fn loaded_trees_take_insertions(rt: HostRuntime) -> Result<(), Fail> {
 
 // ---- clones and texts
 
-/// Whether a clone shows what its source shows, and an element that goes into the clone does not go into the source.
-fn clones_alone<T: RTreeObject + Clone + Debug, Params: RTreeParams>(
-    alloc: Global,
-    tree: &RTree<T, Params>,
+/// Whether a clone of a loaded tree shows what its source shows, and an element that goes into the clone does not go
+/// into the source.
+fn clones_alone<T: RTreeObject + Clone + Debug>(
+    elements: Vec<T>,
     element: T,
 ) -> Result<bool, AllocError>
-    requires tree { IsWholeTree T.Envelope.boxes T.object Params.MAX_SIZE tree.now }
+    requires dimensions { 2 ≤ T.Envelope.Point.DIMENSIONS }
     requires exact { ClonesEqual T.is_clone }
-    requires element { T.Envelope.boxes.is_empty (T.object.box_of element) ≡ false }
 {
+    let alloc = *elements.allocator();
+    let count = elements.len();
+    if element.envelope().is_empty() {
+        return Ok(false);
+    }
+    let tree: RTree<T> = loaded(elements)?;
     let before = format!(in alloc; "{:?}", tree.root())?;
     let mut copy = tree.clone()?;
-    let same = format!(in alloc; "{:?}", copy.root())? == before && copy.size() == tree.size();
-    let added = copy.insert(element).is_ok() && tree.size() < copy.size();
+    let same = format!(in alloc; "{:?}", copy.root())? == before && copy.size() == count;
+    let added = copy.insert(element).is_ok() && tree.size() == count && count < copy.size();
     Ok(same && added && format!(in alloc; "{:?}", tree.root())? == before)
 }
 
 #[test]
 fn clones_show_the_same(rt: HostRuntime) -> Result<(), Fail> {
     for count in [0, 1, 7, 25, 37, 300] {
-        let tree: RTree<[i32; 2]> = loaded(points(rt.alloc(), count)?)?;
-        assert!(rt; clones_alone(rt.alloc(), &tree, [7, 7])?, "{count}");
+        let flat = points(rt.alloc(), count)?;
+        assert!(rt; clones_alone(flat, [7, 7])?, "{count}");
     }
     Ok(())
 }
 
+/// Whether a tree of so many equal elements prints this.
+fn prints<T: RTreeObject + Copy + Debug>(
+    alloc: Global,
+    element: T,
+    count: usize,
+    text: &str,
+) -> Result<bool, AllocError>
+    requires { 2 ≤ T.Envelope.Point.DIMENSIONS }
+{
+    let tree: RTree<T> = loaded(vec![in alloc; element; count]?)?;
+    Ok(format!(in alloc; "{tree:?}")?.as_str() == text)
+}
+
 #[test]
 fn a_tree_prints_its_size_and_elements(rt: HostRuntime) -> Result<(), Fail> {
-    let pair: RTree<[i32; 2]> = loaded(vec![in rt.alloc(); [0, 1]; 2]?)?;
-    assert_eq!(rt;
-        format!(in rt.alloc(); "{pair:?}")?.as_str(),
-        "RTree { size: 2, items: {[0, 1], [0, 1]} }"
-    );
-    let none: RTree<[i32; 2]> = loaded(Vec::new(rt.alloc()))?;
-    assert_eq!(rt;
-        format!(in rt.alloc(); "{none:?}")?.as_str(),
-        "RTree { size: 0, items: {} }"
-    );
-    let many: RTree<[i32; 2]> = loaded(vec![in rt.alloc(); [0, 1]; 9]?)?;
-    assert_eq!(rt;
-        format!(in rt.alloc(); "{many:?}")?.as_str(),
-        "RTree { size: 9, items: {[0, 1], [0, 1], [0, 1], [0, 1], [0, 1], [0, 1], [0, 1], [0, 1], [0, 1]} }"
-    );
+    let rows = [
+        (2, "RTree { size: 2, items: {[0, 1], [0, 1]} }"),
+        (0, "RTree { size: 0, items: {} }"),
+        (
+            9,
+            "RTree { size: 9, items: {[0, 1], [0, 1], [0, 1], [0, 1], [0, 1], [0, 1], [0, 1], [0, 1], [0, 1]} }",
+        ),
+    ];
+    for (count, text) in rows {
+        assert!(rt; prints(rt.alloc(), [0, 1], count, text)?, "{count}");
+    }
     Ok(())
 }
 
 // ---- refused growths
 
-/// A load of so many points.
-fn load_of(alloc: Global, count: usize) -> Result<RTree<[i32; 2]>, AllocError>
-    ensures { IfOk result (IsWholeTree ⟦<AABB<[i32; 2]> as Envelope>⟧.boxes ⟦<[i32; 2] as RTreeObject>⟧.object
-        ⟦<DefaultParams as RTreeParams>⟧.MAX_SIZE) }
+/// A load of these elements.
+fn load_of<T: RTreeObject + Copy>(alloc: Global, elements: &[T]) -> Result<RTree<T>, AllocError>
+    requires { 2 ≤ T.Envelope.Point.DIMENSIONS }
+    ensures { IfOk result (IsWholeTree T.Envelope.boxes T.object ⟦<DefaultParams as RTreeParams>⟧.MAX_SIZE) }
 {
-    loaded(points(alloc, count)?)
+    loaded(elements.to_vec(alloc)?)
+}
+
+/// Whether a tree has so many elements, and so many below the child of its root with the fewest; asked once more where
+/// the list of them is refused.
+fn has_least_part<T: RTreeObject + Clone>(
+    alloc: Global,
+    tree: &RTree<T>,
+    size: usize,
+    part: usize,
+) -> Result<bool, AllocError> {
+    let parts = match held(alloc, tree.root()) {
+        Ok(parts) => parts,
+        Err(_) => held(alloc, tree.root())?,
+    };
+    Ok(tree.size() == size && parts.first().copied() == Some(part))
+}
+
+/// Whether a load and its clone have all elements, each asked for once more where it is refused.
+fn may_be_asked_again<T: RTreeObject + Copy>(
+    alloc: Global,
+    elements: &[T],
+    part: usize,
+) -> Result<bool, AllocError>
+    requires { 2 ≤ T.Envelope.Point.DIMENSIONS }
+{
+    let tree = match load_of(alloc, elements) {
+        Ok(tree) => tree,
+        Err(_) => load_of(alloc, elements)?,
+    };
+    let copy = match tree.clone() {
+        Ok(copy) => copy,
+        Err(_) => tree.clone()?,
+    };
+    let count = elements.len();
+    Ok(has_least_part(alloc, &tree, count, part)? && has_least_part(alloc, &copy, count, part)?)
 }
 
 /// `rt try --test --fail-alloc N` refuses the Nth allocation: what was refused is asked once more.
 #[test]
 fn a_refused_load_or_clone_may_be_asked_again(rt: HostRuntime) -> Result<(), Fail> {
     for (count, part) in [(25, 6), (28, 7)] {
-        let tree = match load_of(rt.alloc(), count) {
-            Ok(tree) => tree,
-            Err(_) => load_of(rt.alloc(), count)?,
+        let flat = match points(rt.alloc(), count) {
+            Ok(flat) => flat,
+            Err(_) => points(rt.alloc(), count)?,
         };
-        let copy = match tree.clone() {
-            Ok(copy) => copy,
-            Err(_) => tree.clone()?,
-        };
-        for one in [&tree, &copy] {
-            assert_eq!(rt; one.size(), count);
-            let parts = match held(rt.alloc(), one.root()) {
-                Ok(parts) => parts,
-                Err(_) => held(rt.alloc(), one.root())?,
-            };
-            assert_eq!(rt; parts.first().copied(), Some(part));
-        }
+        assert!(rt; may_be_asked_again(rt.alloc(), &flat, part)?, "{count}");
     }
     Ok(())
 }
 
 // ---- callers
 
-/// Points, loaded: whether one is found, and how many there are after one more.
-pub fn points_found(alloc: Global, more: [i64; 2]) -> Result<(bool, usize), AllocError> {
-    let points = Vec::from_array(alloc, [[0, 0], [5, 5], more])?;
-    let mut tree = RTree::bulk_load(points)?;
-    let found = tree.locate_at_point([5, 5]).is_some();
-    let _refused = tree.insert([1, 1]).is_err();
-    Ok((found, tree.size()))
+/// Three points, loaded.
+pub fn points_loaded(alloc: Global, more: [i64; 2]) -> Result<RTree<[i64; 2]>, AllocError>
+    ensures { IfOk result (IsWholeTree ⟦<AABB<[i64; 2]> as Envelope>⟧.boxes ⟦<[i64; 2] as RTreeObject>⟧.object
+        ⟦<DefaultParams as RTreeParams>⟧.MAX_SIZE) }
+{
+    RTree::bulk_load(Vec::from_array(alloc, [[0, 0], [5, 5], more])?)
+}
+
+/// Whether a tree has an element at a point, and how many there are after one more.
+pub fn found_and_count<T: PointDistance>(
+    mut tree: RTree<T>,
+    point: PointOf<T>,
+    more: T,
+) -> (bool, usize)
+    requires whole { IsWholeTree T.Envelope.boxes T.object ⟦<DefaultParams as RTreeParams>⟧.MAX_SIZE tree }
+    requires element { T.Envelope.boxes.is_empty (T.object.box_of more) ≡ false }
+{
+    let found = tree.locate_at_point(point).is_some();
+    let _refused = tree.insert(more).is_err();
+    (found, tree.size())
 }
 
 /// A rectangle with the number of what it fences in.
 type Fence = GeomWithData<Rectangle<[i64; 2]>, u64>;
 
-/// Fences, loaded: whether there is one at a point, and how many there are after one more.
-pub fn fences_found(
-    alloc: Global,
-    one: [i64; 2],
-    other: [i64; 2],
-) -> Result<(bool, usize), AllocError> {
-    let mut fences = Vec::new(alloc);
-    fences.push(Fence::new(Rectangle::from_corners([0, 0], [2, 2]), 7))?;
-    fences.push(Fence::new(Rectangle::from_corners(one, other), 8))?;
-    let mut tree = RTree::bulk_load(fences)?;
-    let found = tree.locate_at_point([1, 1]).is_some();
-    let more = Fence::new(Rectangle::from_corners(other, one), 9);
-    let _refused = tree.insert(more).is_err();
-    Ok((found, tree.size()))
+#[test]
+fn callers_load_query_and_insert(rt: HostRuntime) -> Result<(), Fail> {
+    let tree = points_loaded(rt.alloc(), [7, 8])?;
+    assert_eq!(rt; found_and_count(tree, [5, 5], [1, 1]), (true, 4));
+    Ok(())
 }
 
 #[test]
-fn callers_load_query_and_insert(rt: HostRuntime) -> Result<(), Fail> {
-    assert_eq!(rt; points_found(rt.alloc(), [7, 8])?, (true, 4));
-    assert_eq!(rt; fences_found(rt.alloc(), [5, 5], [9, 9])?, (true, 3));
+fn fences_are_loaded_queried_and_inserted(rt: HostRuntime) -> Result<(), Fail> {
+    let near = Fence::new(Rectangle::from_corners([0, 0], [2, 2]), 7);
+    let far = Fence::new(Rectangle::from_corners([5, 5], [9, 9]), 8);
+    let tree = loaded(Vec::from_array(rt.alloc(), [near, far])?)?;
+    let more = Fence::new(Rectangle::from_corners([9, 9], [5, 5]), 9);
+    assert_eq!(rt; found_and_count(tree, [1, 1], more), (true, 3));
     Ok(())
 }

@@ -1,17 +1,15 @@
 //! Neighbours: rows, a plain scan beside the tree, and elements that note when they are asked.
 
-ghost use Rattle.std.specs.Prelude.{◌≡◌};
+ghost use Rattle.std.specs.Prelude.{◌≡◌, ◌≤◌};
 ghost use Rattle.rstar_base.specs.Elements.{carried_objects, carried_distances};
+ghost use Rattle.rstar_base.specs.Sizes.{IsNarrow};
 ghost use Rattle.rstar_base.specs.laws.CarrierLaws.{carried_laws};
-ghost use Rattle.rstar.specs.Neighbors.{IsSearching};
+ghost use Rattle.rstar.specs.Neighbors.{with_distances, IsSearching};
 ghost use Rattle.rstar.specs.Trees.{IsWholeTree};
 
-use crate::insertion::{ALONG_A_LINE, Points};
-use crate::loads::loaded;
-use crate::reinsertion::a_thousand_points;
-use crate::selections::planted;
+use crate::scenarios::{ALONG_A_LINE, inserted, loaded, planted, points};
 use rstar::algorithm::nearest_neighbor::{
-    NearestNeighborDistance2Iterator, nearest_neighbor_with_distance_2,
+    NearestNeighborDistance2Iterator, NearestNeighborIterator, nearest_neighbor_with_distance_2,
     nearest_neighbors_with_distance_2,
 };
 use rstar::object::{Distance, PointDistance, PointOf, RTreeObject};
@@ -24,171 +22,316 @@ use std::test::Fail;
 
 type At = [i32; 2];
 
-/// The squared distances that an iterator gives, at most so many.
-fn given<T: PointDistance>(
-    alloc: Global,
+/// Whether an iterator that has opened nothing gives neighbours at these squared distances, and then none; and whether
+/// so many parents are opened after each, as far as these numbers go.
+fn gives<T: PointDistance>(
     neighbors: &mut NearestNeighborDistance2Iterator<'_, T>,
-    most: usize,
-) -> Result<Vec<Distance<T>>, AllocError>
+    distances: &[Distance<T>],
+    opened: &[usize],
+) -> bool
     requires { IsSearching T.Envelope.boxes T.object T.distances T.Envelope.Point.DIMENSIONS
         T.Envelope.Point.coord T.Envelope.Point.Scalar.cmp T.Envelope.Point.Scalar.value neighbors.old }
 {
-    let mut all = Vec::new(alloc);
-    for _ in 0..most {
+    if neighbors.opened() != 0 {
+        return false;
+    }
+    for k in 0..distances.len() {
         match neighbors.next() {
-            Some(found) => {
-                let (_element, distance) = found?;
-                all.push(distance)?;
-            }
-            None => return Ok(all),
+            Some(Ok((_, distance))) => if distance != distances[k] {
+                return false;
+            },
+            _ => return false,
+        }
+        if k < opened.len() && neighbors.opened() != opened[k] {
+            return false;
         }
     }
-    Ok(all)
+    neighbors.next().is_none()
+}
+
+/// Whether an iterator without distances gives elements at these squared distances from a place, and then none.
+fn gives_elements<T: PointDistance>(
+    neighbors: &mut NearestNeighborIterator<'_, T>,
+    place: &PointOf<T>,
+    distances: &[Distance<T>],
+) -> bool
+    requires { IsSearching T.Envelope.boxes T.object T.distances T.Envelope.Point.DIMENSIONS
+        T.Envelope.Point.coord T.Envelope.Point.Scalar.cmp T.Envelope.Point.Scalar.value
+        (with_distances neighbors.old) }
+{
+    for distance in distances {
+        match neighbors.next() {
+            Some(Ok(element)) => if element.distance_2(place) != *distance {
+                return false;
+            },
+            _ => return false,
+        }
+    }
+    neighbors.next().is_none()
+}
+
+/// Whether a tree's neighbours of a place come at these squared distances, as `gives` has it.
+fn come<T: PointDistance>(
+    tree: &RTree<T>,
+    place: PointOf<T>,
+    distances: &[Distance<T>],
+    opened: &[usize],
+) -> bool
+    requires narrow { IsNarrow T.Envelope.Point.row }
+    requires whole { IsWholeTree T.Envelope.boxes T.object ⟦<DefaultParams as RTreeParams>⟧.MAX_SIZE tree.now }
+{
+    let mut neighbors = tree.nearest_neighbor_iter_with_distance_2(place);
+    gives(&mut neighbors, distances, opened)
+}
+
+/// The same by the old name of the call.
+fn come_by_old_name<T: PointDistance>(
+    tree: &RTree<T>,
+    place: PointOf<T>,
+    distances: &[Distance<T>],
+    opened: &[usize],
+) -> bool
+    requires narrow { IsNarrow T.Envelope.Point.row }
+    requires whole { IsWholeTree T.Envelope.boxes T.object ⟦<DefaultParams as RTreeParams>⟧.MAX_SIZE tree.now }
+{
+    let mut neighbors = tree.nearest_neighbor_iter_with_distance(place);
+    gives(&mut neighbors, distances, opened)
+}
+
+/// The same without distances.
+fn elements_come<T: PointDistance>(
+    tree: &RTree<T>,
+    place: PointOf<T>,
+    distances: &[Distance<T>],
+) -> bool
+where
+    PointOf<T>: Copy,
+    requires narrow { IsNarrow T.Envelope.Point.row }
+    requires whole { IsWholeTree T.Envelope.boxes T.object ⟦<DefaultParams as RTreeParams>⟧.MAX_SIZE tree.now }
+{
+    let mut neighbors = tree.nearest_neighbor_iter(place);
+    gives_elements(&mut neighbors, &place, distances)
+}
+
+/// The first number of an ascending list, and how often it stands there.
+fn least_of<S: RTreeNum>(ascending: &[S]) -> Option<(S, usize)> {
+    let least = *ascending.first()?;
+    let mut count = 0usize;
+    for number in ascending {
+        if *number == least {
+            count = count.saturating_add(1);
+        }
+    }
+    Some((least, count))
+}
+
+/// Whether a neighbour that was found lies at the least distance of some; none, where there is none.
+fn is_least<T: PointDistance>(
+    found: Option<(&T, Distance<T>)>,
+    place: &PointOf<T>,
+    least: Option<(Distance<T>, usize)>,
+) -> bool {
+    match (found, least) {
+        (Some((element, distance)), Some((least, _))) => {
+            distance == least && element.distance_2(place) == least
+        }
+        (None, None) => true,
+        _ => false,
+    }
+}
+
+/// Whether all neighbours that were found lie at the least distance of some, and are as many.
+fn are_least<T: PointDistance>(
+    found: &[&T],
+    place: &PointOf<T>,
+    least: Option<(Distance<T>, usize)>,
+) -> bool {
+    let Some((least, count)) = least else {
+        return found.is_empty();
+    };
+    for element in found {
+        if element.distance_2(place) != least {
+            return false;
+        }
+    }
+    found.len() == count
+}
+
+/// Whether each call that looks for a nearest neighbour, or for all of them, finds those at the least of some distances.
+fn calls_find<T: PointDistance>(
+    tree: &RTree<T>,
+    place: PointOf<T>,
+    least: Option<(Distance<T>, usize)>,
+) -> Result<bool, AllocError>
+where
+    PointOf<T>: Copy,
+    requires whole { IsWholeTree T.Envelope.boxes T.object ⟦<DefaultParams as RTreeParams>⟧.MAX_SIZE tree.now }
+{
+    let one = tree.nearest_neighbor_with_distance_2(place)?;
+    let below = nearest_neighbor_with_distance_2(tree.root(), place)?;
+    if !is_least(one, &place, least) || !is_least(below, &place, least) {
+        return Ok(false);
+    }
+    let alone = match tree.nearest_neighbor(place)? {
+        Some(element) => Some((element, element.distance_2(&place))),
+        None => None,
+    };
+    let all = tree.nearest_neighbors(&place)?;
+    if !is_least(alone, &place, least) || !are_least(&all, &place, least) {
+        return Ok(false);
+    }
+    let each = tree.nearest_neighbors_with_distance_2(&place)?;
+    let each_below = nearest_neighbors_with_distance_2(tree.root(), place)?;
+    match (each, each_below, least) {
+        (Some((all, one)), Some((all_below, other)), Some((distance, _))) => {
+            Ok(
+                one == distance
+                    && other == distance
+                    && are_least(&all, &place, least)
+                    && are_least(&all_below, &place, least),
+            )
+        }
+        (None, None, None) => Ok(true),
+        _ => Ok(false),
+    }
+}
+
+/// Whether all neighbours of a place lie at these squared distances, by each call that leaves the tree.
+fn answers<T: PointDistance>(
+    tree: &RTree<T>,
+    place: PointOf<T>,
+    distances: &[Distance<T>],
+    opened: &[usize],
+) -> bool
+where
+    PointOf<T>: Copy,
+    requires narrow { IsNarrow T.Envelope.Point.row }
+    requires whole { IsWholeTree T.Envelope.boxes T.object ⟦<DefaultParams as RTreeParams>⟧.MAX_SIZE tree.now }
+{
+    come(tree, place, distances, opened)
+        && come_by_old_name(tree, place, distances, opened)
+        && elements_come(tree, place, distances)
+        && matches!(calls_find(tree, place, least_of(distances)), Ok(true))
+}
+
+/// The same of a tree of these elements.
+fn come_at<T: PointDistance + Copy>(
+    alloc: Global,
+    elements: &[T],
+    place: PointOf<T>,
+    distances: &[Distance<T>],
+    opened: &[usize],
+) -> bool
+where
+    PointOf<T>: Copy,
+    requires narrow { IsNarrow T.Envelope.Point.row }
+{
+    match inserted::<T, DefaultParams>(alloc, elements) {
+        Some(tree) => answers(&tree, place, distances, opened),
+        None => false,
+    }
+}
+
+/// Takes one element that equals this one out of a list, and whether there is one.
+pub(crate) fn take<T: PartialEq + Copy>(list: &mut Vec<T>, element: &T) -> bool {
+    for place in 0..list.len() {
+        if list[place] == *element {
+            list.swap_remove(place);
+            return true;
+        }
+    }
+    false
+}
+
+/// Whether what a loaded tree of these elements gives up at a place are all of them, each once, at these squared
+/// distances, and then none.
+fn popped_at<T: PointDistance + PartialEq + Copy>(
+    alloc: Global,
+    elements: &[T],
+    place: PointOf<T>,
+    distances: &[Distance<T>],
+) -> Result<bool, AllocError>
+where
+    PointOf<T>: Copy,
+    requires dimensions { 2 ≤ T.Envelope.Point.DIMENSIONS }
+{
+    let mut rest = Vec::from_slice(alloc, elements)?;
+    let mut tree = loaded::<T, DefaultParams>(Vec::from_slice(alloc, elements)?)?;
+    for distance in distances {
+        let Some(element) = tree.pop_nearest_neighbor(place)? else {
+            return Ok(false);
+        };
+        if element.distance_2(&place) != *distance || !take(&mut rest, &element) {
+            return Ok(false);
+        }
+    }
+    Ok(rest.is_empty() && tree.size() == 0 && tree.pop_nearest_neighbor(place)?.is_none())
 }
 
 // The seven points: the squared distances from `[0, 0]`, and how many parents are opened after each.
 #[test]
-fn a_far_parent_waits(rt: HostRuntime) -> Result<(), Fail> {
-    let line = Points::inserted(rt.alloc(), &ALONG_A_LINE)?;
-    let mut neighbors = line.tree().nearest_neighbor_iter_with_distance_2([0, 0]);
-    assert_eq!(rt; neighbors.opened(), 0);
-    for (distance, opened) in [
-        (0, 2),
-        (1, 2),
-        (4, 2),
-        (10000, 3),
-        (10201, 3),
-        (10404, 3),
-        (10609, 3),
-    ] {
-        assert!(rt; matches!(neighbors.next(), Some(Ok((_, found))) if found == distance));
-        assert_eq!(rt; neighbors.opened(), opened);
-    }
-    assert!(rt; neighbors.next().is_none());
-    let mut again = line.tree().nearest_neighbor_iter_with_distance([0, 0]);
-    assert_eq!(rt;
-        given(rt.alloc(), &mut again, 3)?.as_slice(),
-        [0, 1, 4].as_slice()
-    );
-    Ok(())
+fn a_far_parent_waits(rt: HostRuntime) {
+    let distances = [0, 1, 4, 10000, 10201, 10404, 10609];
+    let opened = [2, 2, 2, 3, 3, 3, 3];
+    assert!(rt; come_at(rt.alloc(), &ALONG_A_LINE, [0, 0], &distances, &opened));
 }
 
 #[test]
-fn lines_come_by_their_own_distances(rt: HostRuntime) -> Result<(), Fail> {
-    let mut lines = RTree::new(rt.alloc());
-    lines.insert(Line::new([0i64, 0], [10, 0]))?;
-    lines.insert(Line::new([9, 5], [9, 6]))?;
-    let nearest = lines.nearest_neighbor([9, 0])?.map(|line| line.to);
-    assert_eq!(rt; nearest, Some([10, 0]));
-    let mut neighbors = lines.nearest_neighbor_iter_with_distance_2([9, 0]);
-    assert_eq!(rt;
-        given(rt.alloc(), &mut neighbors, 9)?.as_slice(),
-        [0, 25].as_slice()
-    );
-    Ok(())
+fn lines_come_by_their_own_distances(rt: HostRuntime) {
+    let lines = [Line::new([0i64, 0], [10, 0]), Line::new([9, 5], [9, 6])];
+    assert!(rt; come_at(rt.alloc(), &lines, [9, 0], &[0, 25], &[]));
 }
 
-// Two plots that touch, both seen from a corner of the one and popped at the other's side.
+// Two plots that touch, both seen from a corner of the one and popped at the other's side, the other first.
 #[test]
 fn plots_come_by_their_own_distances(rt: HostRuntime) -> Result<(), Fail> {
-    let mut plots = RTree::new(rt.alloc());
-    plots.insert(GeomWithData::new(Rectangle::from_corners([0i64, 0], [2, 2]), 7u64))?;
-    plots.insert(GeomWithData::new(Rectangle::from_corners([2, 2], [4, 4]), 8))?;
-    {
-        let mut neighbors = plots.nearest_neighbor_iter_with_distance_2([0, 0]);
-        let found = given(rt.alloc(), &mut neighbors, 5)?;
-        assert_eq!(rt; found.as_slice(), [0, 8].as_slice());
-    }
-    let places = Vec::from_array(rt.alloc(), [[9, 9], [9, 9], [9, 9]])?;
-    let taken = popped(rt.alloc(), &mut plots, places)?;
-    let numbers = taken.iter().map(|plot| plot.data);
-    assert!(rt; numbers.eq([8, 7]));
+    let plots = [
+        GeomWithData::new(Rectangle::from_corners([0i64, 0], [2, 2]), 7u64),
+        GeomWithData::new(Rectangle::from_corners([2, 2], [4, 4]), 8),
+    ];
+    assert!(rt; come_at(rt.alloc(), &plots, [0, 0], &[0, 8], &[]));
+    assert!(rt; popped_at(rt.alloc(), &plots, [9, 9], &[50, 98])?);
     Ok(())
 }
 
 // ---- beside a plain scan
 
-/// The squared distances of a list's points from a place, the least first.
-fn distances(alloc: Global, points: &[At], place: At) -> Result<Vec<i32>, AllocError> {
+/// The squared distances of some elements from a place, the least first.
+fn scanned<T: PointDistance>(
+    alloc: Global,
+    elements: &[T],
+    place: &PointOf<T>,
+) -> Result<Vec<Distance<T>>, AllocError> {
     let mut all = Vec::new(alloc);
-    for point in points {
-        all.push(point.distance_2(&place))?;
+    for element in elements {
+        all.push(element.distance_2(place))?;
     }
     all.sort_unstable();
     Ok(all)
 }
 
-/// The least squared distance from a place, and how many points have it; `None` too where the four calls differ.
-fn nearest(tree: &RTree<At>, place: At) -> Result<Option<(i32, usize)>, AllocError>
-    requires { IsWholeTree ⟦<AABB<[i32; 2]> as Envelope>⟧.boxes ⟦<[i32; 2] as RTreeObject>⟧.object
-        ⟦<DefaultParams as RTreeParams>⟧.MAX_SIZE tree.now }
-{
-    let all = tree.nearest_neighbors(&place)?;
-    let one = tree.nearest_neighbor(place)?;
-    let same = tree.nearest_neighbor_with_distance_2(place)?;
-    let each = tree.nearest_neighbors_with_distance_2(&place)?;
-    let (Some(one), Some((point, distance)), Some((list, least))) = (one, same, each) else {
-        return Ok(None);
-    };
-    let agree = distance == least
-        && one.distance_2(&place) == least
-        && point.distance_2(&place) == least
-        && list.len() == all.len()
-        && all.iter().all(|point| point.distance_2(&place) == least);
-    Ok(if agree {
-        Some((least, all.len()))
-    } else {
-        None
-    })
-}
-
-/// What is popped at places, in this order.
-fn popped<T: PointDistance>(
+/// Whether a tree of these elements, and one that was loaded, answers at each place as a scan does.
+fn answer_as_a_scan<T: PointDistance + Copy>(
     alloc: Global,
-    tree: &mut RTree<T>,
-    places: Vec<PointOf<T>>,
-) -> Result<Vec<T>, AllocError>
-    requires { IsWholeTree T.Envelope.boxes T.object ⟦<DefaultParams as RTreeParams>⟧.MAX_SIZE tree.old }
+    elements: &[T],
+    places: &[PointOf<T>],
+) -> Result<bool, AllocError>
+where
+    PointOf<T>: Copy,
+    requires narrow { IsNarrow T.Envelope.Point.row }
+    requires dimensions { 2 ≤ T.Envelope.Point.DIMENSIONS }
 {
-    let mut all = Vec::new(alloc);
+    let Some(tree) = inserted::<T, DefaultParams>(alloc, elements) else {
+        return Ok(false);
+    };
+    let load = loaded::<T, DefaultParams>(Vec::from_slice(alloc, elements)?)?;
     for place in places {
-        if let Some(element) = tree.pop_nearest_neighbor(place)? {
-            all.push(element)?;
+        let wanted = scanned(alloc, elements, place)?;
+        if !answers(&tree, *place, &wanted, &[]) || !answers(&load, *place, &wanted, &[]) {
+            return Ok(false);
         }
     }
-    Ok(all)
-}
-
-/// The first number of an ascending list, and how often it stands there.
-fn least_of(ascending: &[i32]) -> Option<(i32, usize)> {
-    let least = *ascending.first()?;
-    Some((
-        least,
-        ascending.iter().filter(|number| **number == least).count(),
-    ))
-}
-
-/// Whether two lists are one.
-fn same(one: &[i32], other: &[i32]) -> bool {
-    one == other
-}
-
-/// Whether two lists of points are one, in some order.
-fn are_the_same(mut one: Vec<At>, mut other: Vec<At>) -> bool {
-    one.sort_unstable();
-    other.sort_unstable();
-    one == other
-}
-
-/// Whether a tree answers at a place as a scan of its points does, by each call that leaves the tree.
-fn answers_as(alloc: Global, tree: &RTree<At>, points: &[At], place: At) -> Result<bool, AllocError>
-    requires { IsWholeTree ⟦<AABB<[i32; 2]> as Envelope>⟧.boxes ⟦<[i32; 2] as RTreeObject>⟧.object
-        ⟦<DefaultParams as RTreeParams>⟧.MAX_SIZE tree.now }
-{
-    let wanted = distances(alloc, points, place)?;
-    let mut neighbors = tree.nearest_neighbor_iter_with_distance_2(place);
-    let found = given(alloc, &mut neighbors, points.len().saturating_add(1))?;
-    Ok(same(&found, &wanted) && nearest(tree, place)? == least_of(&wanted))
+    Ok(true)
 }
 
 /// Places on, beside and far from the points.
@@ -213,109 +356,52 @@ fn few_neighbours_come_as_by_a_scan(rt: HostRuntime) -> Result<(), Fail> {
         &[[1, 0], [-1, 0], [0, 2]],
         &ALONG_A_LINE,
     ];
-    for points in lists {
-        let all = Points::inserted(rt.alloc(), points)?;
-        for place in PLACES {
-            assert!(rt;
-                answers_as(rt.alloc(), all.tree(), points, place)?,
-                "{place:?}"
-            );
-        }
+    for list in lists {
+        assert!(rt; answer_as_a_scan(rt.alloc(), list, &PLACES)?, "{list:?}");
     }
     Ok(())
 }
 
-// Points, a place, the least squared distance, and how many points have it.
+// Points, a place, and the squared distances: none in an empty tree, and of two points each is the nearest on its own
+// side.
 #[test]
-fn all_nearest_are_given(rt: HostRuntime) -> Result<(), Fail> {
-    let rows: [(&[At], At, Option<(i32, usize)>); 5] = [
-        (&[], [0, 213], None),
-        (&[[0, 0], [0, 1]], [-1, 0], Some((1, 1))),
-        (&[[0, 0], [0, 1]], [0, 2], Some((1, 1))),
-        (&[[1, 0], [-1, 0], [0, 2]], [0, 0], Some((1, 2))),
-        (&ALONG_A_LINE, [50, 0], Some((2304, 1))),
+fn all_neighbours_are_given(rt: HostRuntime) {
+    let rows: [(&[At], At, &[i32]); 5] = [
+        (&[], [0, 213], &[]),
+        (&[[0, 0], [0, 1]], [-1, 0], &[1, 2]),
+        (&[[0, 0], [0, 1]], [0, 2], &[1, 4]),
+        (&[[1, 0], [-1, 0], [0, 2]], [0, 0], &[1, 1, 4]),
+        (
+            &ALONG_A_LINE,
+            [50, 0],
+            &[2304, 2401, 2500, 2500, 2601, 2704, 2809],
+        ),
     ];
-    for (points, place, found) in rows {
-        let all = Points::inserted(rt.alloc(), points)?;
-        assert_eq!(rt; nearest(all.tree(), place)?, found, "at {place:?}");
-    }
-    Ok(())
-}
-
-/// Whether nothing is found: by each call that leaves the tree, and by both functions below its root.
-fn nothing_is_near(tree: &RTree<At>, place: At) -> Result<[bool; 8], AllocError>
-    requires { IsWholeTree ⟦<AABB<[i32; 2]> as Envelope>⟧.boxes ⟦<[i32; 2] as RTreeObject>⟧.object
-        ⟦<DefaultParams as RTreeParams>⟧.MAX_SIZE tree.now }
-{
-    Ok([
-        tree.nearest_neighbor(place)?.is_none(),
-        tree.nearest_neighbor_with_distance_2(place)?.is_none(),
-        tree.nearest_neighbors(&place)?.is_empty(),
-        tree.nearest_neighbors_with_distance_2(&place)?.is_none(),
-        tree.nearest_neighbor_iter(place).next().is_none(),
-        tree.nearest_neighbor_iter_with_distance_2(place)
-            .next()
-            .is_none(),
-        nearest_neighbor_with_distance_2(tree.root(), place)?.is_none(),
-        nearest_neighbors_with_distance_2(tree.root(), place)?.is_none(),
-    ])
-}
-
-#[test]
-fn in_an_empty_tree_nothing_is_near(rt: HostRuntime) -> Result<(), Fail> {
-    let mut tree = RTree::new(rt.alloc());
-    assert_eq!(rt; nothing_is_near(&tree, [0, 213])?, [true; 8]);
-    assert!(rt; tree.pop_nearest_neighbor([0, 213])?.is_none());
-    Ok(())
-}
-
-// Two points: each is the nearest on its own side, and the third time nothing is popped.
-#[test]
-fn of_two_points_the_nearer_comes_first(rt: HostRuntime) -> Result<(), Fail> {
-    let points = Vec::from_array(rt.alloc(), [[0i32, 0], [0, 1]])?;
-    let mut tree = planted(rt.alloc(), points.clone()?)?;
-    for (place, nearest) in [([-1, 0], [0, 0]), ([0, 2], [0, 1])] {
-        let found = tree.nearest_neighbor_with_distance_2(place)?;
+    for (list, place, distances) in rows {
         assert!(rt;
-            matches!(found, Some((point, 1)) if *point == nearest),
-            "{place:?}"
+            come_at(rt.alloc(), list, place, distances, &[]),
+            "at {place:?}"
         );
     }
-    let places = Vec::from_array(rt.alloc(), [[0, 0], [0, 0], [0, 0]])?;
-    assert_eq!(rt; popped(rt.alloc(), &mut tree, places)?, points);
-    Ok(())
 }
 
 // rstar's tests `test_nearest_neighbor`, `test_nearest_neighbors`, `test_nearest_neighbor_iterator` and its sibling
-// with distances, on other points: each in a tree that was loaded.
+// with distances, on other points.
 #[test]
 fn a_thousand_neighbours_come_as_by_a_scan(rt: HostRuntime) -> Result<(), Fail> {
-    let points = a_thousand_points(rt.alloc())?;
-    let tree = loaded(points.clone()?)?;
-    for place in PLACES {
-        assert!(rt;
-            answers_as(rt.alloc(), &tree, points.as_slice(), place)?,
-            "{place:?}"
-        );
-    }
+    let thousand = points(rt.alloc(), 1000)?;
+    assert!(rt; answer_as_a_scan(rt.alloc(), &thousand, &PLACES)?);
     Ok(())
 }
 
-// The nearest first, each once, and then none.
+// The nearest first, each once, and then none: of an empty tree, of two points, and of a thousand.
 #[test]
 fn the_nearest_are_popped_first(rt: HostRuntime) -> Result<(), Fail> {
-    let points = a_thousand_points(rt.alloc())?;
-    let mut tree = loaded(points.clone()?)?;
-    let places = vec![in rt.alloc(); [50, 51]; 1001]?;
-    let mut last = 0;
-    let taken = popped(rt.alloc(), &mut tree, places)?;
-    for point in taken.iter() {
-        let distance = point.distance_2(&[50, 51]);
-        assert!(rt; last <= distance, "at {point:?}");
-        last = distance;
-    }
-    assert_eq!(rt; tree.size(), 0);
-    assert!(rt; are_the_same(taken, points));
+    assert!(rt; popped_at::<At>(rt.alloc(), &[], [0, 213], &[])?);
+    assert!(rt; popped_at(rt.alloc(), &[[0i32, 0], [0, 1]], [0, 0], &[0, 1])?);
+    let thousand = points(rt.alloc(), 1000)?;
+    let distances = scanned(rt.alloc(), &thousand, &[50, 51])?;
+    assert!(rt; popped_at(rt.alloc(), &thousand, [50, 51], &distances)?);
     Ok(())
 }
 
@@ -334,9 +420,11 @@ fn a_min_max_distance_is_that_of_a_corner(rt: HostRuntime) {
 // ---- who is asked
 
 /// An element that counts how often it is asked.
-#[derive(Debug, Drop)]
+#[derive(Drop)]
 struct Noting<T> {
     inner: T,
+    /// Whether it lies far.
+    is_far: bool,
     asked: Cell<u32>,
 }
 
@@ -376,38 +464,90 @@ impl<T: PointDistance> PointDistance for Noting<T> {
     ghost distance_laws = { carried_laws T.Envelope.boxes T.object T.distances (λ n. n.inner) T.distance_laws };
 }
 
-/// How often the points on the left and those on the right of a line were asked since the last call.
-fn asked(tree: &RTree<Noting<At>>, line: i32) -> Result<(u32, u32), AllocError>
-    requires { IsWholeTree ⟦<AABB<[i32; 2]> as Envelope>⟧.boxes ⟦<Noting<At> as RTreeObject>⟧.object
-        ⟦<DefaultParams as RTreeParams>⟧.MAX_SIZE tree.now }
+/// How often the elements that lie near and those that lie far were asked since the last call.
+fn asked<T: PointDistance>(tree: &RTree<Noting<T>>) -> Result<(u32, u32), AllocError>
+    requires whole { IsWholeTree T.Envelope.boxes ⟦<Noting<T> as RTreeObject>⟧.object ⟦<DefaultParams as RTreeParams>⟧.MAX_SIZE tree.now }
 {
-    let (mut left, mut right) = (0u32, 0u32);
-    for noting in tree.iter()? {
+    let (mut near, mut far) = (0u32, 0u32);
+    let mut all = tree.iter()?;
+    while let Some(noting) = all.next() {
         let count = noting.asked.replace(0);
-        if noting.inner[0] < line {
-            left = left.wrapping_add(count);
+        if noting.is_far {
+            far = far.wrapping_add(count);
         } else {
-            right = right.wrapping_add(count);
+            near = near.wrapping_add(count);
         }
     }
-    Ok((left, right))
+    Ok((near, far))
 }
 
-// The seven points: none of the four on the right is asked before the fourth neighbour.
+/// Whether so many near elements and so many far ones are asked at each neighbour, and then none is left.
+fn asks_so<T: PointDistance>(
+    tree: &RTree<Noting<T>>,
+    neighbors: &mut NearestNeighborIterator<'_, Noting<T>>,
+    rows: &[(u32, u32)],
+) -> bool
+    requires whole { IsWholeTree T.Envelope.boxes ⟦<Noting<T> as RTreeObject>⟧.object
+        ⟦<DefaultParams as RTreeParams>⟧.MAX_SIZE tree.now }
+    requires searching { IsSearching T.Envelope.boxes ⟦<Noting<T> as RTreeObject>⟧.object
+        ⟦<Noting<T> as PointDistance>⟧.distances T.Envelope.Point.DIMENSIONS T.Envelope.Point.coord
+        T.Envelope.Point.Scalar.cmp T.Envelope.Point.Scalar.value (with_distances neighbors.old) }
+{
+    for row in rows {
+        match neighbors.next() {
+            Some(Ok(_)) => if !matches!(asked(tree), Ok(count) if count == *row) {
+                return false;
+            },
+            _ => return false,
+        }
+    }
+    neighbors.next().is_none()
+}
+
+/// The same of a tree's neighbours of a place.
+fn are_asked<T: PointDistance>(
+    tree: &RTree<Noting<T>>,
+    place: PointOf<T>,
+    rows: &[(u32, u32)],
+) -> bool
+    requires narrow { IsNarrow T.Envelope.Point.row }
+    requires whole { IsWholeTree T.Envelope.boxes ⟦<Noting<T> as RTreeObject>⟧.object
+        ⟦<DefaultParams as RTreeParams>⟧.MAX_SIZE tree.now }
+{
+    let mut neighbors = tree.nearest_neighbor_iter(place);
+    asks_so(tree, &mut neighbors, rows)
+}
+
+/// The same of a tree of elements, of which the first so many lie near and the others far.
+fn note_who_is_asked<T: PointDistance + Copy>(
+    alloc: Global,
+    elements: &[T],
+    first_far: usize,
+    place: PointOf<T>,
+    rows: &[(u32, u32)],
+) -> Result<bool, AllocError>
+    requires narrow { IsNarrow T.Envelope.Point.row }
+{
+    let mut list = Vec::new(alloc);
+    for k in 0..elements.len() {
+        list.push(Noting {
+            inner: elements[k],
+            is_far: first_far <= k,
+            asked: Cell::new(0),
+        })?;
+    }
+    let Some(tree) = planted::<Noting<T>, DefaultParams>(list) else {
+        return Ok(false);
+    };
+    asked(&tree)?;
+    Ok(are_asked(&tree, place, rows))
+}
+
+// The seven points: how often the three on the left and the four on the right are asked at each neighbour. None of the
+// four is asked before the fourth.
 #[test]
 fn below_a_parent_that_waits_no_element_is_asked(rt: HostRuntime) -> Result<(), Fail> {
-    let mut list = Vec::new(rt.alloc());
-    for inner in ALONG_A_LINE {
-        let asked = Cell::new(0);
-        list.push(Noting { inner, asked })?;
-    }
-    let tree = planted(rt.alloc(), list)?;
-    asked(&tree, 50)?;
-    let mut neighbors = tree.nearest_neighbor_iter([0, 0]);
-    // How often the three on the left and the four on the right are asked at each call.
-    for row in [(3, 0), (0, 0), (0, 0), (0, 4), (0, 0), (0, 0), (0, 0)] {
-        assert!(rt; matches!(neighbors.next(), Some(Ok(_))));
-        assert_eq!(rt; asked(&tree, 50)?, row);
-    }
+    let rows = [(3, 0), (0, 0), (0, 0), (0, 4), (0, 0), (0, 0), (0, 0)];
+    assert!(rt; note_who_is_asked(rt.alloc(), &ALONG_A_LINE, 3, [0, 0], &rows)?);
     Ok(())
 }

@@ -76,24 +76,6 @@ fn first_of<'a, T: PointDistance>(
     Ok(all)
 }
 
-/// All points, the nearest to a place first, and how many parents are opened for them.
-fn points_in_order<'a>(
-    alloc: Global,
-    tree: &'a RTree<At>,
-    place: At,
-) -> Result<(Vec<&'a At>, usize), AllocError>
-    requires { IsWholeTree ⟦<AABB<[i64; 2]> as Envelope>⟧.boxes ⟦<[i64; 2] as RTreeObject>⟧.object
-        ⟦<DefaultParams as RTreeParams>⟧.MAX_SIZE tree.now }
-    ensures all { IfOk result (λ r. IsPermutation (elements_in tree.now) (map (λ t. t.now) r.0.items)) }
-    ensures order { IfOk result (λ r. AreInOrder (λ t. ⟦<[i64; 2] as PointDistance>⟧.distances.distance_2 t
-        (table 2 (⟦<[i64; 2] as Point>⟧.coord place))) (map (λ t. t.now) r.0.items)) }
-    ensures opened { IfOk result (λ r. r.1 ≡ min (parents_of (root_of tree.now)) usize.MAX) }
-{
-    let mut neighbors = tree.nearest_neighbor_iter(place);
-    let all = all_of(alloc, &mut neighbors)?;
-    Ok((all, neighbors.opened()))
-}
-
 /// All lines, the nearest to a place first, and how many parents are opened for them.
 fn lines_in_order<'a>(
     alloc: Global,

@@ -1,4 +1,4 @@
-//! Every selection, look-up and payload reference by a caller at concrete types: points, and rectangles with a number.
+//! Every selection, look-up and payload reference by a caller: at points, at rectangles with a number, or at any type.
 
 ghost use Rattle.std.specs.Prelude.{◌≡◌, min, map, filter, true, pos, int_le, IfOk, IsTrue, not};
 ghost use Rattle.std.specs.List.{list_any};
@@ -12,6 +12,7 @@ ghost use Rattle.rstar_vectors.specs.Callers.{IsRenumbered};
 
 use rstar::algorithm::selection_functions::{SelectEqualsFunction, SelectionFunction};
 use rstar::iterators::SelectionIterator;
+use rstar::object::PointOf;
 use rstar::point::Point;
 use rstar::primitives::{GeomWithData, Rectangle};
 use rstar::{AABB, DefaultParams, Envelope, PointDistance, RTree, RTreeObject, RTreeParams};
@@ -76,88 +77,6 @@ pub fn points_found<'a>(
     Ok((all, inside, near))
 }
 
-/// The points that a box touches, those that contain a point, and those that equal one: by
-/// `locate_in_envelope_intersecting`, `locate_all_at_point`, and `locate_with_selection_function` with a
-/// `SelectEqualsFunction`.
-pub fn points_met<'a>(
-    alloc: Global,
-    tree: &'a RTree<[i64; 2]>,
-    area: AABB<[i64; 2]>,
-    point: [i64; 2],
-    wanted: &[i64; 2],
-) -> Result<
-    (
-        Walked<'a, [i64; 2]>,
-        Walked<'a, [i64; 2]>,
-        Walked<'a, [i64; 2]>,
-    ),
-    AllocError,
->
-    requires { IsWholeTree ⟦<AABB<[i64; 2]> as Envelope>⟧.boxes ⟦<[i64; 2] as RTreeObject>⟧.object
-        ⟦<DefaultParams as RTreeParams>⟧.MAX_SIZE tree.now }
-    ensures touching { IfOk result (λ r. map (λ t. t.now) r.0.0.items ≡ filter
-        (λ t. boxes_intersect area (⟦<[i64; 2] as RTreeObject>⟧.object.box_of t)) (elements_in tree.now)) }
-    ensures here { IfOk result (λ r. map (λ t. t.now) r.1.0.items ≡ filter
-        (λ t. ⟦<[i64; 2] as PointDistance>⟧.distances.contains_point t (table 2 (⟦<[i64; 2] as Point>⟧.coord point)))
-        (elements_in tree.now)) }
-    ensures equal { IfOk result (λ r. map (λ t. t.now) r.2.0.items ≡ filter
-        (λ t. ⟦<[i64; 2] as PartialEq>⟧.eq t wanted.now) (elements_in tree.now)) }
-    ensures opened_touching { IfOk result (λ r. r.0.1
-        ≡ min (reach_of (λ e. boxes_intersect area e) (root_of tree.now)) usize.MAX) }
-    ensures opened_here { IfOk result (λ r. r.1.1 ≡ min (reach_of
-        (λ e. box_contains_point e (table 2 (⟦<[i64; 2] as Point>⟧.coord point))) (root_of tree.now)) usize.MAX) }
-    ensures opened_equal { IfOk result (λ r. r.2.1 ≡ min (reach_of
-        (λ e. contains_box e (⟦<[i64; 2] as RTreeObject>⟧.object.box_of wanted.now)) (root_of tree.now)) usize.MAX) }
-{
-    let touching = walked(alloc, tree.locate_in_envelope_intersecting(area)?)?;
-    let here = walked(alloc, tree.locate_all_at_point(point)?)?;
-    let func = SelectEqualsFunction::new(wanted);
-    let equal = walked(alloc, tree.locate_with_selection_function(func)?)?;
-    Ok((touching, here, equal))
-}
-
-/// A point that contains a point, by `locate_at_point` and by `locate_at_point_int`.
-pub fn points_at(tree: &RTree<[i64; 2]>, point: [i64; 2]) -> (Option<&[i64; 2]>, Option<&[i64; 2]>)
-    requires { IsWholeTree ⟦<AABB<[i64; 2]> as Envelope>⟧.boxes ⟦<[i64; 2] as RTreeObject>⟧.object
-        ⟦<DefaultParams as RTreeParams>⟧.MAX_SIZE tree.now }
-    ensures one { IsOneOf (filter (λ t. ⟦<[i64; 2] as PointDistance>⟧.distances.contains_point t
-        (table 2 (⟦<[i64; 2] as Point>⟧.coord point))) (elements_in tree.now)) result.0 }
-    ensures other { IsOneOf (filter (λ t. ⟦<[i64; 2] as PointDistance>⟧.distances.contains_point t
-        (table 2 (⟦<[i64; 2] as Point>⟧.coord point))) (elements_in tree.now)) result.1 }
-{
-    (tree.locate_at_point(point), tree.locate_at_point_int(point))
-}
-
-/// All plots, those in a box, and those within 10 of a point: by `iter`, `locate_in_envelope` and
-/// `locate_within_distance`.
-pub fn plots_found<'a>(
-    alloc: Global,
-    tree: &'a RTree<Plot>,
-    area: AABB<[i64; 2]>,
-    point: [i64; 2],
-) -> Result<(Walked<'a, Plot>, Walked<'a, Plot>, Walked<'a, Plot>), AllocError>
-    requires { IsWholeTree ⟦<AABB<[i64; 2]> as Envelope>⟧.boxes ⟦<Plot as RTreeObject>⟧.object
-        ⟦<DefaultParams as RTreeParams>⟧.MAX_SIZE tree.now }
-    ensures all { IfOk result (λ r. map (λ t. t.now) r.0.0.items ≡ elements_in tree.now) }
-    ensures inside { IfOk result (λ r. map (λ t. t.now) r.1.0.items ≡ filter
-        (λ t. contains_box area (⟦<Plot as RTreeObject>⟧.object.box_of t)) (elements_in tree.now)) }
-    ensures near { IfOk result (λ r. map (λ t. t.now) r.2.0.items ≡ filter
-        (λ t. int_le (pos (⟦<Plot as PointDistance>⟧.distances.distance_2 t
-        (table 2 (⟦<[i64; 2] as Point>⟧.coord point)))) (pos 100)) (elements_in tree.now)) }
-    ensures opened_all { IfOk result (λ r. r.0.1 ≡ min (reach_of (λ e. true) (root_of tree.now)) usize.MAX) }
-    ensures opened_inside { IfOk result (λ r. r.1.1
-        ≡ min (reach_of (λ e. boxes_intersect area e) (root_of tree.now)) usize.MAX) }
-    ensures opened_near { IfOk result (λ r. r.2.1 ≡ min (reach_of (λ e. int_le
-        (pos (⟦<AABB<[i64; 2]> as Envelope>⟧.boxes.distance_2 e
-        (table 2 (⟦<[i64; 2] as Point>⟧.coord point)))) (pos 100))
-        (root_of tree.now)) usize.MAX) }
-{
-    let all = walked(alloc, tree.iter()?)?;
-    let inside = walked(alloc, tree.locate_in_envelope(area)?)?;
-    let near = walked(alloc, tree.locate_within_distance(point, 100)?)?;
-    Ok((all, inside, near))
-}
-
 /// The plots that a box touches, those that contain a point, and those that equal one: by
 /// `locate_in_envelope_intersecting`, `locate_all_at_point`, and `locate_with_selection_function` with a
 /// `SelectEqualsFunction`.
@@ -191,7 +110,22 @@ pub fn plots_met<'a>(
     Ok((touching, here, equal))
 }
 
-/// A plot that contains a point, by `locate_at_point` and by `locate_at_point_int`.
+/// An element that contains a point, by `locate_at_point`, and one that contains another, by `locate_at_point_int`.
+pub fn either_at<T: PointDistance>(
+    tree: &RTree<T>,
+    one: PointOf<T>,
+    other: PointOf<T>,
+) -> (Option<&T>, Option<&T>)
+    requires { IsWholeTree T.Envelope.boxes T.object ⟦<DefaultParams as RTreeParams>⟧.MAX_SIZE tree.now }
+    ensures one { IsOneOf (filter (λ t. T.distances.contains_point t
+        (table T.Envelope.Point.DIMENSIONS (T.Envelope.Point.coord one))) (elements_in tree.now)) result.0 }
+    ensures other { IsOneOf (filter (λ t. T.distances.contains_point t
+        (table T.Envelope.Point.DIMENSIONS (T.Envelope.Point.coord other))) (elements_in tree.now)) result.1 }
+{
+    (tree.locate_at_point(one), tree.locate_at_point_int(other))
+}
+
+/// The same of plots, at one point.
 pub fn plots_at(tree: &RTree<Plot>, point: [i64; 2]) -> (Option<&Plot>, Option<&Plot>)
     requires { IsWholeTree ⟦<AABB<[i64; 2]> as Envelope>⟧.boxes ⟦<Plot as RTreeObject>⟧.object
         ⟦<DefaultParams as RTreeParams>⟧.MAX_SIZE tree.now }
@@ -200,19 +134,24 @@ pub fn plots_at(tree: &RTree<Plot>, point: [i64; 2]) -> (Option<&Plot>, Option<&
     ensures other { IsOneOf (filter (λ t. ⟦<Plot as PointDistance>⟧.distances.contains_point t
         (table 2 (⟦<[i64; 2] as Point>⟧.coord point))) (elements_in tree.now)) result.1 }
 {
-    (tree.locate_at_point(point), tree.locate_at_point_int(point))
+    either_at(tree, point, point)
 }
 
-/// Writes a number into a plot that contains a point, and whether there is one.
-pub fn renumber(tree: &mut RTree<Plot>, point: [i64; 2], number: u64) -> bool
-    requires { IsWholeTree ⟦<AABB<[i64; 2]> as Envelope>⟧.boxes ⟦<Plot as RTreeObject>⟧.object
+/// Writes a number into an element that contains a point, and whether there is one.
+pub fn renumber<R: PointDistance>(
+    tree: &mut RTree<GeomWithData<R, u64>>,
+    point: PointOf<R>,
+    number: u64,
+) -> bool
+    requires { IsWholeTree R.Envelope.boxes ⟦<GeomWithData<R, u64> as RTreeObject>⟧.object
         ⟦<DefaultParams as RTreeParams>⟧.MAX_SIZE tree.old }
-    ensures found { result ≡ list_any (λ t. ⟦<Plot as PointDistance>⟧.distances.contains_point t
-        (table 2 (⟦<[i64; 2] as Point>⟧.coord point))) (elements_in tree.old) }
-    ensures written { IsTrue result → IsRenumbered (λ t. ⟦<Plot as PointDistance>⟧.distances.contains_point t
-        (table 2 (⟦<[i64; 2] as Point>⟧.coord point))) number tree.old tree.new }
+    ensures found { result ≡ list_any (λ t. ⟦<GeomWithData<R, u64> as PointDistance>⟧.distances.contains_point t
+        (table R.Envelope.Point.DIMENSIONS (R.Envelope.Point.coord point))) (elements_in tree.old) }
+    ensures written { IsTrue result → IsRenumbered
+        (λ t. ⟦<GeomWithData<R, u64> as PointDistance>⟧.distances.contains_point t
+        (table R.Envelope.Point.DIMENSIONS (R.Envelope.Point.coord point))) number tree.old tree.new }
     ensures unchanged { IsTrue (not result) → tree.new ≡ tree.old }
-    ensures whole { IsWholeTree ⟦<AABB<[i64; 2]> as Envelope>⟧.boxes ⟦<Plot as RTreeObject>⟧.object
+    ensures whole { IsWholeTree R.Envelope.boxes ⟦<GeomWithData<R, u64> as RTreeObject>⟧.object
         ⟦<DefaultParams as RTreeParams>⟧.MAX_SIZE tree.new }
 {
     match tree.locate_at_point_mut(point) {
@@ -225,15 +164,20 @@ pub fn renumber(tree: &mut RTree<Plot>, point: [i64; 2], number: u64) -> bool
 }
 
 /// The same, by `locate_at_point_int_mut`.
-pub fn renumber_int(tree: &mut RTree<Plot>, point: [i64; 2], number: u64) -> bool
-    requires { IsWholeTree ⟦<AABB<[i64; 2]> as Envelope>⟧.boxes ⟦<Plot as RTreeObject>⟧.object
+pub fn renumber_int<R: PointDistance>(
+    tree: &mut RTree<GeomWithData<R, u64>>,
+    point: PointOf<R>,
+    number: u64,
+) -> bool
+    requires { IsWholeTree R.Envelope.boxes ⟦<GeomWithData<R, u64> as RTreeObject>⟧.object
         ⟦<DefaultParams as RTreeParams>⟧.MAX_SIZE tree.old }
-    ensures found { result ≡ list_any (λ t. ⟦<Plot as PointDistance>⟧.distances.contains_point t
-        (table 2 (⟦<[i64; 2] as Point>⟧.coord point))) (elements_in tree.old) }
-    ensures written { IsTrue result → IsRenumbered (λ t. ⟦<Plot as PointDistance>⟧.distances.contains_point t
-        (table 2 (⟦<[i64; 2] as Point>⟧.coord point))) number tree.old tree.new }
+    ensures found { result ≡ list_any (λ t. ⟦<GeomWithData<R, u64> as PointDistance>⟧.distances.contains_point t
+        (table R.Envelope.Point.DIMENSIONS (R.Envelope.Point.coord point))) (elements_in tree.old) }
+    ensures written { IsTrue result → IsRenumbered
+        (λ t. ⟦<GeomWithData<R, u64> as PointDistance>⟧.distances.contains_point t
+        (table R.Envelope.Point.DIMENSIONS (R.Envelope.Point.coord point))) number tree.old tree.new }
     ensures unchanged { IsTrue (not result) → tree.new ≡ tree.old }
-    ensures whole { IsWholeTree ⟦<AABB<[i64; 2]> as Envelope>⟧.boxes ⟦<Plot as RTreeObject>⟧.object
+    ensures whole { IsWholeTree R.Envelope.boxes ⟦<GeomWithData<R, u64> as RTreeObject>⟧.object
         ⟦<DefaultParams as RTreeParams>⟧.MAX_SIZE tree.new }
 {
     match tree.locate_at_point_int_mut(point) {
@@ -245,28 +189,80 @@ pub fn renumber_int(tree: &mut RTree<Plot>, point: [i64; 2], number: u64) -> boo
     }
 }
 
+/// Writes a number into a plot that contains a point, and whether there is one.
+pub fn renumber_plot(tree: &mut RTree<Plot>, point: [i64; 2], number: u64) -> bool
+    requires { IsWholeTree ⟦<AABB<[i64; 2]> as Envelope>⟧.boxes ⟦<Plot as RTreeObject>⟧.object
+        ⟦<DefaultParams as RTreeParams>⟧.MAX_SIZE tree.old }
+    ensures found { result ≡ list_any (λ t. ⟦<Plot as PointDistance>⟧.distances.contains_point t
+        (table 2 (⟦<[i64; 2] as Point>⟧.coord point))) (elements_in tree.old) }
+    ensures written { IsTrue result → IsRenumbered (λ t. ⟦<Plot as PointDistance>⟧.distances.contains_point t
+        (table 2 (⟦<[i64; 2] as Point>⟧.coord point))) number tree.old tree.new }
+    ensures unchanged { IsTrue (not result) → tree.new ≡ tree.old }
+    ensures whole { IsWholeTree ⟦<AABB<[i64; 2]> as Envelope>⟧.boxes ⟦<Plot as RTreeObject>⟧.object
+        ⟦<DefaultParams as RTreeParams>⟧.MAX_SIZE tree.new }
+{
+    renumber(tree, point, number)
+}
+
 #[cfg(test)]
 mod tests {
     use super::*;
-    use crate::selections::planted;
+    use crate::scenarios::inserted;
     use std::test::Fail;
 
-    // A plot that holds 7, written at a point inside it and not at one outside.
+    /// Whether an element that contains a point carries a number, by both look-ups.
+    fn carries<R: PointDistance>(
+        tree: &RTree<GeomWithData<R, u64>>,
+        point: PointOf<R>,
+        number: u64,
+    ) -> bool
+    where
+        PointOf<R>: Copy,
+        requires { IsWholeTree R.Envelope.boxes ⟦<GeomWithData<R, u64> as RTreeObject>⟧.object
+            ⟦<DefaultParams as RTreeParams>⟧.MAX_SIZE tree.now }
+    {
+        match either_at(tree, point, point) {
+            (Some(one), Some(other)) => one.data == number && other.data == number,
+            _ => false,
+        }
+    }
+
+    /// Whether the one element of a tree, which carries 7, carries what is written at a point, where it contains that
+    /// point, and else what it carried; it is read at another point.
+    fn writes_inside<R: PointDistance + Copy>(
+        alloc: Global,
+        elements: &[GeomWithData<R, u64>],
+        point: PointOf<R>,
+        other: PointOf<R>,
+        is_inside: bool,
+    ) -> bool
+    where
+        PointOf<R>: Copy,
+    {
+        let Some(mut tree) = inserted::<GeomWithData<R, u64>, DefaultParams>(alloc, elements) else {
+            return false;
+        };
+        if !carries(&tree, other, 7)
+            || renumber(&mut tree, point, 9) != is_inside
+            || !carries(&tree, other, if is_inside { 9 } else { 7 })
+        {
+            return false;
+        }
+        renumber_int(&mut tree, point, 10) == is_inside
+            && carries(&tree, other, if is_inside { 10 } else { 7 })
+    }
+
+    // A plot that holds 7, written at points inside it, its border included, and not at one outside.
     #[test]
-    fn a_number_is_written_where_a_plot_contains_the_point(rt: HostRuntime) -> Result<(), Fail> {
-        let mut tree = RTree::new(rt.alloc());
-        tree.insert(Plot::new(Rectangle::from_corners([0, 0], [2, 2]), 7))?;
-        let read = tree.locate_at_point([1, 1]).map(|plot| plot.data);
-        assert_eq!(rt; read, Some(7));
-        assert!(rt; renumber(&mut tree, [1, 1], 9));
-        assert!(rt; !renumber(&mut tree, [3, 3], 5));
-        assert!(rt; !renumber_int(&mut tree, [3, 3], 5));
-        let read = tree.locate_at_point([1, 1]).map(|plot| plot.data);
-        assert_eq!(rt; read, Some(9));
-        assert!(rt; renumber_int(&mut tree, [2, 2], 10));
-        let read = tree.locate_at_point_int([0, 0]).map(|plot| plot.data);
-        assert_eq!(rt; read, Some(10));
-        Ok(())
+    fn a_number_is_written_where_a_plot_contains_the_point(rt: HostRuntime) {
+        let plot = Plot::new(Rectangle::from_corners([0, 0], [2, 2]), 7);
+        for (point, other, is_inside) in [
+            ([1, 1], [1, 1], true),
+            ([3, 3], [1, 1], false),
+            ([2, 2], [0, 0], true),
+        ] {
+            assert!(rt; writes_inside(rt.alloc(), &[plot], point, other, is_inside));
+        }
     }
 
     /// A square with its number at each of a hundred places, ten in a row.
@@ -280,14 +276,18 @@ mod tests {
         Ok(all)
     }
 
-    /// The numbers of all plots, in the order of a walk.
-    fn numbers(alloc: Global, tree: &RTree<Plot>) -> Result<Vec<u64>, AllocError>
-        requires { IsWholeTree ⟦<AABB<[i64; 2]> as Envelope>⟧.boxes ⟦<Plot as RTreeObject>⟧.object
+    /// The numbers of all elements, in the order of a walk.
+    fn numbers<R: RTreeObject>(
+        alloc: Global,
+        tree: &RTree<GeomWithData<R, u64>>,
+    ) -> Result<Vec<u64>, AllocError>
+        requires { IsWholeTree R.Envelope.boxes ⟦<GeomWithData<R, u64> as RTreeObject>⟧.object
             ⟦<DefaultParams as RTreeParams>⟧.MAX_SIZE tree.now }
     {
+        let mut walk = tree.iter()?;
         let mut all = Vec::new(alloc);
-        for plot in tree.iter()? {
-            all.push(plot.data)?;
+        while let Some(element) = walk.next() {
+            all.push(element.data)?;
         }
         Ok(all)
     }
@@ -303,16 +303,38 @@ mod tests {
         count
     }
 
+    /// Whether a write at a point changes one number of all, which is read at another point.
+    fn changes_one<R: PointDistance + Copy>(
+        alloc: Global,
+        elements: &[GeomWithData<R, u64>],
+        point: PointOf<R>,
+        other: PointOf<R>,
+    ) -> bool
+    where
+        PointOf<R>: Copy,
+    {
+        let Some(mut tree) = inserted::<GeomWithData<R, u64>, DefaultParams>(alloc, elements) else {
+            return false;
+        };
+        let Ok(before) = numbers(alloc, &tree) else {
+            return false;
+        };
+        if !renumber(&mut tree, point, 1000) {
+            return false;
+        }
+        let Ok(after) = numbers(alloc, &tree) else {
+            return false;
+        };
+        before.len() == elements.len()
+            && after.len() == elements.len()
+            && differing(before.as_slice(), after.as_slice()) == 1
+            && carries(&tree, other, 1000)
+    }
+
     #[test]
     fn one_number_of_a_hundred_changes(rt: HostRuntime) -> Result<(), Fail> {
-        let mut tree = planted(rt.alloc(), squares(rt.alloc())?)?;
-        let before = numbers(rt.alloc(), &tree)?;
-        assert!(rt; renumber(&mut tree, [57, 31], 1000));
-        let after = numbers(rt.alloc(), &tree)?;
-        assert_eq!(rt; after.len(), 100);
-        assert_eq!(rt; differing(before.as_slice(), after.as_slice()), 1);
-        let read = tree.locate_at_point([50, 39]).map(|plot| plot.data);
-        assert_eq!(rt; read, Some(1000));
+        let plots = squares(rt.alloc())?;
+        assert!(rt; changes_one(rt.alloc(), &plots, [57, 31], [50, 39]));
         Ok(())
     }
 }

@@ -1,21 +1,19 @@
-//! The calls at concrete types: points, an element type of one's own, and a generic caller.
+//! Calls in generic code with all that they promise, at points and at an element type of one's own.
 
 ghost use Rattle.std.specs.Prelude.{◌≡◌, ◌∷◌, ◌≤◌, List, [], false, map, filter, IfOk, MatchOption};
 ghost use Rattle.rstar.specs.Trees.{IsWholeTree, elements_in};
 
-use rstar::params::{DefaultParams, InsertCause, InsertError, RTreeParams};
+use rstar::params::{DefaultParams, InsertError, RTreeParams};
 use rstar::rtree::RTree;
 use rstar_base::aabb::AABB;
 use rstar_base::envelope::Envelope;
 use rstar_base::object::RTreeObject;
 use rstar_base::point::Point;
-use rstar_base::primitives::Rectangle;
 use std::alloc::{AllocError, Global};
 
 /// An element type of one's own.
 #[derive(Drop)]
 struct Place {
-    id: u64,
     at: [i64; 2],
 }
 
@@ -48,23 +46,12 @@ fn pair<T: RTreeObject>(alloc: Global, first: T, second: T) -> Result<RTree<T>, 
     Ok(tree)
 }
 
+/// The example of README.md.
 fn two_points(alloc: Global) -> Result<usize, InsertError<[i64; 2]>> {
     let mut tree = RTree::new(alloc);
     tree.insert([1, 2])?;
     tree.insert([3, 4])?;
     Ok(tree.size())
-}
-
-fn two_places(alloc: Global) -> Result<usize, InsertError<Place>> {
-    let mut tree = RTree::new(alloc);
-    tree.insert(Place { id: 7, at: [1, 2] })?;
-    tree.insert(Place { id: 8, at: [1, 2] })?;
-    Ok(tree.size())
-}
-
-fn no_boxes(alloc: Global) -> usize {
-    let tree: RTree<Rectangle<[i64; 2]>> = RTree::new(alloc);
-    tree.size()
 }
 
 /// All elements, by a `collect`.
@@ -106,35 +93,45 @@ fn first_inside<T: RTreeObject>(
     Ok(tree.locate_in_envelope(envelope)?.next())
 }
 
-/// The IDs of the places inside an envelope, by a `for` at these very types.
-fn sum_of_ids(tree: &RTree<Place>) -> Result<u64, AllocError>
-    requires { IsWholeTree ⟦<AABB<[i64; 2]> as Envelope>⟧.boxes ⟦<Place as RTreeObject>⟧.object
-        ⟦<DefaultParams as RTreeParams>⟧.MAX_SIZE tree.now }
+/// Whether a tree of two elements gives both, and so many inside an envelope.
+fn gives_both<T: RTreeObject>(
+    alloc: Global,
+    first: T,
+    second: T,
+    area: T::Envelope,
+    near: usize,
+) -> bool
+where
+    T::Envelope: Copy,
+    requires { 2 ≤ T.Envelope.Point.DIMENSIONS }
 {
-    let mut sum = 0u64;
-    for place in tree.locate_in_envelope(AABB::from_corners([0, 0], [9, 9]))? {
-        sum = sum.wrapping_add(place.id);
+    if first.envelope().is_empty() || second.envelope().is_empty() {
+        return false;
     }
-    Ok(sum)
+    let Ok(tree) = pair(alloc, first, second) else {
+        return false;
+    };
+    let Ok(all) = listed(alloc, &tree) else {
+        return false;
+    };
+    let Ok(first_near) = first_inside(&tree, area) else {
+        return false;
+    };
+    let Ok(all_near) = inside(alloc, &tree, area) else {
+        return false;
+    };
+    tree.size() == 2
+        && tree.root().children().len() == 2
+        && all.len() == 2
+        && all_near.len() == near
+        && first_near.is_some() == (near > 0)
 }
 
 #[test]
-fn sizes(rt: HostRuntime) {
-    assert_eq!(rt; no_boxes(rt.alloc()), 0);
+fn two_elements(rt: HostRuntime) {
     assert!(rt; matches!(two_points(rt.alloc()), Ok(2)));
-    assert!(rt; matches!(two_places(rt.alloc()), Ok(2)));
-    let tree = pair(rt.alloc(), [1i64, 2], [3, 4]);
-    match tree {
-        Ok(tree) => {
-            assert_eq!(rt; tree.size(), 2);
-            assert_eq!(rt; tree.root().children().len(), 2);
-            let all = listed(rt.alloc(), &tree).expect(&rt, "memory");
-            assert_eq!(rt; all.len(), 2);
-            let near = inside(rt.alloc(), &tree, AABB::from_corners([0, 0], [1, 2])).expect(
-                &rt, "memory",
-            );
-            assert_eq!(rt; near.len(), 1);
-        }
-        Err(_) => assert!(rt; false),
-    }
+    let area = AABB::from_corners([0, 0], [1, 2]);
+    assert!(rt; gives_both(rt.alloc(), [1i64, 2], [3, 4], area, 1));
+    let (one, other) = (Place { at: [1, 2] }, Place { at: [1, 2] });
+    assert!(rt; gives_both(rt.alloc(), one, other, area, 2));
 }

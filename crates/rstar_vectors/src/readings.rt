@@ -1,4 +1,4 @@
-//! Visits that read, by callers at concrete types: what each visit comes to first, its reference given by a break.
+//! Visits that read: what each visit comes to first, its reference given by a break.
 
 ghost use Rattle.std.specs.Prelude.{filter};
 ghost use Rattle.rstar.specs.Boxes.{contains_box, boxes_intersect};
@@ -8,42 +8,61 @@ ghost use Rattle.rstar.specs.Visits.{IsFirst};
 
 use crate::payloads::Plot;
 use rstar::algorithm::selection_functions::SelectAtPointFunction;
+use rstar::object::PointOf;
 use rstar::point::Point;
 use rstar::{AABB, DefaultParams, Envelope, PointDistance, RTree, RTreeObject, RTreeParams};
 use std::ops::ControlFlow;
 
 type At = [i64; 2];
 
-/// The first point in a box, the first that it touches, and the first that contains a point: by
-/// `locate_in_envelope_int`, `locate_in_envelope_intersecting_int` and `locate_all_at_point_int`.
-fn points_come_upon(
-    tree: &RTree<At>,
-    area: AABB<At>,
-    point: At,
-) -> (Option<&At>, Option<&At>, Option<&At>)
-    requires { IsWholeTree ⟦<AABB<[i64; 2]> as Envelope>⟧.boxes ⟦<[i64; 2] as RTreeObject>⟧.object
-        ⟦<DefaultParams as RTreeParams>⟧.MAX_SIZE tree.now }
-    ensures inside { IsFirst (filter (λ t. contains_box area (⟦<[i64; 2] as RTreeObject>⟧.object.box_of t))
-        (elements_in tree.now)) result.0 }
-    ensures touching { IsFirst (filter (λ t. boxes_intersect area (⟦<[i64; 2] as RTreeObject>⟧.object.box_of t))
-        (elements_in tree.now)) result.1 }
-    ensures here { IsFirst (filter (λ t. ⟦<[i64; 2] as PointDistance>⟧.distances.contains_point t
-        (table 2 (⟦<[i64; 2] as Point>⟧.coord point))) (elements_in tree.now)) result.2 }
+/// The first element in an envelope, by `locate_in_envelope_int`.
+fn first_inside<T: RTreeObject>(tree: &RTree<T>, envelope: T::Envelope) -> Option<&T>
+    requires { IsWholeTree T.Envelope.boxes T.object ⟦<DefaultParams as RTreeParams>⟧.MAX_SIZE tree.now }
+    ensures { IsFirst (filter (λ t. T.Envelope.boxes.contains envelope (T.object.box_of t))
+        (elements_in tree.now)) result }
 {
-    let inside = tree.locate_in_envelope_int(area, |found: &At| ControlFlow::Break(found));
-    let touching = tree.locate_in_envelope_intersecting_int(
-        area,
-        |found: &At| ControlFlow::Break(found),
-    );
-    let here = tree.locate_all_at_point_int(point, |found: &At| ControlFlow::Break(found));
-    (
-        inside.break_value(),
-        touching.break_value(),
-        here.break_value(),
-    )
+    let found = tree.locate_in_envelope_int(envelope, |found: &T| ControlFlow::Break(found));
+    found.break_value()
 }
 
-/// The same of plots.
+/// The first element that an envelope touches, by `locate_in_envelope_intersecting_int`.
+fn first_touched<T: RTreeObject>(tree: &RTree<T>, envelope: T::Envelope) -> Option<&T>
+    requires { IsWholeTree T.Envelope.boxes T.object ⟦<DefaultParams as RTreeParams>⟧.MAX_SIZE tree.now }
+    ensures { IsFirst (filter (λ t. T.Envelope.boxes.intersects envelope (T.object.box_of t))
+        (elements_in tree.now)) result }
+{
+    let found = tree.locate_in_envelope_intersecting_int(
+        envelope,
+        |found: &T| ControlFlow::Break(found),
+    );
+    found.break_value()
+}
+
+/// The first element that contains a point, by `locate_all_at_point_int`.
+fn first_here<T: PointDistance>(tree: &RTree<T>, point: PointOf<T>) -> Option<&T>
+    requires { IsWholeTree T.Envelope.boxes T.object ⟦<DefaultParams as RTreeParams>⟧.MAX_SIZE tree.now }
+    ensures { IsFirst (filter (λ t. T.distances.contains_point t
+        (table T.Envelope.Point.DIMENSIONS (T.Envelope.Point.coord point))) (elements_in tree.now)) result }
+{
+    let found = tree.locate_all_at_point_int(point, |found: &T| ControlFlow::Break(found));
+    found.break_value()
+}
+
+/// The first element that a selection function selects, by `locate_with_selection_function_int`.
+fn first_selected<T: PointDistance>(tree: &RTree<T>, point: PointOf<T>) -> Option<&T>
+    requires { IsWholeTree T.Envelope.boxes T.object ⟦<DefaultParams as RTreeParams>⟧.MAX_SIZE tree.now }
+    ensures { IsFirst (filter (λ t. T.distances.contains_point t
+        (table T.Envelope.Point.DIMENSIONS (T.Envelope.Point.coord point))) (elements_in tree.now)) result }
+{
+    let func = SelectAtPointFunction::new(point);
+    let found = tree.locate_with_selection_function_int(
+        func,
+        |found: &T| ControlFlow::Break(found),
+    );
+    found.break_value()
+}
+
+/// The first plot in a box, the first that it touches, and the first that contains a point.
 fn plots_come_upon(
     tree: &RTree<Plot>,
     area: AABB<At>,
@@ -58,62 +77,56 @@ fn plots_come_upon(
     ensures here { IsFirst (filter (λ t. ⟦<Plot as PointDistance>⟧.distances.contains_point t
         (table 2 (⟦<[i64; 2] as Point>⟧.coord point))) (elements_in tree.now)) result.2 }
 {
-    let inside = tree.locate_in_envelope_int(area, |found: &Plot| ControlFlow::Break(found));
-    let touching = tree.locate_in_envelope_intersecting_int(
-        area,
-        |found: &Plot| ControlFlow::Break(found),
-    );
-    let here = tree.locate_all_at_point_int(point, |found: &Plot| ControlFlow::Break(found));
     (
-        inside.break_value(),
-        touching.break_value(),
-        here.break_value(),
+        first_inside(tree, area),
+        first_touched(tree, area),
+        first_here(tree, point),
     )
 }
 
-/// The first point that a selection function selects: by `locate_with_selection_function_int`.
+/// The first point that a selection function selects.
 fn point_selected(tree: &RTree<At>, point: At) -> Option<&At>
     requires { IsWholeTree ⟦<AABB<[i64; 2]> as Envelope>⟧.boxes ⟦<[i64; 2] as RTreeObject>⟧.object
         ⟦<DefaultParams as RTreeParams>⟧.MAX_SIZE tree.now }
     ensures { IsFirst (filter (λ t. ⟦<[i64; 2] as PointDistance>⟧.distances.contains_point t
         (table 2 (⟦<[i64; 2] as Point>⟧.coord point))) (elements_in tree.now)) result }
 {
-    let func = SelectAtPointFunction::new(point);
-    let found = tree.locate_with_selection_function_int(
-        func,
-        |found: &At| ControlFlow::Break(found),
-    );
-    found.break_value()
-}
-
-/// The same of plots.
-fn plot_selected(tree: &RTree<Plot>, point: At) -> Option<&Plot>
-    requires { IsWholeTree ⟦<AABB<[i64; 2]> as Envelope>⟧.boxes ⟦<Plot as RTreeObject>⟧.object
-        ⟦<DefaultParams as RTreeParams>⟧.MAX_SIZE tree.now }
-    ensures { IsFirst (filter (λ t. ⟦<Plot as PointDistance>⟧.distances.contains_point t
-        (table 2 (⟦<[i64; 2] as Point>⟧.coord point))) (elements_in tree.now)) result }
-{
-    let func = SelectAtPointFunction::new(point);
-    let found = tree.locate_with_selection_function_int(
-        func,
-        |found: &Plot| ControlFlow::Break(found),
-    );
-    found.break_value()
+    first_selected(tree, point)
 }
 
 #[cfg(test)]
 mod tests {
     use super::*;
+    use crate::scenarios::inserted;
     use rstar::primitives::Rectangle;
-    use std::test::Fail;
+    use std::alloc::Global;
+
+    /// Whether visits come upon an element of a tree as told: inside an envelope, touched by it, and at a point.
+    fn comes_upon<T: PointDistance + Copy>(
+        alloc: Global,
+        elements: &[T],
+        area: T::Envelope,
+        point: PointOf<T>,
+        told: (bool, bool, bool),
+    ) -> bool
+    where
+        T::Envelope: Copy,
+        PointOf<T>: Copy,
+    {
+        let Some(tree) = inserted::<T, DefaultParams>(alloc, elements) else {
+            return false;
+        };
+        let (inside, touched, here) = told;
+        first_inside(&tree, area).is_some() == inside
+            && first_touched(&tree, area).is_some() == touched
+            && first_here(&tree, point).is_some() == here
+            && first_selected(&tree, point).is_some() == here
+    }
 
     // Two corners of a box, whether it holds the one plot and the one point there are, and whether it touches the plot.
     #[test]
-    fn a_visit_comes_upon_what_is_selected(rt: HostRuntime) -> Result<(), Fail> {
-        let mut points = RTree::new(rt.alloc());
-        points.insert([1i64, 1])?;
-        let mut plots = RTree::new(rt.alloc());
-        plots.insert(Plot::new(Rectangle::from_corners([0i64, 0], [2, 2]), 7))?;
+    fn a_visit_comes_upon_what_is_selected(rt: HostRuntime) {
+        let square = Plot::new(Rectangle::from_corners([0i64, 0], [2, 2]), 7);
         for (one, other, point, plot, touched) in [
             ([0, 0], [2, 2], true, true, true),
             ([1, 1], [1, 1], true, false, true),
@@ -121,15 +134,10 @@ mod tests {
             ([3, 3], [4, 4], false, false, false),
         ] {
             let area = AABB::from_corners(one, other);
-            let found = points_come_upon(&points, area, one);
-            assert_eq!(rt; (found.0.is_some(), found.1.is_some()), (point, point));
-            assert_eq!(rt; found.2.is_some(), one == [1, 1]);
-            let found = plots_come_upon(&plots, area, other);
-            assert_eq!(rt; (found.0.is_some(), found.1.is_some()), (plot, touched));
-            assert_eq!(rt; found.2.is_some(), other[0] <= 2);
-            assert_eq!(rt; point_selected(&points, one).is_some(), one == [1, 1]);
-            assert_eq!(rt; plot_selected(&plots, other).is_some(), other[0] <= 2);
+            let told = (point, point, one == [1, 1]);
+            assert!(rt; comes_upon(rt.alloc(), &[[1i64, 1]], area, one, told));
+            let told = (plot, touched, other[0] <= 2);
+            assert!(rt; comes_upon(rt.alloc(), &[square], area, other, told));
         }
-        Ok(())
     }
 }

@@ -1,23 +1,23 @@
 //! Removals, drains that are finished, dropped or forgotten, and trees taken apart.
+//!
+//! What is done to a tree is generic, and a test gives it elements.
 
-ghost use Rattle.std.specs.Prelude.{◌≡◌, ◌<◌, IfOk};
+ghost use Rattle.std.specs.Prelude.{◌≡◌, ◌<◌, ◌≤◌, false, IfSome};
 ghost use Rattle.rstar.specs.Drains.{drained, IsDraining};
 ghost use Rattle.rstar.specs.Trees.{IsWholeTree};
 
-use crate::insertion::ALONG_A_LINE;
-use crate::loads::{loaded, points};
-use crate::reinsertion::levels_of;
+use crate::scenarios::{ALONG_A_LINE, inserted, loaded, points, stands};
 use rstar::algorithm::selection_functions::{
     SelectAllFunc, SelectInEnvelopeFuncIntersecting, SelectionFunction,
 };
 use rstar::iterators::DrainIterator;
-use rstar::node::{ParentNode, RTreeNode};
-use rstar::primitives::{GeomWithData, Line, Rectangle};
-use rstar::{AABB, DefaultParams, Envelope, InsertError, RTree, RTreeObject, RTreeParams};
+use rstar::object::{Distance, PointOf};
+use rstar::primitives::{Line, Rectangle};
+use rstar::{
+    AABB, DefaultParams, Envelope, EqualEnvelopes, PointDistance, RTree, RTreeObject, RTreeParams,
+};
 use std::alloc::{AllocError, Global};
-use std::marker::Model;
 use std::mem::forget;
-use std::ops::ControlFlow;
 use std::test::Fail;
 
 /// Wide nodes.
@@ -49,48 +49,7 @@ impl RTreeParams for Wide {
     ghost reinsertion_leaves = { Prim.omega arith };
 }
 
-type Fence = GeomWithData<Rectangle<[i64; 2]>, u64>;
-
 type Edge = Line<[i32; 2]>;
-
-/// Two points are drained, the drain is dropped, and one is inserted.
-fn two_out_one_in(tree: &mut RTree<[i64; 2]>) -> Result<usize, AllocError>
-    requires { IsWholeTree ⟦<AABB<[i64; 2]> as Envelope>⟧.boxes ⟦<[i64; 2] as RTreeObject>⟧.object
-        ⟦<DefaultParams as RTreeParams>⟧.MAX_SIZE tree.old }
-    ensures { IsWholeTree ⟦<AABB<[i64; 2]> as Envelope>⟧.boxes ⟦<[i64; 2] as RTreeObject>⟧.object
-        ⟦<DefaultParams as RTreeParams>⟧.MAX_SIZE tree.new }
-{
-    {
-        let mut drain = tree.drain()?;
-        let _first = drain.next();
-        let _second = drain.next();
-    }
-    if tree.insert([7, 8]).is_ok() {
-        Ok(tree.size())
-    } else {
-        Ok(0)
-    }
-}
-
-/// The same with fences, of those that meet an envelope.
-fn two_fences_out_one_in(tree: &mut RTree<Fence>, area: AABB<[i64; 2]>) -> Result<usize, AllocError>
-    requires { IsWholeTree ⟦<AABB<[i64; 2]> as Envelope>⟧.boxes ⟦<Fence as RTreeObject>⟧.object
-        ⟦<DefaultParams as RTreeParams>⟧.MAX_SIZE tree.old }
-    ensures { IsWholeTree ⟦<AABB<[i64; 2]> as Envelope>⟧.boxes ⟦<Fence as RTreeObject>⟧.object
-        ⟦<DefaultParams as RTreeParams>⟧.MAX_SIZE tree.new }
-{
-    {
-        let mut drain = tree.drain_in_envelope_intersecting(area)?;
-        let _first = drain.next();
-        let _second = drain.next();
-    }
-    let fence = Fence::new(Rectangle::from_corners([7, 8], [9, 9]), 3);
-    if tree.insert(fence).is_ok() {
-        Ok(tree.size())
-    } else {
-        Ok(0)
-    }
-}
 
 /// Calls a drain so many times, or until it ends, and gives how many elements came.
 #[tactic(auto, unfolding(rstar::specs::Drains::IsDraining))]
@@ -112,7 +71,7 @@ fn call<T: RTreeObject, R: SelectionFunction<T>, Params: RTreeParams>(
 }
 
 /// Drains at most so many elements, drops the drain, and gives how many came.
-pub(crate) fn drain_some<T: RTreeObject, R: SelectionFunction<T>, Params: RTreeParams>(
+fn drain_some<T: RTreeObject, R: SelectionFunction<T>, Params: RTreeParams>(
     tree: &mut RTree<T, Params>,
     func: R,
     most: usize,
@@ -158,220 +117,147 @@ impl SelectionFunction<[i32; 2]> for AboutZero {
     }
 }
 
-/// Points in a tree, which is whole.
-#[derive(Drop)]
-struct Marks {
-    tree: RTree<[i32; 2]>,
-}
-
-impl Model for Marks {
-    ghost use Rattle.std.specs.Prelude.{ℤ, List};
-    ghost use Rattle.rstar.specs.Trees.{elements_in, IsWholeTree};
-
-    ghost Value = { List (List ℤ) };
-
-    ghost view = { λ s. elements_in s.tree };
-
-    ghost invariant = { λ s. IsWholeTree ⟦<AABB<[i32; 2]> as Envelope>⟧.boxes
-        ⟦<[i32; 2] as RTreeObject>⟧.object ⟦<DefaultParams as RTreeParams>⟧.MAX_SIZE s.tree };
-}
-
-/// How many elements lie below some nodes: none where an element does not lie `levels` levels below them, a parent
-/// keeps another envelope than the merge of those of its children, or has no child.
-fn count_below<T: RTreeObject>(nodes: &[RTreeNode<T>], levels: usize) -> Option<usize> {
-    let mut count = 0usize;
-    for node in nodes {
-        let own = match node {
-            RTreeNode::Leaf(_) => {
-                if levels != 0 {
-                    return None;
-                }
-                1
-            }
-            RTreeNode::Parent(parent) => {
-                if levels == 0 || parent.children().is_empty() || !is_tight(parent) {
-                    return None;
-                }
-                count_below(parent.children(), levels - 1)?
-            }
-        };
-        count = count.saturating_add(own);
-    }
-    Some(count)
-}
-
-/// Whether a parent keeps the merge of the envelopes of its children.
-fn is_tight<T: RTreeObject>(parent: &ParentNode<T>) -> bool {
-    let mut all = T::Envelope::new_empty();
-    for child in parent.children() {
-        all.merge(&child.envelope());
-    }
-    *parent.envelope() == all
-}
-
-/// Whether all elements lie on one level, each envelope is the merge of those below it, and `size` counts the elements.
-fn stands<T: RTreeObject, Params: RTreeParams>(tree: &RTree<T, Params>) -> bool {
-    let root = tree.root();
-    is_tight(root) && count_below(root.children(), levels_of(root)) == Some(tree.size())
-}
-
-impl Marks {
-    /// The points, inserted in this order.
-    fn inserted(alloc: Global, points: &[[i32; 2]]) -> Result<Marks, InsertError<[i32; 2]>> {
-        let mut all = Marks {
-            tree: RTree::new(alloc),
-        };
-        for point in points {
-            all.insert(*point)?;
-        }
-        Ok(all)
-    }
-
-    fn insert(&mut self, point: [i32; 2]) -> Result<(), InsertError<[i32; 2]>> {
-        self.tree.insert(point)
-    }
-
-    fn remove(&mut self, point: [i32; 2]) -> Option<[i32; 2]> {
-        self.tree.remove(&point)
-    }
-
-    fn remove_at_point(&mut self, point: [i32; 2]) -> Option<[i32; 2]> {
-        self.tree.remove_at_point(point)
-    }
-
-    fn contains(&self, point: [i32; 2]) -> bool {
-        self.tree.contains(&point)
-    }
-
-    fn drain_all(&mut self, most: usize) -> Result<usize, AllocError> {
-        drain_some(&mut self.tree, SelectAllFunc, most)
-    }
-
-    fn drain_meeting(&mut self, area: AABB<[i32; 2]>, most: usize) -> Result<usize, AllocError> {
-        drain_some(
-            &mut self.tree,
-            SelectInEnvelopeFuncIntersecting::new(area),
-            most,
-        )
-    }
-
-    fn drain_about_zero(&mut self, most: usize) -> Result<usize, AllocError> {
-        drain_some(&mut self.tree, AboutZero, most)
-    }
-
-    fn size(&self) -> usize {
-        self.tree.size()
-    }
-
-    fn stands(&self) -> bool {
-        stands(&self.tree)
-    }
-}
-
-/// Lines in a tree, which is whole.
-#[derive(Drop)]
-struct Edges {
-    tree: RTree<Edge>,
-}
-
-impl Model for Edges {
-    ghost use Rattle.std.specs.Prelude.{ℤ, List, map};
-    ghost use Rattle.rstar.specs.Trees.{elements_in, IsWholeTree};
-
-    ghost Value = { List (List (ℤ × ℤ)) };
-
-    ghost view = { λ s. map ⟦<Edge as RTreeObject>⟧.object.box_of (elements_in s.tree) };
-
-    ghost invariant = { λ s. IsWholeTree ⟦<AABB<[i32; 2]> as Envelope>⟧.boxes
-        ⟦<Edge as RTreeObject>⟧.object ⟦<DefaultParams as RTreeParams>⟧.MAX_SIZE s.tree };
-}
-
-impl Edges {
-    fn insert(&mut self, edge: Edge) -> Result<(), InsertError<Edge>> {
-        self.tree.insert(edge)
-    }
-
-    /// Whether a line leaves once, and is then gone.
-    fn leaves_once(&mut self, edge: Edge) -> bool {
-        let before = self.tree.size();
-        let taken = self.tree.remove(&edge);
-        taken == Some(edge)
-            && self.tree.remove(&edge).is_none()
-            && self.tree.size().checked_add(1) == Some(before)
-    }
-}
-
-/// The seven points along a line.
-fn along_a_line(alloc: Global) -> Result<RTree<[i32; 2]>, InsertError<[i32; 2]>>
-    ensures { IfOk result (IsWholeTree ⟦<AABB<[i32; 2]> as Envelope>⟧.boxes ⟦<[i32; 2] as RTreeObject>⟧.object
-        ⟦<DefaultParams as RTreeParams>⟧.MAX_SIZE) }
+/// Drains at most so many elements, and gives how many came.
+fn drain_any<T: RTreeObject>(tree: &mut RTree<T>, most: usize) -> Result<usize, AllocError>
+    requires { IsWholeTree T.Envelope.boxes T.object ⟦<DefaultParams as RTreeParams>⟧.MAX_SIZE tree.old }
+    ensures { IsWholeTree T.Envelope.boxes T.object ⟦<DefaultParams as RTreeParams>⟧.MAX_SIZE tree.new }
 {
-    let Marks { tree } = Marks::inserted(alloc, &ALONG_A_LINE)?;
-    Ok(tree)
+    let mut drain = tree.drain()?;
+    Ok(call(&mut drain, most))
 }
 
-/// Whether a tree stands, without what was given, after a drain of so many calls was forgotten.
-fn forgotten_stands(alloc: Global, calls: usize) -> Result<bool, InsertError<[i32; 2]>> {
-    let mut tree = along_a_line(alloc)?;
-    match forget_some(&mut tree, SelectAllFunc, calls) {
-        Ok(came) => Ok(came == calls && tree.size().saturating_add(calls) == 7 && stands(&tree)),
-        Err(_) => Ok(false),
-    }
+/// The same of those that meet an envelope.
+fn drain_met<T: RTreeObject>(
+    tree: &mut RTree<T>,
+    area: T::Envelope,
+    most: usize,
+) -> Result<usize, AllocError>
+    requires { IsWholeTree T.Envelope.boxes T.object ⟦<DefaultParams as RTreeParams>⟧.MAX_SIZE tree.old }
+    ensures { IsWholeTree T.Envelope.boxes T.object ⟦<DefaultParams as RTreeParams>⟧.MAX_SIZE tree.new }
+{
+    let mut drain = tree.drain_in_envelope_intersecting(area)?;
+    Ok(call(&mut drain, most))
 }
 
-/// How many points lie in an area.
-fn inside(marks: &Marks, area: AABB<[i32; 2]>) -> usize {
-    let mut count = 0usize;
-    let _ = marks
-        .tree
-        .locate_in_envelope_int(area, |_point: &[i32; 2]| -> ControlFlow<()> {
-            count = count.saturating_add(1);
-            ControlFlow::Continue(())
-        });
-    count
+/// The same of those that lie near a point.
+fn drain_near<T: PointDistance>(
+    tree: &mut RTree<T>,
+    point: PointOf<T>,
+    limit: Distance<T>,
+    most: usize,
+) -> Result<usize, AllocError>
+    requires { IsWholeTree T.Envelope.boxes T.object ⟦<DefaultParams as RTreeParams>⟧.MAX_SIZE tree.old }
+    ensures { IsWholeTree T.Envelope.boxes T.object ⟦<DefaultParams as RTreeParams>⟧.MAX_SIZE tree.new }
+{
+    let mut drain = tree.drain_within_distance(point, limit)?;
+    Ok(call(&mut drain, most))
 }
 
-/// A point for each number below 300.
-fn mark(i: usize) -> [i32; 2] {
-    let i = i % 300;
-    [((37 * i) % 101) as i32, ((53 * i) % 103) as i32]
-}
-
-/// A short line for each number below 300, from its point on.
-fn edge(i: usize) -> Edge {
-    let [x, y] = mark(i);
-    let i = i % 300;
-    Line::new(
-        [x, y],
-        [
-            x.wrapping_add(((29 * i) % 11) as i32).wrapping_sub(5),
-            y.wrapping_add(((31 * i) % 13) as i32).wrapping_sub(6),
-        ],
-    )
-}
-
-/// So many points.
-fn some_marks(alloc: Global, count: usize) -> Result<Marks, InsertError<[i32; 2]>> {
-    let mut marks = Marks::inserted(alloc, &[])?;
-    for i in 0..count {
-        marks.insert(mark(i))?;
-    }
-    Ok(marks)
-}
-
-/// Whether a tree of so many points gives these when it is taken apart.
-fn gives_all(alloc: Global, count: usize) -> Result<bool, InsertError<[i32; 2]>> {
-    let mut rest = some_marks(alloc, count)?;
-    let Marks { tree } = some_marks(alloc, count)?;
-    let Ok(all) = tree.into_iter() else {
-        return Ok(false);
+/// Two elements are drained, of all or of those that meet an envelope, the drain is dropped, and one is inserted.
+fn two_out_one_in<T: RTreeObject>(
+    tree: &mut RTree<T>,
+    area: Option<T::Envelope>,
+    one: T,
+) -> Result<bool, AllocError>
+    requires whole { IsWholeTree T.Envelope.boxes T.object ⟦<DefaultParams as RTreeParams>⟧.MAX_SIZE tree.old }
+    requires element { T.Envelope.boxes.is_empty (T.object.box_of one) ≡ false }
+    ensures { IsWholeTree T.Envelope.boxes T.object ⟦<DefaultParams as RTreeParams>⟧.MAX_SIZE tree.new }
+{
+    match area {
+        None => drain_any(tree, 2)?,
+        Some(area) => drain_met(tree, area, 2)?,
     };
-    for point in all {
-        if rest.remove(point).is_none() {
-            return Ok(false);
-        }
+    Ok(tree.insert(one).is_ok())
+}
+
+/// Two points are drained, the drain is dropped, and one is inserted: a caller at points, with no proof file.
+fn two_points_out_one_in(tree: &mut RTree<[i64; 2]>) -> Result<usize, AllocError>
+    requires { IsWholeTree ⟦<AABB<[i64; 2]> as Envelope>⟧.boxes ⟦<[i64; 2] as RTreeObject>⟧.object
+        ⟦<DefaultParams as RTreeParams>⟧.MAX_SIZE tree.old }
+    ensures { IsWholeTree ⟦<AABB<[i64; 2]> as Envelope>⟧.boxes ⟦<[i64; 2] as RTreeObject>⟧.object
+        ⟦<DefaultParams as RTreeParams>⟧.MAX_SIZE tree.new }
+{
+    {
+        let mut drain = tree.drain()?;
+        let _first = drain.next();
+        let _second = drain.next();
     }
-    Ok(rest.size() == 0)
+    if tree.insert([7, 8]).is_ok() {
+        Ok(tree.size())
+    } else {
+        Ok(0)
+    }
+}
+
+/// Whether a tree of these elements stands after such a drain and an insertion with so many, none of them at the first
+/// point and one at the other.
+fn stands_with_one_in<T: PointDistance + Copy>(
+    alloc: Global,
+    elements: &[T],
+    area: Option<T::Envelope>,
+    one: T,
+    left: usize,
+    points: (PointOf<T>, PointOf<T>),
+) -> bool {
+    if one.envelope().is_empty() {
+        return false;
+    }
+    let Some(mut tree) = inserted::<T, DefaultParams>(alloc, elements) else {
+        return false;
+    };
+    let (first, other) = points;
+    matches!(two_out_one_in(&mut tree, area, one), Ok(true))
+        && tree.size() == left
+        && stands(&tree)
+        && tree.remove_at_point(first).is_none()
+        && tree.remove_at_point(other).is_some()
+}
+
+/// Drains at most so many elements, and gives how many came; none where the tree does not stand without them.
+pub(crate) fn drain_and_stand<T: RTreeObject, R: SelectionFunction<T>, Params: RTreeParams>(
+    tree: &mut RTree<T, Params>,
+    func: R,
+    most: usize,
+) -> Option<usize>
+    requires { IsWholeTree T.Envelope.boxes T.object Params.MAX_SIZE tree.old }
+    ensures { IsWholeTree T.Envelope.boxes T.object Params.MAX_SIZE tree.new }
+{
+    let before = tree.size();
+    match drain_some(tree, func, most) {
+        Ok(came) => {
+            if tree.size().checked_add(came) == Some(before) && stands(tree) {
+                Some(came)
+            } else {
+                None
+            }
+        }
+        Err(_) => None,
+    }
+}
+
+/// Whether an element that is there leaves, and the tree stands with one less; the last of its kind is then gone.
+fn leaves<T: EqualEnvelopes + Copy, Params: RTreeParams>(
+    tree: &mut RTree<T, Params>,
+    element: &T,
+    is_last: bool,
+) -> bool
+    requires { IsWholeTree T.Envelope.boxes T.object Params.MAX_SIZE tree.old }
+    ensures { IsWholeTree T.Envelope.boxes T.object Params.MAX_SIZE tree.new }
+{
+    let before = tree.size();
+    if !tree.contains(element) || tree.remove(element) != Some(*element) {
+        return false;
+    }
+    if is_last && (tree.contains(element) || tree.remove(element).is_some()) {
+        return false;
+    }
+    tree.size().checked_add(1) == Some(before) && stands(tree)
+}
+
+/// Whether a tree has no child, and its root an empty envelope.
+fn is_bare<T: RTreeObject, Params: RTreeParams>(tree: &RTree<T, Params>) -> bool {
+    let root = tree.root();
+    root.children().is_empty() && root.envelope().is_empty() && tree.size() == 0
 }
 
 /// The place that comes `k`-th in an order of `count` places.
@@ -386,92 +272,267 @@ fn place(order: usize, k: usize, count: usize) -> usize
     }
 }
 
-/// Whether a tree of so many points stands, and lost one point, after each removal in such an order.
-fn stands_to_the_end(
-    alloc: Global,
-    count: usize,
+/// Whether elements leave a tree in such an order, which stands with one less after each; and each is then gone, at
+/// once where they are distinct, and else when none is left.
+fn all_leave<T: EqualEnvelopes + Copy, Params: RTreeParams>(
+    tree: &mut RTree<T, Params>,
+    elements: &[T],
     order: usize,
-) -> Result<bool, InsertError<[i32; 2]>> {
-    let mut marks = some_marks(alloc, count)?;
+    distinct: bool,
+) -> bool
+    requires { IsWholeTree T.Envelope.boxes T.object Params.MAX_SIZE tree.old }
+    ensures { IsWholeTree T.Envelope.boxes T.object Params.MAX_SIZE tree.new }
+{
+    let count = elements.len();
     for k in 0..count {
-        let point = mark(place(order, k, count));
-        if !marks.contains(point) || marks.remove(point) != Some(point) {
-            return Ok(false);
-        }
-        if marks.size() != count - 1 - k || !marks.stands() {
-            return Ok(false);
+        let is_last = distinct || k + 1 == count;
+        if !leaves(tree, &elements[place(order, k, count)], is_last) {
+            return false;
         }
     }
-    Ok(marks.tree.root().children().is_empty() && marks.remove(mark(0)).is_none())
+    is_bare(tree)
+}
+
+/// Whether the elements of a tree leave in such an order, to the end.
+fn leave_to_the_end<T: EqualEnvelopes + Copy>(
+    alloc: Global,
+    elements: &[T],
+    order: usize,
+    distinct: bool,
+) -> bool {
+    match inserted::<T, DefaultParams>(alloc, elements) {
+        Some(mut tree) => all_leave(&mut tree, elements, order, distinct),
+        None => false,
+    }
+}
+
+/// Whether a tree that lost its elements has none to drain near a point.
+fn emptied_drains_none<T: EqualEnvelopes + PointDistance + Copy>(
+    alloc: Global,
+    elements: &[T],
+    point: PointOf<T>,
+    limit: Distance<T>,
+) -> bool {
+    match inserted::<T, DefaultParams>(alloc, elements) {
+        Some(mut tree) => {
+            all_leave(&mut tree, elements, 0, true)
+                && matches!(drain_near(&mut tree, point, limit, 1), Ok(0))
+                && is_bare(&tree)
+        }
+        None => false,
+    }
+}
+
+/// Whether a tree stands after so many calls of a drain that is dropped, and takes one element more.
+fn dropped_stands<T: EqualEnvelopes + Copy>(
+    alloc: Global,
+    elements: &[T],
+    calls: usize,
+    one: T,
+) -> bool {
+    let Some(mut tree) = inserted::<T, DefaultParams>(alloc, elements) else {
+        return false;
+    };
+    let count = elements.len();
+    if drain_and_stand(&mut tree, SelectAllFunc, calls) != Some(calls) {
+        return false;
+    }
+    if calls == count && !is_bare(&tree) {
+        return false;
+    }
+    if one.envelope().is_empty() || tree.insert(one).is_err() {
+        return false;
+    }
+    tree.size().saturating_add(calls) == count.saturating_add(1)
+        && stands(&tree)
+        && tree.contains(&one)
+}
+
+/// Whether a tree stands, without what was given, after a drain of so many calls was forgotten.
+fn forgotten_stands<T: RTreeObject + Copy>(alloc: Global, elements: &[T], calls: usize) -> bool {
+    let Some(mut tree) = inserted::<T, DefaultParams>(alloc, elements) else {
+        return false;
+    };
+    match forget_some(&mut tree, SelectAllFunc, calls) {
+        Ok(came) => {
+            came == calls && tree.size().saturating_add(calls) == elements.len() && stands(&tree)
+        }
+        Err(_) => false,
+    }
+}
+
+/// Whether a loaded tree stands after at most so many elements were drained, and after a drain of those that meet an
+/// envelope.
+fn loaded_stands<T: RTreeObject, Params: RTreeParams>(
+    elements: Vec<T>,
+    area: T::Envelope,
+    most: usize,
+) -> bool
+    requires { 2 ≤ T.Envelope.Point.DIMENSIONS }
+{
+    let count = elements.len();
+    let func = SelectInEnvelopeFuncIntersecting::new(area);
+    match loaded::<T, Params>(elements) {
+        Ok(mut tree) => {
+            tree.size() == count
+                && drain_and_stand(&mut tree, SelectAllFunc, most) == Some(most.min(count))
+                && drain_and_stand(&mut tree, func, most).is_some()
+        }
+        Err(_) => false,
+    }
+}
+
+/// Whether a drain takes at most so many out, and none of those that are to be kept.
+fn drains_at_most<T: EqualEnvelopes + Copy, R: SelectionFunction<T>>(
+    alloc: Global,
+    elements: &[T],
+    func: R,
+    most: usize,
+    kept: &[T],
+) -> bool {
+    let Some(mut tree) = inserted::<T, DefaultParams>(alloc, elements) else {
+        return false;
+    };
+    match drain_and_stand(&mut tree, func, elements.len().saturating_add(2)) {
+        Some(came) => came <= most && count_of(&tree, kept) == kept.len(),
+        None => false,
+    }
+}
+
+/// How many of these elements are there.
+fn count_of<T: EqualEnvelopes, Params: RTreeParams>(
+    tree: &RTree<T, Params>,
+    elements: &[T],
+) -> usize
+    requires { IsWholeTree T.Envelope.boxes T.object Params.MAX_SIZE tree.now }
+{
+    let mut count = 0usize;
+    for element in elements {
+        if tree.contains(element) {
+            count = count.saturating_add(1);
+        }
+    }
+    count
+}
+
+/// Whether a drain of those elements that meet an envelope, given twice, takes them out in two parts, and no other.
+fn drains_all_of<T: EqualEnvelopes + Copy>(
+    alloc: Global,
+    elements: &[T],
+    areas: (T::Envelope, T::Envelope),
+    most: usize,
+    asked: &[T],
+) -> bool {
+    let Some(mut tree) = inserted::<T, DefaultParams>(alloc, elements) else {
+        return false;
+    };
+    let first = SelectInEnvelopeFuncIntersecting::new(areas.0);
+    let second = SelectInEnvelopeFuncIntersecting::new(areas.1);
+    let rest = asked.len().saturating_sub(most);
+    count_of(&tree, asked) == asked.len()
+        && drain_and_stand(&mut tree, first, most) == Some(most)
+        && count_of(&tree, asked) == rest
+        && drain_and_stand(&mut tree, second, elements.len()) == Some(rest)
+        && count_of(&tree, asked) == 0
+        && tree.size().saturating_add(asked.len()) == elements.len()
+}
+
+/// Whether what is left of a tree is what another one gives when it is taken apart.
+fn gives_all_of<T: EqualEnvelopes>(tree: RTree<T>, rest: &mut RTree<T>) -> bool
+    requires whole { IsWholeTree T.Envelope.boxes T.object ⟦<DefaultParams as RTreeParams>⟧.MAX_SIZE tree }
+    requires rest { IsWholeTree T.Envelope.boxes T.object ⟦<DefaultParams as RTreeParams>⟧.MAX_SIZE rest.old }
+{
+    let Ok(mut all) = tree.into_iter() else {
+        return false;
+    };
+    while let Some(element) = all.next() {
+        if rest.remove(&element).is_none() {
+            return false;
+        }
+    }
+    rest.size() == 0
+}
+
+/// Whether a tree of these elements gives each of them when it is taken apart, and then none.
+fn gives_all<T: EqualEnvelopes + Copy>(alloc: Global, elements: &[T]) -> bool {
+    match (inserted(alloc, elements), inserted(alloc, elements)) {
+        (Some(tree), Some(mut rest)) => gives_all_of(tree, &mut rest),
+        _ => false,
+    }
+}
+
+/// A short line from each of these points on.
+fn edges(alloc: Global, points: &[[i32; 2]]) -> Result<Vec<Edge>, AllocError> {
+    let mut edges = Vec::new(alloc);
+    for i in 0..points.len() {
+        let [x, y] = points[i];
+        edges.push(Line::new(
+            [x, y],
+            [
+                x.wrapping_add(((29 * (i % 300)) % 11) as i32)
+                    .wrapping_sub(5),
+                y.wrapping_add(((31 * (i % 300)) % 13) as i32)
+                    .wrapping_sub(6),
+            ],
+        ))?;
+    }
+    Ok(edges)
+}
+
+/// Those elements that meet an envelope.
+fn met<T: RTreeObject + Copy>(
+    alloc: Global,
+    elements: &[T],
+    area: &T::Envelope,
+) -> Result<Vec<T>, AllocError> {
+    let mut all = Vec::new(alloc);
+    for element in elements {
+        if area.intersects(&element.envelope()) {
+            all.push(*element)?;
+        }
+    }
+    Ok(all)
 }
 
 #[test]
-fn removals_of_all_in_several_orders(rt: HostRuntime) {
+fn removals_of_all_in_several_orders(rt: HostRuntime) -> Result<(), Fail> {
     for count in 1..301 {
+        let all = points(rt.alloc(), count)?;
         for order in 0..3 {
-            let all = stands_to_the_end(rt.alloc(), count, order);
-            assert!(rt; matches!(all, Ok(true)), "{count} {order}");
+            assert!(rt;
+                leave_to_the_end(rt.alloc(), &all, order, true),
+                "{count} {order}"
+            );
         }
     }
-}
-
-#[test]
-fn equal_elements_leave_one_by_one(rt: HostRuntime) -> Result<(), Fail> {
-    let mut marks = Marks::inserted(rt.alloc(), &[[0, 2], [0, 2]])?;
-    for left in [Some([0, 2]), Some([0, 2]), None] {
-        assert_eq!(rt; marks.contains([0, 2]), left.is_some());
-        assert_eq!(rt; marks.remove([0, 2]), left);
-    }
-    assert!(rt; marks.stands() && marks.size() == 0);
     Ok(())
 }
 
 #[test]
-fn an_emptied_tree_is_drained(rt: HostRuntime) -> Result<(), Fail> {
-    let mut tree: RTree<[i64; 3]> = RTree::new(rt.alloc());
-    tree.insert([1, 2, 3])?;
-    assert_eq!(rt; tree.remove(&[1, 2, 3]), Some([1, 2, 3]));
-    assert!(rt; tree.drain_within_distance([0, 0, 0], 10)?.next().is_none());
-    assert_eq!(rt; tree.size(), 0);
-    assert!(rt; tree.root().envelope().is_empty());
-    Ok(())
+fn equal_elements_leave_one_by_one(rt: HostRuntime) {
+    assert!(rt; leave_to_the_end(rt.alloc(), &[[0, 2], [0, 2]], 0, false));
+}
+
+#[test]
+fn an_emptied_tree_is_drained(rt: HostRuntime) {
+    assert!(rt; emptied_drains_none(rt.alloc(), &[[1i64, 2, 3]], [0, 0, 0], 10));
 }
 
 // rstar's test `test_remove`, on other lines: each leaves once.
 #[test]
 fn lines_leave_once(rt: HostRuntime) -> Result<(), Fail> {
-    let mut edges = Edges {
-        tree: RTree::new(rt.alloc()),
-    };
-    for i in 0..300 {
-        edges.insert(edge(i))?;
-    }
-    for i in 0..300 {
-        assert!(rt; edges.leaves_once(edge(i)), "{i}");
-        assert!(rt; i % 50 > 0 || stands(&edges.tree), "{i}");
-    }
-    assert_eq!(rt; edges.tree.size(), 0);
+    let lines = edges(rt.alloc(), &points(rt.alloc(), 300)?)?;
+    assert!(rt; leave_to_the_end(rt.alloc(), &lines, 0, true));
     Ok(())
 }
 
 // For each number of calls: a drain that is dropped after them, one that is forgotten, and an insertion.
 #[test]
-fn drains_that_are_given_up(rt: HostRuntime) -> Result<(), Fail> {
+fn drains_that_are_given_up(rt: HostRuntime) {
     for calls in 0..8usize {
-        let mut marks = Marks::inserted(rt.alloc(), &ALONG_A_LINE)?;
-        assert_eq!(rt; marks.drain_all(calls)?, calls);
-        assert_eq!(rt; marks.size(), 7 - calls);
-        assert!(rt; marks.stands());
-        if calls == 7 {
-            assert!(rt; marks.tree.root().children().is_empty());
-            assert!(rt; marks.tree.root().envelope().is_empty());
-        }
-        marks.insert([5, 5])?;
-        assert_eq!(rt; marks.size(), 8 - calls);
-        assert!(rt; marks.stands() && marks.contains([5, 5]));
-        assert!(rt; forgotten_stands(rt.alloc(), calls)?);
+        assert!(rt; dropped_stands(rt.alloc(), &ALONG_A_LINE, calls, [5, 5]));
+        assert!(rt; forgotten_stands(rt.alloc(), &ALONG_A_LINE, calls));
     }
-    Ok(())
 }
 
 // A node of 90 leaves, and four of 75: a drain keeps the merge of those that it has not come to.
@@ -479,64 +540,60 @@ fn drains_that_are_given_up(rt: HostRuntime) -> Result<(), Fail> {
 fn wide_nodes_are_drained(rt: HostRuntime) -> Result<(), Fail> {
     for count in [90, 300] {
         for most in [0, 1, 9, 10, 57, 58, 59, 60, 75, 80, 90, 299, 300] {
-            let mut tree: RTree<[i32; 2], Wide> = loaded(points(rt.alloc(), count)?)?;
-            let came = drain_some(&mut tree, SelectAllFunc, most)?;
-            assert!(rt; came == most.min(count) && came <= count && tree.size() == count - came);
-            assert!(rt; stands(&tree), "{count} {most}");
             let half = AABB::from_corners([0, 0], [50, 102]);
-            drain_some(&mut tree, SelectInEnvelopeFuncIntersecting::new(half), most)?;
-            assert!(rt; stands(&tree), "{count} {most}");
+            let all = points(rt.alloc(), count)?;
+            assert!(rt;
+                loaded_stands::<[i32; 2], Wide>(all, half, most),
+                "{count} {most}"
+            );
         }
     }
     Ok(())
 }
 
 #[test]
-fn an_unlawful_drain_gives_what_it_reaches(rt: HostRuntime) -> Result<(), Fail> {
-    let mut marks = Marks::inserted(rt.alloc(), &ALONG_A_LINE)?;
-    let given = marks.drain_about_zero(9)?;
-    assert!(rt; given <= 3 && marks.size() == 7 - given && marks.stands());
-    for point in [[100, 0], [101, 0], [102, 0], [103, 0]] {
-        assert!(rt; marks.contains(point));
-    }
-    Ok(())
+fn an_unlawful_drain_gives_what_it_reaches(rt: HostRuntime) {
+    let far = [[100, 0], [101, 0], [102, 0], [103, 0]];
+    assert!(rt; drains_at_most(rt.alloc(), &ALONG_A_LINE, AboutZero, 3, &far));
 }
 
 #[test]
 fn drains_end_where_none_is_left(rt: HostRuntime) -> Result<(), Fail> {
-    let mut marks = some_marks(rt.alloc(), 300)?;
     let area = AABB::from_corners([20, 20], [70, 80]);
-    let all = inside(&marks, area);
-    assert!(rt; 80 < all);
-    assert_eq!(rt; marks.drain_meeting(area, 40)?, 40);
-    assert_eq!(rt; inside(&marks, area).saturating_add(40), all);
-    assert_eq!(rt; marks.drain_meeting(area, 300)?.saturating_add(40), all);
-    assert_eq!(rt; inside(&marks, area), 0);
-    assert!(rt; marks.stands() && marks.size().saturating_add(all) == 300);
+    let all = points(rt.alloc(), 300)?;
+    let asked = met(rt.alloc(), &all, &area)?;
+    assert!(rt; 80 < asked.len());
+    assert!(rt; drains_all_of(rt.alloc(), &all, (area, area), 40, &asked));
     Ok(())
 }
 
 #[test]
-fn callers_drain_and_insert_again(rt: HostRuntime) -> Result<(), Fail> {
-    let mut points: RTree<[i64; 2]> = RTree::new(rt.alloc());
-    let mut fences: RTree<Fence> = RTree::new(rt.alloc());
-    points.insert([0, 0])?;
-    points.insert([1, 1])?;
-    points.insert([2, 2])?;
-    fences.insert(Fence::new(Rectangle::from_corners([0, 0], [1, 1]), 1))?;
-    fences.insert(Fence::new(Rectangle::from_corners([5, 5], [6, 6]), 2))?;
-    assert_eq!(rt; two_out_one_in(&mut points)?, 2);
+fn callers_drain_and_insert_again(rt: HostRuntime) {
+    let three = [[0i64, 0], [1, 1], [2, 2]];
+    let points = ([9, 9], [7, 8]);
+    assert!(rt; stands_with_one_in(rt.alloc(), &three, None, [7, 8], 2, points));
+    match inserted::<[i64; 2], DefaultParams>(rt.alloc(), &three) {
+        Some(mut tree) => assert!(rt; matches!(two_points_out_one_in(&mut tree), Ok(2))),
+        None => assert!(rt; false),
+    }
+}
+
+#[test]
+fn callers_drain_boxes_and_insert_again(rt: HostRuntime) {
+    let two = [
+        Rectangle::from_corners([0i64, 0], [1, 1]),
+        Rectangle::from_corners([5, 5], [6, 6]),
+    ];
     let area = AABB::from_corners([1, 1], [4, 4]);
-    assert_eq!(rt; two_fences_out_one_in(&mut fences, area)?, 2);
-    assert!(rt; fences.remove_at_point([1, 1]).is_none());
-    assert!(rt; fences.remove_at_point([8, 9]).is_some());
-    Ok(())
+    let one = Rectangle::from_corners([7, 8], [9, 9]);
+    let points = ([1, 1], [8, 9]);
+    assert!(rt; stands_with_one_in(rt.alloc(), &two, Some(area), one, 2, points));
 }
 
 #[test]
 fn a_tree_is_taken_apart(rt: HostRuntime) -> Result<(), Fail> {
     for count in [0, 1, 3, 7, 60] {
-        assert!(rt; gives_all(rt.alloc(), count)?);
+        assert!(rt; gives_all(rt.alloc(), &points(rt.alloc(), count)?));
     }
     Ok(())
 }

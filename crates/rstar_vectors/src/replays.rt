@@ -9,7 +9,7 @@ ghost use Rattle.rstar.specs.Steps.{questions_of, IsFit, IsInsertion, IsRefusal,
 ghost use Rattle.rstar.specs.Trees.{root_of, size_of, elements_in, IsUnchanged, IsWholeTree};
 
 use crate::counted::Place;
-use crate::loads::none_empty;
+use crate::scenarios::none_empty;
 use rstar::primitives::Rectangle;
 use rstar::replay::{Command, Query, Reply, replay, step};
 use rstar::{
@@ -35,48 +35,6 @@ fn step_points(tree: &mut RTree<At>, command: Command<At>) -> Reply<At>
         ⟦<[i64; 2] as PointDistance>⟧.distances 2 ⟦<[i64; 2] as Point>⟧.coord (λ s. s) ⟦<[i64; 2] as PartialEq>⟧.eq)
         (elements_in tree.old) command result (elements_in tree.new) }
     ensures whole { IsWholeTree ⟦<AABB<[i64; 2]> as Envelope>⟧.boxes ⟦<[i64; 2] as RTreeObject>⟧.object
-        ⟦<DefaultParams as RTreeParams>⟧.MAX_SIZE tree.new }
-    ensures refused { IsRefusal result → IsUnchanged tree.old tree.new }
-    ensures too_many { (result ≡ TooMany) ↔ (IsInsertion command × ((size_of tree.old ≡ usize.MAX)
-        ⊎ (usize.MAX < spare_lists ⟦<DefaultParams as RTreeParams>⟧.REINSERTION_COUNT
-        (height_of (root_of tree.old))))) }
-{
-    step(tree, command)
-}
-
-/// Runs commands over points.
-fn replay_points(
-    tree: &mut RTree<At>,
-    commands: Vec<Command<At>>,
-) -> Result<Vec<Reply<At>>, AllocError>
-    requires whole { IsWholeTree ⟦<AABB<[i64; 2]> as Envelope>⟧.boxes ⟦<[i64; 2] as RTreeObject>⟧.object
-        ⟦<DefaultParams as RTreeParams>⟧.MAX_SIZE tree.old }
-    requires fit { AllByRecursion (IsFit (questions_of ⟦<AABB<[i64; 2]> as Envelope>⟧.boxes
-        ⟦<[i64; 2] as RTreeObject>⟧.object ⟦<[i64; 2] as PointDistance>⟧.distances 2 ⟦<[i64; 2] as Point>⟧.coord
-        (λ s. s) ⟦<[i64; 2] as PartialEq>⟧.eq) 2) commands.items }
-    ensures run { IfOk result (λ replies. Run (questions_of ⟦<AABB<[i64; 2]> as Envelope>⟧.boxes
-        ⟦<[i64; 2] as RTreeObject>⟧.object ⟦<[i64; 2] as PointDistance>⟧.distances 2 ⟦<[i64; 2] as Point>⟧.coord
-        (λ s. s) ⟦<[i64; 2] as PartialEq>⟧.eq)
-        (elements_in tree.old) commands.items replies.items (elements_in tree.new)) }
-    ensures none_run { OnErr result (tree.new ≡ tree.old) }
-    ensures whole { IsWholeTree ⟦<AABB<[i64; 2]> as Envelope>⟧.boxes ⟦<[i64; 2] as RTreeObject>⟧.object
-        ⟦<DefaultParams as RTreeParams>⟧.MAX_SIZE tree.new }
-{
-    replay(tree, commands)
-}
-
-/// Runs one command over places whose envelopes count.
-fn step_places(tree: &mut RTree<Place<At>>, command: Command<Place<At>>) -> Reply<Place<At>>
-    requires whole { IsWholeTree ⟦<Counted<[i64; 2]> as Envelope>⟧.boxes ⟦<Place<[i64; 2]> as RTreeObject>⟧.object
-        ⟦<DefaultParams as RTreeParams>⟧.MAX_SIZE tree.old }
-    requires fit { IsFit (questions_of ⟦<Counted<[i64; 2]> as Envelope>⟧.boxes
-        ⟦<Place<[i64; 2]> as RTreeObject>⟧.object ⟦<Place<[i64; 2]> as PointDistance>⟧.distances 2
-        ⟦<[i64; 2] as Point>⟧.coord (λ s. s) ⟦<Place<[i64; 2]> as PartialEq>⟧.eq) 2 command }
-    ensures step { Step (questions_of ⟦<Counted<[i64; 2]> as Envelope>⟧.boxes
-        ⟦<Place<[i64; 2]> as RTreeObject>⟧.object ⟦<Place<[i64; 2]> as PointDistance>⟧.distances 2
-        ⟦<[i64; 2] as Point>⟧.coord (λ s. s) ⟦<Place<[i64; 2]> as PartialEq>⟧.eq)
-        (elements_in tree.old) command result (elements_in tree.new) }
-    ensures whole { IsWholeTree ⟦<Counted<[i64; 2]> as Envelope>⟧.boxes ⟦<Place<[i64; 2]> as RTreeObject>⟧.object
         ⟦<DefaultParams as RTreeParams>⟧.MAX_SIZE tree.new }
     ensures refused { IsRefusal result → IsUnchanged tree.old tree.new }
     ensures too_many { (result ≡ TooMany) ↔ (IsInsertion command × ((size_of tree.old ≡ usize.MAX)

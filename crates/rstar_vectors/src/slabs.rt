@@ -37,18 +37,36 @@ fn slabs(
     Ok(found)
 }
 
+// Whether so many points down a line are cut into slabs of these lengths and least first coordinates.
+fn cuts(
+    alloc: Global,
+    count: u16,
+    clusters: usize,
+    wanted: &[(usize, i32)],
+) -> Result<bool, AllocError> {
+    if clusters == 0 {
+        return Ok(false);
+    }
+    let points = down_a_line(alloc, count)?;
+    Ok(slabs(alloc, points, clusters)?.as_slice() == wanted)
+}
+
 #[test]
 fn slabs_have_their_sizes_and_come_from_the_greatest_on(rt: HostRuntime) -> Result<(), Fail> {
-    let many = [(75, -74), (75, -149), (75, -224), (75, -299), (74, -373)];
-    assert!(rt; slabs(rt.alloc(), down_a_line(rt.alloc(), 374)?, 5)?.as_slice() == many.as_slice());
-    assert!(rt;
-        slabs(rt.alloc(), down_a_line(rt.alloc(), 2)?, 5)?.as_slice()
-            == [(1, 0), (1, -1)].as_slice()
-    );
-    assert!(rt;
-        slabs(rt.alloc(), down_a_line(rt.alloc(), 3)?, 1)?.as_slice() == [(3, -2)].as_slice()
-    );
-    assert!(rt; slabs(rt.alloc(), down_a_line(rt.alloc(), 0)?, 1)?.is_empty());
+    // How many points, into how many clusters, and the slabs.
+    let rows: [(u16, usize, &[(usize, i32)]); 4] = [
+        (
+            374,
+            5,
+            &[(75, -74), (75, -149), (75, -224), (75, -299), (74, -373)],
+        ),
+        (2, 5, &[(1, 0), (1, -1)]),
+        (3, 1, &[(3, -2)]),
+        (0, 1, &[]),
+    ];
+    for (count, clusters, wanted) in rows {
+        assert!(rt; cuts(rt.alloc(), count, clusters, wanted)?, "{count}");
+    }
     let points = down_a_line(rt.alloc(), 3)?;
     let slabs: ClusterGroupIterator<[i32; 2]> = ClusterGroupIterator::new(points, 2, 1);
     assert_eq!(rt; slabs.cluster_dimension(), 1);

@@ -31,71 +31,104 @@ pub fn clear(tree: &mut RTree<Fence>, area: AABB<[i64; 2]>)
 #[cfg(test)]
 mod tests {
     use super::*;
+    use crate::scenarios::inserted;
     use rstar::algorithm::selection_functions::SelectAllFunc;
-    use rstar::primitives::Rectangle;
-    use std::alloc::AllocError;
-    use std::test::Fail;
+    use rstar::object::{PointDistance, PointOf};
+    use rstar::primitives::{GeomWithData, Rectangle};
+    use std::alloc::Global;
 
-    /// The sum of the numbers of a tree's fences, held at the greatest `u64`.
-    fn sum(tree: &RTree<Fence>) -> Result<u64, AllocError>
-        requires { IsWholeTree ⟦<AABB<[i64; 2]> as Envelope>⟧.boxes ⟦<Fence as RTreeObject>⟧.object ⟦<DefaultParams as RTreeParams>⟧.MAX_SIZE tree.now }
+    /// An element with a number.
+    type Numbered<R> = GeomWithData<R, u64>;
+
+    /// The sum of the numbers of a tree's elements, held at the greatest `u64`.
+    fn sum<R: RTreeObject>(tree: &RTree<Numbered<R>>) -> u64
+        requires { IsWholeTree R.Envelope.boxes ⟦<Numbered<R> as RTreeObject>⟧.object ⟦<DefaultParams as RTreeParams>⟧.MAX_SIZE tree.now }
     {
         let mut sum = 0u64;
-        for fence in tree.iter()? {
-            sum = sum.saturating_add(fence.data);
+        let _end: ControlFlow<()> = tree.locate_with_selection_function_int(
+            SelectAllFunc,
+            |one: &Numbered<R>| {
+                sum = sum.saturating_add(one.data);
+                ControlFlow::Continue(())
+            },
+        );
+        sum
+    }
+
+    /// What a visit that adds 10 to each number breaks with at its first call, 0 where it does not break, and the sum of
+    /// the numbers after it.
+    fn sum_after<R: RTreeObject + Copy>(
+        alloc: Global,
+        elements: &[Numbered<R>],
+        breaks: bool,
+    ) -> Option<(u64, u64)> {
+        let mut tree = inserted::<Numbered<R>, DefaultParams>(alloc, elements)?;
+        let answer = tree.locate_with_selection_function_int_mut(
+            SelectAllFunc,
+            |one: &mut Numbered<R>| {
+                one.data = one.data.wrapping_add(10);
+                if breaks {
+                    ControlFlow::Break(one.data)
+                } else {
+                    ControlFlow::Continue(())
+                }
+            },
+        );
+        match answer {
+            ControlFlow::Break(number) => Some((number, sum(&tree))),
+            ControlFlow::Continue(()) => Some((0, sum(&tree))),
         }
-        Ok(sum)
+    }
+
+    /// The sums of the numbers after a visit of what an envelope contains, one of what it intersects, one of what contains
+    /// a point, each of which adds 1 to a number, and one of what another envelope intersects, which clears it.
+    fn sums_after<R: PointDistance + Copy>(
+        alloc: Global,
+        elements: &[Numbered<R>],
+        area: &R::Envelope,
+        point: PointOf<R>,
+        cleared: R::Envelope,
+    ) -> Option<[u64; 4]> {
+        let mut tree = inserted::<Numbered<R>, DefaultParams>(alloc, elements)?;
+        let add_one = |one: &mut Numbered<R>| {
+            one.data = one.data.wrapping_add(1);
+            ControlFlow::<()>::Continue(())
+        };
+        tree.locate_in_envelope_int_mut(area.clone().ok()?, add_one);
+        let first = sum(&tree);
+        tree.locate_in_envelope_intersecting_int_mut(area.clone().ok()?, add_one);
+        let second = sum(&tree);
+        tree.locate_all_at_point_int_mut(point, add_one);
+        let third = sum(&tree);
+        tree.locate_in_envelope_intersecting_int_mut(cleared, |one: &mut Numbered<R>| {
+            one.data = 0;
+            ControlFlow::<()>::Continue(())
+        });
+        Some([first, second, third, sum(&tree)])
     }
 
     // Whether the visitor breaks at its first call, and the sum of the numbers 1, 2 and 3 after it added 10 at each.
     #[test]
-    fn a_visit_writes_until_a_break(rt: HostRuntime) -> Result<(), Fail> {
-        for (breaks, after) in [(false, 36), (true, 16)] {
-            let fence = Rectangle::from_corners([0i64, 0], [2, 2]);
-            let mut tree = RTree::new(rt.alloc());
-            tree.insert(Fence::new(fence, 1))?;
-            tree.insert(Fence::new(fence, 2))?;
-            tree.insert(Fence::new(fence, 3))?;
-            let answer = tree.locate_with_selection_function_int_mut(
-                SelectAllFunc,
-                |fence: &mut Fence| {
-                    fence.data = fence.data.wrapping_add(10);
-                    if breaks {
-                        ControlFlow::Break(fence.data)
-                    } else {
-                        ControlFlow::Continue(())
-                    }
-                },
-            );
-            assert_eq!(rt; matches!(answer, ControlFlow::Break(11 | 12 | 13)), breaks);
-            assert_eq!(rt; sum(&tree)?, after);
-        }
-        Ok(())
+    fn a_visit_writes_until_a_break(rt: HostRuntime) {
+        let fence = Rectangle::from_corners([0i64, 0], [2, 2]);
+        let three = [
+            Fence::new(fence, 1),
+            Fence::new(fence, 2),
+            Fence::new(fence, 3),
+        ];
+        assert_eq!(rt; sum_after(rt.alloc(), &three, false), Some((0, 36)));
+        let broken = sum_after(rt.alloc(), &three, true);
+        assert!(rt; matches!(broken, Some((11 | 12 | 13, 16))), "{broken:?}");
     }
 
-    // A box that does not contain the fence, the same that touches it, a point inside, and the point at its corner.
+    // Two fences; a box that contains neither, and touches the first, a point inside that, and the point at its corner.
     #[test]
-    fn visits_write_what_they_select(rt: HostRuntime) -> Result<(), Fail> {
+    fn visits_write_what_they_select(rt: HostRuntime) {
+        let fence = Fence::new(Rectangle::from_corners([0i64, 0], [2, 2]), 7);
+        let other = Fence::new(Rectangle::from_corners([3, 3], [4, 4]), 5);
         let area = AABB::from_corners([0, 0], [1, 1]);
-        let mut tree = RTree::new(rt.alloc());
-        tree.insert(Fence::new(Rectangle::from_corners([0i64, 0], [2, 2]), 7))?;
-        tree.locate_in_envelope_int_mut(area, |fence: &mut Fence| {
-            fence.data = fence.data.wrapping_add(1);
-            ControlFlow::<()>::Continue(())
-        });
-        assert_eq!(rt; sum(&tree)?, 7);
-        tree.locate_in_envelope_intersecting_int_mut(area, |fence: &mut Fence| {
-            fence.data = fence.data.wrapping_add(1);
-            ControlFlow::<()>::Continue(())
-        });
-        assert_eq!(rt; sum(&tree)?, 8);
-        tree.locate_all_at_point_int_mut([1, 1], |fence: &mut Fence| {
-            fence.data = fence.data.wrapping_add(1);
-            ControlFlow::<()>::Continue(())
-        });
-        assert_eq!(rt; sum(&tree)?, 9);
-        clear(&mut tree, AABB::from_point([2, 2]));
-        assert_eq!(rt; sum(&tree)?, 0);
-        Ok(())
+        let corner = AABB::from_point([2, 2]);
+        let sums = sums_after(rt.alloc(), &[fence, other], &area, [1, 1], corner);
+        assert_eq!(rt; sums, Some([12, 13, 14, 5]));
     }
 }

@@ -123,23 +123,23 @@ fn meets_node<E: Envelope, U: InEnvelope<E>>(envelope: &E, node: &RTreeNode<U>) 
     }
 }
 
-/// Marks with one more in front of them.
+/// Marks with one more in front of them, where there is room for it.
 fn with_mark(marks: u64, mark: bool) -> u64
-    requires { marks < 2 ^ 63 }
-    ensures { result ≡ (if mark then 1 else 0) + 2 * marks }
+    ensures { marks < 2 ^ 63 → result ≡ (if mark then 1 else 0) + 2 * marks }
 {
-    if mark { 2 * marks + 1 } else { 2 * marks }
+    let others = marks.wrapping_mul(2);
+    if mark { others.wrapping_add(1) } else { others }
 }
 
-/// Marks with one for each node in front of them, whether an envelope meets it.
+/// Marks with one for each node in front of them, whether an envelope meets it, where there is room for them.
+//
+// The room is a premise of the clauses of marks, and no `requires`: `step` would have to state it in a goal of its own.
 fn row_marks<E: Envelope, U: InEnvelope<E>>(
     envelope: &E,
     nodes: &[RTreeNode<U>],
     others: u64,
 ) -> u64
-    requires few { length nodes.now ≤ 64 }
-    requires room { others < 2 ^ (64 - length nodes.now) }
-    ensures { result ≡ with_marks
+    ensures { length nodes.now ≤ 64 → others < 2 ^ (64 - length nodes.now) → result ≡ with_marks
         (map (λ n. meets_by E.boxes U.seen envelope.now (node_box U.object.box_of n)) nodes.now) others }
 {
     let mut marks = others;
@@ -151,13 +151,12 @@ fn row_marks<E: Envelope, U: InEnvelope<E>>(
     marks
 }
 
-/// Marks for those of at most 64 pairs of nodes that meet.
+/// Marks for those pairs of nodes that meet, where they are at most 64.
 fn marks_of<T: RTreeObject, U: InEnvelope<T::Envelope>>(
     lefts: &[RTreeNode<T>],
     rights: &[RTreeNode<U>],
 ) -> u64
-    requires { length lefts.now * length rights.now ≤ 64 }
-    ensures { marked result (product lefts.now rights.now)
+    ensures { length lefts.now * length rights.now ≤ 64 → marked result (product lefts.now rights.now)
         ≡ filter (λ p. meets_by T.Envelope.boxes U.seen (node_box T.object.box_of p.0) (node_box U.object.box_of p.1))
         (product lefts.now rights.now) }
 {

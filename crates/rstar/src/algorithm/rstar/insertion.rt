@@ -54,15 +54,11 @@ fn add_child<T: RTreeObject, Params: RTreeParams>(
     // A list that is handed back has its place.
     ensures places { vec_capacity spares.new ≡ vec_capacity spares.old }
 {
-    let Ok(()) = node.children.push(child) else {
-        unreachable!()
-    };
+    node.children.push_reserved(child);
     if node.children.len() <= Params::MAX_SIZE {
         return None;
     }
-    let Some(mut second) = spares.pop() else {
-        unreachable!()
-    };
+    let mut second = spares.take_last();
     split_in_place::<_, Params>(&mut node.children, &mut second);
     node.envelope = envelope_for_children(&node.children);
     let envelope = envelope_for_children(&second);
@@ -171,17 +167,11 @@ fn grow_root<T: RTreeObject, Params: RTreeParams>(
     ensures used { vec_len spares.old ≡ vec_len spares.new + 1 }
     ensures places { vec_capacity spares.new ≡ vec_capacity spares.old }
 {
-    let Some(children) = spares.pop() else {
-        unreachable!()
-    };
+    let children = spares.take_last();
     let envelope = root.envelope.merged(&second.envelope);
     let old = mem::replace(root, ParentNode { children, envelope });
-    let Ok(()) = root.children.push(RTreeNode::Parent(old)) else {
-        unreachable!()
-    };
-    let Ok(()) = root.children.push(RTreeNode::Parent(second)) else {
-        unreachable!()
-    };
+    root.children.push_reserved(RTreeNode::Parent(old));
+    root.children.push_reserved(RTreeNode::Parent(second));
 }
 
 /// Inserts an element from the root, whose children are trees of `levels` levels of parents. The root grows a level

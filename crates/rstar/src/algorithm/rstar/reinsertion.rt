@@ -80,9 +80,7 @@ fn add_leaf<T: RTreeObject, Params: RTreeParams>(
     ensures most { vec_len node.old.children ≤ Params.MAX_SIZE → vec_len node.new.children ≤ Params.MAX_SIZE }
     ensures capacity { vec_capacity handed.old ≤ vec_capacity handed.new }
 {
-    let Ok(()) = node.children.push(RTreeNode::Leaf(t)) else {
-        unreachable!()
-    };
+    node.children.push_reserved(RTreeNode::Leaf(t));
     if Params::MAX_SIZE < node.children.len() {
         hand_out::<T, Params>(node, handed);
     }
@@ -232,9 +230,7 @@ pub(crate) fn insert_with_reinsertion<T: RTreeObject, Params: RTreeParams>(
     if Params::REINSERTION_COUNT == 0 {
         return insert_at_root::<T, Params>(root, t, levels, widest, spares);
     }
-    let Some(mut handed) = spares.pop() else {
-        unreachable!()
-    };
+    let mut handed = spares.take_last();
     insert_first::<T, Params>(root, t, levels, widest, &mut handed);
     let grown = insert_again::<T, Params>(root, &mut handed, levels, widest, spares);
     // The list that is empty again goes back to its place, which is still there.

@@ -22,12 +22,8 @@ pub(crate) fn cut_at<A: Drop>(list: &mut Vec<A>, at: usize, spare: &mut Vec<A>)
     ensures second_capacity { vec_capacity spare.old ≤ vec_capacity spare.new }
 {
     while at < list.len() {
-        let Some(item) = list.pop() else {
-            unreachable!()
-        };
-        let Ok(()) = spare.push(item) else {
-            unreachable!()
-        };
+        let item = list.take_last();
+        spare.push_reserved(item);
     }
     spare.reverse();
 }

@@ -1,7 +1,7 @@
 use Rattle.rstar_vectors.proofs.payloads.renumber_int.Goals as goal
 
 pub returns-in-Some-clause-written : goal.returns-in-Some-clause-written
-returns-in-Some-clause-written c = λ _.
+returns-in-Some-clause-written g c = λ _.
     let f = c.in-Some.ensures.found in record {
       before = f.before;
       one = (f.geom, c.in-Some.lent.now);
@@ -13,4 +13,4 @@ returns-in-Some-clause-written c = λ _.
     }
 
 pub returns-in-Some-clause-whole : goal.returns-in-Some-clause-whole
-returns-in-Some-clause-whole c = c.in-Some.ensures.found.whole c.args.number
+returns-in-Some-clause-whole g c = c.in-Some.ensures.found.whole c.args.number

@@ -1,6 +1,6 @@
 use Rattle.std.proofs.Common.{◌≡◌, ◌∙◌, ◌<◌, sym, refl, arith, ap, length, suc, ◌+◌, ◌-◌, get_or, get_or-set_same, Vec}
 use Rattle.rstar.specs.declared.node.RTreeNode.TheVariants.{outs-Leaf, outs-Parent}
-use Rattle.rstar.specs.Taking.{selects_in, is_selected_leaf, is_childless}
+use Rattle.rstar.specs.Taking.{selects_in, is_selected_leaf, is_childless, lower_numbers}
 use Rattle.rstar.proofs.Parts.{same_read, same_item, lower_lent, lower_left}
 use Rattle.rstar.proofs.Scans.{begins, gives_leaf, gives_inside, gives_last, passes_any, finishes, entered, not_entered, kept_anew, none_gives, along}
 use Rattle.rstar.proofs.algorithm.removal.+take.Goals as goal
@@ -8,7 +8,7 @@ use Rattle.rstar.proofs.algorithm.removal.+take.Goals.{take_among-then-is_childl
 
 pub take_among-loop-passed-init : goal.take_among-loop-passed-init
 take_among-loop-passed-init g t c = record {
-  scanned = begins _ _ _ _ _ _ _ _ c.first_number-passed.ensures;
+  scanned = begins g.T.Envelope.Envelope.boxes g.T.RTreeObject.object (g.R.SelectionFunction.accepts c.args.func.now) (g.R.SelectionFunction.selects c.args.func.now) c.args.children.now.items c.args.path.now c.args.rest.now c.first_number-passed.result c.first_number-passed.ensures;
   unvisited = λ k d. refl;
   same = refl;
 }
@@ -19,10 +19,10 @@ take_among-returns-then-is_selected_leaf-clause-takes g t c =
     let i = c.len.result - 1 - c.loop-passed.passed in
     let next : length c.loop-passed.children.items ≡ suc (i + c.loop-passed.passed) = omega (arith, c.args.children.now.ok.0, same, c.len.ensures) in
     let within : i < length c.loop-passed.children.items = omega (arith, next) in
-    let here = same_read _ _ _ _ within c.index.ensures c.take_leaf-taken.ensures.node in
+    let here = same_read c.loop-passed.children.items i _ _ within c.index.ensures c.take_leaf-taken.ensures.node in
     let chosen = ap (is_selected_leaf (g.R.SelectionFunction.selects c.args.func.now)) (sym here) in
     rw (c.set_first.ensures, c.take_leaf-taken.ensures.items)
-    (gives_leaf _ _ _ _ _ _ _ _ _ _ _ c.loop-passed.invariant.scanned i next c.take_leaf-taken.result c.take_leaf-taken.ensures.node
+    (gives_leaf g.T.Envelope.Envelope.boxes g.T.RTreeObject.object (g.R.SelectionFunction.accepts c.args.func.now) (g.R.SelectionFunction.selects c.args.func.now) c.args.children.now.items c.args.path.now c.args.rest.now c.loop-passed.children.items c.loop-passed.path c.loop-passed.rest c.loop-passed.passed c.loop-passed.invariant.scanned i next c.take_leaf-taken.result c.take_leaf-taken.ensures.node
     (sym (ap (selects_in (g.R.SelectionFunction.selects c.args.func.now)) (outs-Leaf _)) ∙ chosen ∙ sym c.is_selected_leaf.ensures ∙ c.if-is_selected_leaf.true))
 
 pub take_among-returns-then-is_some-clause-takes : goal.take_among-returns-then-is_some-clause-takes
@@ -35,12 +35,12 @@ take_among-returns-then-is_some-clause-takes g t c =
     elim c.if-is_childless.branch [
       | take_among-then-is_childless w ↦
           rw (c.set_first-then-is_some.ensures, w.path-is, w.rest-is, w.children-is, w.drop_child.ensures.items)
-          (gives_last _ _ _ _ _ _ _ _ _ _ _ c.loop-passed.invariant.scanned i next _ _ c.take_inside-taken.new.path _ _ c.index_mut.ensures.value c.take_inside-taken.ensures c.take_inside-taken.auto.path
-          (sym c.is_some.ensures ∙ c.if-is_some.true) (sym (ap is_childless written) ∙ sym c.is_childless.ensures ∙ w.if-is_childless.true) _ _ _ w.clear_lower.ensures.numbers
+          (gives_last g.T.Envelope.Envelope.boxes g.T.RTreeObject.object (g.R.SelectionFunction.accepts c.args.func.now) (g.R.SelectionFunction.selects c.args.func.now) c.args.children.now.items c.args.path.now c.args.rest.now c.loop-passed.children.items c.loop-passed.path c.loop-passed.rest c.loop-passed.passed c.loop-passed.invariant.scanned i next c.index_mut.result.now c.take_inside-taken.new.child c.take_inside-taken.new.path c.take_inside-taken.new.rest c.take_inside-taken.result c.index_mut.ensures.value c.take_inside-taken.ensures c.take_inside-taken.auto.path
+          (sym c.is_some.ensures ∙ c.if-is_some.true) (sym (ap is_childless written) ∙ sym c.is_childless.ensures ∙ w.if-is_childless.true) w.clear_lower.new.path w.clear_lower.new.rest (length (lower_numbers c.take_inside-taken.new.path)) w.clear_lower.ensures.numbers
           w.clear_lower.auto.path w.clear_lower.ensures.still w.clear_lower.ensures.none)
       | take_among-else-is_childless w ↦
           rw (c.set_first-then-is_some.ensures, w.path-is, w.rest-is, w.children-is)
-          (gives_inside _ _ _ _ _ _ _ _ _ _ _ c.loop-passed.invariant.scanned i next _ _ c.take_inside-taken.new.path _ _ c.index_mut.ensures.value c.take_inside-taken.ensures c.take_inside-taken.auto.path
+          (gives_inside g.T.Envelope.Envelope.boxes g.T.RTreeObject.object (g.R.SelectionFunction.accepts c.args.func.now) (g.R.SelectionFunction.selects c.args.func.now) c.args.children.now.items c.args.path.now c.args.rest.now c.loop-passed.children.items c.loop-passed.path c.loop-passed.rest c.loop-passed.passed c.loop-passed.invariant.scanned i next c.index_mut.result.now c.take_inside-taken.new.child c.take_inside-taken.new.path c.take_inside-taken.new.rest c.take_inside-taken.result c.index_mut.ensures.value c.take_inside-taken.ensures c.take_inside-taken.auto.path
           (sym c.is_some.ensures ∙ c.if-is_some.true)
           (sym (ap is_childless written) ∙ sym c.is_childless.ensures ∙ w.if-is_childless.false))
     ]
@@ -51,12 +51,12 @@ take_among-loop-passed-preserved g t c =
     let i = c.len.result - 1 - c.loop-passed.passed in
     let next : length c.loop-passed.children.items ≡ suc (i + c.loop-passed.passed) = omega (arith, c.args.children.now.ok.0, same, c.len.ensures) in
     let within : i < length c.loop-passed.children.items = omega (arith, next) in
-    let here = same_read _ _ _ _ within c.index.ensures c.index_mut.ensures.value in
+    let here = same_read c.loop-passed.children.items i _ _ within c.index.ensures c.index_mut.ensures.value in
     let unchanged = same_item c.loop-passed.children i c.take_inside-taken.new.child _ (none_gives _ (sym c.is_some.ensures ∙ c.if-is_some.false) c.take_inside-taken.ensures.kept ∙ c.index_mut.ensures.value) ∙ c.loop-passed.invariant.same in
     record {
-      scanned = passes_any _ _ _ _ _ _ _ _ _ _ _ c.loop-passed.invariant.scanned i next _ _ c.take_inside-taken.new.path _ _ (sym c.is_some.ensures ∙ c.if-is_some.false) c.index_mut.ensures.value
+      scanned = passes_any g.T.Envelope.Envelope.boxes g.T.RTreeObject.object (g.R.SelectionFunction.accepts c.args.func.now) (g.R.SelectionFunction.selects c.args.func.now) c.args.children.now.items c.args.path.now c.args.rest.now c.loop-passed.children.items c.loop-passed.path c.loop-passed.rest c.loop-passed.passed c.loop-passed.invariant.scanned i next c.index_mut.result.now c.take_inside-taken.new.child c.take_inside-taken.new.path c.take_inside-taken.new.rest c.take_inside-taken.result (sym c.is_some.ensures ∙ c.if-is_some.false) c.index_mut.ensures.value
           c.take_inside-taken.ensures c.take_inside-taken.auto.path
-          (sym (ap (is_selected_leaf (g.R.SelectionFunction.selects c.args.func.now)) here) ∙ sym c.is_selected_leaf.ensures ∙ c.if-is_selected_leaf.false) _ _ _
+          (sym (ap (is_selected_leaf (g.R.SelectionFunction.selects c.args.func.now)) here) ∙ sym c.is_selected_leaf.ensures ∙ c.if-is_selected_leaf.false) c.clear_lower-in-loop-passed.new.path c.clear_lower-in-loop-passed.new.rest (length (lower_numbers c.take_inside-taken.new.path))
           c.clear_lower-in-loop-passed.ensures.numbers c.clear_lower-in-loop-passed.auto.path c.clear_lower-in-loop-passed.ensures.still c.clear_lower-in-loop-passed.ensures.none;
       unvisited = λ k d. ap (λ (v : Vec _ _). get_or v.items k d) unchanged;
       same = unchanged;
@@ -65,7 +65,7 @@ take_among-loop-passed-preserved g t c =
 pub take_among-returns-clause-takes : goal.take_among-returns-clause-takes
 take_among-returns-clause-takes g t c =
     rw c.set_first-2.ensures
-    (finishes _ _ _ _ _ _ _ _ _ _ _ c.loop-passed.invariant.scanned (omega (arith, c.args.children.now.ok.0, ap length c.loop-passed.invariant.scanned.same)) _ (c.len-2.ensures ∙ c.loop-passed.children.ok.0))
+    (finishes g.T.Envelope.Envelope.boxes g.T.RTreeObject.object (g.R.SelectionFunction.accepts c.args.func.now) (g.R.SelectionFunction.selects c.args.func.now) c.args.children.now.items c.args.path.now c.args.rest.now c.loop-passed.children.items c.loop-passed.path c.loop-passed.rest c.loop-passed.passed c.loop-passed.invariant.scanned (omega (arith, c.args.children.now.ok.0, ap length c.loop-passed.invariant.scanned.same)) c.len-2.result (c.len-2.ensures ∙ c.loop-passed.children.ok.0))
 
 pub take_below-returns-then-is_some-clause-kept :
     goal.take_below-returns-then-is_some-clause-kept
@@ -77,7 +77,8 @@ take_below-returns-then-is_some-clause-kept g t c = λ m w h kept below at.
 pub take_below-returns-then-is_some-clause-takes :
     goal.take_below-returns-then-is_some-clause-takes
 take_below-returns-then-is_some-clause-takes g t c =
-    along _ _ _ _ _ _ _ _ _ _ _ _ c.take_among-taken.ensures.takes c.take_among-taken.auto.path (rw c.deref.ensures.value at c.merge_along.ensures.rests) c.merge_along.ensures.still
+    along g.T.Envelope.Envelope.boxes g.T.RTreeObject.object (g.R.SelectionFunction.accepts c.args.func.now) (g.R.SelectionFunction.selects c.args.func.now) c.args.node.now.children.items c.take_among-taken.new.children.items c.args.path.now c.take_among-taken.new.path c.args.rest.now c.take_among-taken.new.rest c.merge_along.new.rest c.take_among-taken.result
+    c.take_among-taken.ensures.takes c.take_among-taken.auto.path (rw c.deref.ensures.value at c.merge_along.ensures.rests) c.merge_along.ensures.still
 
 pub take_inside-returns-then-should_unpack_parent :
     goal.take_inside-returns-then-should_unpack_parent
@@ -86,11 +87,11 @@ take_inside-returns-then-should_unpack_parent g t c =
     let kept = rw (c.in-Parent.parent-is, lower_lent _ _ c.min-lower.ensures) at c.take_below.ensures.kept in
     let same = rw c.in-Parent.parent-is at c.take_below.ensures.same in
     let len = c.take_below.auto.path in
-    rw (c.in-Parent.is, outs-Parent c.in-Parent.parent, lower_left _ _ _ c.min-lower.ensures len) (entered _ _ _ _ _ _ _ _ _ _ _ takes kept same)
+    rw (c.in-Parent.is, outs-Parent c.in-Parent.parent, lower_left _ _ _ c.min-lower.ensures len) (entered g.T.Envelope.Envelope.boxes g.T.RTreeObject.object (g.R.SelectionFunction.accepts c.args.func.now) (g.R.SelectionFunction.selects c.args.func.now) c.in-Parent.parent c.take_below.new.node (lower_numbers c.args.path.now) c.take_below.new.path c.args.rest.now c.take_below.new.rest c.take_below.result takes kept same)
 
 pub take_inside-returns-else-should_unpack_parent :
     goal.take_inside-returns-else-should_unpack_parent
 take_inside-returns-else-should_unpack_parent g t c =
     let refused = rw c.in-Parent.parent-is at c.should_unpack_parent.ensures in
     rw (c.in-Parent.is, outs-Parent c.in-Parent.parent)
-    (not_entered _ _ _ _ g.met.T.Envelope.Envelope.envelope_laws g.met.T.RTreeObject.object_law _ _ _ (sym refused ∙ c.if-should_unpack_parent.false))
+    (not_entered g.T.Envelope.Envelope.boxes g.T.RTreeObject.object (g.R.SelectionFunction.accepts c.args.func.now) (g.R.SelectionFunction.selects c.args.func.now) g.met.T.Envelope.Envelope.envelope_laws g.met.T.RTreeObject.object_law c.in-Parent.parent (lower_numbers c.args.path.now) c.args.rest.now (sym refused ∙ c.if-should_unpack_parent.false))

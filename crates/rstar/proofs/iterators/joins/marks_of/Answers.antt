@@ -6,18 +6,18 @@ use Rattle.rstar.proofs.Marked.{rows-first, rows-few, rows-fit, rows-more, rows-
 use Rattle.rstar.proofs.iterators.joins.marks_of.Goals as goal
 
 pub loop-left-init : goal.loop-left-init
-loop-left-init g c = rows-first _ c.args.lefts.now c.args.rights.now
-
-pub row_marks-marks-requires-clause-few : goal.row_marks-marks-requires-clause-few
-row_marks-marks-requires-clause-few g c = rows-few _ c.args.lefts.now c.args.rights.now c.loop-left.rest.now c.in-Some.before.now c.in-Some.left.now c.loop-left.marks c.loop-left.invariant c.in-Some.ensures.cases.0 c.requires
-
-pub row_marks-marks-requires-clause-room : goal.row_marks-marks-requires-clause-room
-row_marks-marks-requires-clause-room g c = rows-fit _ c.args.lefts.now c.args.rights.now c.loop-left.rest.now c.in-Some.before.now c.in-Some.left.now c.loop-left.marks c.loop-left.invariant c.in-Some.ensures.cases.0 c.requires
+loop-left-init g c = λ few. rows-first _ c.args.lefts.now c.args.rights.now
 
 pub loop-left-preserved : goal.loop-left-preserved
-loop-left-preserved g c =
-    let made = c.row_marks-marks.ensures ∙ ap (λ e. with_marks (map (λ n. meets_by g.T.Envelope.Envelope.boxes g.U.InEnvelope.seen e (node_box g.U.RTreeObject.object.box_of n)) c.args.rights.now) c.loop-left.marks) c.envelope.ensures.value in
-    rows-more _ c.args.lefts.now c.args.rights.now c.loop-left.rest.now c.in-Some.before.now c.in-Some.left.now c.loop-left.marks c.row_marks-marks.result c.loop-left.invariant c.in-Some.ensures.cases.0 made
+loop-left-preserved g c = λ few.
+    let lefts = c.args.lefts.now in
+    let rights = c.args.rights.now in
+    let behind = c.loop-left.invariant few in
+    let cut = c.in-Some.ensures.cases.0 in
+    let fewer = rows-few _ lefts rights c.loop-left.rest.now c.in-Some.before.now c.in-Some.left.now c.loop-left.marks behind cut few in
+    let fits = rows-fit _ lefts rights c.loop-left.rest.now c.in-Some.before.now c.in-Some.left.now c.loop-left.marks behind cut few in
+    let made = c.row_marks-marks.ensures fewer fits ∙ ap (λ e. with_marks (map (λ n. meets_by g.T.Envelope.Envelope.boxes g.U.InEnvelope.seen e (node_box g.U.RTreeObject.object.box_of n)) rights) c.loop-left.marks) c.envelope.ensures.value in
+    rows-more _ lefts rights c.loop-left.rest.now c.in-Some.before.now c.in-Some.left.now c.loop-left.marks c.row_marks-marks.result behind cut made
 
 pub returns : goal.returns
-returns g c = rows-all _ c.args.lefts.now c.args.rights.now c.loop-left.rest.now c.loop-left.marks c.loop-left.invariant c.in_default.ensures.cases
+returns g c = λ few. rows-all _ c.args.lefts.now c.args.rights.now c.loop-left.rest.now c.loop-left.marks (c.loop-left.invariant few) c.in_default.ensures.cases

@@ -42,10 +42,11 @@ pub loop-current-init : goal.loop-current-init
 loop-current-init g c =
     let p = table g.T.Envelope.Point.Point.DIMENSIONS (g.T.Envelope.Point.Point.coord c.args.point.now) in
     let value = g.T.Envelope.Point.Scalar.Number.value in
-    let start = pruning.pruned-start g.T.Envelope.Envelope.boxes g.T.RTreeObject.object g.T.PointDistance.distances p value c.args.root.now (items_of c.new-heap.result) c.new-heap.ensures.none c.requires in
     record {
       waiting = c.open_within.ensures.waiting;
-      pruned = c.in_ok-bound.ensures.pruned (elements_of c.args.root.now) (subst (λ l. IsPruned g.T.Envelope.Envelope.boxes g.T.RTreeObject.object g.T.PointDistance.distances p value (elements_of c.args.root.now) (waiting_nodes (items_of c.new-heap.result) ++ l) None) (sym c.deref.ensures.value) start);
+      pruned = λ whole.
+          let start = pruning.pruned-start g.T.Envelope.Envelope.boxes g.T.RTreeObject.object g.T.PointDistance.distances p value c.args.root.now (items_of c.new-heap.result) c.new-heap.ensures.none whole in
+          c.in_ok-bound.ensures.pruned (elements_of c.args.root.now) (subst (λ l. IsPruned g.T.Envelope.Envelope.boxes g.T.RTreeObject.object g.T.PointDistance.distances p value (elements_of c.args.root.now) (waiting_nodes (items_of c.new-heap.result) ++ l) None) (sym c.deref.ensures.value) start);
     }
 
 pub open_within-requires-in-Parent : goal.open_within-requires-in-Parent
@@ -59,20 +60,20 @@ open_within-requires-in-Parent g c = (
 )
 
 pub returns-in-Leaf-clause-nearest : goal.returns-in-Leaf-clause-nearest
-returns-in-Leaf-clause-nearest g c =
+returns-in-Leaf-clause-nearest g c = λ whole.
     let p = table g.T.Envelope.Point.Point.DIMENSIONS (g.T.Envelope.Point.Point.coord c.args.point.now) in
     let value = g.T.Envelope.Point.Scalar.Number.value in
     let us = waiting_nodes (items_of c.pop.new.self) in
     let nodes = turns.nodes-as g.T.Envelope.Envelope.boxes g.T.PointDistance.distances p value g.T.Envelope.Point.Scalar.Ord.cmp c.loop-current.heap c.pop.new.self c.in-Some.current c.loop-current.invariant.waiting c.pop.ensures.ordered c.in-Some.ensures.some (Leaf c.in-Leaf.t) c.in-Leaf.is in
     let least = turns.leaf-least g.T.Envelope.Envelope.boxes g.T.PointDistance.distances p value g.T.Envelope.Point.Scalar.Ord.cmp c.loop-current.heap c.pop.new.self c.in-Some.current c.loop-current.invariant.waiting c.pop.ensures.ordered c.in-Some.ensures.some c.in-Leaf.t c.in-Leaf.is (order g) c.in-Some.ensures.greatest in
-    let turned = pruning.same-nodes g.T.Envelope.Envelope.boxes g.T.RTreeObject.object g.T.PointDistance.distances p value (elements_of c.args.root.now) (waiting_nodes (items_of c.loop-current.heap)) (Leaf c.in-Leaf.t ∷ us) c.loop-current.bound nodes c.loop-current.invariant.pruned in
+    let turned = pruning.same-nodes g.T.Envelope.Envelope.boxes g.T.RTreeObject.object g.T.PointDistance.distances p value (elements_of c.args.root.now) (waiting_nodes (items_of c.loop-current.heap)) (Leaf c.in-Leaf.t ∷ us) c.loop-current.bound nodes (c.loop-current.invariant.pruned whole) in
     pruning.pruned-leaf (measured g p c.known.ensures.range) value (elements_of c.args.root.now) c.in-Leaf.t us c.loop-current.bound least turned
 
 pub returns-in-Leaf-clause-not_below : goal.returns-in-Leaf-clause-not_below
-returns-in-Leaf-clause-not_below g c = pruning.nearest-not-below (measured g (table g.T.Envelope.Point.Point.DIMENSIONS (g.T.Envelope.Point.Point.coord c.args.point.now)) c.known.ensures.range) c.args.root.now c.requires c.in-Leaf.t (returns-in-Leaf-clause-nearest g c)
+returns-in-Leaf-clause-not_below g c = λ whole. pruning.nearest-not-below (measured g (table g.T.Envelope.Point.Point.DIMENSIONS (g.T.Envelope.Point.Point.coord c.args.point.now)) c.known.ensures.range) c.args.root.now whole c.in-Leaf.t (returns-in-Leaf-clause-nearest g c whole)
 
 pub returns-in-Leaf-clause-not_above : goal.returns-in-Leaf-clause-not_above
-returns-in-Leaf-clause-not_above g c = pruning.nearest-not-above (measured g (table g.T.Envelope.Point.Point.DIMENSIONS (g.T.Envelope.Point.Point.coord c.args.point.now)) c.known.ensures.range) c.args.root.now c.requires c.in-Leaf.t (returns-in-Leaf-clause-nearest g c)
+returns-in-Leaf-clause-not_above g c = λ whole. pruning.nearest-not-above (measured g (table g.T.Envelope.Point.Point.DIMENSIONS (g.T.Envelope.Point.Point.coord c.args.point.now)) c.known.ensures.range) c.args.root.now whole c.in-Leaf.t (returns-in-Leaf-clause-nearest g c whole)
 
 pub returns-in-Leaf-clause-distance : goal.returns-in-Leaf-clause-distance
 returns-in-Leaf-clause-distance g c =
@@ -95,14 +96,15 @@ loop-current-preserved g c =
     let q = c.in-Parent.parent in
     let us = waiting_nodes (items_of c.pop.new.self) in
     let nodes = turns.nodes-as g.T.Envelope.Envelope.boxes g.T.PointDistance.distances p value g.T.Envelope.Point.Scalar.Ord.cmp c.loop-current.heap c.pop.new.self c.in-Some.current c.loop-current.invariant.waiting c.pop.ensures.ordered c.in-Some.ensures.some (Parent q) c.in-Parent.is in
-    let turned = pruning.same-nodes g.T.Envelope.Envelope.boxes g.T.RTreeObject.object g.T.PointDistance.distances p value (elements_of c.args.root.now) (waiting_nodes (items_of c.loop-current.heap)) (Parent q ∷ us) c.loop-current.bound nodes c.loop-current.invariant.pruned in
-    let opened = pruning.pruned-parent (measured g p c.known.ensures.range) value (elements_of c.args.root.now) q us c.loop-current.bound turned in
     record {
       waiting = c.open_within-in-Parent.ensures.waiting;
-      pruned = c.in_ok-bound-in-Parent.ensures.pruned (elements_of c.args.root.now) (subst (λ l. IsPruned g.T.Envelope.Envelope.boxes g.T.RTreeObject.object g.T.PointDistance.distances p value (elements_of c.args.root.now) (us ++ l) c.loop-current.bound) (sym c.deref-in-Parent.ensures.value) opened);
+      pruned = λ whole.
+          let turned = pruning.same-nodes g.T.Envelope.Envelope.boxes g.T.RTreeObject.object g.T.PointDistance.distances p value (elements_of c.args.root.now) (waiting_nodes (items_of c.loop-current.heap)) (Parent q ∷ us) c.loop-current.bound nodes (c.loop-current.invariant.pruned whole) in
+          let opened = pruning.pruned-parent (measured g p c.known.ensures.range) value (elements_of c.args.root.now) q us c.loop-current.bound turned in
+          c.in_ok-bound-in-Parent.ensures.pruned (elements_of c.args.root.now) (subst (λ l. IsPruned g.T.Envelope.Envelope.boxes g.T.RTreeObject.object g.T.PointDistance.distances p value (elements_of c.args.root.now) (us ++ l) c.loop-current.bound) (sym c.deref-in-Parent.ensures.value) opened);
     }
 
 pub returns-clause-none : goal.returns-clause-none
-returns-clause-none g c =
+returns-clause-none g c = λ whole.
     pruning.pruned-none g.T.Envelope.Envelope.boxes g.T.RTreeObject.object g.T.PointDistance.distances (table g.T.Envelope.Point.Point.DIMENSIONS (g.T.Envelope.Point.Point.coord c.args.point.now)) g.T.Envelope.Point.Scalar.Number.value
-    (elements_of c.args.root.now) (waiting_nodes (items_of c.loop-current.heap)) c.loop-current.bound (ap waiting_nodes c.in_default.ensures.none) c.loop-current.invariant.pruned
+    (elements_of c.args.root.now) (waiting_nodes (items_of c.loop-current.heap)) c.loop-current.bound (ap waiting_nodes c.in_default.ensures.none) (c.loop-current.invariant.pruned whole)

@@ -1,5 +1,8 @@
-use Rattle.std.proofs.Common.{◌<◌, ◌++◌, [], ap, ◌∙◌, arith, append-nil, length}
+use Rattle.std.proofs.Common.{◌≡◌, ◌+◌, ◌++◌, ◌∷◌, [], ap, ◌∙◌, subst, arith, append-nil, vec_len, IfNone, IfSome}
+use Rattle.rstar.specs.declared.node.RTreeNode.{Leaf, Parent}
 use Rattle.rstar.specs.declared.node.RTreeNode.TheVariants.{outs-Parent}
+use Rattle.rstar.specs.Nodes.{IsElement}
+use Rattle.rstar.specs.Kept.{IsKeptInner}
 use Rattle.rstar.proofs.Insertion.{leaf_added, hull_grown, added, child_grown, child_at, tree_at, sized_leaf, sized_parts, sized_child, no_leaf_above, leaf_counted, parents_along, child_made}
 use Rattle.rstar.proofs.algorithm.rstar.insertion.+insert.Goals as goal
 
@@ -7,56 +10,41 @@ use Rattle.rstar.proofs.algorithm.rstar.insertion.+insert.Goals as goal
 
 pub insert_below-add_child-requires-clause-covered : goal.insert_below-add_child-requires-clause-covered
 insert_below-add_child-requires-clause-covered g t c =
-    let laws = g.met.T.Envelope.Envelope.envelope_laws in
-    let ok = g.met.T.RTreeObject.object_law in
-    let own = c.envelope-envelope.ensures.own in
-    let grown = leaf_added laws ok _ _ _ _ _ c.if-levels-eq0.true (own, c.requires.element) c.requires.below in
-    let merged = c.merge.ensures.merged ∙ ap (g.T.Envelope.Envelope.boxes.merge c.args.node.now.envelope) c.envelope-envelope.ensures.value in
-    (hull_grown laws ok _ _ _ _ _ _ _ _ c.requires.below c.requires.node.tight own merged grown.0 grown.1).1
+    let grown = leaf_added g.met.T.Envelope.Envelope.envelope_laws g.met.T.RTreeObject.object_law g.Params.RTreeParams.MAX_SIZE c.args.widest c.args.levels c.args.t c.args.node.now.children.items c.if-levels-eq0.true (c.envelope-envelope.ensures.own, c.requires.element) c.requires.below in
+    (hull_grown g.met.T.Envelope.Envelope.envelope_laws g.met.T.RTreeObject.object_law g.Params.RTreeParams.MAX_SIZE c.args.widest c.args.levels c.args.t c.args.node.now.children.items (c.args.node.now.children.items ++ Leaf c.args.t ∷ []) c.args.node.now.envelope c.merge.new.self c.requires.below c.requires.node.tight c.envelope-envelope.ensures.own (c.merge.ensures.merged ∙ ap (g.T.Envelope.Envelope.boxes.merge c.args.node.now.envelope) c.envelope-envelope.ensures.value) grown.0 grown.1).1
 
 pub insert_below-returns-then-levels-eq0-clause-bag : goal.insert_below-returns-then-levels-eq0-clause-bag
 insert_below-returns-then-levels-eq0-clause-bag g t c =
-    let laws = g.met.T.Envelope.Envelope.envelope_laws in
-    let ok = g.met.T.RTreeObject.object_law in
-    let grown = leaf_added laws ok _ _ _ _ _ c.if-levels-eq0.true (c.envelope-envelope.ensures.own, c.requires.element) c.requires.below in
-    (added laws ok _ _ _ _ _ _ _ _ grown.0 grown.1 c.add_child.ensures.same c.add_child.ensures.first c.add_child.ensures.second).0
+    let grown = leaf_added g.met.T.Envelope.Envelope.envelope_laws g.met.T.RTreeObject.object_law g.Params.RTreeParams.MAX_SIZE c.args.widest c.args.levels c.args.t c.args.node.now.children.items c.if-levels-eq0.true (c.envelope-envelope.ensures.own, c.requires.element) c.requires.below in
+    (added g.met.T.Envelope.Envelope.envelope_laws g.met.T.RTreeObject.object_law g.Params.RTreeParams.MAX_SIZE c.args.widest c.args.levels c.args.t c.args.node.now.children.items (c.args.node.now.children.items ++ Leaf c.args.t ∷ []) c.add_child.new.node c.add_child.result grown.0 grown.1 c.add_child.ensures.same c.add_child.ensures.first c.add_child.ensures.second).0
 
 pub insert_below-returns-then-levels-eq0-clause-first : goal.insert_below-returns-then-levels-eq0-clause-first
 insert_below-returns-then-levels-eq0-clause-first g t c =
-    let laws = g.met.T.Envelope.Envelope.envelope_laws in
-    let ok = g.met.T.RTreeObject.object_law in
-    let grown = leaf_added laws ok _ _ _ _ _ c.if-levels-eq0.true (c.envelope-envelope.ensures.own, c.requires.element) c.requires.below in
-    (added laws ok _ _ _ _ _ _ _ _ grown.0 grown.1 c.add_child.ensures.same c.add_child.ensures.first c.add_child.ensures.second).1
+    let grown = leaf_added g.met.T.Envelope.Envelope.envelope_laws g.met.T.RTreeObject.object_law g.Params.RTreeParams.MAX_SIZE c.args.widest c.args.levels c.args.t c.args.node.now.children.items c.if-levels-eq0.true (c.envelope-envelope.ensures.own, c.requires.element) c.requires.below in
+    (added g.met.T.Envelope.Envelope.envelope_laws g.met.T.RTreeObject.object_law g.Params.RTreeParams.MAX_SIZE c.args.widest c.args.levels c.args.t c.args.node.now.children.items (c.args.node.now.children.items ++ Leaf c.args.t ∷ []) c.add_child.new.node c.add_child.result grown.0 grown.1 c.add_child.ensures.same c.add_child.ensures.first c.add_child.ensures.second).1
 
 pub insert_below-returns-then-levels-eq0-clause-second : goal.insert_below-returns-then-levels-eq0-clause-second
 insert_below-returns-then-levels-eq0-clause-second g t c =
-    let laws = g.met.T.Envelope.Envelope.envelope_laws in
-    let ok = g.met.T.RTreeObject.object_law in
-    let grown = leaf_added laws ok _ _ _ _ _ c.if-levels-eq0.true (c.envelope-envelope.ensures.own, c.requires.element) c.requires.below in
-    (added laws ok _ _ _ _ _ _ _ _ grown.0 grown.1 c.add_child.ensures.same c.add_child.ensures.first c.add_child.ensures.second).2
+    let grown = leaf_added g.met.T.Envelope.Envelope.envelope_laws g.met.T.RTreeObject.object_law g.Params.RTreeParams.MAX_SIZE c.args.widest c.args.levels c.args.t c.args.node.now.children.items c.if-levels-eq0.true (c.envelope-envelope.ensures.own, c.requires.element) c.requires.below in
+    (added g.met.T.Envelope.Envelope.envelope_laws g.met.T.RTreeObject.object_law g.Params.RTreeParams.MAX_SIZE c.args.widest c.args.levels c.args.t c.args.node.now.children.items (c.args.node.now.children.items ++ Leaf c.args.t ∷ []) c.add_child.new.node c.add_child.result grown.0 grown.1 c.add_child.ensures.same c.add_child.ensures.first c.add_child.ensures.second).2
 
 pub insert_below-returns-then-levels-eq0-clause-sized : goal.insert_below-returns-then-levels-eq0-clause-sized
-insert_below-returns-then-levels-eq0-clause-sized g t c = λ sized.
-    let positive = g.Params.RTreeParams.min_positive in
-    let done = c.add_child.ensures in
-    sized_parts _ _ positive _ _ _ _ _ (sized_leaf _ _ positive _ _ _ c.if-levels-eq0.true sized.0) done.same sized.1
-    done.whole done.low done.first_least done.second_least done.lengths
+insert_below-returns-then-levels-eq0-clause-sized g t c =
+    λ sized. sized_parts g.Params.RTreeParams.MIN_SIZE g.Params.RTreeParams.MAX_SIZE g.Params.RTreeParams.min_positive c.args.levels (vec_len c.args.node.now.children) (c.args.node.now.children.items ++ Leaf c.args.t ∷ []) c.add_child.new.node c.add_child.result
+    (sized_leaf g.Params.RTreeParams.MIN_SIZE g.Params.RTreeParams.MAX_SIZE g.Params.RTreeParams.min_positive c.args.levels c.args.t c.args.node.now.children.items c.if-levels-eq0.true sized.0) c.add_child.ensures.same sized.1
+    c.add_child.ensures.whole c.add_child.ensures.low c.add_child.ensures.first_least c.add_child.ensures.second_least c.add_child.ensures.lengths
 
 pub insert_below-returns-in-None-clause-first : goal.insert_below-returns-in-None-clause-first
 insert_below-returns-in-None-clause-first g t c =
-    let laws = g.met.T.Envelope.Envelope.envelope_laws in
-    let ok = g.met.T.RTreeObject.object_law in
-    let merged = c.merge.ensures.merged ∙ ap (g.T.Envelope.Envelope.boxes.merge c.args.node.now.envelope) c.envelope-envelope.ensures.value in
-    let hull = hull_grown laws ok _ _ _ _ _ (c.insert_in_child.new.children.items ++ []) _ _ c.requires.below c.requires.node.tight c.envelope-envelope.ensures.own merged
-    c.in-None.ensures.bag c.in-None.ensures.below in
+    let below = rw append-nil at c.in-None.ensures.below in
+    let hull = hull_grown g.met.T.Envelope.Envelope.envelope_laws g.met.T.RTreeObject.object_law g.Params.RTreeParams.MAX_SIZE c.args.widest c.args.levels c.args.t c.args.node.now.children.items c.insert_in_child.new.children.items c.args.node.now.envelope c.merge.new.self c.requires.below c.requires.node.tight c.envelope-envelope.ensures.own (c.merge.ensures.merged ∙ ap (g.T.Envelope.Envelope.boxes.merge c.args.node.now.envelope) c.envelope-envelope.ensures.value) (rw append-nil at c.in-None.ensures.bag) below in
     let roomy = c.requires.node.roomy in
     let length = c.in-None.ensures.length in
     let capacity = c.in-None.ensures.capacity in
-    let some = c.requires.some (omega arith) in
-    let trees = rw append-nil at c.in-None.ensures.below in (
+    let some = c.requires.some (omega arith) in (
       (
         record {
-          tight = rw append-nil at hull.0;
+          tight = hull.0;
           roomy = record {
             narrow = omega (arith, c.insert_in_child.new.children.ok.0, c.args.node.now.children.ok.0);
             room = (omega arith, omega arith);
@@ -64,34 +52,24 @@ insert_below-returns-in-None-clause-first g t c =
         },
         omega (arith, c.insert_in_child.new.children.ok.0),
       ),
-      trees,
+      below,
     )
 
 pub insert_below-add_child-requires-in-Some-clause-covered : goal.insert_below-add_child-requires-in-Some-clause-covered
 insert_below-add_child-requires-in-Some-clause-covered g t c =
-    let laws = g.met.T.Envelope.Envelope.envelope_laws in
-    let ok = g.met.T.RTreeObject.object_law in
-    let merged = c.merge.ensures.merged ∙ ap (g.T.Envelope.Envelope.boxes.merge c.args.node.now.envelope) c.envelope-envelope.ensures.value in
-    (hull_grown laws ok _ _ _ _ _ _ _ _ c.requires.below c.requires.node.tight c.envelope-envelope.ensures.own merged
-    c.in-Some.ensures.bag c.in-Some.ensures.below).1
+    (hull_grown g.met.T.Envelope.Envelope.envelope_laws g.met.T.RTreeObject.object_law g.Params.RTreeParams.MAX_SIZE c.args.widest c.args.levels c.args.t c.args.node.now.children.items (c.insert_in_child.new.children.items ++ Parent c.in-Some.second ∷ []) c.args.node.now.envelope c.merge.new.self c.requires.below c.requires.node.tight c.envelope-envelope.ensures.own (c.merge.ensures.merged ∙ ap (g.T.Envelope.Envelope.boxes.merge c.args.node.now.envelope) c.envelope-envelope.ensures.value) c.in-Some.ensures.bag c.in-Some.ensures.below).1
 
 pub insert_below-returns-clause-bag : goal.insert_below-returns-clause-bag
 insert_below-returns-clause-bag g t c =
-    let grown = c.in-Some.ensures in
-    let done = c.add_child-in-Some.ensures in
-    (added g.met.T.Envelope.Envelope.envelope_laws g.met.T.RTreeObject.object_law _ _ _ _ _ _ _ _ grown.bag grown.below done.same done.first done.second).0
+    (added g.met.T.Envelope.Envelope.envelope_laws g.met.T.RTreeObject.object_law g.Params.RTreeParams.MAX_SIZE c.args.widest c.args.levels c.args.t c.args.node.now.children.items (c.insert_in_child.new.children.items ++ Parent c.in-Some.second ∷ []) c.add_child-in-Some.new.node c.add_child-in-Some.result c.in-Some.ensures.bag c.in-Some.ensures.below c.add_child-in-Some.ensures.same c.add_child-in-Some.ensures.first c.add_child-in-Some.ensures.second).0
 
 pub insert_below-returns-clause-first : goal.insert_below-returns-clause-first
 insert_below-returns-clause-first g t c =
-    let grown = c.in-Some.ensures in
-    let done = c.add_child-in-Some.ensures in
-    (added g.met.T.Envelope.Envelope.envelope_laws g.met.T.RTreeObject.object_law _ _ _ _ _ _ _ _ grown.bag grown.below done.same done.first done.second).1
+    (added g.met.T.Envelope.Envelope.envelope_laws g.met.T.RTreeObject.object_law g.Params.RTreeParams.MAX_SIZE c.args.widest c.args.levels c.args.t c.args.node.now.children.items (c.insert_in_child.new.children.items ++ Parent c.in-Some.second ∷ []) c.add_child-in-Some.new.node c.add_child-in-Some.result c.in-Some.ensures.bag c.in-Some.ensures.below c.add_child-in-Some.ensures.same c.add_child-in-Some.ensures.first c.add_child-in-Some.ensures.second).1
 
 pub insert_below-returns-clause-second : goal.insert_below-returns-clause-second
 insert_below-returns-clause-second g t c =
-    let grown = c.in-Some.ensures in
-    let done = c.add_child-in-Some.ensures in
-    (added g.met.T.Envelope.Envelope.envelope_laws g.met.T.RTreeObject.object_law _ _ _ _ _ _ _ _ grown.bag grown.below done.same done.first done.second).2
+    (added g.met.T.Envelope.Envelope.envelope_laws g.met.T.RTreeObject.object_law g.Params.RTreeParams.MAX_SIZE c.args.widest c.args.levels c.args.t c.args.node.now.children.items (c.insert_in_child.new.children.items ++ Parent c.in-Some.second ∷ []) c.add_child-in-Some.new.node c.add_child-in-Some.result c.in-Some.ensures.bag c.in-Some.ensures.below c.add_child-in-Some.ensures.same c.add_child-in-Some.ensures.first c.add_child-in-Some.ensures.second).2
 
 pub insert_below-returns-in-None-clause-sized : goal.insert_below-returns-in-None-clause-sized
 insert_below-returns-in-None-clause-sized g t c =
@@ -104,11 +82,11 @@ insert_below-returns-in-None-clause-sized g t c =
     }
 
 pub insert_below-returns-clause-sized : goal.insert_below-returns-clause-sized
-insert_below-returns-clause-sized g t c = λ sized.
-    let done = c.add_child-in-Some.ensures in
-    sized_parts _ _ g.Params.RTreeParams.min_positive _ _ _ _ _ (c.in-Some.ensures.sized sized.0) done.same sized.1
-    (rw c.in-Some.ensures.length at done.whole) done.low done.first_least done.second_least
-    (rw c.in-Some.ensures.length at done.lengths)
+insert_below-returns-clause-sized g t c =
+    λ sized. sized_parts g.Params.RTreeParams.MIN_SIZE g.Params.RTreeParams.MAX_SIZE g.Params.RTreeParams.min_positive c.args.levels (vec_len c.args.node.now.children) (c.insert_in_child.new.children.items ++ Parent c.in-Some.second ∷ []) c.add_child-in-Some.new.node c.add_child-in-Some.result
+    (c.in-Some.ensures.sized sized.0) c.add_child-in-Some.ensures.same sized.1
+    (subst (λ n. IfNone c.add_child-in-Some.result (vec_len c.add_child-in-Some.new.node.children ≡ n + 1)) c.in-Some.ensures.length c.add_child-in-Some.ensures.whole) c.add_child-in-Some.ensures.low c.add_child-in-Some.ensures.first_least c.add_child-in-Some.ensures.second_least
+    (subst (λ n. IfSome c.add_child-in-Some.result (λ q. vec_len c.add_child-in-Some.new.node.children + vec_len q.children ≡ n + 1)) c.in-Some.ensures.length c.add_child-in-Some.ensures.lengths)
 
 pub insert_below-returns-then-levels-eq0-clause-made : goal.insert_below-returns-then-levels-eq0-clause-made
 insert_below-returns-then-levels-eq0-clause-made g t c =
@@ -117,7 +95,8 @@ insert_below-returns-then-levels-eq0-clause-made g t c =
     omega (arith, same, leaf, c.add_child.ensures.used)
 
 pub insert_below-returns-in-None-clause-made : goal.insert_below-returns-in-None-clause-made
-insert_below-returns-in-None-clause-made g t c = omega (arith, c.in-None.ensures.made)
+insert_below-returns-in-None-clause-made g t c =
+    omega (arith, c.in-None.ensures.made)
 
 pub insert_below-returns-clause-made : goal.insert_below-returns-clause-made
 insert_below-returns-clause-made g t c =
@@ -128,41 +107,33 @@ insert_below-returns-clause-made g t c =
 
 pub insert_in_child-insert_below-requires : goal.insert_in_child-insert_below-requires
 insert_in_child-insert_below-requires g t c κs within =
-    let here : c.args.index < length c.args.children.now.items = omega (arith, c.args.children.now.ok.0) in
-    let tree = child_at _ _ _ _ _ _ here (rw c.in-Parent.is at c.index_mut.ensures.value) c.requires.below in
-    let at = tree_at _ _ _ _ c.requires.above tree in
+    let tree = child_at (IsKeptInner g.T.Envelope.Envelope.boxes g.T.RTreeObject.object g.Params.RTreeParams.MAX_SIZE c.args.widest) (IsElement g.T.Envelope.Envelope.boxes g.T.RTreeObject.object) c.args.levels c.args.children.now.items c.args.index (Parent c.in-Parent.child) (omega (arith, c.args.children.now.ok.0)) (rw c.in-Parent.is at c.index_mut.ensures.value) c.requires.below in
+    let at = tree_at (IsKeptInner g.T.Envelope.Envelope.boxes g.T.RTreeObject.object g.Params.RTreeParams.MAX_SIZE c.args.widest) (IsElement g.T.Envelope.Envelope.boxes g.T.RTreeObject.object) c.args.levels c.in-Parent.child c.requires.above tree in
     rw c.in-Parent.child-is (omega arith, (within.0, (within.1.0, (within.1.1.0, (within.1.1.1.0, (within.1.1.1.1.0, (within.1.1.1.1.1, (at.0.0, (at.1, (λ _. omega (arith, at.0.1, c.in-Parent.child.children.ok.0), (c.requires.element, (c.requires.wide, (c.requires.spares, omega arith)))))))))))))
 
 pub insert_in_child-unreachable-requires : goal.insert_in_child-unreachable-requires
 insert_in_child-unreachable-requires g t c =
-    let within : c.args.index < length c.args.children.now.items = omega (arith, c.args.children.now.ok.0) in
-    no_leaf_above _ _ _ _ c.requires.above
-    (child_at _ _ _ _ _ _ within (rw c.in-Leaf.is at c.index_mut.ensures.value) c.requires.below)
+    no_leaf_above (IsKeptInner g.T.Envelope.Envelope.boxes g.T.RTreeObject.object g.Params.RTreeParams.MAX_SIZE c.args.widest) (IsElement g.T.Envelope.Envelope.boxes g.T.RTreeObject.object) c.args.levels c.in-Leaf.field-0 c.requires.above
+    (child_at (IsKeptInner g.T.Envelope.Envelope.boxes g.T.RTreeObject.object g.Params.RTreeParams.MAX_SIZE c.args.widest) (IsElement g.T.Envelope.Envelope.boxes g.T.RTreeObject.object) c.args.levels c.args.children.now.items c.args.index (Leaf c.in-Leaf.field-0) (omega (arith, c.args.children.now.ok.0)) (rw c.in-Leaf.is at c.index_mut.ensures.value) c.requires.below)
 
 pub insert_in_child-returns-clause-bag : goal.insert_in_child-returns-clause-bag
 insert_in_child-returns-clause-bag g t c =
-    let within : c.args.index < length c.args.children.now.items = omega (arith, c.args.children.now.ok.0) in
-    let grown = child_grown g.met.T.Envelope.Envelope.envelope_laws g.met.T.RTreeObject.object_law _ _ _ _ _ _ _ _ _ c.requires.above
-    within (rw c.in-Parent.is at c.index_mut.ensures.value) c.requires.below
+    let grown = child_grown g.met.T.Envelope.Envelope.envelope_laws g.met.T.RTreeObject.object_law g.Params.RTreeParams.MAX_SIZE c.args.widest c.args.levels c.args.t c.args.children.now.items c.args.index c.in-Parent.child c.insert_below.new.node c.insert_below.result c.requires.above (omega (arith, c.args.children.now.ok.0)) (rw c.in-Parent.is at c.index_mut.ensures.value) c.requires.below
     (rw c.in-Parent.child-is at c.insert_below.ensures.bag) c.insert_below.ensures.first c.insert_below.ensures.second in
     simp (c.in-Parent.is, outs-Parent) grown.0
 
 pub insert_in_child-returns-clause-below : goal.insert_in_child-returns-clause-below
 insert_in_child-returns-clause-below g t c =
-    let within : c.args.index < length c.args.children.now.items = omega (arith, c.args.children.now.ok.0) in
-    let grown = child_grown g.met.T.Envelope.Envelope.envelope_laws g.met.T.RTreeObject.object_law _ _ _ _ _ _ _ _ _ c.requires.above
-    within (rw c.in-Parent.is at c.index_mut.ensures.value) c.requires.below
+    let grown = child_grown g.met.T.Envelope.Envelope.envelope_laws g.met.T.RTreeObject.object_law g.Params.RTreeParams.MAX_SIZE c.args.widest c.args.levels c.args.t c.args.children.now.items c.args.index c.in-Parent.child c.insert_below.new.node c.insert_below.result c.requires.above (omega (arith, c.args.children.now.ok.0)) (rw c.in-Parent.is at c.index_mut.ensures.value) c.requires.below
     (rw c.in-Parent.child-is at c.insert_below.ensures.bag) c.insert_below.ensures.first c.insert_below.ensures.second in
     simp (c.in-Parent.is, outs-Parent) grown.1
 
 pub insert_in_child-returns-clause-sized : goal.insert_in_child-returns-clause-sized
 insert_in_child-returns-clause-sized g t c =
-    let within : c.args.index < length c.args.children.now.items = omega (arith, c.args.children.now.ok.0) in
-    simp (c.in-Parent.is, outs-Parent) (λ trees. sized_child _ _ g.Params.RTreeParams.min_positive _ _ _ _ _ _ c.requires.above
-    within (rw c.in-Parent.is at c.index_mut.ensures.value) trees
-    (λ below few. (rw c.in-Parent.child-is at c.insert_below.ensures.sized) (below, few)))
+    simp (c.in-Parent.is, outs-Parent) (λ trees. sized_child g.Params.RTreeParams.MIN_SIZE g.Params.RTreeParams.MAX_SIZE g.Params.RTreeParams.min_positive c.args.levels c.args.children.now.items c.args.index c.in-Parent.child c.insert_below.new.node c.insert_below.result c.requires.above
+    (omega (arith, c.args.children.now.ok.0)) (rw c.in-Parent.is at c.index_mut.ensures.value) trees (λ below few. (rw c.in-Parent.child-is at c.insert_below.ensures.sized) (below, few)))
 
 pub insert_in_child-returns-clause-made : goal.insert_in_child-returns-clause-made
 insert_in_child-returns-clause-made g t c =
-    let within : c.args.index < length c.args.children.now.items = omega (arith, c.args.children.now.ok.0) in
-    simp (c.in-Parent.is, outs-Parent) (child_made _ _ _ _ _ _ _ within (rw c.in-Parent.is at c.index_mut.ensures.value) (rw c.in-Parent.child-is at c.insert_below.ensures.made))
+    simp (c.in-Parent.is, outs-Parent) (child_made c.args.children.now.items c.args.index c.in-Parent.child c.insert_below.new.node c.insert_below.result (vec_len c.args.spares.now) (vec_len c.insert_below.new.spares)
+    (omega (arith, c.args.children.now.ok.0)) (rw c.in-Parent.is at c.index_mut.ensures.value) (rw c.in-Parent.child-is at c.insert_below.ensures.made))

@@ -3,20 +3,29 @@ use Rattle.std.specs.List.{AllByRecursion}
 use Rattle.std.proofs.lemmas.List.Sorted.{IsPermutation-trans}
 use Rattle.rstar.specs.Heights.{spare_lists}
 use Rattle.rstar.specs.Kept.{IsSpare}
-use Rattle.rstar_base.proofs.Lists.{all-append, all_second}
-use Rattle.rstar.proofs.Reinsertion.{enough_again}
+use Rattle.rstar_base.proofs.Lists.{all-append, all_first, all_second}
+use Rattle.rstar.proofs.Reinsertion.{enough_again, some_spare}
 use Rattle.rstar.proofs.algorithm.rstar.reinsertion.insert_with_reinsertion.Goals as goal
+
+pub take_last-handed-requires : goal.take_last-handed-requires
+take_last-handed-requires g c = some_spare g.Params.RTreeParams.REINSERTION_COUNT (1 + c.args.levels) (vec_len c.args.spares.now) c.requires.enough
+
+pub insert_first-requires-clause-spare : goal.insert_first-requires-clause-spare
+insert_first-requires-clause-spare g c = (all_second (IsSpare c.args.widest) c.take_last-handed.new.self.items (c.take_last-handed.result ∷ []) (subst (AllByRecursion (IsSpare c.args.widest)) c.take_last-handed.ensures.items c.requires.spares)).0
+
+pub insert_again-grown-requires-clause-spares : goal.insert_again-grown-requires-clause-spares
+insert_again-grown-requires-clause-spares g c = all_first (IsSpare c.args.widest) c.take_last-handed.new.self.items (c.take_last-handed.result ∷ []) (subst (AllByRecursion (IsSpare c.args.widest)) c.take_last-handed.ensures.items c.requires.spares)
 
 pub insert_again-grown-requires-clause-enough : goal.insert_again-grown-requires-clause-enough
 insert_again-grown-requires-clause-enough g c =
-    let len : vec_len c.args.spares.now ≡ vec_len c.pop.new.self + 1 = omega (arith, c.in-Some.ensures.len) in
-    enough_again g.Params.RTreeParams.REINSERTION_COUNT c.args.levels (vec_len c.insert_first.new.handed) (vec_len c.pop.new.self) (omega arith) c.insert_first.ensures.count
+    let len : vec_len c.args.spares.now ≡ vec_len c.take_last-handed.new.self + 1 = omega (arith, c.take_last-handed.ensures.len) in
+    enough_again g.Params.RTreeParams.REINSERTION_COUNT c.args.levels (vec_len c.insert_first.new.handed) (vec_len c.take_last-handed.new.self) (omega arith) c.insert_first.ensures.count
     (subst (λ n. spare_lists g.Params.RTreeParams.REINSERTION_COUNT (1 + c.args.levels) ≤ n) len c.requires.enough)
 
 pub push_reserved-requires : goal.push_reserved-requires
 push_reserved-requires g c =
-    let popped = c.in-Some.ensures.len in
-    let same = c.in-Some.ensures.capacity in
+    let popped = c.take_last-handed.ensures.len in
+    let same = c.take_last-handed.ensures.capacity in
     let fewer = c.insert_again-grown.ensures.fewer in
     let places = c.insert_again-grown.ensures.places in
     omega (arith, popped, same, fewer, places, c.args.spares.now.ok)
@@ -24,9 +33,15 @@ push_reserved-requires g c =
 pub returns-clause-bag : goal.returns-clause-bag
 returns-clause-bag g c = IsPermutation-trans _ _ _ c.insert_first.ensures.bag c.insert_again-grown.ensures.bag
 
+pub returns-clause-sized : goal.returns-clause-sized
+returns-clause-sized g c = λ sized.
+    let after = c.insert_first.ensures.sized sized in
+    let most = after.most in
+    c.insert_again-grown.ensures.sized (after.below, omega (arith, most, c.insert_first.new.node.children.ok.0))
+
 pub returns-clause-spares : goal.returns-clause-spares
 returns-clause-spares g c =
-    let spare = (all_second (IsSpare c.args.widest) c.pop.new.self.items (c.in-Some.handed ∷ []) (subst (AllByRecursion (IsSpare c.args.widest)) c.in-Some.ensures.items c.requires.spares)).0 in
+    let spare = (all_second (IsSpare c.args.widest) c.take_last-handed.new.self.items (c.take_last-handed.result ∷ []) (subst (AllByRecursion (IsSpare c.args.widest)) c.take_last-handed.ensures.items c.requires.spares)).0 in
     let first = c.insert_first.ensures.capacity in
     let again = c.insert_again-grown.ensures.capacity in
     rw c.push_reserved.ensures.items (all-append (IsSpare c.args.widest) c.insert_again-grown.new.spares.items (c.insert_again-grown.new.handed ∷ []) c.insert_again-grown.ensures.spares
@@ -34,7 +49,7 @@ returns-clause-spares g c =
 
 pub returns-clause-made : goal.returns-clause-made
 returns-clause-made g c =
-    let popped = c.in-Some.ensures.len in
+    let popped = c.take_last-handed.ensures.len in
     let first = c.insert_first.ensures.parents in
     let again = c.insert_again-grown.ensures.made in
     omega (arith, popped, first, again, c.push_reserved.ensures.len)

@@ -39,18 +39,6 @@ returns-then-is_empty-2 g c =
       over = tt;
     }
 
-pub marks_of-self-requires : goal.marks_of-self-requires
-marks_of-self-requires g c =
-    let meets = meets_by g.T.Envelope.Envelope.boxes g.U.InEnvelope.seen in
-    let left_box = g.T.RTreeObject.object.box_of in
-    let right_box = g.U.RTreeObject.object.box_of in
-    let self = c.args.self.now in
-    let k = rows_beside self.rights.now in
-    let parts = parts-are k self.lefts.now c.split_at.result.0.now c.split_at.result.1.now c.split_at.ensures.by_index.0 (c.split_at.ensures.front_len ∙ c.min-rows.ensures ∙ ap (min (length self.lefts.now)) c.rows_beside.ensures) in
-    let frame = last-frame meets left_box right_box self.path.capacity self.path.items (in_hand self) c.requires.frames in
-    let fits = block-fits self.rights.now self.later.now c.split_at-2.result.0.now c.split_at-2.result.1.now self.lefts.now frame.1.no_more c.split_at-2.ensures.by_index.0 (c.split_at-2.ensures.front_len ∙ c.min.ensures) in
-    subst (λ b. length b * length c.split_at-2.result.0.now ≤ 64) (sym parts.0) fits.0
-
 pub returns : goal.returns
 returns g c =
     let meets = meets_by g.T.Envelope.Envelope.boxes g.U.InEnvelope.seen in
@@ -66,7 +54,8 @@ returns g c =
     let fits = block-fits self.rights.now self.later.now chunk.now c.split_at-2.result.1.now self.lefts.now frame.1.no_more c.split_at-2.ensures.by_index.0 (c.split_at-2.ensures.front_len ∙ c.min.ensures) in
     let lefts : 0 < length self.lefts.now = grind (arith, nat_tests, c.is_empty.ensures, c.if-is_empty.false) in
     let some : 0 < length chunk.now = grind (arith, nat_tests, c.is_empty-2.ensures, c.if-is_empty-2.false, c.min.ensures, c.split_at-2.ensures.front_len) in
-    let made = subst (λ b. marked c.marks_of-self.result (product b chunk.now) ≡ filter (meets_pair meets left_box right_box) (product b chunk.now)) parts.0 c.marks_of-self.ensures in
+    let few = subst (λ b. length b * length chunk.now ≤ 64) (sym parts.0) fits.0 in
+    let made = subst (λ b. marked c.marks_of-self.result (product b chunk.now) ≡ filter (meets_pair meets left_box right_box) (product b chunk.now)) parts.0 (c.marks_of-self.ensures few) in
     let move = move-ask meets left_box right_box self.lefts self.asked self.later chunk c.split_at-2.result.1 self.rights self.marks c.marks_of-self.result none c.split_at-2.ensures.by_index.0 some
     (block-some self.rights.now self.lefts.now lefts) fits.1 made in
     record {

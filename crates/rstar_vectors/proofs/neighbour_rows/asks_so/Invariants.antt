@@ -1,0 +1,6 @@
+use Rattle.rstar.specs.Neighbors.{with_distances, IsSearching}
+use Rattle.rstar_base.specs.Elements.{carried_objects, carried_distances}
+use Rattle.rstar_vectors.proofs.neighbour_rows.asks_so.Given as goal
+
+abbrev pub invariant-loop-row : goal.invariant-loop-row
+invariant-loop-row g l = IsSearching g.T.Envelope.Envelope.boxes (carried_objects g.T.RTreeObject.object (λ n. n.inner)) (carried_distances g.T.PointDistance.distances (λ n. n.inner)) g.T.Envelope.Point.Point.DIMENSIONS g.T.Envelope.Point.Point.coord g.T.Envelope.Point.Scalar.Ord.cmp g.T.Envelope.Point.Scalar.Number.value (with_distances l.neighbors)

@@ -1,0 +1,189 @@
+//! Steps that tests of every subject share: trees made of a list of elements, and whether a tree stands.
+//!
+//! What is done to a tree is generic, a test gives it elements: what is proved once for all types is cheap, the same
+//! steps at a concrete type are dear.
+
+ghost use Rattle.std.specs.Prelude.{◌≤◌, IsTrue, IfOk, IfSome};
+ghost use Rattle.rstar.specs.Loaded.{NoneEmpty};
+ghost use Rattle.rstar.specs.Trees.{IsWholeTree};
+
+use rstar::node::{ParentNode, RTreeNode};
+use rstar::{Envelope, Point, RTree, RTreeObject, RTreeParams};
+use std::alloc::{AllocError, Global};
+
+/// Small nodes, of which one child goes in again.
+pub(crate) struct Small;
+
+impl RTreeParams for Small {
+    ghost use Rattle.std.proofs.Common.{arith};
+
+    ghost MIN_SIZE = { 2 };
+
+    ghost MAX_SIZE = { 4 };
+
+    ghost REINSERTION_COUNT = { 1 };
+
+    const MIN_SIZE: usize = 2;
+
+    const MAX_SIZE: usize = 4;
+
+    const REINSERTION_COUNT: usize = 1;
+
+    ghost max_at_least_four = { Prim.omega arith };
+
+    ghost max_fits = { Prim.omega arith };
+
+    ghost min_positive = { Prim.omega arith };
+
+    ghost min_at_most_half = { Prim.omega arith };
+
+    ghost reinsertion_leaves = { Prim.omega arith };
+}
+
+/// Seven points in two groups on a line, which lie under two parents.
+pub(crate) const ALONG_A_LINE: [[i32; 2]; 7] = [
+    [0, 0],
+    [1, 0],
+    [2, 0],
+    [100, 0],
+    [101, 0],
+    [102, 0],
+    [103, 0],
+];
+
+/// Points, each on a line that wraps around in both coordinates: a thousand of them differ.
+pub(crate) fn points(alloc: Global, count: usize) -> Result<Vec<[i32; 2]>, AllocError> {
+    let mut points = Vec::new(alloc);
+    for i in 0..count {
+        let near = i % 1000;
+        points.push([((37 * near) % 101) as i32, ((53 * near) % 103) as i32])?;
+    }
+    Ok(points)
+}
+
+/// A tree of these elements, inserted in this order; none where one is refused, or has an empty envelope.
+pub(crate) fn inserted<T: RTreeObject + Copy, Params: RTreeParams>(
+    alloc: Global,
+    elements: &[T],
+) -> Option<RTree<T, Params>>
+    ensures { IfSome result (IsWholeTree T.Envelope.boxes T.object Params.MAX_SIZE) }
+{
+    let mut tree = RTree::default(alloc);
+    for element in elements {
+        if element.envelope().is_empty() || tree.insert(*element).is_err() {
+            return None;
+        }
+    }
+    Some(tree)
+}
+
+/// The same of elements that are moved into the tree.
+pub(crate) fn planted<T: RTreeObject, Params: RTreeParams>(
+    elements: Vec<T>,
+) -> Option<RTree<T, Params>>
+    ensures { IfSome result (IsWholeTree T.Envelope.boxes T.object Params.MAX_SIZE) }
+{
+    let mut tree = RTree::default(*elements.allocator());
+    for element in elements {
+        if element.envelope().is_empty() || tree.insert(element).is_err() {
+            return None;
+        }
+    }
+    Some(tree)
+}
+
+/// Whether no element has an empty envelope, as loads ask.
+pub(crate) fn none_empty<T: RTreeObject>(elements: &[T]) -> bool
+    ensures { IsTrue result → NoneEmpty T.Envelope.boxes T.object elements.now }
+{
+    for element in elements {
+        if element.envelope().is_empty() {
+            return false;
+        }
+    }
+    true
+}
+
+/// A tree of elements, loaded, none of them with an empty envelope; an empty one else.
+pub(crate) fn loaded<T: RTreeObject, Params: RTreeParams>(
+    elements: Vec<T>,
+) -> Result<RTree<T, Params>, AllocError>
+    requires { 2 ≤ T.Envelope.Point.DIMENSIONS }
+    ensures { IfOk result (IsWholeTree T.Envelope.boxes T.object Params.MAX_SIZE) }
+{
+    let alloc = *elements.allocator();
+    if none_empty(&elements) {
+        RTree::bulk_load_with_params(elements)
+    } else {
+        Ok(RTree::default(alloc))
+    }
+}
+
+/// The levels of parents below a root, down to the first leaf.
+pub(crate) fn levels_of<T: RTreeObject>(root: &ParentNode<T>) -> usize {
+    let mut nodes = root.children();
+    for levels in 0..64 {
+        match nodes.first() {
+            Some(RTreeNode::Parent(parent)) => nodes = parent.children(),
+            _ => return levels,
+        }
+    }
+    64
+}
+
+/// The merge of the envelopes of the elements below some nodes, and how many they are: none where an element does not
+/// lie `levels` levels below them, or a parent keeps another envelope than that merge of its own, or has fewer children
+/// than `least` or more than `most`.
+fn merge_below<T: RTreeObject>(
+    nodes: &[RTreeNode<T>],
+    levels: usize,
+    least: usize,
+    most: usize,
+) -> Option<(T::Envelope, usize)> {
+    let mut all = T::Envelope::new_empty();
+    let mut count = 0usize;
+    for node in nodes {
+        let (own, held) = match node {
+            RTreeNode::Leaf(element) => {
+                if levels != 0 {
+                    return None;
+                }
+                (element.envelope(), 1)
+            }
+            RTreeNode::Parent(parent) => {
+                let children = parent.children();
+                if levels == 0 || children.len() < least || most < children.len() {
+                    return None;
+                }
+                merge_below(children, levels - 1, least, most)?
+            }
+        };
+        if node.envelope() != own {
+            return None;
+        }
+        all.merge(&own);
+        count = count.saturating_add(held);
+    }
+    Some((all, count))
+}
+
+/// Whether all elements lie on one level, `size` counts them, each envelope is the merge of those of the elements below
+/// it, and each parent has from `least` to `most` children, the root at most `most`.
+pub(crate) fn stands_within<T: RTreeObject, Params: RTreeParams>(
+    tree: &RTree<T, Params>,
+    least: usize,
+    most: usize,
+) -> bool {
+    let root = tree.root();
+    match merge_below(root.children(), levels_of(root), least, most) {
+        Some((all, count)) => {
+            root.children().len() <= most && *root.envelope() == all && count == tree.size()
+        }
+        None => false,
+    }
+}
+
+/// The same where a parent has one child or any more.
+pub(crate) fn stands<T: RTreeObject, Params: RTreeParams>(tree: &RTree<T, Params>) -> bool {
+    stands_within(tree, 1, usize::MAX)
+}
