@@ -2,6 +2,7 @@
 
 ghost use Rattle.std.specs.Prelude.{IfOk};
 ghost use Rattle.rstar_base.specs.Points.{table};
+ghost use Rattle.rstar.specs.Closed.{Holds};
 ghost use Rattle.rstar.specs.Clones.{ClonesEqual};
 ghost use Rattle.rstar.specs.Nodes.{elements_of, IsWhole};
 ghost use Rattle.rstar.specs.Steps.{AreFirst};
@@ -21,7 +22,7 @@ pub(crate) fn first_nearest<T: PointDistance + Clone>(
     most: usize,
     room: usize,
 ) -> Result<Vec<(T, Distance<T>)>, AllocError>
-    requires whole { IsWhole T.Envelope.boxes T.object root.now }
+    requires whole { Holds (λ n. IsWhole T.Envelope.boxes T.object n) root.now }
     requires clones { ClonesEqual T.is_clone }
     ensures { IfOk result (λ found. AreFirst (λ t. T.distances.distance_2 t
         (table T.Envelope.Point.DIMENSIONS (T.Envelope.Point.coord point.now))) T.Envelope.Point.Scalar.value most

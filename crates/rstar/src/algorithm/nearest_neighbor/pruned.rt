@@ -4,6 +4,7 @@ ghost use Rattle.std.specs.Prelude.{◌≡◌, ◌≤◌, ◌+◌, ◌++◌, [],
 ghost use Rattle.std.specs.Int.{int_min};
 ghost use Rattle.rstar_base.specs.Points.{table, IsPoint};
 ghost use Rattle.rstar_base.specs.SmallHeaps.{items_of};
+ghost use Rattle.rstar.specs.Closed.{Holds};
 ghost use Rattle.rstar.specs.declared.node.RTreeNode.{RTreeNode};
 ghost use Rattle.rstar.specs.Neighbors.{IsNearest};
 ghost use Rattle.rstar.specs.Nodes.{all_parents, elements_of, envelope_of, parents, node_box, IsWhole};
@@ -141,9 +142,9 @@ fn open_within<'a, T: PointDistance>(
 ) -> Result<Option<Distance<T>>, AllocError>
     requires point { IsPoint T.Envelope.Point.Scalar.low T.Envelope.Point.Scalar.high T.Envelope.Point.DIMENSIONS
         (table T.Envelope.Point.DIMENSIONS (T.Envelope.Point.coord point.now)) }
-    requires waiting { AreWaiting T.Envelope.boxes T.distances
+    requires waiting { Holds (λ h. AreWaiting T.Envelope.boxes T.distances
         (table T.Envelope.Point.DIMENSIONS (T.Envelope.Point.coord point.now)) T.Envelope.Point.Scalar.cmp
-        T.Envelope.Point.Scalar.value heap.old }
+        T.Envelope.Point.Scalar.value h) heap.old }
     ensures waiting { AreWaiting T.Envelope.boxes T.distances
         (table T.Envelope.Point.DIMENSIONS (T.Envelope.Point.coord point.now)) T.Envelope.Point.Scalar.cmp
         T.Envelope.Point.Scalar.value heap.new }

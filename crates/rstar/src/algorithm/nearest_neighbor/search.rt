@@ -8,6 +8,7 @@ ghost use Rattle.std.specs.Prelude.{◌≡◌, ◌<◌, ◌≤◌, ◌∷◌, �
 ghost use Rattle.std.specs.List.Sorted.{IsPermutation};
 ghost use Rattle.rstar_base.specs.Points.{table};
 ghost use Rattle.rstar_base.specs.SmallHeaps.{items_of};
+ghost use Rattle.rstar.specs.Closed.{Holds};
 ghost use Rattle.rstar.specs.declared.node.RTreeNode.{Parent};
 ghost use Rattle.rstar.specs.declared.algorithm.nearest_neighbor.search.Stage.TheVariants.{Fresh, Running, Ended};
 ghost use Rattle.rstar.specs.Nodes.{all_elements, all_parents, IsWhole};
@@ -222,9 +223,9 @@ impl<'a, T: PointDistance> NeighborSearch<'a, T> {
 
     /// Opens the nearest waiting parents until an element is nearest.
     fn advance(&mut self, point: &PointOf<T>) -> Result<Option<(&'a T, Distance<T>)>, AllocError>
-        requires { IsRunning T.Envelope.boxes T.distances
+        requires { Holds (λ s. IsRunning T.Envelope.boxes T.distances
             (table T.Envelope.Point.DIMENSIONS (T.Envelope.Point.coord point.now)) T.Envelope.Point.Scalar.cmp
-            T.Envelope.Point.Scalar.value T.object self.old.root.now self.old.heap self.old.opened }
+            T.Envelope.Point.Scalar.value T.object s.root.now s.heap s.opened) self.old }
         ensures root { self.new.root ≡ self.old.root }
         ensures stage { self.new.stage ≡ self.old.stage }
         ensures running { OnOk result (IsRunning T.Envelope.boxes T.distances

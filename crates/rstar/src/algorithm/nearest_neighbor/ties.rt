@@ -2,6 +2,7 @@
 
 ghost use Rattle.std.specs.Prelude.{◌≡◌, ℕ, List, [], pos, map, IfOk, IfSome, IfNone, OnOk};
 ghost use Rattle.rstar_base.specs.Points.{table};
+ghost use Rattle.rstar.specs.Closed.{Holds};
 ghost use Rattle.rstar.specs.Neighbors.{AreNearest};
 ghost use Rattle.rstar.specs.Nodes.{all_elements, elements_of, IsWhole};
 ghost use Rattle.rstar.specs.Searches.{waiting_of, IsReady, IsUnrefused};
@@ -19,7 +20,7 @@ pub(crate) fn all_nearest<'a, T: PointDistance>(
     root: &'a ParentNode<T>,
     point: &PointOf<T>,
 ) -> Result<Option<(Vec<&'a T>, Distance<T>)>, AllocError>
-    requires { IsWhole T.Envelope.boxes T.object root.now }
+    requires { Holds (λ n. IsWhole T.Envelope.boxes T.object n) root.now }
     ensures none { IfOk result (λ r. IfNone r (elements_of root.now ≡ [])) }
     ensures nearest { IfOk result (λ r. IfSome r (λ x. (d : ℕ) × (T.Envelope.Point.Scalar.value x.1 ≡ pos d)
         × AreNearest (λ t. T.distances.distance_2 t

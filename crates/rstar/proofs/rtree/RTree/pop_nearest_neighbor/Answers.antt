@@ -2,14 +2,15 @@ use Rattle.std.proofs.Common.{pos, true, ◌≡◌, IfSome, IfNone, subst}
 use Rattle.rstar_base.specs.Points.{table}
 use Rattle.rstar.specs.Neighbors.{IsNearest}
 use Rattle.rstar.specs.Removals.{NoneSelected}
-use Rattle.rstar.specs.Trees.{elements_in}
+use Rattle.rstar.specs.Trees.{elements_in, IsWholeTree}
 use Rattle.rstar.proofs.Popped.{popped-nearest, popped-some}
 use Rattle.rstar.proofs.Removed.{none_when}
 use Rattle.rstar.proofs.rtree.RTree.pop_nearest_neighbor.Given.{Over}
 use Rattle.rstar.proofs.rtree.RTree.pop_nearest_neighbor.Goals as goal
 
 near : (g : Over) (c : goal.After-remove_with_selection_function g) → IsNearest (λ t. g.T.PointDistance.distances.distance_2 t (table g.T.Envelope.Point.Point.DIMENSIONS (g.T.Envelope.Point.Point.coord c.args.point))) (elements_in c.args.self.now) c.in-Some.found.0.now
-near g c = rw c.in-Some.is at c.in_ok-found.ensures.nearest
+unfolding IsWholeTree
+near g c = (rw c.in-Some.is at c.in_ok-found.ensures.nearest) c.requires.root_whole
 
 at_least : (g : Over) (c : goal.After-remove_with_selection_function g)
     → g.T.Envelope.Point.Scalar.Number.value c.in-Some.found.1 ≡ pos (g.T.PointDistance.distances.distance_2 c.in-Some.found.0.now (table g.T.Envelope.Point.Point.DIMENSIONS (g.T.Envelope.Point.Point.coord c.args.point)))

@@ -3,6 +3,7 @@ use Rattle.std.specs.Mem.{FitsInMemory}
 use Rattle.std.specs.Ordering.{int_cmp}
 use Rattle.rstar_base.specs.Points.{table, IsPoint}
 use Rattle.rstar_base.specs.SmallHeaps.{items_of}
+use Rattle.rstar.specs.Closed.{Holds}
 use Rattle.rstar.specs.declared.node.RTreeNode.{Parent, Leaf}
 use Rattle.rstar.specs.Nodes.{all_parents, elements_of}
 use Rattle.rstar.specs.Pruned.{IsPruned}
@@ -36,6 +37,7 @@ pub pop-requires : goal.pop-requires
 pop-requires g c = (fits g, c.loop-current.invariant.waiting.ordered)
 
 pub open_within-requires : goal.open_within-requires
+unfolding Holds
 open_within-requires g c = (fits g, (c.known.ensures.range, record { ordered = c.new-heap.ensures.ordered; at = rw c.new-heap.ensures.none tt }))
 
 pub loop-current-init : goal.loop-current-init
@@ -50,6 +52,7 @@ loop-current-init g c =
     }
 
 pub open_within-requires-in-Parent : goal.open_within-requires-in-Parent
+unfolding Holds
 open_within-requires-in-Parent g c = (
   fits g,
   (

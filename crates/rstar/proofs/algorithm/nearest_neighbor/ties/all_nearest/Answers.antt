@@ -1,6 +1,7 @@
 use Rattle.std.proofs.Common.{◌∷◌, [], ◌++◌, map, sym, subst, ap, ◌∙◌}
 use Rattle.std.specs.List.Sorted.{IsPermutation}
 use Rattle.rstar_base.specs.Points.{table}
+use Rattle.rstar.specs.Closed.{Holds}
 use Rattle.rstar.specs.Nodes.{all_elements, elements_of}
 use Rattle.rstar.specs.Searches.{waiting_of, IsUnrefused}
 use Rattle.rstar.specs.Ties.{IsTied}
@@ -9,6 +10,7 @@ use Rattle.rstar.proofs.Ties.{tied-first, fresh-elements}
 use Rattle.rstar.proofs.algorithm.nearest_neighbor.ties.all_nearest.Goals as goal
 
 pub new-search-requires : goal.new-search-requires
+unfolding Holds
 new-search-requires g c = (search_fits g.row.T-Envelope-Point-Scalar g.met.T.Envelope.Point.Scalar.RTreeNum.narrow, c.requires)
 
 pub next_neighbor-requires : goal.next_neighbor-requires

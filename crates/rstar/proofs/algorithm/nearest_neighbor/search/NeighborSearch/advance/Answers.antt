@@ -4,6 +4,7 @@ use Rattle.std.specs.Ordering.{int_cmp}
 use Rattle.std.proofs.lemmas.List.Sorted.{IsPermutation-refl, length_permutation}
 use Rattle.rstar_base.specs.Points.{table, IsPoint}
 use Rattle.rstar_base.specs.SmallHeaps.{items_of}
+use Rattle.rstar.specs.Closed.{Holds}
 use Rattle.rstar.specs.Nodes.{all_elements}
 use Rattle.rstar.specs.Searches.{waiting_nodes, held_by}
 use Rattle.rstar.proofs.Nearness.{IsMeasured}
@@ -26,6 +27,7 @@ order : (g : Over) (a b : g.row.T-Envelope-Point-Scalar.Denot) → g.T.Envelope.
 order g = turns.order_of g.T.Envelope.Point.Scalar.Number.value g.T.Envelope.Point.Scalar.Ord.cmp _ g.met.T.Envelope.Point.Scalar.Ord.matches_partial_cmp (λ a b. g.met.T.Envelope.Point.Scalar.Number.order_law a b g.met.T.Envelope.Point.Scalar.Integral.exact_law)
 
 pub loop-current-init : goal.loop-current-init
+unfolding Holds
 loop-current-init g c = record { root = refl; stage = refl; running = c.requires; bag = IsPermutation-refl _; fewer = omega arith }
 
 pub pop-requires : goal.pop-requires
