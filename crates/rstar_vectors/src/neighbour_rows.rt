@@ -4,7 +4,6 @@ ghost use Rattle.std.specs.Prelude.{◌≡◌, ◌≤◌};
 ghost use Rattle.rstar_base.specs.Elements.{carried_objects, carried_distances};
 ghost use Rattle.rstar_base.specs.Sizes.{IsNarrow};
 ghost use Rattle.rstar_base.specs.laws.CarrierLaws.{carried_laws};
-ghost use Rattle.rstar.specs.Closed.{Holds};
 ghost use Rattle.rstar.specs.Neighbors.{with_distances, IsSearching};
 ghost use Rattle.rstar.specs.Trees.{IsWholeTree};
 
@@ -79,7 +78,7 @@ fn come<T: PointDistance>(
     opened: &[usize],
 ) -> bool
     requires narrow { IsNarrow T.Envelope.Point.row }
-    requires whole { Holds (λ t. IsWholeTree T.Envelope.boxes T.object ⟦<DefaultParams as RTreeParams>⟧.MAX_SIZE t) tree.now }
+    requires whole { IsWholeTree T.Envelope.boxes T.object ⟦<DefaultParams as RTreeParams>⟧.MAX_SIZE tree.now }
 {
     let mut neighbors = tree.nearest_neighbor_iter_with_distance_2(place);
     gives(&mut neighbors, distances, opened)
@@ -93,7 +92,7 @@ fn come_by_old_name<T: PointDistance>(
     opened: &[usize],
 ) -> bool
     requires narrow { IsNarrow T.Envelope.Point.row }
-    requires whole { Holds (λ t. IsWholeTree T.Envelope.boxes T.object ⟦<DefaultParams as RTreeParams>⟧.MAX_SIZE t) tree.now }
+    requires whole { IsWholeTree T.Envelope.boxes T.object ⟦<DefaultParams as RTreeParams>⟧.MAX_SIZE tree.now }
 {
     let mut neighbors = tree.nearest_neighbor_iter_with_distance(place);
     gives(&mut neighbors, distances, opened)
@@ -108,7 +107,7 @@ fn elements_come<T: PointDistance>(
 where
     PointOf<T>: Copy,
     requires narrow { IsNarrow T.Envelope.Point.row }
-    requires whole { Holds (λ t. IsWholeTree T.Envelope.boxes T.object ⟦<DefaultParams as RTreeParams>⟧.MAX_SIZE t) tree.now }
+    requires whole { IsWholeTree T.Envelope.boxes T.object ⟦<DefaultParams as RTreeParams>⟧.MAX_SIZE tree.now }
 {
     let mut neighbors = tree.nearest_neighbor_iter(place);
     gives_elements(&mut neighbors, &place, distances)
@@ -198,7 +197,6 @@ where
 }
 
 /// Whether all neighbours of a place lie at these squared distances, by each call that leaves the tree.
-#[tactic(auto, unfolding(rstar::specs::Closed::Holds))]
 fn answers<T: PointDistance>(
     tree: &RTree<T>,
     place: PointOf<T>,
@@ -513,15 +511,14 @@ fn are_asked<T: PointDistance>(
     rows: &[(u32, u32)],
 ) -> bool
     requires narrow { IsNarrow T.Envelope.Point.row }
-    requires whole { Holds (λ t. IsWholeTree T.Envelope.boxes ⟦<Noting<T> as RTreeObject>⟧.object
-        ⟦<DefaultParams as RTreeParams>⟧.MAX_SIZE t) tree.now }
+    requires whole { IsWholeTree T.Envelope.boxes ⟦<Noting<T> as RTreeObject>⟧.object
+        ⟦<DefaultParams as RTreeParams>⟧.MAX_SIZE tree.now }
 {
     let mut neighbors = tree.nearest_neighbor_iter(place);
     asks_so(tree, &mut neighbors, rows)
 }
 
 /// The same of a tree of elements, of which the first so many lie near and the others far.
-#[tactic(auto, unfolding(rstar::specs::Closed::Holds))]
 fn note_who_is_asked<T: PointDistance + Copy>(
     alloc: Global,
     elements: &[T],

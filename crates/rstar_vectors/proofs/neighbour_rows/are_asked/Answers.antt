@@ -1,14 +1,11 @@
-use Rattle.rstar.specs.Closed.{Holds}
 use Rattle.rstar_vectors.proofs.Fits.{alone_fits}
 use Rattle.rstar_vectors.proofs.neighbour_rows.are_asked.Goals as goal
 
 pub nearest_neighbor_iter-neighbors-requires : goal.nearest_neighbor_iter-neighbors-requires
-unfolding Holds
 nearest_neighbor_iter-neighbors-requires g c =
     (alone_fits g.row.T-Envelope-Point g.row.T-Envelope-Point-Scalar c.requires.narrow g.met.T.Envelope.Point.Scalar.RTreeNum.narrow, c.requires.whole)
 
 pub asks_so-requires : goal.asks_so-requires
-unfolding Holds
 asks_so-requires g c =
     (alone_fits g.row.T-Envelope-Point g.row.T-Envelope-Point-Scalar c.requires.narrow g.met.T.Envelope.Point.Scalar.RTreeNum.narrow, (c.requires.whole, c.nearest_neighbor_iter-neighbors.ensures.searching))
 

@@ -1,9 +1,7 @@
-use Rattle.rstar.specs.Closed.{Holds}
 use Rattle.rstar_vectors.proofs.Fits.{iterator_fits}
 use Rattle.rstar_vectors.proofs.neighbour_rows.come_by_old_name.Goals as goal
 
 pub nearest_neighbor_iter_with_distance-neighbors-requires : goal.nearest_neighbor_iter_with_distance-neighbors-requires
-unfolding Holds
 nearest_neighbor_iter_with_distance-neighbors-requires g c =
     (iterator_fits g.row.T-Envelope-Point g.row.T-Envelope-Point-Scalar c.requires.narrow g.met.T.Envelope.Point.Scalar.RTreeNum.narrow, c.requires.whole)
 

@@ -1,9 +1,7 @@
-use Rattle.rstar.specs.Closed.{Holds}
 use Rattle.rstar_vectors.proofs.Fits.{alone_fits}
 use Rattle.rstar_vectors.proofs.neighbour_rows.elements_come.Goals as goal
 
 pub nearest_neighbor_iter-neighbors-requires : goal.nearest_neighbor_iter-neighbors-requires
-unfolding Holds
 nearest_neighbor_iter-neighbors-requires g c =
     (alone_fits g.row.T-Envelope-Point g.row.T-Envelope-Point-Scalar c.requires.narrow g.met.T.Envelope.Point.Scalar.RTreeNum.narrow, c.requires.whole)
 
