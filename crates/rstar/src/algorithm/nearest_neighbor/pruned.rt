@@ -24,15 +24,19 @@ pub(crate) fn one_nearest<'a, T: PointDistance>(
     root: &'a ParentNode<T>,
     point: &PointOf<T>,
 ) -> Result<Option<(&'a T, Distance<T>)>, AllocError>
-    ensures none { IsWhole T.Envelope.boxes T.object root.now → IfOk result (λ r. IfNone r (elements_of root.now ≡ [])) }
-    ensures nearest { IsWhole T.Envelope.boxes T.object root.now → IfOk result (λ r. IfSome r (λ x. IsNearest (λ t. T.distances.distance_2 t
+    ensures none { IsWhole T.Envelope.boxes T.object root.now
+        → IfOk result (λ r. IfNone r (elements_of root.now ≡ [])) }
+    ensures nearest { IsWhole T.Envelope.boxes T.object root.now
+        → IfOk result (λ r. IfSome r (λ x. IsNearest (λ t. T.distances.distance_2 t
         (table T.Envelope.Point.DIMENSIONS (T.Envelope.Point.coord point.now))) (elements_of root.now) x.0.now)) }
     ensures distance { IfOk result (λ r. IfSome r (λ x. T.Envelope.Point.Scalar.value x.1 ≡ pos (T.distances.distance_2
         x.0.now (table T.Envelope.Point.DIMENSIONS (T.Envelope.Point.coord point.now))))) }
-    ensures not_below { IsWhole T.Envelope.boxes T.object root.now → IfOk result (λ r. IfSome r (λ x. T.Envelope.boxes.distance_2 (envelope_of root.now)
+    ensures not_below { IsWhole T.Envelope.boxes T.object root.now
+        → IfOk result (λ r. IfSome r (λ x. T.Envelope.boxes.distance_2 (envelope_of root.now)
         (table T.Envelope.Point.DIMENSIONS (T.Envelope.Point.coord point.now)) ≤ T.distances.distance_2 x.0.now
         (table T.Envelope.Point.DIMENSIONS (T.Envelope.Point.coord point.now)))) }
-    ensures not_above { IsWhole T.Envelope.boxes T.object root.now → IfOk result (λ r. IfSome r (λ x. T.distances.distance_2 x.0.now
+    ensures not_above { IsWhole T.Envelope.boxes T.object root.now
+        → IfOk result (λ r. IfSome r (λ x. T.distances.distance_2 x.0.now
         (table T.Envelope.Point.DIMENSIONS (T.Envelope.Point.coord point.now)) ≤ T.Envelope.boxes.min_max_dist_2
         (envelope_of root.now) (table T.Envelope.Point.DIMENSIONS (T.Envelope.Point.coord point.now)))) }
 {
