@@ -5,7 +5,7 @@ use Rattle.std.proofs.lemmas.Int.{fits_signed_mul}
 use Rattle.num_traits.specs.Laws.{between}
 use mir.Val.{hbits}
 
-size_of_fit : (w : Width) (a : ℤ) → FitsSigned w a → unsigned_abs a ≤ 2 ^ hbits w
+pub size_of_fit : (w : Width) (a : ℤ) → FitsSigned w a → unsigned_abs a ≤ 2 ^ hbits w
 size_of_fit w (pos m) h = let k = h.sfits in omega (arith, k)
 size_of_fit w (negsuc m) h = let k = h.sfits in omega (arith, k)
 

@@ -1,4 +1,4 @@
-use Rattle.std.proofs.Common.{◌++◌, ◌∷◌, [], length, ap, sym, subst, arith, rules, length-append, append-nil, append_assoc}
+use Rattle.std.proofs.Common.{◌≤◌, ◌++◌, ◌∷◌, [], length, ap, sym, subst, arith, rules, length-append, append-nil, append_assoc}
 use Rattle.std.specs.Iterator.{IsFinite, size}
 use Rattle.std.specs.BinaryHeap.{IsHeap}
 use Rattle.std.specs.List.Sorted.{IsPermutation}
@@ -62,3 +62,17 @@ invariant_of-self-in-None g c = c.loop-item.invariant.filled
 
 pub returns-clause-ordered : goal.returns-clause-ordered
 returns-clause-ordered g c = ordered-of g.T.Ord.cmp _ c.loop-item.invariant.rises c.loop-item.invariant.heap
+
+pub overflow_sub-free : goal.overflow_sub-free
+overflow_sub-free g c = subst (λ n. n ≤ 32) (sym c.len-free.ensures.value) c.self.invariant.few
+
+pub invariant_of-self : goal.invariant_of-self
+invariant_of-self g c = c.self.invariant
+
+pub returns-in_err-reserve-clause-ordered : goal.returns-in_err-reserve-clause-ordered
+returns-in_err-reserve-clause-ordered g c =
+    let before = subst (IsOrdered g.T.Ord.cmp) (sym c.self.view_is) c.requires.ordered in
+    ordered-of g.T.Ord.cmp _ (inline-of g.T.Ord.cmp _ before) (subst (IsHeap g.T.Ord.cmp) (sym c.reserve.ensures.items) (rest-of g.T.Ord.cmp _ before))
+
+pub next-requires : goal.next-requires
+next-requires g c = c.loop-item.invariant.can

@@ -1,4 +1,4 @@
-use Rattle.std.proofs.Common.{◌≡◌, ◌++◌, ◌∷◌, [], List, Option, Some, None, IfSome, IfNone, slice_index_or, false, refl, ap, sym, subst, ◌∙◌}
+use Rattle.std.proofs.Common.{◌≡◌, ◌<◌, IsSome, ◌++◌, ◌∷◌, [], List, Option, Some, None, IfSome, IfNone, slice_index_or, false, refl, ap, sym, subst, ◌∙◌}
 use Rattle.std.specs.List.{AllByRecursion}
 use Rattle.std.specs.List.Sorted.{IsPermutation}
 use Rattle.std.specs.Ordering.{is_lt}
@@ -74,3 +74,21 @@ pub returns-else-is_above_all-clause-greatest : goal.returns-else-is_above_all-c
 returns-else-is_above_all-clause-greatest g c = taken _ c.take_last.result (present c.self.inside.inline.items) (present c.take_last.new.inline.items) c.take_last.ensures.some
     (λ x e. greatest-last g.T.Ord.cmp (present c.self.inside.inline.items) c.self.inside.rest.items (present c.take_last.new.inline.items) x (inline-rises g c) e
     (λ xs y d. subst (IsUpperBound g.T.Ord.cmp y) c.as_slice.ensures.value (c.if-is_above_all.ensures.below refl xs y (ap present c.as_slice-2.ensures ∙ d))))
+
+pub is_above_all-requires-clause-full : goal.is_above_all-requires-clause-full
+is_above_all-requires-clause-full g c = subst (AllByRecursion IsSome) (sym c.as_slice-2.ensures) c.self.invariant.full
+
+pub take_greatest-requires-clause-some : goal.take_greatest-requires-clause-some
+take_greatest-requires-clause-some g c = subst (λ n. 0 < n) c.as_slice.ensures.len (c.if-is_above_all.ensures.there refl)
+
+pub invariant_of-self : goal.invariant_of-self
+invariant_of-self g c = c.self.invariant
+
+pub invariant_of-self-else-is_above_all : goal.invariant_of-self-else-is_above_all
+invariant_of-self-else-is_above_all g c = c.take_last.ensures.filled
+
+pub returns-then-is_above_all-clause-none : goal.returns-then-is_above_all-clause-none
+returns-then-is_above_all-clause-none g c = tt
+
+pub returns-then-is_above_all-clause-stays : goal.returns-then-is_above_all-clause-stays
+returns-then-is_above_all-clause-stays g c = tt

@@ -1,0 +1,23 @@
+use Rattle.std.proofs.Common.{◌≡◌, lit<, to_z, of_z}
+use Rattle.std.specs.Int.{w64, w128}
+use Rattle.rstar_base.proofs.Products.{widened}
+use Rattle.rstar_base.proofs.Halves.{sum_fits, half_fits_wide, half_fits_narrow, half_held}
+use Rattle.rstar_base.proofs.point.integers.I64RTreeNum.half_sum.Goals as goal
+
+first : (c : goal.After-from-2) → to_z w128 (of_z w128 c.from.result) ≡ c.args.self
+first c = widened w64 w128 c.args.self c.from.result c.ranges.self (record { sfits = c.from.type_inv }) c.from.ensures
+
+second : (c : goal.After-from-2) → to_z w128 (of_z w128 c.from-2.result) ≡ c.args.other
+second c = widened w64 w128 c.args.other c.from-2.result c.ranges.other (record { sfits = c.from-2.type_inv }) c.from-2.ensures
+
+pub overflow_add-result : goal.overflow_add-result
+overflow_add-result c = sum_fits w64 w128 c.args.self c.args.other _ _ (lit< tt) c.ranges.self c.ranges.other (first c) (second c)
+
+pub nonzero_div-result : goal.nonzero_div-result
+nonzero_div-result c = (lit< tt, half_fits_wide w64 w128 c.args.self c.args.other _ _ (lit< tt) c.ranges.self c.ranges.other (first c) (second c))
+
+pub overflow_cast-result : goal.overflow_cast-result
+overflow_cast-result c = half_fits_narrow w64 w128 c.args.self c.args.other _ _ (lit< tt) c.ranges.self c.ranges.other (first c) (second c)
+
+pub returns : goal.returns
+returns c = half_held w64 w128 c.args.self c.args.other _ _ (lit< tt) c.ranges.self c.ranges.other (first c) (second c)
