@@ -1,10 +1,27 @@
-use Rattle.std.proofs.Common.{◌≡◌, ◌∙◌, ◌<◌, sym, refl, arith, ap, length, suc, ◌+◌, ◌-◌, get_or, get_or-set_same, Vec}
+use Rattle.std.proofs.Common.{◌≡◌, ◌∙◌, ◌<◌, sym, refl, arith, ap, length, suc, ◌+◌, ◌-◌, get_or, get_or-set_same, Vec, ℕ, ◌≤◌, vec_len, vec_capacity}
 use Rattle.rstar.specs.declared.node.RTreeNode.TheVariants.{outs-Leaf, outs-Parent}
 use Rattle.rstar.specs.Taking.{selects_in, is_selected_leaf, is_childless, lower_numbers}
 use Rattle.rstar.proofs.Parts.{same_read, same_item, lower_lent, lower_left}
-use Rattle.rstar.proofs.Scans.{begins, gives_leaf, gives_inside, gives_last, passes_any, finishes, entered, not_entered, kept_anew, none_gives, along}
+use Rattle.rstar.proofs.Scans.{begins, gives_leaf, gives_inside, gives_last, passes_any, finishes, some_one, entered, not_entered, kept_anew, none_gives, along}
 use Rattle.rstar.proofs.algorithm.removal.+take.Goals as goal
 use Rattle.rstar.proofs.algorithm.removal.+take.Goals.{take_among-then-is_childless, take_among-else-is_childless}
+
+-- ---- the place of a child, by lemmas that read no more than they need
+
+some_left : (len end passed v w : ℕ) → len ≡ v → v ≡ w → end ≡ w → passed < end → 1 ≤ len
+some_left len end passed v w e f h l = omega arith
+
+not_last : (len end passed v w : ℕ) → len ≡ v → v ≡ w → end ≡ w → passed < end → passed ≤ len - 1
+not_last len end passed v w e f h l = omega arith
+
+place : (len end passed v w : ℕ) → len ≡ v → v ≡ w → end ≡ w → passed < end → len - 1 - passed < v
+place len end passed v w e f h l = omega arith
+
+next_is : (n len end passed v w : ℕ) → len ≡ v → v ≡ w → end ≡ w → passed < end → v ≡ n → n ≡ suc (len - 1 - passed + passed)
+next_is n len end passed v w e f h l k = omega arith
+
+one_of : (i p n : ℕ) → n ≡ suc (i + p) → i < n
+one_of i p n e = omega arith
 
 pub take_among-loop-passed-init : goal.take_among-loop-passed-init
 take_among-loop-passed-init g t c = record {
@@ -15,10 +32,9 @@ take_among-loop-passed-init g t c = record {
 
 pub take_among-returns-then-is_selected_leaf-clause-takes : goal.take_among-returns-then-is_selected_leaf-clause-takes
 take_among-returns-then-is_selected_leaf-clause-takes g t c =
-    let same = ap length c.loop-passed.invariant.scanned.same in
     let i = c.len.result - 1 - c.loop-passed.passed in
-    let next : length c.loop-passed.children.items ≡ suc (i + c.loop-passed.passed) = omega (arith, c.args.children.now.ok.0, same, c.len.ensures) in
-    let within : i < length c.loop-passed.children.items = omega (arith, next) in
+    let next : length c.loop-passed.children.items ≡ suc (i + c.loop-passed.passed) = next_is (length c.loop-passed.children.items) c.len.result c.len-passed-end.result c.loop-passed.passed (vec_len c.loop-passed.children) (vec_len c.args.children.now) c.len.ensures (ap vec_len c.loop-passed.invariant.same) c.len-passed-end.ensures c.loop-passed-test.true c.loop-passed.children.ok.0 in
+    let within : i < length c.loop-passed.children.items = one_of i c.loop-passed.passed (length c.loop-passed.children.items) next in
     let here = same_read c.loop-passed.children.items i _ _ within c.index.ensures c.take_leaf-taken.ensures.node in
     let chosen = ap (is_selected_leaf (g.R.SelectionFunction.selects c.args.func.now)) (sym here) in
     rw (c.set_first.ensures, c.take_leaf-taken.ensures.items)
@@ -27,10 +43,9 @@ take_among-returns-then-is_selected_leaf-clause-takes g t c =
 
 pub take_among-returns-then-is_some-clause-takes : goal.take_among-returns-then-is_some-clause-takes
 take_among-returns-then-is_some-clause-takes g t c =
-    let same = ap length c.loop-passed.invariant.scanned.same in
     let i = c.len.result - 1 - c.loop-passed.passed in
-    let next : length c.loop-passed.children.items ≡ suc (i + c.loop-passed.passed) = omega (arith, c.args.children.now.ok.0, same, c.len.ensures) in
-    let within : i < length c.loop-passed.children.items = omega (arith, next) in
+    let next : length c.loop-passed.children.items ≡ suc (i + c.loop-passed.passed) = next_is (length c.loop-passed.children.items) c.len.result c.len-passed-end.result c.loop-passed.passed (vec_len c.loop-passed.children) (vec_len c.args.children.now) c.len.ensures (ap vec_len c.loop-passed.invariant.same) c.len-passed-end.ensures c.loop-passed-test.true c.loop-passed.children.ok.0 in
+    let within : i < length c.loop-passed.children.items = one_of i c.loop-passed.passed (length c.loop-passed.children.items) next in
     let written = c.index-then-is_some.ensures ∙ get_or-set_same _ _ _ _ within in
     elim c.if-is_childless.branch [
       | take_among-then-is_childless w ↦
@@ -47,10 +62,9 @@ take_among-returns-then-is_some-clause-takes g t c =
 
 pub take_among-loop-passed-preserved : goal.take_among-loop-passed-preserved
 take_among-loop-passed-preserved g t c =
-    let same = ap length c.loop-passed.invariant.scanned.same in
     let i = c.len.result - 1 - c.loop-passed.passed in
-    let next : length c.loop-passed.children.items ≡ suc (i + c.loop-passed.passed) = omega (arith, c.args.children.now.ok.0, same, c.len.ensures) in
-    let within : i < length c.loop-passed.children.items = omega (arith, next) in
+    let next : length c.loop-passed.children.items ≡ suc (i + c.loop-passed.passed) = next_is (length c.loop-passed.children.items) c.len.result c.len-passed-end.result c.loop-passed.passed (vec_len c.loop-passed.children) (vec_len c.args.children.now) c.len.ensures (ap vec_len c.loop-passed.invariant.same) c.len-passed-end.ensures c.loop-passed-test.true c.loop-passed.children.ok.0 in
+    let within : i < length c.loop-passed.children.items = one_of i c.loop-passed.passed (length c.loop-passed.children.items) next in
     let here = same_read c.loop-passed.children.items i _ _ within c.index.ensures c.index_mut.ensures.value in
     let unchanged = same_item c.loop-passed.children i c.take_inside-taken.new.child _ (none_gives _ (sym c.is_some.ensures ∙ c.if-is_some.false) c.take_inside-taken.ensures.kept ∙ c.index_mut.ensures.value) ∙ c.loop-passed.invariant.same in
     record {
@@ -95,3 +109,44 @@ take_inside-returns-else-should_unpack_parent g t c =
     let refused = rw c.in-Parent.parent-is at c.should_unpack_parent.ensures in
     rw (c.in-Parent.is, outs-Parent c.in-Parent.parent)
     (not_entered g.T.Envelope.Envelope.boxes g.T.RTreeObject.object (g.R.SelectionFunction.accepts c.args.func.now) (g.R.SelectionFunction.selects c.args.func.now) g.met.T.Envelope.Envelope.envelope_laws g.met.T.RTreeObject.object_law c.in-Parent.parent (lower_numbers c.args.path.now) c.args.rest.now (sym refused ∙ c.if-should_unpack_parent.false))
+
+-- ---- what stands there already
+
+pub take_among-overflow_sub-i : goal.take_among-overflow_sub-i
+take_among-overflow_sub-i g t c = some_left c.len.result c.len-passed-end.result c.loop-passed.passed (vec_len c.loop-passed.children) (vec_len c.args.children.now) c.len.ensures (ap vec_len c.loop-passed.invariant.same) c.len-passed-end.ensures c.loop-passed-test.true
+
+pub take_among-overflow_sub-i-in-loop-passed : goal.take_among-overflow_sub-i-in-loop-passed
+take_among-overflow_sub-i-in-loop-passed g t c = not_last c.len.result c.len-passed-end.result c.loop-passed.passed (vec_len c.loop-passed.children) (vec_len c.args.children.now) c.len.ensures (ap vec_len c.loop-passed.invariant.same) c.len-passed-end.ensures c.loop-passed-test.true
+
+pub take_among-index-requires : goal.take_among-index-requires
+take_among-index-requires g t c = place c.len.result c.len-passed-end.result c.loop-passed.passed (vec_len c.loop-passed.children) (vec_len c.args.children.now) c.len.ensures (ap vec_len c.loop-passed.invariant.same) c.len-passed-end.ensures c.loop-passed-test.true
+
+pub take_among-take_leaf-taken-requires-clause-within : goal.take_among-take_leaf-taken-requires-clause-within
+take_among-take_leaf-taken-requires-clause-within g t c = place c.len.result c.len-passed-end.result c.loop-passed.passed (vec_len c.loop-passed.children) (vec_len c.args.children.now) c.len.ensures (ap vec_len c.loop-passed.invariant.same) c.len-passed-end.ensures c.loop-passed-test.true
+
+pub take_among-index_mut-requires : goal.take_among-index_mut-requires
+take_among-index_mut-requires g t c = place c.len.result c.len-passed-end.result c.loop-passed.passed (vec_len c.loop-passed.children) (vec_len c.args.children.now) c.len.ensures (ap vec_len c.loop-passed.invariant.same) c.len-passed-end.ensures c.loop-passed-test.true
+
+pub take_among-index-requires-then-is_some : goal.take_among-index-requires-then-is_some
+take_among-index-requires-then-is_some g t c = place c.len.result c.len-passed-end.result c.loop-passed.passed (vec_len c.loop-passed.children) (vec_len c.args.children.now) c.len.ensures (ap vec_len c.loop-passed.invariant.same) c.len-passed-end.ensures c.loop-passed-test.true
+
+pub take_among-drop_child-requires : goal.take_among-drop_child-requires
+take_among-drop_child-requires g t c = place c.len.result c.len-passed-end.result c.loop-passed.passed (vec_len c.loop-passed.children) (vec_len c.args.children.now) c.len.ensures (ap vec_len c.loop-passed.invariant.same) c.len-passed-end.ensures c.loop-passed-test.true
+
+pub take_among-returns-then-is_selected_leaf-clause-capacity : goal.take_among-returns-then-is_selected_leaf-clause-capacity
+take_among-returns-then-is_selected_leaf-clause-capacity g t c = c.take_leaf-taken.ensures.capacity ∙ ap vec_capacity c.loop-passed.invariant.same
+
+pub take_among-returns-then-is_selected_leaf-clause-same : goal.take_among-returns-then-is_selected_leaf-clause-same
+take_among-returns-then-is_selected_leaf-clause-same g t c = tt
+
+pub take_among-returns-then-is_some-clause-same : goal.take_among-returns-then-is_some-clause-same
+take_among-returns-then-is_some-clause-same g t c = some_one _ c.take_inside-taken.result (sym c.is_some.ensures ∙ c.if-is_some.true)
+
+pub take_among-returns-clause-capacity : goal.take_among-returns-clause-capacity
+take_among-returns-clause-capacity g t c = ap vec_capacity c.loop-passed.invariant.same
+
+pub take_among-returns-clause-same : goal.take_among-returns-clause-same
+take_among-returns-clause-same g t c = c.loop-passed.invariant.same
+
+pub take_below-returns-then-is_some-clause-same : goal.take_below-returns-then-is_some-clause-same
+take_below-returns-then-is_some-clause-same g t c = some_one _ c.take_among-taken.result (sym c.is_some.ensures ∙ c.if-is_some.true)

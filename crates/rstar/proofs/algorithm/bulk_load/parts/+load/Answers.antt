@@ -1,29 +1,77 @@
-use Rattle.std.proofs.Common.{rules, arith, false, ◌≡◌, ◌≢◌, ◌-◌, ◌≤◌, ℕ, [], ◌∙◌, length, subst, sym, refl, IfOk}
+use Rattle.std.proofs.Common.{rules, arith, false, zero, suc, ◌≡◌, ◌≢◌, ◌+◌, ◌-◌, ◌*◌, ◌<◌, ◌≤◌, ℕ, [], ◌∙◌, length, subst, sym, refl, ap, IfOk}
+use Rattle.std.proofs.Math.Nat.{suc-mul}
+use Rattle.std.proofs.lemmas.Result.{IfOk-from_err}
 use Rattle.rstar.specs.Loaded.{NoneEmpty, GoesDeep, IsPartSize}
 use Rattle.rstar.specs.Loads.{IsFresh, IsFreshNode}
 use Rattle.rstar.proofs.Depths.{cluster_bound, deep_large, deep_parts, deep_slab}
 use Rattle.rstar.proofs.Loads.{slab_given, slab_some, slab_has, parts_parent, parts_same, one_part, underway_start, underway_more, underway_end, underway_better, fresh_wider, next_size}
 use Rattle.rstar.proofs.algorithm.bulk_load.parts.+load.Goals as goal
 
+-- ---- numbers, by lemmas that read no more than they need
+
+some : (n : ℕ) → (n ≡ 0 → ⊥) → 0 < n
+some zero h = absurd (h refl)
+some (suc n) h = omega arith
+
+previous : (n : ℕ) → (n ≡ 0 → ⊥) → suc (n - 1) ≡ n
+previous zero h = absurd (h refl)
+previous (suc n) h = omega arith
+
+itself : (n : ℕ) → n ≤ n
+itself n = omega arith
+
+within_same : (m n : ℕ) → m ≡ n → m ≤ n
+within_same m n e = omega arith
+
+up_to : (a b c : ℕ) → a ≤ b → b ≤ c → a ≤ c
+up_to a b c h k = omega arith
+
+two_some : (n : ℕ) → 2 ≤ n → 0 < n
+two_some n h = omega arith
+
+last_axis : (a d : ℕ) → a ≤ d → (a ≡ 0 → ⊥) → a - 1 < d
+last_axis zero d h k = absurd (k refl)
+last_axis (suc a) d h k = omega arith
+
+fewer_axes : (a d : ℕ) → a ≤ d → a - 1 ≤ d
+fewer_axes a d h = omega arith
+
+-- the measures fall
+parts_below : (b d a t : ℕ) → b * (d + 2) ≡ t → (b ≡ 0 → ⊥) → a ≡ d → (b - 1) * (d + 2) + a + 1 < t
+parts_below zero d a t e h k = absurd (h refl)
+parts_below (suc b) d a t e h k =
+    let last : suc b - 1 ≡ b = omega arith in
+    let first : (suc b - 1) * (d + 2) ≡ b * (d + 2) = ap (λ m. m * (d + 2)) last in
+    let second : suc b * (d + 2) ≡ b * (d + 2) + (d + 2) = suc-mul b (d + 2) in
+    omega arith
+
+node_below : (x a t : ℕ) → x + a + 1 ≡ t → x < t
+node_below x a t e = omega arith
+
+slab_below : (x a t : ℕ) → x + a + 1 ≡ t → (a ≡ 0 → ⊥) → x + (a - 1) + 1 < t
+slab_below x zero t e h = absurd (h refl)
+slab_below x (suc a) t e h = omega arith
+
 pub load_node-slabs_on_axis-clusters-requires-clause-large : goal.load_node-slabs_on_axis-clusters-requires-clause-large
 load_node-slabs_on_axis-clusters-requires-clause-large g t c =
-    let large = deep_large g.Params.RTreeParams.MAX_SIZE g.T.Envelope.Point.Point.DIMENSIONS (c.args.below - 1) c.args.below (length c.args.elements.items) c.requires.deep (omega arith) in
-    search rules
+    subst (λ n. g.Params.RTreeParams.MAX_SIZE < n) (sym (c.len.ensures ∙ c.args.elements.ok.0))
+    (deep_large g.Params.RTreeParams.MAX_SIZE g.T.Envelope.Point.Point.DIMENSIONS (c.args.below - 1) c.args.below (length c.args.elements.items) c.requires.deep (previous c.args.below c.if-below-eq0.false))
 
 pub load_node-load_parts-requires : goal.load_node-load_parts-requires
 load_node-load_parts-requires g t c κs within =
-    let long : c.len.result ≡ length c.args.elements.items = search rules in
+    let long : c.len.result ≡ length c.args.elements.items = c.len.ensures ∙ c.args.elements.ok.0 in
     let deep : (m : ℕ) → IsPartSize c.slabs_on_axis-clusters.result c.DIMENSIONS-axes.result (length c.args.elements.items) m → GoesDeep g.Params.RTreeParams.MAX_SIZE g.T.Envelope.Point.Point.DIMENSIONS (c.args.below - 1) m =
-    deep_parts g.Params.RTreeParams.MAX_SIZE g.T.Envelope.Point.Point.DIMENSIONS c.DIMENSIONS-axes.result (c.args.below - 1) c.args.below (length c.args.elements.items) c.len.result c.slabs_on_axis-clusters.result _
-    c.requires.deep (omega arith) long c.DIMENSIONS-axes.ensures c.slabs_on_axis-clusters.ensures.number.1 c.slabs_on_axis-clusters.ensures.number.2 in
-    search rules
+    deep_parts g.Params.RTreeParams.MAX_SIZE g.T.Envelope.Point.Point.DIMENSIONS c.DIMENSIONS-axes.result (c.args.below - 1) c.args.below (length c.args.elements.items) c.len.result c.slabs_on_axis-clusters.result c.slabs_on_axis-clusters.ensures.number.0
+    c.requires.deep (previous c.args.below c.if-below-eq0.false) long c.DIMENSIONS-axes.ensures c.slabs_on_axis-clusters.ensures.number.1 c.slabs_on_axis-clusters.ensures.number.2 in
+    let all : c.DIMENSIONS-axes.result ≤ g.T.Envelope.Point.Point.DIMENSIONS = within_same c.DIMENSIONS-axes.result g.T.Envelope.Point.Point.DIMENSIONS c.DIMENSIONS-axes.ensures in
+    (parts_below c.args.below g.T.Envelope.Point.Point.DIMENSIONS c.DIMENSIONS-axes.result t c.decreases c.if-below-eq0.false c.DIMENSIONS-axes.ensures, search (rules, within))
 
 pub load_node-returns-then-below-eq0-clause-fresh : goal.load_node-returns-then-below-eq0-clause-fresh
 load_node-returns-then-below-eq0-clause-fresh g t c =
     subst (λ h. IfOk c.leaf_parent.result (IsFresh g.T.Envelope.Envelope.boxes g.T.RTreeObject.object g.Params.RTreeParams.MAX_SIZE c.leaf_parent.new.widest g.T.Envelope.Point.Point.DIMENSIONS h)) (sym c.if-below-eq0.true) c.leaf_parent.ensures.fresh
 
 pub load_node-returns-clause-wider : goal.load_node-returns-clause-wider
-load_node-returns-clause-wider g t c = omega (arith, c.in_ok-load_parts.ensures.wider, c.in_ok-make_wide_room.ensures.wider)
+load_node-returns-clause-wider g t c = up_to c.args.widest.now c.load_parts.new.widest c.make_wide_room.new.widest c.in_ok-load_parts.ensures.wider c.in_ok-make_wide_room.ensures.wider
 
 pub load_node-returns-clause-counted : goal.load_node-returns-clause-counted
 load_node-returns-clause-counted g t c = c.in_ok-make_wide_room.ensures.counted
@@ -32,7 +80,7 @@ pub load_parts-load_node-requires : goal.load_parts-load_node-requires
 load_parts-load_node-requires g t c κs within =
     let here : IsPartSize c.args.clusters c.args.axes (length c.args.elements.items) (length c.args.elements.items) = subst (λ k. IsPartSize c.args.clusters k (length c.args.elements.items) (length c.args.elements.items)) (sym c.if-axes-eq0.true) refl in
     let deep : GoesDeep g.Params.RTreeParams.MAX_SIZE g.T.Envelope.Point.Point.DIMENSIONS c.args.below (length c.args.elements.items) = c.requires.deep (length c.args.elements.items) here in
-    search rules
+    (node_below (c.args.below * (g.T.Envelope.Point.Point.DIMENSIONS + 2)) c.args.axes t c.decreases, search (rules, within))
 
 pub load_node-returns-clause-same : goal.load_node-returns-clause-same
 load_node-returns-clause-same g t c =
@@ -40,14 +88,14 @@ load_node-returns-clause-same g t c =
 
 pub load_node-returns-clause-fresh : goal.load_node-returns-clause-fresh
 load_node-returns-clause-fresh g t c =
-    let long : c.len.result ≡ length c.args.elements.items = search rules in
+    let long : c.len.result ≡ length c.args.elements.items = c.len.ensures ∙ c.args.elements.ok.0 in
     parts_parent g.met.T.Envelope.Envelope.envelope_laws g.met.T.RTreeObject.object_law g.Params.RTreeParams.MAX_SIZE c.make_wide_room.new.widest g.T.Envelope.Point.Point.DIMENSIONS c.slabs_on_axis-clusters.result
-    (c.args.below - 1) c.args.below c.load_parts.new.widest _ c.args.elements.items c.load_parts.new.nodes.items _ c.requires.some
-    (deep_large g.Params.RTreeParams.MAX_SIZE g.T.Envelope.Point.Point.DIMENSIONS (c.args.below - 1) c.args.below (length c.args.elements.items) c.requires.deep (omega arith)) c.slabs_on_axis-clusters.ensures.least
-    (rw c.slabs_on_axis-clusters.ensures.number.2 (cluster_bound g.Params.RTreeParams.MAX_SIZE g.T.Envelope.Point.Point.DIMENSIONS _ c.slabs_on_axis-clusters.ensures.number.0 (search rules) c.slabs_on_axis-clusters.ensures.number.1)) (search rules)
+    (c.args.below - 1) c.args.below c.load_parts.new.widest c.slabs_on_axis-clusters.ensures.number.0 c.args.elements.items c.load_parts.new.nodes.items (record { children = c.make_wide_room.new.nodes; envelope = c.envelope_for_children-envelope.result }) c.requires.some
+    (deep_large g.Params.RTreeParams.MAX_SIZE g.T.Envelope.Point.Point.DIMENSIONS (c.args.below - 1) c.args.below (length c.args.elements.items) c.requires.deep (previous c.args.below c.if-below-eq0.false)) c.slabs_on_axis-clusters.ensures.least
+    (rw c.slabs_on_axis-clusters.ensures.number.2 (cluster_bound g.Params.RTreeParams.MAX_SIZE g.T.Envelope.Point.Point.DIMENSIONS c.len.result c.slabs_on_axis-clusters.ensures.number.0 (search rules) c.slabs_on_axis-clusters.ensures.number.1)) (two_some g.T.Envelope.Point.Point.DIMENSIONS c.requires.dimensions)
     (rw long at c.slabs_on_axis-clusters.ensures.number.1) c.slabs_on_axis-clusters.ensures.number.2 c.in_ok-make_wide_room.ensures.wider
-    (rw (c.in_ok-nodes.ensures.items, c.DIMENSIONS-axes.ensures) at c.in_ok-load_parts.ensures.adds) c.make_wide_room.ensures.same (omega arith) (rw c.deref.ensures.value at c.envelope_for_children-envelope.ensures)
-    c.in_ok-make_wide_room.ensures.room (omega (arith, c.make_wide_room.new.nodes.ok.0, c.in_ok-make_wide_room.ensures.narrow))
+    (rw (c.in_ok-nodes.ensures.items, c.DIMENSIONS-axes.ensures) at c.in_ok-load_parts.ensures.adds) c.make_wide_room.ensures.same (previous c.args.below c.if-below-eq0.false) (rw c.deref.ensures.value at c.envelope_for_children-envelope.ensures)
+    c.in_ok-make_wide_room.ensures.room (subst (λ n. n ≤ c.make_wide_room.new.widest) c.make_wide_room.new.nodes.ok.0 c.in_ok-make_wide_room.ensures.narrow)
 
 pub load_parts-returns-then-axes-eq0-clause-adds : goal.load_parts-returns-then-axes-eq0-clause-adds
 load_parts-returns-then-axes-eq0-clause-adds g t c =
@@ -60,8 +108,8 @@ load_parts-loop-slab-init g t c = record {
   size = c.new-slabs.ensures.size c.requires.some;
   cutting = c.new-slabs.ensures.cutting;
   each = rw c.new-slabs.ensures.elements c.requires.elements;
-  wider = search rules;
-  counted = search rules;
+  wider = itself c.args.widest.now;
+  counted = c.requires.counted;
   parts = rw c.new-slabs.ensures.elements (underway_start (λ t' k. g.T.Envelope.Envelope.boxes.axis_key (g.T.RTreeObject.object.box_of t') k) (IsFreshNode g.T.Envelope.Envelope.boxes g.T.RTreeObject.object g.Params.RTreeParams.MAX_SIZE c.args.widest.now g.T.Envelope.Point.Point.DIMENSIONS c.args.below) c.args.clusters (c.args.axes - 1) c.args.elements.items c.args.nodes.now.items c.requires.some);
 }
 
@@ -69,11 +117,12 @@ pub load_parts-load_parts-requires : goal.load_parts-load_parts-requires
 load_parts-load_parts-requires g t c κs within =
     let cut = slab_given (λ t' k. g.T.Envelope.Envelope.boxes.axis_key (g.T.RTreeObject.object.box_of t') k) _ (c.args.axes - 1) _ _ _ _ c.in_ok-slab.field-0 _ c.in-Some.ensures.steps.0 c.in_ok-slab.was c.loop-slab.invariant.axis c.loop-slab.invariant.size in
     let each : NoneEmpty g.T.Envelope.Envelope.boxes g.T.RTreeObject.object c.in_ok-slab.field-0.items = (slab_has _ (λ t'. g.T.Envelope.Envelope.boxes.is_empty (g.T.RTreeObject.object.box_of t') ≡ false) _ _ _ _ cut.0 c.loop-slab.invariant.each).0 in
-    let some : c.in_ok-slab.field-0.items ≢ [] = slab_some _ _ _ _ _ cut.0 (omega (arith, c.loop-slab.invariant.size, c.loop-slab.invariant.cutting.0)) cut.1 in
+    let some : c.in_ok-slab.field-0.items ≢ [] = slab_some _ _ _ _ _ cut.0 (subst (λ n. 0 < n) c.loop-slab.invariant.size c.loop-slab.invariant.cutting.0) cut.1 in
     let deep : (m : ℕ) → IsPartSize c.args.clusters (c.args.axes - 1) (length c.in_ok-slab.field-0.items) m → GoesDeep g.Params.RTreeParams.MAX_SIZE g.T.Envelope.Point.Point.DIMENSIONS c.args.below m =
-    deep_slab g.Params.RTreeParams.MAX_SIZE g.T.Envelope.Point.Point.DIMENSIONS c.args.below c.args.clusters c.args.axes (c.args.axes - 1) (length c.args.elements.items) (length c.in_ok-slab.field-0.items) (omega arith) c.requires.deep
+    deep_slab g.Params.RTreeParams.MAX_SIZE g.T.Envelope.Point.Point.DIMENSIONS c.args.below c.args.clusters c.args.axes (c.args.axes - 1) (length c.args.elements.items) (length c.in_ok-slab.field-0.items) (previous c.args.axes c.if-axes-eq0.false) c.requires.deep
     (next_size (λ t' k. g.T.Envelope.Envelope.boxes.axis_key (g.T.RTreeObject.object.box_of t') k) (IsFreshNode g.T.Envelope.Envelope.boxes g.T.RTreeObject.object g.Params.RTreeParams.MAX_SIZE c.loop-slab.widest g.T.Envelope.Point.Point.DIMENSIONS c.args.below) c.args.clusters (c.args.axes - 1) c.args.elements.items _ c.in_ok-slab.field-0.items _ c.args.nodes.now.items c.loop-slab.nodes.items c.loop-slab.invariant.parts cut.0 cut.1) in
-    search rules
+    let axes : c.args.axes - 1 ≤ g.T.Envelope.Point.Point.DIMENSIONS = fewer_axes c.args.axes g.T.Envelope.Point.Point.DIMENSIONS c.requires.axes in
+    (slab_below (c.args.below * (g.T.Envelope.Point.Point.DIMENSIONS + 2)) c.args.axes t c.decreases c.if-axes-eq0.false, search (rules, within))
 
 pub load_parts-loop-slab-preserved : goal.load_parts-loop-slab-preserved
 load_parts-loop-slab-preserved g t c =
@@ -87,13 +136,141 @@ load_parts-loop-slab-preserved g t c =
     record {
       axis = c.in-Some.ensures.steps.2 ∙ c.loop-slab.invariant.axis;
       size = c.in-Some.ensures.steps.1 ∙ c.loop-slab.invariant.size;
-      cutting = (omega (arith, c.in-Some.ensures.steps.1, c.loop-slab.invariant.cutting.0), omega (arith, c.in-Some.ensures.steps.2, c.loop-slab.invariant.cutting.1));
+      cutting = (subst (λ n. 0 < n) (sym c.in-Some.ensures.steps.1) c.loop-slab.invariant.cutting.0, subst (λ n. n < g.T.Envelope.Point.Point.DIMENSIONS) (sym c.in-Some.ensures.steps.2) c.loop-slab.invariant.cutting.1);
       each = (slab_has _ (λ t'. g.T.Envelope.Envelope.boxes.is_empty (g.T.RTreeObject.object.box_of t') ≡ false) _ _ _ _ cut.0 c.loop-slab.invariant.each).1;
-      wider = omega (arith, le, was);
+      wider = up_to c.args.widest.now c.loop-slab.widest c.load_parts.new.widest was le;
       counted = c.in_ok-load_parts.ensures.counted;
       parts = underway_more (λ t' k. g.T.Envelope.Envelope.boxes.axis_key (g.T.RTreeObject.object.box_of t') k) (IsFreshNode g.T.Envelope.Envelope.boxes g.T.RTreeObject.object g.Params.RTreeParams.MAX_SIZE c.load_parts.new.widest g.T.Envelope.Point.Point.DIMENSIONS c.args.below) c.args.clusters (c.args.axes - 1) c.args.elements.items _ c.in_ok-slab.field-0.items _ c.args.nodes.now.items c.loop-slab.nodes.items c.load_parts.new.nodes.items before cut.0 cut.1 c.in_ok-load_parts.ensures.adds;
     }
 
 pub load_parts-returns-clause-adds : goal.load_parts-returns-clause-adds
 load_parts-returns-clause-adds g t c =
-    underway_end (λ t' k. g.T.Envelope.Envelope.boxes.axis_key (g.T.RTreeObject.object.box_of t') k) (IsFreshNode g.T.Envelope.Envelope.boxes g.T.RTreeObject.object g.Params.RTreeParams.MAX_SIZE c.loop-slab.widest g.T.Envelope.Point.Point.DIMENSIONS c.args.below) c.args.clusters (c.args.axes - 1) c.args.axes c.args.elements.items _ c.args.nodes.now.items c.loop-slab.nodes.items (omega arith) c.loop-slab.invariant.parts c.in_default.ensures.steps.0.0 (omega arith)
+    underway_end (λ t' k. g.T.Envelope.Envelope.boxes.axis_key (g.T.RTreeObject.object.box_of t') k) (IsFreshNode g.T.Envelope.Envelope.boxes g.T.RTreeObject.object g.Params.RTreeParams.MAX_SIZE c.loop-slab.widest g.T.Envelope.Point.Point.DIMENSIONS c.args.below) c.args.clusters (c.args.axes - 1) c.args.axes c.args.elements.items _ c.args.nodes.now.items c.loop-slab.nodes.items (two_some c.args.clusters c.requires.clusters) c.loop-slab.invariant.parts c.in_default.ensures.steps.0.0 (previous c.args.axes c.if-axes-eq0.false)
+
+-- ---- what stands there already
+
+pub load_node-leaf_parent-requires-clause-some : goal.load_node-leaf_parent-requires-clause-some
+load_node-leaf_parent-requires-clause-some g t c = c.requires.some
+
+pub load_node-leaf_parent-requires-clause-elements : goal.load_node-leaf_parent-requires-clause-elements
+load_node-leaf_parent-requires-clause-elements g t c = c.requires.elements
+
+pub load_node-leaf_parent-requires-clause-counted : goal.load_node-leaf_parent-requires-clause-counted
+load_node-leaf_parent-requires-clause-counted g t c = c.requires.counted
+
+pub load_node-returns-then-below-eq0-clause-same : goal.load_node-returns-then-below-eq0-clause-same
+load_node-returns-then-below-eq0-clause-same g t c = c.leaf_parent.ensures.same
+
+pub load_node-returns-then-below-eq0-clause-wider : goal.load_node-returns-then-below-eq0-clause-wider
+load_node-returns-then-below-eq0-clause-wider g t c = c.leaf_parent.ensures.wider
+
+pub load_node-returns-then-below-eq0-clause-counted : goal.load_node-returns-then-below-eq0-clause-counted
+load_node-returns-then-below-eq0-clause-counted g t c = c.leaf_parent.ensures.counted
+
+pub load_node-slabs_on_axis-clusters-requires-clause-axes : goal.load_node-slabs_on_axis-clusters-requires-clause-axes
+load_node-slabs_on_axis-clusters-requires-clause-axes g t c = c.requires.dimensions
+
+pub load_node-overflow_sub-below : goal.load_node-overflow_sub-below
+load_node-overflow_sub-below g t c = some c.args.below c.if-below-eq0.false
+
+pub load_node-returns-in_err-nodes-clause-same : goal.load_node-returns-in_err-nodes-clause-same
+load_node-returns-in_err-nodes-clause-same g t c = IfOk-from_err c.from_residual.result _ c.from_residual.ensures.0
+
+pub load_node-returns-in_err-nodes-clause-fresh : goal.load_node-returns-in_err-nodes-clause-fresh
+load_node-returns-in_err-nodes-clause-fresh g t c = IfOk-from_err c.from_residual.result _ c.from_residual.ensures.0
+
+pub load_node-returns-in_err-nodes-clause-wider : goal.load_node-returns-in_err-nodes-clause-wider
+load_node-returns-in_err-nodes-clause-wider g t c = IfOk-from_err c.from_residual.result _ c.from_residual.ensures.0
+
+pub load_node-returns-in_err-nodes-clause-counted : goal.load_node-returns-in_err-nodes-clause-counted
+load_node-returns-in_err-nodes-clause-counted g t c = IfOk-from_err c.from_residual.result _ c.from_residual.ensures.0
+
+pub load_node-returns-in_err-load_parts-clause-same : goal.load_node-returns-in_err-load_parts-clause-same
+load_node-returns-in_err-load_parts-clause-same g t c = IfOk-from_err c.from_residual-in_err-load_parts.result _ c.from_residual-in_err-load_parts.ensures.0
+
+pub load_node-returns-in_err-load_parts-clause-fresh : goal.load_node-returns-in_err-load_parts-clause-fresh
+load_node-returns-in_err-load_parts-clause-fresh g t c = IfOk-from_err c.from_residual-in_err-load_parts.result _ c.from_residual-in_err-load_parts.ensures.0
+
+pub load_node-returns-in_err-load_parts-clause-wider : goal.load_node-returns-in_err-load_parts-clause-wider
+load_node-returns-in_err-load_parts-clause-wider g t c = IfOk-from_err c.from_residual-in_err-load_parts.result _ c.from_residual-in_err-load_parts.ensures.0
+
+pub load_node-returns-in_err-load_parts-clause-counted : goal.load_node-returns-in_err-load_parts-clause-counted
+load_node-returns-in_err-load_parts-clause-counted g t c = IfOk-from_err c.from_residual-in_err-load_parts.result _ c.from_residual-in_err-load_parts.ensures.0
+
+pub load_node-returns-in_err-make_wide_room-clause-same : goal.load_node-returns-in_err-make_wide_room-clause-same
+load_node-returns-in_err-make_wide_room-clause-same g t c = IfOk-from_err c.from_residual-in_err-make_wide_room.result _ c.from_residual-in_err-make_wide_room.ensures.0
+
+pub load_node-returns-in_err-make_wide_room-clause-fresh : goal.load_node-returns-in_err-make_wide_room-clause-fresh
+load_node-returns-in_err-make_wide_room-clause-fresh g t c = IfOk-from_err c.from_residual-in_err-make_wide_room.result _ c.from_residual-in_err-make_wide_room.ensures.0
+
+pub load_node-returns-in_err-make_wide_room-clause-wider : goal.load_node-returns-in_err-make_wide_room-clause-wider
+load_node-returns-in_err-make_wide_room-clause-wider g t c = IfOk-from_err c.from_residual-in_err-make_wide_room.result _ c.from_residual-in_err-make_wide_room.ensures.0
+
+pub load_node-returns-in_err-make_wide_room-clause-counted : goal.load_node-returns-in_err-make_wide_room-clause-counted
+load_node-returns-in_err-make_wide_room-clause-counted g t c = IfOk-from_err c.from_residual-in_err-make_wide_room.result _ c.from_residual-in_err-make_wide_room.ensures.0
+
+pub load_parts-returns-in_err-node-clause-adds : goal.load_parts-returns-in_err-node-clause-adds
+load_parts-returns-in_err-node-clause-adds g t c = IfOk-from_err c.from_residual.result _ c.from_residual.ensures.0
+
+pub load_parts-returns-in_err-node-clause-wider : goal.load_parts-returns-in_err-node-clause-wider
+load_parts-returns-in_err-node-clause-wider g t c = IfOk-from_err c.from_residual.result _ c.from_residual.ensures.0
+
+pub load_parts-returns-in_err-node-clause-counted : goal.load_parts-returns-in_err-node-clause-counted
+load_parts-returns-in_err-node-clause-counted g t c = IfOk-from_err c.from_residual.result _ c.from_residual.ensures.0
+
+pub load_parts-returns-in_err-push-clause-adds : goal.load_parts-returns-in_err-push-clause-adds
+load_parts-returns-in_err-push-clause-adds g t c = IfOk-from_err c.from_residual-in_err-push.result _ c.from_residual-in_err-push.ensures.0
+
+pub load_parts-returns-in_err-push-clause-wider : goal.load_parts-returns-in_err-push-clause-wider
+load_parts-returns-in_err-push-clause-wider g t c = IfOk-from_err c.from_residual-in_err-push.result _ c.from_residual-in_err-push.ensures.0
+
+pub load_parts-returns-in_err-push-clause-counted : goal.load_parts-returns-in_err-push-clause-counted
+load_parts-returns-in_err-push-clause-counted g t c = IfOk-from_err c.from_residual-in_err-push.result _ c.from_residual-in_err-push.ensures.0
+
+pub load_parts-returns-in_err-slab-clause-adds : goal.load_parts-returns-in_err-slab-clause-adds
+load_parts-returns-in_err-slab-clause-adds g t c = IfOk-from_err c.from_residual-in_err-slab.result _ c.from_residual-in_err-slab.ensures.0
+
+pub load_parts-returns-in_err-slab-clause-wider : goal.load_parts-returns-in_err-slab-clause-wider
+load_parts-returns-in_err-slab-clause-wider g t c = IfOk-from_err c.from_residual-in_err-slab.result _ c.from_residual-in_err-slab.ensures.0
+
+pub load_parts-returns-in_err-slab-clause-counted : goal.load_parts-returns-in_err-slab-clause-counted
+load_parts-returns-in_err-slab-clause-counted g t c = IfOk-from_err c.from_residual-in_err-slab.result _ c.from_residual-in_err-slab.ensures.0
+
+pub load_parts-returns-in_err-load_parts-clause-adds : goal.load_parts-returns-in_err-load_parts-clause-adds
+load_parts-returns-in_err-load_parts-clause-adds g t c = IfOk-from_err c.from_residual-in_err-load_parts.result _ c.from_residual-in_err-load_parts.ensures.0
+
+pub load_parts-returns-in_err-load_parts-clause-wider : goal.load_parts-returns-in_err-load_parts-clause-wider
+load_parts-returns-in_err-load_parts-clause-wider g t c = IfOk-from_err c.from_residual-in_err-load_parts.result _ c.from_residual-in_err-load_parts.ensures.0
+
+pub load_parts-returns-in_err-load_parts-clause-counted : goal.load_parts-returns-in_err-load_parts-clause-counted
+load_parts-returns-in_err-load_parts-clause-counted g t c = IfOk-from_err c.from_residual-in_err-load_parts.result _ c.from_residual-in_err-load_parts.ensures.0
+
+pub load_node-make_wide_room-requires : goal.load_node-make_wide_room-requires
+load_node-make_wide_room-requires g t c = record { counted = c.in_ok-load_parts.ensures.counted }
+
+pub load_parts-returns-then-axes-eq0-clause-wider : goal.load_parts-returns-then-axes-eq0-clause-wider
+load_parts-returns-then-axes-eq0-clause-wider g t c = c.in_ok-node.ensures.wider
+
+pub load_parts-returns-clause-wider : goal.load_parts-returns-clause-wider
+load_parts-returns-clause-wider g t c = c.loop-slab.invariant.wider
+
+pub load_parts-returns-then-axes-eq0-clause-counted : goal.load_parts-returns-then-axes-eq0-clause-counted
+load_parts-returns-then-axes-eq0-clause-counted g t c = c.in_ok-node.ensures.counted
+
+pub load_parts-returns-clause-counted : goal.load_parts-returns-clause-counted
+load_parts-returns-clause-counted g t c = c.loop-slab.invariant.counted
+
+pub load_parts-overflow_sub-axes : goal.load_parts-overflow_sub-axes
+load_parts-overflow_sub-axes g t c = some c.args.axes c.if-axes-eq0.false
+
+pub load_parts-overflow_sub-axes-in-Some : goal.load_parts-overflow_sub-axes-in-Some
+load_parts-overflow_sub-axes-in-Some g t c = some c.args.axes c.if-axes-eq0.false
+
+pub load_parts-new-slabs-requires-clause-clusters : goal.load_parts-new-slabs-requires-clause-clusters
+load_parts-new-slabs-requires-clause-clusters g t c = two_some c.args.clusters c.requires.clusters
+
+pub load_parts-new-slabs-requires-clause-axis : goal.load_parts-new-slabs-requires-clause-axis
+load_parts-new-slabs-requires-clause-axis g t c = last_axis c.args.axes g.T.Envelope.Point.Point.DIMENSIONS c.requires.axes c.if-axes-eq0.false
+
+pub load_parts-next-requires : goal.load_parts-next-requires
+load_parts-next-requires g t c = c.loop-slab.invariant.cutting
