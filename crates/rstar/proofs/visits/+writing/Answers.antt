@@ -1,4 +1,4 @@
-use Rattle.std.proofs.Common.{◌≡◌, ◌∙◌, sym, refl, subst, ap, length, arith, map, rules}
+use Rattle.std.proofs.Common.{◌≡◌, ◌<◌, ◌≤◌, ◌+◌, ℕ, ◌∙◌, sym, refl, subst, ap, length, arith, map, rules}
 use Rattle.std.specs.List.{AllZip}
 use Rattle.std.specs.Vec.{with_items}
 use Rattle.rstar.specs.declared.node.RTreeNode.{RTreeNode, Leaf, Parent}
@@ -12,14 +12,18 @@ use Rattle.rstar.proofs.Rows.{steps-Parent}
 use Rattle.rstar.proofs.Writing.{halfway-start, here, here-steps, halfway-next, halfway-break, halfway-break-changed, halfway-end, parent-refused, node-unchanged, leaf-passed, leaf-called, leaf-changed, parent-written, parent-changed, refilled}
 use Rattle.rstar.proofs.visits.+writing.Goals as goal
 
+-- the measure falls
+below_parent : (node parent inner lent t : ℕ) → node ≡ t → node ≡ parent → parent ≡ 2 + inner → lent ≡ inner → 1 + lent < t
+below_parent node parent inner lent t e f h k = omega arith
+
+below_nodes : (node all t : ℕ) → 1 + all ≡ t → node ≤ all → node < t
+below_nodes node all t e h = omega arith
+
 -- ---- a node
 
 pub visit_node_mut-visit_nodes_mut-requires : goal.visit_node_mut-visit_nodes_mut-requires
 visit_node_mut-visit_nodes_mut-requires g t c κs within =
-    let here = ap (λ n. steps n) c.in-Parent.is in
-    let below = steps-Parent c.in-Parent.parent in
-    let same = ap (λ ns. total (map steps ns)) (rw c.in-Parent.parent-is at c.as_mut_slice.ensures.value) in
-    (omega (arith, c.decreases), search (rules, within))
+    (below_parent (steps c.args.node.now) (steps (Parent c.in-Parent.parent)) (total (map steps (children_of c.in-Parent.parent))) (total (map steps c.as_mut_slice.result.now)) t c.decreases (ap (λ n. steps n) c.in-Parent.is) (steps-Parent c.in-Parent.parent) (ap (λ ns. total (map steps ns)) (rw c.in-Parent.parent-is at c.as_mut_slice.ensures.value)), search (rules, within))
 
 pub visit_node_mut-returns-then-should_unpack_leaf-clause-written : goal.visit_node_mut-returns-then-should_unpack_leaf-clause-written
 visit_node_mut-returns-then-should_unpack_leaf-clause-written g t c =
@@ -57,7 +61,7 @@ visit_node_mut-returns-then-should_unpack_parent-clause-written g t c =
     let p = c.in-Parent.parent in
     let new = c.visit_nodes_mut.new.nodes in
     let value = rw c.in-Parent.parent-is at c.as_mut_slice.ensures.value in
-    let long : length new ≡ length (children_of p) = (let a = ap length value in let b = c.visit_nodes_mut.auto.nodes in omega (arith, a, b)) in
+    let long : length new ≡ length (children_of p) = c.visit_nodes_mut.auto.nodes ∙ ap length value in
     simp (c.in-Parent.is, outs-Parent)
     (parent-written o accepts selects (goal.V-step g) c.args.visitor.now (Parent p) (Parent (record p { children = with_items p.children new })) p (record p { children = with_items p.children new }) c.visit_nodes_mut.result c.visit_nodes_mut.new.visitor refl refl
     (sym (rw c.in-Parent.parent-is at c.should_unpack_parent.ensures) ∙ c.if-should_unpack_parent.true)
@@ -72,7 +76,7 @@ visit_node_mut-returns-then-should_unpack_parent-clause-changed g t c =
     let p = c.in-Parent.parent in
     let new = c.visit_nodes_mut.new.nodes in
     let value = rw c.in-Parent.parent-is at c.as_mut_slice.ensures.value in
-    let long : length new ≡ length (children_of p) = (let a = ap length value in let b = c.visit_nodes_mut.auto.nodes in omega (arith, a, b)) in
+    let long : length new ≡ length (children_of p) = c.visit_nodes_mut.auto.nodes ∙ ap length value in
     simp (c.in-Parent.is, outs-Parent)
     (λ k. parent-changed o accepts selects (goal.V-step g) (Parent p) (Parent (record p { children = with_items p.children new })) p (record p { children = with_items p.children new }) refl refl refl refl
     (λ h w. subst (AllZip (IsChanged (KeepsBox o) h) (children_of p)) (sym (refilled p.children new long))
@@ -104,7 +108,7 @@ visit_nodes_mut-offset_bounds-nodes-index g t c = search rules
 pub visit_nodes_mut-visit_node_mut-requires : goal.visit_nodes_mut-visit_node_mut-requires
 visit_nodes_mut-visit_node_mut-requires g t c κs within =
     let less = λ (d : RTreeNode g.row.T.Denot g.row.T-Envelope.Denot g.row.T-Envelope-Point.Denot g.row.T-Envelope-Point-Scalar.Denot g.row.T-Envelope-Point-Scalar-FromStrRadixErr.Denot). here-steps g.T.RTreeObject.object (g.F.SelectionFunction.accepts c.args.func.now) (g.F.SelectionFunction.selects c.args.func.now) (goal.V-step g) (here g.T.RTreeObject.object (g.F.SelectionFunction.accepts c.args.func.now) (g.F.SelectionFunction.selects c.args.func.now) (goal.V-step g) c.loop-index.invariant d c.loop-index-test.true) in
-    (omega (arith, c.decreases, less), search (rules, within))
+    (below_nodes _ (total (map steps c.args.nodes.now)) t c.decreases (less _), search (rules, within))
 
 pub visit_nodes_mut-returns-in-Break-clause-written : goal.visit_nodes_mut-returns-in-Break-clause-written
 visit_nodes_mut-returns-in-Break-clause-written g t c =

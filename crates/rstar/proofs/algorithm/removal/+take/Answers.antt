@@ -1,4 +1,5 @@
 use Rattle.std.proofs.Common.{◌≡◌, ◌∙◌, ◌<◌, sym, refl, arith, ap, length, suc, ◌+◌, ◌-◌, get_or, get_or-set_same, Vec, ℕ, ◌≤◌, vec_len, vec_capacity}
+use Rattle.rstar.specs.declared.node.RTreeNode.{Leaf}
 use Rattle.rstar.specs.declared.node.RTreeNode.TheVariants.{outs-Leaf, outs-Parent}
 use Rattle.rstar.specs.Taking.{selects_in, is_selected_leaf, is_childless, lower_numbers}
 use Rattle.rstar.proofs.Parts.{same_read, same_item, lower_lent, lower_left}
@@ -35,7 +36,7 @@ take_among-returns-then-is_selected_leaf-clause-takes g t c =
     let i = c.len.result - 1 - c.loop-passed.passed in
     let next : length c.loop-passed.children.items ≡ suc (i + c.loop-passed.passed) = next_is (length c.loop-passed.children.items) c.len.result c.len-passed-end.result c.loop-passed.passed (vec_len c.loop-passed.children) (vec_len c.args.children.now) c.len.ensures (ap vec_len c.loop-passed.invariant.same) c.len-passed-end.ensures c.loop-passed-test.true c.loop-passed.children.ok.0 in
     let within : i < length c.loop-passed.children.items = one_of i c.loop-passed.passed (length c.loop-passed.children.items) next in
-    let here = same_read c.loop-passed.children.items i _ _ within c.index.ensures c.take_leaf-taken.ensures.node in
+    let here = same_read c.loop-passed.children.items i c.index.result.now (Leaf c.take_leaf-taken.result) within c.index.ensures c.take_leaf-taken.ensures.node in
     let chosen = ap (is_selected_leaf (g.R.SelectionFunction.selects c.args.func.now)) (sym here) in
     rw (c.set_first.ensures, c.take_leaf-taken.ensures.items)
     (gives_leaf g.T.Envelope.Envelope.boxes g.T.RTreeObject.object (g.R.SelectionFunction.accepts c.args.func.now) (g.R.SelectionFunction.selects c.args.func.now) c.args.children.now.items c.args.path.now c.args.rest.now c.loop-passed.children.items c.loop-passed.path c.loop-passed.rest c.loop-passed.passed c.loop-passed.invariant.scanned i next c.take_leaf-taken.result c.take_leaf-taken.ensures.node
@@ -65,8 +66,8 @@ take_among-loop-passed-preserved g t c =
     let i = c.len.result - 1 - c.loop-passed.passed in
     let next : length c.loop-passed.children.items ≡ suc (i + c.loop-passed.passed) = next_is (length c.loop-passed.children.items) c.len.result c.len-passed-end.result c.loop-passed.passed (vec_len c.loop-passed.children) (vec_len c.args.children.now) c.len.ensures (ap vec_len c.loop-passed.invariant.same) c.len-passed-end.ensures c.loop-passed-test.true c.loop-passed.children.ok.0 in
     let within : i < length c.loop-passed.children.items = one_of i c.loop-passed.passed (length c.loop-passed.children.items) next in
-    let here = same_read c.loop-passed.children.items i _ _ within c.index.ensures c.index_mut.ensures.value in
-    let unchanged = same_item c.loop-passed.children i c.take_inside-taken.new.child _ (none_gives _ (sym c.is_some.ensures ∙ c.if-is_some.false) c.take_inside-taken.ensures.kept ∙ c.index_mut.ensures.value) ∙ c.loop-passed.invariant.same in
+    let here = same_read c.loop-passed.children.items i c.index.result.now c.index_mut.result.now within c.index.ensures c.index_mut.ensures.value in
+    let unchanged = same_item c.loop-passed.children i c.take_inside-taken.new.child _ (none_gives c.take_inside-taken.result (sym c.is_some.ensures ∙ c.if-is_some.false) c.take_inside-taken.ensures.kept ∙ c.index_mut.ensures.value) ∙ c.loop-passed.invariant.same in
     record {
       scanned = passes_any g.T.Envelope.Envelope.boxes g.T.RTreeObject.object (g.R.SelectionFunction.accepts c.args.func.now) (g.R.SelectionFunction.selects c.args.func.now) c.args.children.now.items c.args.path.now c.args.rest.now c.loop-passed.children.items c.loop-passed.path c.loop-passed.rest c.loop-passed.passed c.loop-passed.invariant.scanned i next c.index_mut.result.now c.take_inside-taken.new.child c.take_inside-taken.new.path c.take_inside-taken.new.rest c.take_inside-taken.result (sym c.is_some.ensures ∙ c.if-is_some.false) c.index_mut.ensures.value
           c.take_inside-taken.ensures c.take_inside-taken.auto.path
@@ -97,11 +98,11 @@ take_below-returns-then-is_some-clause-takes g t c =
 pub take_inside-returns-then-should_unpack_parent :
     goal.take_inside-returns-then-should_unpack_parent
 take_inside-returns-then-should_unpack_parent g t c =
-    let takes = rw (c.in-Parent.parent-is, lower_lent _ _ c.min-lower.ensures) at c.take_below.ensures.takes in
-    let kept = rw (c.in-Parent.parent-is, lower_lent _ _ c.min-lower.ensures) at c.take_below.ensures.kept in
+    let takes = rw (c.in-Parent.parent-is, lower_lent c.args.path.now c.min-lower.result c.min-lower.ensures) at c.take_below.ensures.takes in
+    let kept = rw (c.in-Parent.parent-is, lower_lent c.args.path.now c.min-lower.result c.min-lower.ensures) at c.take_below.ensures.kept in
     let same = rw c.in-Parent.parent-is at c.take_below.ensures.same in
     let len = c.take_below.auto.path in
-    rw (c.in-Parent.is, outs-Parent c.in-Parent.parent, lower_left _ _ _ c.min-lower.ensures len) (entered g.T.Envelope.Envelope.boxes g.T.RTreeObject.object (g.R.SelectionFunction.accepts c.args.func.now) (g.R.SelectionFunction.selects c.args.func.now) c.in-Parent.parent c.take_below.new.node (lower_numbers c.args.path.now) c.take_below.new.path c.args.rest.now c.take_below.new.rest c.take_below.result takes kept same)
+    rw (c.in-Parent.is, outs-Parent c.in-Parent.parent, lower_left c.args.path.now c.take_below.new.path c.min-lower.result c.min-lower.ensures len) (entered g.T.Envelope.Envelope.boxes g.T.RTreeObject.object (g.R.SelectionFunction.accepts c.args.func.now) (g.R.SelectionFunction.selects c.args.func.now) c.in-Parent.parent c.take_below.new.node (lower_numbers c.args.path.now) c.take_below.new.path c.args.rest.now c.take_below.new.rest c.take_below.result takes kept same)
 
 pub take_inside-returns-else-should_unpack_parent :
     goal.take_inside-returns-else-should_unpack_parent

@@ -1,6 +1,8 @@
 use Rattle.std.proofs.Common.{rules, arith, false, zero, suc, ◌≡◌, ◌≢◌, ◌+◌, ◌-◌, ◌*◌, ◌<◌, ◌≤◌, ℕ, [], ◌∙◌, length, subst, sym, refl, ap, IfOk}
 use Rattle.std.proofs.Math.Nat.{suc-mul}
 use Rattle.std.proofs.lemmas.Result.{IfOk-from_err}
+use Rattle.std.specs.Int.{div_ceil}
+use Rattle.rstar_base.specs.Slabs.{elements_left, slab_size_of, dimension_of}
 use Rattle.rstar.specs.Loaded.{NoneEmpty, GoesDeep, IsPartSize}
 use Rattle.rstar.specs.Loads.{IsFresh, IsFreshNode}
 use Rattle.rstar.proofs.Depths.{cluster_bound, deep_large, deep_parts, deep_slab}
@@ -64,7 +66,7 @@ load_node-load_parts-requires g t c κs within =
     deep_parts g.Params.RTreeParams.MAX_SIZE g.T.Envelope.Point.Point.DIMENSIONS c.DIMENSIONS-axes.result (c.args.below - 1) c.args.below (length c.args.elements.items) c.len.result c.slabs_on_axis-clusters.result c.slabs_on_axis-clusters.ensures.number.0
     c.requires.deep (previous c.args.below c.if-below-eq0.false) long c.DIMENSIONS-axes.ensures c.slabs_on_axis-clusters.ensures.number.1 c.slabs_on_axis-clusters.ensures.number.2 in
     let all : c.DIMENSIONS-axes.result ≤ g.T.Envelope.Point.Point.DIMENSIONS = within_same c.DIMENSIONS-axes.result g.T.Envelope.Point.Point.DIMENSIONS c.DIMENSIONS-axes.ensures in
-    (parts_below c.args.below g.T.Envelope.Point.Point.DIMENSIONS c.DIMENSIONS-axes.result t c.decreases c.if-below-eq0.false c.DIMENSIONS-axes.ensures, search (rules, within))
+    (parts_below c.args.below g.T.Envelope.Point.Point.DIMENSIONS c.DIMENSIONS-axes.result t c.decreases c.if-below-eq0.false c.DIMENSIONS-axes.ensures, (within.0, (within.1.0, (within.1.1.0, (within.1.1.1.0, (within.1.1.1.1.0, (within.1.1.1.1.1, (c.requires.some, (c.requires.elements, (c.requires.dimensions, (all, (c.slabs_on_axis-clusters.ensures.least, (deep, c.requires.counted)))))))))))))
 
 pub load_node-returns-then-below-eq0-clause-fresh : goal.load_node-returns-then-below-eq0-clause-fresh
 load_node-returns-then-below-eq0-clause-fresh g t c =
@@ -80,7 +82,7 @@ pub load_parts-load_node-requires : goal.load_parts-load_node-requires
 load_parts-load_node-requires g t c κs within =
     let here : IsPartSize c.args.clusters c.args.axes (length c.args.elements.items) (length c.args.elements.items) = subst (λ k. IsPartSize c.args.clusters k (length c.args.elements.items) (length c.args.elements.items)) (sym c.if-axes-eq0.true) refl in
     let deep : GoesDeep g.Params.RTreeParams.MAX_SIZE g.T.Envelope.Point.Point.DIMENSIONS c.args.below (length c.args.elements.items) = c.requires.deep (length c.args.elements.items) here in
-    (node_below (c.args.below * (g.T.Envelope.Point.Point.DIMENSIONS + 2)) c.args.axes t c.decreases, search (rules, within))
+    (node_below (c.args.below * (g.T.Envelope.Point.Point.DIMENSIONS + 2)) c.args.axes t c.decreases, (within.0, (within.1.0, (within.1.1.0, (within.1.1.1.0, (within.1.1.1.1.0, (within.1.1.1.1.1, (c.requires.some, (c.requires.elements, (c.requires.dimensions, (deep, c.requires.counted)))))))))))
 
 pub load_node-returns-clause-same : goal.load_node-returns-clause-same
 load_node-returns-clause-same g t c =
@@ -115,37 +117,37 @@ load_parts-loop-slab-init g t c = record {
 
 pub load_parts-load_parts-requires : goal.load_parts-load_parts-requires
 load_parts-load_parts-requires g t c κs within =
-    let cut = slab_given (λ t' k. g.T.Envelope.Envelope.boxes.axis_key (g.T.RTreeObject.object.box_of t') k) _ (c.args.axes - 1) _ _ _ _ c.in_ok-slab.field-0 _ c.in-Some.ensures.steps.0 c.in_ok-slab.was c.loop-slab.invariant.axis c.loop-slab.invariant.size in
-    let each : NoneEmpty g.T.Envelope.Envelope.boxes g.T.RTreeObject.object c.in_ok-slab.field-0.items = (slab_has _ (λ t'. g.T.Envelope.Envelope.boxes.is_empty (g.T.RTreeObject.object.box_of t') ≡ false) _ _ _ _ cut.0 c.loop-slab.invariant.each).0 in
-    let some : c.in_ok-slab.field-0.items ≢ [] = slab_some _ _ _ _ _ cut.0 (subst (λ n. 0 < n) c.loop-slab.invariant.size c.loop-slab.invariant.cutting.0) cut.1 in
+    let cut = slab_given (λ t' k. g.T.Envelope.Envelope.boxes.axis_key (g.T.RTreeObject.object.box_of t') k) (dimension_of c.loop-slab.slabs) (c.args.axes - 1) (slab_size_of c.loop-slab.slabs) (div_ceil (length c.args.elements.items) c.args.clusters) (elements_left c.loop-slab.slabs) c.in-Some.slab c.in_ok-slab.field-0 (elements_left c.next.new.self) c.in-Some.ensures.steps.0 c.in_ok-slab.was c.loop-slab.invariant.axis c.loop-slab.invariant.size in
+    let each : NoneEmpty g.T.Envelope.Envelope.boxes g.T.RTreeObject.object c.in_ok-slab.field-0.items = (slab_has (λ t'. g.T.Envelope.Envelope.boxes.axis_key (g.T.RTreeObject.object.box_of t') (c.args.axes - 1)) (λ t'. g.T.Envelope.Envelope.boxes.is_empty (g.T.RTreeObject.object.box_of t') ≡ false) (div_ceil (length c.args.elements.items) c.args.clusters) (elements_left c.loop-slab.slabs) c.in_ok-slab.field-0.items (elements_left c.next.new.self) cut.0 c.loop-slab.invariant.each).0 in
+    let filled : c.in_ok-slab.field-0.items ≢ [] = slab_some (λ t'. g.T.Envelope.Envelope.boxes.axis_key (g.T.RTreeObject.object.box_of t') (c.args.axes - 1)) (div_ceil (length c.args.elements.items) c.args.clusters) (elements_left c.loop-slab.slabs) c.in_ok-slab.field-0.items (elements_left c.next.new.self) cut.0 (subst (λ n. 0 < n) c.loop-slab.invariant.size c.loop-slab.invariant.cutting.0) cut.1 in
     let deep : (m : ℕ) → IsPartSize c.args.clusters (c.args.axes - 1) (length c.in_ok-slab.field-0.items) m → GoesDeep g.Params.RTreeParams.MAX_SIZE g.T.Envelope.Point.Point.DIMENSIONS c.args.below m =
     deep_slab g.Params.RTreeParams.MAX_SIZE g.T.Envelope.Point.Point.DIMENSIONS c.args.below c.args.clusters c.args.axes (c.args.axes - 1) (length c.args.elements.items) (length c.in_ok-slab.field-0.items) (previous c.args.axes c.if-axes-eq0.false) c.requires.deep
-    (next_size (λ t' k. g.T.Envelope.Envelope.boxes.axis_key (g.T.RTreeObject.object.box_of t') k) (IsFreshNode g.T.Envelope.Envelope.boxes g.T.RTreeObject.object g.Params.RTreeParams.MAX_SIZE c.loop-slab.widest g.T.Envelope.Point.Point.DIMENSIONS c.args.below) c.args.clusters (c.args.axes - 1) c.args.elements.items _ c.in_ok-slab.field-0.items _ c.args.nodes.now.items c.loop-slab.nodes.items c.loop-slab.invariant.parts cut.0 cut.1) in
+    (next_size (λ t' k. g.T.Envelope.Envelope.boxes.axis_key (g.T.RTreeObject.object.box_of t') k) (IsFreshNode g.T.Envelope.Envelope.boxes g.T.RTreeObject.object g.Params.RTreeParams.MAX_SIZE c.loop-slab.widest g.T.Envelope.Point.Point.DIMENSIONS c.args.below) c.args.clusters (c.args.axes - 1) c.args.elements.items (elements_left c.loop-slab.slabs) c.in_ok-slab.field-0.items (elements_left c.next.new.self) c.args.nodes.now.items c.loop-slab.nodes.items c.loop-slab.invariant.parts cut.0 cut.1) in
     let axes : c.args.axes - 1 ≤ g.T.Envelope.Point.Point.DIMENSIONS = fewer_axes c.args.axes g.T.Envelope.Point.Point.DIMENSIONS c.requires.axes in
-    (slab_below (c.args.below * (g.T.Envelope.Point.Point.DIMENSIONS + 2)) c.args.axes t c.decreases c.if-axes-eq0.false, search (rules, within))
+    (slab_below (c.args.below * (g.T.Envelope.Point.Point.DIMENSIONS + 2)) c.args.axes t c.decreases c.if-axes-eq0.false, (within.0, (within.1.0, (within.1.1.0, (within.1.1.1.0, (within.1.1.1.1.0, (within.1.1.1.1.1, (filled, (each, (c.requires.dimensions, (axes, (c.requires.clusters, (deep, c.loop-slab.invariant.counted)))))))))))))
 
 pub load_parts-loop-slab-preserved : goal.load_parts-loop-slab-preserved
 load_parts-loop-slab-preserved g t c =
-    let cut = slab_given (λ t' k. g.T.Envelope.Envelope.boxes.axis_key (g.T.RTreeObject.object.box_of t') k) _ (c.args.axes - 1) _ _ _ _ c.in_ok-slab.field-0 _ c.in-Some.ensures.steps.0 c.in_ok-slab.was c.loop-slab.invariant.axis c.loop-slab.invariant.size in
+    let cut = slab_given (λ t' k. g.T.Envelope.Envelope.boxes.axis_key (g.T.RTreeObject.object.box_of t') k) (dimension_of c.loop-slab.slabs) (c.args.axes - 1) (slab_size_of c.loop-slab.slabs) (div_ceil (length c.args.elements.items) c.args.clusters) (elements_left c.loop-slab.slabs) c.in-Some.slab c.in_ok-slab.field-0 (elements_left c.next.new.self) c.in-Some.ensures.steps.0 c.in_ok-slab.was c.loop-slab.invariant.axis c.loop-slab.invariant.size in
     let le : c.loop-slab.widest ≤ c.load_parts.new.widest = c.in_ok-load_parts.ensures.wider in
     let before = underway_better (λ t' k. g.T.Envelope.Envelope.boxes.axis_key (g.T.RTreeObject.object.box_of t') k)
     (IsFreshNode g.T.Envelope.Envelope.boxes g.T.RTreeObject.object g.Params.RTreeParams.MAX_SIZE c.loop-slab.widest g.T.Envelope.Point.Point.DIMENSIONS c.args.below)
     (IsFreshNode g.T.Envelope.Envelope.boxes g.T.RTreeObject.object g.Params.RTreeParams.MAX_SIZE c.load_parts.new.widest g.T.Envelope.Point.Point.DIMENSIONS c.args.below)
-    (fresh_wider g.T.Envelope.Envelope.boxes g.T.RTreeObject.object g.Params.RTreeParams.MAX_SIZE c.loop-slab.widest c.load_parts.new.widest g.T.Envelope.Point.Point.DIMENSIONS c.args.below le) c.args.clusters (c.args.axes - 1) c.args.elements.items _ c.args.nodes.now.items c.loop-slab.nodes.items c.loop-slab.invariant.parts in
+    (fresh_wider g.T.Envelope.Envelope.boxes g.T.RTreeObject.object g.Params.RTreeParams.MAX_SIZE c.loop-slab.widest c.load_parts.new.widest g.T.Envelope.Point.Point.DIMENSIONS c.args.below le) c.args.clusters (c.args.axes - 1) c.args.elements.items (elements_left c.loop-slab.slabs) c.args.nodes.now.items c.loop-slab.nodes.items c.loop-slab.invariant.parts in
     let was : c.args.widest.now ≤ c.loop-slab.widest = c.loop-slab.invariant.wider in
     record {
       axis = c.in-Some.ensures.steps.2 ∙ c.loop-slab.invariant.axis;
       size = c.in-Some.ensures.steps.1 ∙ c.loop-slab.invariant.size;
       cutting = (subst (λ n. 0 < n) (sym c.in-Some.ensures.steps.1) c.loop-slab.invariant.cutting.0, subst (λ n. n < g.T.Envelope.Point.Point.DIMENSIONS) (sym c.in-Some.ensures.steps.2) c.loop-slab.invariant.cutting.1);
-      each = (slab_has _ (λ t'. g.T.Envelope.Envelope.boxes.is_empty (g.T.RTreeObject.object.box_of t') ≡ false) _ _ _ _ cut.0 c.loop-slab.invariant.each).1;
+      each = (slab_has (λ t'. g.T.Envelope.Envelope.boxes.axis_key (g.T.RTreeObject.object.box_of t') (c.args.axes - 1)) (λ t'. g.T.Envelope.Envelope.boxes.is_empty (g.T.RTreeObject.object.box_of t') ≡ false) (div_ceil (length c.args.elements.items) c.args.clusters) (elements_left c.loop-slab.slabs) c.in_ok-slab.field-0.items (elements_left c.next.new.self) cut.0 c.loop-slab.invariant.each).1;
       wider = up_to c.args.widest.now c.loop-slab.widest c.load_parts.new.widest was le;
       counted = c.in_ok-load_parts.ensures.counted;
-      parts = underway_more (λ t' k. g.T.Envelope.Envelope.boxes.axis_key (g.T.RTreeObject.object.box_of t') k) (IsFreshNode g.T.Envelope.Envelope.boxes g.T.RTreeObject.object g.Params.RTreeParams.MAX_SIZE c.load_parts.new.widest g.T.Envelope.Point.Point.DIMENSIONS c.args.below) c.args.clusters (c.args.axes - 1) c.args.elements.items _ c.in_ok-slab.field-0.items _ c.args.nodes.now.items c.loop-slab.nodes.items c.load_parts.new.nodes.items before cut.0 cut.1 c.in_ok-load_parts.ensures.adds;
+      parts = underway_more (λ t' k. g.T.Envelope.Envelope.boxes.axis_key (g.T.RTreeObject.object.box_of t') k) (IsFreshNode g.T.Envelope.Envelope.boxes g.T.RTreeObject.object g.Params.RTreeParams.MAX_SIZE c.load_parts.new.widest g.T.Envelope.Point.Point.DIMENSIONS c.args.below) c.args.clusters (c.args.axes - 1) c.args.elements.items (elements_left c.loop-slab.slabs) c.in_ok-slab.field-0.items (elements_left c.next.new.self) c.args.nodes.now.items c.loop-slab.nodes.items c.load_parts.new.nodes.items before cut.0 cut.1 c.in_ok-load_parts.ensures.adds;
     }
 
 pub load_parts-returns-clause-adds : goal.load_parts-returns-clause-adds
 load_parts-returns-clause-adds g t c =
-    underway_end (λ t' k. g.T.Envelope.Envelope.boxes.axis_key (g.T.RTreeObject.object.box_of t') k) (IsFreshNode g.T.Envelope.Envelope.boxes g.T.RTreeObject.object g.Params.RTreeParams.MAX_SIZE c.loop-slab.widest g.T.Envelope.Point.Point.DIMENSIONS c.args.below) c.args.clusters (c.args.axes - 1) c.args.axes c.args.elements.items _ c.args.nodes.now.items c.loop-slab.nodes.items (two_some c.args.clusters c.requires.clusters) c.loop-slab.invariant.parts c.in_default.ensures.steps.0.0 (previous c.args.axes c.if-axes-eq0.false)
+    underway_end (λ t' k. g.T.Envelope.Envelope.boxes.axis_key (g.T.RTreeObject.object.box_of t') k) (IsFreshNode g.T.Envelope.Envelope.boxes g.T.RTreeObject.object g.Params.RTreeParams.MAX_SIZE c.loop-slab.widest g.T.Envelope.Point.Point.DIMENSIONS c.args.below) c.args.clusters (c.args.axes - 1) c.args.axes c.args.elements.items (elements_left c.loop-slab.slabs) c.args.nodes.now.items c.loop-slab.nodes.items (two_some c.args.clusters c.requires.clusters) c.loop-slab.invariant.parts c.in_default.ensures.steps.0.0 (previous c.args.axes c.if-axes-eq0.false)
 
 -- ---- what stands there already
 

@@ -1,10 +1,30 @@
-use Rattle.std.proofs.Common.{◌≡◌, ◌+◌, ◌++◌, ◌∷◌, [], ap, ◌∙◌, subst, arith, append-nil, vec_len, IfNone, IfSome}
+use Rattle.std.proofs.Common.{◌≡◌, ◌<◌, ◌≤◌, ℕ, ◌-◌, ◌+◌, ◌++◌, ◌∷◌, [], ap, refl, ◌∙◌, subst, arith, append-nil, vec_len, IfNone, IfSome}
 use Rattle.rstar.specs.declared.node.RTreeNode.{Leaf, Parent}
 use Rattle.rstar.specs.declared.node.RTreeNode.TheVariants.{outs-Parent}
 use Rattle.rstar.specs.Nodes.{IsElement}
 use Rattle.rstar.specs.Kept.{IsKeptInner}
 use Rattle.rstar.proofs.Insertion.{leaf_added, hull_grown, added, child_grown, child_at, tree_at, sized_leaf, sized_parts, sized_child, no_leaf_above, leaf_counted, parents_along, child_made}
 use Rattle.rstar.proofs.algorithm.rstar.insertion.+insert.Goals as goal
+
+-- ---- numbers of spare lists, by lemmas that read no more than they need
+
+some_spare : (l old : ℕ) → l < old → 0 < old
+some_spare l old h = omega arith
+
+one_left : (l old new : ℕ) → l < old → old ≤ new + l → 0 < new
+one_left l old new h k = omega arith
+
+taken_some : (old new n : ℕ) → old ≡ new + n → new ≤ old
+taken_some old new n e = omega arith
+
+fewer_yet : (old mid new n : ℕ) → mid ≡ new + n → mid ≤ old → new ≤ old
+fewer_yet old mid new n e h = omega arith
+
+one_more : (old new l : ℕ) → old ≤ new + l → old ≤ new + l + 1
+one_more old new l h = omega arith
+
+level_below : (old new l : ℕ) → 0 < l → old ≤ new + (l - 1) + 1 → old ≤ new + l
+level_below old new l h k = omega arith
 
 -- ---- below a node
 
@@ -107,33 +127,116 @@ insert_below-returns-clause-made g t c =
 
 pub insert_in_child-insert_below-requires : goal.insert_in_child-insert_below-requires
 insert_in_child-insert_below-requires g t c κs within =
-    let tree = child_at (IsKeptInner g.T.Envelope.Envelope.boxes g.T.RTreeObject.object g.Params.RTreeParams.MAX_SIZE c.args.widest) (IsElement g.T.Envelope.Envelope.boxes g.T.RTreeObject.object) c.args.levels c.args.children.now.items c.args.index (Parent c.in-Parent.child) (omega (arith, c.args.children.now.ok.0)) (rw c.in-Parent.is at c.index_mut.ensures.value) c.requires.below in
+    let tree = child_at (IsKeptInner g.T.Envelope.Envelope.boxes g.T.RTreeObject.object g.Params.RTreeParams.MAX_SIZE c.args.widest) (IsElement g.T.Envelope.Envelope.boxes g.T.RTreeObject.object) c.args.levels c.args.children.now.items c.args.index (Parent c.in-Parent.child) (subst (λ n. c.args.index < n) c.args.children.now.ok.0 c.requires.index) (rw c.in-Parent.is at c.index_mut.ensures.value) c.requires.below in
     let at = tree_at (IsKeptInner g.T.Envelope.Envelope.boxes g.T.RTreeObject.object g.Params.RTreeParams.MAX_SIZE c.args.widest) (IsElement g.T.Envelope.Envelope.boxes g.T.RTreeObject.object) c.args.levels c.in-Parent.child c.requires.above tree in
     rw c.in-Parent.child-is (omega arith, (within.0, (within.1.0, (within.1.1.0, (within.1.1.1.0, (within.1.1.1.1.0, (within.1.1.1.1.1, (at.0.0, (at.1, (λ _. omega (arith, at.0.1, c.in-Parent.child.children.ok.0), (c.requires.element, (c.requires.wide, (c.requires.spares, omega arith)))))))))))))
 
 pub insert_in_child-unreachable-requires : goal.insert_in_child-unreachable-requires
 insert_in_child-unreachable-requires g t c =
     no_leaf_above (IsKeptInner g.T.Envelope.Envelope.boxes g.T.RTreeObject.object g.Params.RTreeParams.MAX_SIZE c.args.widest) (IsElement g.T.Envelope.Envelope.boxes g.T.RTreeObject.object) c.args.levels c.in-Leaf.field-0 c.requires.above
-    (child_at (IsKeptInner g.T.Envelope.Envelope.boxes g.T.RTreeObject.object g.Params.RTreeParams.MAX_SIZE c.args.widest) (IsElement g.T.Envelope.Envelope.boxes g.T.RTreeObject.object) c.args.levels c.args.children.now.items c.args.index (Leaf c.in-Leaf.field-0) (omega (arith, c.args.children.now.ok.0)) (rw c.in-Leaf.is at c.index_mut.ensures.value) c.requires.below)
+    (child_at (IsKeptInner g.T.Envelope.Envelope.boxes g.T.RTreeObject.object g.Params.RTreeParams.MAX_SIZE c.args.widest) (IsElement g.T.Envelope.Envelope.boxes g.T.RTreeObject.object) c.args.levels c.args.children.now.items c.args.index (Leaf c.in-Leaf.field-0) (subst (λ n. c.args.index < n) c.args.children.now.ok.0 c.requires.index) (rw c.in-Leaf.is at c.index_mut.ensures.value) c.requires.below)
 
 pub insert_in_child-returns-clause-bag : goal.insert_in_child-returns-clause-bag
 insert_in_child-returns-clause-bag g t c =
-    let grown = child_grown g.met.T.Envelope.Envelope.envelope_laws g.met.T.RTreeObject.object_law g.Params.RTreeParams.MAX_SIZE c.args.widest c.args.levels c.args.t c.args.children.now.items c.args.index c.in-Parent.child c.insert_below.new.node c.insert_below.result c.requires.above (omega (arith, c.args.children.now.ok.0)) (rw c.in-Parent.is at c.index_mut.ensures.value) c.requires.below
+    let grown = child_grown g.met.T.Envelope.Envelope.envelope_laws g.met.T.RTreeObject.object_law g.Params.RTreeParams.MAX_SIZE c.args.widest c.args.levels c.args.t c.args.children.now.items c.args.index c.in-Parent.child c.insert_below.new.node c.insert_below.result c.requires.above (subst (λ n. c.args.index < n) c.args.children.now.ok.0 c.requires.index) (rw c.in-Parent.is at c.index_mut.ensures.value) c.requires.below
     (rw c.in-Parent.child-is at c.insert_below.ensures.bag) c.insert_below.ensures.first c.insert_below.ensures.second in
     simp (c.in-Parent.is, outs-Parent) grown.0
 
 pub insert_in_child-returns-clause-below : goal.insert_in_child-returns-clause-below
 insert_in_child-returns-clause-below g t c =
-    let grown = child_grown g.met.T.Envelope.Envelope.envelope_laws g.met.T.RTreeObject.object_law g.Params.RTreeParams.MAX_SIZE c.args.widest c.args.levels c.args.t c.args.children.now.items c.args.index c.in-Parent.child c.insert_below.new.node c.insert_below.result c.requires.above (omega (arith, c.args.children.now.ok.0)) (rw c.in-Parent.is at c.index_mut.ensures.value) c.requires.below
+    let grown = child_grown g.met.T.Envelope.Envelope.envelope_laws g.met.T.RTreeObject.object_law g.Params.RTreeParams.MAX_SIZE c.args.widest c.args.levels c.args.t c.args.children.now.items c.args.index c.in-Parent.child c.insert_below.new.node c.insert_below.result c.requires.above (subst (λ n. c.args.index < n) c.args.children.now.ok.0 c.requires.index) (rw c.in-Parent.is at c.index_mut.ensures.value) c.requires.below
     (rw c.in-Parent.child-is at c.insert_below.ensures.bag) c.insert_below.ensures.first c.insert_below.ensures.second in
     simp (c.in-Parent.is, outs-Parent) grown.1
 
 pub insert_in_child-returns-clause-sized : goal.insert_in_child-returns-clause-sized
 insert_in_child-returns-clause-sized g t c =
     simp (c.in-Parent.is, outs-Parent) (λ trees. sized_child g.Params.RTreeParams.MIN_SIZE g.Params.RTreeParams.MAX_SIZE g.Params.RTreeParams.min_positive c.args.levels c.args.children.now.items c.args.index c.in-Parent.child c.insert_below.new.node c.insert_below.result c.requires.above
-    (omega (arith, c.args.children.now.ok.0)) (rw c.in-Parent.is at c.index_mut.ensures.value) trees (λ below few. (rw c.in-Parent.child-is at c.insert_below.ensures.sized) (below, few)))
+    (subst (λ n. c.args.index < n) c.args.children.now.ok.0 c.requires.index) (rw c.in-Parent.is at c.index_mut.ensures.value) trees (λ below few. (rw c.in-Parent.child-is at c.insert_below.ensures.sized) (below, few)))
 
 pub insert_in_child-returns-clause-made : goal.insert_in_child-returns-clause-made
 insert_in_child-returns-clause-made g t c =
     simp (c.in-Parent.is, outs-Parent) (child_made c.args.children.now.items c.args.index c.in-Parent.child c.insert_below.new.node c.insert_below.result (vec_len c.args.spares.now) (vec_len c.insert_below.new.spares)
-    (omega (arith, c.args.children.now.ok.0)) (rw c.in-Parent.is at c.index_mut.ensures.value) (rw c.in-Parent.child-is at c.insert_below.ensures.made))
+    (subst (λ n. c.args.index < n) c.args.children.now.ok.0 c.requires.index) (rw c.in-Parent.is at c.index_mut.ensures.value) (rw c.in-Parent.child-is at c.insert_below.ensures.made))
+
+-- ---- what stands there already
+
+pub insert_below-add_child-requires-clause-roomy : goal.insert_below-add_child-requires-clause-roomy
+insert_below-add_child-requires-clause-roomy g t c = record { narrow = c.requires.node.roomy.narrow; room = c.requires.node.roomy.room }
+
+pub insert_below-add_child-requires-clause-wide : goal.insert_below-add_child-requires-clause-wide
+insert_below-add_child-requires-clause-wide g t c = c.requires.wide
+
+pub insert_below-add_child-requires-clause-spares : goal.insert_below-add_child-requires-clause-spares
+insert_below-add_child-requires-clause-spares g t c = c.requires.spares
+
+pub insert_below-add_child-requires-clause-enough : goal.insert_below-add_child-requires-clause-enough
+insert_below-add_child-requires-clause-enough g t c = some_spare c.args.levels (vec_len c.args.spares.now) c.requires.enough
+
+pub insert_below-returns-then-levels-eq0-clause-spares : goal.insert_below-returns-then-levels-eq0-clause-spares
+insert_below-returns-then-levels-eq0-clause-spares g t c = c.add_child.ensures.spares
+
+pub insert_below-returns-then-levels-eq0-clause-fewer : goal.insert_below-returns-then-levels-eq0-clause-fewer
+insert_below-returns-then-levels-eq0-clause-fewer g t c = taken_some (vec_len c.args.spares.now) (vec_len c.add_child.new.spares) _ c.add_child.ensures.used
+
+pub insert_below-returns-then-levels-eq0-clause-places : goal.insert_below-returns-then-levels-eq0-clause-places
+insert_below-returns-then-levels-eq0-clause-places g t c = c.add_child.ensures.places
+
+pub insert_below-returns-in-None-clause-bag : goal.insert_below-returns-in-None-clause-bag
+insert_below-returns-in-None-clause-bag g t c = c.in-None.ensures.bag
+
+pub insert_below-returns-in-None-clause-second : goal.insert_below-returns-in-None-clause-second
+insert_below-returns-in-None-clause-second g t c = tt
+
+pub insert_below-returns-in-None-clause-spares : goal.insert_below-returns-in-None-clause-spares
+insert_below-returns-in-None-clause-spares g t c = c.in-None.ensures.spares
+
+pub insert_below-returns-in-None-clause-fewer : goal.insert_below-returns-in-None-clause-fewer
+insert_below-returns-in-None-clause-fewer g t c = c.in-None.ensures.fewer
+
+pub insert_below-returns-in-None-clause-places : goal.insert_below-returns-in-None-clause-places
+insert_below-returns-in-None-clause-places g t c = c.in-None.ensures.places
+
+pub insert_below-returns-in-None-clause-used : goal.insert_below-returns-in-None-clause-used
+insert_below-returns-in-None-clause-used g t c = one_more (vec_len c.args.spares.now) (vec_len c.insert_in_child.new.spares) c.args.levels c.in-None.ensures.used
+
+pub insert_below-add_child-requires-in-Some-clause-wide : goal.insert_below-add_child-requires-in-Some-clause-wide
+insert_below-add_child-requires-in-Some-clause-wide g t c = c.requires.wide
+
+pub insert_below-add_child-requires-in-Some-clause-spares : goal.insert_below-add_child-requires-in-Some-clause-spares
+insert_below-add_child-requires-in-Some-clause-spares g t c = c.in-Some.ensures.spares
+
+pub insert_below-add_child-requires-in-Some-clause-enough : goal.insert_below-add_child-requires-in-Some-clause-enough
+insert_below-add_child-requires-in-Some-clause-enough g t c = one_left c.args.levels (vec_len c.args.spares.now) (vec_len c.insert_in_child.new.spares) c.requires.enough c.in-Some.ensures.used
+
+pub insert_below-returns-clause-spares : goal.insert_below-returns-clause-spares
+insert_below-returns-clause-spares g t c = c.add_child-in-Some.ensures.spares
+
+pub insert_below-returns-clause-fewer : goal.insert_below-returns-clause-fewer
+insert_below-returns-clause-fewer g t c = fewer_yet (vec_len c.args.spares.now) (vec_len c.insert_in_child.new.spares) (vec_len c.add_child-in-Some.new.spares) _ c.add_child-in-Some.ensures.used c.in-Some.ensures.fewer
+
+pub insert_below-returns-clause-places : goal.insert_below-returns-clause-places
+insert_below-returns-clause-places g t c = c.add_child-in-Some.ensures.places ∙ c.in-Some.ensures.places
+
+pub insert_in_child-index_mut-requires : goal.insert_in_child-index_mut-requires
+insert_in_child-index_mut-requires g t c = c.requires.index
+
+pub insert_in_child-overflow_sub-levels : goal.insert_in_child-overflow_sub-levels
+insert_in_child-overflow_sub-levels g t c = c.requires.above
+
+pub insert_in_child-returns-clause-spares : goal.insert_in_child-returns-clause-spares
+insert_in_child-returns-clause-spares g t c = c.insert_below.ensures.spares
+
+pub insert_in_child-returns-clause-fewer : goal.insert_in_child-returns-clause-fewer
+insert_in_child-returns-clause-fewer g t c = c.insert_below.ensures.fewer
+
+pub insert_in_child-returns-clause-places : goal.insert_in_child-returns-clause-places
+insert_in_child-returns-clause-places g t c = c.insert_below.ensures.places
+
+pub insert_in_child-returns-clause-used : goal.insert_in_child-returns-clause-used
+insert_in_child-returns-clause-used g t c = level_below (vec_len c.args.spares.now) (vec_len c.insert_below.new.spares) c.args.levels c.requires.above c.insert_below.ensures.used
+
+pub insert_in_child-returns-clause-length : goal.insert_in_child-returns-clause-length
+insert_in_child-returns-clause-length g t c = refl
+
+pub insert_in_child-returns-clause-capacity : goal.insert_in_child-returns-clause-capacity
+insert_in_child-returns-clause-capacity g t c = refl

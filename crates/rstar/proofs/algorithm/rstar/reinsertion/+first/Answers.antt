@@ -1,4 +1,4 @@
-use Rattle.std.proofs.Common.{◌≡◌, ◌++◌, ◌∷◌, [], ap, ◌∙◌, arith, rules, append-nil, vec_len, None}
+use Rattle.std.proofs.Common.{◌≡◌, ◌<◌, ◌++◌, ◌∷◌, [], ap, subst, refl, ◌∙◌, arith, rules, append-nil, vec_len, None}
 use Rattle.std.proofs.lemmas.List.{nil_from_length}
 use Rattle.rstar.specs.declared.node.RTreeNode.{Leaf, Parent}
 use Rattle.rstar.specs.declared.node.RTreeNode.TheVariants.{outs-Parent}
@@ -66,28 +66,99 @@ insert_first-returns-clause-kept g t c =
 
 pub insert_first_in_child-insert_first-requires : goal.insert_first_in_child-insert_first-requires
 insert_first_in_child-insert_first-requires g t c κs within =
-    let tree = child_at (IsKeptInner g.T.Envelope.Envelope.boxes g.T.RTreeObject.object g.Params.RTreeParams.MAX_SIZE c.args.widest) (IsElement g.T.Envelope.Envelope.boxes g.T.RTreeObject.object) c.args.levels c.args.children.now.items c.args.index (Parent c.in-Parent.child) (omega (arith, c.args.children.now.ok.0)) (rw c.in-Parent.is at c.index_mut.ensures.value) c.requires.below in
+    let tree = child_at (IsKeptInner g.T.Envelope.Envelope.boxes g.T.RTreeObject.object g.Params.RTreeParams.MAX_SIZE c.args.widest) (IsElement g.T.Envelope.Envelope.boxes g.T.RTreeObject.object) c.args.levels c.args.children.now.items c.args.index (Parent c.in-Parent.child) (subst (λ n. c.args.index < n) c.args.children.now.ok.0 c.requires.index) (rw c.in-Parent.is at c.index_mut.ensures.value) c.requires.below in
     let at = tree_at (IsKeptInner g.T.Envelope.Envelope.boxes g.T.RTreeObject.object g.Params.RTreeParams.MAX_SIZE c.args.widest) (IsElement g.T.Envelope.Envelope.boxes g.T.RTreeObject.object) c.args.levels c.in-Parent.child c.requires.above tree in
     rw c.in-Parent.child-is (omega arith, (within.0, (within.1.0, (within.1.1.0, (within.1.1.1.0, (within.1.1.1.1.0, (within.1.1.1.1.1, (at.0.0, (at.1, (λ _. omega (arith, at.0.1, c.in-Parent.child.children.ok.0), (c.requires.element, (c.requires.wide, (c.requires.reinserts, c.requires.spare)))))))))))))
 
 pub insert_first_in_child-unreachable-requires : goal.insert_first_in_child-unreachable-requires
 insert_first_in_child-unreachable-requires g t c =
-    no_leaf_above (IsKeptInner g.T.Envelope.Envelope.boxes g.T.RTreeObject.object g.Params.RTreeParams.MAX_SIZE c.args.widest) (IsElement g.T.Envelope.Envelope.boxes g.T.RTreeObject.object) c.args.levels c.in-Leaf.field-0 c.requires.above (child_at (IsKeptInner g.T.Envelope.Envelope.boxes g.T.RTreeObject.object g.Params.RTreeParams.MAX_SIZE c.args.widest) (IsElement g.T.Envelope.Envelope.boxes g.T.RTreeObject.object) c.args.levels c.args.children.now.items c.args.index (Leaf c.in-Leaf.field-0) (omega (arith, c.args.children.now.ok.0)) (rw c.in-Leaf.is at c.index_mut.ensures.value) c.requires.below)
+    no_leaf_above (IsKeptInner g.T.Envelope.Envelope.boxes g.T.RTreeObject.object g.Params.RTreeParams.MAX_SIZE c.args.widest) (IsElement g.T.Envelope.Envelope.boxes g.T.RTreeObject.object) c.args.levels c.in-Leaf.field-0 c.requires.above (child_at (IsKeptInner g.T.Envelope.Envelope.boxes g.T.RTreeObject.object g.Params.RTreeParams.MAX_SIZE c.args.widest) (IsElement g.T.Envelope.Envelope.boxes g.T.RTreeObject.object) c.args.levels c.args.children.now.items c.args.index (Leaf c.in-Leaf.field-0) (subst (λ n. c.args.index < n) c.args.children.now.ok.0 c.requires.index) (rw c.in-Leaf.is at c.index_mut.ensures.value) c.requires.below)
 
 pub insert_first_in_child-returns-clause-bag : goal.insert_first_in_child-returns-clause-bag
 insert_first_in_child-returns-clause-bag g t c =
-    let grown = child_handed g.met.T.Envelope.Envelope.envelope_laws g.met.T.RTreeObject.object_law g.Params.RTreeParams.MAX_SIZE c.args.widest c.args.levels c.args.t c.args.children.now.items c.args.index c.in-Parent.child c.insert_first.new.node c.insert_first.new.handed.items c.requires.above (omega (arith, c.args.children.now.ok.0)) (rw c.in-Parent.is at c.index_mut.ensures.value) c.requires.below (rw c.in-Parent.child-is at c.insert_first.ensures.bag) c.insert_first.ensures.kept in
+    let grown = child_handed g.met.T.Envelope.Envelope.envelope_laws g.met.T.RTreeObject.object_law g.Params.RTreeParams.MAX_SIZE c.args.widest c.args.levels c.args.t c.args.children.now.items c.args.index c.in-Parent.child c.insert_first.new.node c.insert_first.new.handed.items c.requires.above (subst (λ n. c.args.index < n) c.args.children.now.ok.0 c.requires.index) (rw c.in-Parent.is at c.index_mut.ensures.value) c.requires.below (rw c.in-Parent.child-is at c.insert_first.ensures.bag) c.insert_first.ensures.kept in
     simp (c.in-Parent.is, outs-Parent) grown.0
 
 pub insert_first_in_child-returns-clause-below : goal.insert_first_in_child-returns-clause-below
 insert_first_in_child-returns-clause-below g t c =
-    let grown = child_handed g.met.T.Envelope.Envelope.envelope_laws g.met.T.RTreeObject.object_law g.Params.RTreeParams.MAX_SIZE c.args.widest c.args.levels c.args.t c.args.children.now.items c.args.index c.in-Parent.child c.insert_first.new.node c.insert_first.new.handed.items c.requires.above (omega (arith, c.args.children.now.ok.0)) (rw c.in-Parent.is at c.index_mut.ensures.value) c.requires.below (rw c.in-Parent.child-is at c.insert_first.ensures.bag) c.insert_first.ensures.kept in
+    let grown = child_handed g.met.T.Envelope.Envelope.envelope_laws g.met.T.RTreeObject.object_law g.Params.RTreeParams.MAX_SIZE c.args.widest c.args.levels c.args.t c.args.children.now.items c.args.index c.in-Parent.child c.insert_first.new.node c.insert_first.new.handed.items c.requires.above (subst (λ n. c.args.index < n) c.args.children.now.ok.0 c.requires.index) (rw c.in-Parent.is at c.index_mut.ensures.value) c.requires.below (rw c.in-Parent.child-is at c.insert_first.ensures.bag) c.insert_first.ensures.kept in
     simp (c.in-Parent.is, outs-Parent) grown.1
 
 pub insert_first_in_child-returns-clause-sized : goal.insert_first_in_child-returns-clause-sized
 insert_first_in_child-returns-clause-sized g t c =
-    simp (c.in-Parent.is, outs-Parent) (λ trees. rw append-nil at (sized_child g.Params.RTreeParams.MIN_SIZE g.Params.RTreeParams.MAX_SIZE g.Params.RTreeParams.min_positive c.args.levels c.args.children.now.items c.args.index c.in-Parent.child c.insert_first.new.node None c.requires.above (omega (arith, c.args.children.now.ok.0)) (rw c.in-Parent.is at c.index_mut.ensures.value) trees (λ below few. (rw c.in-Parent.child-is at c.insert_first.ensures.sized) (below, few))))
+    simp (c.in-Parent.is, outs-Parent) (λ trees. rw append-nil at (sized_child g.Params.RTreeParams.MIN_SIZE g.Params.RTreeParams.MAX_SIZE g.Params.RTreeParams.min_positive c.args.levels c.args.children.now.items c.args.index c.in-Parent.child c.insert_first.new.node None c.requires.above (subst (λ n. c.args.index < n) c.args.children.now.ok.0 c.requires.index) (rw c.in-Parent.is at c.index_mut.ensures.value) trees (λ below few. (rw c.in-Parent.child-is at c.insert_first.ensures.sized) (below, few))))
 
 pub insert_first_in_child-returns-clause-parents : goal.insert_first_in_child-returns-clause-parents
 insert_first_in_child-returns-clause-parents g t c =
-    simp (c.in-Parent.is, outs-Parent) (child_same c.args.children.now.items c.args.index c.in-Parent.child c.insert_first.new.node (omega (arith, c.args.children.now.ok.0)) (rw c.in-Parent.is at c.index_mut.ensures.value) (rw c.in-Parent.child-is at c.insert_first.ensures.parents))
+    simp (c.in-Parent.is, outs-Parent) (child_same c.args.children.now.items c.args.index c.in-Parent.child c.insert_first.new.node (subst (λ n. c.args.index < n) c.args.children.now.ok.0 c.requires.index) (rw c.in-Parent.is at c.index_mut.ensures.value) (rw c.in-Parent.child-is at c.insert_first.ensures.parents))
+
+-- ---- what stands there already
+
+pub insert_first-add_leaf-requires-clause-roomy : goal.insert_first-add_leaf-requires-clause-roomy
+insert_first-add_leaf-requires-clause-roomy g t c = record { narrow = c.requires.node.roomy.narrow; room = c.requires.node.roomy.room }
+
+pub insert_first-add_leaf-requires-clause-wide : goal.insert_first-add_leaf-requires-clause-wide
+insert_first-add_leaf-requires-clause-wide g t c = c.requires.wide
+
+pub insert_first-add_leaf-requires-clause-reinserts : goal.insert_first-add_leaf-requires-clause-reinserts
+insert_first-add_leaf-requires-clause-reinserts g t c = c.requires.reinserts
+
+pub insert_first-add_leaf-requires-clause-spare : goal.insert_first-add_leaf-requires-clause-spare
+insert_first-add_leaf-requires-clause-spare g t c = c.requires.spare
+
+pub insert_first-returns-then-levels-eq0-clause-count : goal.insert_first-returns-then-levels-eq0-clause-count
+insert_first-returns-then-levels-eq0-clause-count g t c = c.add_leaf.ensures.count
+
+pub insert_first-returns-then-levels-eq0-clause-capacity : goal.insert_first-returns-then-levels-eq0-clause-capacity
+insert_first-returns-then-levels-eq0-clause-capacity g t c = c.add_leaf.ensures.capacity
+
+pub insert_first-returns-then-not-is_empty-clause-bag : goal.insert_first-returns-then-not-is_empty-clause-bag
+insert_first-returns-then-not-is_empty-clause-bag g t c = c.insert_first_in_child.ensures.bag
+
+pub insert_first-returns-then-not-is_empty-clause-leaves : goal.insert_first-returns-then-not-is_empty-clause-leaves
+insert_first-returns-then-not-is_empty-clause-leaves g t c = c.insert_first_in_child.ensures.leaves
+
+pub insert_first-returns-then-not-is_empty-clause-count : goal.insert_first-returns-then-not-is_empty-clause-count
+insert_first-returns-then-not-is_empty-clause-count g t c = c.insert_first_in_child.ensures.count
+
+pub insert_first-returns-then-not-is_empty-clause-capacity : goal.insert_first-returns-then-not-is_empty-clause-capacity
+insert_first-returns-then-not-is_empty-clause-capacity g t c = c.insert_first_in_child.ensures.handed_capacity
+
+pub insert_first-returns-then-not-is_empty-clause-parents : goal.insert_first-returns-then-not-is_empty-clause-parents
+insert_first-returns-then-not-is_empty-clause-parents g t c = c.insert_first_in_child.ensures.parents
+
+pub insert_first-returns-clause-bag : goal.insert_first-returns-clause-bag
+insert_first-returns-clause-bag g t c = c.insert_first_in_child.ensures.bag
+
+pub insert_first-returns-clause-leaves : goal.insert_first-returns-clause-leaves
+insert_first-returns-clause-leaves g t c = c.insert_first_in_child.ensures.leaves
+
+pub insert_first-returns-clause-count : goal.insert_first-returns-clause-count
+insert_first-returns-clause-count g t c = c.insert_first_in_child.ensures.count
+
+pub insert_first-returns-clause-capacity : goal.insert_first-returns-clause-capacity
+insert_first-returns-clause-capacity g t c = c.insert_first_in_child.ensures.handed_capacity
+
+pub insert_first-returns-clause-parents : goal.insert_first-returns-clause-parents
+insert_first-returns-clause-parents g t c = c.insert_first_in_child.ensures.parents
+
+pub insert_first_in_child-index_mut-requires : goal.insert_first_in_child-index_mut-requires
+insert_first_in_child-index_mut-requires g t c = c.requires.index
+
+pub insert_first_in_child-overflow_sub-levels : goal.insert_first_in_child-overflow_sub-levels
+insert_first_in_child-overflow_sub-levels g t c = c.requires.above
+
+pub insert_first_in_child-returns-clause-leaves : goal.insert_first_in_child-returns-clause-leaves
+insert_first_in_child-returns-clause-leaves g t c = c.insert_first.ensures.leaves
+
+pub insert_first_in_child-returns-clause-count : goal.insert_first_in_child-returns-clause-count
+insert_first_in_child-returns-clause-count g t c = c.insert_first.ensures.count
+
+pub insert_first_in_child-returns-clause-handed_capacity : goal.insert_first_in_child-returns-clause-handed_capacity
+insert_first_in_child-returns-clause-handed_capacity g t c = c.insert_first.ensures.capacity
+
+pub insert_first_in_child-returns-clause-length : goal.insert_first_in_child-returns-clause-length
+insert_first_in_child-returns-clause-length g t c = refl
+
+pub insert_first_in_child-returns-clause-capacity : goal.insert_first_in_child-returns-clause-capacity
+insert_first_in_child-returns-clause-capacity g t c = refl
