@@ -1,8 +1,9 @@
-use Rattle.std.proofs.Common.{◌≡◌, ◌<◌, ◌≤◌, ℕ, ◌-◌, ◌+◌, ◌++◌, ◌∷◌, [], ap, refl, ◌∙◌, subst, arith, append-nil, vec_len, IfNone, IfSome}
+use Rattle.std.proofs.Common.{◌≡◌, ◌<◌, ◌≤◌, ℕ, ◌-◌, ◌+◌, ◌++◌, ◌∷◌, [], ap, refl, ◌∙◌, subst, arith, append-nil, vec_len, length, Option, None, Some, IfNone, IfSome}
 use Rattle.rstar.specs.declared.node.RTreeNode.{Leaf, Parent}
 use Rattle.rstar.specs.declared.node.RTreeNode.TheVariants.{outs-Parent}
 use Rattle.rstar.specs.Nodes.{IsElement}
-use Rattle.rstar.specs.Kept.{IsKeptInner}
+use Rattle.rstar.specs.Kept.{IsKeptInner, as_node}
+use Rattle.rstar.specs.declared.node.ParentNode.{ParentNode}
 use Rattle.rstar.proofs.Insertion.{leaf_added, hull_grown, added, child_grown, child_at, tree_at, sized_leaf, sized_parts, sized_child, no_leaf_above, leaf_counted, parents_along, child_made}
 use Rattle.rstar.proofs.algorithm.rstar.insertion.+insert.Goals as goal
 
@@ -26,6 +27,16 @@ one_more old new l h = omega arith
 level_below : (old new l : ℕ) → 0 < l → old ≤ new + (l - 1) + 1 → old ≤ new + l
 level_below old new l h k = omega arith
 
+at_most_one : {T E P S X : Type 0} (r : Option (ParentNode T E P S X)) → length (as_node r) ≤ 1
+at_most_one None = omega arith
+at_most_one (Some p) = omega arith
+
+used_one : (old new n l : ℕ) → old ≡ new + n → n ≤ 1 → old ≤ new + l + 1
+used_one old new n l e h = omega arith
+
+used_more : (old mid new n l : ℕ) → old ≤ mid + l → mid ≡ new + n → n ≤ 1 → old ≤ new + l + 1
+used_more old mid new n l h e k = omega arith
+
 -- ---- below a node
 
 pub insert_below-add_child-requires-clause-covered : goal.insert_below-add_child-requires-clause-covered
@@ -33,26 +44,25 @@ insert_below-add_child-requires-clause-covered g t c =
     let grown = leaf_added g.met.T.Envelope.Envelope.envelope_laws g.met.T.RTreeObject.object_law g.Params.RTreeParams.MAX_SIZE c.args.widest c.args.levels c.args.t c.args.node.now.children.items c.if-levels-eq0.true (c.envelope-envelope.ensures.own, c.requires.element) c.requires.below in
     (hull_grown g.met.T.Envelope.Envelope.envelope_laws g.met.T.RTreeObject.object_law g.Params.RTreeParams.MAX_SIZE c.args.widest c.args.levels c.args.t c.args.node.now.children.items (c.args.node.now.children.items ++ Leaf c.args.t ∷ []) c.args.node.now.envelope c.merge.new.self c.requires.below c.requires.node.tight c.envelope-envelope.ensures.own (c.merge.ensures.merged ∙ ap (g.T.Envelope.Envelope.boxes.merge c.args.node.now.envelope) c.envelope-envelope.ensures.value) grown.0 grown.1).1
 
-pub insert_below-returns-then-levels-eq0-clause-bag : goal.insert_below-returns-then-levels-eq0-clause-bag
-insert_below-returns-then-levels-eq0-clause-bag g t c =
+pub insert_below-returns-then-levels-eq0 : goal.insert_below-returns-then-levels-eq0
+insert_below-returns-then-levels-eq0 g t c =
     let grown = leaf_added g.met.T.Envelope.Envelope.envelope_laws g.met.T.RTreeObject.object_law g.Params.RTreeParams.MAX_SIZE c.args.widest c.args.levels c.args.t c.args.node.now.children.items c.if-levels-eq0.true (c.envelope-envelope.ensures.own, c.requires.element) c.requires.below in
-    (added g.met.T.Envelope.Envelope.envelope_laws g.met.T.RTreeObject.object_law g.Params.RTreeParams.MAX_SIZE c.args.widest c.args.levels c.args.t c.args.node.now.children.items (c.args.node.now.children.items ++ Leaf c.args.t ∷ []) c.add_child.new.node c.add_child.result grown.0 grown.1 c.add_child.ensures.same c.add_child.ensures.first c.add_child.ensures.second).0
-
-pub insert_below-returns-then-levels-eq0-clause-first : goal.insert_below-returns-then-levels-eq0-clause-first
-insert_below-returns-then-levels-eq0-clause-first g t c =
-    let grown = leaf_added g.met.T.Envelope.Envelope.envelope_laws g.met.T.RTreeObject.object_law g.Params.RTreeParams.MAX_SIZE c.args.widest c.args.levels c.args.t c.args.node.now.children.items c.if-levels-eq0.true (c.envelope-envelope.ensures.own, c.requires.element) c.requires.below in
-    (added g.met.T.Envelope.Envelope.envelope_laws g.met.T.RTreeObject.object_law g.Params.RTreeParams.MAX_SIZE c.args.widest c.args.levels c.args.t c.args.node.now.children.items (c.args.node.now.children.items ++ Leaf c.args.t ∷ []) c.add_child.new.node c.add_child.result grown.0 grown.1 c.add_child.ensures.same c.add_child.ensures.first c.add_child.ensures.second).1
-
-pub insert_below-returns-then-levels-eq0-clause-second : goal.insert_below-returns-then-levels-eq0-clause-second
-insert_below-returns-then-levels-eq0-clause-second g t c =
-    let grown = leaf_added g.met.T.Envelope.Envelope.envelope_laws g.met.T.RTreeObject.object_law g.Params.RTreeParams.MAX_SIZE c.args.widest c.args.levels c.args.t c.args.node.now.children.items c.if-levels-eq0.true (c.envelope-envelope.ensures.own, c.requires.element) c.requires.below in
-    (added g.met.T.Envelope.Envelope.envelope_laws g.met.T.RTreeObject.object_law g.Params.RTreeParams.MAX_SIZE c.args.widest c.args.levels c.args.t c.args.node.now.children.items (c.args.node.now.children.items ++ Leaf c.args.t ∷ []) c.add_child.new.node c.add_child.result grown.0 grown.1 c.add_child.ensures.same c.add_child.ensures.first c.add_child.ensures.second).2
-
-pub insert_below-returns-then-levels-eq0-clause-sized : goal.insert_below-returns-then-levels-eq0-clause-sized
-insert_below-returns-then-levels-eq0-clause-sized g t c =
-    λ sized. sized_parts g.Params.RTreeParams.MIN_SIZE g.Params.RTreeParams.MAX_SIZE g.Params.RTreeParams.min_positive c.args.levels (vec_len c.args.node.now.children) (c.args.node.now.children.items ++ Leaf c.args.t ∷ []) c.add_child.new.node c.add_child.result
-    (sized_leaf g.Params.RTreeParams.MIN_SIZE g.Params.RTreeParams.MAX_SIZE g.Params.RTreeParams.min_positive c.args.levels c.args.t c.args.node.now.children.items c.if-levels-eq0.true sized.0) c.add_child.ensures.same sized.1
-    c.add_child.ensures.whole c.add_child.ensures.low c.add_child.ensures.first_least c.add_child.ensures.second_least c.add_child.ensures.lengths
+    let parts = added g.met.T.Envelope.Envelope.envelope_laws g.met.T.RTreeObject.object_law g.Params.RTreeParams.MAX_SIZE c.args.widest c.args.levels c.args.t c.args.node.now.children.items (c.args.node.now.children.items ++ Leaf c.args.t ∷ []) c.add_child.new.node c.add_child.result grown.0 grown.1 c.add_child.ensures.same c.add_child.ensures.first c.add_child.ensures.second in
+    record {
+      bag = parts.0;
+      first = parts.1;
+      second = parts.2;
+      sized = λ sized. sized_parts g.Params.RTreeParams.MIN_SIZE g.Params.RTreeParams.MAX_SIZE g.Params.RTreeParams.min_positive c.args.levels (vec_len c.args.node.now.children) (c.args.node.now.children.items ++ Leaf c.args.t ∷ []) c.add_child.new.node c.add_child.result
+          (sized_leaf g.Params.RTreeParams.MIN_SIZE g.Params.RTreeParams.MAX_SIZE g.Params.RTreeParams.min_positive c.args.levels c.args.t c.args.node.now.children.items c.if-levels-eq0.true sized.0) c.add_child.ensures.same sized.1
+          c.add_child.ensures.whole c.add_child.ensures.low c.add_child.ensures.first_least c.add_child.ensures.second_least c.add_child.ensures.lengths;
+      spares = c.add_child.ensures.spares;
+      used = used_one (vec_len c.args.spares.now) (vec_len c.add_child.new.spares) (length (as_node c.add_child.result)) c.args.levels c.add_child.ensures.used (at_most_one c.add_child.result);
+      fewer = taken_some (vec_len c.args.spares.now) (vec_len c.add_child.new.spares) _ c.add_child.ensures.used;
+      places = c.add_child.ensures.places;
+      made = let same = parents_along _ _ c.add_child.ensures.same in
+          let leaf = leaf_counted c.args.node.now.children.items c.args.t in
+          omega (arith, same, leaf, c.add_child.ensures.used);
+    }
 
 pub insert_below-returns-in-None-clause-first : goal.insert_below-returns-in-None-clause-first
 insert_below-returns-in-None-clause-first g t c =
@@ -79,17 +89,26 @@ pub insert_below-add_child-requires-in-Some-clause-covered : goal.insert_below-a
 insert_below-add_child-requires-in-Some-clause-covered g t c =
     (hull_grown g.met.T.Envelope.Envelope.envelope_laws g.met.T.RTreeObject.object_law g.Params.RTreeParams.MAX_SIZE c.args.widest c.args.levels c.args.t c.args.node.now.children.items (c.insert_in_child.new.children.items ++ Parent c.in-Some.second ∷ []) c.args.node.now.envelope c.merge.new.self c.requires.below c.requires.node.tight c.envelope-envelope.ensures.own (c.merge.ensures.merged ∙ ap (g.T.Envelope.Envelope.boxes.merge c.args.node.now.envelope) c.envelope-envelope.ensures.value) c.in-Some.ensures.bag c.in-Some.ensures.below).1
 
-pub insert_below-returns-clause-bag : goal.insert_below-returns-clause-bag
-insert_below-returns-clause-bag g t c =
-    (added g.met.T.Envelope.Envelope.envelope_laws g.met.T.RTreeObject.object_law g.Params.RTreeParams.MAX_SIZE c.args.widest c.args.levels c.args.t c.args.node.now.children.items (c.insert_in_child.new.children.items ++ Parent c.in-Some.second ∷ []) c.add_child-in-Some.new.node c.add_child-in-Some.result c.in-Some.ensures.bag c.in-Some.ensures.below c.add_child-in-Some.ensures.same c.add_child-in-Some.ensures.first c.add_child-in-Some.ensures.second).0
+pub insert_below-returns : goal.insert_below-returns
+insert_below-returns g t c =
+    let parts = added g.met.T.Envelope.Envelope.envelope_laws g.met.T.RTreeObject.object_law g.Params.RTreeParams.MAX_SIZE c.args.widest c.args.levels c.args.t c.args.node.now.children.items (c.insert_in_child.new.children.items ++ Parent c.in-Some.second ∷ []) c.add_child-in-Some.new.node c.add_child-in-Some.result c.in-Some.ensures.bag c.in-Some.ensures.below c.add_child-in-Some.ensures.same c.add_child-in-Some.ensures.first c.add_child-in-Some.ensures.second in
+    record {
+      bag = parts.0;
+      first = parts.1;
+      second = parts.2;
+      sized = λ sized. sized_parts g.Params.RTreeParams.MIN_SIZE g.Params.RTreeParams.MAX_SIZE g.Params.RTreeParams.min_positive c.args.levels (vec_len c.args.node.now.children) (c.insert_in_child.new.children.items ++ Parent c.in-Some.second ∷ []) c.add_child-in-Some.new.node c.add_child-in-Some.result
+          (c.in-Some.ensures.sized sized.0) c.add_child-in-Some.ensures.same sized.1
+          (subst (λ n. IfNone c.add_child-in-Some.result (vec_len c.add_child-in-Some.new.node.children ≡ n + 1)) c.in-Some.ensures.length c.add_child-in-Some.ensures.whole) c.add_child-in-Some.ensures.low c.add_child-in-Some.ensures.first_least c.add_child-in-Some.ensures.second_least
+          (subst (λ n. IfSome c.add_child-in-Some.result (λ q. vec_len c.add_child-in-Some.new.node.children + vec_len q.children ≡ n + 1)) c.in-Some.ensures.length c.add_child-in-Some.ensures.lengths);
+      spares = c.add_child-in-Some.ensures.spares;
+      used = used_more (vec_len c.args.spares.now) (vec_len c.insert_in_child.new.spares) (vec_len c.add_child-in-Some.new.spares) (length (as_node c.add_child-in-Some.result)) c.args.levels c.in-Some.ensures.used c.add_child-in-Some.ensures.used (at_most_one c.add_child-in-Some.result);
+      fewer = fewer_yet (vec_len c.args.spares.now) (vec_len c.insert_in_child.new.spares) (vec_len c.add_child-in-Some.new.spares) _ c.add_child-in-Some.ensures.used c.in-Some.ensures.fewer;
+      places = c.add_child-in-Some.ensures.places ∙ c.in-Some.ensures.places;
+      made = let same = parents_along _ _ c.add_child-in-Some.ensures.same in
+          omega (arith, same, c.in-Some.ensures.made, c.add_child-in-Some.ensures.used);
+    }
 
-pub insert_below-returns-clause-first : goal.insert_below-returns-clause-first
-insert_below-returns-clause-first g t c =
-    (added g.met.T.Envelope.Envelope.envelope_laws g.met.T.RTreeObject.object_law g.Params.RTreeParams.MAX_SIZE c.args.widest c.args.levels c.args.t c.args.node.now.children.items (c.insert_in_child.new.children.items ++ Parent c.in-Some.second ∷ []) c.add_child-in-Some.new.node c.add_child-in-Some.result c.in-Some.ensures.bag c.in-Some.ensures.below c.add_child-in-Some.ensures.same c.add_child-in-Some.ensures.first c.add_child-in-Some.ensures.second).1
-
-pub insert_below-returns-clause-second : goal.insert_below-returns-clause-second
-insert_below-returns-clause-second g t c =
-    (added g.met.T.Envelope.Envelope.envelope_laws g.met.T.RTreeObject.object_law g.Params.RTreeParams.MAX_SIZE c.args.widest c.args.levels c.args.t c.args.node.now.children.items (c.insert_in_child.new.children.items ++ Parent c.in-Some.second ∷ []) c.add_child-in-Some.new.node c.add_child-in-Some.result c.in-Some.ensures.bag c.in-Some.ensures.below c.add_child-in-Some.ensures.same c.add_child-in-Some.ensures.first c.add_child-in-Some.ensures.second).2
+-- ---- in a child
 
 pub insert_below-returns-in-None-clause-sized : goal.insert_below-returns-in-None-clause-sized
 insert_below-returns-in-None-clause-sized g t c =
@@ -101,29 +120,9 @@ insert_below-returns-in-None-clause-sized g t c =
       second_sized = tt;
     }
 
-pub insert_below-returns-clause-sized : goal.insert_below-returns-clause-sized
-insert_below-returns-clause-sized g t c =
-    λ sized. sized_parts g.Params.RTreeParams.MIN_SIZE g.Params.RTreeParams.MAX_SIZE g.Params.RTreeParams.min_positive c.args.levels (vec_len c.args.node.now.children) (c.insert_in_child.new.children.items ++ Parent c.in-Some.second ∷ []) c.add_child-in-Some.new.node c.add_child-in-Some.result
-    (c.in-Some.ensures.sized sized.0) c.add_child-in-Some.ensures.same sized.1
-    (subst (λ n. IfNone c.add_child-in-Some.result (vec_len c.add_child-in-Some.new.node.children ≡ n + 1)) c.in-Some.ensures.length c.add_child-in-Some.ensures.whole) c.add_child-in-Some.ensures.low c.add_child-in-Some.ensures.first_least c.add_child-in-Some.ensures.second_least
-    (subst (λ n. IfSome c.add_child-in-Some.result (λ q. vec_len c.add_child-in-Some.new.node.children + vec_len q.children ≡ n + 1)) c.in-Some.ensures.length c.add_child-in-Some.ensures.lengths)
-
-pub insert_below-returns-then-levels-eq0-clause-made : goal.insert_below-returns-then-levels-eq0-clause-made
-insert_below-returns-then-levels-eq0-clause-made g t c =
-    let same = parents_along _ _ c.add_child.ensures.same in
-    let leaf = leaf_counted c.args.node.now.children.items c.args.t in
-    omega (arith, same, leaf, c.add_child.ensures.used)
-
 pub insert_below-returns-in-None-clause-made : goal.insert_below-returns-in-None-clause-made
 insert_below-returns-in-None-clause-made g t c =
     omega (arith, c.in-None.ensures.made)
-
-pub insert_below-returns-clause-made : goal.insert_below-returns-clause-made
-insert_below-returns-clause-made g t c =
-    let same = parents_along _ _ c.add_child-in-Some.ensures.same in
-    omega (arith, same, c.in-Some.ensures.made, c.add_child-in-Some.ensures.used)
-
--- ---- in a child
 
 pub insert_in_child-insert_below-requires : goal.insert_in_child-insert_below-requires
 insert_in_child-insert_below-requires g t c κs within =
@@ -136,27 +135,24 @@ insert_in_child-unreachable-requires g t c =
     no_leaf_above (IsKeptInner g.T.Envelope.Envelope.boxes g.T.RTreeObject.object g.Params.RTreeParams.MAX_SIZE c.args.widest) (IsElement g.T.Envelope.Envelope.boxes g.T.RTreeObject.object) c.args.levels c.in-Leaf.field-0 c.requires.above
     (child_at (IsKeptInner g.T.Envelope.Envelope.boxes g.T.RTreeObject.object g.Params.RTreeParams.MAX_SIZE c.args.widest) (IsElement g.T.Envelope.Envelope.boxes g.T.RTreeObject.object) c.args.levels c.args.children.now.items c.args.index (Leaf c.in-Leaf.field-0) (subst (λ n. c.args.index < n) c.args.children.now.ok.0 c.requires.index) (rw c.in-Leaf.is at c.index_mut.ensures.value) c.requires.below)
 
-pub insert_in_child-returns-clause-bag : goal.insert_in_child-returns-clause-bag
-insert_in_child-returns-clause-bag g t c =
+pub insert_in_child-returns : goal.insert_in_child-returns
+insert_in_child-returns g t c =
     let grown = child_grown g.met.T.Envelope.Envelope.envelope_laws g.met.T.RTreeObject.object_law g.Params.RTreeParams.MAX_SIZE c.args.widest c.args.levels c.args.t c.args.children.now.items c.args.index c.in-Parent.child c.insert_below.new.node c.insert_below.result c.requires.above (subst (λ n. c.args.index < n) c.args.children.now.ok.0 c.requires.index) (rw c.in-Parent.is at c.index_mut.ensures.value) c.requires.below
     (rw c.in-Parent.child-is at c.insert_below.ensures.bag) c.insert_below.ensures.first c.insert_below.ensures.second in
-    simp (c.in-Parent.is, outs-Parent) grown.0
-
-pub insert_in_child-returns-clause-below : goal.insert_in_child-returns-clause-below
-insert_in_child-returns-clause-below g t c =
-    let grown = child_grown g.met.T.Envelope.Envelope.envelope_laws g.met.T.RTreeObject.object_law g.Params.RTreeParams.MAX_SIZE c.args.widest c.args.levels c.args.t c.args.children.now.items c.args.index c.in-Parent.child c.insert_below.new.node c.insert_below.result c.requires.above (subst (λ n. c.args.index < n) c.args.children.now.ok.0 c.requires.index) (rw c.in-Parent.is at c.index_mut.ensures.value) c.requires.below
-    (rw c.in-Parent.child-is at c.insert_below.ensures.bag) c.insert_below.ensures.first c.insert_below.ensures.second in
-    simp (c.in-Parent.is, outs-Parent) grown.1
-
-pub insert_in_child-returns-clause-sized : goal.insert_in_child-returns-clause-sized
-insert_in_child-returns-clause-sized g t c =
-    simp (c.in-Parent.is, outs-Parent) (λ trees. sized_child g.Params.RTreeParams.MIN_SIZE g.Params.RTreeParams.MAX_SIZE g.Params.RTreeParams.min_positive c.args.levels c.args.children.now.items c.args.index c.in-Parent.child c.insert_below.new.node c.insert_below.result c.requires.above
-    (subst (λ n. c.args.index < n) c.args.children.now.ok.0 c.requires.index) (rw c.in-Parent.is at c.index_mut.ensures.value) trees (λ below few. (rw c.in-Parent.child-is at c.insert_below.ensures.sized) (below, few)))
-
-pub insert_in_child-returns-clause-made : goal.insert_in_child-returns-clause-made
-insert_in_child-returns-clause-made g t c =
-    simp (c.in-Parent.is, outs-Parent) (child_made c.args.children.now.items c.args.index c.in-Parent.child c.insert_below.new.node c.insert_below.result (vec_len c.args.spares.now) (vec_len c.insert_below.new.spares)
-    (subst (λ n. c.args.index < n) c.args.children.now.ok.0 c.requires.index) (rw c.in-Parent.is at c.index_mut.ensures.value) (rw c.in-Parent.child-is at c.insert_below.ensures.made))
+    record {
+      bag = simp (c.in-Parent.is, outs-Parent) grown.0;
+      below = simp (c.in-Parent.is, outs-Parent) grown.1;
+      sized = simp (c.in-Parent.is, outs-Parent) (λ trees. sized_child g.Params.RTreeParams.MIN_SIZE g.Params.RTreeParams.MAX_SIZE g.Params.RTreeParams.min_positive c.args.levels c.args.children.now.items c.args.index c.in-Parent.child c.insert_below.new.node c.insert_below.result c.requires.above
+          (subst (λ n. c.args.index < n) c.args.children.now.ok.0 c.requires.index) (rw c.in-Parent.is at c.index_mut.ensures.value) trees (λ below few. (rw c.in-Parent.child-is at c.insert_below.ensures.sized) (below, few)));
+      length = refl;
+      capacity = refl;
+      spares = c.insert_below.ensures.spares;
+      used = level_below (vec_len c.args.spares.now) (vec_len c.insert_below.new.spares) c.args.levels c.requires.above c.insert_below.ensures.used;
+      fewer = c.insert_below.ensures.fewer;
+      places = c.insert_below.ensures.places;
+      made = simp (c.in-Parent.is, outs-Parent) (child_made c.args.children.now.items c.args.index c.in-Parent.child c.insert_below.new.node c.insert_below.result (vec_len c.args.spares.now) (vec_len c.insert_below.new.spares)
+          (subst (λ n. c.args.index < n) c.args.children.now.ok.0 c.requires.index) (rw c.in-Parent.is at c.index_mut.ensures.value) (rw c.in-Parent.child-is at c.insert_below.ensures.made));
+    }
 
 -- ---- what stands there already
 
@@ -171,15 +167,6 @@ insert_below-add_child-requires-clause-spares g t c = c.requires.spares
 
 pub insert_below-add_child-requires-clause-enough : goal.insert_below-add_child-requires-clause-enough
 insert_below-add_child-requires-clause-enough g t c = some_spare c.args.levels (vec_len c.args.spares.now) c.requires.enough
-
-pub insert_below-returns-then-levels-eq0-clause-spares : goal.insert_below-returns-then-levels-eq0-clause-spares
-insert_below-returns-then-levels-eq0-clause-spares g t c = c.add_child.ensures.spares
-
-pub insert_below-returns-then-levels-eq0-clause-fewer : goal.insert_below-returns-then-levels-eq0-clause-fewer
-insert_below-returns-then-levels-eq0-clause-fewer g t c = taken_some (vec_len c.args.spares.now) (vec_len c.add_child.new.spares) _ c.add_child.ensures.used
-
-pub insert_below-returns-then-levels-eq0-clause-places : goal.insert_below-returns-then-levels-eq0-clause-places
-insert_below-returns-then-levels-eq0-clause-places g t c = c.add_child.ensures.places
 
 pub insert_below-returns-in-None-clause-bag : goal.insert_below-returns-in-None-clause-bag
 insert_below-returns-in-None-clause-bag g t c = c.in-None.ensures.bag
@@ -208,35 +195,8 @@ insert_below-add_child-requires-in-Some-clause-spares g t c = c.in-Some.ensures.
 pub insert_below-add_child-requires-in-Some-clause-enough : goal.insert_below-add_child-requires-in-Some-clause-enough
 insert_below-add_child-requires-in-Some-clause-enough g t c = one_left c.args.levels (vec_len c.args.spares.now) (vec_len c.insert_in_child.new.spares) c.requires.enough c.in-Some.ensures.used
 
-pub insert_below-returns-clause-spares : goal.insert_below-returns-clause-spares
-insert_below-returns-clause-spares g t c = c.add_child-in-Some.ensures.spares
-
-pub insert_below-returns-clause-fewer : goal.insert_below-returns-clause-fewer
-insert_below-returns-clause-fewer g t c = fewer_yet (vec_len c.args.spares.now) (vec_len c.insert_in_child.new.spares) (vec_len c.add_child-in-Some.new.spares) _ c.add_child-in-Some.ensures.used c.in-Some.ensures.fewer
-
-pub insert_below-returns-clause-places : goal.insert_below-returns-clause-places
-insert_below-returns-clause-places g t c = c.add_child-in-Some.ensures.places ∙ c.in-Some.ensures.places
-
 pub insert_in_child-index_mut-requires : goal.insert_in_child-index_mut-requires
 insert_in_child-index_mut-requires g t c = c.requires.index
 
 pub insert_in_child-overflow_sub-levels : goal.insert_in_child-overflow_sub-levels
 insert_in_child-overflow_sub-levels g t c = c.requires.above
-
-pub insert_in_child-returns-clause-spares : goal.insert_in_child-returns-clause-spares
-insert_in_child-returns-clause-spares g t c = c.insert_below.ensures.spares
-
-pub insert_in_child-returns-clause-fewer : goal.insert_in_child-returns-clause-fewer
-insert_in_child-returns-clause-fewer g t c = c.insert_below.ensures.fewer
-
-pub insert_in_child-returns-clause-places : goal.insert_in_child-returns-clause-places
-insert_in_child-returns-clause-places g t c = c.insert_below.ensures.places
-
-pub insert_in_child-returns-clause-used : goal.insert_in_child-returns-clause-used
-insert_in_child-returns-clause-used g t c = level_below (vec_len c.args.spares.now) (vec_len c.insert_below.new.spares) c.args.levels c.requires.above c.insert_below.ensures.used
-
-pub insert_in_child-returns-clause-length : goal.insert_in_child-returns-clause-length
-insert_in_child-returns-clause-length g t c = refl
-
-pub insert_in_child-returns-clause-capacity : goal.insert_in_child-returns-clause-capacity
-insert_in_child-returns-clause-capacity g t c = refl

@@ -15,30 +15,22 @@ insert_first-add_leaf-requires-clause-covered g t c =
     let grown = leaf_added g.met.T.Envelope.Envelope.envelope_laws g.met.T.RTreeObject.object_law g.Params.RTreeParams.MAX_SIZE c.args.widest c.args.levels c.args.t c.args.node.now.children.items c.if-levels-eq0.true (c.envelope-envelope.ensures.own, c.requires.element) c.requires.below in
     (hull_grown g.met.T.Envelope.Envelope.envelope_laws g.met.T.RTreeObject.object_law g.Params.RTreeParams.MAX_SIZE c.args.widest c.args.levels c.args.t c.args.node.now.children.items _ c.args.node.now.envelope c.merge.new.self c.requires.below c.requires.node.tight c.envelope-envelope.ensures.own (c.merge.ensures.merged ∙ ap (g.T.Envelope.Envelope.boxes.merge c.args.node.now.envelope) c.envelope-envelope.ensures.value) grown.0 grown.1).1
 
-pub insert_first-returns-then-levels-eq0-clause-bag : goal.insert_first-returns-then-levels-eq0-clause-bag
-insert_first-returns-then-levels-eq0-clause-bag g t c =
+pub insert_first-returns-then-levels-eq0 : goal.insert_first-returns-then-levels-eq0
+insert_first-returns-then-levels-eq0 g t c =
     let grown = leaf_added g.met.T.Envelope.Envelope.envelope_laws g.met.T.RTreeObject.object_law g.Params.RTreeParams.MAX_SIZE c.args.widest c.args.levels c.args.t c.args.node.now.children.items c.if-levels-eq0.true (c.envelope-envelope.ensures.own, c.requires.element) c.requires.below in
-    (leaf_handed g.met.T.Envelope.Envelope.envelope_laws g.met.T.RTreeObject.object_law g.Params.RTreeParams.MAX_SIZE c.args.widest c.args.levels c.args.t c.args.node.now.children.items (c.args.node.now.children.items ++ Leaf c.args.t ∷ []) c.add_leaf.new.handed.items c.add_leaf.new.node c.if-levels-eq0.true grown.0 grown.1 c.add_leaf.ensures.same c.add_leaf.ensures.fit).0
-
-pub insert_first-returns-then-levels-eq0-clause-kept : goal.insert_first-returns-then-levels-eq0-clause-kept
-insert_first-returns-then-levels-eq0-clause-kept g t c =
-    let grown = leaf_added g.met.T.Envelope.Envelope.envelope_laws g.met.T.RTreeObject.object_law g.Params.RTreeParams.MAX_SIZE c.args.widest c.args.levels c.args.t c.args.node.now.children.items c.if-levels-eq0.true (c.envelope-envelope.ensures.own, c.requires.element) c.requires.below in
-    (leaf_handed g.met.T.Envelope.Envelope.envelope_laws g.met.T.RTreeObject.object_law g.Params.RTreeParams.MAX_SIZE c.args.widest c.args.levels c.args.t c.args.node.now.children.items (c.args.node.now.children.items ++ Leaf c.args.t ∷ []) c.add_leaf.new.handed.items c.add_leaf.new.node c.if-levels-eq0.true grown.0 grown.1 c.add_leaf.ensures.same c.add_leaf.ensures.fit).1
-
-pub insert_first-returns-then-levels-eq0-clause-leaves : goal.insert_first-returns-then-levels-eq0-clause-leaves
-insert_first-returns-then-levels-eq0-clause-leaves g t c =
-    let grown = leaf_added g.met.T.Envelope.Envelope.envelope_laws g.met.T.RTreeObject.object_law g.Params.RTreeParams.MAX_SIZE c.args.widest c.args.levels c.args.t c.args.node.now.children.items c.if-levels-eq0.true (c.envelope-envelope.ensures.own, c.requires.element) c.requires.below in
-    (leaf_handed g.met.T.Envelope.Envelope.envelope_laws g.met.T.RTreeObject.object_law g.Params.RTreeParams.MAX_SIZE c.args.widest c.args.levels c.args.t c.args.node.now.children.items (c.args.node.now.children.items ++ Leaf c.args.t ∷ []) c.add_leaf.new.handed.items c.add_leaf.new.node c.if-levels-eq0.true grown.0 grown.1 c.add_leaf.ensures.same c.add_leaf.ensures.fit).2
-
-pub insert_first-returns-then-levels-eq0-clause-sized : goal.insert_first-returns-then-levels-eq0-clause-sized
-insert_first-returns-then-levels-eq0-clause-sized g t c = λ sized.
-    sized_kept g.Params.RTreeParams.MIN_SIZE g.Params.RTreeParams.MAX_SIZE c.args.levels (vec_len c.args.node.now.children) (c.args.node.now.children.items ++ Leaf c.args.t ∷ []) c.add_leaf.new.handed.items c.add_leaf.new.node
-    (sized_leaf g.Params.RTreeParams.MIN_SIZE g.Params.RTreeParams.MAX_SIZE g.Params.RTreeParams.min_positive c.args.levels c.args.t c.args.node.now.children.items c.if-levels-eq0.true sized.0) c.add_leaf.ensures.same (c.add_leaf.ensures.most sized.1) c.add_leaf.ensures.least
-
-pub insert_first-returns-then-levels-eq0-clause-parents : goal.insert_first-returns-then-levels-eq0-clause-parents
-insert_first-returns-then-levels-eq0-clause-parents g t c =
-    leaf_left (IsKeptInner g.T.Envelope.Envelope.boxes g.T.RTreeObject.object g.Params.RTreeParams.MAX_SIZE c.args.widest) (IsElement g.T.Envelope.Envelope.boxes g.T.RTreeObject.object) c.args.levels c.args.t c.args.node.now.children.items c.add_leaf.new.node.children.items c.add_leaf.new.handed.items
-    c.if-levels-eq0.true c.requires.below c.add_leaf.ensures.same
+    let handed = leaf_handed g.met.T.Envelope.Envelope.envelope_laws g.met.T.RTreeObject.object_law g.Params.RTreeParams.MAX_SIZE c.args.widest c.args.levels c.args.t c.args.node.now.children.items (c.args.node.now.children.items ++ Leaf c.args.t ∷ []) c.add_leaf.new.handed.items c.add_leaf.new.node c.if-levels-eq0.true grown.0 grown.1 c.add_leaf.ensures.same c.add_leaf.ensures.fit in
+    record {
+      bag = handed.0;
+      kept = handed.1;
+      leaves = handed.2;
+      count = c.add_leaf.ensures.count;
+      sized = λ sized.
+          sized_kept g.Params.RTreeParams.MIN_SIZE g.Params.RTreeParams.MAX_SIZE c.args.levels (vec_len c.args.node.now.children) (c.args.node.now.children.items ++ Leaf c.args.t ∷ []) c.add_leaf.new.handed.items c.add_leaf.new.node
+          (sized_leaf g.Params.RTreeParams.MIN_SIZE g.Params.RTreeParams.MAX_SIZE g.Params.RTreeParams.min_positive c.args.levels c.args.t c.args.node.now.children.items c.if-levels-eq0.true sized.0) c.add_leaf.ensures.same (c.add_leaf.ensures.most sized.1) c.add_leaf.ensures.least;
+      capacity = c.add_leaf.ensures.capacity;
+      parents = leaf_left (IsKeptInner g.T.Envelope.Envelope.boxes g.T.RTreeObject.object g.Params.RTreeParams.MAX_SIZE c.args.widest) (IsElement g.T.Envelope.Envelope.boxes g.T.RTreeObject.object) c.args.levels c.args.t c.args.node.now.children.items c.add_leaf.new.node.children.items c.add_leaf.new.handed.items
+          c.if-levels-eq0.true c.requires.below c.add_leaf.ensures.same;
+    }
 
 pub insert_first-returns-then-not-is_empty-clause-kept : goal.insert_first-returns-then-not-is_empty-clause-kept
 insert_first-returns-then-not-is_empty-clause-kept g t c =
@@ -74,23 +66,20 @@ pub insert_first_in_child-unreachable-requires : goal.insert_first_in_child-unre
 insert_first_in_child-unreachable-requires g t c =
     no_leaf_above (IsKeptInner g.T.Envelope.Envelope.boxes g.T.RTreeObject.object g.Params.RTreeParams.MAX_SIZE c.args.widest) (IsElement g.T.Envelope.Envelope.boxes g.T.RTreeObject.object) c.args.levels c.in-Leaf.field-0 c.requires.above (child_at (IsKeptInner g.T.Envelope.Envelope.boxes g.T.RTreeObject.object g.Params.RTreeParams.MAX_SIZE c.args.widest) (IsElement g.T.Envelope.Envelope.boxes g.T.RTreeObject.object) c.args.levels c.args.children.now.items c.args.index (Leaf c.in-Leaf.field-0) (subst (λ n. c.args.index < n) c.args.children.now.ok.0 c.requires.index) (rw c.in-Leaf.is at c.index_mut.ensures.value) c.requires.below)
 
-pub insert_first_in_child-returns-clause-bag : goal.insert_first_in_child-returns-clause-bag
-insert_first_in_child-returns-clause-bag g t c =
+pub insert_first_in_child-returns : goal.insert_first_in_child-returns
+insert_first_in_child-returns g t c =
     let grown = child_handed g.met.T.Envelope.Envelope.envelope_laws g.met.T.RTreeObject.object_law g.Params.RTreeParams.MAX_SIZE c.args.widest c.args.levels c.args.t c.args.children.now.items c.args.index c.in-Parent.child c.insert_first.new.node c.insert_first.new.handed.items c.requires.above (subst (λ n. c.args.index < n) c.args.children.now.ok.0 c.requires.index) (rw c.in-Parent.is at c.index_mut.ensures.value) c.requires.below (rw c.in-Parent.child-is at c.insert_first.ensures.bag) c.insert_first.ensures.kept in
-    simp (c.in-Parent.is, outs-Parent) grown.0
-
-pub insert_first_in_child-returns-clause-below : goal.insert_first_in_child-returns-clause-below
-insert_first_in_child-returns-clause-below g t c =
-    let grown = child_handed g.met.T.Envelope.Envelope.envelope_laws g.met.T.RTreeObject.object_law g.Params.RTreeParams.MAX_SIZE c.args.widest c.args.levels c.args.t c.args.children.now.items c.args.index c.in-Parent.child c.insert_first.new.node c.insert_first.new.handed.items c.requires.above (subst (λ n. c.args.index < n) c.args.children.now.ok.0 c.requires.index) (rw c.in-Parent.is at c.index_mut.ensures.value) c.requires.below (rw c.in-Parent.child-is at c.insert_first.ensures.bag) c.insert_first.ensures.kept in
-    simp (c.in-Parent.is, outs-Parent) grown.1
-
-pub insert_first_in_child-returns-clause-sized : goal.insert_first_in_child-returns-clause-sized
-insert_first_in_child-returns-clause-sized g t c =
-    simp (c.in-Parent.is, outs-Parent) (λ trees. rw append-nil at (sized_child g.Params.RTreeParams.MIN_SIZE g.Params.RTreeParams.MAX_SIZE g.Params.RTreeParams.min_positive c.args.levels c.args.children.now.items c.args.index c.in-Parent.child c.insert_first.new.node None c.requires.above (subst (λ n. c.args.index < n) c.args.children.now.ok.0 c.requires.index) (rw c.in-Parent.is at c.index_mut.ensures.value) trees (λ below few. (rw c.in-Parent.child-is at c.insert_first.ensures.sized) (below, few))))
-
-pub insert_first_in_child-returns-clause-parents : goal.insert_first_in_child-returns-clause-parents
-insert_first_in_child-returns-clause-parents g t c =
-    simp (c.in-Parent.is, outs-Parent) (child_same c.args.children.now.items c.args.index c.in-Parent.child c.insert_first.new.node (subst (λ n. c.args.index < n) c.args.children.now.ok.0 c.requires.index) (rw c.in-Parent.is at c.index_mut.ensures.value) (rw c.in-Parent.child-is at c.insert_first.ensures.parents))
+    record {
+      bag = simp (c.in-Parent.is, outs-Parent) grown.0;
+      below = simp (c.in-Parent.is, outs-Parent) grown.1;
+      leaves = c.insert_first.ensures.leaves;
+      count = c.insert_first.ensures.count;
+      sized = simp (c.in-Parent.is, outs-Parent) (λ trees. rw append-nil at (sized_child g.Params.RTreeParams.MIN_SIZE g.Params.RTreeParams.MAX_SIZE g.Params.RTreeParams.min_positive c.args.levels c.args.children.now.items c.args.index c.in-Parent.child c.insert_first.new.node None c.requires.above (subst (λ n. c.args.index < n) c.args.children.now.ok.0 c.requires.index) (rw c.in-Parent.is at c.index_mut.ensures.value) trees (λ below few. (rw c.in-Parent.child-is at c.insert_first.ensures.sized) (below, few))));
+      length = refl;
+      capacity = refl;
+      handed_capacity = c.insert_first.ensures.capacity;
+      parents = simp (c.in-Parent.is, outs-Parent) (child_same c.args.children.now.items c.args.index c.in-Parent.child c.insert_first.new.node (subst (λ n. c.args.index < n) c.args.children.now.ok.0 c.requires.index) (rw c.in-Parent.is at c.index_mut.ensures.value) (rw c.in-Parent.child-is at c.insert_first.ensures.parents));
+    }
 
 -- ---- what stands there already
 
@@ -105,12 +94,6 @@ insert_first-add_leaf-requires-clause-reinserts g t c = c.requires.reinserts
 
 pub insert_first-add_leaf-requires-clause-spare : goal.insert_first-add_leaf-requires-clause-spare
 insert_first-add_leaf-requires-clause-spare g t c = c.requires.spare
-
-pub insert_first-returns-then-levels-eq0-clause-count : goal.insert_first-returns-then-levels-eq0-clause-count
-insert_first-returns-then-levels-eq0-clause-count g t c = c.add_leaf.ensures.count
-
-pub insert_first-returns-then-levels-eq0-clause-capacity : goal.insert_first-returns-then-levels-eq0-clause-capacity
-insert_first-returns-then-levels-eq0-clause-capacity g t c = c.add_leaf.ensures.capacity
 
 pub insert_first-returns-then-not-is_empty-clause-bag : goal.insert_first-returns-then-not-is_empty-clause-bag
 insert_first-returns-then-not-is_empty-clause-bag g t c = c.insert_first_in_child.ensures.bag
@@ -147,18 +130,3 @@ insert_first_in_child-index_mut-requires g t c = c.requires.index
 
 pub insert_first_in_child-overflow_sub-levels : goal.insert_first_in_child-overflow_sub-levels
 insert_first_in_child-overflow_sub-levels g t c = c.requires.above
-
-pub insert_first_in_child-returns-clause-leaves : goal.insert_first_in_child-returns-clause-leaves
-insert_first_in_child-returns-clause-leaves g t c = c.insert_first.ensures.leaves
-
-pub insert_first_in_child-returns-clause-count : goal.insert_first_in_child-returns-clause-count
-insert_first_in_child-returns-clause-count g t c = c.insert_first.ensures.count
-
-pub insert_first_in_child-returns-clause-handed_capacity : goal.insert_first_in_child-returns-clause-handed_capacity
-insert_first_in_child-returns-clause-handed_capacity g t c = c.insert_first.ensures.capacity
-
-pub insert_first_in_child-returns-clause-length : goal.insert_first_in_child-returns-clause-length
-insert_first_in_child-returns-clause-length g t c = refl
-
-pub insert_first_in_child-returns-clause-capacity : goal.insert_first_in_child-returns-clause-capacity
-insert_first_in_child-returns-clause-capacity g t c = refl
