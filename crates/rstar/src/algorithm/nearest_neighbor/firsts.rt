@@ -2,12 +2,11 @@
 
 ghost use Rattle.std.specs.Prelude.{IfOk};
 ghost use Rattle.rstar_base.specs.Points.{table};
-ghost use Rattle.rstar.specs.Closed.{Holds};
 ghost use Rattle.rstar.specs.Clones.{ClonesEqual};
 ghost use Rattle.rstar.specs.Nodes.{elements_of, IsWhole};
 ghost use Rattle.rstar.specs.Steps.{AreFirst};
 
-use crate::algorithm::nearest_neighbor::search::NeighborSearch;
+use crate::algorithm::nearest_neighbor::search::{NeighborSearch, fits};
 use crate::node::ParentNode;
 use rstar_base::envelope::Envelope;
 use rstar_base::object::{Distance, PointDistance, PointOf, RTreeObject};
@@ -22,13 +21,14 @@ pub(crate) fn first_nearest<T: PointDistance + Clone>(
     most: usize,
     room: usize,
 ) -> Result<Vec<(T, Distance<T>)>, AllocError>
-    requires whole { Holds (λ n. IsWhole T.Envelope.boxes T.object n) root.now }
+    requires whole { IsWhole T.Envelope.boxes T.object root.now }
     requires clones { ClonesEqual T.is_clone }
     ensures { IfOk result (λ found. AreFirst (λ t. T.distances.distance_2 t
         (table T.Envelope.Point.DIMENSIONS (T.Envelope.Point.coord point.now))) T.Envelope.Point.Scalar.value most
         (elements_of root.now) found.items) }
 {
     let mut found = Vec::with_capacity(*root.children.allocator(), room)?;
+    fits::<Distance<T>>();
     let mut search = NeighborSearch::new(root);
     for _turn in 0..most {
         let Some(next) = search.next_neighbor(point) else {

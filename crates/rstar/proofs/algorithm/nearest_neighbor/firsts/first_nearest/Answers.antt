@@ -1,19 +1,10 @@
 use Rattle.std.proofs.Common.{◌≤◌, ◌∷◌, [], ap, sym, subst, ◌∙◌, arith, length, length-append}
 use Rattle.rstar_base.specs.Points.{table}
-use Rattle.rstar.specs.Closed.{Holds}
 use Rattle.rstar.specs.Nodes.{all_elements, elements_of}
 use Rattle.rstar.specs.Searches.{waiting_of, IsUnrefused}
-use Rattle.rstar.proofs.Fits.{search_fits}
 use Rattle.rstar.proofs.Firsts.{begun-first, begun-more, begun-done}
 use Rattle.rstar.proofs.Ties.{fresh-elements}
 use Rattle.rstar.proofs.algorithm.nearest_neighbor.firsts.first_nearest.Goals as goal
-
-pub new-search-requires : goal.new-search-requires
-unfolding Holds
-new-search-requires g c = (search_fits g.row.T-Envelope-Point-Scalar g.met.T.Envelope.Point.Scalar.RTreeNum.narrow, c.requires.whole)
-
-pub next_neighbor-requires : goal.next_neighbor-requires
-next_neighbor-requires g c = (search_fits g.row.T-Envelope-Point-Scalar g.met.T.Envelope.Point.Scalar.RTreeNum.narrow, c.loop-turn.invariant.ready)
 
 pub loop-turn-init : goal.loop-turn-init
 loop-turn-init g c =
