@@ -14,7 +14,10 @@ use Rattle.rstar.specs.declared.algorithm.nearest_neighbor.search.Stage.TheVaria
 use Rattle.rstar.specs.declared.algorithm.nearest_neighbor.search.NeighborSearch.{NeighborSearch}
 use Rattle.rstar.specs.Neighbors.{AreNearest}
 use Rattle.rstar.specs.Nodes.{elements, all_elements, elements_of}
-use Rattle.rstar.specs.Searches.{waiting_at, waiting_of, held_by}
+use Rattle.std.specs.declared.cmp.Ordering.{Ordering}
+use Rattle.rstar_base.specs.Envelopes.{Boxes}
+use Rattle.rstar_base.specs.Elements.{Objects, Distances}
+use Rattle.rstar.specs.Searches.{waiting_at, waiting_of, held_by, IsReady}
 use Rattle.rstar.specs.Ties.{IsTied}
 use Rattle.rstar.proofs.Rows.{elements-Parent}
 
@@ -106,3 +109,8 @@ pub fresh-elements : {T E P S X : Type 0} (s : NeighborSearch T E P S X) (root :
 fresh-elements {T} {E} {P} {S} {X} s root fresh is =
     ap (λ stage. all_elements (waiting_at stage s.root.now (held_by s))) fresh
     ∙ append-nil (elements (Parent s.root.now)) ∙ elements-Parent s.root.now ∙ ap (λ (r : ParentNode T E P S X). elements_of r) is
+
+-- a search that is ready for any point is so for this one
+pub ready_at : {T E P S X : Type 0} (v : Boxes E) (d : Distances T) (p : List ℤ) (compare : S → S → Ordering) (value : S → ℤ) (o : Objects T E) (s : NeighborSearch T E P S X)
+    → ((q : List ℤ) → IsReady v d q compare value o s) → IsReady v d p compare value o s
+ready_at v d p compare value o s ready = ready p

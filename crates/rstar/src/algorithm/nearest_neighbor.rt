@@ -185,7 +185,6 @@ pub fn nearest_neighbor_with_distance_2<'a, T: PointDistance>(
 ///
 /// It takes neighbours, as `NearestNeighborDistance2Iterator` gives them, until one is farther than the first. It is
 /// refused where the allocator refuses the list or what waits.
-#[tactic(auto, unfolding(crate::specs::Closed::Holds))]
 pub fn nearest_neighbors_with_distance_2<'a, T: PointDistance>(
     root: &'a ParentNode<T>,
     point: PointOf<T>,

@@ -73,7 +73,8 @@ fn clones_of<T: RTreeObject + Clone, Func: SelectionFunction<T>, Params: RTreePa
     ensures { IfOk result (λ found. found.items ≡ filter (Func.selects func) (elements_in tree.now)) }
 {
     let mut found = Vec::new(*tree.root().children.allocator());
-    for t in tree.locate_with_selection_function(func)? {
+    let mut items = tree.locate_with_selection_function(func)?;
+    while let Some(t) = items.next() {
         found.push(t.clone()?)?;
     }
     Ok(found)
@@ -183,7 +184,8 @@ fn pairs_with<T: RTreeObject + Clone, Params: RTreeParams>(
 {
     let mut pairs = Vec::new(*list.allocator());
     let other = RTree::bulk_load(list)?;
-    for (t, u) in tree.intersection_candidates_with_other_tree(&other)? {
+    let mut items = tree.intersection_candidates_with_other_tree(&other)?;
+    while let Some((t, u)) = items.next() {
         let left = t.clone()?;
         pairs.push((left, u.clone()?))?;
     }

@@ -17,7 +17,7 @@ use std::alloc::AllocError;
 impl<T: PointDistance + Clone, Params: RTreeParams> RTree<T, Params> {
     /// Clones of so many elements, the nearest to a point first, with their squared distances; of all where there are
     /// fewer. Its list takes memory once, and for no more than there are.
-    #[tactic(auto, unfolding(crate::specs::Trees::IsWholeTree, crate::specs::Closed::Holds))]
+    #[tactic(auto, unfolding(crate::specs::Trees::IsWholeTree))]
     pub(crate) fn first_neighbors(
         &self,
         point: &PointOf<T>,

@@ -134,7 +134,7 @@ impl<T: PointDistance, Params: RTreeParams> RTree<T, Params> {
     ///
     /// It takes neighbours, the nearest first, until one is farther than the first. It is refused where the allocator
     /// refuses the list or what waits.
-    #[tactic(auto, unfolding(crate::specs::Trees::IsWholeTree, crate::specs::Closed::Holds))]
+    #[tactic(auto, unfolding(crate::specs::Trees::IsWholeTree))]
     pub fn nearest_neighbors(&self, point: &PointOf<T>) -> Result<Vec<&T>, AllocError>
         requires { IsWholeTree T.Envelope.boxes T.object Params.MAX_SIZE self.now }
         ensures { IfOk result (λ ts. (d : ℕ) × AreNearest (λ t. T.distances.distance_2 t
@@ -152,7 +152,7 @@ impl<T: PointDistance, Params: RTreeParams> RTree<T, Params> {
     ///
     /// It takes neighbours, the nearest first, until one is farther than the first. It is refused where the allocator
     /// refuses the list or what waits.
-    #[tactic(auto, unfolding(crate::specs::Trees::IsWholeTree, crate::specs::Closed::Holds))]
+    #[tactic(auto, unfolding(crate::specs::Trees::IsWholeTree))]
     pub fn nearest_neighbors_with_distance_2(
         &self,
         point: &PointOf<T>,

@@ -1,14 +1,7 @@
-use Rattle.std.proofs.Common.{◌≡◌, ◌∙◌, ◌<◌, ap, sym, subst, refl, length}
+use Rattle.std.proofs.Common.{◌≡◌, ◌∙◌, ap, refl}
 use Rattle.rstar_base.specs.Points.{table}
 use Rattle.rstar.specs.Ways.{first_at, way_to, with_child, child_at}
 use Rattle.rstar.proofs.payloads.child_with.Goals as goal
-
-pub child_of-requires : goal.child_of-requires
-child_of-requires g c =
-    let v = g.T.Envelope.Envelope.boxes in
-    let d = g.T.PointDistance.distances in
-    let p = table g.T.Envelope.Point.Point.DIMENSIONS (g.T.Envelope.Point.Point.coord c.args.point.now) in
-    subst (λ i. i < length c.args.parent.now.children.items) (sym (c.first_finding-index.ensures ∙ ap (first_at v d p) c.as_slice.ensures.value)) c.requires
 
 pub returns : goal.returns
 returns g c =

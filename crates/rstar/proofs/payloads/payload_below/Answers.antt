@@ -1,18 +1,10 @@
-use Rattle.std.proofs.Common.{◌≡◌, ◌∙◌, ◌<◌, length, refl, ap, sym, subst}
+use Rattle.std.proofs.Common.{◌≡◌, ◌∙◌, refl, ap, subst}
 use Rattle.rstar_base.specs.Points.{table}
 use Rattle.rstar_base.specs.Elements.{carried_distances}
 use Rattle.rstar.specs.Nodes.{layer_of}
-use Rattle.rstar.specs.Ways.{way_to, with_child, child_at, change_at, Leads}
+use Rattle.rstar.specs.Ways.{way_to, with_child, child_at, change_at}
 use Rattle.rstar.specs.Payloads.{with_data, IsAtPayload}
 use Rattle.rstar.proofs.payloads.payload_below.Goals as goal
-
-pub child_of-requires : goal.child_of-requires
-child_of-requires g c = subst (λ i. i < length c.args.parent.now.children.items) (sym c.requires.begins) c.requires.leads.0
-
-pub payload_with-requires : goal.payload_with-requires
-payload_with-requires g c =
-    let way = way_to g.R.Envelope.Envelope.boxes (carried_distances g.R.PointDistance.distances (λ t. t.0)) (table g.R.Envelope.Point.Point.DIMENSIONS (g.R.Envelope.Point.Point.coord c.args.point.now)) in
-    subst (λ n. Leads way c.args.depth (layer_of n)) (sym (c.child_of.ensures.value ∙ ap (child_at c.args.parent.now) c.requires.begins)) c.requires.leads.1
 
 pub returns : goal.returns
 returns g c =

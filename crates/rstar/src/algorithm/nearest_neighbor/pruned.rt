@@ -2,16 +2,16 @@
 
 ghost use Rattle.std.specs.Prelude.{◌≡◌, ◌≤◌, ◌+◌, ◌++◌, [], ◌∷◌, List, pos, OnOk, IfOk, IfSome, IfNone, MatchOption};
 ghost use Rattle.std.specs.Int.{int_min};
+ghost use Rattle.std.specs.Ordering.{on, flip_args};
 ghost use Rattle.rstar_base.specs.Points.{table, IsPoint};
-ghost use Rattle.rstar_base.specs.SmallHeaps.{items_of};
-ghost use Rattle.rstar.specs.Closed.{Holds};
+ghost use Rattle.rstar_base.specs.SmallHeaps.{items_of, IsOrdered};
 ghost use Rattle.rstar.specs.declared.node.RTreeNode.{RTreeNode};
 ghost use Rattle.rstar.specs.Neighbors.{IsNearest};
 ghost use Rattle.rstar.specs.Nodes.{all_parents, elements_of, envelope_of, parents, node_box, IsWhole};
 ghost use Rattle.rstar.specs.Pruned.{IsAbove, IsPruned};
 ghost use Rattle.rstar.specs.Searches.{waiting_nodes, distance_of, AreWaiting};
 
-use crate::algorithm::nearest_neighbor::search::{Heap, Waiting, distance_to};
+use crate::algorithm::nearest_neighbor::search::{Heap, Waiting, distance_to, fits};
 use crate::node::{ParentNode, RTreeNode};
 use rstar_base::envelope::Envelope;
 use rstar_base::heap::SmallHeap;
@@ -42,6 +42,7 @@ pub(crate) fn one_nearest<'a, T: PointDistance>(
 {
     // Does nothing but tell that the point's coordinates are in their range.
     known(point);
+    fits::<Distance<T>>();
     let mut heap: Heap<'a, T> = SmallHeap::new(*root.children.allocator());
     let mut bound = open_within(&mut heap, &root.children, point, None)?;
     while let Some(current) = heap.pop() {
@@ -109,10 +110,12 @@ fn offer<'a, T: PointDistance>(
 ) -> Result<Option<Distance<T>>, AllocError>
     requires point { IsPoint T.Envelope.Point.Scalar.low T.Envelope.Point.Scalar.high T.Envelope.Point.DIMENSIONS
         (table T.Envelope.Point.DIMENSIONS (T.Envelope.Point.coord point.now)) }
-    requires waiting { AreWaiting T.Envelope.boxes T.distances
-        (table T.Envelope.Point.DIMENSIONS (T.Envelope.Point.coord point.now)) T.Envelope.Point.Scalar.cmp
-        T.Envelope.Point.Scalar.value heap.old }
+    requires ordered { IsOrdered (flip_args (on (λ w. w.distance) T.Envelope.Point.Scalar.cmp)) heap.old }
+    ensures ordered { IsOrdered (flip_args (on (λ w. w.distance) T.Envelope.Point.Scalar.cmp)) heap.new }
     ensures waiting { AreWaiting T.Envelope.boxes T.distances
+        (table T.Envelope.Point.DIMENSIONS (T.Envelope.Point.coord point.now)) T.Envelope.Point.Scalar.cmp
+        T.Envelope.Point.Scalar.value heap.old
+        → AreWaiting T.Envelope.boxes T.distances
         (table T.Envelope.Point.DIMENSIONS (T.Envelope.Point.coord point.now)) T.Envelope.Point.Scalar.cmp
         T.Envelope.Point.Scalar.value heap.new }
     ensures fewer { OnOk result (all_parents (waiting_nodes (items_of heap.new))
@@ -146,10 +149,11 @@ fn open_within<'a, T: PointDistance>(
 ) -> Result<Option<Distance<T>>, AllocError>
     requires point { IsPoint T.Envelope.Point.Scalar.low T.Envelope.Point.Scalar.high T.Envelope.Point.DIMENSIONS
         (table T.Envelope.Point.DIMENSIONS (T.Envelope.Point.coord point.now)) }
-    requires waiting { Holds (λ h. AreWaiting T.Envelope.boxes T.distances
-        (table T.Envelope.Point.DIMENSIONS (T.Envelope.Point.coord point.now)) T.Envelope.Point.Scalar.cmp
-        T.Envelope.Point.Scalar.value h) heap.old }
+    requires ordered { IsOrdered (flip_args (on (λ w. w.distance) T.Envelope.Point.Scalar.cmp)) heap.old }
     ensures waiting { AreWaiting T.Envelope.boxes T.distances
+        (table T.Envelope.Point.DIMENSIONS (T.Envelope.Point.coord point.now)) T.Envelope.Point.Scalar.cmp
+        T.Envelope.Point.Scalar.value heap.old
+        → AreWaiting T.Envelope.boxes T.distances
         (table T.Envelope.Point.DIMENSIONS (T.Envelope.Point.coord point.now)) T.Envelope.Point.Scalar.cmp
         T.Envelope.Point.Scalar.value heap.new }
     ensures fewer { OnOk result (all_parents (waiting_nodes (items_of heap.new))

@@ -6,9 +6,10 @@ ghost use Rattle.std.specs.Cmp.Rules.{comparing};
 ghost use Rattle.std.specs.Ordering.{on, flip_args, as_partial_cmp};
 ghost use Rattle.std.specs.Prelude.{◌≡◌, ◌<◌, ◌≤◌, ◌∷◌, ◌++◌, [], pos, OnOk, OnErr, IfOk, IfErr, IfSome, IfNone};
 ghost use Rattle.std.specs.List.Sorted.{IsPermutation};
+ghost use Rattle.std.specs.Mem.{FitsInMemory};
 ghost use Rattle.rstar_base.specs.Points.{table};
-ghost use Rattle.rstar_base.specs.SmallHeaps.{items_of};
-ghost use Rattle.rstar.specs.Closed.{Holds};
+ghost use Rattle.rstar_base.specs.SmallHeaps.{items_of, IsOrdered};
+ghost use Rattle.rstar.specs.Fits.{heap_row, search_row};
 ghost use Rattle.rstar.specs.declared.node.RTreeNode.{Parent};
 ghost use Rattle.rstar.specs.declared.algorithm.nearest_neighbor.search.Stage.TheVariants.{Fresh, Running, Ended};
 ghost use Rattle.rstar.specs.Nodes.{all_elements, all_parents, IsWhole};
@@ -70,6 +71,12 @@ impl<N, S: Ord> PartialOrd for Waiting<N, S> {
 
 /// The nodes that wait, the nearest on top.
 pub(crate) type Heap<'a, T> = SmallHeap<Waiting<&'a RTreeNode<T>, Distance<T>>>;
+
+/// Does nothing but tell that a search which is held by value fits in memory.
+pub(crate) fn fits<S: RTreeNum>()
+    ensures heap { FitsInMemory (heap_row S.row) }
+    ensures search { FitsInMemory (search_row S.row) }
+{}
 
 /// The distance at which a node waits: an element's own, and a parent's envelope's.
 #[tactic(auto, unfolding(crate::specs::Nodes::node_distance, crate::specs::Nodes::fold_tree))]
@@ -181,7 +188,7 @@ impl<'a, T: PointDistance> NeighborSearch<'a, T> {
         ensures stage { OnOk result (self.new.stage ≡ Running) }
         ensures running { OnOk result (IsRunning T.Envelope.boxes T.distances
             (table T.Envelope.Point.DIMENSIONS (T.Envelope.Point.coord point.now)) T.Envelope.Point.Scalar.cmp
-            T.Envelope.Point.Scalar.value T.object self.old.root.now self.new.heap self.new.opened) }
+            T.Envelope.Point.Scalar.value T.object self.new.root.now self.new.heap self.new.opened) }
         ensures bag { OnOk result (IsPermutation (all_elements (waiting_of self.old))
             (all_elements (waiting_nodes (held_by self.new)))) }
         ensures fewer { OnOk result (all_parents (waiting_nodes (held_by self.new))
@@ -207,7 +214,7 @@ impl<'a, T: PointDistance> NeighborSearch<'a, T> {
         ensures root { self.new.root ≡ self.old.root }
         ensures running { OnOk result (IsRunning T.Envelope.boxes T.distances
             (table T.Envelope.Point.DIMENSIONS (T.Envelope.Point.coord point.now)) T.Envelope.Point.Scalar.cmp
-            T.Envelope.Point.Scalar.value T.object self.old.root.now self.new.heap self.new.opened) }
+            T.Envelope.Point.Scalar.value T.object self.new.root.now self.new.heap self.new.opened) }
         ensures bag { OnOk result (IsPermutation (all_elements (Parent self.old.root.now ∷ []))
             (all_elements (waiting_nodes (held_by self.new)))) }
         ensures fewer { OnOk result (all_parents (waiting_nodes (held_by self.new))
@@ -223,9 +230,9 @@ impl<'a, T: PointDistance> NeighborSearch<'a, T> {
 
     /// Opens the nearest waiting parents until an element is nearest.
     fn advance(&mut self, point: &PointOf<T>) -> Result<Option<(&'a T, Distance<T>)>, AllocError>
-        requires { Holds (λ s. IsRunning T.Envelope.boxes T.distances
+        requires { IsRunning T.Envelope.boxes T.distances
             (table T.Envelope.Point.DIMENSIONS (T.Envelope.Point.coord point.now)) T.Envelope.Point.Scalar.cmp
-            T.Envelope.Point.Scalar.value T.object s.root.now s.heap s.opened) self.old }
+            T.Envelope.Point.Scalar.value T.object self.old.root.now self.old.heap self.old.opened }
         ensures root { self.new.root ≡ self.old.root }
         ensures stage { self.new.stage ≡ self.old.stage }
         ensures running { OnOk result (IsRunning T.Envelope.boxes T.distances
@@ -259,13 +266,14 @@ impl<'a, T: PointDistance> NeighborSearch<'a, T> {
         children: &'a [RTreeNode<T>],
         point: &PointOf<T>,
     ) -> Result<(), AllocError>
-        requires { AreWaiting T.Envelope.boxes T.distances
-            (table T.Envelope.Point.DIMENSIONS (T.Envelope.Point.coord point.now)) T.Envelope.Point.Scalar.cmp
-            T.Envelope.Point.Scalar.value self.old.heap }
+        requires { IsOrdered (flip_args (on (λ w. w.distance) T.Envelope.Point.Scalar.cmp)) self.old.heap }
         ensures root { self.new.root ≡ self.old.root }
         ensures opened { self.new.opened ≡ self.old.opened }
         ensures stage { self.new.stage ≡ self.old.stage }
         ensures waiting { AreWaiting T.Envelope.boxes T.distances
+            (table T.Envelope.Point.DIMENSIONS (T.Envelope.Point.coord point.now)) T.Envelope.Point.Scalar.cmp
+            T.Envelope.Point.Scalar.value self.old.heap
+            → AreWaiting T.Envelope.boxes T.distances
             (table T.Envelope.Point.DIMENSIONS (T.Envelope.Point.coord point.now)) T.Envelope.Point.Scalar.cmp
             T.Envelope.Point.Scalar.value self.new.heap }
         ensures added { OnOk result (IsPermutation (waiting_nodes (held_by self.old) ++ children.now)

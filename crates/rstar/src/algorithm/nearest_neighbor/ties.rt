@@ -2,13 +2,12 @@
 
 ghost use Rattle.std.specs.Prelude.{◌≡◌, ℕ, List, [], pos, map, IfOk, IfSome, IfNone, OnOk};
 ghost use Rattle.rstar_base.specs.Points.{table};
-ghost use Rattle.rstar.specs.Closed.{Holds};
 ghost use Rattle.rstar.specs.Neighbors.{AreNearest};
 ghost use Rattle.rstar.specs.Nodes.{all_elements, elements_of, IsWhole};
 ghost use Rattle.rstar.specs.Searches.{waiting_of, IsReady, IsUnrefused};
 ghost use Rattle.rstar.specs.Ties.{IsTied};
 
-use crate::algorithm::nearest_neighbor::search::NeighborSearch;
+use crate::algorithm::nearest_neighbor::search::{NeighborSearch, fits};
 use crate::node::ParentNode;
 use rstar_base::envelope::Envelope;
 use rstar_base::object::{Distance, PointDistance, PointOf, RTreeObject};
@@ -16,17 +15,19 @@ use rstar_base::point::{Point, RTreeNum, not_above};
 use std::alloc::AllocError;
 
 /// All elements of least squared distance to a point, with that distance; `None` exactly where there is no element.
+#[tactic(auto, using(crate::proofs::Ties::ready_at))]
 pub(crate) fn all_nearest<'a, T: PointDistance>(
     root: &'a ParentNode<T>,
     point: &PointOf<T>,
 ) -> Result<Option<(Vec<&'a T>, Distance<T>)>, AllocError>
-    requires { Holds (λ n. IsWhole T.Envelope.boxes T.object n) root.now }
+    requires { IsWhole T.Envelope.boxes T.object root.now }
     ensures none { IfOk result (λ r. IfNone r (elements_of root.now ≡ [])) }
     ensures nearest { IfOk result (λ r. IfSome r (λ x. (d : ℕ) × (T.Envelope.Point.Scalar.value x.1 ≡ pos d)
         × AreNearest (λ t. T.distances.distance_2 t
         (table T.Envelope.Point.DIMENSIONS (T.Envelope.Point.coord point.now))) (elements_of root.now) d
         (map (λ t. t.now) x.0.items))) }
 {
+    fits::<Distance<T>>();
     let mut search = NeighborSearch::new(root);
     let Some(found) = search.next_neighbor(point) else {
         return Ok(None);

@@ -1,15 +1,25 @@
-use Rattle.std.proofs.Common.{◌≡◌, ◌∙◌, ◌∷◌, [], ap}
-use Rattle.std.proofs.lemmas.List.{map-append}
-use Rattle.rstar.proofs.Chains.{selection_end}
+use Rattle.std.proofs.Common.{◌≡◌, ◌∙◌, ◌∷◌, [], ◌++◌, ap, append_assoc, append-nil, arith, length, sym}
 use Rattle.rstar.specs.Selections.{to_come}
 use Rattle.rstar.proofs.replay.answers.clones_of.Goals as goal
+
+pub loop-t-init : goal.loop-t-init
+loop-t-init g c = record {
+  walking = c.in_ok-items.ensures.walking;
+  rest = ap (λ xs. xs ++ to_come g.Func.SelectionFunction.accepts g.Func.SelectionFunction.selects c.in_ok-items.items) c.new-found.ensures.items ∙ c.in_ok-items.ensures.all c.requires.lawful;
+}
+
+pub loop-t-smaller : goal.loop-t-smaller
+loop-t-smaller g c = let less = ap length c.in-Some.ensures.steps.gives in omega arith
 
 pub loop-t-preserved : goal.loop-t-preserved
 loop-t-preserved g c =
     let same : c.in_ok-clone.field-0 ≡ c.in-Some.t.now = c.requires.clones _ _ c.in_ok-clone.ensures.cases in
-    rw (map-append (λ r. r.now) c.loop-t.yielded (c.in-Some.t ∷ []), ← c.loop-t.invariant, ← same) c.in_ok-push.ensures.items
+    let more = to_come g.Func.SelectionFunction.accepts g.Func.SelectionFunction.selects c.next.new.self in
+    record {
+      walking = c.in-Some.ensures.steps.walking;
+      rest = ap (λ xs. xs ++ more) c.in_ok-push.ensures.items ∙ append_assoc c.loop-t.found.items (c.in_ok-clone.field-0 ∷ []) more ∙ ap (λ t. c.loop-t.found.items ++ t ∷ more) same
+          ∙ ap (λ ts. c.loop-t.found.items ++ ts) (sym c.in-Some.ensures.steps.gives) ∙ c.loop-t.invariant.rest;
+    }
 
 pub returns : goal.returns
-returns g c =
-    c.loop-t.invariant
-    ∙ selection_end _ _ (ap (to_come _ _) c.into_iter-t-iterator.ensures.into_iter_gives ∙ c.in_ok-t-items.ensures.all c.requires.lawful) c.loop-t.yielded _ c.loop-t.yielded_by _ c.in-None.ensures.steps
+returns g c = sym (append-nil c.loop-t.found.items) ∙ ap (λ ts. c.loop-t.found.items ++ ts) (sym c.in_default.ensures.steps.gives.0) ∙ c.loop-t.invariant.rest

@@ -29,9 +29,9 @@ returns-in_default-clause-pruned g c = λ all rest s.
 pub returns-clause-waiting : goal.returns-clause-waiting
 returns-clause-waiting g c =
     let p = table g.T.Envelope.Point.Point.DIMENSIONS (g.T.Envelope.Point.Point.coord c.args.point.now) in
-    record {
+    λ before. record {
       ordered = c.push.ensures.ordered;
-      at = at-push g.T.Envelope.Envelope.boxes g.T.PointDistance.distances p g.T.Envelope.Point.Scalar.Number.value _ (items_of c.args.heap.now) (items_of c.push.new.self) c.in_default-push.ensures.ok c.in-Some.ensures.at c.requires.waiting.at;
+      at = at-push g.T.Envelope.Envelope.boxes g.T.PointDistance.distances p g.T.Envelope.Point.Scalar.Number.value _ (items_of c.args.heap.now) (items_of c.push.new.self) c.in_default-push.ensures.ok c.in-Some.ensures.at before.at;
     }
 
 pub returns-clause-fewer : goal.returns-clause-fewer

@@ -1,14 +1,11 @@
 use Rattle.std.proofs.Common.{◌≡◌, ◌∷◌, ◌++◌, arith, sym, subst, ap, None}
-use Rattle.std.specs.Mem.{FitsInMemory}
 use Rattle.std.specs.Ordering.{int_cmp}
 use Rattle.rstar_base.specs.Points.{table, IsPoint}
 use Rattle.rstar_base.specs.SmallHeaps.{items_of}
-use Rattle.rstar.specs.Closed.{Holds}
 use Rattle.rstar.specs.declared.node.RTreeNode.{Parent, Leaf}
 use Rattle.rstar.specs.Nodes.{all_parents, elements_of}
 use Rattle.rstar.specs.Pruned.{IsPruned}
 use Rattle.rstar.specs.Searches.{waiting_nodes}
-use Rattle.rstar.proofs.Fits.{heap_fits, heap_row}
 use Rattle.rstar.proofs.Nearness.{IsMeasured}
 use Rattle.rstar.proofs.Pruning as pruning
 use Rattle.rstar.proofs.Turns as turns
@@ -27,40 +24,16 @@ measured g p is = record {
 order : (g : Over) (a b : g.row.T-Envelope-Point-Scalar.Denot) → g.T.Envelope.Point.Scalar.Ord.cmp a b ≡ int_cmp (g.T.Envelope.Point.Scalar.Number.value a) (g.T.Envelope.Point.Scalar.Number.value b)
 order g = turns.order_of g.T.Envelope.Point.Scalar.Number.value g.T.Envelope.Point.Scalar.Ord.cmp _ g.met.T.Envelope.Point.Scalar.Ord.matches_partial_cmp (λ a b. g.met.T.Envelope.Point.Scalar.Number.order_law a b g.met.T.Envelope.Point.Scalar.Integral.exact_law)
 
-fits : (g : Over) → FitsInMemory (heap_row g.row.T-Envelope-Point-Scalar)
-fits g = heap_fits g.row.T-Envelope-Point-Scalar g.met.T.Envelope.Point.Scalar.RTreeNum.narrow
-
-pub new-heap-requires : goal.new-heap-requires
-new-heap-requires g c = fits g
-
-pub pop-requires : goal.pop-requires
-pop-requires g c = (fits g, c.loop-current.invariant.waiting.ordered)
-
-pub open_within-requires : goal.open_within-requires
-unfolding Holds
-open_within-requires g c = (fits g, (c.known.ensures.range, record { ordered = c.new-heap.ensures.ordered; at = rw c.new-heap.ensures.none tt }))
-
 pub loop-current-init : goal.loop-current-init
 loop-current-init g c =
     let p = table g.T.Envelope.Point.Point.DIMENSIONS (g.T.Envelope.Point.Point.coord c.args.point.now) in
     let value = g.T.Envelope.Point.Scalar.Number.value in
     record {
-      waiting = c.open_within.ensures.waiting;
+      waiting = c.open_within.ensures.waiting (record { ordered = c.new-heap.ensures.ordered; at = rw c.new-heap.ensures.none tt });
       pruned = λ whole.
           let start = pruning.pruned-start g.T.Envelope.Envelope.boxes g.T.RTreeObject.object g.T.PointDistance.distances p value c.args.root.now (items_of c.new-heap.result) c.new-heap.ensures.none whole in
           c.in_ok-bound.ensures.pruned (elements_of c.args.root.now) (subst (λ l. IsPruned g.T.Envelope.Envelope.boxes g.T.RTreeObject.object g.T.PointDistance.distances p value (elements_of c.args.root.now) (waiting_nodes (items_of c.new-heap.result) ++ l) None) (sym c.deref.ensures.value) start);
     }
-
-pub open_within-requires-in-Parent : goal.open_within-requires-in-Parent
-unfolding Holds
-open_within-requires-in-Parent g c = (
-  fits g,
-  (
-    c.known.ensures.range,
-    turns.rest-waiting g.T.Envelope.Envelope.boxes g.T.PointDistance.distances (table g.T.Envelope.Point.Point.DIMENSIONS (g.T.Envelope.Point.Point.coord c.args.point.now)) g.T.Envelope.Point.Scalar.Number.value g.T.Envelope.Point.Scalar.Ord.cmp
-        c.loop-current.heap c.pop.new.self c.in-Some.current c.loop-current.invariant.waiting c.pop.ensures.ordered c.in-Some.ensures.some,
-  ),
-)
 
 pub returns-in-Leaf-clause-nearest : goal.returns-in-Leaf-clause-nearest
 returns-in-Leaf-clause-nearest g c = λ whole.
@@ -100,7 +73,7 @@ loop-current-preserved g c =
     let us = waiting_nodes (items_of c.pop.new.self) in
     let nodes = turns.nodes-as g.T.Envelope.Envelope.boxes g.T.PointDistance.distances p value g.T.Envelope.Point.Scalar.Ord.cmp c.loop-current.heap c.pop.new.self c.in-Some.current c.loop-current.invariant.waiting c.pop.ensures.ordered c.in-Some.ensures.some (Parent q) c.in-Parent.is in
     record {
-      waiting = c.open_within-in-Parent.ensures.waiting;
+      waiting = c.open_within-in-Parent.ensures.waiting (turns.rest-waiting g.T.Envelope.Envelope.boxes g.T.PointDistance.distances p value g.T.Envelope.Point.Scalar.Ord.cmp c.loop-current.heap c.pop.new.self c.in-Some.current c.loop-current.invariant.waiting c.pop.ensures.ordered c.in-Some.ensures.some);
       pruned = λ whole.
           let turned = pruning.same-nodes g.T.Envelope.Envelope.boxes g.T.RTreeObject.object g.T.PointDistance.distances p value (elements_of c.args.root.now) (waiting_nodes (items_of c.loop-current.heap)) (Parent q ∷ us) c.loop-current.bound nodes (c.loop-current.invariant.pruned whole) in
           let opened = pruning.pruned-parent (measured g p c.known.ensures.range) value (elements_of c.args.root.now) q us c.loop-current.bound turned in

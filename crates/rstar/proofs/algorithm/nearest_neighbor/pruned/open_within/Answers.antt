@@ -1,20 +1,15 @@
-use Rattle.std.proofs.Common.{◌∷◌, [], ◌++◌, ◌+◌, ◌<◌, length, drop, take, arith, sym, subst, ap, ◌∙◌, rules}
+use Rattle.std.proofs.Common.{◌∷◌, [], ◌++◌, ◌+◌, ◌<◌, length, drop, take, arith, sym, subst, ap, ◌∙◌}
 use Rattle.std.proofs.lemmas.List.{append-nil, take_more, drop_more, drop_all}
 use Rattle.std.proofs.lemmas.List.Sums.{sum_by-cons, sum_by-append}
 use Rattle.rstar_base.specs.Points.{table}
 use Rattle.rstar_base.specs.SmallHeaps.{items_of}
-use Rattle.rstar.specs.Closed.{Holds}
 use Rattle.rstar.specs.Nodes.{all_parents, parents}
 use Rattle.rstar.specs.Pruned.{IsPruned}
 use Rattle.rstar.specs.Searches.{waiting_nodes}
 use Rattle.rstar.proofs.algorithm.nearest_neighbor.pruned.open_within.Goals as goal
 
 pub loop-child-init : goal.loop-child-init
-unfolding Holds
-loop-child-init g c = record { waiting = c.requires.waiting; fewer = omega arith; pruned = λ all s. s }
-
-pub offer-requires : goal.offer-requires
-offer-requires g c = (search rules, (c.requires.point, c.loop-child.invariant.waiting))
+loop-child-init g c = record { ordered = c.requires.ordered; waiting = λ before. before; fewer = omega arith; pruned = λ all s. s }
 
 pub loop-child-preserved : goal.loop-child-preserved
 loop-child-preserved g c =
@@ -28,7 +23,8 @@ loop-child-preserved g c =
     let more = c.in_ok-left.ensures.fewer in
     let p = table g.T.Envelope.Point.Point.DIMENSIONS (g.T.Envelope.Point.Point.coord c.args.point.now) in
     record {
-      waiting = c.offer.ensures.waiting;
+      ordered = c.offer.ensures.ordered;
+      waiting = λ before. c.offer.ensures.waiting (c.loop-child.invariant.waiting before);
       fewer = omega arith;
       pruned = λ all s. c.in_ok-left.ensures.pruned all (drop (c.loop-child.child-index + 1) c.args.children.now) (subst (λ l. IsPruned g.T.Envelope.Envelope.boxes g.T.RTreeObject.object g.T.PointDistance.distances p g.T.Envelope.Point.Scalar.Number.value all (waiting_nodes (items_of c.loop-child.heap) ++ l) c.loop-child.left) back (c.loop-child.invariant.pruned all s));
     }

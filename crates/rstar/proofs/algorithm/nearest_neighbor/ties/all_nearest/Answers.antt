@@ -1,31 +1,16 @@
 use Rattle.std.proofs.Common.{◌∷◌, [], ◌++◌, map, sym, subst, ap, ◌∙◌}
 use Rattle.std.specs.List.Sorted.{IsPermutation}
 use Rattle.rstar_base.specs.Points.{table}
-use Rattle.rstar.specs.Closed.{Holds}
 use Rattle.rstar.specs.Nodes.{all_elements, elements_of}
 use Rattle.rstar.specs.Searches.{waiting_of, IsUnrefused}
 use Rattle.rstar.specs.Ties.{IsTied}
-use Rattle.rstar.proofs.Fits.{search_fits}
 use Rattle.rstar.proofs.Ties.{tied-first, fresh-elements}
 use Rattle.rstar.proofs.algorithm.nearest_neighbor.ties.all_nearest.Goals as goal
-
-pub new-search-requires : goal.new-search-requires
-unfolding Holds
-new-search-requires g c = (search_fits g.row.T-Envelope-Point-Scalar g.met.T.Envelope.Point.Scalar.RTreeNum.narrow, c.requires)
-
-pub next_neighbor-requires : goal.next_neighbor-requires
-next_neighbor-requires g c = (search_fits g.row.T-Envelope-Point-Scalar g.met.T.Envelope.Point.Scalar.RTreeNum.narrow, c.new-search.ensures.ready _)
 
 pub returns-in_default-clause-none : goal.returns-in_default-clause-none
 returns-in_default-clause-none g c =
     sym (fresh-elements c.new-search.result c.args.root.now c.new-search.ensures.stage (ap (λ b. b.now) c.new-search.ensures.root))
     ∙ c.in_default.ensures.none (subst IsUnrefused (sym c.new-search.ensures.stage) tt)
-
-pub take_ties-requires : goal.take_ties-requires
-take_ties-requires g c = (
-  search_fits g.row.T-Envelope-Point-Scalar g.met.T.Envelope.Point.Scalar.RTreeNum.narrow,
-  (c.next_neighbor.ensures.ready, subst IsUnrefused (sym (rw c.in_ok-first.was at c.in-Some.ensures.goes_on)) tt),
-)
 
 pub returns-clause-nearest : goal.returns-clause-nearest
 returns-clause-nearest g c =

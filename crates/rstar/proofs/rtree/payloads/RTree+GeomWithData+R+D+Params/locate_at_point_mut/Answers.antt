@@ -15,9 +15,12 @@ use Rattle.rstar.proofs.rtree.payloads.RTree+GeomWithData+R+D+Params.locate_at_p
 some-item : {A : Type 0} (xs : List A) (n : ℕ) → n < length xs → xs ≢ []
 some-item xs n h none = let e = ap length none in absurd (omega arith)
 
-pub payload_below-requires : goal.payload_below-requires
+pub payload_below-requires-clause-begins : goal.payload_below-requires-clause-begins
+payload_below-requires-clause-begins g c = c.first_finding-index.ensures ∙ ap (first_at g.R.Envelope.Envelope.boxes (carried_distances g.R.PointDistance.distances (λ t. t.0)) (table g.R.Envelope.Point.Point.DIMENSIONS (g.R.Envelope.Point.Point.coord c.args.point))) c.as_slice.ensures.value
+
+pub payload_below-requires-clause-leads : goal.payload_below-requires-clause-leads
 unfolding IsWholeTree
-payload_below-requires g c =
+payload_below-requires-clause-leads g c =
     let v = g.R.Envelope.Envelope.boxes in
     let d = carried_distances g.R.PointDistance.distances (λ t. t.0) in
     let o = carried_objects g.R.RTreeObject.object (λ t. t.0) in
@@ -29,7 +32,7 @@ payload_below-requires g c =
     let high : c.args.self.now.levels ≡ whole.height =
     c.requires.leveled ∙ levels_are (IsInner v o) (IsElement v o) (λ q i. i.1) whole.height (children_of root) (some-item _ _ fits) whole.below in
     let b = found-below (λ e. v.contains_point e p) (λ t. d.contains_point t p) (IsInner v o) (IsElement v o) whole.height root whole.below fits in
-    record { begins = first; leads = subst (λ n. LeadsBelow (way_to v d p) n root) (sym high) b.leads }
+    subst (λ n. LeadsBelow (way_to v d p) n root) (sym high) b.leads
 
 pub returns-then-index-len : goal.returns-then-index-len
 unfolding IsWholeTree

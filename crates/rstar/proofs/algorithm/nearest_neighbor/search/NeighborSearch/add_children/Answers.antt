@@ -1,4 +1,4 @@
-use Rattle.std.proofs.Common.{◌∷◌, [], ◌++◌, take, length, ◌<◌, arith, sym, subst, ap, ◌∙◌, refl, rules}
+use Rattle.std.proofs.Common.{◌∷◌, [], ◌++◌, take, length, ◌<◌, arith, sym, subst, ap, ◌∙◌, refl}
 use Rattle.std.specs.List.Sorted.{IsPermutation}
 use Rattle.std.proofs.lemmas.List.{append-nil, take_more}
 use Rattle.std.proofs.lemmas.List.Sorted.{IsPermutation-refl}
@@ -14,12 +14,10 @@ loop-node-init g c = record {
   root = refl;
   stage = refl;
   opened = refl;
-  waiting = c.requires;
+  ordered = c.requires;
+  waiting = λ before. before;
   added = subst (λ l. IsPermutation l (waiting_nodes (held_by c.args.self.now))) (sym (append-nil (waiting_nodes (held_by c.args.self.now)))) (IsPermutation-refl _);
 }
-
-pub push-requires : goal.push-requires
-push-requires g c = (search rules, c.loop-node.invariant.waiting.ordered)
 
 pub loop-node-preserved : goal.loop-node-preserved
 loop-node-preserved g c =
@@ -30,15 +28,16 @@ loop-node-preserved g c =
       root = c.loop-node.invariant.root;
       stage = c.loop-node.invariant.stage;
       opened = c.loop-node.invariant.opened;
-      waiting = record {
+      ordered = c.push.ensures.ordered;
+      waiting = λ before. record {
         ordered = c.push.ensures.ordered;
-        at = at-push g.T.Envelope.Envelope.boxes g.T.PointDistance.distances p g.T.Envelope.Point.Scalar.Number.value _ (items_of c.loop-node.self.heap) (items_of c.push.new.self) c.in_default.ensures.ok c.distance_to-distance.ensures c.loop-node.invariant.waiting.at;
+        at = at-push g.T.Envelope.Envelope.boxes g.T.PointDistance.distances p g.T.Envelope.Point.Scalar.Number.value _ (items_of c.loop-node.self.heap) (items_of c.push.new.self) c.in_default.ensures.ok c.distance_to-distance.ensures (c.loop-node.invariant.waiting before).at;
       };
       added = subst (λ l. IsPermutation (waiting_nodes (held_by c.args.self.now) ++ l) (waiting_nodes (items_of c.push.new.self))) (sym more) (added-push (waiting_nodes (held_by c.args.self.now)) (take c.loop-node.node-index c.args.children.now) _ (items_of c.loop-node.self.heap) (items_of c.push.new.self) c.loop-node.invariant.added c.in_default.ensures.ok);
     }
 
 pub returns-in-Err-clause-waiting : goal.returns-in-Err-clause-waiting
-returns-in-Err-clause-waiting g c = subst (AreWaiting g.T.Envelope.Envelope.boxes g.T.PointDistance.distances (table g.T.Envelope.Point.Point.DIMENSIONS (g.T.Envelope.Point.Point.coord c.args.point.now)) g.T.Envelope.Point.Scalar.Ord.cmp g.T.Envelope.Point.Scalar.Number.value) (sym c.in-Err.ensures.err) c.loop-node.invariant.waiting
+returns-in-Err-clause-waiting g c = λ before. subst (AreWaiting g.T.Envelope.Envelope.boxes g.T.PointDistance.distances (table g.T.Envelope.Point.Point.DIMENSIONS (g.T.Envelope.Point.Point.coord c.args.point.now)) g.T.Envelope.Point.Scalar.Ord.cmp g.T.Envelope.Point.Scalar.Number.value) (sym c.in-Err.ensures.err) (c.loop-node.invariant.waiting before)
 
 pub returns-clause-added : goal.returns-clause-added
 returns-clause-added g c =

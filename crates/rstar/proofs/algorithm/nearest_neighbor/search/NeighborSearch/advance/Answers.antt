@@ -1,10 +1,9 @@
-use Rattle.std.proofs.Common.{◌≡◌, ◌++◌, arith, sym, subst, ap, ◌∙◌, refl, rules, length}
+use Rattle.std.proofs.Common.{◌≡◌, ◌++◌, arith, sym, subst, ap, ◌∙◌, refl, length}
 use Rattle.std.specs.List.Sorted.{IsPermutation}
 use Rattle.std.specs.Ordering.{int_cmp}
 use Rattle.std.proofs.lemmas.List.Sorted.{IsPermutation-refl, length_permutation}
 use Rattle.rstar_base.specs.Points.{table, IsPoint}
 use Rattle.rstar_base.specs.SmallHeaps.{items_of}
-use Rattle.rstar.specs.Closed.{Holds}
 use Rattle.rstar.specs.Nodes.{all_elements}
 use Rattle.rstar.specs.Searches.{waiting_nodes, held_by}
 use Rattle.rstar.proofs.Nearness.{IsMeasured}
@@ -27,11 +26,7 @@ order : (g : Over) (a b : g.row.T-Envelope-Point-Scalar.Denot) → g.T.Envelope.
 order g = turns.order_of g.T.Envelope.Point.Scalar.Number.value g.T.Envelope.Point.Scalar.Ord.cmp _ g.met.T.Envelope.Point.Scalar.Ord.matches_partial_cmp (λ a b. g.met.T.Envelope.Point.Scalar.Number.order_law a b g.met.T.Envelope.Point.Scalar.Integral.exact_law)
 
 pub loop-current-init : goal.loop-current-init
-unfolding Holds
 loop-current-init g c = record { root = refl; stage = refl; running = c.requires; bag = IsPermutation-refl _; fewer = omega arith }
-
-pub pop-requires : goal.pop-requires
-pop-requires g c = (search rules, c.loop-current.invariant.running.waiting.ordered)
 
 pub returns-in-Leaf-clause-running : goal.returns-in-Leaf-clause-running
 returns-in-Leaf-clause-running g c =
@@ -48,13 +43,6 @@ pub returns-in-Leaf-clause-distance : goal.returns-in-Leaf-clause-distance
 returns-in-Leaf-clause-distance g c =
     turns.leaf-at g.T.Envelope.Envelope.boxes g.T.PointDistance.distances (table g.T.Envelope.Point.Point.DIMENSIONS (g.T.Envelope.Point.Point.coord c.args.point.now)) g.T.Envelope.Point.Scalar.Number.value g.T.Envelope.Point.Scalar.Ord.cmp
     c.loop-current.self.heap c.pop.new.self c.in-Some.current c.loop-current.invariant.running.waiting c.pop.ensures.ordered c.in-Some.ensures.some c.in-Leaf.t c.in-Leaf.is
-
-pub add_children-requires : goal.add_children-requires
-add_children-requires g c = (
-  search rules,
-  turns.rest-waiting g.T.Envelope.Envelope.boxes g.T.PointDistance.distances (table g.T.Envelope.Point.Point.DIMENSIONS (g.T.Envelope.Point.Point.coord c.args.point.now)) g.T.Envelope.Point.Scalar.Number.value g.T.Envelope.Point.Scalar.Ord.cmp
-      c.loop-current.self.heap c.pop.new.self c.in-Some.current c.loop-current.invariant.running.waiting c.pop.ensures.ordered c.in-Some.ensures.some,
-)
 
 pub loop-current-smaller : goal.loop-current-smaller
 loop-current-smaller g c =
@@ -75,7 +63,8 @@ loop-current-preserved g c =
       stage = c.add_children.ensures.stage ∙ c.loop-current.invariant.stage;
       running = turns.parent-running law g.T.Envelope.Point.Scalar.Number.value g.T.Envelope.Point.Scalar.Ord.cmp (order g)
           c.args.self.now.root.now c.loop-current.self.heap c.pop.new.self c.in-Some.current c.loop-current.self.opened c.loop-current.invariant.running c.pop.ensures.ordered c.in-Some.ensures.some c.in-Some.ensures.greatest c.in-Parent.parent c.in-Parent.is c.add_children.new.self.heap put
-          c.add_children.ensures.waiting c.add_children.new.self.opened (c.add_children.ensures.opened ∙ c.saturating_add-self.ensures);
+          (c.add_children.ensures.waiting (turns.rest-waiting g.T.Envelope.Envelope.boxes g.T.PointDistance.distances (table g.T.Envelope.Point.Point.DIMENSIONS (g.T.Envelope.Point.Point.coord c.args.point.now)) g.T.Envelope.Point.Scalar.Number.value g.T.Envelope.Point.Scalar.Ord.cmp
+          c.loop-current.self.heap c.pop.new.self c.in-Some.current c.loop-current.invariant.running.waiting c.pop.ensures.ordered c.in-Some.ensures.some)) c.add_children.new.self.opened (c.add_children.ensures.opened ∙ c.saturating_add-self.ensures);
       bag = turns.parent-same law g.T.Envelope.Point.Scalar.Number.value g.T.Envelope.Point.Scalar.Ord.cmp (order g)
           c.args.self.now.root.now c.loop-current.self.heap c.pop.new.self c.in-Some.current c.loop-current.self.opened c.loop-current.invariant.running c.pop.ensures.ordered c.in-Some.ensures.some c.in-Some.ensures.greatest c.in-Parent.parent c.in-Parent.is c.add_children.new.self.heap put
           (waiting_nodes (held_by c.args.self.now)) c.loop-current.invariant.bag;

@@ -2,10 +2,8 @@ use Rattle.std.proofs.Common.{◌≡◌, sym, ap, subst, refl, ◌∙◌, arith}
 use Rattle.rstar_base.specs.Points.{table}
 use Rattle.rstar.specs.declared.algorithm.nearest_neighbor.search.Stage.{Stage}
 use Rattle.rstar.specs.declared.algorithm.nearest_neighbor.search.Stage.TheVariants.{Fresh, Running, Ended}
-use Rattle.rstar.specs.Closed.{Holds}
 use Rattle.rstar.specs.Neighbors.{IsNeighbor}
 use Rattle.rstar.specs.Searches.{waiting_nodes, waiting_at, waiting_of, held_by, IsUnrefused, IsRunning}
-use Rattle.rstar.proofs.Fits.{search_fits}
 use Rattle.rstar.proofs.Openings.{gives-from, none-from, ready-running}
 use Rattle.rstar.proofs.algorithm.nearest_neighbor.search.NeighborSearch.next_neighbor.Goals as goal
 
@@ -13,21 +11,6 @@ going : (s : Stage) → (s ≡ Ended → ⊥) → IsUnrefused s
 going Fresh h = tt
 going Running h = tt
 going Ended h = h refl
-
-pub begin-requires : goal.begin-requires
-begin-requires g c = (
-  search_fits g.row.T-Envelope-Point-Scalar g.met.T.Envelope.Point.Scalar.RTreeNum.narrow,
-  (going _ c.in_default.not-Ended, c.requires),
-)
-
-pub advance-requires : goal.advance-requires
-unfolding Holds
-advance-requires g c =
-    let p = table g.T.Envelope.Point.Point.DIMENSIONS (g.T.Envelope.Point.Point.coord c.args.point.now) in
-    let mid = c.begin.new.self in (
-      search_fits g.row.T-Envelope-Point-Scalar g.met.T.Envelope.Point.Scalar.RTreeNum.narrow,
-      subst (λ r. IsRunning g.T.Envelope.Envelope.boxes g.T.PointDistance.distances p g.T.Envelope.Point.Scalar.Ord.cmp g.T.Envelope.Point.Scalar.Number.value g.T.RTreeObject.object r.now mid.heap mid.opened) (sym c.begin.ensures.root) c.in_default-begin.ensures.running,
-    )
 
 pub returns-in-Ok-Some : goal.returns-in-Ok-Some
 returns-in-Ok-Some g c =
