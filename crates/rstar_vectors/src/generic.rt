@@ -11,7 +11,7 @@ use rstar_base::algorithm::selection_functions::{
 };
 use rstar_base::envelope::Envelope;
 use rstar_base::mint::Point2;
-use rstar_base::object::{EqualEnvelopes, RTreeObject};
+use rstar_base::object::{Distance, EqualEnvelopes, PointDistance, PointOf, RTreeObject};
 use rstar_base::point::{Point, known};
 use rstar_base::primitives::{GeomWithData, Line, Rectangle};
 use std::alloc::{AllocError, Global};
@@ -142,27 +142,30 @@ fn asked<T: RTreeObject, F: SelectionFunction<T>>(func: F, element: &T) -> (bool
     )
 }
 
-// What is opened and given in the box from [0, 0] to [4, 4], of what meets it, of what contains
-// [1, 3], of what is within 2 of it, and of what equals the line from [0, 0] to [4, 4].
-fn asked_all(segment: &Segment) -> [(bool, bool); 5] {
+// What is opened and given of what lies in an envelope, of what meets it, of what contains a point, of
+// what is within a squared distance of it, and of what equals an element.
+fn asked_all<T: PointDistance + EqualEnvelopes>(
+    element: &T,
+    area: T::Envelope,
+    point: PointOf<T>,
+    limit: Distance<T>,
+    equal: &T,
+) -> [(bool, bool); 5]
+where
+    T::Envelope: Copy,
+    PointOf<T>: Copy,
+{
     [
-        asked(
-            SelectInEnvelopeFunction::new(AABB::from_corners([0, 0], [4, 4])),
-            segment,
-        ),
-        asked(
-            SelectInEnvelopeFuncIntersecting::new(AABB::from_corners([0, 0], [4, 4])),
-            segment,
-        ),
-        asked(SelectAtPointFunction::new([1, 3]), segment),
-        asked(SelectWithinDistanceFunction::new([1, 3], 2), segment),
-        asked(
-            SelectEqualsFunction::new(&Line::new([0, 0], [4, 4])),
-            segment,
-        ),
+        asked(SelectInEnvelopeFunction::new(area), element),
+        asked(SelectInEnvelopeFuncIntersecting::new(area), element),
+        asked(SelectAtPointFunction::new(point), element),
+        asked(SelectWithinDistanceFunction::new(point, limit), element),
+        asked(SelectEqualsFunction::new(equal), element),
     ]
 }
 
+// The box from [0, 0] to [4, 4], the point [1, 3], the squared distance 2, and the line from [0, 0] to
+// [4, 4].
 #[test]
 fn selections_open_and_give_what_they_ask_for(rt: HostRuntime) {
     let both = (true, true);
@@ -188,7 +191,9 @@ fn selections_open_and_give_what_they_ask_for(rt: HostRuntime) {
             [neither, neither, neither, neither, neither],
         ),
     ];
+    let area = AABB::from_corners([0, 0], [4, 4]);
+    let equal = Line::new([0, 0], [4, 4]);
     for (segment, wanted) in rows.iter() {
-        assert!(rt; asked_all(segment) == *wanted);
+        assert!(rt; asked_all(segment, area, [1, 3], 2, &equal) == *wanted);
     }
 }

@@ -3,6 +3,7 @@
 ghost use Rattle.std.specs.Prelude.{◌≡◌, ◌≤◌, false};
 ghost use Rattle.rstar.specs.Trees.{IsWholeTree};
 
+use crate::node_sizes::Huge;
 use crate::scenarios::{ALONG_A_LINE, inserted, levels_of, stands, stands_within};
 use rstar::algorithm::rstar::{RStarInsertionStrategy, split_children};
 use rstar::node::{RTreeNode, envelope_for_children};
@@ -17,35 +18,6 @@ use rstar_base::point::Point;
 use std::alloc::{AllocError, Global};
 use std::marker::Model;
 use std::test::Fail;
-
-/// The largest numbers that are lawful.
-struct Huge;
-
-impl RTreeParams for Huge {
-    ghost use Rattle.std.proofs.Common.{arith};
-
-    ghost MIN_SIZE = { 1 };
-
-    ghost MAX_SIZE = { 18446744073709551614 };
-
-    ghost REINSERTION_COUNT = { 18446744073709551612 };
-
-    const MIN_SIZE: usize = 1;
-
-    const MAX_SIZE: usize = 18446744073709551614;
-
-    const REINSERTION_COUNT: usize = 18446744073709551612;
-
-    ghost max_at_least_four = { Prim.omega arith };
-
-    ghost max_fits = { Prim.omega arith };
-
-    ghost min_positive = { Prim.omega arith };
-
-    ghost min_at_most_half = { Prim.omega arith };
-
-    ghost reinsertion_leaves = { Prim.omega arith };
-}
 
 const TWO_HEAPS: [[i32; 2]; 7] = [[12, 12], [0, 0], [10, 10], [2, 2], [11, 11], [3, 3], [1, 1]];
 

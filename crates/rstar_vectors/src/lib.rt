@@ -28,6 +28,8 @@ mod neighbour_rows;
 #[cfg(test)]
 mod neighbours;
 #[cfg(test)]
+mod node_sizes;
+#[cfg(test)]
 mod payloads;
 #[cfg(test)]
 mod places;

@@ -4,7 +4,8 @@ ghost use Rattle.std.specs.Prelude.{◌≡◌, ◌≤◌, ◌<◌, false, IfOk};
 ghost use Rattle.rstar.specs.Clones.{ClonesEqual};
 ghost use Rattle.rstar.specs.Trees.{IsWholeTree};
 
-use crate::scenarios::{Small, levels_of, loaded, none_empty, points, stands};
+use crate::node_sizes::Small;
+use crate::scenarios::{levels_of, loaded, none_empty, points, stands};
 use rstar::algorithm::bulk_load::bulk_load_sequential;
 use rstar::node::{ParentNode, RTreeNode};
 use rstar::object::PointOf;

@@ -1,11 +1,13 @@
 //! Neighbours: rows, a plain scan beside the tree, and elements that note when they are asked.
 
 ghost use Rattle.std.specs.Prelude.{◌≡◌, ◌≤◌};
+ghost use Rattle.std.specs.Mem.{FitsInMemory};
 ghost use Rattle.rstar_base.specs.Elements.{carried_objects, carried_distances};
 ghost use Rattle.rstar_base.specs.Sizes.{IsNarrow};
 ghost use Rattle.rstar_base.specs.laws.CarrierLaws.{carried_laws};
 ghost use Rattle.rstar.specs.Neighbors.{with_distances, IsSearching};
 ghost use Rattle.rstar.specs.Trees.{IsWholeTree};
+ghost use Rattle.rstar_vectors.specs.Fits.{iterator_row, alone_row};
 
 use crate::scenarios::{ALONG_A_LINE, inserted, loaded, planted, points};
 use rstar::algorithm::nearest_neighbor::{
@@ -22,11 +24,28 @@ use std::test::Fail;
 
 type At = [i32; 2];
 
-/// Whether an iterator that has opened nothing gives neighbours at these squared distances, and then none; and whether
-/// so many parents are opened after each, as far as these numbers go.
+/// Whether an iterator gives neighbours at these squared distances, and then none.
 fn gives<T: PointDistance>(
     neighbors: &mut NearestNeighborDistance2Iterator<'_, T>,
     distances: &[Distance<T>],
+) -> bool
+    requires { IsSearching T.Envelope.boxes T.object T.distances T.Envelope.Point.DIMENSIONS
+        T.Envelope.Point.coord T.Envelope.Point.Scalar.cmp T.Envelope.Point.Scalar.value neighbors.old }
+{
+    for distance in distances {
+        match neighbors.next() {
+            Some(Ok((_, found))) => if found != *distance {
+                return false;
+            },
+            _ => return false,
+        }
+    }
+    neighbors.next().is_none()
+}
+
+/// Whether an iterator has opened no parent, and so many after each neighbour that it gives.
+fn opens<T: PointDistance>(
+    neighbors: &mut NearestNeighborDistance2Iterator<'_, T>,
     opened: &[usize],
 ) -> bool
     requires { IsSearching T.Envelope.boxes T.object T.distances T.Envelope.Point.DIMENSIONS
@@ -35,18 +54,15 @@ fn gives<T: PointDistance>(
     if neighbors.opened() != 0 {
         return false;
     }
-    for k in 0..distances.len() {
+    for count in opened {
         match neighbors.next() {
-            Some(Ok((_, distance))) => if distance != distances[k] {
+            Some(Ok(_)) => if neighbors.opened() != *count {
                 return false;
             },
             _ => return false,
         }
-        if k < opened.len() && neighbors.opened() != opened[k] {
-            return false;
-        }
     }
-    neighbors.next().is_none()
+    true
 }
 
 /// Whether an iterator without distances gives elements at these squared distances from a place, and then none.
@@ -70,32 +86,44 @@ fn gives_elements<T: PointDistance>(
     neighbors.next().is_none()
 }
 
-/// Whether a tree's neighbours of a place come at these squared distances, as `gives` has it.
+/// Does nothing but tell that an iterator over neighbours, which holds a point by value, fits in memory.
+pub(crate) fn fits<P: Point>()
+    requires { IsNarrow P.row }
+    ensures with_distances { FitsInMemory (iterator_row P.row P.Scalar.row) }
+    ensures alone { FitsInMemory (alone_row P.row P.Scalar.row) }
+{}
+
+/// Whether a tree's neighbours of a place come at these squared distances, and so many parents are opened after each, as
+/// far as these numbers go.
 fn come<T: PointDistance>(
     tree: &RTree<T>,
     place: PointOf<T>,
     distances: &[Distance<T>],
     opened: &[usize],
 ) -> bool
+where
+    PointOf<T>: Copy,
     requires narrow { IsNarrow T.Envelope.Point.row }
     requires whole { IsWholeTree T.Envelope.boxes T.object ⟦<DefaultParams as RTreeParams>⟧.MAX_SIZE tree.now }
 {
+    fits::<PointOf<T>>();
     let mut neighbors = tree.nearest_neighbor_iter_with_distance_2(place);
-    gives(&mut neighbors, distances, opened)
+    let mut others = tree.nearest_neighbor_iter_with_distance_2(place);
+    gives(&mut neighbors, distances) && opens(&mut others, opened)
 }
 
-/// The same by the old name of the call.
+/// Whether they come at these distances by the old name of the call.
 fn come_by_old_name<T: PointDistance>(
     tree: &RTree<T>,
     place: PointOf<T>,
     distances: &[Distance<T>],
-    opened: &[usize],
 ) -> bool
     requires narrow { IsNarrow T.Envelope.Point.row }
     requires whole { IsWholeTree T.Envelope.boxes T.object ⟦<DefaultParams as RTreeParams>⟧.MAX_SIZE tree.now }
 {
+    fits::<PointOf<T>>();
     let mut neighbors = tree.nearest_neighbor_iter_with_distance(place);
-    gives(&mut neighbors, distances, opened)
+    gives(&mut neighbors, distances)
 }
 
 /// The same without distances.
@@ -109,6 +137,7 @@ where
     requires narrow { IsNarrow T.Envelope.Point.row }
     requires whole { IsWholeTree T.Envelope.boxes T.object ⟦<DefaultParams as RTreeParams>⟧.MAX_SIZE tree.now }
 {
+    fits::<PointOf<T>>();
     let mut neighbors = tree.nearest_neighbor_iter(place);
     gives_elements(&mut neighbors, &place, distances)
 }
@@ -209,7 +238,7 @@ where
     requires whole { IsWholeTree T.Envelope.boxes T.object ⟦<DefaultParams as RTreeParams>⟧.MAX_SIZE tree.now }
 {
     come(tree, place, distances, opened)
-        && come_by_old_name(tree, place, distances, opened)
+        && come_by_old_name(tree, place, distances)
         && elements_come(tree, place, distances)
         && matches!(calls_find(tree, place, least_of(distances)), Ok(true))
 }
@@ -266,14 +295,6 @@ where
         }
     }
     Ok(rest.is_empty() && tree.size() == 0 && tree.pop_nearest_neighbor(place)?.is_none())
-}
-
-// The seven points: the squared distances from `[0, 0]`, and how many parents are opened after each.
-#[test]
-fn a_far_parent_waits(rt: HostRuntime) {
-    let distances = [0, 1, 4, 10000, 10201, 10404, 10609];
-    let opened = [2, 2, 2, 3, 3, 3, 3];
-    assert!(rt; come_at(rt.alloc(), &ALONG_A_LINE, [0, 0], &distances, &opened));
 }
 
 #[test]
@@ -346,52 +367,61 @@ const PLACES: [At; 8] = [
     [50, 0],
 ];
 
-// rstar's tests of neighbours in empty trees, then lists of one point, of two, and of three of which two are as near.
+// rstar's tests of neighbours in empty trees, then lists of one point, of two, and of three of which two are as near; and
+// its tests `test_nearest_neighbor`, `test_nearest_neighbors`, `test_nearest_neighbor_iterator` and its sibling with
+// distances, on a thousand other points.
 #[test]
-fn few_neighbours_come_as_by_a_scan(rt: HostRuntime) -> Result<(), Fail> {
-    let lists: [&[At]; 5] = [
+fn neighbours_come_as_by_a_scan(rt: HostRuntime) -> Result<(), Fail> {
+    let thousand = points(rt.alloc(), 1000)?;
+    let lists: [&[At]; 6] = [
         &[],
         &[[0, 0]],
         &[[0, 0], [0, 1]],
         &[[1, 0], [-1, 0], [0, 2]],
         &ALONG_A_LINE,
+        &thousand,
     ];
     for list in lists {
-        assert!(rt; answer_as_a_scan(rt.alloc(), list, &PLACES)?, "{list:?}");
+        assert!(rt;
+            answer_as_a_scan(rt.alloc(), list, &PLACES)?,
+            "{}",
+            list.len()
+        );
     }
     Ok(())
 }
 
-// Points, a place, and the squared distances: none in an empty tree, and of two points each is the nearest on its own
-// side.
+/// Points, a place, the squared distances of its neighbours, and how many parents are opened after each.
+type Row<'a> = (&'a [At], At, &'a [i32], &'a [usize]);
+
+// None in an empty tree; of two points each is the nearest on its own side; and seven points, of which four lie under a
+// parent that is far, and waits.
 #[test]
 fn all_neighbours_are_given(rt: HostRuntime) {
-    let rows: [(&[At], At, &[i32]); 5] = [
-        (&[], [0, 213], &[]),
-        (&[[0, 0], [0, 1]], [-1, 0], &[1, 2]),
-        (&[[0, 0], [0, 1]], [0, 2], &[1, 4]),
-        (&[[1, 0], [-1, 0], [0, 2]], [0, 0], &[1, 1, 4]),
+    let rows: [Row<'_>; 6] = [
+        (&[], [0, 213], &[], &[]),
+        (&[[0, 0], [0, 1]], [-1, 0], &[1, 2], &[1, 1]),
+        (&[[0, 0], [0, 1]], [0, 2], &[1, 4], &[1, 1]),
+        (&[[1, 0], [-1, 0], [0, 2]], [0, 0], &[1, 1, 4], &[1, 1, 1]),
         (
             &ALONG_A_LINE,
             [50, 0],
             &[2304, 2401, 2500, 2500, 2601, 2704, 2809],
+            &[],
+        ),
+        (
+            &ALONG_A_LINE,
+            [0, 0],
+            &[0, 1, 4, 10000, 10201, 10404, 10609],
+            &[2, 2, 2, 3, 3, 3, 3],
         ),
     ];
-    for (list, place, distances) in rows {
+    for (list, place, distances, opened) in rows {
         assert!(rt;
-            come_at(rt.alloc(), list, place, distances, &[]),
+            come_at(rt.alloc(), list, place, distances, opened),
             "at {place:?}"
         );
     }
-}
-
-// rstar's tests `test_nearest_neighbor`, `test_nearest_neighbors`, `test_nearest_neighbor_iterator` and its sibling
-// with distances, on other points.
-#[test]
-fn a_thousand_neighbours_come_as_by_a_scan(rt: HostRuntime) -> Result<(), Fail> {
-    let thousand = points(rt.alloc(), 1000)?;
-    assert!(rt; answer_as_a_scan(rt.alloc(), &thousand, &PLACES)?);
-    Ok(())
 }
 
 // The nearest first, each once, and then none: of an empty tree, of two points, and of a thousand.
@@ -514,6 +544,7 @@ fn are_asked<T: PointDistance>(
     requires whole { IsWholeTree T.Envelope.boxes ⟦<Noting<T> as RTreeObject>⟧.object
         ⟦<DefaultParams as RTreeParams>⟧.MAX_SIZE tree.now }
 {
+    fits::<PointOf<T>>();
     let mut neighbors = tree.nearest_neighbor_iter(place);
     asks_so(tree, &mut neighbors, rows)
 }

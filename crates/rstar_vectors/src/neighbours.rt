@@ -3,10 +3,12 @@
 ghost use Rattle.std.specs.Prelude.{◌≡◌, ℕ, [], pos, min, map, IfOk, IfSome, IfNone, OnOk};
 ghost use Rattle.std.specs.List.Sorted.{IsPermutation};
 ghost use Rattle.rstar_base.specs.Points.{table};
+ghost use Rattle.rstar_base.specs.Sizes.{IsNarrow};
 ghost use Rattle.rstar.specs.Neighbors.{with_distances, root_searched, point_searched, parents_opened, elements_waiting, IsGoingOn, IsSearching, AreInOrder, AreNearestOf, IsNearest, AreNearest};
 ghost use Rattle.rstar.specs.Nodes.{parents_of};
 ghost use Rattle.rstar.specs.Trees.{root_of, elements_in, IsWholeTree};
 
+use crate::neighbour_rows::fits;
 use rstar::algorithm::nearest_neighbor::{
     NearestNeighborIterator, nearest_neighbor_with_distance_2, nearest_neighbors_with_distance_2,
 };
@@ -14,7 +16,7 @@ use rstar::params::{DefaultParams, RTreeParams};
 use rstar::rtree::RTree;
 use rstar_base::aabb::AABB;
 use rstar_base::envelope::Envelope;
-use rstar_base::object::{PointDistance, RTreeObject};
+use rstar_base::object::{PointDistance, PointOf, RTreeObject};
 use rstar_base::point::{Point, RTreeNum};
 use rstar_base::primitives::{GeomWithData, Line, Rectangle};
 use std::alloc::{AllocError, Global};
@@ -76,6 +78,25 @@ fn first_of<'a, T: PointDistance>(
     Ok(all)
 }
 
+/// All elements of a tree, the nearest to a place first, and how many parents are opened for them.
+fn in_order<'a, T: PointDistance>(
+    alloc: Global,
+    tree: &'a RTree<T>,
+    place: PointOf<T>,
+) -> Result<(Vec<&'a T>, usize), AllocError>
+    requires narrow { IsNarrow T.Envelope.Point.row }
+    requires whole { IsWholeTree T.Envelope.boxes T.object ⟦<DefaultParams as RTreeParams>⟧.MAX_SIZE tree.now }
+    ensures all { IfOk result (λ r. IsPermutation (elements_in tree.now) (map (λ t. t.now) r.0.items)) }
+    ensures order { IfOk result (λ r. AreInOrder (λ t. T.distances.distance_2 t (table T.Envelope.Point.DIMENSIONS
+        (T.Envelope.Point.coord place))) (map (λ t. t.now) r.0.items)) }
+    ensures opened { IfOk result (λ r. r.1 ≡ min (parents_of (root_of tree.now)) usize.MAX) }
+{
+    fits::<PointOf<T>>();
+    let mut neighbors = tree.nearest_neighbor_iter(place);
+    let all = all_of(alloc, &mut neighbors)?;
+    Ok((all, neighbors.opened()))
+}
+
 /// All lines, the nearest to a place first, and how many parents are opened for them.
 fn lines_in_order<'a>(
     alloc: Global,
@@ -89,9 +110,24 @@ fn lines_in_order<'a>(
         (table 2 (⟦<[i64; 2] as Point>⟧.coord place))) (map (λ t. t.now) r.0.items)) }
     ensures opened { IfOk result (λ r. r.1 ≡ min (parents_of (root_of tree.now)) usize.MAX) }
 {
+    in_order(alloc, tree, place)
+}
+
+/// The elements of a tree that are nearest to a place, the nearest first: so many, or all.
+fn first_at<'a, T: PointDistance>(
+    alloc: Global,
+    tree: &'a RTree<T>,
+    place: PointOf<T>,
+    most: usize,
+) -> Result<Vec<&'a T>, AllocError>
+    requires narrow { IsNarrow T.Envelope.Point.row }
+    requires whole { IsWholeTree T.Envelope.boxes T.object ⟦<DefaultParams as RTreeParams>⟧.MAX_SIZE tree.now }
+    ensures { IfOk result (λ ts. AreNearestOf (λ t. T.distances.distance_2 t (table T.Envelope.Point.DIMENSIONS
+        (T.Envelope.Point.coord place))) (elements_in tree.now) most (map (λ t. t.now) ts.items)) }
+{
+    fits::<PointOf<T>>();
     let mut neighbors = tree.nearest_neighbor_iter(place);
-    let all = all_of(alloc, &mut neighbors)?;
-    Ok((all, neighbors.opened()))
+    first_of(alloc, &mut neighbors, most)
 }
 
 /// The plots nearest to a place, the nearest first: so many, or all.
@@ -107,8 +143,7 @@ fn nearest_plots<'a>(
         (λ t. ⟦<Plot as PointDistance>⟧.distances.distance_2 t (table 2 (⟦<[i64; 2] as Point>⟧.coord place)))
         (elements_in tree.now) most (map (λ t. t.now) ts.items)) }
 {
-    let mut neighbors = tree.nearest_neighbor_iter(place);
-    first_of(alloc, &mut neighbors, most)
+    first_at(alloc, tree, place, most)
 }
 
 /// A point nearest to a place with its squared distance, and all those: by the functions over a root.

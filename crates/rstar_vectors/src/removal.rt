@@ -6,6 +6,7 @@ ghost use Rattle.std.specs.Prelude.{◌≡◌, ◌<◌, ◌≤◌, false, IfSome
 ghost use Rattle.rstar.specs.Drains.{drained, IsDraining};
 ghost use Rattle.rstar.specs.Trees.{IsWholeTree};
 
+use crate::node_sizes::Wide;
 use crate::scenarios::{ALONG_A_LINE, inserted, loaded, points, stands};
 use rstar::algorithm::selection_functions::{
     SelectAllFunc, SelectInEnvelopeFuncIntersecting, SelectionFunction,
@@ -19,35 +20,6 @@ use rstar::{
 use std::alloc::{AllocError, Global};
 use std::mem::forget;
 use std::test::Fail;
-
-/// Wide nodes.
-struct Wide;
-
-impl RTreeParams for Wide {
-    ghost use Rattle.std.proofs.Common.{arith};
-
-    ghost MIN_SIZE = { 20 };
-
-    ghost MAX_SIZE = { 100 };
-
-    ghost REINSERTION_COUNT = { 1 };
-
-    const MIN_SIZE: usize = 20;
-
-    const MAX_SIZE: usize = 100;
-
-    const REINSERTION_COUNT: usize = 1;
-
-    ghost max_at_least_four = { Prim.omega arith };
-
-    ghost max_fits = { Prim.omega arith };
-
-    ghost min_positive = { Prim.omega arith };
-
-    ghost min_at_most_half = { Prim.omega arith };
-
-    ghost reinsertion_leaves = { Prim.omega arith };
-}
 
 type Edge = Line<[i32; 2]>;
 

@@ -17,7 +17,6 @@ use rstar::{
     RTreeObject, RTreeParams,
 };
 use std::alloc::{AllocError, Global};
-use std::marker::Model;
 use std::test::Fail;
 
 type At = [i64; 2];
@@ -103,30 +102,26 @@ fn outline<T: PointDistance>(reply: &Reply<T>) -> (&'static str, usize) {
     }
 }
 
-/// Runs a command by `replay`, and gives the outline of its reply; none where it is not fit.
-fn run_one<T: PointDistance + EqualEnvelopes + Clone>(
+/// Those commands that are fit, in their order.
+fn fit_ones<T: PointDistance + EqualEnvelopes>(
     alloc: Global,
-    tree: &mut RTree<T>,
-    command: Command<T>,
-) -> Result<Option<(&'static str, usize)>, AllocError>
-    requires dimensions { 2 ≤ T.Envelope.Point.DIMENSIONS }
-    requires clones { ClonesEqual T.is_clone }
-    requires whole { IsWholeTree T.Envelope.boxes T.object ⟦<DefaultParams as RTreeParams>⟧.MAX_SIZE tree.old }
-    ensures whole { IsWholeTree T.Envelope.boxes T.object ⟦<DefaultParams as RTreeParams>⟧.MAX_SIZE tree.new }
+    commands: Vec<Command<T>>,
+) -> Result<Vec<Command<T>>, AllocError>
+    requires { 2 ≤ T.Envelope.Point.DIMENSIONS }
+    ensures { IfOk result (λ fit. AllByRecursion (IsFit (questions_of T.Envelope.boxes T.object T.distances
+        T.Envelope.Point.DIMENSIONS T.Envelope.Point.coord T.Envelope.Point.Scalar.value T.eq)
+        T.Envelope.Point.DIMENSIONS) fit.items) }
 {
-    if !is_fit(&command) {
-        return Ok(None);
+    let mut fit = Vec::new(alloc);
+    for command in commands {
+        if is_fit(&command) {
+            fit.push(command)?;
+        }
     }
-    let mut one = Vec::new(alloc);
-    one.push(command)?;
-    let replies = replay(tree, one)?;
-    match replies.first() {
-        Some(reply) => Ok(Some(outline(reply))),
-        None => Ok(None),
-    }
+    Ok(fit)
 }
 
-/// What commands are answered that are run on an empty tree, up to one that is not fit.
+/// What commands are answered that one `replay` runs on an empty tree.
 fn outlines<T: PointDistance + EqualEnvelopes + Clone>(
     alloc: Global,
     commands: Vec<Command<T>>,
@@ -134,13 +129,32 @@ fn outlines<T: PointDistance + EqualEnvelopes + Clone>(
     requires dimensions { 2 ≤ T.Envelope.Point.DIMENSIONS }
     requires clones { ClonesEqual T.is_clone }
 {
-    let mut all = Vec::new(alloc);
     let mut tree: RTree<T> = RTree::default(alloc);
+    let replies = replay(&mut tree, fit_ones(alloc, commands)?)?;
+    let mut all = Vec::new(alloc);
+    for reply in replies.iter() {
+        all.push(outline(reply))?;
+    }
+    Ok(all)
+}
+
+/// The replies to commands that `step` runs one by one on an empty tree, and the tree's size after each; those before
+/// the first that is not fit.
+fn replies_and_sizes<T: PointDistance + EqualEnvelopes + Clone>(
+    alloc: Global,
+    commands: Vec<Command<T>>,
+) -> Result<Vec<(Reply<T>, usize)>, AllocError>
+    requires dimensions { 2 ≤ T.Envelope.Point.DIMENSIONS }
+    requires clones { ClonesEqual T.is_clone }
+{
+    let mut tree: RTree<T> = RTree::default(alloc);
+    let mut all = Vec::new(alloc);
     for command in commands {
-        match run_one(alloc, &mut tree, command)? {
-            Some(found) => all.push(found)?,
-            None => return Ok(all),
+        if !is_fit(&command) {
+            return Ok(all);
         }
+        let reply = step(&mut tree, command);
+        all.push((reply, tree.size()))?;
     }
     Ok(all)
 }
@@ -513,65 +527,40 @@ fn is_right(
     }
 }
 
-/// Points in a tree, which is whole.
-#[derive(Drop)]
-struct Points {
-    tree: RTree<At>,
-}
-
-impl Model for Points {
-    ghost use Rattle.std.specs.Prelude.{ℤ, List};
-    ghost use Rattle.rstar.specs.Trees.{elements_in, IsWholeTree};
-
-    ghost Value = { List (List ℤ) };
-
-    ghost view = { λ s. elements_in s.tree };
-
-    ghost invariant = { λ s. IsWholeTree ⟦<AABB<[i64; 2]> as Envelope>⟧.boxes ⟦<[i64; 2] as RTreeObject>⟧.object
-        ⟦<DefaultParams as RTreeParams>⟧.MAX_SIZE s.tree };
-}
-
-impl Points {
-    /// Runs a command, and none where it is not fit.
-    fn step(&mut self, command: Command<At>) -> Option<Reply<At>> {
-        if is_fit(&command) {
-            Some(step_points(&mut self.tree, command))
-        } else {
-            None
-        }
-    }
-
-    /// Whether the tree holds the points of a list and no others.
-    fn holds(&mut self, alloc: Global, list: &[At]) -> Result<bool, AllocError> {
-        let Some(Reply::Elements(found)) = self.step(Command::Ask(Query::All)) else {
-            return Ok(false);
-        };
-        let mut all = Vec::new(alloc);
-        for point in list {
-            all.push(*point)?;
-        }
-        Ok(self.tree.size() == list.len() && are_the_same(all, found))
-    }
-}
-
-/// Runs so many drawn commands over a tree and over a plain list, and gives how many were answered alike before one was
-/// not, or left another list.
-fn run_beside(alloc: Global, count: usize) -> Result<usize, AllocError> {
+/// A drawn command, and after it the question for all elements, so many times.
+fn drawn(alloc: Global, count: usize) -> Result<Vec<Draw>, AllocError> {
     let mut numbers = Numbers { state: 7 };
-    let mut list = Vec::new(alloc);
-    let mut points = Points {
-        tree: RTree::new(alloc),
-    };
-    for number in 0..count {
+    let mut all = Vec::new(alloc);
+    for _ in 0..count {
         let draw = numbers.draw();
-        let Some(reply) = points.step(command_of(alloc, &draw)?) else {
-            return Ok(number);
-        };
-        if !is_right(alloc, &mut list, &draw, reply)? || !points.holds(alloc, &list)? {
-            return Ok(number);
-        }
+        all.push(draw)?;
+        all.push(Draw {
+            kind: Kind::Ask,
+            query: 0,
+            ..draw
+        })?;
     }
-    Ok(count)
+    Ok(all)
+}
+
+/// Runs so many drawn commands over a tree and over a plain list, and gives how many were answered alike, up to the first
+/// that was not, or left another list.
+fn run_beside(alloc: Global, count: usize) -> Result<usize, AllocError> {
+    let draws = drawn(alloc, count)?;
+    let mut commands = Vec::new(alloc);
+    for draw in draws.iter() {
+        commands.push(command_of(alloc, draw)?)?;
+    }
+    let replies = replies_and_sizes(alloc, commands)?;
+    let mut list = Vec::new(alloc);
+    let mut alike = 0usize;
+    for (draw, (reply, size)) in draws.iter().zip(replies) {
+        if !is_right(alloc, &mut list, draw, reply)? || size != list.len() {
+            return Ok(alike / 2);
+        }
+        alike = alike.saturating_add(1);
+    }
+    Ok(alike / 2)
 }
 
 #[test]

@@ -11,35 +11,6 @@ use rstar::node::{ParentNode, RTreeNode};
 use rstar::{Envelope, Point, RTree, RTreeObject, RTreeParams};
 use std::alloc::{AllocError, Global};
 
-/// Small nodes, of which one child goes in again.
-pub(crate) struct Small;
-
-impl RTreeParams for Small {
-    ghost use Rattle.std.proofs.Common.{arith};
-
-    ghost MIN_SIZE = { 2 };
-
-    ghost MAX_SIZE = { 4 };
-
-    ghost REINSERTION_COUNT = { 1 };
-
-    const MIN_SIZE: usize = 2;
-
-    const MAX_SIZE: usize = 4;
-
-    const REINSERTION_COUNT: usize = 1;
-
-    ghost max_at_least_four = { Prim.omega arith };
-
-    ghost max_fits = { Prim.omega arith };
-
-    ghost min_positive = { Prim.omega arith };
-
-    ghost min_at_most_half = { Prim.omega arith };
-
-    ghost reinsertion_leaves = { Prim.omega arith };
-}
-
 /// Seven points in two groups on a line, which lie under two parents.
 pub(crate) const ALONG_A_LINE: [[i32; 2]; 7] = [
     [0, 0],

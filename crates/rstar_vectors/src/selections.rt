@@ -2,7 +2,7 @@
 //!
 //! What is asked of a tree is generic, and a test gives it elements.
 
-ghost use Rattle.std.specs.Prelude.{◌<◌, true, false, pos, int_le, IfOk};
+ghost use Rattle.std.specs.Prelude.{◌<◌, true, false, pos, int_le};
 ghost use Rattle.rstar.specs.Selections.{IsWalking};
 ghost use Rattle.rstar.specs.Trees.{IsWholeTree};
 
@@ -13,7 +13,6 @@ use rstar::algorithm::selection_functions::{
 };
 use rstar::iterators::SelectionIterator;
 use rstar::object::{Distance, PointDistance, PointOf, RTreeObject};
-use rstar::params::InsertError;
 use rstar::point::RTreeNum;
 use rstar::primitives::Rectangle;
 use rstar::{AABB, DefaultParams, Envelope, RTree, RTreeParams};
@@ -314,10 +313,22 @@ fn found<T: PointDistance + PartialEq + Copy>(
     }
 }
 
+/// The same of rectangles, and of a box between two corners.
+fn found_rectangles(
+    alloc: Global,
+    elements: &[Rectangle<[i32; 2]>],
+    corners: ([i32; 2], [i32; 2]),
+    point: [i32; 2],
+    limit: i32,
+) -> Result<Option<[usize; 5]>, AllocError> {
+    let area = AABB::from_corners(corners.0, corners.1);
+    found(alloc, elements, &area, &point, &limit)
+}
+
 #[test]
 fn selections_of_one_rectangle(rt: HostRuntime) -> Result<(), Fail> {
     let one = [Rectangle::from_corners([0i32, 0], [2, 2])];
-    let area = AABB::from_point([1, 1]);
+    let middle = ([1, 1], [1, 1]);
     for (point, limit, at, near) in [
         ([1, 1], 0, 1, 1),
         ([4, 2], 3, 0, 0),
@@ -325,7 +336,7 @@ fn selections_of_one_rectangle(rt: HostRuntime) -> Result<(), Fail> {
         ([2, 2], 0, 1, 1),
         ([3, 3], 0, 0, 0),
     ] {
-        let counts = found(rt.alloc(), &one, &area, &point, &limit)?;
+        let counts = found_rectangles(rt.alloc(), &one, middle, point, limit)?;
         assert_eq!(rt; counts, Some([1, 0, 1, at, near]));
     }
     Ok(())
@@ -348,8 +359,7 @@ fn rectangles_about_a_rectangle(rt: HostRuntime) -> Result<(), Fail> {
         ([100, 100], [101, 101], 0, 1, 1),
         ([101, 0], [101, 1], 0, 0, 0),
     ] {
-        let area = AABB::from_corners(lower, upper);
-        let counts = found(rt.alloc(), &three, &area, &lower, &0)?;
+        let counts = found_rectangles(rt.alloc(), &three, (lower, upper), lower, 0)?;
         assert_eq!(rt; counts, Some([3, inside, touching, at, at]));
     }
     Ok(())
@@ -397,8 +407,8 @@ fn rectangles(alloc: Global, points: &[[i32; 2]]) -> Result<Vec<Rectangle<[i32; 
 fn rectangles_at_a_point_are_found_as_by_a_scan(rt: HostRuntime) -> Result<(), Fail> {
     let all = rectangles(rt.alloc(), &points(rt.alloc(), 1000)?)?;
     for point in [[0, 0], [50, 50], [7, 93], [100, 102], [105, -5], [200, 0]] {
-        let area = AABB::from_point(point);
-        assert!(rt; found(rt.alloc(), &all, &area, &point, &9)?.is_some());
+        let counts = found_rectangles(rt.alloc(), &all, (point, point), point, 9)?;
+        assert!(rt; counts.is_some());
     }
     Ok(())
 }
@@ -444,20 +454,4 @@ fn ends_at<T: RTreeObject + Copy>(
 fn a_visit_ends_at_a_break(rt: HostRuntime) {
     let area = AABB::from_corners([0, 0], [103, 0]);
     assert!(rt; ends_at(rt.alloc(), &ALONG_A_LINE, area, 3));
-}
-
-/// The elements of a list, inserted in this order, without those whose envelopes are empty.
-pub(crate) fn planted<T: RTreeObject, Params: RTreeParams>(
-    alloc: Global,
-    elements: Vec<T>,
-) -> Result<RTree<T, Params>, InsertError<T>>
-    ensures { IfOk result (IsWholeTree T.Envelope.boxes T.object Params.MAX_SIZE) }
-{
-    let mut tree = RTree::default(alloc);
-    for element in elements {
-        if !element.envelope().is_empty() {
-            tree.insert(element)?;
-        }
-    }
-    Ok(tree)
 }

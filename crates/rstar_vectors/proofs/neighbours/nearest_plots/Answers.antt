@@ -1,5 +1,0 @@
-use Rattle.rstar.proofs.InOrder.{fresh-left}
-use Rattle.rstar_vectors.proofs.neighbours.nearest_plots.Goals as goal
-
-pub returns : goal.returns
-returns c = rw (fresh-left _ _ _ c.nearest_neighbor_iter-neighbors.ensures.fresh) at (rw c.nearest_neighbor_iter-neighbors.ensures.fresh.point at c.first_of.ensures)

@@ -1,0 +1,13 @@
+-- What an iterator over neighbours takes of the memory: a point and scalars lie in it by value.
+use denote.RattleType.{RattleType}
+use denote.Param.{copied}
+use denote.Signature.{static_lft}
+use Rattle.rstar.specs.contracts.algorithm.nearest_neighbor.NearestNeighborDistance2Iterator as with_distances
+use Rattle.rstar.specs.contracts.algorithm.nearest_neighbor.NearestNeighborIterator as alone
+
+abbrev pub iterator_row : RattleType → RattleType → RattleType
+iterator_row P S = with_distances.the_row static_lft (copied 0 S) (copied 0 S) (copied 0 P) (copied 0 S) (copied 0 S)
+
+-- the same without distances
+abbrev pub alone_row : RattleType → RattleType → RattleType
+alone_row P S = alone.the_row static_lft (copied 0 S) (copied 0 S) (copied 0 P) (copied 0 S) (copied 0 S)
