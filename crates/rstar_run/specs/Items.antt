@@ -1,5 +1,5 @@
 -- Rectangles with IDs, as the tree holds them, and what a scan asks of them.
-use Rattle.std.specs.Prelude.{◌≡◌, ◌^◌, ◌-◌, ◌&&◌, ◌==◌, ℕ, ℤ, Bool, List, pos, negsuc, slice_index_or}
+use Rattle.std.specs.Prelude.{◌≡◌, ◌^◌, ◌-◌, ◌&&◌, ◌==◌, ℕ, ℤ, Bool, List, pos, negsuc, length, slice_index_or}
 use Rattle.std.specs.Int.{int_min, int_max}
 use Rattle.std.specs.Ordering.{int_eq}
 use Rattle.std.specs.Cmp.Lexicographic.{pointwise}
@@ -64,6 +64,10 @@ abbrev pub box_between : Corners → Box
 box_between c = between_corners 2 (λ axis. int_min (coordinate c.one axis) (coordinate c.other axis))
     (λ axis. int_max (coordinate c.one axis) (coordinate c.other axis))
 
--- the item is the rectangle between these corners, with this ID
-abbrev pub IsRectangle : ℕ → Corners → Item → Type 0
-IsRectangle id corners item = (item_objects.box_of item ≡ box_between corners) × (item.1 ≡ id)
+-- the item is the rectangle between these corners, with this ID: there is one such item, since its own corners have
+-- two coordinates
+pub record IsRectangle (id : ℕ) (corners : Corners) (item : Item) : Type 0 where
+  pub lower : length item.0.lower ≡ 2
+  pub upper : length item.0.upper ≡ 2
+  pub box : item_objects.box_of item ≡ box_between corners
+  pub id_is : item.1 ≡ id
