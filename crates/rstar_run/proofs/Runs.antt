@@ -7,7 +7,7 @@ use Rattle.rstar_run.specs.Prints.{AppendsFront, Prints, Printed, PrintsSome}
 use Rattle.rstar_run.specs.Items.{Item}
 use Rattle.rstar_run.specs.Lines.{lines_of, TakesLine, TakesLines}
 use Rattle.rstar_run.specs.declared.command.Line.{Line}
-use Rattle.rstar_run.specs.Runs.{meaning, BreaksAt, Says, SaysAll, lines_in, Run, Ran, IsNoLine, LoadBreaks, ReadsLoad, TakesTurn, TurnBreaks, Turn}
+use Rattle.rstar_run.specs.Runs.{meaning, BreaksAt, TurnSays, TurnsSay, lines_in, RunSays, Ran, IsNoLine, LoadBreaks, ReadsLoad, TakesTurn, TurnBreaks, Turn}
 use Rattle.rstar_run.specs.declared.command.Line.TheVariants as line
 use Rattle.rstar_run.specs.Statuses.{status_of}
 use Rattle.rstar_run.specs.Texts.{end_text}
@@ -22,9 +22,9 @@ lines_in_more [] turn = append-nil turn
 lines_in_more (t ∷ turns) turn = ap (λ (l : List (List ℕ)). t ++ l) (lines_in_more turns turn) ∙ sym (append_assoc t (lines_in turns) turn)
 
 -- what one more turn says
-says_more : (old mid new : List Item) (turns : List (List (List ℕ))) (said text : List ℕ) (turn : List (List ℕ)) → SaysAll old turns said mid → Says mid turn text new → SaysAll old (turns ++ turn ∷ []) (said ++ text) new
+says_more : (old mid new : List Item) (turns : List (List (List ℕ))) (said text : List ℕ) (turn : List (List ℕ)) → TurnsSay old turns said mid → TurnSays mid turn text new → TurnsSay old (turns ++ turn ∷ []) (said ++ text) new
 says_more old mid new [] said text turn (e, f) x =
-    (text, [], new, subst (λ (s : List Item). Says s turn text new) f x, (refl, refl), ap (λ (l : List ℕ). l ++ text) e ∙ sym (append-nil text))
+    (text, [], new, subst (λ (s : List Item). TurnSays s turn text new) f x, (refl, refl), ap (λ (l : List ℕ). l ++ text) e ∙ sym (append-nil text))
 says_more old mid new (t ∷ turns) said text turn (first, others, store, s, all, e) x =
     (first, others ++ text, store, s, says_more store mid new turns others text turn all x, ap (λ (l : List ℕ). l ++ text) e ∙ append_assoc first others text)
 
@@ -32,7 +32,7 @@ says_more old mid new (t ∷ turns) said text turn (first, others, store, s, all
 pub record Behind (input left : Option (List ℕ)) (number : ℕ) (said : List ℕ) (store : List Item) : Type 0 where
   pub turns : List (List (List ℕ))
   pub reads : Reads input left (lines_in turns)
-  pub says : SaysAll [] turns said store
+  pub says : TurnsSay [] turns said store
   pub count : length (lines_in turns) ≡ number
 
 -- how far a run has come
@@ -43,7 +43,7 @@ pub record Reached (input left : Option (List ℕ)) (number : ℕ) (store : List
 
 -- how it ended
 abbrev pub Ended : Option (List ℕ) → Option (List ℕ) → Option (List ℕ) → List ℕ → List ℕ → Result (Unit {0}) Stop → Type 0
-Ended input old new held held' ended = (said : List ℕ) × Run input ended said × Printed ended old new held said held'
+Ended input old new held held' ended = (said : List ℕ) × RunSays input ended said × Printed ended old new held said held'
 
 none_behind : (input left : Option (List ℕ)) (number : ℕ) (store : List Item) → left ≡ input → number ≡ 0 → store ≡ [] → Behind input left number [] store
 none_behind input left number store e n s =
@@ -66,13 +66,13 @@ with_turn {input} {left} {left'} {number} {number'} {said} {text} {store} {store
 
 -- runs that end with some of the input unread
 module _ {input left : Option (List ℕ)} {number : ℕ} {said : List ℕ} {store : List Item} (b : Behind input left number said store) where
-  for_memory : Run input (Err stop.Memory) said
+  for_memory : RunSays input (Err stop.Memory) said
   for_memory = record { turns = b.turns; rest = rest_of left; store = store; input_is = reads_rest input left (lines_in b.turns) b.reads; says = b.says; why = tt }
 
-  for_input : Run input (Err stop.Input) said
+  for_input : RunSays input (Err stop.Input) said
   for_input = record { turns = b.turns; rest = rest_of left; store = store; input_is = reads_rest input left (lines_in b.turns) b.reads; says = b.says; why = tt }
 
-  for_output : Run input (Err stop.Output) said
+  for_output : RunSays input (Err stop.Output) said
   for_output = record { turns = b.turns; rest = rest_of left; store = store; input_is = reads_rest input left (lines_in b.turns) b.reads; says = b.says; why = tt }
 
 module _ (input left left' : Option (List ℕ)) (number number' : ℕ) (store store' : List Item) (old new new' : Option (List ℕ)) (held mid held' : List ℕ) (reached : Reached input left number store old new held mid) where
@@ -93,7 +93,7 @@ module _ (input left left' : Option (List ℕ)) (number number' : ℕ) (store st
       )
 
   -- a bad line is among those that come next
-  broken : (n : ℕ) (at_left : Option (List ℕ)) → TurnBreaks left at_left number n → Run input (Err (stop.Line n)) reached.said
+  broken : (n : ℕ) (at_left : Option (List ℕ)) → TurnBreaks left at_left number n → RunSays input (Err (stop.Line n)) reached.said
   broken n at_left t =
       let b = reached.behind in
       let rest = rest_of at_left in
@@ -136,7 +136,7 @@ module _ (input old mid new : Option (List ℕ)) (said held : List ℕ) where
       (sym (append_assoc p.front held text) ∙ ap (λ (l : List ℕ). l ++ text) (sym p.text_is)) (Appends-trans old mid new p.front (held ++ text) p.appended a)
 
   -- all is printed
-  pub ran : (ended : Result (Unit {0}) Stop) (status : ℕ) → Run input ended said → Printed ended old mid [] said held → status ≡ status_of ended → Appends mid new (held ++ end_text ended) → (ended ≡ Err stop.Output → ⊥) → Ran input old new status
+  pub ran : (ended : Result (Unit {0}) Stop) (status : ℕ) → RunSays input ended said → Printed ended old mid [] said held → status ≡ status_of ended → Appends mid new (held ++ end_text ended) → (ended ≡ Err stop.Output → ⊥) → Ran input old new status
   ran (Ok u) status r p s a not = record { ended = Ok u; said = said; run = r; printed = inl (s, all_then_end [] p a) }
   ran (Err (stop.Line n)) status r p s a not = record { ended = Err (stop.Line n); said = said; run = r; printed = inl (s, all_then_end _ p a) }
   ran (Err stop.Memory) status r p s a not = record { ended = Err stop.Memory; said = said; run = r; printed = inl (s, all_then_end _ p a) }
@@ -144,7 +144,7 @@ module _ (input old mid new : Option (List ℕ)) (said held : List ℕ) where
   ran (Err stop.Output) status r p s a not = absurd (not refl)
 
   -- a front is printed
-  pub ran_in_part : (ended : Result (Unit {0}) Stop) → Run input ended said → Printed ended old mid [] said held → AppendsFront mid new (held ++ end_text ended) → (ended ≡ Err stop.Output → Keeps mid new) → Ran input old new 4
+  pub ran_in_part : (ended : Result (Unit {0}) Stop) → RunSays input ended said → Printed ended old mid [] said held → AppendsFront mid new (held ++ end_text ended) → (ended ≡ Err stop.Output → Keeps mid new) → Ran input old new 4
   ran_in_part (Ok u) r p a kept = record { ended = Ok u; said = said; run = r; printed = inr (refl, prints_some [] p a) }
   ran_in_part (Err (stop.Line n)) r p a kept = record { ended = Err (stop.Line n); said = said; run = r; printed = inr (refl, prints_some _ p a) }
   ran_in_part (Err stop.Memory) r p a kept = record { ended = Err stop.Memory; said = said; run = r; printed = inr (refl, prints_some _ p a) }
@@ -168,7 +168,7 @@ module _ (left left' : Option (List ℕ)) (number number' : ℕ) (store store' :
 -- a turn whose lines are taken, and which prints no more than a text of this kind
 module _ (left left' : Option (List ℕ)) (number number' : ℕ) (store store' : List Item) (old mid new : Option (List ℕ)) (held between held' : List ℕ)
     (lines : List (List ℕ)) (Kind : List ℕ → Type 0) (taken : TakesLines left left' lines) (count : number' ≡ number + length lines)
-    (says : (text : List ℕ) → Kind text → Says store lines text store') (shown : Prints old mid held [] between) where
+    (says : (text : List ℕ) → Kind text → TurnSays store lines text store') (shown : Prints old mid held [] between) where
   took : (text : List ℕ) → Kind text → TakesTurn left left' number number' store text store'
   took text k = record { lines = lines; taken = taken; count = count; says = says text k }
 

@@ -41,8 +41,8 @@ Lists (line ∷ lines) items =
     × IsEntry (entry_meant line) first × Lists lines others × (items ≡ first ++ others)
 
 -- the store takes a step by a command of this kind, and the reply is said
-abbrev pub Replies : (Command → Type 0) → List Item → List ℕ → List Item → Type 0
-Replies Kind old said new =
+abbrev pub StepSays : (Command → Type 0) → List Item → List ℕ → List Item → Type 0
+StepSays Kind old said new =
     (c : Command) × Kind c × ((reply : Reply) × Step questions old c reply new × Spells reply said)
 
 -- the command is a load of so many items, those of these lines
@@ -52,17 +52,17 @@ IsLoad count lines c =
 
 -- what a line of this meaning says where the store holds `old`, and the store after it; `more` are the lines that it
 -- takes besides its own, as a load does
-abbrev pub Tells : List Item → Line → List (List ℕ) → List ℕ → List Item → Type 0
-Tells old line.Blank more said new = (more ≡ []) × (said ≡ []) × (new ≡ old)
-Tells old (line.Request request) more said new = (more ≡ []) × Replies (Asks request) old said new
-Tells old line.Size more said new = (more ≡ []) × (said ≡ decimal (length old) ++ codes "\n") × (new ≡ old)
-Tells old (line.Load count) more said new = Replies (IsLoad count more) old said new
-Tells old line.Bad more said new = ⊥
+abbrev pub LineSays : List Item → Line → List (List ℕ) → List ℕ → List Item → Type 0
+LineSays old line.Blank more said new = (more ≡ []) × (said ≡ []) × (new ≡ old)
+LineSays old (line.Request request) more said new = (more ≡ []) × StepSays (Asks request) old said new
+LineSays old line.Size more said new = (more ≡ []) × (said ≡ decimal (length old) ++ codes "\n") × (new ≡ old)
+LineSays old (line.Load count) more said new = StepSays (IsLoad count more) old said new
+LineSays old line.Bad more said new = ⊥
 
 -- what the lines of one turn say: the first, and those that it takes
-abbrev pub Says : List Item → List (List ℕ) → List ℕ → List Item → Type 0
-Says old [] said new = ⊥
-Says old (first ∷ more) said new = Tells old (meaning first) more said new
+abbrev pub TurnSays : List Item → List (List ℕ) → List ℕ → List Item → Type 0
+TurnSays old [] said new = ⊥
+TurnSays old (first ∷ more) said new = LineSays old (meaning first) more said new
 
 -- the lines of some turns
 abbrev pub lines_in : List (List (List ℕ)) → List (List ℕ)
@@ -70,11 +70,11 @@ lines_in [] = []
 lines_in (turn ∷ turns) = turn ++ lines_in turns
 
 -- what turns say, one after another, and the store after them
-abbrev pub SaysAll : List Item → List (List (List ℕ)) → List ℕ → List Item → Type 0
-SaysAll old [] said new = (said ≡ []) × (new ≡ old)
-SaysAll old (turn ∷ turns) said new =
+abbrev pub TurnsSay : List Item → List (List (List ℕ)) → List ℕ → List Item → Type 0
+TurnsSay old [] said new = (said ≡ []) × (new ≡ old)
+TurnsSay old (turn ∷ turns) said new =
     (first : List ℕ) × (others : List ℕ) × (store : List Item)
-    × Says old turn first store × SaysAll store turns others new × (said ≡ first ++ others)
+    × TurnSays old turn first store × TurnsSay store turns others new × (said ≡ first ++ others)
 
 -- no line of a load comes next: a bad one does, or the end of the input
 abbrev pub IsNoEntry : List (List ℕ) → Type 0
@@ -95,28 +95,28 @@ StartsBad [] at = ⊥
 StartsBad (first ∷ rest) at = BreaksAt (meaning first) rest at
 
 -- why a run ends after n lines, before the rest of them: there is no rest, or it starts with a bad line, by its number
-abbrev pub Why : Result (Unit {0}) Stop → ℕ → List (List ℕ) → Type 0
-Why (Ok _) n rest = rest ≡ []
-Why (Err (stop.Line number)) n rest = (at : ℕ) × (number ≡ n + at) × StartsBad rest at
-Why (Err stop.Memory) n rest = ⊤
-Why (Err stop.Input) n rest = ⊤
-Why (Err stop.Output) n rest = ⊤
+abbrev pub EndsBefore : Result (Unit {0}) Stop → ℕ → List (List ℕ) → Type 0
+EndsBefore (Ok _) n rest = rest ≡ []
+EndsBefore (Err (stop.Line number)) n rest = (at : ℕ) × (number ≡ n + at) × StartsBad rest at
+EndsBefore (Err stop.Memory) n rest = ⊤
+EndsBefore (Err stop.Input) n rest = ⊤
+EndsBefore (Err stop.Output) n rest = ⊤
 
 -- a run that ends so has turns behind it, which are the lines of the input from the first on, and say `said`
-pub record Run (input : Option (List ℕ)) (ended : Result (Unit {0}) Stop) (said : List ℕ) : Type 0 where
+pub record RunSays (input : Option (List ℕ)) (ended : Result (Unit {0}) Stop) (said : List ℕ) : Type 0 where
   pub turns : List (List (List ℕ))
   pub rest : List (List ℕ)
   pub store : List Item
   pub input_is : IfSome input (λ bytes. lines_of bytes ≡ lines_in turns ++ rest)
-  pub says : SaysAll [] turns said store
-  pub why : Why ended (length (lines_in turns)) rest
+  pub says : TurnsSay [] turns said store
+  pub why : EndsBefore ended (length (lines_in turns)) rest
 
 -- a whole run: its answers and then its end stand on the output, and the status is that of its end; after a failed
 -- write it is 4, and a front of them stands there
 pub record Ran (input old new : Option (List ℕ)) (status : ℕ) : Type 0 where
   pub ended : Result (Unit {0}) Stop
   pub said : List ℕ
-  pub run : Run input ended said
+  pub run : RunSays input ended said
   pub printed :
       ((status ≡ status_of ended) × Appends old new (said ++ end_text ended))
       ⊎ ((status ≡ 4) × AppendsFront old new (said ++ end_text ended))
@@ -165,7 +165,7 @@ pub record TakesTurn (left left' : Option (List ℕ)) (number number' : ℕ) (st
   pub lines : List (List ℕ)
   pub taken : TakesLines left left' lines
   pub count : number' ≡ number + length lines
-  pub says : Says store lines said store'
+  pub says : TurnSays store lines said store'
 
 -- the turn breaks off at the line of this number, and these lines were read; none comes behind them at the end
 pub record TurnBreaks (left left' : Option (List ℕ)) (number n : ℕ) : Type 0 where

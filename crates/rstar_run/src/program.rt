@@ -6,7 +6,7 @@ ghost use Rattle.rstar.specs.Steps.{IsFit, Step};
 ghost use Rattle.rstar_run.specs.Items.{Reply, questions};
 ghost use Rattle.rstar_run.specs.Lines.{bytes_left, TakesLine};
 ghost use Rattle.rstar_run.specs.Prints.{AppendsFront, Prints, Printed, PrintsSome};
-ghost use Rattle.rstar_run.specs.Runs.{IsNoLine, ReadsLoad, Turn, Run, Ran};
+ghost use Rattle.rstar_run.specs.Runs.{IsNoLine, ReadsLoad, Turn, RunSays, Ran};
 ghost use Rattle.rstar_run.specs.Statuses.{status_of};
 ghost use Rattle.rstar_run.specs.Texts.{HasNoText, Spells, end_text, stop_text};
 ghost use Rattle.rstar_run.specs.declared.program.Stop.TheVariants.{Memory};
@@ -177,7 +177,7 @@ fn answer_all<R: Read + Drop, W: Write>(
     printer: &mut Printer,
     output: &mut W,
 ) -> Result<(), Stop>
-    ensures { (said : List ℕ) × Run (R.remaining input) result said × Printed result (W.contents output.old)
+    ensures { (said : List ℕ) × RunSays (R.remaining input) result said × Printed result (W.contents output.old)
         (W.contents output.new) printer.old.held.items said printer.new.held.items }
 {
     let mut lines = Lines::new(alloc, input)?;

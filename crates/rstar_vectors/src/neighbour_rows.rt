@@ -1,6 +1,6 @@
 //! Neighbours: rows, a plain scan beside the tree, and elements that note when they are asked.
 
-ghost use Rattle.std.specs.Prelude.{◌≡◌, ◌≤◌};
+ghost use Rattle.std.specs.Prelude.{◌≡◌, ◌≤◌, IfSome};
 ghost use Rattle.std.specs.Mem.{FitsInMemory};
 ghost use Rattle.rstar_base.specs.Elements.{carried_objects, carried_distances};
 ghost use Rattle.rstar_base.specs.Sizes.{IsNarrow};
@@ -43,6 +43,21 @@ fn gives<T: PointDistance>(
     neighbors.next().is_none()
 }
 
+/// How many parents an iterator has opened once it gave the next neighbour; none where it gives none.
+fn opened_at_next<T: PointDistance>(
+    neighbors: &mut NearestNeighborDistance2Iterator<'_, T>,
+) -> Option<usize>
+    requires { IsSearching T.Envelope.boxes T.object T.distances T.Envelope.Point.DIMENSIONS
+        T.Envelope.Point.coord T.Envelope.Point.Scalar.cmp T.Envelope.Point.Scalar.value neighbors.old }
+    ensures { IfSome result (λ _. IsSearching T.Envelope.boxes T.object T.distances T.Envelope.Point.DIMENSIONS
+        T.Envelope.Point.coord T.Envelope.Point.Scalar.cmp T.Envelope.Point.Scalar.value neighbors.new) }
+{
+    match neighbors.next() {
+        Some(_) => Some(neighbors.opened()),
+        None => None,
+    }
+}
+
 /// Whether an iterator has opened no parent, and so many after each neighbour that it gives.
 fn opens<T: PointDistance>(
     neighbors: &mut NearestNeighborDistance2Iterator<'_, T>,
@@ -55,11 +70,11 @@ fn opens<T: PointDistance>(
         return false;
     }
     for count in opened {
-        match neighbors.next() {
-            Some(Ok(_)) => if neighbors.opened() != *count {
+        match opened_at_next(neighbors) {
+            Some(found) => if found != *count {
                 return false;
             },
-            _ => return false,
+            None => return false,
         }
     }
     true

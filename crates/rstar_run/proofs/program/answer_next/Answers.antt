@@ -7,7 +7,7 @@ use Rattle.rstar_run.specs.Texts.{Spells}
 use Rattle.rstar_run.specs.Grammar.{line_of}
 use Rattle.rstar_run.specs.Words.{words_of}
 use Rattle.rstar_run.specs.Lines.{bytes_left}
-use Rattle.rstar_run.specs.Runs.{BreaksAt, Tells}
+use Rattle.rstar_run.specs.Runs.{BreaksAt, LineSays}
 use Rattle.rstar_run.proofs.Prints.{prints_both}
 use Rattle.rstar_run.proofs.Runs.{stopped, said_all, said_some, load_stopped}
 use Rattle.rstar_run.proofs.program.answer_next.Goals as goal
@@ -25,7 +25,7 @@ returns-in-Blank g c =
     let means = sym (c.parse_line.ensures ∙ ap (λ t. line_of (words_of t)) c.text.ensures) ∙ c.in-Blank.is in
     let took = c.next_line.ensures.line (c.in_ok-next_line.was ∙ ap Ok c.if-not-branch.false) in (
       [],
-      record { lines = bytes ∷ []; taken = (_, took, refl); count = c.in_ok-next_line.ensures.number; says = subst (λ l. Tells c.args.store.now l [] [] c.args.store.now) (sym means) (refl, refl, refl) },
+      record { lines = bytes ∷ []; taken = (_, took, refl); count = c.in_ok-next_line.ensures.number; says = subst (λ l. LineSays c.args.store.now l [] [] c.args.store.now) (sym means) (refl, refl, refl) },
       c.in_ok-next_line.ensures.shown,
     )
 
@@ -43,7 +43,7 @@ returns-in_err-print_number-in-Size g c =
     let took = c.next_line.ensures.line (c.in_ok-next_line.was ∙ ap Ok c.if-not-branch.false) in
     said_some (bytes_left g.R.Read.remaining c.args.lines.now) (bytes_left g.R.Read.remaining c.next_line.new.lines) c.args.lines.now.number c.next_line.new.lines.number c.args.store.now c.args.store.now
     (g.W.Write.contents c.args.output.now) _ (g.W.Write.contents c.print_number.new.output) c.args.printer.now.held.items _ c.print_number.new.printer.held.items (bytes ∷ []) (λ text. text ≡ decimal c.size.result ++ codes "\n") (_, took, refl) c.in_ok-next_line.ensures.number
-    (λ text k. subst (λ l. Tells c.args.store.now l [] text c.args.store.now) (sym means) (refl, k ∙ ap (λ n. decimal n ++ codes "\n") c.size.ensures, refl)) c.in_ok-next_line.ensures.shown
+    (λ text k. subst (λ l. LineSays c.args.store.now l [] text c.args.store.now) (sym means) (refl, k ∙ ap (λ n. decimal n ++ codes "\n") c.size.ensures, refl)) c.in_ok-next_line.ensures.shown
     c.in_err-print_number-in-Size.field-0.0 c.in_err-print_number-in-Size.ensures c.from_residual-in_err-print_number-in-Size.result c.from_residual-in_err-print_number-in-Size.ensures.1
 
 pub returns-in_ok-print_number-in-Size : goal.returns-in_ok-print_number-in-Size
@@ -53,7 +53,7 @@ returns-in_ok-print_number-in-Size g c =
     let took = c.next_line.ensures.line (c.in_ok-next_line.was ∙ ap Ok c.if-not-branch.false) in
     said_all (bytes_left g.R.Read.remaining c.args.lines.now) (bytes_left g.R.Read.remaining c.next_line.new.lines) c.args.lines.now.number c.next_line.new.lines.number c.args.store.now c.args.store.now
     (g.W.Write.contents c.args.output.now) _ (g.W.Write.contents c.print_number.new.output) c.args.printer.now.held.items _ c.print_number.new.printer.held.items (bytes ∷ []) (λ text. text ≡ decimal c.size.result ++ codes "\n") (_, took, refl) c.in_ok-next_line.ensures.number
-    (λ text k. subst (λ l. Tells c.args.store.now l [] text c.args.store.now) (sym means) (refl, k ∙ ap (λ n. decimal n ++ codes "\n") c.size.ensures, refl)) c.in_ok-next_line.ensures.shown
+    (λ text k. subst (λ l. LineSays c.args.store.now l [] text c.args.store.now) (sym means) (refl, k ∙ ap (λ n. decimal n ++ codes "\n") c.size.ensures, refl)) c.in_ok-next_line.ensures.shown
     c.in_ok-print_number-in-Size.ensures
 
 pub returns-in_err-run_command-in-Request : goal.returns-in_err-run_command-in-Request
@@ -63,7 +63,7 @@ returns-in_err-run_command-in-Request g c =
     let took = c.next_line.ensures.line (c.in_ok-next_line.was ∙ ap Ok c.if-not-branch.false) in
     said_some (bytes_left g.R.Read.remaining c.args.lines.now) (bytes_left g.R.Read.remaining c.next_line.new.lines) c.args.lines.now.number c.next_line.new.lines.number c.args.store.now c.run_command-in-Request.new.store
     (g.W.Write.contents c.args.output.now) _ (g.W.Write.contents c.run_command-in-Request.new.output) c.args.printer.now.held.items _ c.run_command-in-Request.new.printer.held.items (bytes ∷ []) (λ text. (reply : Reply) × Step questions c.args.store.now c.command_of.result reply c.run_command-in-Request.new.store × Spells reply text) (_, took, refl) c.in_ok-next_line.ensures.number
-    (λ text k. subst (λ l. Tells c.args.store.now l [] text c.run_command-in-Request.new.store) (sym means) (refl, (c.command_of.result, c.command_of.ensures.asked, k))) c.in_ok-next_line.ensures.shown
+    (λ text k. subst (λ l. LineSays c.args.store.now l [] text c.run_command-in-Request.new.store) (sym means) (refl, (c.command_of.result, c.command_of.ensures.asked, k))) c.in_ok-next_line.ensures.shown
     c.in_err-run_command-in-Request.field-0.0 c.in_err-run_command-in-Request.ensures.printed c.from_residual-in_err-run_command-in-Request.result c.from_residual-in_err-run_command-in-Request.ensures.1
 
 pub returns-in_err-run_command-in-Load : goal.returns-in_err-run_command-in-Load
@@ -76,7 +76,7 @@ returns-in_err-run_command-in-Load g c =
     said_some (bytes_left g.R.Read.remaining c.args.lines.now) (bytes_left g.R.Read.remaining c.read_load.new.lines) c.args.lines.now.number c.read_load.new.lines.number c.args.store.now c.run_command.new.store
     (g.W.Write.contents c.args.output.now) _ (g.W.Write.contents c.run_command.new.output) c.args.printer.now.held.items _ c.run_command.new.printer.held.items (bytes ∷ load.0.lines) (λ text. (reply : Reply) × Step questions c.args.store.now (command.Load list) reply c.run_command.new.store × Spells reply text) (_, took, load.0.taken)
     (omega (arith, c.in_ok-next_line.ensures.number, load.0.count))
-    (λ text k. subst (λ l. Tells c.args.store.now l load.0.lines text c.run_command.new.store) (sym means) (command.Load list, (list, refl, load.0.lists, load.1), k)) (prints_both c.in_ok-next_line.ensures.shown c.in_ok-list-in-Load.ensures.shown)
+    (λ text k. subst (λ l. LineSays c.args.store.now l load.0.lines text c.run_command.new.store) (sym means) (command.Load list, (list, refl, load.0.lists, load.1), k)) (prints_both c.in_ok-next_line.ensures.shown c.in_ok-list-in-Load.ensures.shown)
     c.in_err-run_command-in-Load.field-0.0 c.in_err-run_command-in-Load.ensures.printed c.from_residual-in_err-run_command-in-Load.result c.from_residual-in_err-run_command-in-Load.ensures.1
 
 pub returns-in_ok-run_command-in-Request : goal.returns-in_ok-run_command-in-Request
@@ -86,7 +86,7 @@ returns-in_ok-run_command-in-Request g c =
     let took = c.next_line.ensures.line (c.in_ok-next_line.was ∙ ap Ok c.if-not-branch.false) in
     said_all (bytes_left g.R.Read.remaining c.args.lines.now) (bytes_left g.R.Read.remaining c.next_line.new.lines) c.args.lines.now.number c.next_line.new.lines.number c.args.store.now c.run_command-in-Request.new.store
     (g.W.Write.contents c.args.output.now) _ (g.W.Write.contents c.run_command-in-Request.new.output) c.args.printer.now.held.items _ c.run_command-in-Request.new.printer.held.items (bytes ∷ []) (λ text. (reply : Reply) × Step questions c.args.store.now c.command_of.result reply c.run_command-in-Request.new.store × Spells reply text) (_, took, refl) c.in_ok-next_line.ensures.number
-    (λ text k. subst (λ l. Tells c.args.store.now l [] text c.run_command-in-Request.new.store) (sym means) (refl, (c.command_of.result, c.command_of.ensures.asked, k))) c.in_ok-next_line.ensures.shown
+    (λ text k. subst (λ l. LineSays c.args.store.now l [] text c.run_command-in-Request.new.store) (sym means) (refl, (c.command_of.result, c.command_of.ensures.asked, k))) c.in_ok-next_line.ensures.shown
     c.in_ok-run_command-in-Request.ensures.printed
 
 pub returns-in_ok-run_command-in-Load : goal.returns-in_ok-run_command-in-Load
@@ -99,7 +99,7 @@ returns-in_ok-run_command-in-Load g c =
     said_all (bytes_left g.R.Read.remaining c.args.lines.now) (bytes_left g.R.Read.remaining c.read_load.new.lines) c.args.lines.now.number c.read_load.new.lines.number c.args.store.now c.run_command.new.store
     (g.W.Write.contents c.args.output.now) _ (g.W.Write.contents c.run_command.new.output) c.args.printer.now.held.items _ c.run_command.new.printer.held.items (bytes ∷ load.0.lines) (λ text. (reply : Reply) × Step questions c.args.store.now (command.Load list) reply c.run_command.new.store × Spells reply text) (_, took, load.0.taken)
     (omega (arith, c.in_ok-next_line.ensures.number, load.0.count))
-    (λ text k. subst (λ l. Tells c.args.store.now l load.0.lines text c.run_command.new.store) (sym means) (command.Load list, (list, refl, load.0.lists, load.1), k)) (prints_both c.in_ok-next_line.ensures.shown c.in_ok-list-in-Load.ensures.shown)
+    (λ text k. subst (λ l. LineSays c.args.store.now l load.0.lines text c.run_command.new.store) (sym means) (command.Load list, (list, refl, load.0.lists, load.1), k)) (prints_both c.in_ok-next_line.ensures.shown c.in_ok-list-in-Load.ensures.shown)
     c.in_ok-run_command-in-Load.ensures.printed
 
 pub returns-in_err-list-in-Load : goal.returns-in_err-list-in-Load
