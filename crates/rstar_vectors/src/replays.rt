@@ -9,6 +9,7 @@ ghost use Rattle.rstar.specs.Steps.{questions_of, IsFit, IsInsertion, IsRefusal,
 ghost use Rattle.rstar.specs.Trees.{root_of, size_of, elements_in, IsUnchanged, IsWholeTree};
 
 use crate::counted::Place;
+use crate::neighbour_rows::take;
 use crate::scenarios::none_empty;
 use rstar::primitives::Rectangle;
 use rstar::replay::{Command, Query, Reply, replay, step};
@@ -87,21 +88,6 @@ fn is_fit<T: PointDistance + EqualEnvelopes>(command: &Command<T>) -> bool
     }
 }
 
-/// A reply's name, and how many elements or pairs it gives.
-fn outline<T: PointDistance>(reply: &Reply<T>) -> (&'static str, usize) {
-    match reply {
-        Reply::Done => ("done", 0),
-        Reply::Taken(found) => ("taken", usize::from(found.is_some())),
-        Reply::Elements(all) => ("elements", all.len()),
-        Reply::Has(found) => ("has", usize::from(*found)),
-        Reply::Nearest(found) => ("nearest", usize::from(found.is_some())),
-        Reply::Neighbours(all) => ("neighbours", all.len()),
-        Reply::Pairs(all) => ("pairs", all.len()),
-        Reply::NoMemory => ("no memory", 0),
-        Reply::TooMany => ("too many", 0),
-    }
-}
-
 /// Those commands that are fit, in their order.
 fn fit_ones<T: PointDistance + EqualEnvelopes>(
     alloc: Global,
@@ -121,97 +107,35 @@ fn fit_ones<T: PointDistance + EqualEnvelopes>(
     Ok(fit)
 }
 
-/// What commands are answered that one `replay` runs on an empty tree.
-fn outlines<T: PointDistance + EqualEnvelopes + Clone>(
+/// The replies to commands that one `replay` runs on an empty tree, and the size that it leaves.
+fn replies<T: PointDistance + EqualEnvelopes + Clone>(
     alloc: Global,
     commands: Vec<Command<T>>,
-) -> Result<Vec<(&'static str, usize)>, AllocError>
+) -> Result<(Vec<Reply<T>>, usize), AllocError>
     requires dimensions { 2 ≤ T.Envelope.Point.DIMENSIONS }
     requires clones { ClonesEqual T.is_clone }
 {
     let mut tree: RTree<T> = RTree::default(alloc);
     let replies = replay(&mut tree, fit_ones(alloc, commands)?)?;
-    let mut all = Vec::new(alloc);
-    for reply in replies.iter() {
-        all.push(outline(reply))?;
-    }
-    Ok(all)
+    Ok((replies, tree.size()))
 }
 
-/// The replies to commands that `step` runs one by one on an empty tree, and the tree's size after each; those before
-/// the first that is not fit.
-fn replies_and_sizes<T: PointDistance + EqualEnvelopes + Clone>(
+/// How many pairs commands are answered, all together.
+fn pairs_given<T: PointDistance + EqualEnvelopes + Clone>(
     alloc: Global,
     commands: Vec<Command<T>>,
-) -> Result<Vec<(Reply<T>, usize)>, AllocError>
+) -> Result<usize, AllocError>
     requires dimensions { 2 ≤ T.Envelope.Point.DIMENSIONS }
     requires clones { ClonesEqual T.is_clone }
 {
-    let mut tree: RTree<T> = RTree::default(alloc);
-    let mut all = Vec::new(alloc);
-    for command in commands {
-        if !is_fit(&command) {
-            return Ok(all);
+    let (replies, _size) = replies(alloc, commands)?;
+    let mut count = 0usize;
+    for reply in replies.iter() {
+        if let Reply::Pairs(pairs) = reply {
+            count = count.saturating_add(pairs.len());
         }
-        let reply = step(&mut tree, command);
-        all.push((reply, tree.size()))?;
     }
-    Ok(all)
-}
-
-#[test]
-fn a_point_is_taken_out_as_often_as_it_came(rt: HostRuntime) -> Result<(), Fail> {
-    let commands = Vec::from_array(
-        rt.alloc(),
-        [
-            Command::Insert([0i64, 2]),
-            Command::Insert([0, 2]),
-            Command::Remove([0, 2]),
-            Command::Remove([0, 2]),
-            Command::Remove([0, 2]),
-            Command::Ask(Query::All),
-        ],
-    )?;
-    let wanted = [
-        ("done", 0),
-        ("done", 0),
-        ("taken", 1),
-        ("taken", 1),
-        ("taken", 0),
-        ("elements", 0),
-    ];
-    assert_eq!(rt;
-        outlines(rt.alloc(), commands)?.as_slice(),
-        wanted.as_slice()
-    );
-    Ok(())
-}
-
-#[test]
-fn a_load_is_drained(rt: HostRuntime) -> Result<(), Fail> {
-    let five = Vec::from_array(rt.alloc(), [[0i64, 0], [1, 0], [2, 0], [3, 0], [4, 0]])?;
-    let commands = Vec::from_array(
-        rt.alloc(),
-        [
-            Command::Load(five),
-            Command::Drain(Query::All, 2),
-            Command::Ask(Query::All),
-            Command::Drain(Query::All, 9),
-            Command::Nearest([0, 0]),
-        ],
-    )?;
-    let wanted = [
-        ("done", 0),
-        ("elements", 2),
-        ("elements", 3),
-        ("elements", 3),
-        ("nearest", 0),
-    ];
-    assert_eq!(rt;
-        outlines(rt.alloc(), commands)?.as_slice(),
-        wanted.as_slice()
-    );
-    Ok(())
+    Ok(count)
 }
 
 #[test]
@@ -221,16 +145,12 @@ fn equal_rectangles_are_joined_each(rt: HostRuntime) -> Result<(), Fail> {
     let commands = Vec::from_array(
         rt.alloc(),
         [
-            Command::Load(vec![in rt.alloc(); square; 2]?),
+            Command::Insert(square),
+            Command::Insert(square),
             Command::Join(other),
-            Command::Contains(square),
         ],
     )?;
-    let wanted = [("done", 0), ("pairs", 2), ("has", 1)];
-    assert_eq!(rt;
-        outlines(rt.alloc(), commands)?.as_slice(),
-        wanted.as_slice()
-    );
+    assert!(rt; pairs_given(rt.alloc(), commands)? == 2);
     Ok(())
 }
 
@@ -240,6 +160,8 @@ fn equal_rectangles_are_joined_each(rt: HostRuntime) -> Result<(), Fail> {
 #[derive(Clone, Copy, PartialEq)]
 enum Kind {
     Load,
+    /// Loads the first points of a line.
+    LoadLine,
     Insert,
     Remove,
     RemoveAtPoint,
@@ -319,8 +241,14 @@ impl Numbers {
 
 /// The points of a list that a command brings.
 fn brought(alloc: Global, draw: &Draw) -> Result<Vec<At>, AllocError> {
-    let mut numbers = Numbers { state: draw.limit };
     let mut all = Vec::new(alloc);
+    if draw.kind == Kind::LoadLine {
+        for i in 0..draw.limit {
+            all.push([i, 0])?;
+        }
+        return Ok(all);
+    }
+    let mut numbers = Numbers { state: draw.limit };
     for _ in 0..40 {
         all.push(numbers.place())?;
     }
@@ -341,7 +269,7 @@ fn query_of(draw: &Draw) -> Query<At> {
 fn command_of(alloc: Global, draw: &Draw) -> Result<Command<At>, AllocError> {
     let place = draw.place;
     Ok(match draw.kind {
-        Kind::Load => Command::Load(brought(alloc, draw)?),
+        Kind::Load | Kind::LoadLine => Command::Load(brought(alloc, draw)?),
         Kind::Insert => Command::Insert(place),
         Kind::Remove => Command::Remove(place),
         Kind::RemoveAtPoint => Command::RemoveAtPoint(place),
@@ -376,22 +304,14 @@ fn asks(draw: &Draw, point: &At) -> bool {
     }
 }
 
-/// Takes one point that equals this one out of a list, and whether there is one.
-fn take(list: &mut Vec<At>, point: &At) -> bool {
-    for place in 0..list.len() {
-        if list[place] == *point {
-            list.swap_remove(place);
-            return true;
+/// Takes some points out of a list, and whether all are there.
+fn take_all(list: &mut Vec<At>, points: &[At]) -> bool {
+    for point in points {
+        if !take(list, point) {
+            return false;
         }
     }
-    false
-}
-
-/// Whether two lists are one, in some order.
-fn are_the_same(mut one: Vec<At>, mut other: Vec<At>) -> bool {
-    one.sort_unstable();
-    other.sort_unstable();
-    one == other
+    true
 }
 
 /// The points of a list that a query selects.
@@ -413,21 +333,21 @@ fn none_is_nearer(list: &[At], place: &At, distance: i64) -> bool {
 
 fn is_done(alloc: Global, list: &mut Vec<At>, draw: &Draw) -> Result<bool, AllocError> {
     match draw.kind {
-        Kind::Load => *list = brought(alloc, draw)?,
+        Kind::Load | Kind::LoadLine => *list = brought(alloc, draw)?,
         Kind::Insert => list.push(draw.place)?,
         _ => return Ok(false),
     }
     Ok(true)
 }
 
-fn is_taken(list: &mut Vec<At>, draw: &Draw, found: Option<At>) -> bool {
+fn is_taken(list: &mut Vec<At>, draw: &Draw, found: &Option<At>) -> bool {
     let place = draw.place;
     match (draw.kind, found) {
         (Kind::Remove | Kind::RemoveAtPoint, None) => !list.contains(&place),
-        (Kind::Remove | Kind::RemoveAtPoint, Some(point)) => point == place && take(list, &point),
+        (Kind::Remove | Kind::RemoveAtPoint, Some(point)) => *point == place && take(list, point),
         (Kind::PopNearest, None) => list.is_empty(),
         (Kind::PopNearest, Some(point)) => {
-            none_is_nearer(list, &place, squared_distance(&point, &place)) && take(list, &point)
+            none_is_nearer(list, &place, squared_distance(point, &place)) && take(list, point)
         }
         _ => false,
     }
@@ -437,17 +357,19 @@ fn are_selected(
     alloc: Global,
     list: &mut Vec<At>,
     draw: &Draw,
-    found: Vec<At>,
+    found: &[At],
 ) -> Result<bool, AllocError> {
-    let all = selected(alloc, list, draw)?;
-    if draw.kind == Kind::Ask {
-        return Ok(are_the_same(all, found));
-    }
-    let mut right = draw.kind == Kind::Drain && found.len() == draw.most.min(all.len());
-    for point in found.iter() {
-        right = asks(draw, point) && take(list, point) && right;
-    }
-    Ok(right)
+    let mut all = selected(alloc, list, draw)?;
+    let count = all.len();
+    let right = take_all(&mut all, found);
+    Ok(
+        right
+            && match draw.kind {
+                Kind::Ask => found.len() == count,
+                Kind::Drain => found.len() == draw.most.min(count) && take_all(list, found),
+                _ => false,
+            },
+    )
 }
 
 fn is_nearest(list: &[At], draw: &Draw, found: Option<(At, i64)>) -> bool {
@@ -468,15 +390,12 @@ fn are_first(
     alloc: Global,
     list: &[At],
     draw: &Draw,
-    found: Vec<(At, i64)>,
+    found: &[(At, i64)],
 ) -> Result<bool, AllocError> {
     let place = draw.place;
-    let mut rest = Vec::new(alloc);
-    for point in list {
-        rest.push(*point)?;
-    }
+    let mut rest = Vec::from_slice(alloc, list)?;
     let mut right = draw.kind == Kind::Neighbours && found.len() == draw.most.min(list.len());
-    for (point, distance) in found.iter() {
+    for (point, distance) in found {
         right = *distance == squared_distance(point, &place)
             && none_is_nearer(&rest, &place, *distance)
             && take(&mut rest, point)
@@ -489,20 +408,21 @@ fn are_pairs(
     alloc: Global,
     list: &[At],
     draw: &Draw,
-    mut found: Vec<(At, At)>,
+    found: &[(At, At)],
 ) -> Result<bool, AllocError> {
     let mut all = Vec::new(alloc);
-    let others = brought(alloc, draw)?;
-    for one in list {
-        for other in others.iter() {
+    for other in brought(alloc, draw)?.iter() {
+        for one in list {
             if one == other {
                 all.push((*one, *other))?;
             }
         }
     }
-    found.sort_unstable();
-    all.sort_unstable();
-    Ok(draw.kind == Kind::Join && found == all)
+    let mut right = draw.kind == Kind::Join && found.len() == all.len();
+    for pair in found {
+        right = take(&mut all, pair) && right;
+    }
+    Ok(right)
 }
 
 /// Whether a reply is what a command is answered over a list, which is then what the command leaves of it.
@@ -510,17 +430,16 @@ fn is_right(
     alloc: Global,
     list: &mut Vec<At>,
     draw: &Draw,
-    reply: Reply<At>,
+    reply: &Reply<At>,
 ) -> Result<bool, AllocError> {
     match reply {
         Reply::Done => is_done(alloc, list, draw),
         Reply::Taken(found) => Ok(is_taken(list, draw, found)),
         Reply::Elements(found) => are_selected(alloc, list, draw, found),
-        Reply::Has(found) => {
-            let place = draw.place;
-            Ok(draw.kind == Kind::Contains && found == list.contains(&place))
-        }
-        Reply::Nearest(found) => Ok(is_nearest(list, draw, found)),
+        Reply::Has(found) => Ok(
+            draw.kind == Kind::Contains && *found == list.contains(&draw.place),
+        ),
+        Reply::Nearest(found) => Ok(is_nearest(list, draw, *found)),
         Reply::Neighbours(found) => are_first(alloc, list, draw, found),
         Reply::Pairs(found) => are_pairs(alloc, list, draw, found),
         Reply::NoMemory | Reply::TooMany => Ok(false),
@@ -543,28 +462,89 @@ fn drawn(alloc: Global, count: usize) -> Result<Vec<Draw>, AllocError> {
     Ok(all)
 }
 
-/// Runs so many drawn commands over a tree and over a plain list, and gives how many were answered alike, up to the first
-/// that was not, or left another list.
-fn run_beside(alloc: Global, count: usize) -> Result<usize, AllocError> {
-    let draws = drawn(alloc, count)?;
+/// The commands that are drawn, and the replies to them, as `replies` gives these.
+fn replies_to(alloc: Global, draws: &[Draw]) -> Result<(Vec<Reply<At>>, usize), AllocError> {
     let mut commands = Vec::new(alloc);
-    for draw in draws.iter() {
+    for draw in draws {
         commands.push(command_of(alloc, draw)?)?;
     }
-    let replies = replies_and_sizes(alloc, commands)?;
+    replies(alloc, commands)
+}
+
+/// Whether commands are answered over a tree as over a plain list, each of them, and leave as many points.
+fn are_alike(alloc: Global, draws: &[Draw]) -> Result<bool, AllocError> {
+    let (replies, size) = replies_to(alloc, draws)?;
     let mut list = Vec::new(alloc);
-    let mut alike = 0usize;
-    for (draw, (reply, size)) in draws.iter().zip(replies) {
-        if !is_right(alloc, &mut list, draw, reply)? || size != list.len() {
-            return Ok(alike / 2);
-        }
-        alike = alike.saturating_add(1);
+    let mut alike = replies.len() == draws.len();
+    for (draw, reply) in draws.iter().zip(replies.iter()) {
+        alike = is_right(alloc, &mut list, draw, reply)? && alike;
     }
-    Ok(alike / 2)
+    Ok(alike && size == list.len())
 }
 
 #[test]
 fn three_thousand_commands_are_answered_as_over_a_list(rt: HostRuntime) -> Result<(), Fail> {
-    assert_eq!(rt; run_beside(rt.alloc(), 3000)?, 3000);
+    let draws = drawn(rt.alloc(), 3000)?;
+    assert!(rt; are_alike(rt.alloc(), &draws)?);
+    Ok(())
+}
+
+/// How many elements a reply gives, or whether it gives one; none where it is refused.
+fn given(reply: &Reply<At>) -> Option<usize> {
+    match reply {
+        Reply::Done => Some(0),
+        Reply::Taken(found) => Some(usize::from(found.is_some())),
+        Reply::Elements(all) => Some(all.len()),
+        Reply::Has(found) => Some(usize::from(*found)),
+        Reply::Nearest(found) => Some(usize::from(found.is_some())),
+        Reply::Neighbours(all) => Some(all.len()),
+        Reply::Pairs(all) => Some(all.len()),
+        Reply::NoMemory | Reply::TooMany => None,
+    }
+}
+
+/// What a command does, the place that it names, the number that it names, and how many elements its reply gives.
+type Row = (Kind, At, usize, usize);
+
+/// Whether the commands of some rows are answered as over a list, and give as many elements as the rows say.
+fn go(alloc: Global, rows: &[Row]) -> Result<bool, AllocError> {
+    let mut draws = Vec::new(alloc);
+    for (kind, place, number, _) in rows {
+        draws.push(Draw {
+            kind: *kind,
+            query: 0,
+            place: *place,
+            other: *place,
+            limit: i64::try_from(*number).unwrap_or(0),
+            most: *number,
+        })?;
+    }
+    let (replies, _size) = replies_to(alloc, &draws)?;
+    let mut right = replies.len() == rows.len();
+    for (row, reply) in rows.iter().zip(replies.iter()) {
+        right = given(reply) == Some(row.3) && right;
+    }
+    Ok(right && are_alike(alloc, &draws)?)
+}
+
+// A point that came twice leaves twice; five that were loaded are drained, two and then the others.
+#[test]
+fn rows_of_commands(rt: HostRuntime) -> Result<(), Fail> {
+    let twice: [Row; 6] = [
+        (Kind::Insert, [0, 2], 0, 0),
+        (Kind::Insert, [0, 2], 0, 0),
+        (Kind::Remove, [0, 2], 0, 1),
+        (Kind::Remove, [0, 2], 0, 1),
+        (Kind::Remove, [0, 2], 0, 0),
+        (Kind::Ask, [0, 0], 0, 0),
+    ];
+    let five: [Row; 5] = [
+        (Kind::LoadLine, [0, 0], 5, 0),
+        (Kind::Drain, [0, 0], 2, 2),
+        (Kind::Ask, [0, 0], 0, 3),
+        (Kind::Drain, [0, 0], 9, 3),
+        (Kind::Nearest, [0, 0], 0, 0),
+    ];
+    assert!(rt; go(rt.alloc(), &twice)? && go(rt.alloc(), &five)?);
     Ok(())
 }
