@@ -48,11 +48,15 @@ const NINE: [[i32; 2]; 9] = [
     [5, 2],
 ];
 
+/// Whether node sizes serve points of this type.
+fn serve<P: Point, Params: RTreeParams>() -> bool {
+    verify_parameters::<P, Params>()
+}
+
 #[test]
 fn two_dimensions_are_wanted(rt: HostRuntime) {
-    assert!(rt; !verify_parameters::<[i32; 1], DefaultParams>());
-    assert!(rt; verify_parameters::<[i32; 2], DefaultParams>());
-    assert!(rt; verify_parameters::<[i32; 2], Huge>());
+    assert!(rt; !serve::<[i32; 1], DefaultParams>());
+    assert!(rt; serve::<[i32; 2], DefaultParams>() && serve::<[i32; 2], Huge>());
 }
 
 /// Whether the list of these leaves is cut in two: as many in each part, with such an envelope.
@@ -199,19 +203,15 @@ fn a_refused_insertion_loses_nothing(rt: HostRuntime) {
 fn is_one_too_many<T: EqualEnvelopes + Copy>(alloc: Global, element: T) -> bool
     requires { 2 ≤ T.Envelope.Point.DIMENSIONS }
 {
-    let mut tree: RTree<T, Huge> = RTree::new_with_params(alloc);
     if element.envelope().is_empty() {
         return false;
     }
-    match RStarInsertionStrategy::insert(&mut tree, element) {
+    let mut tree: RTree<T, Huge> = RTree::new_with_params(alloc);
+    let refused = match RStarInsertionStrategy::insert(&mut tree, element) {
         Ok(()) => false,
-        Err(refused) => {
-            refused.cause == InsertCause::TooMany
-                && refused.element == element
-                && tree.size() == 0
-                && tree.root().children().is_empty()
-        }
-    }
+        Err(refused) => refused.cause == InsertCause::TooMany && refused.element == element,
+    };
+    refused && tree.size() == 0 && tree.root().children().is_empty()
 }
 
 #[test]

@@ -6,6 +6,7 @@ ghost use Rattle.std.specs.Prelude.{◌≡◌, ◌<◌, ◌≤◌, false, IfSome
 ghost use Rattle.rstar.specs.Drains.{drained, IsDraining};
 ghost use Rattle.rstar.specs.Trees.{IsWholeTree};
 
+use crate::neighbour_rows::take;
 use crate::node_sizes::Wide;
 use crate::scenarios::{ALONG_A_LINE, inserted, loaded, points, stands};
 use rstar::algorithm::selection_functions::{
@@ -55,20 +56,6 @@ fn drain_some<T: RTreeObject, R: SelectionFunction<T>, Params: RTreeParams>(
     Ok(call(&mut drain, most))
 }
 
-/// The same, but the drain is forgotten.
-fn forget_some<T: RTreeObject, R: SelectionFunction<T>>(
-    tree: &mut RTree<T>,
-    func: R,
-    most: usize,
-) -> Result<usize, AllocError>
-    requires { IsWholeTree T.Envelope.boxes T.object ⟦<DefaultParams as RTreeParams>⟧.MAX_SIZE tree.old }
-{
-    let mut drain = tree.drain_with_selection_function(func)?;
-    let came = call(&mut drain, most);
-    forget(drain);
-    Ok(came)
-}
-
 /// Opens the parents whose envelopes contain the point `[0, 0]`, and selects all leaves: it is not lawful.
 #[derive(Drop)]
 struct AboutZero;
@@ -89,56 +76,20 @@ impl SelectionFunction<[i32; 2]> for AboutZero {
     }
 }
 
-/// Drains at most so many elements, and gives how many came.
-fn drain_any<T: RTreeObject>(tree: &mut RTree<T>, most: usize) -> Result<usize, AllocError>
-    requires { IsWholeTree T.Envelope.boxes T.object ⟦<DefaultParams as RTreeParams>⟧.MAX_SIZE tree.old }
-    ensures { IsWholeTree T.Envelope.boxes T.object ⟦<DefaultParams as RTreeParams>⟧.MAX_SIZE tree.new }
-{
-    let mut drain = tree.drain()?;
-    Ok(call(&mut drain, most))
-}
-
-/// The same of those that meet an envelope.
-fn drain_met<T: RTreeObject>(
-    tree: &mut RTree<T>,
-    area: T::Envelope,
-    most: usize,
-) -> Result<usize, AllocError>
-    requires { IsWholeTree T.Envelope.boxes T.object ⟦<DefaultParams as RTreeParams>⟧.MAX_SIZE tree.old }
-    ensures { IsWholeTree T.Envelope.boxes T.object ⟦<DefaultParams as RTreeParams>⟧.MAX_SIZE tree.new }
-{
-    let mut drain = tree.drain_in_envelope_intersecting(area)?;
-    Ok(call(&mut drain, most))
-}
-
-/// The same of those that lie near a point.
-fn drain_near<T: PointDistance>(
-    tree: &mut RTree<T>,
-    point: PointOf<T>,
-    limit: Distance<T>,
-    most: usize,
-) -> Result<usize, AllocError>
-    requires { IsWholeTree T.Envelope.boxes T.object ⟦<DefaultParams as RTreeParams>⟧.MAX_SIZE tree.old }
-    ensures { IsWholeTree T.Envelope.boxes T.object ⟦<DefaultParams as RTreeParams>⟧.MAX_SIZE tree.new }
-{
-    let mut drain = tree.drain_within_distance(point, limit)?;
-    Ok(call(&mut drain, most))
-}
-
-/// Two elements are drained, of all or of those that meet an envelope, the drain is dropped, and one is inserted.
+/// At most two elements of those that meet an envelope are drained, the drain is dropped, and one is inserted.
 fn two_out_one_in<T: RTreeObject>(
     tree: &mut RTree<T>,
-    area: Option<T::Envelope>,
+    area: T::Envelope,
     one: T,
 ) -> Result<bool, AllocError>
     requires whole { IsWholeTree T.Envelope.boxes T.object ⟦<DefaultParams as RTreeParams>⟧.MAX_SIZE tree.old }
     requires element { T.Envelope.boxes.is_empty (T.object.box_of one) ≡ false }
     ensures { IsWholeTree T.Envelope.boxes T.object ⟦<DefaultParams as RTreeParams>⟧.MAX_SIZE tree.new }
 {
-    match area {
-        None => drain_any(tree, 2)?,
-        Some(area) => drain_met(tree, area, 2)?,
-    };
+    {
+        let mut drain = tree.drain_in_envelope_intersecting(area)?;
+        let _came = call(&mut drain, 2);
+    }
     Ok(tree.insert(one).is_ok())
 }
 
@@ -166,23 +117,23 @@ fn two_points_out_one_in(tree: &mut RTree<[i64; 2]>) -> Result<usize, AllocError
 fn stands_with_one_in<T: PointDistance + Copy>(
     alloc: Global,
     elements: &[T],
-    area: Option<T::Envelope>,
+    area: T::Envelope,
     one: T,
     left: usize,
     points: (PointOf<T>, PointOf<T>),
 ) -> bool {
-    if one.envelope().is_empty() {
-        return false;
-    }
-    let Some(mut tree) = inserted::<T, DefaultParams>(alloc, elements) else {
-        return false;
-    };
     let (first, other) = points;
-    matches!(two_out_one_in(&mut tree, area, one), Ok(true))
-        && tree.size() == left
-        && stands(&tree)
-        && tree.remove_at_point(first).is_none()
-        && tree.remove_at_point(other).is_some()
+    match inserted::<T, DefaultParams>(alloc, elements) {
+        Some(mut tree) => {
+            !one.envelope().is_empty()
+                && matches!(two_out_one_in(&mut tree, area, one), Ok(true))
+                && tree.size() == left
+                && stands(&tree)
+                && tree.remove_at_point(first).is_none()
+                && tree.remove_at_point(other).is_some()
+        }
+        None => false,
+    }
 }
 
 /// Drains at most so many elements, and gives how many came; none where the tree does not stand without them.
@@ -226,12 +177,6 @@ fn leaves<T: EqualEnvelopes + Copy, Params: RTreeParams>(
     tree.size().checked_add(1) == Some(before) && stands(tree)
 }
 
-/// Whether a tree has no child, and its root an empty envelope.
-fn is_bare<T: RTreeObject, Params: RTreeParams>(tree: &RTree<T, Params>) -> bool {
-    let root = tree.root();
-    root.children().is_empty() && root.envelope().is_empty() && tree.size() == 0
-}
-
 /// The place that comes `k`-th in an order of `count` places.
 fn place(order: usize, k: usize, count: usize) -> usize
     requires { k < count }
@@ -262,7 +207,7 @@ fn all_leave<T: EqualEnvelopes + Copy, Params: RTreeParams>(
             return false;
         }
     }
-    is_bare(tree)
+    tree.size() == 0
 }
 
 /// Whether the elements of a tree leave in such an order, to the end.
@@ -278,7 +223,7 @@ fn leave_to_the_end<T: EqualEnvelopes + Copy>(
     }
 }
 
-/// Whether a tree that lost its elements has none to drain near a point.
+/// Whether a tree that lost its elements has none to drain near a point, and stands.
 fn emptied_drains_none<T: EqualEnvelopes + PointDistance + Copy>(
     alloc: Global,
     elements: &[T],
@@ -287,9 +232,12 @@ fn emptied_drains_none<T: EqualEnvelopes + PointDistance + Copy>(
 ) -> bool {
     match inserted::<T, DefaultParams>(alloc, elements) {
         Some(mut tree) => {
-            all_leave(&mut tree, elements, 0, true)
-                && matches!(drain_near(&mut tree, point, limit, 1), Ok(0))
-                && is_bare(&tree)
+            let left = all_leave(&mut tree, elements, 0, true);
+            let none = match tree.drain_within_distance(point, limit) {
+                Ok(mut drain) => drain.next().is_none(),
+                Err(_) => false,
+            };
+            left && none && tree.size() == 0 && stands(&tree)
         }
         None => false,
     }
@@ -302,22 +250,18 @@ fn dropped_stands<T: EqualEnvelopes + Copy>(
     calls: usize,
     one: T,
 ) -> bool {
-    let Some(mut tree) = inserted::<T, DefaultParams>(alloc, elements) else {
-        return false;
-    };
-    let count = elements.len();
-    if drain_and_stand(&mut tree, SelectAllFunc, calls) != Some(calls) {
-        return false;
+    let count = elements.len().saturating_add(1);
+    match inserted::<T, DefaultParams>(alloc, elements) {
+        Some(mut tree) => {
+            drain_and_stand(&mut tree, SelectAllFunc, calls) == Some(calls)
+                && !one.envelope().is_empty()
+                && tree.insert(one).is_ok()
+                && tree.size().saturating_add(calls) == count
+                && stands(&tree)
+                && tree.contains(&one)
+        }
+        None => false,
     }
-    if calls == count && !is_bare(&tree) {
-        return false;
-    }
-    if one.envelope().is_empty() || tree.insert(one).is_err() {
-        return false;
-    }
-    tree.size().saturating_add(calls) == count.saturating_add(1)
-        && stands(&tree)
-        && tree.contains(&one)
 }
 
 /// Whether a tree stands, without what was given, after a drain of so many calls was forgotten.
@@ -325,12 +269,15 @@ fn forgotten_stands<T: RTreeObject + Copy>(alloc: Global, elements: &[T], calls:
     let Some(mut tree) = inserted::<T, DefaultParams>(alloc, elements) else {
         return false;
     };
-    match forget_some(&mut tree, SelectAllFunc, calls) {
-        Ok(came) => {
-            came == calls && tree.size().saturating_add(calls) == elements.len() && stands(&tree)
+    let came = match tree.drain() {
+        Ok(mut drain) => {
+            let came = call(&mut drain, calls);
+            forget(drain);
+            came
         }
-        Err(_) => false,
-    }
+        Err(_) => return false,
+    };
+    came == calls && tree.size().saturating_add(calls) == elements.len() && stands(&tree)
 }
 
 /// Whether a loaded tree stands after at most so many elements were drained, and after a drain of those that meet an
@@ -409,28 +356,22 @@ fn drains_all_of<T: EqualEnvelopes + Copy>(
         && tree.size().saturating_add(asked.len()) == elements.len()
 }
 
-/// Whether what is left of a tree is what another one gives when it is taken apart.
-fn gives_all_of<T: EqualEnvelopes>(tree: RTree<T>, rest: &mut RTree<T>) -> bool
-    requires whole { IsWholeTree T.Envelope.boxes T.object ⟦<DefaultParams as RTreeParams>⟧.MAX_SIZE tree }
-    requires rest { IsWholeTree T.Envelope.boxes T.object ⟦<DefaultParams as RTreeParams>⟧.MAX_SIZE rest.old }
-{
+/// Whether a tree of these elements gives each of them when it is taken apart, and then none.
+fn gives_all<T: RTreeObject + PartialEq + Copy>(alloc: Global, elements: &[T]) -> bool {
+    let Ok(mut rest) = Vec::from_slice(alloc, elements) else {
+        return false;
+    };
+    let Some(tree) = inserted::<T, DefaultParams>(alloc, elements) else {
+        return false;
+    };
     let Ok(mut all) = tree.into_iter() else {
         return false;
     };
+    let mut there = true;
     while let Some(element) = all.next() {
-        if rest.remove(&element).is_none() {
-            return false;
-        }
+        there = take(&mut rest, &element) && there;
     }
-    rest.size() == 0
-}
-
-/// Whether a tree of these elements gives each of them when it is taken apart, and then none.
-fn gives_all<T: EqualEnvelopes + Copy>(alloc: Global, elements: &[T]) -> bool {
-    match (inserted(alloc, elements), inserted(alloc, elements)) {
-        (Some(tree), Some(mut rest)) => gives_all_of(tree, &mut rest),
-        _ => false,
-    }
+    there && rest.is_empty()
 }
 
 /// A short line from each of these points on.
@@ -542,8 +483,6 @@ fn drains_end_where_none_is_left(rt: HostRuntime) -> Result<(), Fail> {
 #[test]
 fn callers_drain_and_insert_again(rt: HostRuntime) {
     let three = [[0i64, 0], [1, 1], [2, 2]];
-    let points = ([9, 9], [7, 8]);
-    assert!(rt; stands_with_one_in(rt.alloc(), &three, None, [7, 8], 2, points));
     match inserted::<[i64; 2], DefaultParams>(rt.alloc(), &three) {
         Some(mut tree) => assert!(rt; matches!(two_points_out_one_in(&mut tree), Ok(2))),
         None => assert!(rt; false),
@@ -559,7 +498,7 @@ fn callers_drain_boxes_and_insert_again(rt: HostRuntime) {
     let area = AABB::from_corners([1, 1], [4, 4]);
     let one = Rectangle::from_corners([7, 8], [9, 9]);
     let points = ([1, 1], [8, 9]);
-    assert!(rt; stands_with_one_in(rt.alloc(), &two, Some(area), one, 2, points));
+    assert!(rt; stands_with_one_in(rt.alloc(), &two, area, one, 2, points));
 }
 
 #[test]
