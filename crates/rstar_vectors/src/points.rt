@@ -1,8 +1,9 @@
 //! Scalars and points: each type at its ends, each shape of point through its bound.
 
-use num_traits::{One, Zero};
+use num_traits::Zero;
 use rstar_base::mint::{Point2, Point3};
 use rstar_base::point::{Point, RTreeNum};
+use std::test::Fail;
 
 /// What every scalar type answers at its ends: the least, the greatest, and -1.
 fn ends<S: RTreeNum>(low: S, high: S, minus_one: S) -> bool {
@@ -199,23 +200,21 @@ fn points_are_equal_where_all_coordinates_are(rt: HostRuntime) {
     );
 }
 
-/// A point that is 1 on each axis that its generator is asked for in order, and 0 on others.
-fn generated<P: Point>() -> P {
+#[test]
+fn the_generator_is_asked_in_order(rt: HostRuntime) -> Result<(), Fail> {
     let mut asked = 0usize;
-    P::generate(|axis| {
+    let pair = <(i64, i64)>::generate(|axis| {
         let in_order = axis == asked;
         asked = asked.wrapping_add(1);
-        if in_order {
-            P::Scalar::one()
-        } else {
-            P::Scalar::zero()
-        }
-    })
-}
-
-#[test]
-fn the_generator_is_asked_in_order(rt: HostRuntime) {
-    let pair: (i64, i64) = generated();
-    let array: [i64; 3] = generated();
-    assert!(rt; pair == (1, 1) && array == [1, 1, 1]);
+        if in_order { 1 } else { 0 }
+    });
+    assert_eq!(rt; pair, (1, 1));
+    let mut asked = 0usize;
+    let array = <[i64; 3]>::generate(|axis| {
+        let in_order = axis == asked;
+        asked = asked.wrapping_add(1);
+        if in_order { 1 } else { 0 }
+    });
+    assert_eq!(rt; array, [1, 1, 1]);
+    Ok(())
 }
