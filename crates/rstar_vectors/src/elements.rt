@@ -8,7 +8,9 @@ ghost use Rattle.rstar_base.specs.Elements.{carried_objects};
 use num_traits::One;
 use rstar_base::aabb::AABB;
 use rstar_base::envelope::Envelope;
-use rstar_base::object::{PointDistance, RTreeObject, partition_envelopes, sort_envelopes};
+use rstar_base::object::{
+    Distance, PointDistance, PointOf, RTreeObject, partition_envelopes, sort_envelopes,
+};
 use rstar_base::point::{Point, RTreeNum};
 use rstar_base::primitives::{
     CachedEnvelope, GeomWithData, Line, ObjectRef, PointWithData, Rectangle,
@@ -66,17 +68,16 @@ fn where_its_numbers_do_not_fit_a_line_has_its_ends_alone(rt: HostRuntime) {
 
 /// Whether the rectangle between two corners has at each point this nearest point, at this squared distance and at no
 /// lesser one, and contains the point as told.
-fn rectangle_is_so_far<P: Point + Copy>(
-    corners: (P, P),
-    rows: &[(P, P, P::Scalar, bool)],
-) -> bool {
+fn rectangle_is_so_far<P: Point + Copy>(corners: (P, P), rows: &[(P, P, P::Scalar, bool)]) -> bool {
     let rectangle = Rectangle::from_corners(corners.0, corners.1);
     for (point, nearest, distance, contained) in rows {
         let below = distance.clamped_sub(P::Scalar::one());
         if rectangle.nearest_point(point) != *nearest
             || rectangle.distance_2(point) != *distance
             || rectangle.contains_point(point) != *contained
-            || rectangle.distance_2_if_less_or_equal(point, below).is_some()
+            || rectangle
+                .distance_2_if_less_or_equal(point, below)
+                .is_some()
             || rectangle.distance_2_if_less_or_equal(point, *distance) != Some(*distance)
         {
             return false;
@@ -122,23 +123,32 @@ fn rectangles_of_boxes(rt: HostRuntime) {
     assert!(rt; rectangle_is_its_box([0, 0], corners, [1, 1], [2, 4]));
 }
 
-/// A point, the squared distance of what is asked, and a lesser one, within which it does not lie.
-type AskedAt<P> = (P, <P as Point>::Scalar, <P as Point>::Scalar);
-
-/// Whether a line with a number, and a reference to it, are as far from a point as the line, and hold their number.
-fn carried_line_answers<P: Point + Copy>(
-    ends: (P, P),
-    length: P::Scalar,
-    asked: &AskedAt<P>,
+/// Whether an element that is carried with a number is so far from a point, as what carries it and a reference to that
+/// are, and these are not within a lesser distance, and hold the number.
+fn carried_is_so_far<R: PointDistance>(
+    element: R,
+    point: &PointOf<R>,
+    distance: Distance<R>,
+    lesser: Distance<R>,
 ) -> bool {
-    let mut road = GeomWithData::new(Line::new(ends.0, ends.1), 7u64);
+    let mut road = GeomWithData::new(element, 7u64);
     road.data = 8;
     let lent = ObjectRef::new(&road);
-    road.geom().length_2() == length
-        && road.distance_2(&asked.0) == asked.1
-        && road.distance_2_if_less_or_equal(&asked.0, asked.2).is_none()
+    road.geom().distance_2(point) == distance
+        && road.distance_2(point) == distance
+        && road.distance_2_if_less_or_equal(point, lesser).is_none()
         && lent.data == 8
-        && lent.distance_2(&asked.0) == asked.1
+        && lent.distance_2(point) == distance
+}
+
+/// The same of the line between two ends.
+fn carried_line_is_so_far<P: Point + Copy>(
+    ends: (P, P),
+    point: &P,
+    distance: P::Scalar,
+    lesser: P::Scalar,
+) -> bool {
+    carried_is_so_far(Line::new(ends.0, ends.1), point, distance, lesser)
 }
 
 /// Whether a point with a number contains itself, and a shared one is so far from another.
@@ -150,15 +160,17 @@ fn carried_point_answers<P: Point + Copy>(
 ) -> Result<bool, AllocError> {
     let stop = PointWithData::new(7u64, point);
     let shared = Rc::new(alloc, point)?;
-    Ok(*stop.position() == point
-        && stop.contains_point(&point)
-        && shared.distance_2(other) == distance)
+    Ok(
+        *stop.position() == point
+            && stop.contains_point(&point)
+            && shared.distance_2(other) == distance,
+    )
 }
 
 #[test]
 fn carriers_answer_as_what_they_carry(rt: HostRuntime) -> Result<(), Fail> {
     let ends: ([i64; 2], [i64; 2]) = ([0, 0], [10, 0]);
-    assert!(rt; carried_line_answers(ends, 100, &([9, 2], 4, 3)));
+    assert!(rt; carried_line_is_so_far(ends, &[9, 2], 4, 3));
     assert!(rt; carried_point_answers(rt.alloc(), [1i64, 2], &[1, 5], 9)?);
     Ok(())
 }
