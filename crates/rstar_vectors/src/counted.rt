@@ -85,27 +85,29 @@ impl<P: Point> Counts for Place<P> {
     }
 }
 
-/// How many elements lie below some nodes, at most `levels` levels of parents down: none where a parent counts another
-/// number.
-fn count_below<T: Counts>(nodes: &[RTreeNode<T>], levels: usize) -> Option<usize> {
+/// How many elements lie below some nodes, at most `levels` levels of parents down: the greatest number where a parent
+/// counts another.
+fn count_below<T: Counts>(nodes: &[RTreeNode<T>], levels: usize) -> usize {
     let mut count = 0usize;
     for node in nodes {
         let own = match node {
             RTreeNode::Leaf(_) => 1,
             RTreeNode::Parent(parent) => {
                 if levels == 0 {
-                    return None;
+                    usize::MAX
+                } else {
+                    let below = count_below(parent.children(), levels - 1);
+                    if T::count(parent.envelope()) == below {
+                        below
+                    } else {
+                        usize::MAX
+                    }
                 }
-                let below = count_below(parent.children(), levels - 1)?;
-                if T::count(parent.envelope()) != below {
-                    return None;
-                }
-                below
             }
         };
         count = count.saturating_add(own);
     }
-    Some(count)
+    count
 }
 
 /// Whether the root counts so many elements, and each parent those below it.
@@ -113,7 +115,7 @@ fn counts_all<T: Counts>(tree: &RTree<T>, all: usize) -> bool {
     let root = tree.root();
     T::count(root.envelope()) == all
         && tree.size() == all
-        && count_below(root.children(), 64) == Some(all)
+        && count_below(root.children(), 64) == all
 }
 
 /// Inserts elements, and tells whether all parents count what lies below them after each.
@@ -183,6 +185,18 @@ fn count_always<T: Counts + Copy>(
     }
 }
 
+/// The same of places.
+fn places_count_always<P: Point + Copy>(
+    first: Vec<Place<P>>,
+    others: &[Place<P>],
+    removed: &[Place<P>],
+    left: &[usize],
+) -> bool
+    requires { 2 ≤ P.DIMENSIONS }
+{
+    count_always(first, others, removed, left)
+}
+
 /// Whether the root of a tree of these places counts them all.
 fn root_counts<P: Point + Copy>(alloc: Global, places: &[Place<P>]) -> bool {
     match inserted(alloc, places) {
@@ -206,7 +220,7 @@ fn places(alloc: Global, from: usize, end: usize) -> Result<Vec<Place<[i64; 2]>>
 
 /// Whether a box, given twice, counts so often, alone and merged with itself, and nothing merged with it is it; what
 /// nothing was merged into is empty, and equals the box where this counts 0.
-fn merges<P: Point>(aabb: AABB<P>, same: &AABB<P>, count: usize, twice: usize) -> bool {
+fn merges<P: Point + Copy>(aabb: AABB<P>, same: &AABB<P>, count: usize, twice: usize) -> bool {
     let one = Counted::new(aabb);
     let merged = one.merged(&one);
     let nothing = Counted::new_empty();
@@ -221,7 +235,8 @@ fn merges<P: Point>(aabb: AABB<P>, same: &AABB<P>, count: usize, twice: usize) -
         && nothing.merged(&one) == one
 }
 
-// What is counted, merged with itself: the count before and after.
+// What is counted, merged with itself: the count before and after. A box with no axis is not empty, and counts; the
+// count of nothing is 0.
 #[test]
 fn merges_add_counts(rt: HostRuntime) {
     let rows: [(AABB<[i64; 2]>, usize, usize); 3] = [
@@ -232,11 +247,6 @@ fn merges_add_counts(rt: HostRuntime) {
     for (aabb, count, twice) in rows {
         assert!(rt; merges(aabb, &aabb, count, twice));
     }
-}
-
-// A box with no axis is not empty, and counts; the count of nothing is 0.
-#[test]
-fn a_box_with_no_axis_counts(rt: HostRuntime) {
     let none: [i64; 0] = [];
     let one = AABB::from_point(none);
     assert!(rt; merges(one, &one, 1, 2));
@@ -250,6 +260,6 @@ fn every_element_is_merged_once(rt: HostRuntime) -> Result<(), Fail> {
     let others = places(rt.alloc(), 500, 2000)?;
     let removed = places(rt.alloc(), 0, 1000)?;
     assert!(rt; root_counts(rt.alloc(), &removed));
-    assert!(rt; count_always(first, &others, &removed, &[700, 400, 100, 0]));
+    assert!(rt; places_count_always(first, &others, &removed, &[700, 400, 100, 0]));
     Ok(())
 }

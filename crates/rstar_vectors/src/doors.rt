@@ -55,21 +55,39 @@ impl<P: Point> EqualEnvelopes for Doors<P> {
 #[cfg(test)]
 mod tests {
     use super::*;
-    use std::test::Fail;
+    use num_traits::One;
+    use rstar_base::point::RTreeNum;
 
-    #[test]
-    fn the_nearer_door_counts(rt: HostRuntime) -> Result<(), Fail> {
-        let shop: Doors<[i64; 2]> = Doors {
-            front: [0, 0],
-            back: [10, 4],
+    /// Whether two doors are this far from a point and no less, and one of them is at the point, as told.
+    fn are_so_far<P: Point + Copy>(
+        doors: (P, P),
+        point: &P,
+        distance: P::Scalar,
+        is_there: bool,
+    ) -> bool {
+        let shop = Doors {
+            front: doors.0,
+            back: doors.1,
         };
-        assert_eq!(rt; shop.distance_2(&[1, 0]), 1);
-        assert_eq!(rt; shop.distance_2(&[10, 2]), 4);
-        // Inside the envelope, and at neither door.
-        assert!(rt; !shop.contains_point(&[5, 2]));
-        assert!(rt; shop.contains_point(&[10, 4]));
-        assert_eq!(rt; shop.distance_2_if_less_or_equal(&[10, 2], 3), None);
-        assert_eq!(rt; shop.distance_2_if_less_or_equal(&[10, 2], 4), Some(4));
-        Ok(())
+        let below = distance.clamped_sub(P::Scalar::one());
+        shop.distance_2(point) == distance
+            && shop.distance_2_if_less_or_equal(point, below).is_none()
+            && shop.distance_2_if_less_or_equal(point, distance) == Some(distance)
+            && shop.contains_point(point) == is_there
+    }
+
+    // A point, its squared distance from the nearer door, and whether a door is there. The third lies inside the
+    // envelope, and at neither door.
+    #[test]
+    fn the_nearer_door_counts(rt: HostRuntime) {
+        let rows: [([i64; 2], i64, bool); 4] = [
+            ([1, 0], 1, false),
+            ([10, 2], 4, false),
+            ([5, 2], 29, false),
+            ([10, 4], 0, true),
+        ];
+        for (point, distance, is_there) in rows {
+            assert!(rt; are_so_far(([0, 0], [10, 4]), &point, distance, is_there));
+        }
     }
 }

@@ -1,62 +1,96 @@
 //! Elements: what each answers on given numbers.
+//!
+//! What is asked is generic over the points, a test gives rows: the same steps at a concrete type are dear to prove.
 
+ghost use Rattle.std.specs.Prelude.{◌≤◌};
 ghost use Rattle.rstar_base.specs.Elements.{carried_objects};
 
+use num_traits::One;
 use rstar_base::aabb::AABB;
 use rstar_base::envelope::Envelope;
-use rstar_base::object::{PointDistance, RTreeObject, partition_envelopes, sort_envelopes};
+use rstar_base::object::{
+    Distance, PointDistance, PointOf, RTreeObject, partition_envelopes, sort_envelopes,
+};
+use rstar_base::point::{Point, RTreeNum};
 use rstar_base::primitives::{
     CachedEnvelope, GeomWithData, Line, ObjectRef, PointWithData, Rectangle,
 };
+use std::alloc::{AllocError, Global};
 use std::cell::Cell;
 use std::rc::Rc;
 use std::test::Fail;
 
-type At = [i64; 2];
+/// The ends of a line and its squared length, a point, the line's nearest point, and the squared distance.
+type LineRow<P> = (P, P, <P as Point>::Scalar, P, P, <P as Point>::Scalar);
 
-// The ends of a line and its squared length, a point, the line's nearest point, and the squared distance. The upright
-// line is that of rstar's test `edge_distance`, twice as large.
+/// Whether lines have these lengths, nearest points and distances.
+fn lines_are_so_far<P: Point + Copy>(rows: &[LineRow<P>]) -> bool {
+    for (from, to, length, point, nearest, distance) in rows {
+        let line = Line::new(*from, *to);
+        if line.length_2() != *length
+            || line.nearest_point(point) != *nearest
+            || line.distance_2(point) != *distance
+        {
+            return false;
+        }
+    }
+    true
+}
+
+// The upright line is that of rstar's test `edge_distance`, twice as large.
 #[test]
 fn lines_and_points(rt: HostRuntime) {
-    let rows: [(At, At, i64, At, At, i64); 10] = [
-        ([1, 1], [1, 4], 9, [1, 2], [1, 2], 0),
-        ([1, 1], [1, 4], 9, [0, 0], [1, 1], 2),
-        ([1, 1], [1, 4], 9, [2, 2], [1, 2], 1),
-        ([1, 1], [1, 4], 9, [2, 6], [1, 4], 5),
-        ([3, 3], [7, 6], 25, [3, 3], [3, 3], 0),
-        ([1, -1], [5, 5], 52, [5, 5], [5, 5], 0),
-        ([0, 0], [10, 0], 100, [9, 0], [9, 0], 0),
-        ([3, 3], [3, 3], 0, [0, 0], [3, 3], 18),
-        ([0, 0], [2, 2], 8, [2, 0], [1, 1], 2),
-        ([0, 0], [2, 2], 8, [20, 24], [2, 2], 808),
-    ];
-    for (from, to, length, point, nearest, distance) in rows {
-        let line = Line::new(from, to);
-        assert_eq!(rt; line.length_2(), length, "of {line:?}");
-        assert_eq!(rt; line.nearest_point(&point), nearest, "of {line:?}");
-        assert_eq!(rt; line.distance_2(&point), distance, "of {line:?}");
-    }
+    assert!(rt;
+        lines_are_so_far(&[
+            ([1i64, 1], [1, 4], 9, [1, 2], [1, 2], 0),
+            ([1, 1], [1, 4], 9, [0, 0], [1, 1], 2),
+            ([1, 1], [1, 4], 9, [2, 2], [1, 2], 1),
+            ([1, 1], [1, 4], 9, [2, 6], [1, 4], 5),
+            ([3, 3], [7, 6], 25, [3, 3], [3, 3], 0),
+            ([1, -1], [5, 5], 52, [5, 5], [5, 5], 0),
+            ([0, 0], [10, 0], 100, [9, 0], [9, 0], 0),
+            ([3, 3], [3, 3], 0, [0, 0], [3, 3], 18),
+            ([0, 0], [2, 2], 8, [2, 0], [1, 1], 2),
+            ([0, 0], [2, 2], 8, [20, 24], [2, 2], 808),
+        ])
+    );
 }
 
 #[test]
 fn where_its_numbers_do_not_fit_a_line_has_its_ends_alone(rt: HostRuntime) {
-    let rows: [([i8; 2], [i8; 2], [i8; 2], [i8; 2], i8); 2] = [
-        ([-100, 0], [100, 0], [0, 5], [-100, 0], 127),
-        ([0, 0], [10, 0], [9, 0], [10, 0], 1),
-    ];
-    for (from, to, point, nearest, distance) in rows {
-        let line = Line::new(from, to);
-        assert_eq!(rt; line.nearest_point(&point), nearest, "of {line:?}");
-        assert_eq!(rt; line.distance_2(&point), distance, "of {line:?}");
+    assert!(rt;
+        lines_are_so_far(&[
+            ([-100i8, 0], [100, 0], 127, [0, 5], [-100, 0], 127),
+            ([0, 0], [10, 0], 100, [9, 0], [10, 0], 1),
+        ])
+    );
+}
+
+/// Whether the rectangle between two corners has at each point this nearest point, at this squared distance and at no
+/// lesser one, and contains the point as told.
+fn rectangle_is_so_far<P: Point + Copy>(corners: (P, P), rows: &[(P, P, P::Scalar, bool)]) -> bool {
+    let rectangle = Rectangle::from_corners(corners.0, corners.1);
+    for (point, nearest, distance, contained) in rows {
+        let below = distance.clamped_sub(P::Scalar::one());
+        if rectangle.nearest_point(point) != *nearest
+            || rectangle.distance_2(point) != *distance
+            || rectangle.contains_point(point) != *contained
+            || rectangle
+                .distance_2_if_less_or_equal(point, below)
+                .is_some()
+            || rectangle.distance_2_if_less_or_equal(point, *distance) != Some(*distance)
+        {
+            return false;
+        }
     }
+    true
 }
 
 // A point, the nearest point of the rectangle, the squared distance, and whether the rectangle contains the point. The
 // rectangle is that of rstar's test `rectangle_distance`, twice as large.
 #[test]
 fn a_rectangle_and_points(rt: HostRuntime) {
-    let rectangle = Rectangle::from_corners([1, 1], [2, 4]);
-    let rows: [(At, At, i64, bool); 9] = [
+    let rows: [([i64; 2], [i64; 2], i64, bool); 9] = [
         ([1, 1], [1, 1], 0, true),
         ([0, 2], [1, 2], 1, false),
         ([0, 0], [1, 1], 2, false),
@@ -67,74 +101,111 @@ fn a_rectangle_and_points(rt: HostRuntime) {
         ([2, 2], [2, 2], 0, true),
         ([1, 4], [1, 4], 0, true),
     ];
-    for (point, nearest, distance, contained) in rows {
-        assert_eq!(rt; rectangle.nearest_point(&point), nearest);
-        assert_eq!(rt; rectangle.distance_2(&point), distance, "at {point:?}");
-        assert_eq!(rt; rectangle.contains_point(&point), contained, "at {point:?}");
-        let below = distance.wrapping_sub(1);
-        for (limit, answer) in [(below, None), (distance, Some(distance))] {
-            assert_eq!(rt;
-                rectangle.distance_2_if_less_or_equal(&point, limit),
-                answer
-            );
-        }
-    }
+    assert!(rt; rectangle_is_so_far(([1, 1], [2, 4]), &rows));
+}
+
+/// Whether the rectangle of the empty box is empty and contains no such point, and that of the box of two points is the
+/// rectangle between two corners, the lower and the upper one.
+fn rectangle_is_its_box<P: Point + Copy>(point: P, box_of: (P, P), lower: P, upper: P) -> bool {
+    let none: Rectangle<P> = Rectangle::from_aabb(AABB::new_empty());
+    let same: Rectangle<P> = AABB::from_corners(box_of.0, box_of.1).into();
+    none.envelope().is_empty()
+        && !none.contains_point(&point)
+        && !same.envelope().is_empty()
+        && same == Rectangle::from_corners(lower, upper)
+        && same.lower() == lower
+        && same.upper() == upper
 }
 
 #[test]
 fn rectangles_of_boxes(rt: HostRuntime) {
-    let none: Rectangle<At> = Rectangle::from_aabb(AABB::new_empty());
-    assert!(rt; none.envelope().is_empty());
-    assert!(rt; !none.contains_point(&[0, 0]));
-    let same: Rectangle<At> = AABB::from_corners([2, 4], [1, 1]).into();
-    assert_eq!(rt; same, Rectangle::from_corners([1, 1], [2, 4]));
-    assert!(rt; !same.envelope().is_empty());
-    assert_eq!(rt; same.lower(), [1, 1]);
-    assert_eq!(rt; same.upper(), [2, 4]);
+    let corners: ([i64; 2], [i64; 2]) = ([2, 4], [1, 1]);
+    assert!(rt; rectangle_is_its_box([0, 0], corners, [1, 1], [2, 4]));
+}
+
+/// Whether an element that is carried with a number is so far from a point, as what carries it and a reference to that
+/// are, and these are not within a lesser distance, and hold the number.
+fn carried_is_so_far<R: PointDistance>(
+    element: R,
+    point: &PointOf<R>,
+    distance: Distance<R>,
+    lesser: Distance<R>,
+) -> bool {
+    let mut road = GeomWithData::new(element, 7u64);
+    road.data = 8;
+    let lent = ObjectRef::new(&road);
+    road.geom().distance_2(point) == distance
+        && road.distance_2(point) == distance
+        && road.distance_2_if_less_or_equal(point, lesser).is_none()
+        && lent.data == 8
+        && lent.distance_2(point) == distance
+}
+
+/// The same of the line between two ends.
+fn carried_line_is_so_far<P: Point + Copy>(
+    ends: (P, P),
+    point: &P,
+    distance: P::Scalar,
+    lesser: P::Scalar,
+) -> bool {
+    carried_is_so_far(Line::new(ends.0, ends.1), point, distance, lesser)
+}
+
+/// Whether a point with a number contains itself, and a shared one is so far from another.
+fn carried_point_answers<P: Point + Copy>(
+    alloc: Global,
+    point: P,
+    other: &P,
+    distance: P::Scalar,
+) -> Result<bool, AllocError> {
+    let stop = PointWithData::new(7u64, point);
+    let shared = Rc::new(alloc, point)?;
+    Ok(
+        *stop.position() == point
+            && stop.contains_point(&point)
+            && shared.distance_2(other) == distance,
+    )
 }
 
 #[test]
 fn carriers_answer_as_what_they_carry(rt: HostRuntime) -> Result<(), Fail> {
-    let line: Line<At> = Line::new([0, 0], [10, 0]);
-    let mut road = GeomWithData::new(line, 7u64);
-    road.data = 8;
-    assert_eq!(rt; road.geom().length_2(), 100);
-    assert_eq!(rt; road.distance_2(&[9, 2]), 4);
-    assert_eq!(rt; road.distance_2_if_less_or_equal(&[9, 2], 3), None);
-    let stop = PointWithData::new(7u64, [1i64, 2]);
-    assert_eq!(rt; *stop.position(), [1, 2]);
-    assert!(rt; stop.contains_point(&[1, 2]));
-    let lent = ObjectRef::new(&road);
-    assert_eq!(rt; lent.data, 8);
-    assert_eq!(rt; lent.distance_2(&[9, 2]), 4);
-    let shared = Rc::new(rt.alloc(), [1i64, 2])?;
-    assert_eq!(rt; shared.distance_2(&[1, 5]), 9);
+    let ends: ([i64; 2], [i64; 2]) = ([0, 0], [10, 0]);
+    assert!(rt; carried_line_is_so_far(ends, &[9, 2], 4, 3));
+    assert!(rt; carried_point_answers(rt.alloc(), [1i64, 2], &[1, 5], 9)?);
     Ok(())
+}
+
+/// Sorts four points on the first axis and splits them on the second, at the second place, and tells whether they come
+/// in this order, and whether these are the first two after the split.
+fn are_ordered<P: Point>(points: &mut [P; 4], sorted: &[P; 4], split: &[P; 2]) -> bool
+    requires { 2 ≤ P.DIMENSIONS }
+{
+    sort_envelopes(0, points);
+    let rises = *points == *sorted;
+    partition_envelopes(1, points, 1);
+    rises && points[0] == split[0] && points[1] == split[1]
 }
 
 #[test]
 fn elements_in_the_order_of_their_keys(rt: HostRuntime) {
-    let mut points: [At; 4] = [[3, 0], [1, 2], [2, 1], [0, 3]];
-    sort_envelopes(0, &mut points);
-    assert_eq!(rt; points, [[0, 3], [1, 2], [2, 1], [3, 0]]);
-    partition_envelopes(1, &mut points, 1);
-    assert_eq!(rt; points[1], [2, 1]);
-    assert_eq!(rt; points[0], [3, 0]);
+    let mut points = [[3i64, 0], [1, 2], [2, 1], [0, 3]];
+    let sorted = [[0, 3], [1, 2], [2, 1], [3, 0]];
+    assert!(rt; are_ordered(&mut points, &sorted, &[[3, 0], [2, 1]]));
 }
 
 // A point that counts how often its envelope is asked for.
 #[derive(Drop)]
-struct Counting {
-    at: At,
+struct Counting<P> {
+    at: P,
     calls: Cell<u32>,
 }
 
-impl RTreeObject for Counting {
-    type Envelope = AABB<[i64; 2]>;
+impl<P: Point> RTreeObject for Counting<P> {
+    type Envelope = AABB<P>;
 
-    ghost object = { carried_objects ⟦<[i64; 2] as RTreeObject>⟧.object (λ c. c.at) };
+    ghost object = { carried_objects ⟦<P as RTreeObject>⟧.object (λ c. c.at) };
 
-    fn envelope(&self) -> AABB<[i64; 2]> {
+    fn envelope(&self) -> AABB<P> {
         self.calls.set(self.calls.get().wrapping_add(1));
         self.at.envelope()
     }
@@ -142,15 +213,18 @@ impl RTreeObject for Counting {
     ghost object_law = { λ c h. h };
 }
 
+/// Whether a point's kept envelope, asked for three times, is its box, and the point was asked once.
+fn is_asked_once<P: Point + Copy>(at: P) -> bool {
+    let calls = Cell::new(0);
+    let cached = CachedEnvelope::new(Counting { at, calls });
+    let wanted = AABB::from_point(at);
+    cached.envelope() == wanted
+        && cached.envelope() == wanted
+        && cached.envelope() == wanted
+        && cached.calls.get() == 1
+}
+
 #[test]
 fn a_cached_envelope_is_asked_for_once(rt: HostRuntime) {
-    let cached = CachedEnvelope::new(Counting {
-        at: [1, 2],
-        calls: Cell::new(0),
-    });
-    let wanted: AABB<At> = AABB::from_point([1, 2]);
-    for _ in 0..3 {
-        assert_eq!(rt; cached.envelope(), wanted);
-    }
-    assert_eq!(rt; cached.calls.get(), 1);
+    assert!(rt; is_asked_once([1i64, 2]));
 }

@@ -14,9 +14,9 @@ use rstar_base::mint::Point2;
 use rstar_base::object::{Distance, EqualEnvelopes, PointDistance, PointOf, RTreeObject};
 use rstar_base::point::{Point, known};
 use rstar_base::primitives::{GeomWithData, Line, Rectangle};
-use std::alloc::{AllocError, Global};
 
-type Place = GeomWithData<Rectangle<[i64; 2]>, u64>;
+/// An element with a number.
+type Place<R> = GeomWithData<R, u64>;
 
 // A write changes that coordinate and no other.
 fn write<P: Point>(p: &mut P, i: usize, s: P::Scalar)
@@ -85,11 +85,31 @@ fn points_alike(a: &[i64; 2], b: &[i64; 2]) -> bool
     alike(a, b)
 }
 
-fn places_alike(a: &Place, b: &Place) -> bool
+fn places_alike<R: EqualEnvelopes>(a: &Place<R>, b: &Place<R>) -> bool
     ensures { IsTrue result
-        → ⟦<Place as RTreeObject>⟧.object.box_of a.now ≡ ⟦<Place as RTreeObject>⟧.object.box_of b.now }
+        → ⟦<Place<R> as RTreeObject>⟧.object.box_of a.now ≡ ⟦<Place<R> as RTreeObject>⟧.object.box_of b.now }
 {
     alike(a, b)
+}
+
+// Whether two elements are equal and have one envelope, which is not empty, where both have the number 7, and are told
+// apart where the other has the number 8.
+fn are_told_apart<R: EqualEnvelopes + Copy>(one: R, other: R) -> bool {
+    let a = Place::new(one, 7);
+    let mut b = Place::new(other, 7);
+    let envelope = a.envelope();
+    let equal = !envelope.is_empty()
+        && envelope == other.envelope()
+        && a.data == 7
+        && places_alike(&a, &b);
+    b.data = 8;
+    equal && !places_alike(&a, &b)
+}
+
+#[test]
+fn a_place_has_the_envelope_of_its_rectangle(rt: HostRuntime) {
+    let one: Rectangle<[i64; 2]> = Rectangle::from_corners([2, 0], [0, 4]);
+    assert!(rt; are_told_apart(one, Rectangle::from_corners([0, 0], [2, 4])));
 }
 
 #[test]
@@ -103,33 +123,6 @@ fn points_are_written_and_compared(rt: HostRuntime) {
     assert!(rt; same(&p, &[8, 9]) && !same(&p, &[8, 8]));
     assert!(rt; same_written(&mut p, &[8, 5], 1, 5));
     assert!(rt; points_alike(&p, &[8, 5]) && !points_alike(&p, &[5, 8]));
-    let a = Place::new(Rectangle::from_corners([2, 0], [0, 4]), 7);
-    let b = Place::new(Rectangle::from_corners([0, 0], [2, 4]), 7);
-    let c = Place::new(Rectangle::from_corners([0, 0], [2, 4]), 8);
-    assert!(rt; places_alike(&a, &b) && !places_alike(&a, &c));
-}
-
-// The places whose envelopes are not empty.
-fn with_envelope(alloc: Global, places: Vec<Place>) -> Result<Vec<Place>, AllocError> {
-    let mut kept = Vec::new(alloc);
-    for place in places {
-        if !place.envelope().is_empty() {
-            kept.push(place)?;
-        }
-    }
-    Ok(kept)
-}
-
-#[test]
-fn a_place_has_the_envelope_of_its_rectangle(rt: HostRuntime) -> Result<(), AllocError> {
-    let place = Place::new(Rectangle::from_corners([2, 0], [0, 4]), 7);
-    let places = vec![in rt.alloc(); place]?;
-    let kept = with_envelope(rt.alloc(), places)?;
-    assert_eq!(rt; kept.len(), 1);
-    let wanted: Rectangle<[i64; 2]> = Rectangle::from_corners([0, 0], [2, 4]);
-    assert!(rt; kept[0].envelope() == wanted.envelope());
-    assert_eq!(rt; kept[0].data, 7);
-    Ok(())
 }
 
 type Segment = Line<[i64; 2]>;

@@ -173,16 +173,19 @@ mod tests {
     // A stretch's ends, its distance and its min-max distance from 7, its center and its length.
     #[test]
     fn distances_and_measures(rt: HostRuntime) {
-        for (a, b, distance, min_max, center, length) in [
+        let rows: [(i64, i64, i64, i64, i64, i64); 3] = [
             (4, 1, 9, 9, 2, 3),
             (10, 12, 9, 9, 11, 2),
             (1, 12, 0, 25, 6, 11),
-        ] {
+        ];
+        for (a, b, distance, min_max, center, length) in rows {
             let stretch = Stretch::new(a, b, 0);
-            assert_eq!(rt; stretch.distance_2(&[7]), distance);
-            assert_eq!(rt; stretch.min_max_dist_2(&[7]), min_max);
-            assert_eq!(rt; stretch.center(), [center]);
-            assert_eq!(rt; stretch.area(), length);
+            assert!(rt;
+                stretch.distance_2(&[7]) == distance
+                    && stretch.min_max_dist_2(&[7]) == min_max
+                    && stretch.center() == [center]
+                    && stretch.area() == length
+            );
         }
     }
 
@@ -191,22 +194,27 @@ mod tests {
         let low = Stretch::new(4, 1, 7);
         let high = Stretch::new(10, 12, 3);
         let both = low.merged(&high);
-        assert_eq!(rt; both, Stretch::new(1, 12, 7));
-        assert_eq!(rt; both.level(), 7);
-        assert_ne!(rt; both, Stretch::new(1, 12, 3));
-        assert!(rt; both.contains_envelope(&high) && !low.intersects(&high));
-        assert_eq!(rt; low.intersection_area(&both), 3);
-        assert_eq!(rt; both.axis_key(0), 1);
+        assert!(rt;
+            both == Stretch::new(1, 12, 7)
+                && both.level() == 7
+                && both != Stretch::new(1, 12, 3)
+                && both.contains_envelope(&high)
+                && !low.intersects(&high)
+                && low.intersection_area(&both) == 3
+                && both.axis_key(0) == 1
+        );
     }
 
     #[test]
     fn the_empty_stretch_is_the_unit(rt: HostRuntime) {
         let empty = Stretch::new_empty();
-        assert!(rt; empty.is_empty());
         let mut all = copied_envelope(&empty);
         all.merge(&Stretch::new(i64::MIN, i64::MAX, 1));
-        assert_eq!(rt; all, Stretch::new(i64::MIN, i64::MAX, 1));
-        assert_eq!(rt; all.area(), i64::MAX);
-        assert_eq!(rt; empty.area(), 0);
+        assert!(rt;
+            empty.is_empty()
+                && empty.area() == 0
+                && all == Stretch::new(i64::MIN, i64::MAX, 1)
+                && all.area() == i64::MAX
+        );
     }
 }
