@@ -5,7 +5,7 @@ ghost use Rattle.rstar.specs.Boxes.{contains_box};
 ghost use Rattle.rstar.specs.Trees.{IsWholeTree};
 
 use rstar::primitives::{GeomWithData, Rectangle};
-use rstar::{AABB, DefaultParams, Envelope, InsertError, RTree, RTreeObject, RTreeParams};
+use rstar::{AABB, DefaultParams, Envelope, InsertError, Point, RTree, RTreeObject, RTreeParams};
 use std::alloc::{AllocError, Global};
 use std::marker::Model;
 
@@ -112,8 +112,9 @@ fn sum_of<R: RTreeObject>(
 }
 
 /// Whether a fence lies in a box, its edges included.
-pub fn lies_in(fence: &Fence, area: &AABB<[i64; 2]>) -> bool
-    ensures { result ≡ contains_box area.now (⟦<Fence as RTreeObject>⟧.object.box_of fence.now) }
+pub fn lies_in<P: Point>(fence: &GeomWithData<Rectangle<P>, u64>, area: &AABB<P>) -> bool
+    ensures { result
+        ≡ contains_box area.now (⟦<GeomWithData<Rectangle<P>, u64> as RTreeObject>⟧.object.box_of fence.now) }
 {
     area.contains_envelope(&fence.envelope())
 }
@@ -125,6 +126,27 @@ mod tests {
 
     /// A fence's number and two corners.
     type Row = (u64, [i64; 2], [i64; 2]);
+
+    /// Whether fences, added one after another, are so many and have this sum in a box.
+    fn add_up(
+        alloc: Global,
+        list: &[Row],
+        area: AABB<[i64; 2]>,
+        count: usize,
+        sum: u64,
+    ) -> Result<bool, AllocError> {
+        let mut fences = Fences::new(alloc);
+        for (number, one, other) in list {
+            if fences.add(*number, *one, *other).is_err() {
+                return Ok(false);
+            }
+        }
+        Ok(
+            fences.len() == list.len()
+                && fences.count_in(area)? == count
+                && fences.sum_in(area)? == sum,
+        )
+    }
 
     // Fences, the corners of a box, and the count and the sum of those in it. Equal rectangles with equal numbers
     // count twice, and corners come in any order.
@@ -144,14 +166,8 @@ mod tests {
             (&three, [9, 10], [3, 3], 2, 17),
         ];
         for (list, one, other, count, sum) in rows {
-            let mut fences = Fences::new(rt.alloc());
-            for (number, a, b) in list {
-                assert!(rt; fences.add(*number, *a, *b).is_ok());
-            }
-            assert_eq!(rt; fences.len(), list.len());
             let area = AABB::from_corners(one, other);
-            assert_eq!(rt; fences.count_in(area)?, count);
-            assert_eq!(rt; fences.sum_in(area)?, sum);
+            assert!(rt; add_up(rt.alloc(), list, area, count, sum)?);
         }
         Ok(())
     }

@@ -4,21 +4,23 @@
 
 ghost use Rattle.std.specs.Prelude.{◌≡◌, ◌≤◌, min, map, IfOk};
 ghost use Rattle.std.specs.List.Sorted.{IsPermutation};
-ghost use Rattle.rstar.specs.Boxes.{boxes_intersect};
 ghost use Rattle.rstar.specs.Joins.{meets_by, join, meet_by, pairs_to_come, IsJoining};
 ghost use Rattle.rstar.specs.Meets.{meet_of_roots};
 ghost use Rattle.rstar.specs.Trees.{root_of, elements_in, IsWholeTree};
 
-use crate::payloads::Plot;
-use crate::scenarios::{ALONG_A_LINE, inserted, loaded};
+use crate::loads::load_of;
+use crate::scenarios::{ALONG_A_LINE, inserted};
 use rstar::iterators::{InEnvelope, IntersectionIterator};
-use rstar::primitives::Rectangle;
-use rstar::{AABB, DefaultParams, Envelope, Point, RTree, RTreeObject, RTreeParams};
+use rstar::primitives::{GeomWithData, Rectangle};
+use rstar::{DefaultParams, Envelope, Point, RTree, RTreeObject, RTreeParams};
 use std::alloc::{AllocError, Global};
 use std::test::Fail;
 
 /// Two corners.
 type Corners = ([i32; 2], [i32; 2]);
+
+/// A rectangle with a number, at points of any type.
+type PlotAt<P> = GeomWithData<Rectangle<P>, u64>;
 
 /// Pairs of elements, and how many pairs of nodes were opened for them.
 pub type Paired<'a, T, U> = (Vec<(&'a T, &'a U)>, usize);
@@ -59,86 +61,97 @@ fn joined<'a, T: RTreeObject, U: InEnvelope<T::Envelope>>(
     Ok(joined)
 }
 
-/// The pairs of a plot and a point that meet.
-pub fn plots_joined<'a>(
+/// How many pairs a join gives, and how many pairs of nodes it opens; none where it is refused.
+fn count<T: RTreeObject, U: InEnvelope<T::Envelope>>(
     alloc: Global,
-    left: &'a RTree<Plot>,
-    right: &'a RTree<[i64; 2]>,
-) -> Result<Paired<'a, Plot, [i64; 2]>, AllocError>
-    requires left { IsWholeTree ⟦<AABB<[i64; 2]> as Envelope>⟧.boxes ⟦<Plot as RTreeObject>⟧.object
-        ⟦<DefaultParams as RTreeParams>⟧.MAX_SIZE left.now }
-    requires right { IsWholeTree ⟦<AABB<[i64; 2]> as Envelope>⟧.boxes ⟦<[i64; 2] as RTreeObject>⟧.object
-        ⟦<DefaultParams as RTreeParams>⟧.MAX_SIZE right.now }
-    ensures all { IfOk result (λ r. IsPermutation (map (λ p. (p.0.now, p.1.now)) r.0.items)
-        (join boxes_intersect ⟦<Plot as RTreeObject>⟧.object.box_of ⟦<[i64; 2] as RTreeObject>⟧.object.box_of
-        (elements_in left.now) (elements_in right.now))) }
-    ensures opened { IfOk result (λ r. r.1 ≡ min (meet_of_roots boxes_intersect
-        ⟦<Plot as RTreeObject>⟧.object.box_of ⟦<[i64; 2] as RTreeObject>⟧.object.box_of
-        (root_of left.now) (root_of right.now)) usize.MAX) }
+    left: &RTree<T>,
+    right: &RTree<U>,
+) -> Option<(usize, usize)>
+    requires left { IsWholeTree T.Envelope.boxes T.object ⟦<DefaultParams as RTreeParams>⟧.MAX_SIZE left.now }
+    requires right { IsWholeTree U.Envelope.boxes U.object ⟦<DefaultParams as RTreeParams>⟧.MAX_SIZE right.now }
 {
-    joined(alloc, left, right)
+    match joined(alloc, left, right) {
+        Ok((pairs, opened)) => Some((pairs.len(), opened)),
+        Err(_) => None,
+    }
 }
 
-/// How many pairs a join gives of two trees of elements, inserted in these orders, and how many pairs of nodes it opens;
-/// none where an element is refused.
-fn met<T: RTreeObject + Copy, U: InEnvelope<T::Envelope> + Copy>(
-    alloc: Global,
-    lefts: &[T],
-    rights: &[U],
-) -> Result<Option<(usize, usize)>, AllocError> {
-    let (Some(left), Some(right)) = (inserted(alloc, lefts), inserted(alloc, rights)) else {
-        return Ok(None);
-    };
-    let (pairs, opened) = joined(alloc, &left, &right)?;
-    Ok(Some((pairs.len(), opened)))
+/// Plots between these corners, numbered from 0 on.
+fn plots<P: Point + Copy>(alloc: Global, corners: &[(P, P)]) -> Result<Vec<PlotAt<P>>, AllocError> {
+    let mut all = Vec::new(alloc);
+    for (one, other) in corners {
+        let number = all.len() as u64;
+        all.push(GeomWithData::new(Rectangle::from_corners(*one, *other), number))?;
+    }
+    Ok(all)
+}
+
+/// A load of these elements; an empty tree where it is refused.
+fn filled<T: RTreeObject + Copy>(alloc: Global, elements: &[T]) -> RTree<T>
+    requires { 2 ≤ T.Envelope.Point.DIMENSIONS }
+    ensures { IsWholeTree T.Envelope.boxes T.object ⟦<DefaultParams as RTreeParams>⟧.MAX_SIZE result }
+{
+    match load_of(alloc, elements) {
+        Ok(tree) => tree,
+        Err(_) => RTree::new(alloc),
+    }
 }
 
 /// Whether a join of two trees of elements of one type counts so, and that of the second with the first.
-fn meet_alike<T: RTreeObject + Copy>(
+fn meet_alike<T: RTreeObject>(
     alloc: Global,
-    lefts: &[T],
-    rights: &[T],
+    left: &RTree<T>,
+    right: &RTree<T>,
     counts: (usize, usize),
-) -> Result<bool, AllocError> {
-    Ok(met(alloc, lefts, rights)? == Some(counts) && met(alloc, rights, lefts)? == Some(counts))
+) -> bool
+    requires left { IsWholeTree T.Envelope.boxes T.object ⟦<DefaultParams as RTreeParams>⟧.MAX_SIZE left.now }
+    requires right { IsWholeTree T.Envelope.boxes T.object ⟦<DefaultParams as RTreeParams>⟧.MAX_SIZE right.now }
+{
+    count(alloc, left, right) == Some(counts) && count(alloc, right, left) == Some(counts)
 }
 
 /// The same of elements of two types.
 fn meet_both_ways<
-    T: InEnvelope<<U as RTreeObject>::Envelope> + Copy,
-    U: InEnvelope<<T as RTreeObject>::Envelope> + Copy,
->(alloc: Global, lefts: &[T], rights: &[U], counts: (usize, usize)) -> Result<bool, AllocError> {
-    Ok(met(alloc, lefts, rights)? == Some(counts) && met(alloc, rights, lefts)? == Some(counts))
-}
-
-/// The rectangles with these corners.
-fn rectangles<P: Point + Copy>(
-    alloc: Global,
-    corners: &[(P, P)],
-) -> Result<Vec<Rectangle<P>>, AllocError> {
-    let mut all = Vec::new(alloc);
-    for (one, other) in corners {
-        all.push(Rectangle::from_corners(*one, *other))?;
-    }
-    Ok(all)
+    T: InEnvelope<<U as RTreeObject>::Envelope>,
+    U: InEnvelope<<T as RTreeObject>::Envelope>,
+>(alloc: Global, left: &RTree<T>, right: &RTree<U>, counts: (usize, usize)) -> bool
+    requires left { IsWholeTree T.Envelope.boxes T.object ⟦<DefaultParams as RTreeParams>⟧.MAX_SIZE left.now }
+    requires right { IsWholeTree U.Envelope.boxes U.object ⟦<DefaultParams as RTreeParams>⟧.MAX_SIZE right.now }
+{
+    count(alloc, left, right) == Some(counts) && count(alloc, right, left) == Some(counts)
 }
 
 /// Whether elements meet others so, those points so, and the points themselves so.
 fn meet<
     T: InEnvelope<<U as RTreeObject>::Envelope> + Copy,
     U: InEnvelope<<T as RTreeObject>::Envelope> + Copy,
->(
+>(alloc: Global, lefts: &[T], rights: &[T], points: &[U], counts: [(usize, usize); 3]) -> bool {
+    let [given, with_points, of_points] = counts;
+    let Some(left) = inserted(alloc, lefts) else {
+        return false;
+    };
+    let Some(right) = inserted(alloc, rights) else {
+        return false;
+    };
+    let Some(third) = inserted(alloc, points) else {
+        return false;
+    };
+    meet_alike(alloc, &left, &right, given)
+        && meet_both_ways(alloc, &left, &third, with_points)
+        && meet_alike(alloc, &third, &third, of_points)
+}
+
+/// The same of plots between these corners.
+fn plots_meet<P: Point + Copy>(
     alloc: Global,
-    lefts: &[T],
-    rights: &[T],
-    points: &[U],
+    lefts: &[(P, P)],
+    rights: &[(P, P)],
+    points: &[P],
     counts: [(usize, usize); 3],
 ) -> Result<bool, AllocError> {
-    let [given, with_points, of_points] = counts;
-    let first = meet_alike(alloc, lefts, rights, given)?;
-    let second = meet_both_ways(alloc, lefts, points, with_points)?;
-    let third = meet_alike(alloc, points, points, of_points)?;
-    Ok(first && second && third)
+    let lefts = plots(alloc, lefts)?;
+    let rights = plots(alloc, rights)?;
+    Ok(meet(alloc, &lefts, &rights, points, counts))
 }
 
 const SQUARE: Corners = ([0, 0], [2, 2]);
@@ -154,13 +167,13 @@ const DIAGONAL: [Corners; 7] = [
     ([103, 103], [104, 104]),
 ];
 
-// The rectangles of two trees, and the points of a third; the pairs given and the pairs of nodes opened of the
-// rectangles, those of the first tree with the points, and those of the points with the same: trees of one height, and
-// of two, and empty ones on either side.
+// The corners of the plots of two trees, and the points of a third; the pairs given and the pairs of nodes opened of the
+// plots, those of the first tree with the points, and those of the points with the same: trees of one height, and of two,
+// and empty ones on either side.
 #[test]
 fn pairs_that_intersect(rt: HostRuntime) -> Result<(), Fail> {
     let line = (7, 3);
-    let rows: [(&[Corners], &[Corners], &[[i32; 2]], [(usize, usize); 3]); 9] = [
+    let rows: [(&[Corners], &[Corners], &[[i32; 2]], [(usize, usize); 3]); 10] = [
         (
             &[SQUARE, SQUARE],
             &[([2, 2], [4, 4])],
@@ -190,79 +203,105 @@ fn pairs_that_intersect(rt: HostRuntime) -> Result<(), Fail> {
             &[[0, 0], [2, 2], [2, 2], [5, 5]],
             [(1, 1), (3, 1), (6, 1)],
         ),
+        (
+            &[SQUARE, ([2, 2], [4, 4])],
+            &[],
+            &[[0, 0], [2, 2], [2, 2], [5, 5]],
+            [(0, 0), (5, 1), (6, 1)],
+        ),
     ];
-    for (left, right, points, counts) in rows {
-        let lefts = rectangles(rt.alloc(), left)?;
-        let rights = rectangles(rt.alloc(), right)?;
-        assert!(rt; meet(rt.alloc(), &lefts, &rights, points, counts)?);
+    for (lefts, rights, points, counts) in rows {
+        assert!(rt; plots_meet(rt.alloc(), lefts, rights, points, counts)?);
     }
     Ok(())
 }
 
-/// The pairs of elements of two lists that meet, by a scan of all pairs.
-fn scanned<T: RTreeObject + Copy>(
-    alloc: Global,
-    lefts: &[T],
-    rights: &[T],
-) -> Result<Vec<(T, T)>, AllocError> {
-    let mut pairs = Vec::new(alloc);
+/// Whether pairs are those that a scan of two lists finds, in some order, and there are some.
+fn are_scanned<T: RTreeObject + PartialEq>(pairs: &[(&T, &T)], lefts: &[T], rights: &[T]) -> bool {
+    let mut wanted = 0usize;
     for left in lefts {
         for right in rights {
             if left.envelope().intersects(&right.envelope()) {
-                pairs.push((*left, *right))?;
+                if !(&*pairs).contains(&(left, right)) {
+                    return false;
+                }
+                wanted = wanted.saturating_add(1);
             }
         }
     }
-    Ok(pairs)
+    0 < wanted && pairs.len() == wanted
 }
 
-/// Whether a join gives these pairs, in some order, which differ where elements do.
-fn gives<T: RTreeObject + PartialEq>(
+/// Whether a join of two trees of these elements gives what a scan of the lists finds.
+fn gives_scanned<T: RTreeObject + PartialEq>(
     alloc: Global,
     left: &RTree<T>,
     right: &RTree<T>,
-    wanted: &[(T, T)],
-) -> Result<bool, AllocError>
+    lefts: &[T],
+    rights: &[T],
+) -> bool
     requires left { IsWholeTree T.Envelope.boxes T.object ⟦<DefaultParams as RTreeParams>⟧.MAX_SIZE left.now }
     requires right { IsWholeTree T.Envelope.boxes T.object ⟦<DefaultParams as RTreeParams>⟧.MAX_SIZE right.now }
 {
-    let (pairs, _opened) = joined(alloc, left, right)?;
-    for (one, other) in wanted {
-        if !pairs.contains(&(one, other)) {
-            return Ok(false);
-        }
+    match joined(alloc, left, right) {
+        Ok((pairs, _opened)) => are_scanned(&pairs, lefts, rights),
+        Err(_) => false,
     }
-    Ok(pairs.len() == wanted.len())
 }
 
-/// How many pairs a join of two loads gives; none where these are not what a scan of the lists finds.
+/// The same of the loads of two lists.
 fn met_as_scanned<T: RTreeObject + PartialEq + Copy>(
-    lefts: Vec<T>,
-    rights: Vec<T>,
-) -> Result<Option<usize>, AllocError>
+    alloc: Global,
+    lefts: &[T],
+    rights: &[T],
+) -> bool
     requires { 2 ≤ T.Envelope.Point.DIMENSIONS }
 {
-    let alloc = *lefts.allocator();
-    let wanted = scanned(alloc, &lefts, &rights)?;
-    let left = loaded(lefts)?;
-    let right = loaded(rights)?;
-    if gives(alloc, &left, &right, &wanted)? {
-        Ok(Some(wanted.len()))
-    } else {
-        Ok(None)
-    }
+    let left = filled(alloc, lefts);
+    let right = filled(alloc, rights);
+    gives_scanned(alloc, &left, &right, lefts, rights)
 }
 
-/// How many pairs a join of two loads gives, and one of the first with itself.
-fn met_by_loads<T: RTreeObject>(lefts: Vec<T>, rights: Vec<T>) -> Result<(usize, usize), AllocError>
+/// The same of plots between these corners, which differ by their numbers.
+fn plots_met_as_scanned<P: Point + Copy>(
+    alloc: Global,
+    lefts: &[(P, P)],
+    rights: &[(P, P)],
+) -> Result<bool, AllocError>
+    requires { 2 ≤ P.DIMENSIONS }
+{
+    let lefts = plots(alloc, lefts)?;
+    let rights = plots(alloc, rights)?;
+    Ok(met_as_scanned(alloc, &lefts, &rights))
+}
+
+/// Whether a join of two loads gives so many pairs, and one of the first with itself.
+fn met_by_loads<T: RTreeObject + Copy>(
+    alloc: Global,
+    lefts: &[T],
+    rights: &[T],
+    pairs: usize,
+    own: usize,
+) -> bool
     requires { 2 ≤ T.Envelope.Point.DIMENSIONS }
 {
-    let alloc = *lefts.allocator();
-    let left = loaded(lefts)?;
-    let right = loaded(rights)?;
-    let (pairs, _opened) = joined(alloc, &left, &right)?;
-    let (own, _opened) = joined(alloc, &left, &left)?;
-    Ok((pairs.len(), own.len()))
+    let left = filled(alloc, lefts);
+    let right = filled(alloc, rights);
+    matches!(count(alloc, &left, &right), Some((n, _)) if n == pairs)
+        && matches!(count(alloc, &left, &left), Some((n, _)) if n == own)
+}
+
+/// The same of points.
+fn points_met_by_loads<P: Point + Copy>(
+    alloc: Global,
+    lefts: &[P],
+    rights: &[P],
+    pairs: usize,
+    own: usize,
+) -> bool
+    requires { 2 ≤ P.DIMENSIONS }
+{
+    met_by_loads(alloc, lefts, rights, pairs, own)
 }
 
 /// The points `[i, 0]` for each number below a count.
@@ -277,11 +316,9 @@ fn on_a_line(alloc: Global, count: i32) -> Result<Vec<[i32; 2]>, AllocError> {
 #[test]
 fn loads_of_unequal_height(rt: HostRuntime) -> Result<(), Fail> {
     let line = on_a_line(rt.alloc(), 28)?;
-    let twice = Vec::from_array(rt.alloc(), [[5, 0], [5, 0]])?;
-    assert_eq!(rt; met_by_loads(line, twice)?, (2, 28));
-    let line = on_a_line(rt.alloc(), 28)?;
-    let twice = Vec::from_array(rt.alloc(), [[5, 0], [5, 0]])?;
-    assert_eq!(rt; met_by_loads(twice, line)?, (2, 4));
+    let twice = [[5, 0], [5, 0]];
+    assert!(rt; points_met_by_loads(rt.alloc(), &line, &twice, 2, 28));
+    assert!(rt; points_met_by_loads(rt.alloc(), &twice, &line, 2, 4));
     Ok(())
 }
 
@@ -305,21 +342,26 @@ fn points_meet_themselves_alone(rt: HostRuntime) -> Result<(), Fail> {
     for (count, is_odd, others) in [(1000, false, 2000), (2000, true, 1000)] {
         let all = apart(rt.alloc(), count, is_odd)?;
         let rest = apart(rt.alloc(), others, !is_odd)?;
-        assert_eq!(rt; met_by_loads(all, rest)?, (0, count));
+        assert!(rt; points_met_by_loads(rt.alloc(), &all, &rest, 0, count));
     }
     Ok(())
 }
 
-/// Plots with the numbers below a count, spread by two factors.
-fn spread(alloc: Global, count: u64, across: u64, along: u64) -> Result<Vec<Plot>, AllocError> {
-    let mut plots = Vec::new(alloc);
+/// So many pairs of corners, spread by two factors.
+fn spread(
+    alloc: Global,
+    count: u64,
+    across: u64,
+    along: u64,
+) -> Result<Vec<([i64; 2], [i64; 2])>, AllocError> {
+    let mut corners = Vec::new(alloc);
     for number in 0..count {
         let x = (number.wrapping_mul(across) % 101) as i64;
         let y = (number.wrapping_mul(along) % 103) as i64;
         let upper = [x + (number % 11) as i64, y + (number % 13) as i64];
-        plots.push(Plot::new(Rectangle::from_corners([x, y], upper), number))?;
+        corners.push(([x, y], upper))?;
     }
-    Ok(plots)
+    Ok(corners)
 }
 
 // rstar's `test_intersection_between_trees`: loads of 100 and of 42 rectangles; and some that split more.
@@ -328,20 +370,10 @@ fn joins_give_what_a_scan_gives(rt: HostRuntime) -> Result<(), Fail> {
     for (left, right) in [(100, 42), (42, 100), (3, 500), (300, 300)] {
         let lefts = spread(rt.alloc(), left, 37, 53)?;
         let rights = spread(rt.alloc(), right, 59, 31)?;
-        let met = met_as_scanned(lefts, rights)?;
-        assert!(rt; 0 < met.unwrap_or(0), "{left} {right}");
+        assert!(rt;
+            plots_met_as_scanned(rt.alloc(), &lefts, &rights)?,
+            "{left} {right}"
+        );
     }
-    Ok(())
-}
-
-// Plots and points: the pairs, and the pairs of nodes opened.
-#[test]
-fn plots_and_points_are_joined(rt: HostRuntime) -> Result<(), Fail> {
-    let points = [[0i64, 0], [2, 2], [2, 2], [5, 5]];
-    let plots = [
-        Plot::new(Rectangle::from_corners([0, 0], [2, 2]), 7),
-        Plot::new(Rectangle::from_corners([2, 2], [4, 4]), 8),
-    ];
-    assert_eq!(rt; met(rt.alloc(), &plots, &points)?, Some((5, 1)));
     Ok(())
 }

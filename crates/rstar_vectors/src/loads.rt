@@ -377,48 +377,79 @@ fn loaded_trees_take_insertions(rt: HostRuntime) -> Result<(), Fail> {
 
 // ---- clones and texts
 
-/// Whether a clone of a loaded tree shows what its source shows, and an element that goes into the clone does not go
-/// into the source.
-fn clones_alone<T: RTreeObject + Clone + Debug>(
-    elements: Vec<T>,
+/// Whether this text is what a value shows.
+fn shows<V: Debug>(alloc: Global, value: &V, text: &str) -> bool {
+    match format!(in alloc; "{value:?}") {
+        Ok(shown) => shown.as_str() == text,
+        Err(_) => false,
+    }
+}
+
+/// Whether a clone of a tree shows what the tree shows, and an element that goes into the clone does not go into the
+/// tree.
+fn clones_alone<T: RTreeObject + Copy + Debug>(
+    alloc: Global,
+    tree: &RTree<T>,
     element: T,
 ) -> Result<bool, AllocError>
-    requires dimensions { 2 ≤ T.Envelope.Point.DIMENSIONS }
+    requires whole { IsWholeTree T.Envelope.boxes T.object ⟦<DefaultParams as RTreeParams>⟧.MAX_SIZE tree.now }
     requires exact { ClonesEqual T.is_clone }
 {
-    let alloc = *elements.allocator();
-    let count = elements.len();
-    if element.envelope().is_empty() {
-        return Ok(false);
-    }
-    let tree: RTree<T> = loaded(elements)?;
+    let count = tree.size();
     let before = format!(in alloc; "{:?}", tree.root())?;
     let mut copy = tree.clone()?;
-    let same = format!(in alloc; "{:?}", copy.root())? == before && copy.size() == count;
-    let added = copy.insert(element).is_ok() && tree.size() == count && count < copy.size();
-    Ok(same && added && format!(in alloc; "{:?}", tree.root())? == before)
+    Ok(
+        copy.size() == count
+            && shows(alloc, copy.root(), &before)
+            && !element.envelope().is_empty()
+            && copy.insert(element).is_ok()
+            && tree.size() == count
+            && count < copy.size()
+            && shows(alloc, tree.root(), &before),
+    )
+}
+
+/// The same of a load of points.
+fn loads_cloned_alone<P: Point + Copy>(points: Vec<P>, more: P) -> Result<bool, AllocError>
+    requires dimensions { 2 ≤ P.DIMENSIONS }
+    requires exact { ClonesEqual P.is_clone }
+{
+    let alloc = *points.allocator();
+    let count = points.len();
+    let tree = loaded(points)?;
+    Ok(tree.size() == count && clones_alone(alloc, &tree, more)?)
 }
 
 #[test]
 fn clones_show_the_same(rt: HostRuntime) -> Result<(), Fail> {
     for count in [0, 1, 7, 25, 37, 300] {
         let flat = points(rt.alloc(), count)?;
-        assert!(rt; clones_alone(flat, [7, 7])?, "{count}");
+        assert!(rt; loads_cloned_alone(flat, [7, 7])?, "{count}");
     }
     Ok(())
 }
 
-/// Whether a tree of so many equal elements prints this.
+/// Whether a load of these elements prints this.
 fn prints<T: RTreeObject + Copy + Debug>(
     alloc: Global,
-    element: T,
-    count: usize,
+    elements: &[T],
     text: &str,
 ) -> Result<bool, AllocError>
     requires { 2 ≤ T.Envelope.Point.DIMENSIONS }
 {
-    let tree: RTree<T> = loaded(vec![in alloc; element; count]?)?;
-    Ok(format!(in alloc; "{tree:?}")?.as_str() == text)
+    let tree = load_of(alloc, elements)?;
+    Ok(shows(alloc, &tree, text))
+}
+
+/// The same of points.
+fn points_print<P: Point + Copy>(
+    alloc: Global,
+    points: &[P],
+    text: &str,
+) -> Result<bool, AllocError>
+    requires { 2 ≤ P.DIMENSIONS }
+{
+    prints(alloc, points, text)
 }
 
 #[test]
@@ -432,7 +463,8 @@ fn a_tree_prints_its_size_and_elements(rt: HostRuntime) -> Result<(), Fail> {
         ),
     ];
     for (count, text) in rows {
-        assert!(rt; prints(rt.alloc(), [0, 1], count, text)?, "{count}");
+        let same = vec![in rt.alloc(); [0, 1]; count]?;
+        assert!(rt; points_print(rt.alloc(), &same, text)?, "{count}");
     }
     Ok(())
 }
@@ -440,7 +472,10 @@ fn a_tree_prints_its_size_and_elements(rt: HostRuntime) -> Result<(), Fail> {
 // ---- refused growths
 
 /// A load of these elements.
-fn load_of<T: RTreeObject + Copy>(alloc: Global, elements: &[T]) -> Result<RTree<T>, AllocError>
+pub(crate) fn load_of<T: RTreeObject + Copy>(
+    alloc: Global,
+    elements: &[T],
+) -> Result<RTree<T>, AllocError>
     requires { 2 ≤ T.Envelope.Point.DIMENSIONS }
     ensures { IfOk result (IsWholeTree T.Envelope.boxes T.object ⟦<DefaultParams as RTreeParams>⟧.MAX_SIZE) }
 {

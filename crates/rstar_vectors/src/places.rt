@@ -1,8 +1,11 @@
 //! Calls in generic code with all that they promise, at points and at an element type of one's own.
 
 ghost use Rattle.std.specs.Prelude.{◌≡◌, ◌∷◌, ◌≤◌, List, [], false, map, filter, IfOk, MatchOption};
+ghost use Rattle.rstar.specs.Selections.{to_come, IsWalking};
 ghost use Rattle.rstar.specs.Trees.{IsWholeTree, elements_in};
 
+use rstar::algorithm::selection_functions::SelectionFunction;
+use rstar::iterators::SelectionIterator;
 use rstar::params::{DefaultParams, InsertError, RTreeParams};
 use rstar::rtree::RTree;
 use rstar_base::aabb::AABB;
@@ -10,6 +13,7 @@ use rstar_base::envelope::Envelope;
 use rstar_base::object::RTreeObject;
 use rstar_base::point::Point;
 use std::alloc::{AllocError, Global};
+use std::test::Fail;
 
 /// An element type of one's own.
 #[derive(Drop)]
@@ -62,18 +66,16 @@ fn listed<'a, T: RTreeObject>(alloc: Global, tree: &'a RTree<T>) -> Result<Vec<&
     tree.iter()?.collect(alloc)
 }
 
-/// The elements inside an envelope, by a `for`.
-fn inside<'a, T: RTreeObject>(
+/// What a walk gives, by a `for`.
+fn taken<'a, T: RTreeObject, Func: SelectionFunction<T>>(
     alloc: Global,
-    tree: &'a RTree<T>,
-    envelope: T::Envelope,
+    walk: SelectionIterator<'a, T, Func>,
 ) -> Result<Vec<&'a T>, AllocError>
-    requires { IsWholeTree T.Envelope.boxes T.object ⟦<DefaultParams as RTreeParams>⟧.MAX_SIZE tree.now }
-    ensures { IfOk result (λ v. map (λ r. r.now) v.items
-        ≡ filter (λ t. T.Envelope.boxes.contains envelope (T.object.box_of t)) (elements_in tree.now)) }
+    requires { IsWalking Func.accepts walk }
+    ensures { IfOk result (λ v. map (λ r. r.now) v.items ≡ to_come Func.accepts Func.selects walk.entry) }
 {
     let mut all = Vec::new(alloc);
-    for t in tree.locate_in_envelope(envelope)? {
+    for t in walk {
         all.push(t)?;
     }
     Ok(all)
@@ -93,6 +95,29 @@ fn first_inside<T: RTreeObject>(
     Ok(tree.locate_in_envelope(envelope)?.next())
 }
 
+/// Whether a tree gives two elements, and so many inside an envelope.
+fn gives_two<T: RTreeObject>(
+    alloc: Global,
+    tree: &RTree<T>,
+    area: T::Envelope,
+    near: usize,
+) -> Result<bool, AllocError>
+where
+    T::Envelope: Copy,
+    requires { IsWholeTree T.Envelope.boxes T.object ⟦<DefaultParams as RTreeParams>⟧.MAX_SIZE tree.now }
+{
+    let all = listed(alloc, tree)?.len();
+    let all_near = taken(alloc, tree.locate_in_envelope(area)?)?.len();
+    let has_first = first_inside(tree, area)?.is_some();
+    Ok(
+        all == 2
+            && all_near == near
+            && has_first == (near > 0)
+            && tree.size() == 2
+            && tree.root().children().len() == 2,
+    )
+}
+
 /// Whether a tree of two elements gives both, and so many inside an envelope.
 fn gives_both<T: RTreeObject>(
     alloc: Global,
@@ -100,38 +125,26 @@ fn gives_both<T: RTreeObject>(
     second: T,
     area: T::Envelope,
     near: usize,
-) -> bool
+) -> Result<bool, AllocError>
 where
     T::Envelope: Copy,
     requires { 2 ≤ T.Envelope.Point.DIMENSIONS }
 {
     if first.envelope().is_empty() || second.envelope().is_empty() {
-        return false;
+        return Ok(false);
     }
-    let Ok(tree) = pair(alloc, first, second) else {
-        return false;
-    };
-    let Ok(all) = listed(alloc, &tree) else {
-        return false;
-    };
-    let Ok(first_near) = first_inside(&tree, area) else {
-        return false;
-    };
-    let Ok(all_near) = inside(alloc, &tree, area) else {
-        return false;
-    };
-    tree.size() == 2
-        && tree.root().children().len() == 2
-        && all.len() == 2
-        && all_near.len() == near
-        && first_near.is_some() == (near > 0)
+    match pair(alloc, first, second) {
+        Ok(tree) => gives_two(alloc, &tree, area, near),
+        Err(_) => Ok(false),
+    }
 }
 
 #[test]
-fn two_elements(rt: HostRuntime) {
+fn two_elements(rt: HostRuntime) -> Result<(), Fail> {
     assert!(rt; matches!(two_points(rt.alloc()), Ok(2)));
     let area = AABB::from_corners([0, 0], [1, 2]);
-    assert!(rt; gives_both(rt.alloc(), [1i64, 2], [3, 4], area, 1));
+    assert!(rt; gives_both(rt.alloc(), [1i64, 2], [3, 4], area, 1)?);
     let (one, other) = (Place { at: [1, 2] }, Place { at: [1, 2] });
-    assert!(rt; gives_both(rt.alloc(), one, other, area, 2));
+    assert!(rt; gives_both(rt.alloc(), one, other, area, 2)?);
+    Ok(())
 }
