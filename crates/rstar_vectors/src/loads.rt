@@ -409,22 +409,36 @@ fn clones_alone<T: RTreeObject + Copy + Debug>(
     )
 }
 
-/// The same of a load of points.
-fn loads_cloned_alone<P: Point + Copy>(points: Vec<P>, more: P) -> Result<bool, AllocError>
+/// The same of a load of these elements.
+fn loads_cloned_alone<T: RTreeObject + Copy + Debug>(
+    alloc: Global,
+    elements: &[T],
+    more: T,
+) -> Result<bool, AllocError>
+    requires dimensions { 2 ≤ T.Envelope.Point.DIMENSIONS }
+    requires exact { ClonesEqual T.is_clone }
+{
+    let tree = load_of(alloc, elements)?;
+    Ok(tree.size() == elements.len() && clones_alone(alloc, &tree, more)?)
+}
+
+/// The same of points.
+fn points_cloned_alone<P: Point + Copy>(
+    alloc: Global,
+    points: &[P],
+    more: P,
+) -> Result<bool, AllocError>
     requires dimensions { 2 ≤ P.DIMENSIONS }
     requires exact { ClonesEqual P.is_clone }
 {
-    let alloc = *points.allocator();
-    let count = points.len();
-    let tree = loaded(points)?;
-    Ok(tree.size() == count && clones_alone(alloc, &tree, more)?)
+    loads_cloned_alone(alloc, points, more)
 }
 
 #[test]
 fn clones_show_the_same(rt: HostRuntime) -> Result<(), Fail> {
     for count in [0, 1, 7, 25, 37, 300] {
         let flat = points(rt.alloc(), count)?;
-        assert!(rt; loads_cloned_alone(flat, [7, 7])?, "{count}");
+        assert!(rt; points_cloned_alone(rt.alloc(), &flat, [7, 7])?, "{count}");
     }
     Ok(())
 }
