@@ -1,0 +1,10 @@
+use Rattle.std.proofs.Common.{◌∙◌, ap, min}
+use Rattle.rstar_base.specs.Counts.{usize_max}
+use Rattle.rstar_vectors.proofs.Callers.{reached}
+use Rattle.rstar_vectors.proofs.payloads.all_walked.Goals as goal
+
+pub returns-clause-all : goal.returns-clause-all
+returns-clause-all g c = c.walked.ensures.given ∙ c.in_ok-walk.ensures.all
+
+pub returns-clause-opened : goal.returns-clause-opened
+returns-clause-opened g c = c.walked.ensures.opened ∙ ap (λ n. min n usize_max) (reached c.in_ok-walk.ensures.made)
