@@ -1,15 +1,19 @@
 //! Visits that read: what each visit comes to first, its reference given by a break.
 
 ghost use Rattle.std.specs.Prelude.{filter};
+ghost use Rattle.rstar.specs.Boxes.{contains_box, boxes_intersect};
 ghost use Rattle.rstar.specs.Points.{table};
 ghost use Rattle.rstar.specs.Trees.{elements_in, IsWholeTree};
 ghost use Rattle.rstar.specs.Visits.{IsFirst};
 
+use crate::payloads::Plot;
 use rstar::algorithm::selection_functions::SelectAtPointFunction;
 use rstar::object::PointOf;
 use rstar::point::Point;
-use rstar::{DefaultParams, Envelope, PointDistance, RTree, RTreeObject, RTreeParams};
+use rstar::{AABB, DefaultParams, Envelope, PointDistance, RTree, RTreeObject, RTreeParams};
 use std::ops::ControlFlow;
+
+type At = [i64; 2];
 
 /// The first element in an envelope, by `locate_in_envelope_int`.
 fn first_inside<T: RTreeObject>(tree: &RTree<T>, envelope: T::Envelope) -> Option<&T>
@@ -58,18 +62,49 @@ fn first_selected<T: PointDistance>(tree: &RTree<T>, point: PointOf<T>) -> Optio
     found.break_value()
 }
 
+/// The first plot in a box, the first that it touches, and the first that contains a point.
+fn plots_come_upon(
+    tree: &RTree<Plot>,
+    area: AABB<At>,
+    point: At,
+) -> (Option<&Plot>, Option<&Plot>, Option<&Plot>)
+    requires { IsWholeTree ⟦<AABB<[i64; 2]> as Envelope>⟧.boxes ⟦<Plot as RTreeObject>⟧.object
+        ⟦<DefaultParams as RTreeParams>⟧.MAX_SIZE tree.now }
+    ensures inside { IsFirst (filter (λ t. contains_box area (⟦<Plot as RTreeObject>⟧.object.box_of t))
+        (elements_in tree.now)) result.0 }
+    ensures touching { IsFirst (filter (λ t. boxes_intersect area (⟦<Plot as RTreeObject>⟧.object.box_of t))
+        (elements_in tree.now)) result.1 }
+    ensures here { IsFirst (filter (λ t. ⟦<Plot as PointDistance>⟧.distances.contains_point t
+        (table 2 (⟦<[i64; 2] as Point>⟧.coord point))) (elements_in tree.now)) result.2 }
+{
+    (
+        first_inside(tree, area),
+        first_touched(tree, area),
+        first_here(tree, point),
+    )
+}
+
+/// The first point that a selection function selects.
+fn point_selected(tree: &RTree<At>, point: At) -> Option<&At>
+    requires { IsWholeTree ⟦<AABB<[i64; 2]> as Envelope>⟧.boxes ⟦<[i64; 2] as RTreeObject>⟧.object
+        ⟦<DefaultParams as RTreeParams>⟧.MAX_SIZE tree.now }
+    ensures { IsFirst (filter (λ t. ⟦<[i64; 2] as PointDistance>⟧.distances.contains_point t
+        (table 2 (⟦<[i64; 2] as Point>⟧.coord point))) (elements_in tree.now)) result }
+{
+    first_selected(tree, point)
+}
+
 #[cfg(test)]
 mod tests {
     use super::*;
     use crate::scenarios::inserted;
-    use rstar::AABB;
-    use rstar::primitives::{GeomWithData, Rectangle};
+    use rstar::primitives::Rectangle;
     use std::alloc::Global;
 
     /// Whether visits come upon an element of a tree as told: inside an envelope, touched by it, and at a point.
     fn comes_upon<T: PointDistance + Copy>(
         alloc: Global,
-        element: T,
+        elements: &[T],
         area: T::Envelope,
         point: PointOf<T>,
         told: (bool, bool, bool),
@@ -78,42 +113,31 @@ mod tests {
         T::Envelope: Copy,
         PointOf<T>: Copy,
     {
-        match inserted::<T, DefaultParams>(alloc, &[element]) {
-            Some(tree) => {
-                first_inside(&tree, area).is_some() == told.0
-                    && first_touched(&tree, area).is_some() == told.1
-                    && first_here(&tree, point).is_some() == told.2
-                    && first_selected(&tree, point).is_some() == told.2
-            }
-            None => false,
-        }
-    }
-
-    /// The same of a point, with the lower corner of a box, and of a plot, with the other corner.
-    fn both_come_upon<P: Point + Copy>(
-        alloc: Global,
-        point: P,
-        plot: GeomWithData<Rectangle<P>, u64>,
-        one: P,
-        other: P,
-        told: ((bool, bool, bool), (bool, bool, bool)),
-    ) -> bool {
-        comes_upon(alloc, point, AABB::from_corners(one, other), one, told.0)
-            && comes_upon(alloc, plot, AABB::from_corners(one, other), other, told.1)
+        let Some(tree) = inserted::<T, DefaultParams>(alloc, elements) else {
+            return false;
+        };
+        let (inside, touched, here) = told;
+        first_inside(&tree, area).is_some() == inside
+            && first_touched(&tree, area).is_some() == touched
+            && first_here(&tree, point).is_some() == here
+            && first_selected(&tree, point).is_some() == here
     }
 
     // Two corners of a box, whether it holds the one plot and the one point there are, and whether it touches the plot.
     #[test]
     fn a_visit_comes_upon_what_is_selected(rt: HostRuntime) {
-        let square = GeomWithData::new(Rectangle::from_corners([0i64, 0], [2, 2]), 7u64);
+        let square = Plot::new(Rectangle::from_corners([0i64, 0], [2, 2]), 7);
         for (one, other, point, plot, touched) in [
             ([0, 0], [2, 2], true, true, true),
             ([1, 1], [1, 1], true, false, true),
             ([2, 2], [3, 3], false, false, true),
             ([3, 3], [4, 4], false, false, false),
         ] {
-            let told = ((point, point, one[0] == 1), (plot, touched, other[0] <= 2));
-            assert!(rt; both_come_upon(rt.alloc(), [1, 1], square, one, other, told));
+            let area = AABB::from_corners(one, other);
+            let told = (point, point, one == [1, 1]);
+            assert!(rt; comes_upon(rt.alloc(), &[[1i64, 1]], area, one, told));
+            let told = (plot, touched, other[0] <= 2);
+            assert!(rt; comes_upon(rt.alloc(), &[square], area, other, told));
         }
     }
 }
