@@ -1,4 +1,4 @@
-//! Callers that loop over neighbours.
+//! Callers that loop over neighbours, at concrete types and at any.
 
 ghost use Rattle.std.specs.Prelude.{◌≡◌, ℕ, [], pos, min, map, IfOk, IfSome, IfNone, OnOk};
 ghost use Rattle.std.specs.List.Sorted.{IsPermutation};
@@ -14,10 +14,18 @@ use rstar::algorithm::nearest_neighbor::{
 };
 use rstar::params::{DefaultParams, RTreeParams};
 use rstar::rtree::RTree;
+use rstar_base::aabb::AABB;
 use rstar_base::envelope::Envelope;
-use rstar_base::object::{Distance, PointDistance, PointOf, RTreeObject};
+use rstar_base::object::{PointDistance, PointOf, RTreeObject};
 use rstar_base::point::{Point, RTreeNum};
+use rstar_base::primitives::{GeomWithData, Line, Rectangle};
 use std::alloc::{AllocError, Global};
+
+/// A place.
+type At = [i64; 2];
+
+/// A rectangle with a number.
+type Plot = GeomWithData<Rectangle<At>, u64>;
 
 /// All that an iterator has to give.
 fn all_of<'a, T: PointDistance>(
@@ -89,6 +97,22 @@ fn in_order<'a, T: PointDistance>(
     Ok((all, neighbors.opened()))
 }
 
+/// All lines, the nearest to a place first, and how many parents are opened for them.
+fn lines_in_order<'a>(
+    alloc: Global,
+    tree: &'a RTree<Line<At>>,
+    place: At,
+) -> Result<(Vec<&'a Line<At>>, usize), AllocError>
+    requires { IsWholeTree ⟦<AABB<[i64; 2]> as Envelope>⟧.boxes ⟦<Line<[i64; 2]> as RTreeObject>⟧.object
+        ⟦<DefaultParams as RTreeParams>⟧.MAX_SIZE tree.now }
+    ensures all { IfOk result (λ r. IsPermutation (elements_in tree.now) (map (λ t. t.now) r.0.items)) }
+    ensures order { IfOk result (λ r. AreInOrder (λ t. ⟦<Line<[i64; 2]> as PointDistance>⟧.distances.distance_2 t
+        (table 2 (⟦<[i64; 2] as Point>⟧.coord place))) (map (λ t. t.now) r.0.items)) }
+    ensures opened { IfOk result (λ r. r.1 ≡ min (parents_of (root_of tree.now)) usize.MAX) }
+{
+    in_order(alloc, tree, place)
+}
+
 /// The elements of a tree that are nearest to a place, the nearest first: so many, or all.
 fn first_at<'a, T: PointDistance>(
     alloc: Global,
@@ -106,28 +130,38 @@ fn first_at<'a, T: PointDistance>(
     first_of(alloc, &mut neighbors, most)
 }
 
-/// An element nearest to a place with its squared distance: by the function over a root.
-fn nearest_below<'a, T: PointDistance>(
-    tree: &'a RTree<T>,
-    place: PointOf<T>,
-) -> Result<Option<(&'a T, Distance<T>)>, AllocError>
-    requires { IsWholeTree T.Envelope.boxes T.object ⟦<DefaultParams as RTreeParams>⟧.MAX_SIZE tree.now }
-    ensures none { IfOk result (λ r. IfNone r (elements_in tree.now ≡ [])) }
-    ensures one { IfOk result (λ r. IfSome r (λ x. IsNearest (λ t. T.distances.distance_2 t
-        (table T.Envelope.Point.DIMENSIONS (T.Envelope.Point.coord place))) (elements_in tree.now) x.0.now)) }
+/// The plots nearest to a place, the nearest first: so many, or all.
+fn nearest_plots<'a>(
+    alloc: Global,
+    tree: &'a RTree<Plot>,
+    place: At,
+    most: usize,
+) -> Result<Vec<&'a Plot>, AllocError>
+    requires { IsWholeTree ⟦<AABB<[i64; 2]> as Envelope>⟧.boxes ⟦<Plot as RTreeObject>⟧.object
+        ⟦<DefaultParams as RTreeParams>⟧.MAX_SIZE tree.now }
+    ensures { IfOk result (λ ts. AreNearestOf
+        (λ t. ⟦<Plot as PointDistance>⟧.distances.distance_2 t (table 2 (⟦<[i64; 2] as Point>⟧.coord place)))
+        (elements_in tree.now) most (map (λ t. t.now) ts.items)) }
 {
-    nearest_neighbor_with_distance_2(tree.root(), place)
+    first_at(alloc, tree, place, most)
 }
 
-/// All elements nearest to a place with their squared distance: by the function over a root.
-fn all_nearest_below<'a, T: PointDistance>(
-    tree: &'a RTree<T>,
-    place: PointOf<T>,
-) -> Result<Option<(Vec<&'a T>, Distance<T>)>, AllocError>
-    requires { IsWholeTree T.Envelope.boxes T.object ⟦<DefaultParams as RTreeParams>⟧.MAX_SIZE tree.now }
-    ensures { IfOk result (λ r. IfSome r (λ x. (d : ℕ) × (T.Envelope.Point.Scalar.value x.1 ≡ pos d) × AreNearest
-        (λ t. T.distances.distance_2 t (table T.Envelope.Point.DIMENSIONS (T.Envelope.Point.coord place)))
+/// A point nearest to a place with its squared distance, and all those: by the functions over a root.
+fn nearest_below<'a>(
+    tree: &'a RTree<At>,
+    place: At,
+) -> Result<(Option<(&'a At, i64)>, Option<(Vec<&'a At>, i64)>), AllocError>
+    requires { IsWholeTree ⟦<AABB<[i64; 2]> as Envelope>⟧.boxes ⟦<[i64; 2] as RTreeObject>⟧.object
+        ⟦<DefaultParams as RTreeParams>⟧.MAX_SIZE tree.now }
+    ensures none { IfOk result (λ r. IfNone r.0 (elements_in tree.now ≡ [])) }
+    ensures one { IfOk result (λ r. IfSome r.0 (λ x. IsNearest
+        (λ t. ⟦<[i64; 2] as PointDistance>⟧.distances.distance_2 t (table 2 (⟦<[i64; 2] as Point>⟧.coord place)))
+        (elements_in tree.now) x.0.now)) }
+    ensures all { IfOk result (λ r. IfSome r.1 (λ x. (d : ℕ) × (x.1 ≡ pos d) × AreNearest
+        (λ t. ⟦<[i64; 2] as PointDistance>⟧.distances.distance_2 t (table 2 (⟦<[i64; 2] as Point>⟧.coord place)))
         (elements_in tree.now) d (map (λ t. t.now) x.0.items))) }
 {
-    nearest_neighbors_with_distance_2(tree.root(), place)
+    let one = nearest_neighbor_with_distance_2(tree.root(), place)?;
+    let all = nearest_neighbors_with_distance_2(tree.root(), place)?;
+    Ok((one, all))
 }

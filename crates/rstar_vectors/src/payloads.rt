@@ -1,7 +1,8 @@
-//! Every selection, look-up and payload reference by a caller.
+//! Every selection, look-up and payload reference by a caller: at points, at rectangles with a number, or at any type.
 
 ghost use Rattle.std.specs.Prelude.{◌≡◌, min, map, filter, true, pos, int_le, IfOk, IsTrue, not};
 ghost use Rattle.std.specs.List.{list_any};
+ghost use Rattle.rstar.specs.Boxes.{contains_box, boxes_intersect, box_contains_point};
 ghost use Rattle.rstar.specs.Nodes.{reach_of};
 ghost use Rattle.rstar.specs.Points.{table};
 ghost use Rattle.rstar.specs.Selections.{to_come, reach_by, IsWalking};
@@ -11,10 +12,10 @@ ghost use Rattle.rstar_vectors.specs.Callers.{IsRenumbered};
 
 use rstar::algorithm::selection_functions::{SelectEqualsFunction, SelectionFunction};
 use rstar::iterators::SelectionIterator;
-use rstar::object::{Distance, EqualEnvelopes, PointOf};
-use rstar::point::{Point, RTreeNum};
+use rstar::object::PointOf;
+use rstar::point::Point;
 use rstar::primitives::{GeomWithData, Rectangle};
-use rstar::{DefaultParams, Envelope, PointDistance, RTree, RTreeObject, RTreeParams};
+use rstar::{AABB, DefaultParams, Envelope, PointDistance, RTree, RTreeObject, RTreeParams};
 use std::alloc::{AllocError, Global};
 
 /// A rectangle with a number.
@@ -39,102 +40,74 @@ pub fn walked<'a, T: RTreeObject, Func: SelectionFunction<T>>(
     Ok((all, walk.opened()))
 }
 
-/// All elements, by `iter`.
-pub fn all_walked<'a, T: RTreeObject>(
+/// All points, those in a box, and those within 10 of a point: by `iter`, `locate_in_envelope` and
+/// `locate_within_distance`.
+pub fn points_found<'a>(
     alloc: Global,
-    tree: &'a RTree<T>,
-) -> Result<Walked<'a, T>, AllocError>
-    requires { IsWholeTree T.Envelope.boxes T.object ⟦<DefaultParams as RTreeParams>⟧.MAX_SIZE tree.now }
-    ensures all { IfOk result (λ r. map (λ t. t.now) r.0.items ≡ elements_in tree.now) }
-    ensures opened { IfOk result (λ r. r.1 ≡ min (reach_of (λ e. true) (root_of tree.now)) usize.MAX) }
+    tree: &'a RTree<[i64; 2]>,
+    area: AABB<[i64; 2]>,
+    point: [i64; 2],
+) -> Result<
+    (
+        Walked<'a, [i64; 2]>,
+        Walked<'a, [i64; 2]>,
+        Walked<'a, [i64; 2]>,
+    ),
+    AllocError,
+>
+    requires { IsWholeTree ⟦<AABB<[i64; 2]> as Envelope>⟧.boxes ⟦<[i64; 2] as RTreeObject>⟧.object
+        ⟦<DefaultParams as RTreeParams>⟧.MAX_SIZE tree.now }
+    ensures all { IfOk result (λ r. map (λ t. t.now) r.0.0.items ≡ elements_in tree.now) }
+    ensures inside { IfOk result (λ r. map (λ t. t.now) r.1.0.items ≡ filter
+        (λ t. contains_box area (⟦<[i64; 2] as RTreeObject>⟧.object.box_of t)) (elements_in tree.now)) }
+    ensures near { IfOk result (λ r. map (λ t. t.now) r.2.0.items ≡ filter
+        (λ t. int_le (pos (⟦<[i64; 2] as PointDistance>⟧.distances.distance_2 t
+        (table 2 (⟦<[i64; 2] as Point>⟧.coord point)))) (pos 100)) (elements_in tree.now)) }
+    ensures opened_all { IfOk result (λ r. r.0.1 ≡ min (reach_of (λ e. true) (root_of tree.now)) usize.MAX) }
+    ensures opened_inside { IfOk result (λ r. r.1.1
+        ≡ min (reach_of (λ e. boxes_intersect area e) (root_of tree.now)) usize.MAX) }
+    ensures opened_near { IfOk result (λ r. r.2.1 ≡ min (reach_of (λ e. int_le
+        (pos (⟦<AABB<[i64; 2]> as Envelope>⟧.boxes.distance_2 e
+        (table 2 (⟦<[i64; 2] as Point>⟧.coord point)))) (pos 100))
+        (root_of tree.now)) usize.MAX) }
 {
-    let walk = tree.iter()?;
-    walked(alloc, walk)
+    let all = walked(alloc, tree.iter()?)?;
+    let inside = walked(alloc, tree.locate_in_envelope(area)?)?;
+    let near = walked(alloc, tree.locate_within_distance(point, 100)?)?;
+    Ok((all, inside, near))
 }
 
-/// The elements that an envelope contains, by `locate_in_envelope`.
-pub fn inside_walked<'a, T: RTreeObject>(
+/// The plots that a box touches, those that contain a point, and those that equal one: by
+/// `locate_in_envelope_intersecting`, `locate_all_at_point`, and `locate_with_selection_function` with a
+/// `SelectEqualsFunction`.
+pub fn plots_met<'a>(
     alloc: Global,
-    tree: &'a RTree<T>,
-    area: T::Envelope,
-) -> Result<Walked<'a, T>, AllocError>
-    requires { IsWholeTree T.Envelope.boxes T.object ⟦<DefaultParams as RTreeParams>⟧.MAX_SIZE tree.now }
-    ensures inside { IfOk result (λ r. map (λ t. t.now) r.0.items ≡ filter
-        (λ t. T.Envelope.boxes.contains area (T.object.box_of t)) (elements_in tree.now)) }
-    ensures opened { IfOk result (λ r. r.1
-        ≡ min (reach_of (λ e. T.Envelope.boxes.intersects area e) (root_of tree.now)) usize.MAX) }
-{
-    let walk = tree.locate_in_envelope(area)?;
-    walked(alloc, walk)
-}
-
-/// The elements that an envelope touches, by `locate_in_envelope_intersecting`.
-pub fn touching_walked<'a, T: RTreeObject>(
-    alloc: Global,
-    tree: &'a RTree<T>,
-    area: T::Envelope,
-) -> Result<Walked<'a, T>, AllocError>
-    requires { IsWholeTree T.Envelope.boxes T.object ⟦<DefaultParams as RTreeParams>⟧.MAX_SIZE tree.now }
-    ensures touching { IfOk result (λ r. map (λ t. t.now) r.0.items ≡ filter
-        (λ t. T.Envelope.boxes.intersects area (T.object.box_of t)) (elements_in tree.now)) }
-    ensures opened { IfOk result (λ r. r.1
-        ≡ min (reach_of (λ e. T.Envelope.boxes.intersects area e) (root_of tree.now)) usize.MAX) }
-{
-    let walk = tree.locate_in_envelope_intersecting(area)?;
-    walked(alloc, walk)
-}
-
-/// The elements that contain a point, by `locate_all_at_point`.
-pub fn here_walked<'a, T: PointDistance>(
-    alloc: Global,
-    tree: &'a RTree<T>,
-    point: PointOf<T>,
-) -> Result<Walked<'a, T>, AllocError>
-    requires { IsWholeTree T.Envelope.boxes T.object ⟦<DefaultParams as RTreeParams>⟧.MAX_SIZE tree.now }
-    ensures here { IfOk result (λ r. map (λ t. t.now) r.0.items ≡ filter
-        (λ t. T.distances.contains_point t (table T.Envelope.Point.DIMENSIONS (T.Envelope.Point.coord point)))
+    tree: &'a RTree<Plot>,
+    area: AABB<[i64; 2]>,
+    point: [i64; 2],
+    wanted: &Plot,
+) -> Result<(Walked<'a, Plot>, Walked<'a, Plot>, Walked<'a, Plot>), AllocError>
+    requires { IsWholeTree ⟦<AABB<[i64; 2]> as Envelope>⟧.boxes ⟦<Plot as RTreeObject>⟧.object
+        ⟦<DefaultParams as RTreeParams>⟧.MAX_SIZE tree.now }
+    ensures touching { IfOk result (λ r. map (λ t. t.now) r.0.0.items ≡ filter
+        (λ t. boxes_intersect area (⟦<Plot as RTreeObject>⟧.object.box_of t)) (elements_in tree.now)) }
+    ensures here { IfOk result (λ r. map (λ t. t.now) r.1.0.items ≡ filter
+        (λ t. ⟦<Plot as PointDistance>⟧.distances.contains_point t (table 2 (⟦<[i64; 2] as Point>⟧.coord point)))
         (elements_in tree.now)) }
-    ensures opened { IfOk result (λ r. r.1 ≡ min (reach_of (λ e. T.Envelope.boxes.contains_point e
-        (table T.Envelope.Point.DIMENSIONS (T.Envelope.Point.coord point))) (root_of tree.now)) usize.MAX) }
+    ensures equal { IfOk result (λ r. map (λ t. t.now) r.2.0.items ≡ filter
+        (λ t. ⟦<Plot as PartialEq>⟧.eq t wanted.now) (elements_in tree.now)) }
+    ensures opened_touching { IfOk result (λ r. r.0.1
+        ≡ min (reach_of (λ e. boxes_intersect area e) (root_of tree.now)) usize.MAX) }
+    ensures opened_here { IfOk result (λ r. r.1.1 ≡ min (reach_of
+        (λ e. box_contains_point e (table 2 (⟦<[i64; 2] as Point>⟧.coord point))) (root_of tree.now)) usize.MAX) }
+    ensures opened_equal { IfOk result (λ r. r.2.1 ≡ min (reach_of
+        (λ e. contains_box e (⟦<Plot as RTreeObject>⟧.object.box_of wanted.now)) (root_of tree.now)) usize.MAX) }
 {
-    let walk = tree.locate_all_at_point(point)?;
-    walked(alloc, walk)
-}
-
-/// The elements within a squared distance of a point, by `locate_within_distance`.
-pub fn near_walked<'a, T: PointDistance>(
-    alloc: Global,
-    tree: &'a RTree<T>,
-    point: PointOf<T>,
-    limit: Distance<T>,
-) -> Result<Walked<'a, T>, AllocError>
-    requires { IsWholeTree T.Envelope.boxes T.object ⟦<DefaultParams as RTreeParams>⟧.MAX_SIZE tree.now }
-    ensures near { IfOk result (λ r. map (λ t. t.now) r.0.items ≡ filter
-        (λ t. int_le (pos (T.distances.distance_2 t (table T.Envelope.Point.DIMENSIONS
-        (T.Envelope.Point.coord point)))) (T.Envelope.Point.Scalar.value limit)) (elements_in tree.now)) }
-    ensures opened { IfOk result (λ r. r.1 ≡ min (reach_of (λ e. int_le
-        (pos (T.Envelope.boxes.distance_2 e (table T.Envelope.Point.DIMENSIONS (T.Envelope.Point.coord point))))
-        (T.Envelope.Point.Scalar.value limit)) (root_of tree.now)) usize.MAX) }
-{
-    let walk = tree.locate_within_distance(point, limit)?;
-    walked(alloc, walk)
-}
-
-/// The elements that equal one, by `locate_with_selection_function` with a `SelectEqualsFunction`.
-pub fn equal_walked<'a, T: EqualEnvelopes>(
-    alloc: Global,
-    tree: &'a RTree<T>,
-    wanted: &T,
-) -> Result<Walked<'a, T>, AllocError>
-    requires { IsWholeTree T.Envelope.boxes T.object ⟦<DefaultParams as RTreeParams>⟧.MAX_SIZE tree.now }
-    ensures equal { IfOk result (λ r. map (λ t. t.now) r.0.items ≡ filter
-        (λ t. T.eq t wanted.now) (elements_in tree.now)) }
-    ensures opened { IfOk result (λ r. r.1 ≡ min (reach_of
-        (λ e. T.Envelope.boxes.contains e (T.object.box_of wanted.now)) (root_of tree.now)) usize.MAX) }
-{
+    let touching = walked(alloc, tree.locate_in_envelope_intersecting(area)?)?;
+    let here = walked(alloc, tree.locate_all_at_point(point)?)?;
     let func = SelectEqualsFunction::new(wanted);
-    let walk = tree.locate_with_selection_function(func)?;
-    walked(alloc, walk)
+    let equal = walked(alloc, tree.locate_with_selection_function(func)?)?;
+    Ok((touching, here, equal))
 }
 
 /// An element that contains a point, by `locate_at_point`, and one that contains another, by `locate_at_point_int`.
@@ -150,6 +123,18 @@ pub fn either_at<T: PointDistance>(
         (table T.Envelope.Point.DIMENSIONS (T.Envelope.Point.coord other))) (elements_in tree.now)) result.1 }
 {
     (tree.locate_at_point(one), tree.locate_at_point_int(other))
+}
+
+/// The same of plots, at one point.
+pub fn plots_at(tree: &RTree<Plot>, point: [i64; 2]) -> (Option<&Plot>, Option<&Plot>)
+    requires { IsWholeTree ⟦<AABB<[i64; 2]> as Envelope>⟧.boxes ⟦<Plot as RTreeObject>⟧.object
+        ⟦<DefaultParams as RTreeParams>⟧.MAX_SIZE tree.now }
+    ensures one { IsOneOf (filter (λ t. ⟦<Plot as PointDistance>⟧.distances.contains_point t
+        (table 2 (⟦<[i64; 2] as Point>⟧.coord point))) (elements_in tree.now)) result.0 }
+    ensures other { IsOneOf (filter (λ t. ⟦<Plot as PointDistance>⟧.distances.contains_point t
+        (table 2 (⟦<[i64; 2] as Point>⟧.coord point))) (elements_in tree.now)) result.1 }
+{
+    either_at(tree, point, point)
 }
 
 /// Writes a number into an element that contains a point, and whether there is one.
@@ -204,6 +189,21 @@ pub fn renumber_int<R: PointDistance>(
     }
 }
 
+/// Writes a number into a plot that contains a point, and whether there is one.
+pub fn renumber_plot(tree: &mut RTree<Plot>, point: [i64; 2], number: u64) -> bool
+    requires { IsWholeTree ⟦<AABB<[i64; 2]> as Envelope>⟧.boxes ⟦<Plot as RTreeObject>⟧.object
+        ⟦<DefaultParams as RTreeParams>⟧.MAX_SIZE tree.old }
+    ensures found { result ≡ list_any (λ t. ⟦<Plot as PointDistance>⟧.distances.contains_point t
+        (table 2 (⟦<[i64; 2] as Point>⟧.coord point))) (elements_in tree.old) }
+    ensures written { IsTrue result → IsRenumbered (λ t. ⟦<Plot as PointDistance>⟧.distances.contains_point t
+        (table 2 (⟦<[i64; 2] as Point>⟧.coord point))) number tree.old tree.new }
+    ensures unchanged { IsTrue (not result) → tree.new ≡ tree.old }
+    ensures whole { IsWholeTree ⟦<AABB<[i64; 2]> as Envelope>⟧.boxes ⟦<Plot as RTreeObject>⟧.object
+        ⟦<DefaultParams as RTreeParams>⟧.MAX_SIZE tree.new }
+{
+    renumber(tree, point, number)
+}
+
 #[cfg(test)]
 mod tests {
     use super::*;
@@ -224,6 +224,44 @@ mod tests {
         match either_at(tree, point, point) {
             (Some(one), Some(other)) => one.data == number && other.data == number,
             _ => false,
+        }
+    }
+
+    /// Whether the one element of a tree, which carries 7, carries what is written at a point, where it contains that
+    /// point, and else what it carried; it is read at another point.
+    fn writes_inside<R: PointDistance + Copy>(
+        alloc: Global,
+        elements: &[GeomWithData<R, u64>],
+        point: PointOf<R>,
+        other: PointOf<R>,
+        is_inside: bool,
+    ) -> bool
+    where
+        PointOf<R>: Copy,
+    {
+        let Some(mut tree) = inserted::<GeomWithData<R, u64>, DefaultParams>(alloc, elements) else {
+            return false;
+        };
+        if !carries(&tree, other, 7)
+            || renumber(&mut tree, point, 9) != is_inside
+            || !carries(&tree, other, if is_inside { 9 } else { 7 })
+        {
+            return false;
+        }
+        renumber_int(&mut tree, point, 10) == is_inside
+            && carries(&tree, other, if is_inside { 10 } else { 7 })
+    }
+
+    // A plot that holds 7, written at points inside it, its border included, and not at one outside.
+    #[test]
+    fn a_number_is_written_where_a_plot_contains_the_point(rt: HostRuntime) {
+        let plot = Plot::new(Rectangle::from_corners([0, 0], [2, 2]), 7);
+        for (point, other, is_inside) in [
+            ([1, 1], [1, 1], true),
+            ([3, 3], [1, 1], false),
+            ([2, 2], [0, 0], true),
+        ] {
+            assert!(rt; writes_inside(rt.alloc(), &[plot], point, other, is_inside));
         }
     }
 
@@ -265,84 +303,38 @@ mod tests {
         count
     }
 
-    /// Whether a write at a point changes one number of all where an element contains the point, and else none, which is
-    /// read at another point, where the number was this, and is so by the second look-up too.
-    fn writes_inside<R: PointDistance + Copy>(
+    /// Whether a write at a point changes one number of all, which is read at another point.
+    fn changes_one<R: PointDistance + Copy>(
         alloc: Global,
         elements: &[GeomWithData<R, u64>],
         point: PointOf<R>,
         other: PointOf<R>,
-        told: (u64, bool),
     ) -> bool
     where
         PointOf<R>: Copy,
     {
-        let (old, is_inside) = told;
-        match inserted::<GeomWithData<R, u64>, DefaultParams>(alloc, elements) {
-            Some(mut tree) => {
-                carries(&tree, other, old)
-                    && changes(alloc, &mut tree, point, (elements.len(), is_inside))
-                    && carries(&tree, other, if is_inside { 1000 } else { old })
-                    && renumber_int(&mut tree, point, 1001) == is_inside
-                    && carries(&tree, other, if is_inside { 1001 } else { old })
-            }
-            None => false,
+        let Some(mut tree) = inserted::<GeomWithData<R, u64>, DefaultParams>(alloc, elements) else {
+            return false;
+        };
+        let Ok(before) = numbers(alloc, &tree) else {
+            return false;
+        };
+        if !renumber(&mut tree, point, 1000) {
+            return false;
         }
-    }
-
-    /// Whether a tree has so many numbers, of which a write at a point changes one or none.
-    fn changes<R: PointDistance>(
-        alloc: Global,
-        tree: &mut RTree<GeomWithData<R, u64>>,
-        point: PointOf<R>,
-        told: (usize, bool),
-    ) -> bool
-        requires whole { IsWholeTree R.Envelope.boxes ⟦<GeomWithData<R, u64> as RTreeObject>⟧.object
-            ⟦<DefaultParams as RTreeParams>⟧.MAX_SIZE tree.old }
-        ensures whole { IsWholeTree R.Envelope.boxes ⟦<GeomWithData<R, u64> as RTreeObject>⟧.object
-            ⟦<DefaultParams as RTreeParams>⟧.MAX_SIZE tree.new }
-    {
-        let before = numbers(alloc, tree);
-        let is_inside = renumber(tree, point, 1000);
-        match (before, numbers(alloc, tree)) {
-            (Ok(before), Ok(after)) => {
-                is_inside == told.1
-                    && before.len() == told.0
-                    && after.len() == told.0
-                    && differing(&before, &after) == usize::from(is_inside)
-            }
-            _ => false,
-        }
-    }
-
-    /// The same of plots.
-    fn plots_are_written<P: Point + Copy>(
-        alloc: Global,
-        plots: &[GeomWithData<Rectangle<P>, u64>],
-        point: P,
-        other: P,
-        told: (u64, bool),
-    ) -> bool {
-        writes_inside(alloc, plots, point, other, told)
-    }
-
-    // A plot that holds 7, written at points inside it, its border included, and not at one outside.
-    #[test]
-    fn a_number_is_written_where_a_plot_contains_the_point(rt: HostRuntime) {
-        let plot = Plot::new(Rectangle::from_corners([0, 0], [2, 2]), 7);
-        for (point, other, is_inside) in [
-            ([1, 1], [1, 1], true),
-            ([3, 3], [1, 1], false),
-            ([2, 2], [0, 0], true),
-        ] {
-            assert!(rt; plots_are_written(rt.alloc(), &[plot], point, other, (7, is_inside)));
-        }
+        let Ok(after) = numbers(alloc, &tree) else {
+            return false;
+        };
+        before.len() == elements.len()
+            && after.len() == elements.len()
+            && differing(before.as_slice(), after.as_slice()) == 1
+            && carries(&tree, other, 1000)
     }
 
     #[test]
     fn one_number_of_a_hundred_changes(rt: HostRuntime) -> Result<(), Fail> {
         let plots = squares(rt.alloc())?;
-        assert!(rt; plots_are_written(rt.alloc(), &plots, [57, 31], [50, 39], (35, true)));
+        assert!(rt; changes_one(rt.alloc(), &plots, [57, 31], [50, 39]));
         Ok(())
     }
 }
