@@ -24,43 +24,11 @@ use std::test::Fail;
 
 type At = [i32; 2];
 
-/// Whether an iterator gives neighbours at these squared distances, and then none.
+/// Whether an iterator opens no parent before it is asked, gives neighbours at these squared distances with so many
+/// parents opened after each, as far as these numbers go, and then none.
 fn gives<T: PointDistance>(
     neighbors: &mut NearestNeighborDistance2Iterator<'_, T>,
     distances: &[Distance<T>],
-) -> bool
-    requires { IsSearching T.Envelope.boxes T.object T.distances T.Envelope.Point.DIMENSIONS
-        T.Envelope.Point.coord T.Envelope.Point.Scalar.cmp T.Envelope.Point.Scalar.value neighbors.old }
-{
-    for distance in distances {
-        match neighbors.next() {
-            Some(Ok((_, found))) => if found != *distance {
-                return false;
-            },
-            _ => return false,
-        }
-    }
-    neighbors.next().is_none()
-}
-
-/// How many parents an iterator has opened once it gave the next neighbour; none where it gives none.
-fn opened_at_next<T: PointDistance>(
-    neighbors: &mut NearestNeighborDistance2Iterator<'_, T>,
-) -> Option<usize>
-    requires { IsSearching T.Envelope.boxes T.object T.distances T.Envelope.Point.DIMENSIONS
-        T.Envelope.Point.coord T.Envelope.Point.Scalar.cmp T.Envelope.Point.Scalar.value neighbors.old }
-    ensures { IfSome result (λ _. IsSearching T.Envelope.boxes T.object T.distances T.Envelope.Point.DIMENSIONS
-        T.Envelope.Point.coord T.Envelope.Point.Scalar.cmp T.Envelope.Point.Scalar.value neighbors.new) }
-{
-    match neighbors.next() {
-        Some(_) => Some(neighbors.opened()),
-        None => None,
-    }
-}
-
-/// Whether an iterator has opened no parent, and so many after each neighbour that it gives.
-fn opens<T: PointDistance>(
-    neighbors: &mut NearestNeighborDistance2Iterator<'_, T>,
     opened: &[usize],
 ) -> bool
     requires { IsSearching T.Envelope.boxes T.object T.distances T.Envelope.Point.DIMENSIONS
@@ -69,15 +37,19 @@ fn opens<T: PointDistance>(
     if neighbors.opened() != 0 {
         return false;
     }
-    for count in opened {
-        match opened_at_next(neighbors) {
-            Some(found) => if found != *count {
+    for k in 0..distances.len().saturating_add(1) {
+        match neighbors.next() {
+            Some(Ok((_, found))) => if k == distances.len()
+                || found != distances[k]
+                || (k < opened.len() && neighbors.opened() != opened[k])
+            {
                 return false;
             },
-            None => return false,
+            Some(Err(_)) => return false,
+            None => return k == distances.len(),
         }
     }
-    true
+    false
 }
 
 /// Whether an iterator without distances gives elements at these squared distances from a place, and then none.
@@ -90,15 +62,18 @@ fn gives_elements<T: PointDistance>(
         T.Envelope.Point.coord T.Envelope.Point.Scalar.cmp T.Envelope.Point.Scalar.value
         (with_distances neighbors.old) }
 {
-    for distance in distances {
+    for k in 0..distances.len().saturating_add(1) {
         match neighbors.next() {
-            Some(Ok(element)) => if element.distance_2(place) != *distance {
+            Some(Ok(element)) => if k == distances.len()
+                || element.distance_2(place) != distances[k]
+            {
                 return false;
             },
-            _ => return false,
+            Some(Err(_)) => return false,
+            None => return k == distances.len(),
         }
     }
-    neighbors.next().is_none()
+    false
 }
 
 /// Does nothing but tell that an iterator over neighbours, which holds a point by value, fits in memory.
@@ -107,55 +82,6 @@ pub(crate) fn fits<P: Point>()
     ensures with_distances { FitsInMemory (iterator_row P.row P.Scalar.row) }
     ensures alone { FitsInMemory (alone_row P.row P.Scalar.row) }
 {}
-
-/// Whether a tree's neighbours of a place come at these squared distances, and so many parents are opened after each, as
-/// far as these numbers go.
-fn come<T: PointDistance>(
-    tree: &RTree<T>,
-    place: PointOf<T>,
-    distances: &[Distance<T>],
-    opened: &[usize],
-) -> bool
-where
-    PointOf<T>: Copy,
-    requires narrow { IsNarrow T.Envelope.Point.row }
-    requires whole { IsWholeTree T.Envelope.boxes T.object ⟦<DefaultParams as RTreeParams>⟧.MAX_SIZE tree.now }
-{
-    fits::<PointOf<T>>();
-    let mut neighbors = tree.nearest_neighbor_iter_with_distance_2(place);
-    let mut others = tree.nearest_neighbor_iter_with_distance_2(place);
-    gives(&mut neighbors, distances) && opens(&mut others, opened)
-}
-
-/// Whether they come at these distances by the old name of the call.
-fn come_by_old_name<T: PointDistance>(
-    tree: &RTree<T>,
-    place: PointOf<T>,
-    distances: &[Distance<T>],
-) -> bool
-    requires narrow { IsNarrow T.Envelope.Point.row }
-    requires whole { IsWholeTree T.Envelope.boxes T.object ⟦<DefaultParams as RTreeParams>⟧.MAX_SIZE tree.now }
-{
-    fits::<PointOf<T>>();
-    let mut neighbors = tree.nearest_neighbor_iter_with_distance(place);
-    gives(&mut neighbors, distances)
-}
-
-/// The same without distances.
-fn elements_come<T: PointDistance>(
-    tree: &RTree<T>,
-    place: PointOf<T>,
-    distances: &[Distance<T>],
-) -> bool
-where
-    PointOf<T>: Copy,
-    requires narrow { IsNarrow T.Envelope.Point.row }
-    requires whole { IsWholeTree T.Envelope.boxes T.object ⟦<DefaultParams as RTreeParams>⟧.MAX_SIZE tree.now }
-{
-    fits::<PointOf<T>>();
-    let mut neighbors = tree.nearest_neighbor_iter(place);
-    gives_elements(&mut neighbors, &place, distances)
-}
 
 /// The first number of an ascending list, and how often it stands there.
 fn least_of<S: RTreeNum>(ascending: &[S]) -> Option<(S, usize)> {
@@ -171,15 +97,15 @@ fn least_of<S: RTreeNum>(ascending: &[S]) -> Option<(S, usize)> {
 
 /// Whether a neighbour that was found lies at the least distance of some; none, where there is none.
 fn is_least<T: PointDistance>(
-    found: Option<(&T, Distance<T>)>,
+    found: Result<Option<(&T, Distance<T>)>, AllocError>,
     place: &PointOf<T>,
     least: Option<(Distance<T>, usize)>,
 ) -> bool {
     match (found, least) {
-        (Some((element, distance)), Some((least, _))) => {
+        (Ok(Some((element, distance))), Some((least, _))) => {
             distance == least && element.distance_2(place) == least
         }
-        (None, None) => true,
+        (Ok(None), None) => true,
         _ => false,
     }
 }
@@ -193,12 +119,28 @@ fn are_least<T: PointDistance>(
     let Some((least, count)) = least else {
         return found.is_empty();
     };
+    let mut is_so = found.len() == count;
     for element in found {
-        if element.distance_2(place) != least {
-            return false;
-        }
+        is_so = is_so && element.distance_2(place) == least;
     }
-    found.len() == count
+    is_so
+}
+
+/// The same of neighbours with their distance.
+fn are_least_with_distance<T: PointDistance>(
+    found: Result<Option<(Vec<&T>, Distance<T>)>, AllocError>,
+    place: &PointOf<T>,
+    least: Option<(Distance<T>, usize)>,
+) -> bool {
+    match least {
+        Some((distance, count)) => match &found {
+            Ok(Some((all, one))) => {
+                *one == distance && are_least(all, place, Some((distance, count)))
+            }
+            _ => false,
+        },
+        None => matches!(&found, Ok(None)),
+    }
 }
 
 /// Whether each call that looks for a nearest neighbour, or for all of them, finds those at the least of some distances.
@@ -206,41 +148,42 @@ fn calls_find<T: PointDistance>(
     tree: &RTree<T>,
     place: PointOf<T>,
     least: Option<(Distance<T>, usize)>,
-) -> Result<bool, AllocError>
+) -> bool
 where
     PointOf<T>: Copy,
     requires whole { IsWholeTree T.Envelope.boxes T.object ⟦<DefaultParams as RTreeParams>⟧.MAX_SIZE tree.now }
 {
-    let one = tree.nearest_neighbor_with_distance_2(place)?;
-    let below = nearest_neighbor_with_distance_2(tree.root(), place)?;
-    if !is_least(one, &place, least) || !is_least(below, &place, least) {
-        return Ok(false);
-    }
-    let alone = match tree.nearest_neighbor(place)? {
-        Some(element) => Some((element, element.distance_2(&place))),
-        None => None,
+    let alone = match tree.nearest_neighbor(place) {
+        Ok(Some(element)) => Ok(Some((element, element.distance_2(&place)))),
+        Ok(None) => Ok(None),
+        Err(refused) => Err(refused),
     };
-    let all = tree.nearest_neighbors(&place)?;
-    if !is_least(alone, &place, least) || !are_least(&all, &place, least) {
-        return Ok(false);
-    }
-    let each = tree.nearest_neighbors_with_distance_2(&place)?;
-    let each_below = nearest_neighbors_with_distance_2(tree.root(), place)?;
-    match (each, each_below, least) {
-        (Some((all, one)), Some((all_below, other)), Some((distance, _))) => {
-            Ok(
-                one == distance
-                    && other == distance
-                    && are_least(&all, &place, least)
-                    && are_least(&all_below, &place, least),
-            )
-        }
-        (None, None, None) => Ok(true),
-        _ => Ok(false),
-    }
+    let all_alone = match tree.nearest_neighbors(&place) {
+        Ok(all) => are_least(&all, &place, least),
+        Err(_) => false,
+    };
+    all_alone
+        && is_least(alone, &place, least)
+        && is_least(tree.nearest_neighbor_with_distance_2(place), &place, least)
+        && is_least(
+            nearest_neighbor_with_distance_2(tree.root(), place),
+            &place,
+            least,
+        )
+        && are_least_with_distance(
+            tree.nearest_neighbors_with_distance_2(&place),
+            &place,
+            least,
+        )
+        && are_least_with_distance(
+            nearest_neighbors_with_distance_2(tree.root(), place),
+            &place,
+            least,
+        )
 }
 
-/// Whether all neighbours of a place lie at these squared distances, by each call that leaves the tree.
+/// Whether all neighbours of a place lie at these squared distances, by each call that leaves the tree, with so many
+/// parents opened after each, as far as these numbers go.
 fn answers<T: PointDistance>(
     tree: &RTree<T>,
     place: PointOf<T>,
@@ -252,10 +195,14 @@ where
     requires narrow { IsNarrow T.Envelope.Point.row }
     requires whole { IsWholeTree T.Envelope.boxes T.object ⟦<DefaultParams as RTreeParams>⟧.MAX_SIZE tree.now }
 {
-    come(tree, place, distances, opened)
-        && come_by_old_name(tree, place, distances)
-        && elements_come(tree, place, distances)
-        && matches!(calls_find(tree, place, least_of(distances)), Ok(true))
+    fits::<PointOf<T>>();
+    let mut neighbors = tree.nearest_neighbor_iter_with_distance_2(place);
+    let mut old_name = tree.nearest_neighbor_iter_with_distance(place);
+    let mut alone = tree.nearest_neighbor_iter(place);
+    gives(&mut neighbors, distances, opened)
+        && gives(&mut old_name, distances, opened)
+        && gives_elements(&mut alone, &place, distances)
+        && calls_find(tree, place, least_of(distances))
 }
 
 /// The same of a tree of these elements.
@@ -287,8 +234,34 @@ pub(crate) fn take<T: PartialEq + Copy>(list: &mut Vec<T>, element: &T) -> bool 
     false
 }
 
-/// Whether what a loaded tree of these elements gives up at a place are all of them, each once, at these squared
-/// distances, and then none.
+/// Whether what a tree gives up at a place are the elements of a list, each once, at these squared distances, and then
+/// none.
+fn pops<T: PointDistance + PartialEq + Copy>(
+    tree: &mut RTree<T>,
+    rest: &mut Vec<T>,
+    place: PointOf<T>,
+    distances: &[Distance<T>],
+) -> bool
+where
+    PointOf<T>: Copy,
+    requires whole { IsWholeTree T.Envelope.boxes T.object ⟦<DefaultParams as RTreeParams>⟧.MAX_SIZE tree.old }
+{
+    let mut is_so = true;
+    for distance in distances {
+        is_so = is_so
+            && match tree.pop_nearest_neighbor(place) {
+                Ok(Some(element)) => element.distance_2(&place) == *distance
+                    && take(rest, &element),
+                _ => false,
+            };
+    }
+    is_so
+        && rest.is_empty()
+        && tree.size() == 0
+        && matches!(tree.pop_nearest_neighbor(place), Ok(None))
+}
+
+/// The same of a loaded tree of these elements.
 fn popped_at<T: PointDistance + PartialEq + Copy>(
     alloc: Global,
     elements: &[T],
@@ -301,21 +274,43 @@ where
 {
     let mut rest = Vec::from_slice(alloc, elements)?;
     let mut tree = loaded::<T, DefaultParams>(Vec::from_slice(alloc, elements)?)?;
-    for distance in distances {
-        let Some(element) = tree.pop_nearest_neighbor(place)? else {
-            return Ok(false);
-        };
-        if element.distance_2(&place) != *distance || !take(&mut rest, &element) {
-            return Ok(false);
-        }
-    }
-    Ok(rest.is_empty() && tree.size() == 0 && tree.pop_nearest_neighbor(place)?.is_none())
+    Ok(pops(&mut tree, &mut rest, place, distances))
+}
+
+/// Whether all lines of a list come at these squared distances.
+fn lines_come<P: Point + Copy>(
+    alloc: Global,
+    lines: &[Line<P>],
+    place: P,
+    distances: &[P::Scalar],
+) -> bool
+    requires narrow { IsNarrow P.row }
+{
+    come_at(alloc, lines, place, distances, &[])
 }
 
 #[test]
 fn lines_come_by_their_own_distances(rt: HostRuntime) {
     let lines = [Line::new([0i64, 0], [10, 0]), Line::new([9, 5], [9, 6])];
-    assert!(rt; come_at(rt.alloc(), &lines, [9, 0], &[0, 25], &[]));
+    assert!(rt; lines_come(rt.alloc(), &lines, [9, 0], &[0, 25]));
+}
+
+/// Whether all plots of a list come at these squared distances from a place, and are popped at others from another.
+fn plots_come<P: Point + Copy>(
+    alloc: Global,
+    plots: &[GeomWithData<Rectangle<P>, u64>],
+    place: P,
+    distances: &[P::Scalar],
+    popped_from: P,
+    popped: &[P::Scalar],
+) -> Result<bool, AllocError>
+    requires narrow { IsNarrow P.row }
+    requires dimensions { 2 ≤ P.DIMENSIONS }
+{
+    Ok(
+        come_at(alloc, plots, place, distances, &[])
+            && popped_at(alloc, plots, popped_from, popped)?,
+    )
 }
 
 // Two plots that touch, both seen from a corner of the one and popped at the other's side, the other first.
@@ -325,8 +320,7 @@ fn plots_come_by_their_own_distances(rt: HostRuntime) -> Result<(), Fail> {
         GeomWithData::new(Rectangle::from_corners([0i64, 0], [2, 2]), 7u64),
         GeomWithData::new(Rectangle::from_corners([2, 2], [4, 4]), 8),
     ];
-    assert!(rt; come_at(rt.alloc(), &plots, [0, 0], &[0, 8], &[]));
-    assert!(rt; popped_at(rt.alloc(), &plots, [9, 9], &[50, 98])?);
+    assert!(rt; plots_come(rt.alloc(), &plots, [0, 0], &[0, 8], [9, 9], &[50, 98])?);
     Ok(())
 }
 
@@ -357,17 +351,27 @@ where
     requires narrow { IsNarrow T.Envelope.Point.row }
     requires dimensions { 2 ≤ T.Envelope.Point.DIMENSIONS }
 {
-    let Some(tree) = inserted::<T, DefaultParams>(alloc, elements) else {
-        return Ok(false);
-    };
     let load = loaded::<T, DefaultParams>(Vec::from_slice(alloc, elements)?)?;
+    let mut is_so = true;
     for place in places {
         let wanted = scanned(alloc, elements, place)?;
-        if !answers(&tree, *place, &wanted, &[]) || !answers(&load, *place, &wanted, &[]) {
-            return Ok(false);
-        }
+        is_so = is_so
+            && come_at(alloc, elements, *place, &wanted, &[])
+            && answers(&load, *place, &wanted, &[]);
     }
-    Ok(true)
+    Ok(is_so)
+}
+
+/// The same of points.
+fn points_answer_as_a_scan<P: Point + Copy>(
+    alloc: Global,
+    points: &[P],
+    places: &[P],
+) -> Result<bool, AllocError>
+    requires narrow { IsNarrow P.row }
+    requires dimensions { 2 ≤ P.DIMENSIONS }
+{
+    answer_as_a_scan(alloc, points, places)
 }
 
 /// Places on, beside and far from the points.
@@ -397,13 +401,22 @@ fn neighbours_come_as_by_a_scan(rt: HostRuntime) -> Result<(), Fail> {
         &thousand,
     ];
     for list in lists {
-        assert!(rt;
-            answer_as_a_scan(rt.alloc(), list, &PLACES)?,
-            "{}",
-            list.len()
-        );
+        assert!(rt; points_answer_as_a_scan(rt.alloc(), list, &PLACES)?);
     }
     Ok(())
+}
+
+/// Whether all points of a list come at these squared distances, and so many parents are opened after each.
+fn points_come<P: Point + Copy>(
+    alloc: Global,
+    points: &[P],
+    place: P,
+    distances: &[P::Scalar],
+    opened: &[usize],
+) -> bool
+    requires narrow { IsNarrow P.row }
+{
+    come_at(alloc, points, place, distances, opened)
 }
 
 /// Points, a place, the squared distances of its neighbours, and how many parents are opened after each.
@@ -432,48 +445,71 @@ fn all_neighbours_are_given(rt: HostRuntime) {
         ),
     ];
     for (list, place, distances, opened) in rows {
-        assert!(rt;
-            come_at(rt.alloc(), list, place, distances, opened),
-            "at {place:?}"
-        );
+        assert!(rt; points_come(rt.alloc(), list, place, distances, opened));
     }
+}
+
+/// Whether a loaded tree gives its elements up in the order of a scan from a place, whose distances begin with these.
+fn popped_as_a_scan<T: PointDistance + PartialEq + Copy>(
+    alloc: Global,
+    elements: &[T],
+    place: PointOf<T>,
+    first: &[Distance<T>],
+) -> Result<bool, AllocError>
+where
+    PointOf<T>: Copy,
+    requires dimensions { 2 ≤ T.Envelope.Point.DIMENSIONS }
+{
+    let distances = scanned(alloc, elements, &place)?;
+    Ok(distances.starts_with(first) && popped_at(alloc, elements, place, &distances)?)
+}
+
+/// The same of points.
+fn points_popped<P: Point + PartialEq + Copy>(
+    alloc: Global,
+    points: &[P],
+    place: P,
+    first: &[P::Scalar],
+) -> Result<bool, AllocError>
+    requires dimensions { 2 ≤ P.DIMENSIONS }
+{
+    popped_as_a_scan(alloc, points, place, first)
 }
 
 // The nearest first, each once, and then none: of an empty tree, of two points, and of a thousand.
 #[test]
 fn the_nearest_are_popped_first(rt: HostRuntime) -> Result<(), Fail> {
-    assert!(rt; popped_at::<At>(rt.alloc(), &[], [0, 213], &[])?);
-    assert!(rt; popped_at(rt.alloc(), &[[0i32, 0], [0, 1]], [0, 0], &[0, 1])?);
     let thousand = points(rt.alloc(), 1000)?;
-    let distances = scanned(rt.alloc(), &thousand, &[50, 51])?;
-    assert!(rt; popped_at(rt.alloc(), &thousand, [50, 51], &distances)?);
+    let rows: [(&[At], At, &[i32]); 3] = [
+        (&[], [0, 213], &[]),
+        (&[[0, 0], [0, 1]], [0, 0], &[0, 1]),
+        (&thousand, [50, 51], &[]),
+    ];
+    for (list, place, distances) in rows {
+        assert!(rt; points_popped(rt.alloc(), list, place, distances)?);
+    }
     Ok(())
 }
 
 // rstar's test `test_min_max_dist_2_issue_40_regression` with the decimals cut to four and taken as whole numbers.
 #[test]
 fn a_min_max_distance_is_that_of_a_corner(rt: HostRuntime) {
-    let lower = [7018i64, 2121, 8120];
-    let upper = [7297, 2302, 8194];
-    let place = [6950, 2207, 8186];
-    let corner = [7018i64, 2302, 8120];
-    let boxed = AABB::from_corners(lower, upper);
-    assert_eq!(rt; boxed.min_max_dist_2(&place), corner.distance_2(&place));
-    assert_eq!(rt; boxed.min_max_dist_2(&place), 18005);
+    let place = [6950i64, 2207, 8186];
+    let boxed = AABB::from_corners([7018, 2121, 8120], [7297, 2302, 8194]);
+    let corner = [7018, 2302, 8120].distance_2(&place);
+    assert!(rt; boxed.min_max_dist_2(&place) == 18005 && corner == 18005);
 }
 
 // ---- who is asked
 
-/// An element that counts how often it is asked.
+/// An element that counts how often it is asked, in a cell that others share.
 #[derive(Drop)]
-struct Noting<T> {
+struct Noting<'a, T> {
     inner: T,
-    /// Whether it lies far.
-    is_far: bool,
-    asked: Cell<u32>,
+    asked: &'a Cell<u32>,
 }
 
-impl<T> Noting<T> {
+impl<'a, T> Noting<'a, T> {
     /// The element, once it is counted that it was asked.
     fn note(&self) -> &T
         ensures { result.now ≡ self.now.inner }
@@ -483,7 +519,7 @@ impl<T> Noting<T> {
     }
 }
 
-impl<T: RTreeObject> RTreeObject for Noting<T> {
+impl<'a, T: RTreeObject> RTreeObject for Noting<'a, T> {
     type Envelope = T::Envelope;
 
     ghost object = { carried_objects T.object (λ n. n.inner) };
@@ -495,7 +531,7 @@ impl<T: RTreeObject> RTreeObject for Noting<T> {
     ghost object_law = { λ n h. T.object_law n.inner h };
 }
 
-impl<T: PointDistance> PointDistance for Noting<T> {
+impl<'a, T: PointDistance> PointDistance for Noting<'a, T> {
     ghost distances = { carried_distances T.distances (λ n. n.inner) };
 
     fn distance_2(&self, point: &PointOf<T>) -> Distance<T> {
@@ -509,59 +545,27 @@ impl<T: PointDistance> PointDistance for Noting<T> {
     ghost distance_laws = { carried_laws T.Envelope.boxes T.object T.distances (λ n. n.inner) T.distance_laws };
 }
 
-/// How often the elements that lie near and those that lie far were asked since the last call.
-fn asked<T: PointDistance>(tree: &RTree<Noting<T>>) -> Result<(u32, u32), AllocError>
-    requires whole { IsWholeTree T.Envelope.boxes ⟦<Noting<T> as RTreeObject>⟧.object ⟦<DefaultParams as RTreeParams>⟧.MAX_SIZE tree.now }
-{
-    let (mut near, mut far) = (0u32, 0u32);
-    let mut all = tree.iter()?;
-    while let Some(noting) = all.next() {
-        let count = noting.asked.replace(0);
-        if noting.is_far {
-            far = far.wrapping_add(count);
-        } else {
-            near = near.wrapping_add(count);
-        }
-    }
-    Ok((near, far))
-}
-
-/// Whether so many near elements and so many far ones are asked at each neighbour, and then none is left.
+/// Whether near elements and far ones, each with their cell, are asked so often at each neighbour, and then none is left.
 fn asks_so<T: PointDistance>(
-    tree: &RTree<Noting<T>>,
-    neighbors: &mut NearestNeighborIterator<'_, Noting<T>>,
+    neighbors: &mut NearestNeighborIterator<'_, T>,
+    near: &Cell<u32>,
+    far: &Cell<u32>,
     rows: &[(u32, u32)],
 ) -> bool
-    requires whole { IsWholeTree T.Envelope.boxes ⟦<Noting<T> as RTreeObject>⟧.object
-        ⟦<DefaultParams as RTreeParams>⟧.MAX_SIZE tree.now }
-    requires searching { IsSearching T.Envelope.boxes ⟦<Noting<T> as RTreeObject>⟧.object
-        ⟦<Noting<T> as PointDistance>⟧.distances T.Envelope.Point.DIMENSIONS T.Envelope.Point.coord
-        T.Envelope.Point.Scalar.cmp T.Envelope.Point.Scalar.value (with_distances neighbors.old) }
+    requires { IsSearching T.Envelope.boxes T.object T.distances T.Envelope.Point.DIMENSIONS
+        T.Envelope.Point.coord T.Envelope.Point.Scalar.cmp T.Envelope.Point.Scalar.value
+        (with_distances neighbors.old) }
 {
-    for row in rows {
+    for k in 0..rows.len().saturating_add(1) {
         match neighbors.next() {
-            Some(Ok(_)) => if !matches!(asked(tree), Ok(count) if count == *row) {
+            Some(Ok(_)) => if k == rows.len() || (near.replace(0), far.replace(0)) != rows[k] {
                 return false;
             },
-            _ => return false,
+            Some(Err(_)) => return false,
+            None => return k == rows.len(),
         }
     }
-    neighbors.next().is_none()
-}
-
-/// The same of a tree's neighbours of a place.
-fn are_asked<T: PointDistance>(
-    tree: &RTree<Noting<T>>,
-    place: PointOf<T>,
-    rows: &[(u32, u32)],
-) -> bool
-    requires narrow { IsNarrow T.Envelope.Point.row }
-    requires whole { IsWholeTree T.Envelope.boxes ⟦<Noting<T> as RTreeObject>⟧.object
-        ⟦<DefaultParams as RTreeParams>⟧.MAX_SIZE tree.now }
-{
-    fits::<PointOf<T>>();
-    let mut neighbors = tree.nearest_neighbor_iter(place);
-    asks_so(tree, &mut neighbors, rows)
+    false
 }
 
 /// The same of a tree of elements, of which the first so many lie near and the others far.
@@ -574,19 +578,39 @@ fn note_who_is_asked<T: PointDistance + Copy>(
 ) -> Result<bool, AllocError>
     requires narrow { IsNarrow T.Envelope.Point.row }
 {
+    let near = Cell::new(0u32);
+    let far = Cell::new(0u32);
     let mut list = Vec::new(alloc);
     for k in 0..elements.len() {
+        let asked = if k < first_far { &near } else { &far };
         list.push(Noting {
             inner: elements[k],
-            is_far: first_far <= k,
-            asked: Cell::new(0),
+            asked,
         })?;
     }
-    let Some(tree) = planted::<Noting<T>, DefaultParams>(list) else {
-        return Ok(false);
-    };
-    asked(&tree)?;
-    Ok(are_asked(&tree, place, rows))
+    fits::<PointOf<T>>();
+    match planted::<Noting<'_, T>, DefaultParams>(list) {
+        Some(tree) => {
+            near.set(0);
+            far.set(0);
+            let mut neighbors = tree.nearest_neighbor_iter(place);
+            Ok(asks_so(&mut neighbors, &near, &far, rows))
+        }
+        None => Ok(false),
+    }
+}
+
+/// The same of points.
+fn points_are_asked<P: Point + Copy>(
+    alloc: Global,
+    points: &[P],
+    first_far: usize,
+    place: P,
+    rows: &[(u32, u32)],
+) -> Result<bool, AllocError>
+    requires narrow { IsNarrow P.row }
+{
+    note_who_is_asked(alloc, points, first_far, place, rows)
 }
 
 // The seven points: how often the three on the left and the four on the right are asked at each neighbour. None of the
@@ -594,6 +618,6 @@ fn note_who_is_asked<T: PointDistance + Copy>(
 #[test]
 fn below_a_parent_that_waits_no_element_is_asked(rt: HostRuntime) -> Result<(), Fail> {
     let rows = [(3, 0), (0, 0), (0, 0), (0, 4), (0, 0), (0, 0), (0, 0)];
-    assert!(rt; note_who_is_asked(rt.alloc(), &ALONG_A_LINE, 3, [0, 0], &rows)?);
+    assert!(rt; points_are_asked(rt.alloc(), &ALONG_A_LINE, 3, [0, 0], &rows)?);
     Ok(())
 }

@@ -1,28 +1,27 @@
 //! Visits that write: elements with payloads, each written in its place.
 
 ghost use Rattle.std.specs.Prelude.{◌≡◌, if◌then◌else◌, map};
-ghost use Rattle.rstar.specs.Boxes.{boxes_intersect};
 ghost use Rattle.rstar.specs.Trees.{elements_in, HasSameOutline, IsWholeTree};
 
-use crate::fences::Fence;
-use rstar::{AABB, DefaultParams, Envelope, RTree, RTreeObject, RTreeParams};
+use rstar::primitives::GeomWithData;
+use rstar::{DefaultParams, Envelope, RTree, RTreeObject, RTreeParams};
 use std::ops::ControlFlow;
 
-/// Gives the number 0 to all fences that a box touches, and changes nothing else.
-pub fn clear(tree: &mut RTree<Fence>, area: AABB<[i64; 2]>)
-    requires whole { IsWholeTree ⟦<AABB<[i64; 2]> as Envelope>⟧.boxes ⟦<Fence as RTreeObject>⟧.object
+/// Gives the number 0 to all elements that an envelope touches, and changes nothing else.
+pub fn clear<R: RTreeObject>(tree: &mut RTree<GeomWithData<R, u64>>, area: R::Envelope)
+    requires whole { IsWholeTree R.Envelope.boxes ⟦<GeomWithData<R, u64> as RTreeObject>⟧.object
         ⟦<DefaultParams as RTreeParams>⟧.MAX_SIZE tree.old }
     ensures cleared { elements_in tree.new
-        ≡ map (λ fence. if boxes_intersect area (⟦<Fence as RTreeObject>⟧.object.box_of fence)
-        then (fence.0, 0) else fence) (elements_in tree.old) }
+        ≡ map (λ one. if R.Envelope.boxes.intersects area (⟦<GeomWithData<R, u64> as RTreeObject>⟧.object.box_of one)
+        then (one.0, 0) else one) (elements_in tree.old) }
     ensures outline { HasSameOutline tree.old tree.new }
-    ensures whole { IsWholeTree ⟦<AABB<[i64; 2]> as Envelope>⟧.boxes ⟦<Fence as RTreeObject>⟧.object
+    ensures whole { IsWholeTree R.Envelope.boxes ⟦<GeomWithData<R, u64> as RTreeObject>⟧.object
         ⟦<DefaultParams as RTreeParams>⟧.MAX_SIZE tree.new }
 {
     let _went_on: ControlFlow<()> = tree.locate_in_envelope_intersecting_int_mut(
         area,
-        |fence: &mut Fence| {
-            fence.data = 0;
+        |one: &mut GeomWithData<R, u64>| {
+            one.data = 0;
             ControlFlow::Continue(())
         },
     );
@@ -32,9 +31,11 @@ pub fn clear(tree: &mut RTree<Fence>, area: AABB<[i64; 2]>)
 mod tests {
     use super::*;
     use crate::scenarios::inserted;
+    use rstar::AABB;
     use rstar::algorithm::selection_functions::SelectAllFunc;
     use rstar::object::{PointDistance, PointOf};
-    use rstar::primitives::{GeomWithData, Rectangle};
+    use rstar::point::Point;
+    use rstar::primitives::Rectangle;
     use std::alloc::Global;
 
     /// An element with a number.
@@ -100,35 +101,56 @@ mod tests {
         let second = sum(&tree);
         tree.locate_all_at_point_int_mut(point, add_one);
         let third = sum(&tree);
-        tree.locate_in_envelope_intersecting_int_mut(cleared, |one: &mut Numbered<R>| {
-            one.data = 0;
-            ControlFlow::<()>::Continue(())
-        });
+        clear(&mut tree, cleared);
         Some([first, second, third, sum(&tree)])
     }
 
-    // Whether the visitor breaks at its first call, and the sum of the numbers 1, 2 and 3 after it added 10 at each.
-    #[test]
-    fn a_visit_writes_until_a_break(rt: HostRuntime) {
-        let fence = Rectangle::from_corners([0i64, 0], [2, 2]);
-        let three = [
-            Fence::new(fence, 1),
-            Fence::new(fence, 2),
-            Fence::new(fence, 3),
-        ];
-        assert_eq!(rt; sum_after(rt.alloc(), &three, false), Some((0, 36)));
-        let broken = sum_after(rt.alloc(), &three, true);
-        assert!(rt; matches!(broken, Some((11 | 12 | 13, 16))), "{broken:?}");
+    /// What the first visit breaks with and sums up, where it goes on and where it breaks, and the sums of the others.
+    fn sum_up<R: PointDistance + Copy>(
+        alloc: Global,
+        three: &[Numbered<R>],
+        two: &[Numbered<R>],
+        area: &R::Envelope,
+        point: PointOf<R>,
+        cleared: R::Envelope,
+    ) -> (Option<(u64, u64)>, Option<(u64, u64)>, Option<[u64; 4]>) {
+        (
+            sum_after(alloc, three, false),
+            sum_after(alloc, three, true),
+            sums_after(alloc, two, area, point, cleared),
+        )
     }
 
-    // Two fences; a box that contains neither, and touches the first, a point inside that, and the point at its corner.
+    /// The same of plots.
+    fn plots_sum_up<P: Point + Copy>(
+        alloc: Global,
+        three: &[Numbered<Rectangle<P>>],
+        two: &[Numbered<Rectangle<P>>],
+        area: &AABB<P>,
+        point: P,
+        cleared: AABB<P>,
+    ) -> (Option<(u64, u64)>, Option<(u64, u64)>, Option<[u64; 4]>) {
+        sum_up(alloc, three, two, area, point, cleared)
+    }
+
+    // Whether the visitor breaks at its first call, and the sum of the numbers 1, 2 and 3 after it added 10 at each; then
+    // two fences; a box that contains neither, and touches the first, a point inside that, and the point at its corner.
     #[test]
     fn visits_write_what_they_select(rt: HostRuntime) {
-        let fence = Fence::new(Rectangle::from_corners([0i64, 0], [2, 2]), 7);
-        let other = Fence::new(Rectangle::from_corners([3, 3], [4, 4]), 5);
+        let fence = Rectangle::from_corners([0i64, 0], [2, 2]);
+        let three = [
+            Numbered::new(fence, 1),
+            Numbered::new(fence, 2),
+            Numbered::new(fence, 3),
+        ];
+        let two = [
+            Numbered::new(fence, 7),
+            Numbered::new(Rectangle::from_corners([3, 3], [4, 4]), 5),
+        ];
         let area = AABB::from_corners([0, 0], [1, 1]);
         let corner = AABB::from_point([2, 2]);
-        let sums = sums_after(rt.alloc(), &[fence, other], &area, [1, 1], corner);
-        assert_eq!(rt; sums, Some([12, 13, 14, 5]));
+        let (went_on, broken, sums) = plots_sum_up(rt.alloc(), &three, &two, &area, [1, 1], corner);
+        assert!(rt; went_on == Some((0, 36)) && sums == Some([12, 13, 14, 5]));
+        assert!(rt; matches!(broken, Some((11 | 12 | 13, 16))));
     }
 }

@@ -1,5 +1,5 @@
 use Rattle.rstar.specs.Trees.{IsWholeTree}
-use Rattle.rstar_vectors.proofs.neighbour_rows.popped_at.Given as goal
+use Rattle.rstar_vectors.proofs.neighbour_rows.pops.Given as goal
 
 abbrev pub invariant-loop-distance : goal.invariant-loop-distance
 invariant-loop-distance g l = IsWholeTree g.T.Envelope.Envelope.boxes g.T.RTreeObject.object 6 l.tree
