@@ -4,15 +4,17 @@
 
 ghost use Rattle.std.specs.Prelude.{◌≡◌, ◌≤◌, min, map, IfOk};
 ghost use Rattle.std.specs.List.Sorted.{IsPermutation};
+ghost use Rattle.rstar.specs.Boxes.{boxes_intersect};
 ghost use Rattle.rstar.specs.Joins.{meets_by, join, meet_by, pairs_to_come, IsJoining};
 ghost use Rattle.rstar.specs.Meets.{meet_of_roots};
 ghost use Rattle.rstar.specs.Trees.{root_of, elements_in, IsWholeTree};
 
 use crate::loads::load_of;
+use crate::payloads::Plot;
 use crate::scenarios::{ALONG_A_LINE, inserted};
 use rstar::iterators::{InEnvelope, IntersectionIterator};
 use rstar::primitives::{GeomWithData, Rectangle};
-use rstar::{DefaultParams, Envelope, Point, RTree, RTreeObject, RTreeParams};
+use rstar::{AABB, DefaultParams, Envelope, Point, RTree, RTreeObject, RTreeParams};
 use std::alloc::{AllocError, Global};
 use std::test::Fail;
 
@@ -59,6 +61,26 @@ fn joined<'a, T: RTreeObject, U: InEnvelope<T::Envelope>>(
 {
     let joined = paired(alloc, left.intersection_candidates_with_other_tree(right)?)?;
     Ok(joined)
+}
+
+/// The pairs of a plot and a point that meet.
+pub fn plots_joined<'a>(
+    alloc: Global,
+    left: &'a RTree<Plot>,
+    right: &'a RTree<[i64; 2]>,
+) -> Result<Paired<'a, Plot, [i64; 2]>, AllocError>
+    requires left { IsWholeTree ⟦<AABB<[i64; 2]> as Envelope>⟧.boxes ⟦<Plot as RTreeObject>⟧.object
+        ⟦<DefaultParams as RTreeParams>⟧.MAX_SIZE left.now }
+    requires right { IsWholeTree ⟦<AABB<[i64; 2]> as Envelope>⟧.boxes ⟦<[i64; 2] as RTreeObject>⟧.object
+        ⟦<DefaultParams as RTreeParams>⟧.MAX_SIZE right.now }
+    ensures all { IfOk result (λ r. IsPermutation (map (λ p. (p.0.now, p.1.now)) r.0.items)
+        (join boxes_intersect ⟦<Plot as RTreeObject>⟧.object.box_of ⟦<[i64; 2] as RTreeObject>⟧.object.box_of
+        (elements_in left.now) (elements_in right.now))) }
+    ensures opened { IfOk result (λ r. r.1 ≡ min (meet_of_roots boxes_intersect
+        ⟦<Plot as RTreeObject>⟧.object.box_of ⟦<[i64; 2] as RTreeObject>⟧.object.box_of
+        (root_of left.now) (root_of right.now)) usize.MAX) }
+{
+    joined(alloc, left, right)
 }
 
 /// How many pairs a join gives, and how many pairs of nodes it opens; none where it is refused.

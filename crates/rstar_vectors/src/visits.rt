@@ -1,10 +1,12 @@
 //! Visits that write: elements with payloads, each written in its place.
 
 ghost use Rattle.std.specs.Prelude.{◌≡◌, if◌then◌else◌, map};
+ghost use Rattle.rstar.specs.Boxes.{boxes_intersect};
 ghost use Rattle.rstar.specs.Trees.{elements_in, HasSameOutline, IsWholeTree};
 
+use crate::fences::Fence;
 use rstar::primitives::GeomWithData;
-use rstar::{DefaultParams, Envelope, RTree, RTreeObject, RTreeParams};
+use rstar::{AABB, DefaultParams, Envelope, RTree, RTreeObject, RTreeParams};
 use std::ops::ControlFlow;
 
 /// Gives the number 0 to all elements that an envelope touches, and changes nothing else.
@@ -27,11 +29,24 @@ pub fn clear<R: RTreeObject>(tree: &mut RTree<GeomWithData<R, u64>>, area: R::En
     );
 }
 
+/// The same of fences that a box touches.
+pub fn clear_fences(tree: &mut RTree<Fence>, area: AABB<[i64; 2]>)
+    requires whole { IsWholeTree ⟦<AABB<[i64; 2]> as Envelope>⟧.boxes ⟦<Fence as RTreeObject>⟧.object
+        ⟦<DefaultParams as RTreeParams>⟧.MAX_SIZE tree.old }
+    ensures cleared { elements_in tree.new
+        ≡ map (λ fence. if boxes_intersect area (⟦<Fence as RTreeObject>⟧.object.box_of fence)
+        then (fence.0, 0) else fence) (elements_in tree.old) }
+    ensures outline { HasSameOutline tree.old tree.new }
+    ensures whole { IsWholeTree ⟦<AABB<[i64; 2]> as Envelope>⟧.boxes ⟦<Fence as RTreeObject>⟧.object
+        ⟦<DefaultParams as RTreeParams>⟧.MAX_SIZE tree.new }
+{
+    clear(tree, area);
+}
+
 #[cfg(test)]
 mod tests {
     use super::*;
     use crate::scenarios::inserted;
-    use rstar::AABB;
     use rstar::algorithm::selection_functions::SelectAllFunc;
     use rstar::object::{PointDistance, PointOf};
     use rstar::point::Point;
