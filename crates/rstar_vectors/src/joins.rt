@@ -163,19 +163,6 @@ fn meet<
         && meet_alike(alloc, &third, &third, of_points)
 }
 
-/// The same of plots between these corners.
-fn plots_meet<P: Point + Copy>(
-    alloc: Global,
-    lefts: &[(P, P)],
-    rights: &[(P, P)],
-    points: &[P],
-    counts: [(usize, usize); 3],
-) -> Result<bool, AllocError> {
-    let lefts = plots(alloc, lefts)?;
-    let rights = plots(alloc, rights)?;
-    Ok(meet(alloc, &lefts, &rights, points, counts))
-}
-
 const SQUARE: Corners = ([0, 0], [2, 2]);
 
 // Seven squares in two groups along a diagonal, which lie under two parents.
@@ -233,7 +220,9 @@ fn pairs_that_intersect(rt: HostRuntime) -> Result<(), Fail> {
         ),
     ];
     for (lefts, rights, points, counts) in rows {
-        assert!(rt; plots_meet(rt.alloc(), lefts, rights, points, counts)?);
+        let lefts = plots(rt.alloc(), lefts)?;
+        let rights = plots(rt.alloc(), rights)?;
+        assert!(rt; meet(rt.alloc(), &lefts, &rights, points, counts));
     }
     Ok(())
 }
@@ -282,19 +271,6 @@ fn met_as_scanned<T: RTreeObject + PartialEq + Copy>(
     let left = filled(alloc, lefts);
     let right = filled(alloc, rights);
     gives_scanned(alloc, &left, &right, lefts, rights)
-}
-
-/// The same of plots between these corners, which differ by their numbers.
-fn plots_met_as_scanned<P: Point + Copy>(
-    alloc: Global,
-    lefts: &[(P, P)],
-    rights: &[(P, P)],
-) -> Result<bool, AllocError>
-    requires { 2 ≤ P.DIMENSIONS }
-{
-    let lefts = plots(alloc, lefts)?;
-    let rights = plots(alloc, rights)?;
-    Ok(met_as_scanned(alloc, &lefts, &rights))
 }
 
 /// Whether a join of two loads gives so many pairs, and one of the first with itself.
@@ -390,10 +366,10 @@ fn spread(
 #[test]
 fn joins_give_what_a_scan_gives(rt: HostRuntime) -> Result<(), Fail> {
     for (left, right) in [(100, 42), (42, 100), (3, 500), (300, 300)] {
-        let lefts = spread(rt.alloc(), left, 37, 53)?;
-        let rights = spread(rt.alloc(), right, 59, 31)?;
+        let lefts = plots(rt.alloc(), &spread(rt.alloc(), left, 37, 53)?)?;
+        let rights = plots(rt.alloc(), &spread(rt.alloc(), right, 59, 31)?)?;
         assert!(rt;
-            plots_met_as_scanned(rt.alloc(), &lefts, &rights)?,
+            met_as_scanned(rt.alloc(), &lefts, &rights),
             "{left} {right}"
         );
     }

@@ -9,7 +9,7 @@ ghost use Rattle.rstar.specs.Neighbors.{with_distances, IsSearching};
 ghost use Rattle.rstar.specs.Trees.{IsWholeTree};
 ghost use Rattle.rstar_vectors.specs.Fits.{iterator_row, alone_row};
 
-use crate::scenarios::{ALONG_A_LINE, inserted, loaded, planted, points};
+use crate::scenarios::{ALONG_A_LINE, inserted, loaded, points};
 use rstar::algorithm::nearest_neighbor::{
     NearestNeighborDistance2Iterator, NearestNeighborIterator, nearest_neighbor_with_distance_2,
     nearest_neighbors_with_distance_2,
@@ -277,39 +277,29 @@ where
     Ok(pops(&mut tree, &mut rest, place, distances))
 }
 
-/// Whether all lines of a list come at these squared distances.
-fn lines_come<P: Point + Copy>(
-    alloc: Global,
-    lines: &[Line<P>],
-    place: P,
-    distances: &[P::Scalar],
-) -> bool
-    requires narrow { IsNarrow P.row }
-{
-    come_at(alloc, lines, place, distances, &[])
-}
-
 #[test]
 fn lines_come_by_their_own_distances(rt: HostRuntime) {
     let lines = [Line::new([0i64, 0], [10, 0]), Line::new([9, 5], [9, 6])];
-    assert!(rt; lines_come(rt.alloc(), &lines, [9, 0], &[0, 25]));
+    assert!(rt; come_at(rt.alloc(), &lines, [9, 0], &[0, 25], &[]));
 }
 
-/// Whether all plots of a list come at these squared distances from a place, and are popped at others from another.
-fn plots_come<P: Point + Copy>(
+/// Whether all elements come at these squared distances from a place, and are popped at others from another.
+fn come_and_are_popped<T: PointDistance + PartialEq + Copy>(
     alloc: Global,
-    plots: &[GeomWithData<Rectangle<P>, u64>],
-    place: P,
-    distances: &[P::Scalar],
-    popped_from: P,
-    popped: &[P::Scalar],
+    elements: &[T],
+    place: PointOf<T>,
+    distances: &[Distance<T>],
+    popped_from: PointOf<T>,
+    popped: &[Distance<T>],
 ) -> Result<bool, AllocError>
-    requires narrow { IsNarrow P.row }
-    requires dimensions { 2 ≤ P.DIMENSIONS }
+where
+    PointOf<T>: Copy,
+    requires narrow { IsNarrow T.Envelope.Point.row }
+    requires dimensions { 2 ≤ T.Envelope.Point.DIMENSIONS }
 {
     Ok(
-        come_at(alloc, plots, place, distances, &[])
-            && popped_at(alloc, plots, popped_from, popped)?,
+        come_at(alloc, elements, place, distances, &[])
+            && popped_at(alloc, elements, popped_from, popped)?,
     )
 }
 
@@ -320,7 +310,7 @@ fn plots_come_by_their_own_distances(rt: HostRuntime) -> Result<(), Fail> {
         GeomWithData::new(Rectangle::from_corners([0i64, 0], [2, 2]), 7u64),
         GeomWithData::new(Rectangle::from_corners([2, 2], [4, 4]), 8),
     ];
-    assert!(rt; plots_come(rt.alloc(), &plots, [0, 0], &[0, 8], [9, 9], &[50, 98])?);
+    assert!(rt; come_and_are_popped(rt.alloc(), &plots, [0, 0], &[0, 8], [9, 9], &[50, 98])?);
     Ok(())
 }
 
@@ -362,18 +352,6 @@ where
     Ok(is_so)
 }
 
-/// The same of points.
-fn points_answer_as_a_scan<P: Point + Copy>(
-    alloc: Global,
-    points: &[P],
-    places: &[P],
-) -> Result<bool, AllocError>
-    requires narrow { IsNarrow P.row }
-    requires dimensions { 2 ≤ P.DIMENSIONS }
-{
-    answer_as_a_scan(alloc, points, places)
-}
-
 /// Places on, beside and far from the points.
 const PLACES: [At; 8] = [
     [0, 0],
@@ -401,22 +379,9 @@ fn neighbours_come_as_by_a_scan(rt: HostRuntime) -> Result<(), Fail> {
         &thousand,
     ];
     for list in lists {
-        assert!(rt; points_answer_as_a_scan(rt.alloc(), list, &PLACES)?);
+        assert!(rt; answer_as_a_scan(rt.alloc(), list, &PLACES)?);
     }
     Ok(())
-}
-
-/// Whether all points of a list come at these squared distances, and so many parents are opened after each.
-fn points_come<P: Point + Copy>(
-    alloc: Global,
-    points: &[P],
-    place: P,
-    distances: &[P::Scalar],
-    opened: &[usize],
-) -> bool
-    requires narrow { IsNarrow P.row }
-{
-    come_at(alloc, points, place, distances, opened)
 }
 
 /// Points, a place, the squared distances of its neighbours, and how many parents are opened after each.
@@ -445,7 +410,7 @@ fn all_neighbours_are_given(rt: HostRuntime) {
         ),
     ];
     for (list, place, distances, opened) in rows {
-        assert!(rt; points_come(rt.alloc(), list, place, distances, opened));
+        assert!(rt; come_at(rt.alloc(), list, place, distances, opened));
     }
 }
 
@@ -464,18 +429,6 @@ where
     Ok(distances.starts_with(first) && popped_at(alloc, elements, place, &distances)?)
 }
 
-/// The same of points.
-fn points_popped<P: Point + PartialEq + Copy>(
-    alloc: Global,
-    points: &[P],
-    place: P,
-    first: &[P::Scalar],
-) -> Result<bool, AllocError>
-    requires dimensions { 2 ≤ P.DIMENSIONS }
-{
-    popped_as_a_scan(alloc, points, place, first)
-}
-
 // The nearest first, each once, and then none: of an empty tree, of two points, and of a thousand.
 #[test]
 fn the_nearest_are_popped_first(rt: HostRuntime) -> Result<(), Fail> {
@@ -486,7 +439,7 @@ fn the_nearest_are_popped_first(rt: HostRuntime) -> Result<(), Fail> {
         (&thousand, [50, 51], &[]),
     ];
     for (list, place, distances) in rows {
-        assert!(rt; points_popped(rt.alloc(), list, place, distances)?);
+        assert!(rt; popped_as_a_scan(rt.alloc(), list, place, distances)?);
     }
     Ok(())
 }
@@ -503,7 +456,7 @@ fn a_min_max_distance_is_that_of_a_corner(rt: HostRuntime) {
 // ---- who is asked
 
 /// An element that counts how often it is asked, in a cell that others share.
-#[derive(Drop)]
+#[derive(Clone, Copy)]
 struct Noting<'a, T> {
     inner: T,
     asked: &'a Cell<u32>,
@@ -589,7 +542,7 @@ fn note_who_is_asked<T: PointDistance + Copy>(
         })?;
     }
     fits::<PointOf<T>>();
-    match planted::<Noting<'_, T>, DefaultParams>(list) {
+    match inserted::<Noting<'_, T>, DefaultParams>(alloc, &list) {
         Some(tree) => {
             near.set(0);
             far.set(0);
@@ -600,24 +553,11 @@ fn note_who_is_asked<T: PointDistance + Copy>(
     }
 }
 
-/// The same of points.
-fn points_are_asked<P: Point + Copy>(
-    alloc: Global,
-    points: &[P],
-    first_far: usize,
-    place: P,
-    rows: &[(u32, u32)],
-) -> Result<bool, AllocError>
-    requires narrow { IsNarrow P.row }
-{
-    note_who_is_asked(alloc, points, first_far, place, rows)
-}
-
 // The seven points: how often the three on the left and the four on the right are asked at each neighbour. None of the
 // four is asked before the fourth.
 #[test]
 fn below_a_parent_that_waits_no_element_is_asked(rt: HostRuntime) -> Result<(), Fail> {
     let rows = [(3, 0), (0, 0), (0, 0), (0, 4), (0, 0), (0, 0), (0, 0)];
-    assert!(rt; points_are_asked(rt.alloc(), &ALONG_A_LINE, 3, [0, 0], &rows)?);
+    assert!(rt; note_who_is_asked(rt.alloc(), &ALONG_A_LINE, 3, [0, 0], &rows)?);
     Ok(())
 }

@@ -48,21 +48,6 @@ pub(crate) fn inserted<T: RTreeObject + Copy, Params: RTreeParams>(
     Some(tree)
 }
 
-/// The same of elements that are moved into the tree.
-pub(crate) fn planted<T: RTreeObject, Params: RTreeParams>(
-    elements: Vec<T>,
-) -> Option<RTree<T, Params>>
-    ensures { IfSome result (IsWholeTree T.Envelope.boxes T.object Params.MAX_SIZE) }
-{
-    let mut tree = RTree::default(*elements.allocator());
-    for element in elements {
-        if element.envelope().is_empty() || tree.insert(element).is_err() {
-            return None;
-        }
-    }
-    Some(tree)
-}
-
 /// Whether no element has an empty envelope, as loads ask.
 pub(crate) fn none_empty<T: RTreeObject>(elements: &[T]) -> bool
     ensures { IsTrue result → NoneEmpty T.Envelope.boxes T.object elements.now }

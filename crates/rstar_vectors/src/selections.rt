@@ -71,18 +71,6 @@ fn select_so<T: RTreeObject + Copy>(
         && selects(alloc, elements, SelectNoneFunc, (0, 0))
 }
 
-/// The same of points.
-fn points_select_so<P: Point + Copy>(
-    alloc: Global,
-    points: &[P],
-    corners: (P, P),
-    inside: (usize, usize),
-    all: (usize, usize),
-) -> bool {
-    let area = AABB::from_corners(corners.0, corners.1);
-    select_so(alloc, points, area, inside, all)
-}
-
 /// Points, two corners, how many points are between them, of all the points there are, each with the parents opened.
 type Row<'a> = (
     &'a [[i32; 2]],
@@ -103,7 +91,8 @@ fn a_selection_opens_what_its_question_reaches(rt: HostRuntime) {
         (&[[0, 0]], ([0, 0], [0, 0]), (1, 1), (1, 1)),
     ];
     for (points, corners, inside, all) in rows {
-        assert!(rt; points_select_so(rt.alloc(), points, corners, inside, all));
+        let area = AABB::from_corners(corners.0, corners.1);
+        assert!(rt; select_so(rt.alloc(), points, area, inside, all));
     }
 }
 
@@ -211,21 +200,11 @@ fn goes_one_by_one<T: RTreeObject + Copy>(
     is_asked_one_by_one(alloc, elements) && ends_at(alloc, elements, area, last)
 }
 
-/// The same of points.
-fn points_go_one_by_one<P: Point + Copy>(
-    alloc: Global,
-    points: &[P],
-    area: AABB<P>,
-    last: usize,
-) -> bool {
-    goes_one_by_one(alloc, points, area, last)
-}
-
 // rstar's test `test_leaves_are_tested_lazily`: each `next` asks one leaf more; and a visit ends at its third call.
 #[test]
 fn a_leaf_is_asked_when_the_walk_comes_to_it(rt: HostRuntime) {
     let area = AABB::from_corners([0, 0], [103, 0]);
-    assert!(rt; points_go_one_by_one(rt.alloc(), &ALONG_A_LINE, area, 3));
+    assert!(rt; goes_one_by_one(rt.alloc(), &ALONG_A_LINE, area, 3));
 }
 
 /// Whether an element is one, whether the envelope contains it, whether it intersects it, whether the element contains

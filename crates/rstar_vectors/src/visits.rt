@@ -49,7 +49,6 @@ mod tests {
     use crate::scenarios::inserted;
     use rstar::algorithm::selection_functions::SelectAllFunc;
     use rstar::object::{PointDistance, PointOf};
-    use rstar::point::Point;
     use rstar::primitives::Rectangle;
     use std::alloc::Global;
 
@@ -136,18 +135,6 @@ mod tests {
         )
     }
 
-    /// The same of plots.
-    fn plots_sum_up<P: Point + Copy>(
-        alloc: Global,
-        three: &[Numbered<Rectangle<P>>],
-        two: &[Numbered<Rectangle<P>>],
-        area: &AABB<P>,
-        point: P,
-        cleared: AABB<P>,
-    ) -> (Option<(u64, u64)>, Option<(u64, u64)>, Option<[u64; 4]>) {
-        sum_up(alloc, three, two, area, point, cleared)
-    }
-
     // Whether the visitor breaks at its first call, and the sum of the numbers 1, 2 and 3 after it added 10 at each; then
     // two fences; a box that contains neither, and touches the first, a point inside that, and the point at its corner.
     #[test]
@@ -164,7 +151,7 @@ mod tests {
         ];
         let area = AABB::from_corners([0, 0], [1, 1]);
         let corner = AABB::from_point([2, 2]);
-        let (went_on, broken, sums) = plots_sum_up(rt.alloc(), &three, &two, &area, [1, 1], corner);
+        let (went_on, broken, sums) = sum_up(rt.alloc(), &three, &two, &area, [1, 1], corner);
         assert!(rt; went_on == Some((0, 36)) && sums == Some([12, 13, 14, 5]));
         assert!(rt; matches!(broken, Some((11 | 12 | 13, 16))));
     }
