@@ -197,14 +197,6 @@ fn places_count_always<P: Point + Copy>(
     count_always(first, others, removed, left)
 }
 
-/// Whether the root of a tree of these places counts them all.
-fn root_counts<P: Point + Copy>(alloc: Global, places: &[Place<P>]) -> bool {
-    match inserted(alloc, places) {
-        Some(tree) => count_at_root(&tree) == places.len(),
-        None => false,
-    }
-}
-
 /// The places with the numbers from one up to another, without that, on a line that wraps around in both coordinates.
 fn places(alloc: Global, from: usize, end: usize) -> Result<Vec<Place<[i64; 2]>>, AllocError> {
     let mut places = Vec::new(alloc);
@@ -259,7 +251,10 @@ fn every_element_is_merged_once(rt: HostRuntime) -> Result<(), Fail> {
     let first = places(rt.alloc(), 0, 500)?;
     let others = places(rt.alloc(), 500, 2000)?;
     let removed = places(rt.alloc(), 0, 1000)?;
-    assert!(rt; root_counts(rt.alloc(), &removed));
+    match inserted(rt.alloc(), &removed) {
+        Some(tree) => assert!(rt; count_at_root(&tree) == 1000),
+        None => assert!(rt; false),
+    }
     assert!(rt; places_count_always(first, &others, &removed, &[700, 400, 100, 0]));
     Ok(())
 }

@@ -59,6 +59,18 @@ fn two_dimensions_are_wanted(rt: HostRuntime) {
     assert!(rt; serve::<[i32; 2], DefaultParams>() && serve::<[i32; 2], Huge>());
 }
 
+/// These elements as leaves.
+fn leaves_of<T: RTreeObject + Copy>(
+    alloc: Global,
+    elements: &[T],
+) -> Result<Vec<RTreeNode<T>>, AllocError> {
+    let mut leaves = Vec::new(alloc);
+    for element in elements {
+        leaves.push(RTreeNode::Leaf(*element))?;
+    }
+    Ok(leaves)
+}
+
 /// Whether the list of these leaves is cut in two: as many in each part, with such an envelope.
 fn is_cut_in<T: RTreeObject + Copy>(
     alloc: Global,
@@ -66,14 +78,11 @@ fn is_cut_in<T: RTreeObject + Copy>(
     one: &(usize, T::Envelope),
     other: &(usize, T::Envelope),
 ) -> Result<bool, AllocError> {
-    let mut list = Vec::new(alloc);
-    for element in elements {
-        list.push(RTreeNode::Leaf(*element))?;
-    }
-    if list.len() <= DefaultParams::MAX_SIZE {
+    let spare = Vec::with_capacity(alloc, elements.len())?;
+    let list = leaves_of(alloc, elements)?;
+    if list.len() <= DefaultParams::MAX_SIZE || spare.capacity() < list.len() {
         return Ok(false);
     }
-    let spare = Vec::with_capacity(alloc, list.len())?;
     let (left, right) = split_children::<T, DefaultParams>(list, spare);
     Ok(
         left.len() == one.0

@@ -24,6 +24,18 @@ use std::test::Fail;
 
 type At = [i32; 2];
 
+/// Whether the `k`-th of some distances is this one, and the `k`-th of some numbers, as far as these go, that of the
+/// parents opened.
+fn is_row<S: PartialEq>(
+    distances: &[S],
+    opened: &[usize],
+    k: usize,
+    found: &S,
+    count: usize,
+) -> bool {
+    k < distances.len() && distances[k] == *found && (opened.len() <= k || opened[k] == count)
+}
+
 /// Whether an iterator opens no parent before it is asked, gives neighbours at these squared distances with so many
 /// parents opened after each, as far as these numbers go, and then none.
 fn gives<T: PointDistance>(
@@ -39,12 +51,12 @@ fn gives<T: PointDistance>(
     }
     for k in 0..distances.len().saturating_add(1) {
         match neighbors.next() {
-            Some(Ok((_, found))) => if k == distances.len()
-                || found != distances[k]
-                || (k < opened.len() && neighbors.opened() != opened[k])
-            {
-                return false;
-            },
+            Some(Ok((_, found))) => {
+                let count = neighbors.opened();
+                if !is_row(distances, opened, k, &found, count) {
+                    return false;
+                }
+            }
             Some(Err(_)) => return false,
             None => return k == distances.len(),
         }
@@ -64,11 +76,12 @@ fn gives_elements<T: PointDistance>(
 {
     for k in 0..distances.len().saturating_add(1) {
         match neighbors.next() {
-            Some(Ok(element)) => if k == distances.len()
-                || element.distance_2(place) != distances[k]
-            {
-                return false;
-            },
+            Some(Ok(element)) => {
+                let found = element.distance_2(place);
+                if !is_row(distances, &[], k, &found, 0) {
+                    return false;
+                }
+            }
             Some(Err(_)) => return false,
             None => return k == distances.len(),
         }
