@@ -1,4 +1,4 @@
-use Rattle.std.proofs.Common.{◌∷◌, [], ◌++◌, map, min, Some, sym, subst, ap, ◌∙◌, refl}
+use Rattle.std.proofs.Common.{◌∷◌, [], map, min, Some, sym, subst, ap, ◌∙◌, refl}
 use Rattle.std.proofs.lemmas.List.{map-append}
 use Rattle.rstar_base.specs.Points.{table}
 use Rattle.rstar.specs.Nodes.{parents_of}

@@ -1,4 +1,4 @@
-use Rattle.std.proofs.Common.{◌∙◌, refl, ap, map}
+use Rattle.std.proofs.Common.{◌∙◌, ap, map}
 use Rattle.rstar.proofs.Chains.{selection_end}
 use Rattle.rstar.specs.Selections.{to_come}
 use Rattle.rstar_vectors.proofs.places.taken.Goals as goal
