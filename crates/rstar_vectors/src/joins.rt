@@ -176,50 +176,60 @@ const DIAGONAL: [Corners; 7] = [
     ([103, 103], [104, 104]),
 ];
 
-// The corners of the plots of two trees, and the points of a third; the pairs given and the pairs of nodes opened of the
-// plots, those of the first tree with the points, and those of the points with the same: trees of one height, and of two,
-// and empty ones on either side.
+/// The corners of the plots of two trees, the points of a third, and three counts of pairs and of pairs of nodes opened.
+type Meeting = (
+    &'static [Corners],
+    &'static [Corners],
+    &'static [[i32; 2]],
+    [(usize, usize); 3],
+);
+
+// Of the points along a line with themselves.
+const LINE: (usize, usize) = (7, 3);
+
+// What is counted is the plots, those of the first tree with the points, and the points with themselves: trees of one
+// height, and of two, and empty ones on either side.
+const MEETINGS: [Meeting; 10] = [
+    (
+        &[SQUARE, SQUARE],
+        &[([2, 2], [4, 4])],
+        &ALONG_A_LINE,
+        [(2, 1), (6, 3), LINE],
+    ),
+    (
+        &[([2, 2], [4, 4])],
+        &[SQUARE, SQUARE],
+        &ALONG_A_LINE,
+        [(2, 1), (0, 0), LINE],
+    ),
+    (
+        &[SQUARE],
+        &[([3, 3], [4, 4])],
+        &ALONG_A_LINE,
+        [(0, 0), (3, 2), LINE],
+    ),
+    (&[SQUARE], &[], &ALONG_A_LINE, [(0, 0), (3, 2), LINE]),
+    (&[SQUARE], &DIAGONAL, &ALONG_A_LINE, [(3, 2), (3, 2), LINE]),
+    (&DIAGONAL, &DIAGONAL, &ALONG_A_LINE, [(17, 3), (2, 2), LINE]),
+    (&[], &[], &ALONG_A_LINE, [(0, 0), (0, 0), LINE]),
+    (&[SQUARE], &[SQUARE], &[], [(1, 1), (0, 0), (0, 0)]),
+    (
+        &[SQUARE],
+        &[SQUARE],
+        &[[0, 0], [2, 2], [2, 2], [5, 5]],
+        [(1, 1), (3, 1), (6, 1)],
+    ),
+    (
+        &[SQUARE, ([2, 2], [4, 4])],
+        &[],
+        &[[0, 0], [2, 2], [2, 2], [5, 5]],
+        [(0, 0), (5, 1), (6, 1)],
+    ),
+];
+
 #[test]
 fn pairs_that_intersect(rt: HostRuntime) -> Result<(), Fail> {
-    let line = (7, 3);
-    let rows: [(&[Corners], &[Corners], &[[i32; 2]], [(usize, usize); 3]); 10] = [
-        (
-            &[SQUARE, SQUARE],
-            &[([2, 2], [4, 4])],
-            &ALONG_A_LINE,
-            [(2, 1), (6, 3), line],
-        ),
-        (
-            &[([2, 2], [4, 4])],
-            &[SQUARE, SQUARE],
-            &ALONG_A_LINE,
-            [(2, 1), (0, 0), line],
-        ),
-        (
-            &[SQUARE],
-            &[([3, 3], [4, 4])],
-            &ALONG_A_LINE,
-            [(0, 0), (3, 2), line],
-        ),
-        (&[SQUARE], &[], &ALONG_A_LINE, [(0, 0), (3, 2), line]),
-        (&[SQUARE], &DIAGONAL, &ALONG_A_LINE, [(3, 2), (3, 2), line]),
-        (&DIAGONAL, &DIAGONAL, &ALONG_A_LINE, [(17, 3), (2, 2), line]),
-        (&[], &[], &ALONG_A_LINE, [(0, 0), (0, 0), line]),
-        (&[SQUARE], &[SQUARE], &[], [(1, 1), (0, 0), (0, 0)]),
-        (
-            &[SQUARE],
-            &[SQUARE],
-            &[[0, 0], [2, 2], [2, 2], [5, 5]],
-            [(1, 1), (3, 1), (6, 1)],
-        ),
-        (
-            &[SQUARE, ([2, 2], [4, 4])],
-            &[],
-            &[[0, 0], [2, 2], [2, 2], [5, 5]],
-            [(0, 0), (5, 1), (6, 1)],
-        ),
-    ];
-    for (lefts, rights, points, counts) in rows {
+    for (lefts, rights, points, counts) in MEETINGS {
         let lefts = plots(rt.alloc(), lefts)?;
         let rights = plots(rt.alloc(), rights)?;
         assert!(rt; meet(rt.alloc(), &lefts, &rights, points, counts));
