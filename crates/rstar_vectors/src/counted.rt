@@ -85,29 +85,27 @@ impl<P: Point> Counts for Place<P> {
     }
 }
 
-/// How many elements lie below some nodes, at most `levels` levels of parents down: the greatest number where a parent
-/// counts another.
-fn count_below<T: Counts>(nodes: &[RTreeNode<T>], levels: usize) -> usize {
+/// How many elements lie below some nodes, at most `levels` levels of parents down: none where a parent counts another
+/// number.
+fn count_below<T: Counts>(nodes: &[RTreeNode<T>], levels: usize) -> Option<usize> {
     let mut count = 0usize;
     for node in nodes {
         let own = match node {
             RTreeNode::Leaf(_) => 1,
             RTreeNode::Parent(parent) => {
                 if levels == 0 {
-                    usize::MAX
-                } else {
-                    let below = count_below(parent.children(), levels - 1);
-                    if T::count(parent.envelope()) == below {
-                        below
-                    } else {
-                        usize::MAX
-                    }
+                    return None;
                 }
+                let below = count_below(parent.children(), levels - 1)?;
+                if T::count(parent.envelope()) != below {
+                    return None;
+                }
+                below
             }
         };
         count = count.saturating_add(own);
     }
-    count
+    Some(count)
 }
 
 /// Whether the root counts so many elements, and each parent those below it.
@@ -115,7 +113,7 @@ fn counts_all<T: Counts>(tree: &RTree<T>, all: usize) -> bool {
     let root = tree.root();
     T::count(root.envelope()) == all
         && tree.size() == all
-        && count_below(root.children(), 64) == all
+        && count_below(root.children(), 64) == Some(all)
 }
 
 /// Inserts elements, and tells whether all parents count what lies below them after each.
@@ -185,18 +183,6 @@ fn count_always<T: Counts + Copy>(
     }
 }
 
-/// The same of places.
-fn places_count_always<P: Point + Copy>(
-    first: Vec<Place<P>>,
-    others: &[Place<P>],
-    removed: &[Place<P>],
-    left: &[usize],
-) -> bool
-    requires { 2 ≤ P.DIMENSIONS }
-{
-    count_always(first, others, removed, left)
-}
-
 /// The places with the numbers from one up to another, without that, on a line that wraps around in both coordinates.
 fn places(alloc: Global, from: usize, end: usize) -> Result<Vec<Place<[i64; 2]>>, AllocError> {
     let mut places = Vec::new(alloc);
@@ -255,6 +241,6 @@ fn every_element_is_merged_once(rt: HostRuntime) -> Result<(), Fail> {
         Some(tree) => assert!(rt; count_at_root(&tree) == 1000),
         None => assert!(rt; false),
     }
-    assert!(rt; places_count_always(first, &others, &removed, &[700, 400, 100, 0]));
+    assert!(rt; count_always(first, &others, &removed, &[700, 400, 100, 0]));
     Ok(())
 }

@@ -141,16 +141,6 @@ fn carried_is_so_far<R: PointDistance>(
         && lent.distance_2(point) == distance
 }
 
-/// The same of the line between two ends.
-fn carried_line_is_so_far<P: Point + Copy>(
-    ends: (P, P),
-    point: &P,
-    distance: P::Scalar,
-    lesser: P::Scalar,
-) -> bool {
-    carried_is_so_far(Line::new(ends.0, ends.1), point, distance, lesser)
-}
-
 /// Whether a point with a number contains itself, and a shared one is so far from another.
 fn carried_point_answers<P: Point + Copy>(
     alloc: Global,
@@ -169,8 +159,8 @@ fn carried_point_answers<P: Point + Copy>(
 
 #[test]
 fn carriers_answer_as_what_they_carry(rt: HostRuntime) -> Result<(), Fail> {
-    let ends: ([i64; 2], [i64; 2]) = ([0, 0], [10, 0]);
-    assert!(rt; carried_line_is_so_far(ends, &[9, 2], 4, 3));
+    let line = Line::new([0i64, 0], [10, 0]);
+    assert!(rt; carried_is_so_far(line, &[9, 2], 4, 3));
     assert!(rt; carried_point_answers(rt.alloc(), [1i64, 2], &[1, 5], 9)?);
     Ok(())
 }

@@ -299,19 +299,6 @@ fn met_by_loads<T: RTreeObject + Copy>(
         && matches!(count(alloc, &left, &left), Some((n, _)) if n == own)
 }
 
-/// The same of points.
-fn points_met_by_loads<P: Point + Copy>(
-    alloc: Global,
-    lefts: &[P],
-    rights: &[P],
-    pairs: usize,
-    own: usize,
-) -> bool
-    requires { 2 ≤ P.DIMENSIONS }
-{
-    met_by_loads(alloc, lefts, rights, pairs, own)
-}
-
 /// The points `[i, 0]` for each number below a count.
 fn on_a_line(alloc: Global, count: i32) -> Result<Vec<[i32; 2]>, AllocError> {
     let mut points = Vec::new(alloc);
@@ -325,8 +312,8 @@ fn on_a_line(alloc: Global, count: i32) -> Result<Vec<[i32; 2]>, AllocError> {
 fn loads_of_unequal_height(rt: HostRuntime) -> Result<(), Fail> {
     let line = on_a_line(rt.alloc(), 28)?;
     let twice = [[5, 0], [5, 0]];
-    assert!(rt; points_met_by_loads(rt.alloc(), &line, &twice, 2, 28));
-    assert!(rt; points_met_by_loads(rt.alloc(), &twice, &line, 2, 4));
+    assert!(rt; met_by_loads(rt.alloc(), &line, &twice, 2, 28));
+    assert!(rt; met_by_loads(rt.alloc(), &twice, &line, 2, 4));
     Ok(())
 }
 
@@ -350,7 +337,7 @@ fn points_meet_themselves_alone(rt: HostRuntime) -> Result<(), Fail> {
     for (count, is_odd, others) in [(1000, false, 2000), (2000, true, 1000)] {
         let all = apart(rt.alloc(), count, is_odd)?;
         let rest = apart(rt.alloc(), others, !is_odd)?;
-        assert!(rt; points_met_by_loads(rt.alloc(), &all, &rest, 0, count));
+        assert!(rt; met_by_loads(rt.alloc(), &all, &rest, 0, count));
     }
     Ok(())
 }

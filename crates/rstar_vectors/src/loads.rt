@@ -577,6 +577,7 @@ fn found_in_load<T: PointDistance + Copy>(
 fn fences_are_loaded_queried_and_inserted(rt: HostRuntime) {
     let near = Fence::new(Rectangle::from_corners([0, 0], [2, 2]), 7);
     let far = Fence::new(Rectangle::from_corners([5, 5], [9, 9]), 8);
-    let found = found_in_load(rt.alloc(), &[near, far], [1, 1], far);
+    let more = Fence::new(Rectangle::from_corners([9, 9], [5, 5]), 9);
+    let found = found_in_load(rt.alloc(), &[near, far], [1, 1], more);
     assert!(rt; found == Some((true, 3)));
 }

@@ -296,26 +296,6 @@ fn lines_come_by_their_own_distances(rt: HostRuntime) {
     assert!(rt; come_at(rt.alloc(), &lines, [9, 0], &[0, 25], &[]));
 }
 
-/// Whether all elements come at these squared distances from a place, and are popped at others from another.
-fn come_and_are_popped<T: PointDistance + PartialEq + Copy>(
-    alloc: Global,
-    elements: &[T],
-    place: PointOf<T>,
-    distances: &[Distance<T>],
-    popped_from: PointOf<T>,
-    popped: &[Distance<T>],
-) -> Result<bool, AllocError>
-where
-    PointOf<T>: Copy,
-    requires narrow { IsNarrow T.Envelope.Point.row }
-    requires dimensions { 2 ≤ T.Envelope.Point.DIMENSIONS }
-{
-    Ok(
-        come_at(alloc, elements, place, distances, &[])
-            && popped_at(alloc, elements, popped_from, popped)?,
-    )
-}
-
 // Two plots that touch, both seen from a corner of the one and popped at the other's side, the other first.
 #[test]
 fn plots_come_by_their_own_distances(rt: HostRuntime) -> Result<(), Fail> {
@@ -323,7 +303,8 @@ fn plots_come_by_their_own_distances(rt: HostRuntime) -> Result<(), Fail> {
         GeomWithData::new(Rectangle::from_corners([0i64, 0], [2, 2]), 7u64),
         GeomWithData::new(Rectangle::from_corners([2, 2], [4, 4]), 8),
     ];
-    assert!(rt; come_and_are_popped(rt.alloc(), &plots, [0, 0], &[0, 8], [9, 9], &[50, 98])?);
+    assert!(rt; come_at(rt.alloc(), &plots, [0, 0], &[0, 8], &[]));
+    assert!(rt; popped_at(rt.alloc(), &plots, [9, 9], &[50, 98])?);
     Ok(())
 }
 

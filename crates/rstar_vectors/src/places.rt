@@ -81,6 +81,20 @@ fn taken<'a, T: RTreeObject, Func: SelectionFunction<T>>(
     Ok(all)
 }
 
+/// The elements inside an envelope, by a `for`.
+fn inside<'a, T: RTreeObject>(
+    alloc: Global,
+    tree: &'a RTree<T>,
+    envelope: T::Envelope,
+) -> Result<Vec<&'a T>, AllocError>
+    requires { IsWholeTree T.Envelope.boxes T.object ⟦<DefaultParams as RTreeParams>⟧.MAX_SIZE tree.now }
+    ensures { IfOk result (λ v. map (λ r. r.now) v.items
+        ≡ filter (λ t. T.Envelope.boxes.contains envelope (T.object.box_of t)) (elements_in tree.now)) }
+{
+    let all = taken(alloc, tree.locate_in_envelope(envelope)?)?;
+    Ok(all)
+}
+
 /// The first element inside an envelope that a `next` gives.
 fn first_inside<T: RTreeObject>(
     tree: &RTree<T>,
@@ -107,7 +121,7 @@ where
     requires { IsWholeTree T.Envelope.boxes T.object ⟦<DefaultParams as RTreeParams>⟧.MAX_SIZE tree.now }
 {
     let all = listed(alloc, tree)?.len();
-    let all_near = taken(alloc, tree.locate_in_envelope(area)?)?.len();
+    let all_near = inside(alloc, tree, area)?.len();
     let has_first = first_inside(tree, area)?.is_some();
     Ok(
         all == 2

@@ -483,6 +483,9 @@ fn drains_end_where_none_is_left(rt: HostRuntime) -> Result<(), Fail> {
 #[test]
 fn callers_drain_and_insert_again(rt: HostRuntime) {
     let three = [[0i64, 0], [1, 1], [2, 2]];
+    let all = AABB::from_corners([0, 0], [2, 2]);
+    let points = ([9, 9], [7, 8]);
+    assert!(rt; stands_with_one_in(rt.alloc(), &three, all, [7, 8], 2, points));
     match inserted::<[i64; 2], DefaultParams>(rt.alloc(), &three) {
         Some(mut tree) => assert!(rt; matches!(two_points_out_one_in(&mut tree), Ok(2))),
         None => assert!(rt; false),

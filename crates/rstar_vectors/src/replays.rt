@@ -107,17 +107,36 @@ fn fit_ones<T: PointDistance + EqualEnvelopes>(
     Ok(fit)
 }
 
-/// The replies to commands that one `replay` runs on an empty tree, and the size that it leaves.
+/// The replies to commands that one `replay` runs on an empty tree.
 fn replies<T: PointDistance + EqualEnvelopes + Clone>(
     alloc: Global,
     commands: Vec<Command<T>>,
-) -> Result<(Vec<Reply<T>>, usize), AllocError>
+) -> Result<Vec<Reply<T>>, AllocError>
     requires dimensions { 2 ≤ T.Envelope.Point.DIMENSIONS }
     requires clones { ClonesEqual T.is_clone }
 {
     let mut tree: RTree<T> = RTree::default(alloc);
-    let replies = replay(&mut tree, fit_ones(alloc, commands)?)?;
-    Ok((replies, tree.size()))
+    replay(&mut tree, fit_ones(alloc, commands)?)
+}
+
+/// The replies to those commands that are fit, run one by one on an empty tree, and its size after each.
+fn replies_and_sizes<T: PointDistance + EqualEnvelopes + Clone>(
+    alloc: Global,
+    commands: Vec<Command<T>>,
+) -> Result<(Vec<Reply<T>>, Vec<usize>), AllocError>
+    requires dimensions { 2 ≤ T.Envelope.Point.DIMENSIONS }
+    requires clones { ClonesEqual T.is_clone }
+{
+    let mut tree: RTree<T> = RTree::default(alloc);
+    let mut replies = Vec::new(alloc);
+    let mut sizes = Vec::new(alloc);
+    for command in commands {
+        if is_fit(&command) {
+            replies.push(step(&mut tree, command))?;
+            sizes.push(tree.size())?;
+        }
+    }
+    Ok((replies, sizes))
 }
 
 /// How many pairs commands are answered, all together.
@@ -128,9 +147,8 @@ fn pairs_given<T: PointDistance + EqualEnvelopes + Clone>(
     requires dimensions { 2 ≤ T.Envelope.Point.DIMENSIONS }
     requires clones { ClonesEqual T.is_clone }
 {
-    let (replies, _size) = replies(alloc, commands)?;
     let mut count = 0usize;
-    for reply in replies.iter() {
+    for reply in replies(alloc, commands)?.iter() {
         if let Reply::Pairs(pairs) = reply {
             count = count.saturating_add(pairs.len());
         }
@@ -462,24 +480,28 @@ fn drawn(alloc: Global, count: usize) -> Result<Vec<Draw>, AllocError> {
     Ok(all)
 }
 
-/// The commands that are drawn, and the replies to them, as `replies` gives these.
-fn replies_to(alloc: Global, draws: &[Draw]) -> Result<(Vec<Reply<At>>, usize), AllocError> {
+/// The commands that are drawn.
+fn commands_of(alloc: Global, draws: &[Draw]) -> Result<Vec<Command<At>>, AllocError> {
     let mut commands = Vec::new(alloc);
     for draw in draws {
         commands.push(command_of(alloc, draw)?)?;
     }
-    replies(alloc, commands)
+    Ok(commands)
 }
 
-/// Whether commands are answered over a tree as over a plain list, each of them, and leave as many points.
+/// Whether commands, run one by one, are answered over a tree as over a plain list, with as many points after each.
 fn are_alike(alloc: Global, draws: &[Draw]) -> Result<bool, AllocError> {
-    let (replies, size) = replies_to(alloc, draws)?;
-    let mut list = Vec::new(alloc);
-    let mut alike = replies.len() == draws.len();
-    for (draw, reply) in draws.iter().zip(replies.iter()) {
-        alike = is_right(alloc, &mut list, draw, reply)? && alike;
+    let (replies, sizes) = replies_and_sizes(alloc, commands_of(alloc, draws)?)?;
+    if replies.len() != draws.len() || sizes.len() != draws.len() {
+        return Ok(false);
     }
-    Ok(alike && size == list.len())
+    let mut list = Vec::new(alloc);
+    let mut alike = true;
+    for k in 0..draws.len() {
+        alike = is_right(alloc, &mut list, &draws[k], &replies[k])? && alike;
+        alike = sizes[k] == list.len() && alike;
+    }
+    Ok(alike)
 }
 
 #[test]
@@ -506,7 +528,8 @@ fn given(reply: &Reply<At>) -> Option<usize> {
 /// What a command does, the place that it names, the number that it names, and how many elements its reply gives.
 type Row = (Kind, At, usize, usize);
 
-/// Whether the commands of some rows are answered as over a list, and give as many elements as the rows say.
+/// Whether the commands of some rows, run by one `replay`, give as many elements as the rows say, and run one by one
+/// are answered as over a list.
 fn go(alloc: Global, rows: &[Row]) -> Result<bool, AllocError> {
     let mut draws = Vec::new(alloc);
     for (kind, place, number, _) in rows {
@@ -519,7 +542,7 @@ fn go(alloc: Global, rows: &[Row]) -> Result<bool, AllocError> {
             most: *number,
         })?;
     }
-    let (replies, _size) = replies_to(alloc, &draws)?;
+    let replies = replies(alloc, commands_of(alloc, &draws)?)?;
     let mut right = replies.len() == rows.len();
     for (row, reply) in rows.iter().zip(replies.iter()) {
         right = given(reply) == Some(row.3) && right;

@@ -163,6 +163,12 @@ fn is_asked_one_by_one<T: RTreeObject + Copy>(alloc: Global, elements: &[T]) -> 
     }
 }
 
+// rstar's test `test_leaves_are_tested_lazily`: each `next` asks one leaf more.
+#[test]
+fn a_leaf_is_asked_when_the_walk_comes_to_it(rt: HostRuntime) {
+    assert!(rt; is_asked_one_by_one(rt.alloc(), &ALONG_A_LINE));
+}
+
 /// Whether a visit of the elements in an envelope ends at the call that breaks, whose break is the answer.
 fn ends_at<T: RTreeObject + Copy>(
     alloc: Global,
@@ -190,21 +196,10 @@ fn ends_at<T: RTreeObject + Copy>(
     }
 }
 
-/// Both, of a walk over all and of a visit of an envelope.
-fn goes_one_by_one<T: RTreeObject + Copy>(
-    alloc: Global,
-    elements: &[T],
-    area: T::Envelope,
-    last: usize,
-) -> bool {
-    is_asked_one_by_one(alloc, elements) && ends_at(alloc, elements, area, last)
-}
-
-// rstar's test `test_leaves_are_tested_lazily`: each `next` asks one leaf more; and a visit ends at its third call.
 #[test]
-fn a_leaf_is_asked_when_the_walk_comes_to_it(rt: HostRuntime) {
+fn a_visit_ends_at_a_break(rt: HostRuntime) {
     let area = AABB::from_corners([0, 0], [103, 0]);
-    assert!(rt; goes_one_by_one(rt.alloc(), &ALONG_A_LINE, area, 3));
+    assert!(rt; ends_at(rt.alloc(), &ALONG_A_LINE, area, 3));
 }
 
 /// Whether an element is one, whether the envelope contains it, whether it intersects it, whether the element contains

@@ -119,40 +119,32 @@ mod tests {
         Some([first, second, third, sum(&tree)])
     }
 
-    /// What the first visit breaks with and sums up, where it goes on and where it breaks, and the sums of the others.
-    fn sum_up<R: PointDistance + Copy>(
-        alloc: Global,
-        three: &[Numbered<R>],
-        two: &[Numbered<R>],
-        area: &R::Envelope,
-        point: PointOf<R>,
-        cleared: R::Envelope,
-    ) -> (Option<(u64, u64)>, Option<(u64, u64)>, Option<[u64; 4]>) {
-        (
-            sum_after(alloc, three, false),
-            sum_after(alloc, three, true),
-            sums_after(alloc, two, area, point, cleared),
-        )
-    }
-
-    // Whether the visitor breaks at its first call, and the sum of the numbers 1, 2 and 3 after it added 10 at each; then
-    // two fences; a box that contains neither, and touches the first, a point inside that, and the point at its corner.
+    // Whether the visitor breaks at its first call, and the sum of the numbers 1, 2 and 3 after it added 10 at each.
     #[test]
-    fn visits_write_what_they_select(rt: HostRuntime) {
+    fn a_visit_writes_until_a_break(rt: HostRuntime) {
         let fence = Rectangle::from_corners([0i64, 0], [2, 2]);
         let three = [
-            Numbered::new(fence, 1),
-            Numbered::new(fence, 2),
-            Numbered::new(fence, 3),
+            Fence::new(fence, 1),
+            Fence::new(fence, 2),
+            Fence::new(fence, 3),
         ];
-        let two = [
-            Numbered::new(fence, 7),
-            Numbered::new(Rectangle::from_corners([3, 3], [4, 4]), 5),
-        ];
+        assert!(rt; sum_after(rt.alloc(), &three, false) == Some((0, 36)));
+        assert!(rt;
+            matches!(
+                sum_after(rt.alloc(), &three, true),
+                Some((11 | 12 | 13, 16))
+            )
+        );
+    }
+
+    // Two fences; a box that contains neither, and touches the first, a point inside that, and the point at its corner.
+    #[test]
+    fn visits_write_what_they_select(rt: HostRuntime) {
+        let fence = Fence::new(Rectangle::from_corners([0i64, 0], [2, 2]), 7);
+        let other = Fence::new(Rectangle::from_corners([3, 3], [4, 4]), 5);
         let area = AABB::from_corners([0, 0], [1, 1]);
         let corner = AABB::from_point([2, 2]);
-        let (went_on, broken, sums) = sum_up(rt.alloc(), &three, &two, &area, [1, 1], corner);
-        assert!(rt; went_on == Some((0, 36)) && sums == Some([12, 13, 14, 5]));
-        assert!(rt; matches!(broken, Some((11 | 12 | 13, 16))));
+        let sums = sums_after(rt.alloc(), &[fence, other], &area, [1, 1], corner);
+        assert!(rt; sums == Some([12, 13, 14, 5]));
     }
 }
