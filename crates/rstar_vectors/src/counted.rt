@@ -164,23 +164,19 @@ fn count_drained<T: Counts>(tree: &mut RTree<T>, most: usize, left: &[usize]) ->
 /// Whether all parents of a loaded tree count what lies below them, and so after each insertion, each removal and each
 /// drain of at most 300, after which so many are left.
 fn count_always<T: Counts + Copy>(
-    first: Vec<T>,
+    alloc: Global,
+    first: &[T],
     others: &[T],
     removed: &[T],
     left: &[usize],
 ) -> bool
     requires { 2 ≤ T.Envelope.Point.DIMENSIONS }
 {
-    let count = first.len();
-    match loaded(first) {
-        Ok(mut tree) => {
-            counts_all(&tree, count)
-                && count_in(&mut tree, others)
-                && count_out(&mut tree, removed)
-                && count_drained(&mut tree, 300, left)
-        }
-        Err(_) => false,
-    }
+    let mut tree = loaded(alloc, first);
+    counts_all(&tree, first.len())
+        && count_in(&mut tree, others)
+        && count_out(&mut tree, removed)
+        && count_drained(&mut tree, 300, left)
 }
 
 /// The places with the numbers from one up to another, without that, on a line that wraps around in both coordinates.
@@ -237,10 +233,8 @@ fn every_element_is_merged_once(rt: HostRuntime) -> Result<(), Fail> {
     let first = places(rt.alloc(), 0, 500)?;
     let others = places(rt.alloc(), 500, 2000)?;
     let removed = places(rt.alloc(), 0, 1000)?;
-    match inserted(rt.alloc(), &removed) {
-        Some(tree) => assert!(rt; count_at_root(&tree) == 1000),
-        None => assert!(rt; false),
-    }
-    assert!(rt; count_always(first, &others, &removed, &[700, 400, 100, 0]));
+    let tree = inserted(rt.alloc(), &removed);
+    assert!(rt; count_at_root(&tree) == 1000);
+    assert!(rt; count_always(rt.alloc(), &first, &others, &removed, &[700, 400, 100, 0]));
     Ok(())
 }

@@ -122,9 +122,7 @@ fn is_shaped<T: RTreeObject + Copy>(
     one: &(usize, T::Envelope),
     other: &(usize, T::Envelope),
 ) -> bool {
-    let Some(tree) = inserted::<T, DefaultParams>(alloc, elements) else {
-        return false;
-    };
+    let tree = inserted::<T, DefaultParams>(alloc, elements);
     let nodes = tree.root().children();
     tree.size() == elements.len()
         && stands(&tree)
@@ -230,9 +228,7 @@ fn too_many_lists_are_refused_first(rt: HostRuntime) {
 
 /// Whether the root of a tree of these elements has two parents of leaves, of three to six children each.
 fn splits_once<T: RTreeObject + Copy>(alloc: Global, elements: &[T]) -> bool {
-    let Some(tree) = inserted::<T, DefaultParams>(alloc, elements) else {
-        return false;
-    };
+    let tree = inserted::<T, DefaultParams>(alloc, elements);
     let root = tree.root();
     tree.size() == elements.len()
         && root.children().len() == 2

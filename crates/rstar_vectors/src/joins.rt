@@ -9,9 +9,8 @@ ghost use Rattle.rstar.specs.Joins.{meets_by, join, meet_by, pairs_to_come, IsJo
 ghost use Rattle.rstar.specs.Meets.{meet_of_roots};
 ghost use Rattle.rstar.specs.Trees.{root_of, elements_in, IsWholeTree};
 
-use crate::loads::load_of;
 use crate::payloads::Plot;
-use crate::scenarios::{ALONG_A_LINE, inserted};
+use crate::scenarios::{ALONG_A_LINE, inserted, loaded};
 use rstar::iterators::{InEnvelope, IntersectionIterator};
 use rstar::primitives::{GeomWithData, Rectangle};
 use rstar::{AABB, DefaultParams, Envelope, Point, RTree, RTreeObject, RTreeParams};
@@ -108,17 +107,6 @@ fn plots<P: Point + Copy>(alloc: Global, corners: &[(P, P)]) -> Result<Vec<PlotA
     Ok(all)
 }
 
-/// A load of these elements; an empty tree where it is refused.
-fn filled<T: RTreeObject + Copy>(alloc: Global, elements: &[T]) -> RTree<T>
-    requires { 2 ≤ T.Envelope.Point.DIMENSIONS }
-    ensures { IsWholeTree T.Envelope.boxes T.object ⟦<DefaultParams as RTreeParams>⟧.MAX_SIZE result }
-{
-    match load_of(alloc, elements) {
-        Ok(tree) => tree,
-        Err(_) => RTree::new(alloc),
-    }
-}
-
 /// Whether a join of two trees of elements of one type counts so, and that of the second with the first.
 fn meet_alike<T: RTreeObject>(
     alloc: Global,
@@ -149,15 +137,9 @@ fn meet<
     U: InEnvelope<<T as RTreeObject>::Envelope> + Copy,
 >(alloc: Global, lefts: &[T], rights: &[T], points: &[U], counts: [(usize, usize); 3]) -> bool {
     let [given, with_points, of_points] = counts;
-    let Some(left) = inserted(alloc, lefts) else {
-        return false;
-    };
-    let Some(right) = inserted(alloc, rights) else {
-        return false;
-    };
-    let Some(third) = inserted(alloc, points) else {
-        return false;
-    };
+    let left = inserted(alloc, lefts);
+    let right = inserted(alloc, rights);
+    let third = inserted(alloc, points);
     meet_alike(alloc, &left, &right, given)
         && meet_both_ways(alloc, &left, &third, with_points)
         && meet_alike(alloc, &third, &third, of_points)
@@ -227,12 +209,22 @@ const MEETINGS: [Meeting; 10] = [
     ),
 ];
 
+/// The same of plots between these corners.
+fn plots_meet(alloc: Global, meeting: &Meeting) -> Result<bool, AllocError> {
+    let (lefts, rights, points, counts) = *meeting;
+    Ok(meet(
+        alloc,
+        &plots(alloc, lefts)?,
+        &plots(alloc, rights)?,
+        points,
+        counts,
+    ))
+}
+
 #[test]
 fn pairs_that_intersect(rt: HostRuntime) -> Result<(), Fail> {
-    for (lefts, rights, points, counts) in MEETINGS {
-        let lefts = plots(rt.alloc(), lefts)?;
-        let rights = plots(rt.alloc(), rights)?;
-        assert!(rt; meet(rt.alloc(), &lefts, &rights, points, counts));
+    for meeting in MEETINGS.iter() {
+        assert!(rt; plots_meet(rt.alloc(), meeting)?);
     }
     Ok(())
 }
@@ -278,8 +270,8 @@ fn met_as_scanned<T: RTreeObject + PartialEq + Copy>(
 ) -> bool
     requires { 2 ≤ T.Envelope.Point.DIMENSIONS }
 {
-    let left = filled(alloc, lefts);
-    let right = filled(alloc, rights);
+    let left = loaded(alloc, lefts);
+    let right = loaded(alloc, rights);
     gives_scanned(alloc, &left, &right, lefts, rights)
 }
 
@@ -293,8 +285,8 @@ fn met_by_loads<T: RTreeObject + Copy>(
 ) -> bool
     requires { 2 ≤ T.Envelope.Point.DIMENSIONS }
 {
-    let left = filled(alloc, lefts);
-    let right = filled(alloc, rights);
+    let left = loaded(alloc, lefts);
+    let right = loaded(alloc, rights);
     matches!(count(alloc, &left, &right), Some((n, _)) if n == pairs)
         && matches!(count(alloc, &left, &left), Some((n, _)) if n == own)
 }

@@ -5,7 +5,7 @@ ghost use Rattle.rstar.specs.Clones.{ClonesEqual};
 ghost use Rattle.rstar.specs.Trees.{IsWholeTree};
 
 use crate::node_sizes::Small;
-use crate::scenarios::{levels_of, loaded, none_empty, points, stands};
+use crate::scenarios::{levels_of, load_of, loaded, none_empty, points, stands};
 use rstar::algorithm::bulk_load::bulk_load_sequential;
 use rstar::node::{ParentNode, RTreeNode};
 use rstar::object::PointOf;
@@ -23,7 +23,7 @@ use std::test::Fail;
 // ---- what a root shows
 
 /// The elements below some nodes, left to right, into a list; false where one does not lie `levels` levels below.
-fn gather<T: RTreeObject + Clone>(
+fn gather<T: RTreeObject + Copy>(
     nodes: &[RTreeNode<T>],
     levels: usize,
     all: &mut Vec<T>,
@@ -34,7 +34,7 @@ fn gather<T: RTreeObject + Clone>(
                 if levels != 0 {
                     return Ok(false);
                 }
-                all.push(element.clone()?)?;
+                all.push(*element)?;
             }
             RTreeNode::Parent(parent) => {
                 if levels == 0 || !gather(parent.children(), levels - 1, all)? {
@@ -77,7 +77,7 @@ fn are_parted<T: RTreeObject>(one: &[T], other: &[T]) -> bool {
 
 /// Whether parents, so many levels above the lowest of them, are cut as a load cuts: more than `MAX_SIZE` elements, at
 /// most half of them below each child, at most `most` children, and any two of them parted.
-fn is_cut<T: RTreeObject + Clone, Params: RTreeParams>(
+fn is_cut<T: RTreeObject + Copy, Params: RTreeParams>(
     alloc: Global,
     parent: &ParentNode<T>,
     levels: usize,
@@ -125,7 +125,7 @@ fn narrowest<T: RTreeObject>(parent: &ParentNode<T>, levels: usize) -> usize {
 }
 
 /// How many elements each child of a root holds, in rising order.
-fn held<T: RTreeObject + Clone>(
+fn held<T: RTreeObject + Copy>(
     alloc: Global,
     root: &ParentNode<T>,
 ) -> Result<Vec<usize>, AllocError> {
@@ -146,29 +146,25 @@ fn held<T: RTreeObject + Clone>(
 // ---- loads
 
 /// Whether a load of these elements has them all, and is loaded.
-fn loads_well<T: RTreeObject + Clone + Ord, Params: RTreeParams>(
+fn loads_well<T: RTreeObject + Copy + Ord, Params: RTreeParams>(
     alloc: Global,
-    elements: Vec<T>,
+    elements: &[T],
     most: usize,
 ) -> Result<bool, AllocError>
     requires { 2 ≤ T.Envelope.Point.DIMENSIONS }
 {
-    let count = elements.len();
-    let mut sources = Vec::new(alloc);
-    for element in elements.iter() {
-        sources.push(element.clone()?)?;
-    }
-    let tree: RTree<T, Params> = loaded(elements)?;
+    let mut sources = elements.to_vec(alloc)?;
+    let mut all = Vec::new(alloc);
+    let tree: RTree<T, Params> = loaded(alloc, elements);
     let root = tree.root();
     let levels = levels_of(root);
-    let mut all = Vec::new(alloc);
     let level = gather(root.children(), levels, &mut all)?;
     all.sort_unstable();
     sources.sort_unstable();
     Ok(
         level
             && all == sources
-            && tree.size() == count
+            && tree.size() == elements.len()
             && stands(&tree)
             && is_cut::<T, Params>(alloc, root, levels, most)?
             && narrowest(root, levels) <= Params::MAX_SIZE,
@@ -194,7 +190,7 @@ fn loads_of_0_to_300_points_are_loaded(rt: HostRuntime) -> Result<(), Fail> {
     for count in 0..301 {
         let flat = points(rt.alloc(), count)?;
         assert!(rt;
-            loads_well::<[i32; 2], DefaultParams>(rt.alloc(), flat, 6)?,
+            loads_well::<[i32; 2], DefaultParams>(rt.alloc(), &flat, 6)?,
             "{count}"
         );
     }
@@ -206,12 +202,12 @@ fn loads_of_many_sizes_are_loaded(rt: HostRuntime) -> Result<(), Fail> {
     for count in [5, 17, 63, 64, 65, 257, 693, 1024, 1537] {
         let flat = points(rt.alloc(), count)?;
         assert!(rt;
-            loads_well::<[i32; 2], Small>(rt.alloc(), flat, 4)?,
+            loads_well::<[i32; 2], Small>(rt.alloc(), &flat, 4)?,
             "{count}"
         );
         let deep = deep_points(rt.alloc(), count)?;
         assert!(rt;
-            loads_well::<[i32; 3], DefaultParams>(rt.alloc(), deep, 8)?,
+            loads_well::<[i32; 3], DefaultParams>(rt.alloc(), &deep, 8)?,
             "{count}"
         );
     }
@@ -219,7 +215,7 @@ fn loads_of_many_sizes_are_loaded(rt: HostRuntime) -> Result<(), Fail> {
 }
 
 /// Whether each child of a root has its elements in such parts.
-fn children_have_parts<T: RTreeObject + Clone>(
+fn children_have_parts<T: RTreeObject + Copy>(
     alloc: Global,
     root: &ParentNode<T>,
     parts: &[usize],
@@ -239,16 +235,16 @@ fn children_have_parts<T: RTreeObject + Clone>(
 
 /// Whether a load has so many levels of parents below its root, and so many elements below each child of it; and, where
 /// that is asked, so many below each child of such a child.
-fn loads_in_parts<T: RTreeObject + Clone>(
-    elements: Vec<T>,
+fn loads_in_parts<T: RTreeObject + Copy>(
+    alloc: Global,
+    elements: &[T],
     levels: usize,
     parts: &[usize],
     below: Option<&[usize]>,
 ) -> Result<bool, AllocError>
     requires { 2 ≤ T.Envelope.Point.DIMENSIONS }
 {
-    let alloc = *elements.allocator();
-    let tree: RTree<T> = loaded(elements)?;
+    let tree: RTree<T> = loaded(alloc, elements);
     let root = tree.root();
     if levels_of(root) != levels || held(alloc, root)?.as_slice() != parts {
         return Ok(false);
@@ -275,15 +271,18 @@ fn loads_have_their_parts(rt: HostRuntime) -> Result<(), Fail> {
     ];
     for (count, levels, parts, below) in rows {
         let flat = points(rt.alloc(), count)?;
-        assert!(rt; loads_in_parts(flat, levels, parts, below)?, "{count}");
+        assert!(rt;
+            loads_in_parts(rt.alloc(), &flat, levels, parts, below)?,
+            "{count}"
+        );
     }
     let deep = deep_points(rt.alloc(), 7)?;
-    assert!(rt; loads_in_parts(deep, 1, &[1; 7], None)?);
+    assert!(rt; loads_in_parts(rt.alloc(), &deep, 1, &[1; 7], None)?);
     Ok(())
 }
 
 /// Whether the root of a load, made by itself, has so many elements below each child; no elements make no root.
-fn root_has_parts<T: RTreeObject + Clone>(
+fn root_has_parts<T: RTreeObject + Copy>(
     elements: Vec<T>,
     parts: &[usize],
 ) -> Result<bool, AllocError>
@@ -308,23 +307,25 @@ fn a_root_alone_is_loaded(rt: HostRuntime) -> Result<(), Fail> {
 
 /// Whether a loaded tree takes more elements, one after another, and stands after each.
 fn takes_more<T: RTreeObject + Copy, Params: RTreeParams>(
-    elements: Vec<T>,
+    alloc: Global,
+    elements: &[T],
     more: &[T],
-) -> Result<bool, AllocError>
+) -> bool
     requires { 2 ≤ T.Envelope.Point.DIMENSIONS }
 {
     let mut count = elements.len();
-    let mut tree: RTree<T, Params> = loaded(elements)?;
+    let mut tree: RTree<T, Params> = loaded(alloc, elements);
     for element in more {
-        if element.envelope().is_empty() || tree.insert(*element).is_err() {
-            return Ok(false);
-        }
         count = count.saturating_add(1);
-        if tree.size() != count || !stands(&tree) {
-            return Ok(false);
+        if element.envelope().is_empty()
+            || tree.insert(*element).is_err()
+            || tree.size() != count
+            || !stands(&tree)
+        {
+            return false;
         }
     }
-    Ok(true)
+    true
 }
 
 const LOADED: [[i32; 3]; 16] = [
@@ -361,14 +362,13 @@ const INSERTED: [[i32; 3]; 10] = [
 
 #[test]
 fn loaded_trees_take_insertions(rt: HostRuntime) -> Result<(), Fail> {
-    let sources = Vec::from_array(rt.alloc(), LOADED)?;
-    assert!(rt; takes_more::<[i32; 3], DefaultParams>(sources, &INSERTED)?);
+    assert!(rt; takes_more::<[i32; 3], DefaultParams>(rt.alloc(), &LOADED, &INSERTED));
     let more = points(rt.alloc(), 40)?;
     // The second has a parent of leaves that is too wide: 7 of 25.
     for count in [0, 25, 28, 37, 300] {
         let flat = points(rt.alloc(), count)?;
         assert!(rt;
-            takes_more::<[i32; 2], DefaultParams>(flat, &more)?,
+            takes_more::<[i32; 2], DefaultParams>(rt.alloc(), &flat, &more),
             "{count}"
         );
     }
@@ -418,7 +418,7 @@ fn loads_cloned_alone<T: RTreeObject + Copy + Debug>(
     requires dimensions { 2 ≤ T.Envelope.Point.DIMENSIONS }
     requires exact { ClonesEqual T.is_clone }
 {
-    let tree = load_of(alloc, elements)?;
+    let tree = loaded(alloc, elements);
     Ok(tree.size() == elements.len() && clones_alone(alloc, &tree, more)?)
 }
 
@@ -432,15 +432,11 @@ fn clones_show_the_same(rt: HostRuntime) -> Result<(), Fail> {
 }
 
 /// Whether a load of these elements prints this.
-fn prints<T: RTreeObject + Copy + Debug>(
-    alloc: Global,
-    elements: &[T],
-    text: &str,
-) -> Result<bool, AllocError>
+fn prints<T: RTreeObject + Copy + Debug>(alloc: Global, elements: &[T], text: &str) -> bool
     requires { 2 ≤ T.Envelope.Point.DIMENSIONS }
 {
-    let tree = load_of(alloc, elements)?;
-    Ok(shows(alloc, &tree, text))
+    let tree: RTree<T> = loaded(alloc, elements);
+    shows(alloc, &tree, text)
 }
 
 #[test]
@@ -455,27 +451,16 @@ fn a_tree_prints_its_size_and_elements(rt: HostRuntime) -> Result<(), Fail> {
     ];
     for (count, text) in rows {
         let same = vec![in rt.alloc(); [0, 1]; count]?;
-        assert!(rt; prints(rt.alloc(), &same, text)?, "{count}");
+        assert!(rt; prints(rt.alloc(), &same, text), "{count}");
     }
     Ok(())
 }
 
 // ---- refused growths
 
-/// A load of these elements.
-pub(crate) fn load_of<T: RTreeObject + Copy>(
-    alloc: Global,
-    elements: &[T],
-) -> Result<RTree<T>, AllocError>
-    requires { 2 ≤ T.Envelope.Point.DIMENSIONS }
-    ensures { IfOk result (IsWholeTree T.Envelope.boxes T.object ⟦<DefaultParams as RTreeParams>⟧.MAX_SIZE) }
-{
-    loaded(elements.to_vec(alloc)?)
-}
-
 /// Whether a tree has so many elements, and so many below the child of its root with the fewest; asked once more where
 /// the list of them is refused.
-fn has_least_part<T: RTreeObject + Clone>(
+fn has_least_part<T: RTreeObject + Copy>(
     alloc: Global,
     tree: &RTree<T>,
     size: usize,
@@ -496,7 +481,7 @@ fn may_be_asked_again<T: RTreeObject + Copy>(
 ) -> Result<bool, AllocError>
     requires { 2 ≤ T.Envelope.Point.DIMENSIONS }
 {
-    let tree = match load_of(alloc, elements) {
+    let tree: RTree<T> = match load_of(alloc, elements) {
         Ok(tree) => tree,
         Err(_) => load_of(alloc, elements)?,
     };
@@ -555,7 +540,7 @@ fn callers_load_query_and_insert(rt: HostRuntime) -> Result<(), Fail> {
     Ok(())
 }
 
-/// The same of a load of these elements; none where it is refused, or one more has an empty envelope.
+/// The same of a load of these elements; none where one more has an empty envelope.
 fn found_in_load<T: PointDistance + Copy>(
     alloc: Global,
     elements: &[T],
@@ -567,10 +552,7 @@ fn found_in_load<T: PointDistance + Copy>(
     if more.envelope().is_empty() {
         return None;
     }
-    match load_of(alloc, elements) {
-        Ok(tree) => Some(found_and_count(tree, point, more)),
-        Err(_) => None,
-    }
+    Some(found_and_count(loaded(alloc, elements), point, more))
 }
 
 #[test]

@@ -36,6 +36,22 @@ fn is_row<S: PartialEq>(
     k < distances.len() && distances[k] == *found && (opened.len() <= k || opened[k] == count)
 }
 
+/// The squared distance of the next neighbour, and how many parents are opened then; none at the end, or where it is
+/// refused.
+fn next_with_opened<T: PointDistance>(
+    neighbors: &mut NearestNeighborDistance2Iterator<'_, T>,
+) -> Option<(Distance<T>, usize)>
+    requires { IsSearching T.Envelope.boxes T.object T.distances T.Envelope.Point.DIMENSIONS
+        T.Envelope.Point.coord T.Envelope.Point.Scalar.cmp T.Envelope.Point.Scalar.value neighbors.old }
+    ensures { IfSome result (λ _. IsSearching T.Envelope.boxes T.object T.distances T.Envelope.Point.DIMENSIONS
+        T.Envelope.Point.coord T.Envelope.Point.Scalar.cmp T.Envelope.Point.Scalar.value neighbors.new) }
+{
+    match neighbors.next() {
+        Some(Ok((_, found))) => Some((found, neighbors.opened())),
+        _ => None,
+    }
+}
+
 /// Whether an iterator opens no parent before it is asked, gives neighbours at these squared distances with so many
 /// parents opened after each, as far as these numbers go, and then none.
 fn gives<T: PointDistance>(
@@ -49,19 +65,32 @@ fn gives<T: PointDistance>(
     if neighbors.opened() != 0 {
         return false;
     }
-    for k in 0..distances.len().saturating_add(1) {
-        match neighbors.next() {
-            Some(Ok((_, found))) => {
-                let count = neighbors.opened();
-                if !is_row(distances, opened, k, &found, count) {
-                    return false;
-                }
-            }
-            Some(Err(_)) => return false,
-            None => return k == distances.len(),
+    for k in 0..distances.len() {
+        match next_with_opened(neighbors) {
+            Some((found, count)) => if !is_row(distances, opened, k, &found, count) {
+                return false;
+            },
+            None => return false,
         }
     }
-    false
+    neighbors.next().is_none()
+}
+
+/// The next element of an iterator without distances; none at the end, or where it is refused.
+fn next_element<'a, T: PointDistance>(
+    neighbors: &mut NearestNeighborIterator<'a, T>,
+) -> Option<&'a T>
+    requires { IsSearching T.Envelope.boxes T.object T.distances T.Envelope.Point.DIMENSIONS
+        T.Envelope.Point.coord T.Envelope.Point.Scalar.cmp T.Envelope.Point.Scalar.value
+        (with_distances neighbors.old) }
+    ensures { IfSome result (λ _. IsSearching T.Envelope.boxes T.object T.distances T.Envelope.Point.DIMENSIONS
+        T.Envelope.Point.coord T.Envelope.Point.Scalar.cmp T.Envelope.Point.Scalar.value
+        (with_distances neighbors.new)) }
+{
+    match neighbors.next() {
+        Some(Ok(element)) => Some(element),
+        _ => None,
+    }
 }
 
 /// Whether an iterator without distances gives elements at these squared distances from a place, and then none.
@@ -74,19 +103,15 @@ fn gives_elements<T: PointDistance>(
         T.Envelope.Point.coord T.Envelope.Point.Scalar.cmp T.Envelope.Point.Scalar.value
         (with_distances neighbors.old) }
 {
-    for k in 0..distances.len().saturating_add(1) {
-        match neighbors.next() {
-            Some(Ok(element)) => {
-                let found = element.distance_2(place);
-                if !is_row(distances, &[], k, &found, 0) {
-                    return false;
-                }
-            }
-            Some(Err(_)) => return false,
-            None => return k == distances.len(),
+    for distance in distances {
+        match next_element(neighbors) {
+            Some(element) => if element.distance_2(place) != *distance {
+                return false;
+            },
+            None => return false,
         }
     }
-    false
+    neighbors.next().is_none()
 }
 
 /// Does nothing but tell that an iterator over neighbours, which holds a point by value, fits in memory.
@@ -230,10 +255,8 @@ where
     PointOf<T>: Copy,
     requires narrow { IsNarrow T.Envelope.Point.row }
 {
-    match inserted::<T, DefaultParams>(alloc, elements) {
-        Some(tree) => answers(&tree, place, distances, opened),
-        None => false,
-    }
+    let tree = inserted::<T, DefaultParams>(alloc, elements);
+    answers(&tree, place, distances, opened)
 }
 
 /// Takes one element that equals this one out of a list, and whether there is one.
@@ -286,7 +309,7 @@ where
     requires dimensions { 2 ≤ T.Envelope.Point.DIMENSIONS }
 {
     let mut rest = Vec::from_slice(alloc, elements)?;
-    let mut tree = loaded::<T, DefaultParams>(Vec::from_slice(alloc, elements)?)?;
+    let mut tree = loaded::<T, DefaultParams>(alloc, elements);
     Ok(pops(&mut tree, &mut rest, place, distances))
 }
 
@@ -335,7 +358,7 @@ where
     requires narrow { IsNarrow T.Envelope.Point.row }
     requires dimensions { 2 ≤ T.Envelope.Point.DIMENSIONS }
 {
-    let load = loaded::<T, DefaultParams>(Vec::from_slice(alloc, elements)?)?;
+    let load = loaded::<T, DefaultParams>(alloc, elements);
     let mut is_so = true;
     for place in places {
         let wanted = scanned(alloc, elements, place)?;
@@ -503,16 +526,32 @@ fn asks_so<T: PointDistance>(
         T.Envelope.Point.coord T.Envelope.Point.Scalar.cmp T.Envelope.Point.Scalar.value
         (with_distances neighbors.old) }
 {
-    for k in 0..rows.len().saturating_add(1) {
-        match neighbors.next() {
-            Some(Ok(_)) => if k == rows.len() || (near.replace(0), far.replace(0)) != rows[k] {
+    for row in rows {
+        match next_element(neighbors) {
+            Some(_) => if (near.replace(0), far.replace(0)) != *row {
                 return false;
             },
-            Some(Err(_)) => return false,
-            None => return k == rows.len(),
+            None => return false,
         }
     }
-    false
+    neighbors.next().is_none()
+}
+
+/// The same of a tree, whose elements were asked before.
+fn asked_so<T: PointDistance>(
+    tree: &RTree<T>,
+    place: PointOf<T>,
+    near: &Cell<u32>,
+    far: &Cell<u32>,
+    rows: &[(u32, u32)],
+) -> bool
+    requires narrow { IsNarrow T.Envelope.Point.row }
+    requires whole { IsWholeTree T.Envelope.boxes T.object ⟦<DefaultParams as RTreeParams>⟧.MAX_SIZE tree.now }
+{
+    near.set(0);
+    far.set(0);
+    fits::<PointOf<T>>();
+    asks_so(&mut tree.nearest_neighbor_iter(place), near, far, rows)
 }
 
 /// The same of a tree of elements, of which the first so many lie near and the others far.
@@ -535,16 +574,8 @@ fn note_who_is_asked<T: PointDistance + Copy>(
             asked,
         })?;
     }
-    fits::<PointOf<T>>();
-    match inserted::<Noting<'_, T>, DefaultParams>(alloc, &list) {
-        Some(tree) => {
-            near.set(0);
-            far.set(0);
-            let mut neighbors = tree.nearest_neighbor_iter(place);
-            Ok(asks_so(&mut neighbors, &near, &far, rows))
-        }
-        None => Ok(false),
-    }
+    let tree = inserted::<Noting<'_, T>, DefaultParams>(alloc, &list);
+    Ok(asked_so(&tree, place, &near, &far, rows))
 }
 
 // The seven points: how often the three on the left and the four on the right are asked at each neighbour. None of the

@@ -15,7 +15,9 @@ use rstar::iterators::SelectionIterator;
 use rstar::object::PointOf;
 use rstar::point::Point;
 use rstar::primitives::{GeomWithData, Rectangle};
-use rstar::{AABB, DefaultParams, Envelope, PointDistance, RTree, RTreeObject, RTreeParams};
+use rstar::{
+    AABB, DefaultParams, Envelope, EqualEnvelopes, PointDistance, RTree, RTreeObject, RTreeParams,
+};
 use std::alloc::{AllocError, Global};
 
 /// A rectangle with a number.
@@ -77,9 +79,39 @@ pub fn points_found<'a>(
     Ok((all, inside, near))
 }
 
-/// The plots that a box touches, those that contain a point, and those that equal one: by
+/// The elements that an envelope touches, those that contain a point, and those that equal one: by
 /// `locate_in_envelope_intersecting`, `locate_all_at_point`, and `locate_with_selection_function` with a
 /// `SelectEqualsFunction`.
+fn met<'a, T: PointDistance + EqualEnvelopes>(
+    alloc: Global,
+    tree: &'a RTree<T>,
+    area: T::Envelope,
+    point: PointOf<T>,
+    wanted: &T,
+) -> Result<(Walked<'a, T>, Walked<'a, T>, Walked<'a, T>), AllocError>
+    requires { IsWholeTree T.Envelope.boxes T.object ⟦<DefaultParams as RTreeParams>⟧.MAX_SIZE tree.now }
+    ensures touching { IfOk result (λ r. map (λ t. t.now) r.0.0.items ≡ filter
+        (λ t. T.Envelope.boxes.intersects area (T.object.box_of t)) (elements_in tree.now)) }
+    ensures here { IfOk result (λ r. map (λ t. t.now) r.1.0.items ≡ filter
+        (λ t. T.distances.contains_point t (table T.Envelope.Point.DIMENSIONS (T.Envelope.Point.coord point)))
+        (elements_in tree.now)) }
+    ensures equal { IfOk result (λ r. map (λ t. t.now) r.2.0.items ≡ filter
+        (λ t. T.eq t wanted.now) (elements_in tree.now)) }
+    ensures opened_touching { IfOk result (λ r. r.0.1
+        ≡ min (reach_of (λ e. T.Envelope.boxes.intersects area e) (root_of tree.now)) usize.MAX) }
+    ensures opened_here { IfOk result (λ r. r.1.1 ≡ min (reach_of (λ e. T.Envelope.boxes.contains_point e
+        (table T.Envelope.Point.DIMENSIONS (T.Envelope.Point.coord point))) (root_of tree.now)) usize.MAX) }
+    ensures opened_equal { IfOk result (λ r. r.2.1 ≡ min (reach_of
+        (λ e. T.Envelope.boxes.contains e (T.object.box_of wanted.now)) (root_of tree.now)) usize.MAX) }
+{
+    let touching = walked(alloc, tree.locate_in_envelope_intersecting(area)?)?;
+    let here = walked(alloc, tree.locate_all_at_point(point)?)?;
+    let func = SelectEqualsFunction::new(wanted);
+    let equal = walked(alloc, tree.locate_with_selection_function(func)?)?;
+    Ok((touching, here, equal))
+}
+
+/// The same of plots.
 pub fn plots_met<'a>(
     alloc: Global,
     tree: &'a RTree<Plot>,
@@ -103,11 +135,7 @@ pub fn plots_met<'a>(
     ensures opened_equal { IfOk result (λ r. r.2.1 ≡ min (reach_of
         (λ e. contains_box e (⟦<Plot as RTreeObject>⟧.object.box_of wanted.now)) (root_of tree.now)) usize.MAX) }
 {
-    let touching = walked(alloc, tree.locate_in_envelope_intersecting(area)?)?;
-    let here = walked(alloc, tree.locate_all_at_point(point)?)?;
-    let func = SelectEqualsFunction::new(wanted);
-    let equal = walked(alloc, tree.locate_with_selection_function(func)?)?;
-    Ok((touching, here, equal))
+    met(alloc, tree, area, point, wanted)
 }
 
 /// An element that contains a point, by `locate_at_point`, and one that contains another, by `locate_at_point_int`.
@@ -239,16 +267,11 @@ mod tests {
     where
         PointOf<R>: Copy,
     {
-        let Some(mut tree) = inserted::<GeomWithData<R, u64>, DefaultParams>(alloc, elements) else {
-            return false;
-        };
-        if !carries(&tree, other, 7)
-            || renumber(&mut tree, point, 9) != is_inside
-            || !carries(&tree, other, if is_inside { 9 } else { 7 })
-        {
-            return false;
-        }
-        renumber_int(&mut tree, point, 10) == is_inside
+        let mut tree = inserted::<GeomWithData<R, u64>, DefaultParams>(alloc, elements);
+        carries(&tree, other, 7)
+            && renumber(&mut tree, point, 9) == is_inside
+            && carries(&tree, other, if is_inside { 9 } else { 7 })
+            && renumber_int(&mut tree, point, 10) == is_inside
             && carries(&tree, other, if is_inside { 10 } else { 7 })
     }
 
@@ -309,32 +332,27 @@ mod tests {
         elements: &[GeomWithData<R, u64>],
         point: PointOf<R>,
         other: PointOf<R>,
-    ) -> bool
+    ) -> Result<bool, AllocError>
     where
         PointOf<R>: Copy,
     {
-        let Some(mut tree) = inserted::<GeomWithData<R, u64>, DefaultParams>(alloc, elements) else {
-            return false;
-        };
-        let Ok(before) = numbers(alloc, &tree) else {
-            return false;
-        };
-        if !renumber(&mut tree, point, 1000) {
-            return false;
-        }
-        let Ok(after) = numbers(alloc, &tree) else {
-            return false;
-        };
-        before.len() == elements.len()
-            && after.len() == elements.len()
-            && differing(before.as_slice(), after.as_slice()) == 1
-            && carries(&tree, other, 1000)
+        let mut tree = inserted::<GeomWithData<R, u64>, DefaultParams>(alloc, elements);
+        let before = numbers(alloc, &tree)?;
+        let is_written = renumber(&mut tree, point, 1000);
+        let after = numbers(alloc, &tree)?;
+        Ok(
+            is_written
+                && before.len() == elements.len()
+                && after.len() == elements.len()
+                && differing(before.as_slice(), after.as_slice()) == 1
+                && carries(&tree, other, 1000),
+        )
     }
 
     #[test]
     fn one_number_of_a_hundred_changes(rt: HostRuntime) -> Result<(), Fail> {
         let plots = squares(rt.alloc())?;
-        assert!(rt; changes_one(rt.alloc(), &plots, [57, 31], [50, 39]));
+        assert!(rt; changes_one(rt.alloc(), &plots, [57, 31], [50, 39])?);
         Ok(())
     }
 }

@@ -113,9 +113,7 @@ mod tests {
         T::Envelope: Copy,
         PointOf<T>: Copy,
     {
-        let Some(tree) = inserted::<T, DefaultParams>(alloc, elements) else {
-            return false;
-        };
+        let tree = inserted::<T, DefaultParams>(alloc, elements);
         let (inside, touched, here) = told;
         first_inside(&tree, area).is_some() == inside
             && first_touched(&tree, area).is_some() == touched

@@ -93,23 +93,17 @@ fn two_out_one_in<T: RTreeObject>(
     Ok(tree.insert(one).is_ok())
 }
 
-/// Two points are drained, the drain is dropped, and one is inserted: a caller at points, with no proof file.
-fn two_points_out_one_in(tree: &mut RTree<[i64; 2]>) -> Result<usize, AllocError>
+/// The same of points: a caller with no proof file.
+fn two_points_out_one_in(
+    tree: &mut RTree<[i64; 2]>,
+    area: AABB<[i64; 2]>,
+) -> Result<bool, AllocError>
     requires { IsWholeTree ⟦<AABB<[i64; 2]> as Envelope>⟧.boxes ⟦<[i64; 2] as RTreeObject>⟧.object
         ⟦<DefaultParams as RTreeParams>⟧.MAX_SIZE tree.old }
     ensures { IsWholeTree ⟦<AABB<[i64; 2]> as Envelope>⟧.boxes ⟦<[i64; 2] as RTreeObject>⟧.object
         ⟦<DefaultParams as RTreeParams>⟧.MAX_SIZE tree.new }
 {
-    {
-        let mut drain = tree.drain()?;
-        let _first = drain.next();
-        let _second = drain.next();
-    }
-    if tree.insert([7, 8]).is_ok() {
-        Ok(tree.size())
-    } else {
-        Ok(0)
-    }
+    two_out_one_in(tree, area, [7, 8])
 }
 
 /// Whether a tree of these elements stands after such a drain and an insertion with so many, none of them at the first
@@ -123,17 +117,13 @@ fn stands_with_one_in<T: PointDistance + Copy>(
     points: (PointOf<T>, PointOf<T>),
 ) -> bool {
     let (first, other) = points;
-    match inserted::<T, DefaultParams>(alloc, elements) {
-        Some(mut tree) => {
-            !one.envelope().is_empty()
-                && matches!(two_out_one_in(&mut tree, area, one), Ok(true))
-                && tree.size() == left
-                && stands(&tree)
-                && tree.remove_at_point(first).is_none()
-                && tree.remove_at_point(other).is_some()
-        }
-        None => false,
-    }
+    let mut tree = inserted::<T, DefaultParams>(alloc, elements);
+    !one.envelope().is_empty()
+        && matches!(two_out_one_in(&mut tree, area, one), Ok(true))
+        && tree.size() == left
+        && stands(&tree)
+        && tree.remove_at_point(first).is_none()
+        && tree.remove_at_point(other).is_some()
 }
 
 /// Drains at most so many elements, and gives how many came; none where the tree does not stand without them.
@@ -217,10 +207,8 @@ fn leave_to_the_end<T: EqualEnvelopes + Copy>(
     order: usize,
     distinct: bool,
 ) -> bool {
-    match inserted::<T, DefaultParams>(alloc, elements) {
-        Some(mut tree) => all_leave(&mut tree, elements, order, distinct),
-        None => false,
-    }
+    let mut tree = inserted::<T, DefaultParams>(alloc, elements);
+    all_leave(&mut tree, elements, order, distinct)
 }
 
 /// Whether a tree that lost its elements has none to drain near a point, and stands.
@@ -230,17 +218,13 @@ fn emptied_drains_none<T: EqualEnvelopes + PointDistance + Copy>(
     point: PointOf<T>,
     limit: Distance<T>,
 ) -> bool {
-    match inserted::<T, DefaultParams>(alloc, elements) {
-        Some(mut tree) => {
-            let left = all_leave(&mut tree, elements, 0, true);
-            let none = match tree.drain_within_distance(point, limit) {
-                Ok(mut drain) => drain.next().is_none(),
-                Err(_) => false,
-            };
-            left && none && tree.size() == 0 && stands(&tree)
-        }
-        None => false,
-    }
+    let mut tree = inserted::<T, DefaultParams>(alloc, elements);
+    let left = all_leave(&mut tree, elements, 0, true);
+    let none = match tree.drain_within_distance(point, limit) {
+        Ok(mut drain) => drain.next().is_none(),
+        Err(_) => false,
+    };
+    left && none && tree.size() == 0 && stands(&tree)
 }
 
 /// Whether a tree stands after so many calls of a drain that is dropped, and takes one element more.
@@ -251,39 +235,34 @@ fn dropped_stands<T: EqualEnvelopes + Copy>(
     one: T,
 ) -> bool {
     let count = elements.len().saturating_add(1);
-    match inserted::<T, DefaultParams>(alloc, elements) {
-        Some(mut tree) => {
-            drain_and_stand(&mut tree, SelectAllFunc, calls) == Some(calls)
-                && !one.envelope().is_empty()
-                && tree.insert(one).is_ok()
-                && tree.size().saturating_add(calls) == count
-                && stands(&tree)
-                && tree.contains(&one)
-        }
-        None => false,
-    }
+    let mut tree = inserted::<T, DefaultParams>(alloc, elements);
+    drain_and_stand(&mut tree, SelectAllFunc, calls) == Some(calls)
+        && !one.envelope().is_empty()
+        && tree.insert(one).is_ok()
+        && tree.size().saturating_add(calls) == count
+        && stands(&tree)
+        && tree.contains(&one)
 }
 
 /// Whether a tree stands, without what was given, after a drain of so many calls was forgotten.
 fn forgotten_stands<T: RTreeObject + Copy>(alloc: Global, elements: &[T], calls: usize) -> bool {
-    let Some(mut tree) = inserted::<T, DefaultParams>(alloc, elements) else {
-        return false;
-    };
-    let came = match tree.drain() {
+    let mut tree = inserted::<T, DefaultParams>(alloc, elements);
+    let is_so = match tree.drain() {
         Ok(mut drain) => {
             let came = call(&mut drain, calls);
             forget(drain);
-            came
+            came == calls
         }
-        Err(_) => return false,
+        Err(_) => false,
     };
-    came == calls && tree.size().saturating_add(calls) == elements.len() && stands(&tree)
+    is_so && tree.size().saturating_add(calls) == elements.len() && stands(&tree)
 }
 
 /// Whether a loaded tree stands after at most so many elements were drained, and after a drain of those that meet an
 /// envelope.
-fn loaded_stands<T: RTreeObject, Params: RTreeParams>(
-    elements: Vec<T>,
+fn loaded_stands<T: RTreeObject + Copy, Params: RTreeParams>(
+    alloc: Global,
+    elements: &[T],
     area: T::Envelope,
     most: usize,
 ) -> bool
@@ -291,14 +270,10 @@ fn loaded_stands<T: RTreeObject, Params: RTreeParams>(
 {
     let count = elements.len();
     let func = SelectInEnvelopeFuncIntersecting::new(area);
-    match loaded::<T, Params>(elements) {
-        Ok(mut tree) => {
-            tree.size() == count
-                && drain_and_stand(&mut tree, SelectAllFunc, most) == Some(most.min(count))
-                && drain_and_stand(&mut tree, func, most).is_some()
-        }
-        Err(_) => false,
-    }
+    let mut tree = loaded::<T, Params>(alloc, elements);
+    tree.size() == count
+        && drain_and_stand(&mut tree, SelectAllFunc, most) == Some(most.min(count))
+        && drain_and_stand(&mut tree, func, most).is_some()
 }
 
 /// Whether a drain takes at most so many out, and none of those that are to be kept.
@@ -309,9 +284,7 @@ fn drains_at_most<T: EqualEnvelopes + Copy, R: SelectionFunction<T>>(
     most: usize,
     kept: &[T],
 ) -> bool {
-    let Some(mut tree) = inserted::<T, DefaultParams>(alloc, elements) else {
-        return false;
-    };
+    let mut tree = inserted::<T, DefaultParams>(alloc, elements);
     match drain_and_stand(&mut tree, func, elements.len().saturating_add(2)) {
         Some(came) => came <= most && count_of(&tree, kept) == kept.len(),
         None => false,
@@ -342,9 +315,7 @@ fn drains_all_of<T: EqualEnvelopes + Copy>(
     most: usize,
     asked: &[T],
 ) -> bool {
-    let Some(mut tree) = inserted::<T, DefaultParams>(alloc, elements) else {
-        return false;
-    };
+    let mut tree = inserted::<T, DefaultParams>(alloc, elements);
     let first = SelectInEnvelopeFuncIntersecting::new(areas.0);
     let second = SelectInEnvelopeFuncIntersecting::new(areas.1);
     let rest = asked.len().saturating_sub(most);
@@ -361,9 +332,7 @@ fn gives_all<T: RTreeObject + PartialEq + Copy>(alloc: Global, elements: &[T]) -
     let Ok(mut rest) = Vec::from_slice(alloc, elements) else {
         return false;
     };
-    let Some(tree) = inserted::<T, DefaultParams>(alloc, elements) else {
-        return false;
-    };
+    let tree = inserted::<T, DefaultParams>(alloc, elements);
     let Ok(mut all) = tree.into_iter() else {
         return false;
     };
@@ -456,7 +425,7 @@ fn wide_nodes_are_drained(rt: HostRuntime) -> Result<(), Fail> {
             let half = AABB::from_corners([0, 0], [50, 102]);
             let all = points(rt.alloc(), count)?;
             assert!(rt;
-                loaded_stands::<[i32; 2], Wide>(all, half, most),
+                loaded_stands::<[i32; 2], Wide>(rt.alloc(), &all, half, most),
                 "{count} {most}"
             );
         }
@@ -481,15 +450,14 @@ fn drains_end_where_none_is_left(rt: HostRuntime) -> Result<(), Fail> {
 }
 
 #[test]
-fn callers_drain_and_insert_again(rt: HostRuntime) {
+fn callers_drain_and_insert_again(rt: HostRuntime) -> Result<(), Fail> {
     let three = [[0i64, 0], [1, 1], [2, 2]];
     let all = AABB::from_corners([0, 0], [2, 2]);
     let points = ([9, 9], [7, 8]);
     assert!(rt; stands_with_one_in(rt.alloc(), &three, all, [7, 8], 2, points));
-    match inserted::<[i64; 2], DefaultParams>(rt.alloc(), &three) {
-        Some(mut tree) => assert!(rt; matches!(two_points_out_one_in(&mut tree), Ok(2))),
-        None => assert!(rt; false),
-    }
+    let mut tree = inserted::<[i64; 2], DefaultParams>(rt.alloc(), &three);
+    assert!(rt; two_points_out_one_in(&mut tree, all)? && tree.size() == 2);
+    Ok(())
 }
 
 #[test]

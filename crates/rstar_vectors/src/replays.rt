@@ -88,26 +88,20 @@ fn is_fit<T: PointDistance + EqualEnvelopes>(command: &Command<T>) -> bool
     }
 }
 
-/// Those commands that are fit, in their order.
-fn fit_ones<T: PointDistance + EqualEnvelopes>(
-    alloc: Global,
-    commands: Vec<Command<T>>,
-) -> Result<Vec<Command<T>>, AllocError>
+/// Whether all commands are fit.
+fn all_fit<T: PointDistance + EqualEnvelopes>(commands: &[Command<T>]) -> bool
     requires { 2 ≤ T.Envelope.Point.DIMENSIONS }
-    ensures { IfOk result (λ fit. AllByRecursion (IsFit (questions_of T.Envelope.boxes T.object T.distances
+    ensures { IsTrue result → AllByRecursion (IsFit (questions_of T.Envelope.boxes T.object T.distances
         T.Envelope.Point.DIMENSIONS T.Envelope.Point.coord T.Envelope.Point.Scalar.value T.eq)
-        T.Envelope.Point.DIMENSIONS) fit.items) }
+        T.Envelope.Point.DIMENSIONS) commands.now }
 {
-    let mut fit = Vec::new(alloc);
-    for command in commands {
-        if is_fit(&command) {
-            fit.push(command)?;
-        }
+    match commands.split_first() {
+        Some((command, rest)) => is_fit(command) && all_fit(rest),
+        None => true,
     }
-    Ok(fit)
 }
 
-/// The replies to commands that one `replay` runs on an empty tree.
+/// The replies to commands that one `replay` runs on an empty tree; none where one is not fit.
 fn replies<T: PointDistance + EqualEnvelopes + Clone>(
     alloc: Global,
     commands: Vec<Command<T>>,
@@ -115,28 +109,48 @@ fn replies<T: PointDistance + EqualEnvelopes + Clone>(
     requires dimensions { 2 ≤ T.Envelope.Point.DIMENSIONS }
     requires clones { ClonesEqual T.is_clone }
 {
+    if !all_fit(&commands) {
+        return Ok(Vec::new(alloc));
+    }
     let mut tree: RTree<T> = RTree::default(alloc);
-    replay(&mut tree, fit_ones(alloc, commands)?)
+    replay(&mut tree, commands)
 }
 
-/// The replies to those commands that are fit, run one by one on an empty tree, and its size after each.
+/// The reply to a command, and the tree's size after it; none where the command is not fit.
+fn reply_and_size<T: PointDistance + EqualEnvelopes + Clone>(
+    tree: &mut RTree<T>,
+    command: Command<T>,
+) -> Option<(Reply<T>, usize)>
+    requires dimensions { 2 ≤ T.Envelope.Point.DIMENSIONS }
+    requires clones { ClonesEqual T.is_clone }
+    requires whole { IsWholeTree T.Envelope.boxes T.object ⟦<DefaultParams as RTreeParams>⟧.MAX_SIZE tree.old }
+    ensures { IsWholeTree T.Envelope.boxes T.object ⟦<DefaultParams as RTreeParams>⟧.MAX_SIZE tree.new }
+{
+    if is_fit(&command) {
+        Some((step(tree, command), tree.size()))
+    } else {
+        None
+    }
+}
+
+/// The replies to commands that are run one by one on an empty tree, with its size after each, up to the first that is
+/// not fit.
 fn replies_and_sizes<T: PointDistance + EqualEnvelopes + Clone>(
     alloc: Global,
     commands: Vec<Command<T>>,
-) -> Result<(Vec<Reply<T>>, Vec<usize>), AllocError>
+) -> Result<Vec<(Reply<T>, usize)>, AllocError>
     requires dimensions { 2 ≤ T.Envelope.Point.DIMENSIONS }
     requires clones { ClonesEqual T.is_clone }
 {
     let mut tree: RTree<T> = RTree::default(alloc);
-    let mut replies = Vec::new(alloc);
-    let mut sizes = Vec::new(alloc);
+    let mut all = Vec::new(alloc);
     for command in commands {
-        if is_fit(&command) {
-            replies.push(step(&mut tree, command))?;
-            sizes.push(tree.size())?;
+        match reply_and_size(&mut tree, command) {
+            Some(pair) => all.push(pair)?,
+            None => break,
         }
     }
-    Ok((replies, sizes))
+    Ok(all)
 }
 
 /// How many pairs commands are answered, all together.
@@ -491,15 +505,11 @@ fn commands_of(alloc: Global, draws: &[Draw]) -> Result<Vec<Command<At>>, AllocE
 
 /// Whether commands, run one by one, are answered over a tree as over a plain list, with as many points after each.
 fn are_alike(alloc: Global, draws: &[Draw]) -> Result<bool, AllocError> {
-    let (replies, sizes) = replies_and_sizes(alloc, commands_of(alloc, draws)?)?;
-    if replies.len() != draws.len() || sizes.len() != draws.len() {
-        return Ok(false);
-    }
+    let replies = replies_and_sizes(alloc, commands_of(alloc, draws)?)?;
     let mut list = Vec::new(alloc);
-    let mut alike = true;
-    for k in 0..draws.len() {
-        alike = is_right(alloc, &mut list, &draws[k], &replies[k])? && alike;
-        alike = sizes[k] == list.len() && alike;
+    let mut alike = replies.len() == draws.len();
+    for (draw, (reply, size)) in draws.iter().zip(replies.iter()) {
+        alike = is_right(alloc, &mut list, draw, reply)? && *size == list.len() && alike;
     }
     Ok(alike)
 }

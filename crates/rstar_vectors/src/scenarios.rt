@@ -3,7 +3,7 @@
 //! What is done to a tree is generic, a test gives it elements: what is proved once for all types is cheap, the same
 //! steps at a concrete type are dear.
 
-ghost use Rattle.std.specs.Prelude.{◌≤◌, IsTrue, IfOk, IfSome};
+ghost use Rattle.std.specs.Prelude.{◌≤◌, IsTrue, IfOk};
 ghost use Rattle.rstar.specs.Loaded.{NoneEmpty};
 ghost use Rattle.rstar.specs.Trees.{IsWholeTree};
 
@@ -32,20 +32,20 @@ pub(crate) fn points(alloc: Global, count: usize) -> Result<Vec<[i32; 2]>, Alloc
     Ok(points)
 }
 
-/// A tree of these elements, inserted in this order; none where one is refused, or has an empty envelope.
+/// A tree of these elements, inserted in this order; an empty one where one is refused, or has an empty envelope.
 pub(crate) fn inserted<T: RTreeObject + Copy, Params: RTreeParams>(
     alloc: Global,
     elements: &[T],
-) -> Option<RTree<T, Params>>
-    ensures { IfSome result (IsWholeTree T.Envelope.boxes T.object Params.MAX_SIZE) }
+) -> RTree<T, Params>
+    ensures { IsWholeTree T.Envelope.boxes T.object Params.MAX_SIZE result }
 {
     let mut tree = RTree::default(alloc);
     for element in elements {
         if element.envelope().is_empty() || tree.insert(*element).is_err() {
-            return None;
+            return RTree::default(alloc);
         }
     }
-    Some(tree)
+    tree
 }
 
 /// Whether no element has an empty envelope, as loads ask.
@@ -60,18 +60,33 @@ pub(crate) fn none_empty<T: RTreeObject>(elements: &[T]) -> bool
     true
 }
 
-/// A tree of elements, loaded, none of them with an empty envelope; an empty one else.
-pub(crate) fn loaded<T: RTreeObject, Params: RTreeParams>(
-    elements: Vec<T>,
+/// A load of these elements; an empty tree where one of them has an empty envelope.
+pub(crate) fn load_of<T: RTreeObject + Copy, Params: RTreeParams>(
+    alloc: Global,
+    elements: &[T],
 ) -> Result<RTree<T, Params>, AllocError>
     requires { 2 ≤ T.Envelope.Point.DIMENSIONS }
     ensures { IfOk result (IsWholeTree T.Envelope.boxes T.object Params.MAX_SIZE) }
 {
-    let alloc = *elements.allocator();
-    if none_empty(&elements) {
-        RTree::bulk_load_with_params(elements)
+    let list = elements.to_vec(alloc)?;
+    if none_empty(&list) {
+        RTree::bulk_load_with_params(list)
     } else {
         Ok(RTree::default(alloc))
+    }
+}
+
+/// The same; an empty tree where it is refused, too.
+pub(crate) fn loaded<T: RTreeObject + Copy, Params: RTreeParams>(
+    alloc: Global,
+    elements: &[T],
+) -> RTree<T, Params>
+    requires { 2 ≤ T.Envelope.Point.DIMENSIONS }
+    ensures { IsWholeTree T.Envelope.boxes T.object Params.MAX_SIZE result }
+{
+    match load_of(alloc, elements) {
+        Ok(tree) => tree,
+        Err(_) => RTree::default(alloc),
     }
 }
 

@@ -28,16 +28,15 @@ fn selects<T: RTreeObject + Copy, Func: SelectionFunction<T>>(
     func: Func,
     counts: (usize, usize),
 ) -> bool {
-    match inserted::<T, DefaultParams>(alloc, elements) {
-        Some(tree) => match tree.locate_with_selection_function(func) {
-            Ok(walk) => match walked(alloc, walk) {
-                Ok((all, opened)) => stands(&tree) && all.len() == counts.0 && opened == counts.1,
-                Err(_) => false,
-            },
+    let tree = inserted::<T, DefaultParams>(alloc, elements);
+    let is_so = match tree.locate_with_selection_function(func) {
+        Ok(walk) => match walked(alloc, walk) {
+            Ok((all, opened)) => (all.len(), opened) == counts,
             Err(_) => false,
         },
-        None => false,
-    }
+        Err(_) => false,
+    };
+    is_so && stands(&tree)
 }
 
 /// Accepts no parent.
@@ -147,20 +146,16 @@ impl<'a, T: RTreeObject> SelectionFunction<T> for CountingFunc<'a> {
 /// Whether a function is asked of no leaf when a walk begins, and of one more at each of its first calls.
 fn is_asked_one_by_one<T: RTreeObject + Copy>(alloc: Global, elements: &[T]) -> bool {
     let asked = Cell::new(0u32);
-    match inserted::<T, DefaultParams>(alloc, elements) {
-        Some(tree) => match tree.locate_with_selection_function(CountingFunc { asked: &asked }) {
-            Ok(mut walk) => {
-                let mut is_so = asked.get() == 0;
-                for leaves in 1..4 {
-                    let is_found = walk.next().is_some();
-                    is_so = is_so && is_found && asked.get() == leaves;
-                }
-                is_so
-            }
-            Err(_) => false,
-        },
-        None => false,
+    let tree = inserted::<T, DefaultParams>(alloc, elements);
+    let Ok(mut walk) = tree.locate_with_selection_function(CountingFunc { asked: &asked }) else {
+        return false;
+    };
+    let mut is_so = asked.get() == 0;
+    for leaves in 1..4 {
+        let is_found = walk.next().is_some();
+        is_so = is_so && is_found && asked.get() == leaves;
     }
+    is_so
 }
 
 // rstar's test `test_leaves_are_tested_lazily`: each `next` asks one leaf more.
@@ -176,23 +171,19 @@ fn ends_at<T: RTreeObject + Copy>(
     area: T::Envelope,
     last: usize,
 ) -> bool {
-    match inserted::<T, DefaultParams>(alloc, elements) {
-        Some(tree) => {
-            let mut calls = 0usize;
-            let answer = tree.locate_in_envelope_int(area, |_element: &T| {
-                calls = calls.saturating_add(1);
-                if calls == last {
-                    ControlFlow::Break(calls)
-                } else {
-                    ControlFlow::Continue(())
-                }
-            });
-            match answer {
-                ControlFlow::Break(number) => number == last && calls == last,
-                ControlFlow::Continue(()) => false,
-            }
+    let tree = inserted::<T, DefaultParams>(alloc, elements);
+    let mut calls = 0usize;
+    let answer = tree.locate_in_envelope_int(area, |_element: &T| {
+        calls = calls.saturating_add(1);
+        if calls == last {
+            ControlFlow::Break(calls)
+        } else {
+            ControlFlow::Continue(())
         }
-        None => false,
+    });
+    match answer {
+        ControlFlow::Break(number) => number == last && calls == last,
+        ControlFlow::Continue(()) => false,
     }
 }
 
@@ -285,15 +276,16 @@ where
     PointOf<T>: Copy,
     requires { IsWholeTree T.Envelope.boxes T.object ⟦<DefaultParams as RTreeParams>⟧.MAX_SIZE tree.now }
 {
+    let all = gives(alloc, tree.iter(), elements, &area, &point, &limit, 0);
     let inside = tree.locate_in_envelope(area);
+    let inside = gives(alloc, inside, elements, &area, &point, &limit, 1);
     let touching = tree.locate_in_envelope_intersecting(area);
+    let touching = gives(alloc, touching, elements, &area, &point, &limit, 2);
     let at = tree.locate_all_at_point(point);
+    let at = gives(alloc, at, elements, &area, &point, &limit, 3);
     let near = tree.locate_within_distance(point, limit);
-    gives(alloc, tree.iter(), elements, &area, &point, &limit, 0)
-        && gives(alloc, inside, elements, &area, &point, &limit, 1)
-        && gives(alloc, touching, elements, &area, &point, &limit, 2)
-        && gives(alloc, at, elements, &area, &point, &limit, 3)
-        && gives(alloc, near, elements, &area, &point, &limit, 4)
+    let near = gives(alloc, near, elements, &area, &point, &limit, 4);
+    all && inside && touching && at && near
 }
 
 /// Counts the calls of a visitor that goes on.
@@ -326,7 +318,7 @@ where
 }
 
 /// How many elements a tree of some has, how many of them an envelope contains, how many it intersects, how many contain
-/// a point, and how many lie within a squared distance of it; none where an element is refused, or a scan finds others.
+/// a point, and how many lie within a squared distance of it; none where the tree answers otherwise than a scan.
 fn found<T: PointDistance + PartialEq + Copy>(
     alloc: Global,
     elements: &[T],
@@ -339,15 +331,13 @@ where
     PointOf<T>: Copy,
 {
     let counts = scanned(elements, &area, &point, &limit);
-    match inserted::<T, DefaultParams>(alloc, elements) {
-        Some(tree) => if iterators_find(alloc, &tree, elements, area, point, limit)
-            && visits_find(&tree, area, point, counts[2], counts[3])
-        {
-            Some(counts)
-        } else {
-            None
-        },
-        None => None,
+    let tree = inserted::<T, DefaultParams>(alloc, elements);
+    if iterators_find(alloc, &tree, elements, area, point, limit)
+        && visits_find(&tree, area, point, counts[2], counts[3])
+    {
+        Some(counts)
+    } else {
+        None
     }
 }
 

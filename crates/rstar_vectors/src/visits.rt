@@ -76,8 +76,8 @@ mod tests {
         alloc: Global,
         elements: &[Numbered<R>],
         breaks: bool,
-    ) -> Option<(u64, u64)> {
-        let mut tree = inserted::<Numbered<R>, DefaultParams>(alloc, elements)?;
+    ) -> (u64, u64) {
+        let mut tree = inserted::<Numbered<R>, DefaultParams>(alloc, elements);
         let answer = tree.locate_with_selection_function_int_mut(
             SelectAllFunc,
             |one: &mut Numbered<R>| {
@@ -90,8 +90,8 @@ mod tests {
             },
         );
         match answer {
-            ControlFlow::Break(number) => Some((number, sum(&tree))),
-            ControlFlow::Continue(()) => Some((0, sum(&tree))),
+            ControlFlow::Break(number) => (number, sum(&tree)),
+            ControlFlow::Continue(()) => (0, sum(&tree)),
         }
     }
 
@@ -100,23 +100,26 @@ mod tests {
     fn sums_after<R: PointDistance + Copy>(
         alloc: Global,
         elements: &[Numbered<R>],
-        area: &R::Envelope,
+        area: R::Envelope,
         point: PointOf<R>,
         cleared: R::Envelope,
-    ) -> Option<[u64; 4]> {
-        let mut tree = inserted::<Numbered<R>, DefaultParams>(alloc, elements)?;
+    ) -> [u64; 4]
+    where
+        R::Envelope: Copy,
+    {
+        let mut tree = inserted::<Numbered<R>, DefaultParams>(alloc, elements);
         let add_one = |one: &mut Numbered<R>| {
             one.data = one.data.wrapping_add(1);
             ControlFlow::<()>::Continue(())
         };
-        tree.locate_in_envelope_int_mut(area.clone().ok()?, add_one);
+        tree.locate_in_envelope_int_mut(area, add_one);
         let first = sum(&tree);
-        tree.locate_in_envelope_intersecting_int_mut(area.clone().ok()?, add_one);
+        tree.locate_in_envelope_intersecting_int_mut(area, add_one);
         let second = sum(&tree);
         tree.locate_all_at_point_int_mut(point, add_one);
         let third = sum(&tree);
         clear(&mut tree, cleared);
-        Some([first, second, third, sum(&tree)])
+        [first, second, third, sum(&tree)]
     }
 
     // Whether the visitor breaks at its first call, and the sum of the numbers 1, 2 and 3 after it added 10 at each.
@@ -128,13 +131,8 @@ mod tests {
             Fence::new(fence, 2),
             Fence::new(fence, 3),
         ];
-        assert!(rt; sum_after(rt.alloc(), &three, false) == Some((0, 36)));
-        assert!(rt;
-            matches!(
-                sum_after(rt.alloc(), &three, true),
-                Some((11 | 12 | 13, 16))
-            )
-        );
+        assert!(rt; sum_after(rt.alloc(), &three, false) == (0, 36));
+        assert!(rt; matches!(sum_after(rt.alloc(), &three, true), (11 | 12 | 13, 16)));
     }
 
     // Two fences; a box that contains neither, and touches the first, a point inside that, and the point at its corner.
@@ -144,7 +142,7 @@ mod tests {
         let other = Fence::new(Rectangle::from_corners([3, 3], [4, 4]), 5);
         let area = AABB::from_corners([0, 0], [1, 1]);
         let corner = AABB::from_point([2, 2]);
-        let sums = sums_after(rt.alloc(), &[fence, other], &area, [1, 1], corner);
-        assert!(rt; sums == Some([12, 13, 14, 5]));
+        let sums = sums_after(rt.alloc(), &[fence, other], area, [1, 1], corner);
+        assert!(rt; sums == [12, 13, 14, 5]);
     }
 }
