@@ -22,28 +22,38 @@ use std::test::Fail;
 
 // ---- what a root shows
 
-/// The elements below some nodes, left to right, into a list; false where one does not lie `levels` levels below.
+/// The elements below some nodes, at most `levels` levels of parents down, left to right, into a list.
 fn gather<T: RTreeObject + Copy>(
     nodes: &[RTreeNode<T>],
     levels: usize,
     all: &mut Vec<T>,
-) -> Result<bool, AllocError> {
+) -> Result<(), AllocError> {
     for node in nodes {
         match node {
-            RTreeNode::Leaf(element) => {
-                if levels != 0 {
-                    return Ok(false);
-                }
-                all.push(*element)?;
-            }
-            RTreeNode::Parent(parent) => {
-                if levels == 0 || !gather(parent.children(), levels - 1, all)? {
-                    return Ok(false);
-                }
-            }
+            RTreeNode::Leaf(element) => all.push(*element)?,
+            RTreeNode::Parent(parent) => if 0 < levels {
+                gather(parent.children(), levels - 1, all)?;
+            },
         }
     }
-    Ok(true)
+    Ok(())
+}
+
+/// The elements below each child of a parent that is a parent itself, at most `levels` levels of parents down.
+fn parts_of<T: RTreeObject + Copy>(
+    alloc: Global,
+    parent: &ParentNode<T>,
+    levels: usize,
+) -> Result<Vec<Vec<T>>, AllocError> {
+    let mut parts = Vec::new(alloc);
+    for node in parent.children() {
+        if let RTreeNode::Parent(part) = node {
+            let mut own = Vec::new(alloc);
+            gather(part.children(), levels, &mut own)?;
+            parts.push(own)?;
+        }
+    }
+    Ok(parts)
 }
 
 /// Whether the elements of one list have no greater keys on an axis than those of another.
@@ -75,6 +85,18 @@ fn are_parted<T: RTreeObject>(one: &[T], other: &[T]) -> bool {
     false
 }
 
+/// Whether any two of some lists of elements are parted.
+fn are_all_parted<T: RTreeObject>(parts: &[Vec<T>]) -> bool {
+    for k in 0..parts.len() {
+        for before in 0..k {
+            if !are_parted(&parts[before], &parts[k]) {
+                return false;
+            }
+        }
+    }
+    true
+}
+
 /// Whether parents, so many levels above the lowest of them, are cut as a load cuts: more than `MAX_SIZE` elements, at
 /// most half of them below each child, at most `most` children, and any two of them parted.
 fn is_cut<T: RTreeObject + Copy, Params: RTreeParams>(
@@ -86,28 +108,23 @@ fn is_cut<T: RTreeObject + Copy, Params: RTreeParams>(
     if levels == 0 {
         return Ok(true);
     }
+    let parts = parts_of(alloc, parent, levels - 1)?;
     let mut count = 0usize;
-    let mut parts: Vec<Vec<T>> = Vec::new(alloc);
-    for node in parent.children() {
-        let RTreeNode::Parent(part) = node else {
-            return Ok(false);
-        };
-        let mut own = Vec::new(alloc);
-        if !gather(part.children(), levels - 1, &mut own)?
-            || !is_cut::<T, Params>(alloc, part, levels - 1, most)?
-        {
-            return Ok(false);
-        }
-        for before in parts.iter() {
-            if !are_parted(before, &own) {
-                return Ok(false);
-            }
-        }
+    for own in parts.iter() {
         count = count.saturating_add(own.len());
-        parts.push(own)?;
     }
     let half = count.div_ceil(2);
-    Ok(Params::MAX_SIZE < count && parts.len() <= most && parts.iter().all(|own| own.len() <= half))
+    let mut is_so = Params::MAX_SIZE < count
+        && parts.len() == parent.children().len()
+        && parts.len() <= most
+        && parts.iter().all(|own| own.len() <= half)
+        && are_all_parted(&parts);
+    for node in parent.children() {
+        if let RTreeNode::Parent(part) = node {
+            is_so = is_cut::<T, Params>(alloc, part, levels - 1, most)? && is_so;
+        }
+    }
+    Ok(is_so)
 }
 
 /// The least number of children of a parent of leaves, so many levels below.
@@ -129,15 +146,9 @@ fn held<T: RTreeObject + Copy>(
     alloc: Global,
     root: &ParentNode<T>,
 ) -> Result<Vec<usize>, AllocError> {
-    let levels = levels_of(root);
     let mut counts = Vec::new(alloc);
-    for node in root.children() {
-        if let RTreeNode::Parent(part) = node {
-            let mut own = Vec::new(alloc);
-            if levels != 0 && gather(part.children(), levels - 1, &mut own)? {
-                counts.push(own.len())?;
-            }
-        }
+    for own in parts_of(alloc, root, levels_of(root))?.iter() {
+        counts.push(own.len())?;
     }
     counts.sort_unstable();
     Ok(counts)
@@ -158,12 +169,11 @@ fn loads_well<T: RTreeObject + Copy + Ord, Params: RTreeParams>(
     let tree: RTree<T, Params> = loaded(alloc, elements);
     let root = tree.root();
     let levels = levels_of(root);
-    let level = gather(root.children(), levels, &mut all)?;
+    gather(root.children(), levels, &mut all)?;
     all.sort_unstable();
     sources.sort_unstable();
     Ok(
-        level
-            && all == sources
+        all == sources
             && tree.size() == elements.len()
             && stands(&tree)
             && is_cut::<T, Params>(alloc, root, levels, most)?

@@ -133,7 +133,7 @@ fn least_of<S: RTreeNum>(ascending: &[S]) -> Option<(S, usize)> {
     Some((least, count))
 }
 
-/// Whether a neighbour that was found lies at the least distance of some; none, where there is none.
+/// Whether a neighbour that was found, with its distance, lies at the least distance of some; none, where there is none.
 fn is_least<T: PointDistance>(
     found: Result<Option<(&T, Distance<T>)>, AllocError>,
     place: &PointOf<T>,
@@ -143,6 +143,19 @@ fn is_least<T: PointDistance>(
         (Ok(Some((element, distance))), Some((least, _))) => {
             distance == least && element.distance_2(place) == least
         }
+        (Ok(None), None) => true,
+        _ => false,
+    }
+}
+
+/// The same of a neighbour alone.
+fn is_least_alone<T: PointDistance>(
+    found: Result<Option<&T>, AllocError>,
+    place: &PointOf<T>,
+    least: Option<(Distance<T>, usize)>,
+) -> bool {
+    match (found, least) {
+        (Ok(Some(element)), Some((least, _))) => element.distance_2(place) == least,
         (Ok(None), None) => true,
         _ => false,
     }
@@ -162,6 +175,18 @@ fn are_least<T: PointDistance>(
         is_so = is_so && element.distance_2(place) == least;
     }
     is_so
+}
+
+/// The same of a call that may be refused.
+fn are_least_alone<T: PointDistance>(
+    found: Result<Vec<&T>, AllocError>,
+    place: &PointOf<T>,
+    least: Option<(Distance<T>, usize)>,
+) -> bool {
+    match &found {
+        Ok(all) => are_least(all, place, least),
+        Err(_) => false,
+    }
 }
 
 /// The same of neighbours with their distance.
@@ -191,23 +216,14 @@ where
     PointOf<T>: Copy,
     requires whole { IsWholeTree T.Envelope.boxes T.object ⟦<DefaultParams as RTreeParams>⟧.MAX_SIZE tree.now }
 {
-    let alone = match tree.nearest_neighbor(place) {
-        Ok(Some(element)) => Ok(Some((element, element.distance_2(&place)))),
-        Ok(None) => Ok(None),
-        Err(refused) => Err(refused),
-    };
-    let all_alone = match tree.nearest_neighbors(&place) {
-        Ok(all) => are_least(&all, &place, least),
-        Err(_) => false,
-    };
-    all_alone
-        && is_least(alone, &place, least)
+    is_least_alone(tree.nearest_neighbor(place), &place, least)
         && is_least(tree.nearest_neighbor_with_distance_2(place), &place, least)
         && is_least(
             nearest_neighbor_with_distance_2(tree.root(), place),
             &place,
             least,
         )
+        && are_least_alone(tree.nearest_neighbors(&place), &place, least)
         && are_least_with_distance(
             tree.nearest_neighbors_with_distance_2(&place),
             &place,
@@ -554,6 +570,24 @@ fn asked_so<T: PointDistance>(
     asks_so(&mut tree.nearest_neighbor_iter(place), near, far, rows)
 }
 
+/// Elements that count, the first so many of them in one cell, the others in another.
+fn noted<'a, T: Copy>(
+    alloc: Global,
+    elements: &[T],
+    first_far: usize,
+    near: &'a Cell<u32>,
+    far: &'a Cell<u32>,
+) -> Result<Vec<Noting<'a, T>>, AllocError> {
+    let mut list = Vec::new(alloc);
+    for k in 0..elements.len() {
+        list.push(Noting {
+            inner: elements[k],
+            asked: if k < first_far { near } else { far },
+        })?;
+    }
+    Ok(list)
+}
+
 /// The same of a tree of elements, of which the first so many lie near and the others far.
 fn note_who_is_asked<T: PointDistance + Copy>(
     alloc: Global,
@@ -566,14 +600,7 @@ fn note_who_is_asked<T: PointDistance + Copy>(
 {
     let near = Cell::new(0u32);
     let far = Cell::new(0u32);
-    let mut list = Vec::new(alloc);
-    for k in 0..elements.len() {
-        let asked = if k < first_far { &near } else { &far };
-        list.push(Noting {
-            inner: elements[k],
-            asked,
-        })?;
-    }
+    let list = noted(alloc, elements, first_far, &near, &far)?;
     let tree = inserted::<Noting<'_, T>, DefaultParams>(alloc, &list);
     Ok(asked_so(&tree, place, &near, &far, rows))
 }

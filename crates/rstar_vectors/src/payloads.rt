@@ -12,7 +12,7 @@ ghost use Rattle.rstar_vectors.specs.Callers.{IsRenumbered};
 
 use rstar::algorithm::selection_functions::{SelectEqualsFunction, SelectionFunction};
 use rstar::iterators::SelectionIterator;
-use rstar::object::PointOf;
+use rstar::object::{Distance, PointOf};
 use rstar::point::Point;
 use rstar::primitives::{GeomWithData, Rectangle};
 use rstar::{
@@ -42,8 +42,36 @@ pub fn walked<'a, T: RTreeObject, Func: SelectionFunction<T>>(
     Ok((all, walk.opened()))
 }
 
-/// All points, those in a box, and those within 10 of a point: by `iter`, `locate_in_envelope` and
-/// `locate_within_distance`.
+/// All elements, those in an envelope, and those within a squared distance of a point: by `iter`, `locate_in_envelope`
+/// and `locate_within_distance`.
+fn found<'a, T: PointDistance>(
+    alloc: Global,
+    tree: &'a RTree<T>,
+    area: T::Envelope,
+    point: PointOf<T>,
+    limit: Distance<T>,
+) -> Result<(Walked<'a, T>, Walked<'a, T>, Walked<'a, T>), AllocError>
+    requires { IsWholeTree T.Envelope.boxes T.object ⟦<DefaultParams as RTreeParams>⟧.MAX_SIZE tree.now }
+    ensures all { IfOk result (λ r. map (λ t. t.now) r.0.0.items ≡ elements_in tree.now) }
+    ensures inside { IfOk result (λ r. map (λ t. t.now) r.1.0.items ≡ filter
+        (λ t. T.Envelope.boxes.contains area (T.object.box_of t)) (elements_in tree.now)) }
+    ensures near { IfOk result (λ r. map (λ t. t.now) r.2.0.items ≡ filter
+        (λ t. int_le (pos (T.distances.distance_2 t (table T.Envelope.Point.DIMENSIONS
+        (T.Envelope.Point.coord point)))) (T.Envelope.Point.Scalar.value limit)) (elements_in tree.now)) }
+    ensures opened_all { IfOk result (λ r. r.0.1 ≡ min (reach_of (λ e. true) (root_of tree.now)) usize.MAX) }
+    ensures opened_inside { IfOk result (λ r. r.1.1
+        ≡ min (reach_of (λ e. T.Envelope.boxes.intersects area e) (root_of tree.now)) usize.MAX) }
+    ensures opened_near { IfOk result (λ r. r.2.1 ≡ min (reach_of (λ e. int_le
+        (pos (T.Envelope.boxes.distance_2 e (table T.Envelope.Point.DIMENSIONS (T.Envelope.Point.coord point))))
+        (T.Envelope.Point.Scalar.value limit)) (root_of tree.now)) usize.MAX) }
+{
+    let all = walked(alloc, tree.iter()?)?;
+    let inside = walked(alloc, tree.locate_in_envelope(area)?)?;
+    let near = walked(alloc, tree.locate_within_distance(point, limit)?)?;
+    Ok((all, inside, near))
+}
+
+/// The same of points, and of a distance of 10.
 pub fn points_found<'a>(
     alloc: Global,
     tree: &'a RTree<[i64; 2]>,
@@ -73,10 +101,7 @@ pub fn points_found<'a>(
         (table 2 (⟦<[i64; 2] as Point>⟧.coord point)))) (pos 100))
         (root_of tree.now)) usize.MAX) }
 {
-    let all = walked(alloc, tree.iter()?)?;
-    let inside = walked(alloc, tree.locate_in_envelope(area)?)?;
-    let near = walked(alloc, tree.locate_within_distance(point, 100)?)?;
-    Ok((all, inside, near))
+    found(alloc, tree, area, point, 100)
 }
 
 /// The elements that an envelope touches, those that contain a point, and those that equal one: by

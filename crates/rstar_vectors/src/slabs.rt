@@ -26,7 +26,8 @@ fn slabs(
     requires { 0 < clusters }
 {
     let mut found = Vec::new(alloc);
-    for slab in ClusterGroupIterator::new(points, clusters, 0) {
+    let mut slabs = ClusterGroupIterator::new(points, clusters, 0);
+    while let Some(slab) = slabs.next() {
         let slab = slab?;
         let mut least = 0;
         for point in slab.iter() {
