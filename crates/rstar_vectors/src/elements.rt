@@ -208,10 +208,11 @@ fn is_asked_once<P: Point + Copy>(at: P) -> bool {
     let calls = Cell::new(0);
     let cached = CachedEnvelope::new(Counting { at, calls });
     let wanted = AABB::from_point(at);
-    cached.envelope() == wanted
-        && cached.envelope() == wanted
-        && cached.envelope() == wanted
-        && cached.calls.get() == 1
+    let mut is_so = true;
+    for _ in 0..3 {
+        is_so = cached.envelope() == wanted && is_so;
+    }
+    is_so && cached.calls.get() == 1
 }
 
 #[test]

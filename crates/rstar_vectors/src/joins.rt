@@ -210,8 +210,13 @@ const MEETINGS: [Meeting; 10] = [
 ];
 
 /// The same of plots between these corners.
-fn plots_meet(alloc: Global, meeting: &Meeting) -> Result<bool, AllocError> {
-    let (lefts, rights, points, counts) = *meeting;
+fn plots_meet<P: Point + Copy>(
+    alloc: Global,
+    lefts: &[(P, P)],
+    rights: &[(P, P)],
+    points: &[P],
+    counts: [(usize, usize); 3],
+) -> Result<bool, AllocError> {
     Ok(meet(
         alloc,
         &plots(alloc, lefts)?,
@@ -223,8 +228,8 @@ fn plots_meet(alloc: Global, meeting: &Meeting) -> Result<bool, AllocError> {
 
 #[test]
 fn pairs_that_intersect(rt: HostRuntime) -> Result<(), Fail> {
-    for meeting in MEETINGS.iter() {
-        assert!(rt; plots_meet(rt.alloc(), meeting)?);
+    for (lefts, rights, points, counts) in MEETINGS {
+        assert!(rt; plots_meet(rt.alloc(), lefts, rights, points, counts)?);
     }
     Ok(())
 }

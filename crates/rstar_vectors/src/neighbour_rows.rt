@@ -250,12 +250,15 @@ where
     requires whole { IsWholeTree T.Envelope.boxes T.object ⟦<DefaultParams as RTreeParams>⟧.MAX_SIZE tree.now }
 {
     fits::<PointOf<T>>();
-    let mut neighbors = tree.nearest_neighbor_iter_with_distance_2(place);
-    let mut old_name = tree.nearest_neighbor_iter_with_distance(place);
-    let mut alone = tree.nearest_neighbor_iter(place);
-    gives(&mut neighbors, distances, opened)
-        && gives(&mut old_name, distances, opened)
-        && gives_elements(&mut alone, &place, distances)
+    gives(
+        &mut tree.nearest_neighbor_iter_with_distance_2(place),
+        distances,
+        opened,
+    ) && gives(
+        &mut tree.nearest_neighbor_iter_with_distance(place),
+        distances,
+        opened,
+    ) && gives_elements(&mut tree.nearest_neighbor_iter(place), &place, distances)
         && calls_find(tree, place, least_of(distances))
 }
 

@@ -98,87 +98,68 @@ fn products_about_the_ends(rt: HostRuntime) {
     assert!(rt; products(&[(9223372036854775808i128, 4, 36893488147419103232)]));
 }
 
-/// Whether a point has these coordinates, each read through the bound.
-fn reads<P: Point>(point: &P, coordinates: &[P::Scalar]) -> bool {
+/// Whether a point has these coordinates, each read through the bound, and 0 and else the same once 0 is written on an
+/// axis, where there is one.
+fn reads_and_writes<P: Point>(mut point: P, coordinates: &[P::Scalar], axis: usize) -> bool {
     if P::DIMENSIONS != coordinates.len() {
         return false;
     }
-    for axis in 0..P::DIMENSIONS {
-        if point.nth(axis) != coordinates[axis] {
-            return false;
-        }
+    let mut is_so = true;
+    for k in 0..P::DIMENSIONS {
+        is_so = is_so && point.nth(k) == coordinates[k];
     }
-    true
-}
-
-/// Whether a point has these coordinates once 0 is written on an axis.
-fn writes<P: Point>(mut point: P, axis: usize, coordinates: &[P::Scalar]) -> bool {
-    if axis >= P::DIMENSIONS {
-        return false;
+    if axis < P::DIMENSIONS {
+        *point.nth_mut(axis) = P::Scalar::zero();
     }
-    *point.nth_mut(axis) = P::Scalar::zero();
-    reads(&point, coordinates)
+    for k in 0..P::DIMENSIONS {
+        is_so = is_so && (point.nth(k) == coordinates[k] || k == axis);
+        is_so = is_so && (k != axis || point.nth(k) == P::Scalar::zero());
+    }
+    is_so
 }
 
 #[test]
 fn short_tuples(rt: HostRuntime) {
     assert!(rt; (0i64, 1, 2).nth(2) == 2);
-    assert!(rt; reads(&(1i64,), &[1]));
-    assert!(rt; reads(&(1i64, 2), &[1, 2]));
-    assert!(rt; reads(&(1i64, 2, 3), &[1, 2, 3]));
-    assert!(rt; reads(&(1i64, 2, 3, 4), &[1, 2, 3, 4]));
-    assert!(rt; reads(&(1i64, 2, 3, 4, 5), &[1, 2, 3, 4, 5]));
-    assert!(rt; writes((1i64,), 0, &[0]));
-    assert!(rt; writes((1i64, 2), 0, &[0, 2]));
-    assert!(rt; writes((1i64, 2), 1, &[1, 0]));
-    assert!(rt; writes((1i64, 2, 3), 1, &[1, 0, 3]));
-    assert!(rt; writes((1i64, 2, 3, 4), 3, &[1, 2, 3, 0]));
-    assert!(rt; writes((1i64, 2, 3, 4, 5), 2, &[1, 2, 0, 4, 5]));
+    assert!(rt; reads_and_writes((1i64,), &[1], 0));
+    assert!(rt; reads_and_writes((1i64, 2), &[1, 2], 0));
+    assert!(rt; reads_and_writes((1i64, 2), &[1, 2], 1));
+    assert!(rt; reads_and_writes((1i64, 2, 3), &[1, 2, 3], 1));
+    assert!(rt; reads_and_writes((1i64, 2, 3, 4), &[1, 2, 3, 4], 3));
+    assert!(rt; reads_and_writes((1i64, 2, 3, 4, 5), &[1, 2, 3, 4, 5], 2));
 }
 
 #[test]
 fn long_tuples(rt: HostRuntime) {
     let ten = (0i64, 1, 2, 3, 4, 5, 6, 7, 8, 9);
     assert!(rt; ten.nth(9) == 9);
-    assert!(rt; reads(&(1i8, 2, 3, 4, 5, 6), &[1, 2, 3, 4, 5, 6]));
-    assert!(rt; reads(&(1i16, 2, 3, 4, 5, 6, 7), &[1, 2, 3, 4, 5, 6, 7]));
-    assert!(rt; reads(&(1i32, 2, 3, 4, 5, 6, 7, 8), &[1, 2, 3, 4, 5, 6, 7, 8]));
+    assert!(rt; reads_and_writes((1i8, 2, 3, 4, 5, 6), &[1, 2, 3, 4, 5, 6], 5));
+    assert!(rt; reads_and_writes((1i16, 2, 3, 4, 5, 6, 7), &[1, 2, 3, 4, 5, 6, 7], 6));
+    assert!(rt; reads_and_writes((1i32, 2, 3, 4, 5, 6, 7, 8), &[1, 2, 3, 4, 5, 6, 7, 8], 0));
     assert!(rt;
-        reads(
-            &(1isize, 2, 3, 4, 5, 6, 7, 8, 9),
-            &[1, 2, 3, 4, 5, 6, 7, 8, 9]
+        reads_and_writes(
+            (1isize, 2, 3, 4, 5, 6, 7, 8, 9),
+            &[1, 2, 3, 4, 5, 6, 7, 8, 9],
+            4
         )
     );
-    assert!(rt; reads(&ten, &[0, 1, 2, 3, 4, 5, 6, 7, 8, 9]));
-    assert!(rt; writes((1i128, 2, 3, 4, 5, 6), 5, &[1, 2, 3, 4, 5, 0]));
-    assert!(rt; writes((1i64, 2, 3, 4, 5, 6, 7), 6, &[1, 2, 3, 4, 5, 6, 0]));
-    assert!(rt; writes((1i64, 2, 3, 4, 5, 6, 7, 8), 0, &[0, 2, 3, 4, 5, 6, 7, 8]));
-    assert!(rt;
-        writes(
-            (1i64, 2, 3, 4, 5, 6, 7, 8, 9),
-            4,
-            &[1, 2, 3, 4, 0, 6, 7, 8, 9]
-        )
-    );
-    assert!(rt; writes(ten, 9, &[0, 1, 2, 3, 4, 5, 6, 7, 8, 0]));
+    assert!(rt; reads_and_writes(ten, &[0, 1, 2, 3, 4, 5, 6, 7, 8, 9], 9));
 }
 
 #[test]
 fn arrays_and_named_coordinates(rt: HostRuntime) {
     let none: [i32; 0] = [];
-    assert!(rt; reads(&none, &none));
-    assert!(rt; reads(&[7i64], &[7]));
-    assert!(rt; reads(&[7i64, -3], &[7, -3]));
-    assert!(rt; writes([7i64, -3, 5], 1, &[7, 0, 5]));
-    assert!(rt; reads(&Point2 { x: 1i32, y: 2 }, &[1, 2]));
-    assert!(rt; writes(Point2 { x: 1i64, y: 2 }, 1, &[1, 0]));
+    assert!(rt; reads_and_writes(none, &none, 0));
+    assert!(rt; reads_and_writes([7i64], &[7], 0));
+    assert!(rt; reads_and_writes([7i64, -3], &[7, -3], 1));
+    assert!(rt; reads_and_writes([7i64, -3, 5], &[7, -3, 5], 1));
+    assert!(rt; reads_and_writes(Point2 { x: 1i64, y: 2 }, &[1, 2], 1));
     let third = Point3 {
-        x: 1i64,
+        x: 1i128,
         y: 2,
         z: 3,
     };
-    assert!(rt; reads(&third, &[1, 2, 3]));
-    assert!(rt; writes(third, 2, &[1, 2, 0]));
+    assert!(rt; reads_and_writes(third, &[1, 2, 3], 2));
 }
 
 // Whether two points are equal, by the bound.

@@ -62,7 +62,30 @@ fn first_selected<T: PointDistance>(tree: &RTree<T>, point: PointOf<T>) -> Optio
     found.break_value()
 }
 
-/// The first plot in a box, the first that it touches, and the first that contains a point.
+/// The first element in an envelope, the first that it touches, and the first that contains a point.
+fn come_upon<T: PointDistance>(
+    tree: &RTree<T>,
+    area: T::Envelope,
+    point: PointOf<T>,
+) -> (Option<&T>, Option<&T>, Option<&T>)
+where
+    T::Envelope: Copy,
+    requires { IsWholeTree T.Envelope.boxes T.object ⟦<DefaultParams as RTreeParams>⟧.MAX_SIZE tree.now }
+    ensures inside { IsFirst (filter (λ t. T.Envelope.boxes.contains area (T.object.box_of t))
+        (elements_in tree.now)) result.0 }
+    ensures touching { IsFirst (filter (λ t. T.Envelope.boxes.intersects area (T.object.box_of t))
+        (elements_in tree.now)) result.1 }
+    ensures here { IsFirst (filter (λ t. T.distances.contains_point t
+        (table T.Envelope.Point.DIMENSIONS (T.Envelope.Point.coord point))) (elements_in tree.now)) result.2 }
+{
+    (
+        first_inside(tree, area),
+        first_touched(tree, area),
+        first_here(tree, point),
+    )
+}
+
+/// The same of plots.
 fn plots_come_upon(
     tree: &RTree<Plot>,
     area: AABB<At>,
@@ -77,11 +100,7 @@ fn plots_come_upon(
     ensures here { IsFirst (filter (λ t. ⟦<Plot as PointDistance>⟧.distances.contains_point t
         (table 2 (⟦<[i64; 2] as Point>⟧.coord point))) (elements_in tree.now)) result.2 }
 {
-    (
-        first_inside(tree, area),
-        first_touched(tree, area),
-        first_here(tree, point),
-    )
+    come_upon(tree, area, point)
 }
 
 /// The first point that a selection function selects.
@@ -114,11 +133,9 @@ mod tests {
         PointOf<T>: Copy,
     {
         let tree = inserted::<T, DefaultParams>(alloc, elements);
-        let (inside, touched, here) = told;
-        first_inside(&tree, area).is_some() == inside
-            && first_touched(&tree, area).is_some() == touched
-            && first_here(&tree, point).is_some() == here
-            && first_selected(&tree, point).is_some() == here
+        let (inside, touched, here) = come_upon(&tree, area, point);
+        (inside.is_some(), touched.is_some(), here.is_some()) == told
+            && first_selected(&tree, point).is_some() == told.2
     }
 
     // Two corners of a box, whether it holds the one plot and the one point there are, and whether it touches the plot.

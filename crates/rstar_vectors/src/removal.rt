@@ -211,6 +211,21 @@ fn leave_to_the_end<T: EqualEnvelopes + Copy>(
     all_leave(&mut tree, elements, order, distinct)
 }
 
+/// Whether a tree has no element to drain near a point.
+fn has_none_near<T: PointDistance>(
+    tree: &mut RTree<T>,
+    point: PointOf<T>,
+    limit: Distance<T>,
+) -> bool
+    requires { IsWholeTree T.Envelope.boxes T.object ⟦<DefaultParams as RTreeParams>⟧.MAX_SIZE tree.old }
+    ensures { IsWholeTree T.Envelope.boxes T.object ⟦<DefaultParams as RTreeParams>⟧.MAX_SIZE tree.new }
+{
+    match tree.drain_within_distance(point, limit) {
+        Ok(mut drain) => drain.next().is_none(),
+        Err(_) => false,
+    }
+}
+
 /// Whether a tree that lost its elements has none to drain near a point, and stands.
 fn emptied_drains_none<T: EqualEnvelopes + PointDistance + Copy>(
     alloc: Global,
@@ -219,12 +234,10 @@ fn emptied_drains_none<T: EqualEnvelopes + PointDistance + Copy>(
     limit: Distance<T>,
 ) -> bool {
     let mut tree = inserted::<T, DefaultParams>(alloc, elements);
-    let left = all_leave(&mut tree, elements, 0, true);
-    let none = match tree.drain_within_distance(point, limit) {
-        Ok(mut drain) => drain.next().is_none(),
-        Err(_) => false,
-    };
-    left && none && tree.size() == 0 && stands(&tree)
+    all_leave(&mut tree, elements, 0, true)
+        && has_none_near(&mut tree, point, limit)
+        && tree.size() == 0
+        && stands(&tree)
 }
 
 /// Whether a tree stands after so many calls of a drain that is dropped, and takes one element more.

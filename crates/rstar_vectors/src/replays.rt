@@ -153,14 +153,21 @@ fn replies_and_sizes<T: PointDistance + EqualEnvelopes + Clone>(
     Ok(all)
 }
 
-/// How many pairs commands are answered, all together.
-fn pairs_given<T: PointDistance + EqualEnvelopes + Clone>(
+/// How many pairs commands are answered, all together: an element goes in twice, and the tree is joined with another.
+fn pairs_given<T: PointDistance + EqualEnvelopes + Copy>(
     alloc: Global,
-    commands: Vec<Command<T>>,
+    one: T,
+    other: T,
 ) -> Result<usize, AllocError>
     requires dimensions { 2 ≤ T.Envelope.Point.DIMENSIONS }
     requires clones { ClonesEqual T.is_clone }
 {
+    let mut others = Vec::new(alloc);
+    others.push(other)?;
+    let mut commands = Vec::new(alloc);
+    commands.push(Command::Insert(one))?;
+    commands.push(Command::Insert(one))?;
+    commands.push(Command::Join(others))?;
     let mut count = 0usize;
     for reply in replies(alloc, commands)?.iter() {
         if let Reply::Pairs(pairs) = reply {
@@ -173,16 +180,8 @@ fn pairs_given<T: PointDistance + EqualEnvelopes + Clone>(
 #[test]
 fn equal_rectangles_are_joined_each(rt: HostRuntime) -> Result<(), Fail> {
     let square = Rectangle::from_corners([0i64, 0], [2, 2]);
-    let other = vec![in rt.alloc(); Rectangle::from_corners([2i64, 2], [4, 4])]?;
-    let commands = Vec::from_array(
-        rt.alloc(),
-        [
-            Command::Insert(square),
-            Command::Insert(square),
-            Command::Join(other),
-        ],
-    )?;
-    assert!(rt; pairs_given(rt.alloc(), commands)? == 2);
+    let other = Rectangle::from_corners([2, 2], [4, 4]);
+    assert!(rt; pairs_given(rt.alloc(), square, other)? == 2);
     Ok(())
 }
 

@@ -193,14 +193,13 @@ fn a_visit_ends_at_a_break(rt: HostRuntime) {
     assert!(rt; ends_at(rt.alloc(), &ALONG_A_LINE, area, 3));
 }
 
+/// An envelope, a point, and a squared distance.
+type Asked<T> = (<T as RTreeObject>::Envelope, PointOf<T>, Distance<T>);
+
 /// Whether an element is one, whether the envelope contains it, whether it intersects it, whether the element contains
 /// the point, and whether it lies within the distance.
-fn answers<T: PointDistance>(
-    element: &T,
-    area: &T::Envelope,
-    point: &PointOf<T>,
-    limit: &Distance<T>,
-) -> [bool; 5] {
+fn answers<T: PointDistance>(element: &T, asked: &Asked<T>) -> [bool; 5] {
+    let (area, point, limit) = asked;
     let envelope = element.envelope();
     [
         true,
@@ -212,15 +211,10 @@ fn answers<T: PointDistance>(
 }
 
 /// How many elements of a list answer each of the five questions.
-fn scanned<T: PointDistance>(
-    elements: &[T],
-    area: &T::Envelope,
-    point: &PointOf<T>,
-    limit: &Distance<T>,
-) -> [usize; 5] {
+fn scanned<T: PointDistance>(elements: &[T], asked: &Asked<T>) -> [usize; 5] {
     let mut counts = [0usize; 5];
     for element in elements {
-        let answers = answers(element, area, point, limit);
+        let answers = answers(element, asked);
         for k in 0..5 {
             if answers[k] {
                 counts[k] = counts[k].saturating_add(1);
@@ -235,9 +229,7 @@ fn gives<'a, T: PointDistance + PartialEq, Func: SelectionFunction<T>>(
     alloc: Global,
     walk: Result<SelectionIterator<'a, T, Func>, AllocError>,
     elements: &[T],
-    area: &T::Envelope,
-    point: &PointOf<T>,
-    limit: &Distance<T>,
+    asked: &Asked<T>,
     question: usize,
 ) -> bool
     requires walking { IfOk walk (IsWalking Func.accepts) }
@@ -252,7 +244,7 @@ fn gives<'a, T: PointDistance + PartialEq, Func: SelectionFunction<T>>(
             let mut count = 0usize;
             let mut is_so = true;
             for element in elements {
-                let is_wanted = answers(element, area, point, limit)[question];
+                let is_wanted = answers(element, asked)[question];
                 is_so = is_so && found.contains(&element) == is_wanted;
                 count = count.saturating_add(usize::from(is_wanted));
             }
@@ -267,25 +259,30 @@ fn iterators_find<T: PointDistance + PartialEq>(
     alloc: Global,
     tree: &RTree<T>,
     elements: &[T],
-    area: T::Envelope,
-    point: PointOf<T>,
-    limit: Distance<T>,
+    asked: &Asked<T>,
 ) -> bool
 where
     T::Envelope: Copy,
     PointOf<T>: Copy,
     requires { IsWholeTree T.Envelope.boxes T.object ⟦<DefaultParams as RTreeParams>⟧.MAX_SIZE tree.now }
 {
-    let all = gives(alloc, tree.iter(), elements, &area, &point, &limit, 0);
-    let inside = tree.locate_in_envelope(area);
-    let inside = gives(alloc, inside, elements, &area, &point, &limit, 1);
-    let touching = tree.locate_in_envelope_intersecting(area);
-    let touching = gives(alloc, touching, elements, &area, &point, &limit, 2);
-    let at = tree.locate_all_at_point(point);
-    let at = gives(alloc, at, elements, &area, &point, &limit, 3);
-    let near = tree.locate_within_distance(point, limit);
-    let near = gives(alloc, near, elements, &area, &point, &limit, 4);
-    all && inside && touching && at && near
+    gives(alloc, tree.iter(), elements, asked, 0)
+        && gives(alloc, tree.locate_in_envelope(asked.0), elements, asked, 1)
+        && gives(
+            alloc,
+            tree.locate_in_envelope_intersecting(asked.0),
+            elements,
+            asked,
+            2,
+        )
+        && gives(alloc, tree.locate_all_at_point(asked.1), elements, asked, 3)
+        && gives(
+            alloc,
+            tree.locate_within_distance(asked.1, asked.2),
+            elements,
+            asked,
+            4,
+        )
 }
 
 /// Counts the calls of a visitor that goes on.
@@ -330,9 +327,10 @@ where
     T::Envelope: Copy,
     PointOf<T>: Copy,
 {
-    let counts = scanned(elements, &area, &point, &limit);
+    let asked = (area, point, limit);
+    let counts = scanned(elements, &asked);
     let tree = inserted::<T, DefaultParams>(alloc, elements);
-    if iterators_find(alloc, &tree, elements, area, point, limit)
+    if iterators_find(alloc, &tree, elements, &asked)
         && visits_find(&tree, area, point, counts[2], counts[3])
     {
         Some(counts)
