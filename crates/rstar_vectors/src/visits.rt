@@ -89,10 +89,7 @@ mod tests {
                 }
             },
         );
-        match answer {
-            ControlFlow::Break(number) => (number, sum(&tree)),
-            ControlFlow::Continue(()) => (0, sum(&tree)),
-        }
+        (answer.break_value().unwrap_or(0), sum(&tree))
     }
 
     /// The sums of the numbers after a visit of what an envelope contains, one of what it intersects, one of what contains
