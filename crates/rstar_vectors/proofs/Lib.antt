@@ -1,4 +1,4 @@
 pub mod Callers
 pub mod FirstSeen
 pub mod Fits
-pub mod Given
+pub mod GivenSoFar

@@ -140,7 +140,10 @@ fn meet<
     let left = inserted(alloc, lefts);
     let right = inserted(alloc, rights);
     let third = inserted(alloc, points);
-    meet_alike(alloc, &left, &right, given)
+    left.size() == lefts.len()
+        && right.size() == rights.len()
+        && third.size() == points.len()
+        && meet_alike(alloc, &left, &right, given)
         && meet_both_ways(alloc, &left, &third, with_points)
         && meet_alike(alloc, &third, &third, of_points)
 }

@@ -256,7 +256,10 @@ fn loads_in_parts<T: RTreeObject + Copy>(
 {
     let tree: RTree<T> = loaded(alloc, elements);
     let root = tree.root();
-    if levels_of(root) != levels || held(alloc, root)?.as_slice() != parts {
+    if !stands(&tree)
+        || levels_of(root) != levels
+        || held(alloc, root)?.as_slice() != parts
+    {
         return Ok(false);
     }
     match below {

@@ -24,18 +24,6 @@ use std::test::Fail;
 
 type At = [i32; 2];
 
-/// Whether the `k`-th of some distances is this one, and the `k`-th of some numbers, as far as these go, that of the
-/// parents opened.
-fn is_row<S: PartialEq>(
-    distances: &[S],
-    opened: &[usize],
-    k: usize,
-    found: &S,
-    count: usize,
-) -> bool {
-    k < distances.len() && distances[k] == *found && (opened.len() <= k || opened[k] == count)
-}
-
 /// The squared distance of the next neighbour, and how many parents are opened then; none at the end, or where it is
 /// refused.
 fn next_with_opened<T: PointDistance>(
@@ -67,7 +55,9 @@ fn gives<T: PointDistance>(
     }
     for k in 0..distances.len() {
         match next_with_opened(neighbors) {
-            Some((found, count)) => if !is_row(distances, opened, k, &found, count) {
+            Some((found, count)) => if found != distances[k]
+                || (k < opened.len() && opened[k] != count)
+            {
                 return false;
             },
             None => return false,

@@ -2,7 +2,7 @@ use Rattle.std.proofs.Common.{min, refl, ap₂, ◌∙◌}
 use Rattle.rstar_base.specs.Counts.{usize_max}
 use Rattle.rstar.specs.Joins.{meets_by}
 use Rattle.rstar.specs.Meets.{meet_of_roots}
-use Rattle.rstar_vectors.proofs.Given.{none-given, one-more-given, all-given}
+use Rattle.rstar_vectors.proofs.GivenSoFar.{none-given, one-more-given, all-given}
 use Rattle.rstar_vectors.proofs.joins.paired.Goals as goal
 
 pub loop-pair-init : goal.loop-pair-init

@@ -1,7 +1,7 @@
 use Rattle.std.proofs.Common.{min, refl, ap₂, ◌∙◌}
 use Rattle.rstar_base.specs.Counts.{usize_max}
 use Rattle.rstar.specs.Nodes.{reach_of}
-use Rattle.rstar_vectors.proofs.Given.{none-given, one-more-given, all-given}
+use Rattle.rstar_vectors.proofs.GivenSoFar.{none-given, one-more-given, all-given}
 use Rattle.rstar_vectors.proofs.payloads.walked.Goals as goal
 
 pub loop-element-init : goal.loop-element-init
