@@ -35,7 +35,6 @@ pub struct NearestNeighborDistance2Iterator<'a, T: PointDistance> {
 
 impl<'a, T: PointDistance> NearestNeighborDistance2Iterator<'a, T> {
     /// The neighbours of a point below a root. It takes no memory.
-    #[tactic(auto, unfolding(crate::specs::Neighbors::IsSearching))]
     pub(crate) fn new(root: &'a ParentNode<T>, point: PointOf<T>) -> Self
         requires { IsWhole T.Envelope.boxes T.object root.now }
         ensures fresh { IsFresh root.now point result }
