@@ -1,6 +1,5 @@
 -- What a search that is held by value takes of the memory. Only the scalar lies in it by value: any type stands for
 -- what is lent.
-use Rattle.std.specs.Mem.{FitsInMemory}
 use denote.RattleType.{RattleType}
 use denote.Builtin.{usize}
 use denote.Param.{copied}

@@ -11,7 +11,7 @@ const NEAR: usize = 12;
 
 /// Twelve places. They are fields and no array, since a function that is generic over what lies inline beside an array
 /// would have to bound its size.
-#[derive(Clone, Copy)]
+#[derive(Drop)]
 struct Near<X> {
     p0: X,
     p1: X,

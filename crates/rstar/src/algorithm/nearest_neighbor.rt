@@ -27,26 +27,14 @@ pub(crate) use ties::all_nearest;
 /// other one: the first opens the root. A distance is computed once for each child of an opened parent. It takes memory
 /// where more than 32 nodes wait; a refusal comes once, and then `None`. The order is that of Roussopoulos, Kelley and
 /// Vincent (1995) by MINDIST alone.
+#[derive(Drop)]
 pub struct NearestNeighborDistance2Iterator<'a, T: PointDistance> {
     search: NeighborSearch<'a, T>,
     point: PointOf<T>,
 }
 
-impl<'a, T: PointDistance> Drop for NearestNeighborDistance2Iterator<'a, T> {
-    fn drop(self) {
-        let NearestNeighborDistance2Iterator {
-            search,
-            point: _point,
-        } = self;
-        let_go(search);
-    }
-}
-
-fn let_go<T: PointDistance>(_search: NeighborSearch<'_, T>) {}
-
 impl<'a, T: PointDistance> NearestNeighborDistance2Iterator<'a, T> {
     /// The neighbours of a point below a root. It takes no memory.
-    #[tactic(auto, unfolding(crate::specs::Neighbors::IsSearching))]
     pub(crate) fn new(root: &'a ParentNode<T>, point: PointOf<T>) -> Self
         requires { IsWhole T.Envelope.boxes T.object root.now }
         ensures fresh { IsFresh root.now point result }
@@ -93,18 +81,10 @@ impl<'a, T: PointDistance> Iterator for NearestNeighborDistance2Iterator<'a, T> 
 
 /// The elements of a tree, the nearest to a point first, and then `None`, as `NearestNeighborDistance2Iterator` gives
 /// them with their distances.
+#[derive(Drop)]
 pub struct NearestNeighborIterator<'a, T: PointDistance> {
     with_distances: NearestNeighborDistance2Iterator<'a, T>,
 }
-
-impl<'a, T: PointDistance> Drop for NearestNeighborIterator<'a, T> {
-    fn drop(self) {
-        let NearestNeighborIterator { with_distances } = self;
-        let_both_go(with_distances);
-    }
-}
-
-fn let_both_go<T: PointDistance>(_neighbors: NearestNeighborDistance2Iterator<'_, T>) {}
 
 impl<'a, T: PointDistance> NearestNeighborIterator<'a, T> {
     /// The neighbours of a point below a root. It takes no memory.

@@ -1,5 +1,15 @@
+use Rattle.std.proofs.Common.{refl, ap}
 use Rattle.rstar.specs.Neighbors.{IsSearching}
 use Rattle.rstar.proofs.algorithm.nearest_neighbor.NearestNeighborDistance2Iterator.new.Goals as goal
+
+pub returns-clause-fresh : goal.returns-clause-fresh
+returns-clause-fresh g c = record {
+  root = ap (λ r. r.now) c.new.ensures.root;
+  point = refl;
+  waiting = rw c.new.ensures.stage (rw c.new.ensures.root refl);
+  opened = c.new.ensures.opened;
+  going_on = rw c.new.ensures.stage tt;
+}
 
 pub returns-clause-searching : goal.returns-clause-searching
 unfolding IsSearching

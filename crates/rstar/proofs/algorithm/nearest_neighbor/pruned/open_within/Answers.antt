@@ -35,3 +35,6 @@ returns-clause-pruned g c = λ all s.
     let p = table g.T.Envelope.Point.Point.DIMENSIONS (g.T.Envelope.Point.Point.coord c.args.point.now) in
     let end = ap (λ l. waiting_nodes (items_of c.loop-child.heap) ++ l) none ∙ append-nil (waiting_nodes (items_of c.loop-child.heap)) in
     subst (λ l. IsPruned g.T.Envelope.Envelope.boxes g.T.RTreeObject.object g.T.PointDistance.distances p g.T.Envelope.Point.Scalar.Number.value all l c.loop-child.left) end (c.loop-child.invariant.pruned all s)
+
+pub returns-clause-waiting : goal.returns-clause-waiting
+returns-clause-waiting g c = c.loop-child.invariant.waiting

@@ -43,3 +43,18 @@ pub returns-clause-added : goal.returns-clause-added
 returns-clause-added g c =
     let whole = take_all c.loop-node.node-index c.args.children.now (omega arith) in
     subst (λ l. IsPermutation (waiting_nodes (held_by c.args.self.now) ++ l) (waiting_nodes (held_by c.loop-node.self))) whole c.loop-node.invariant.added
+
+pub returns-clause-waiting : goal.returns-clause-waiting
+returns-clause-waiting g c = c.loop-node.invariant.waiting
+
+pub returns-clause-root : goal.returns-clause-root
+returns-clause-root g c = c.loop-node.invariant.root
+
+pub returns-in-Err-clause-root : goal.returns-in-Err-clause-root
+returns-in-Err-clause-root g c = c.loop-node.invariant.root
+
+pub returns-in-Err-clause-opened : goal.returns-in-Err-clause-opened
+returns-in-Err-clause-opened g c = c.loop-node.invariant.opened
+
+pub returns-in-Err-clause-stage : goal.returns-in-Err-clause-stage
+returns-in-Err-clause-stage g c = c.loop-node.invariant.stage

@@ -87,3 +87,24 @@ pub returns-clause-none : goal.returns-clause-none
 returns-clause-none g c =
     let gone = c.in_default.ensures.none in
     nil-length _ (sym (length_permutation _ _ c.loop-current.invariant.bag) ∙ ap (λ ws. length (all_elements (waiting_nodes ws))) gone)
+
+pub returns-in-Leaf-clause-root : goal.returns-in-Leaf-clause-root
+returns-in-Leaf-clause-root g c = c.loop-current.invariant.root
+
+pub returns-in-Leaf-clause-stage : goal.returns-in-Leaf-clause-stage
+returns-in-Leaf-clause-stage g c = c.loop-current.invariant.stage
+
+pub returns-clause-root : goal.returns-clause-root
+returns-clause-root g c = c.loop-current.invariant.root
+
+pub returns-clause-stage : goal.returns-clause-stage
+returns-clause-stage g c = c.loop-current.invariant.stage
+
+pub returns-clause-over : goal.returns-clause-over
+returns-clause-over g c = ap waiting_nodes c.in_default.ensures.stays
+
+pub returns-in_err-add_children-in-Parent-clause-root : goal.returns-in_err-add_children-in-Parent-clause-root
+returns-in_err-add_children-in-Parent-clause-root g c = c.add_children.ensures.root ∙ c.loop-current.invariant.root
+
+pub returns-in_err-add_children-in-Parent-clause-stage : goal.returns-in_err-add_children-in-Parent-clause-stage
+returns-in_err-add_children-in-Parent-clause-stage g c = c.add_children.ensures.stage ∙ c.loop-current.invariant.stage

@@ -12,6 +12,38 @@ going Fresh h = tt
 going Running h = tt
 going Ended h = h refl
 
+pub returns-in-Ended : goal.returns-in-Ended
+returns-in-Ended g c =
+    let refused : IsUnrefused c.args.self.now.stage → ⊥ = λ on. subst IsUnrefused c.in-Ended.is on in
+    record {
+      root = refl;
+      ready = c.requires;
+      gives = tt;
+      distance = tt;
+      none = λ on. absurd (refused on);
+      over = λ on. absurd (refused on);
+      stays = λ on. absurd (refused on);
+      refused = tt;
+      goes_on = tt;
+      ends = tt;
+      once = tt;
+    }
+
+pub returns-in-Err : goal.returns-in-Err
+returns-in-Err g c = record {
+  root = c.begin.ensures.root;
+  ready = tt;
+  gives = tt;
+  distance = tt;
+  none = tt;
+  over = tt;
+  stays = tt;
+  refused = c.in-Err.ensures.refused;
+  goes_on = tt;
+  ends = refl;
+  once = going _ c.in_default.not-Ended;
+}
+
 pub returns-in-Ok-Some : goal.returns-in-Ok-Some
 returns-in-Ok-Some g c =
     let p = table g.T.Envelope.Point.Point.DIMENSIONS (g.T.Envelope.Point.Point.coord c.args.point.now) in
