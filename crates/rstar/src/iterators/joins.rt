@@ -71,13 +71,19 @@ pub struct IntersectionIterator<'a, T: RTreeObject, U: InEnvelope<T::Envelope> =
 }
 
 /// What a join leaves for later: as in `IntersectionIterator`.
-#[derive(Clone, Copy)]
+#[derive(Copy)]
 struct Frame<L, R> {
     lefts: L,
     asked: R,
     marks: u64,
     later: R,
     rights: R,
+}
+
+impl<L: Copy, R: Copy> Clone for Frame<L, R> {
+    fn clone(&self) -> Result<Self, AllocError> {
+        Ok(*self)
+    }
 }
 
 /// What one step of a join did.
