@@ -71,13 +71,19 @@ pub struct IntersectionIterator<'a, T: RTreeObject, U: InEnvelope<T::Envelope> =
 }
 
 /// What a join leaves for later: as in `IntersectionIterator`.
-#[derive(Clone, Copy)]
+#[derive(Copy)]
 struct Frame<L, R> {
     lefts: L,
     asked: R,
     marks: u64,
     later: R,
     rights: R,
+}
+
+impl<L: Copy, R: Copy> Clone for Frame<L, R> {
+    fn clone(&self) -> Result<Self, AllocError> {
+        Ok(*self)
+    }
 }
 
 /// What one step of a join did.
@@ -90,12 +96,12 @@ enum PairStep<'a, T, U> {
     Ended,
 }
 
-/// The first node alone.
-fn first_alone<'a, T: RTreeObject>(nodes: &'a [RTreeNode<T>]) -> &'a [RTreeNode<T>]
-    requires { 0 < length nodes.now }
-    ensures { result.now ≡ take 1 nodes.now }
+/// The first item alone.
+fn first_alone<L>(items: &[L]) -> &[L]
+    requires { 0 < length items.now }
+    ensures { result.now ≡ take 1 items.now }
 {
-    &nodes[..1]
+    &items[..1]
 }
 
 /// The children of a single node, or the node alone where it is a leaf.
@@ -169,12 +175,12 @@ fn marks_of<T: RTreeObject, U: InEnvelope<T::Envelope>>(
     marks
 }
 
-/// The nodes from the two of the first marked pair on, and marks for the others.
-fn first_marked<'a, T: RTreeObject, U: RTreeObject>(
-    lefts: &'a [RTreeNode<T>],
-    rights: &'a [RTreeNode<U>],
+/// The items from the two of the first marked pair on, and marks for the others.
+fn first_marked<'a, L, R>(
+    lefts: &'a [L],
+    rights: &'a [R],
     marks: u64,
-) -> Option<(&'a [RTreeNode<T>], &'a [RTreeNode<U>], u64)>
+) -> Option<(&'a [L], &'a [R], u64)>
     ensures some { IfSome result (λ r. IsFirstPair lefts.now rights.now marks r.0.now r.1.now r.2) }
     ensures none { IfNone result (marked marks (product lefts.now rights.now) ≡ []) }
 {
@@ -194,7 +200,7 @@ fn first_marked<'a, T: RTreeObject, U: RTreeObject>(
 }
 
 /// How many nodes on the left are asked at once.
-fn rows_beside<U: RTreeObject>(rights: &[RTreeNode<U>]) -> usize
+fn rows_beside<R>(rights: &[R]) -> usize
     ensures { result ≡ rows_beside rights.now }
 {
     if rights.len() <= NARROW { NARROW } else { 1 }

@@ -1,10 +1,13 @@
-use Rattle.std.proofs.Common.{◌∷◌, ◌++◌, [], ◌∙◌, ap, refl, arith, append-nil, append_assoc, take, flat_map, sym, ◌≡◌, length}
+use Rattle.std.proofs.Common.{List, ◌∷◌, ◌++◌, [], ◌∙◌, ap, refl, arith, append-nil, append_assoc, take, flat_map, sym, ◌≡◌, length}
 use Rattle.rstar.specs.JoinWalks.{frame_of, in_hand, frames_of}
 use Rattle.rstar.specs.Joins.{meets_by}
 use Rattle.rstar.specs.Meets.{opened_to, both_leaves}
 use Rattle.rstar.proofs.PairRows.{found}
 use Rattle.rstar.proofs.PairWalks.{read-meets, move-read, move-open, open-room, move-pairs, move-nearer, move-frames, move-count, path-room, last-frame}
 use Rattle.rstar.proofs.iterators.joins.IntersectionIterator.read.Goals as goal
+
+first-same : {A : Type 0} (x y : A) (xs ys : List A) → x ∷ xs ≡ y ∷ ys → x ≡ y
+first-same x y xs ys e = cc
 
 pub returns-in_default : goal.returns-in_default
 returns-in_default g c = let long = ap length c.requires.met.left_begins in absurd (omega (arith, long, c.in_default.ensures.cases))
@@ -22,9 +25,9 @@ returns-in-Some-two_leaves g c =
     let left = met.left in
     let right = met.right in
     let same : left ∷ met.left_behind ≡ c.in-Some.left.now ∷ c.in-Some._under.now = sym met.left_begins ∙ c.in-Some.ensures.cases.0 in
-    let head : left ≡ c.in-Some.left.now = cc in
+    let head = first-same left c.in-Some.left.now _ _ same in
     let same' : right ∷ met.right_behind ≡ c.in-Some-split_first.right.now ∷ c.in-Some-split_first._behind.now = sym met.right_begins ∙ c.in-Some-split_first.ensures.cases.0 in
-    let head' : right ≡ c.in-Some-split_first.right.now = cc in
+    let head' = first-same right c.in-Some-split_first.right.now _ _ same' in
     let above = self.path.items in
     let frame = last-frame meets left_box right_box self.path.capacity above (in_hand self) c.requires.paths.frames in
     let meeting = read-meets meets left_box right_box self.lefts self.asked self.later self.rights self.marks c.args.marks left right met.all frame.1 in
@@ -52,9 +55,9 @@ push_reserved-requires g c =
     let left = met.left in
     let right = met.right in
     let same : left ∷ met.left_behind ≡ c.in-Some.left.now ∷ c.in-Some._under.now = sym met.left_begins ∙ c.in-Some.ensures.cases.0 in
-    let head : left ≡ c.in-Some.left.now = cc in
+    let head = first-same left c.in-Some.left.now _ _ same in
     let same' : right ∷ met.right_behind ≡ c.in-Some-split_first.right.now ∷ c.in-Some-split_first._behind.now = sym met.right_begins ∙ c.in-Some-split_first.ensures.cases.0 in
-    let head' : right ≡ c.in-Some-split_first.right.now = cc in
+    let head' = first-same right c.in-Some-split_first.right.now _ _ same' in
     let inner = (λ i. both_leaves (head i) (head' i)) ∙ c.in_default-two_leaves.ensures.none in
     path-room meets left_box right_box self.path.capacity self.path.items (in_hand self) c.requires.paths.frames
     (λ k at. open-room meets left_box right_box self.lefts self.asked self.later self.rights self.marks c.args.marks left right met.all at inner)
@@ -69,9 +72,9 @@ returns g c =
     let left = met.left in
     let right = met.right in
     let same : left ∷ met.left_behind ≡ c.in-Some.left.now ∷ c.in-Some._under.now = sym met.left_begins ∙ c.in-Some.ensures.cases.0 in
-    let head : left ≡ c.in-Some.left.now = cc in
+    let head = first-same left c.in-Some.left.now _ _ same in
     let same' : right ∷ met.right_behind ≡ c.in-Some-split_first.right.now ∷ c.in-Some-split_first._behind.now = sym met.right_begins ∙ c.in-Some-split_first.ensures.cases.0 in
-    let head' : right ≡ c.in-Some-split_first.right.now = cc in
+    let head' = first-same right c.in-Some-split_first.right.now _ _ same' in
     let above = self.path.items in
     let inner = (λ i. both_leaves (head i) (head' i)) ∙ c.in_default-two_leaves.ensures.none in
     let frame = last-frame meets left_box right_box self.path.capacity above (in_hand self) c.requires.paths.frames in
