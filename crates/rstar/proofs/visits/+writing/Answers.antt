@@ -56,14 +56,14 @@ visit_node_mut-returns-then-should_unpack_parent g t c =
     let long : length new ≡ length (children_of p) = c.visit_nodes_mut.auto.nodes ∙ ap length value in
     record {
       written = simp (c.in-Parent.is, outs-Parent)
-        (parent-written o accepts selects (goal.V-step g) c.args.visitor.now (Parent p) (Parent (record p { children = with_items p.children new })) p (record p { children = with_items p.children new }) c.visit_nodes_mut.result c.visit_nodes_mut.new.visitor refl refl
-        (sym (rw c.in-Parent.parent-is at c.should_unpack_parent.ensures) ∙ c.if-should_unpack_parent.true)
-        (subst (λ l. Writes (goal.V-step g) c.args.visitor.now (all_marked accepts selects l) c.visit_nodes_mut.result c.visit_nodes_mut.new.visitor (all_elements (with_items p.children new).items)) value
-        (subst (λ l. Writes (goal.V-step g) c.args.visitor.now (all_marked accepts selects c.as_mut_slice.result.now) c.visit_nodes_mut.result c.visit_nodes_mut.new.visitor (all_elements l)) (sym (refilled p.children new long)) c.visit_nodes_mut.ensures.written)));
+          (parent-written o accepts selects (goal.V-step g) c.args.visitor.now (Parent p) (Parent (record p { children = with_items p.children new })) p (record p { children = with_items p.children new }) c.visit_nodes_mut.result c.visit_nodes_mut.new.visitor refl refl
+          (sym (rw c.in-Parent.parent-is at c.should_unpack_parent.ensures) ∙ c.if-should_unpack_parent.true)
+          (subst (λ l. Writes (goal.V-step g) c.args.visitor.now (all_marked accepts selects l) c.visit_nodes_mut.result c.visit_nodes_mut.new.visitor (all_elements (with_items p.children new).items)) value
+          (subst (λ l. Writes (goal.V-step g) c.args.visitor.now (all_marked accepts selects c.as_mut_slice.result.now) c.visit_nodes_mut.result c.visit_nodes_mut.new.visitor (all_elements l)) (sym (refilled p.children new long)) c.visit_nodes_mut.ensures.written)));
       changed = simp (c.in-Parent.is, outs-Parent)
-        (λ k. parent-changed o accepts selects (goal.V-step g) (Parent p) (Parent (record p { children = with_items p.children new })) p (record p { children = with_items p.children new }) refl refl refl refl
-        (λ h w. subst (AllZip (IsChanged (KeepsBox o) h) (children_of p)) (sym (refilled p.children new long))
-        (subst (λ l. AllZip (IsChanged (KeepsBox o) h) l new) value (c.visit_nodes_mut.ensures.changed k h (subst (AreTrees IsAny IsAny h) (sym value) w)))));
+          (λ k. parent-changed o accepts selects (goal.V-step g) (Parent p) (Parent (record p { children = with_items p.children new })) p (record p { children = with_items p.children new }) refl refl refl refl
+          (λ h w. subst (AllZip (IsChanged (KeepsBox o) h) (children_of p)) (sym (refilled p.children new long))
+          (subst (λ l. AllZip (IsChanged (KeepsBox o) h) l new) value (c.visit_nodes_mut.ensures.changed k h (subst (AreTrees IsAny IsAny h) (sym value) w)))));
     }
 
 pub visit_node_mut-returns-else-should_unpack_parent : goal.visit_node_mut-returns-else-should_unpack_parent

@@ -88,25 +88,25 @@ load_node-load_parts-requires g t c κs within =
 
 pub load_node-returns-then-below-eq0 : goal.load_node-returns-then-below-eq0
 load_node-returns-then-below-eq0 g t c = record {
-    fresh = subst (λ h. IfOk c.leaf_parent.result (IsFresh g.T.Envelope.Envelope.boxes g.T.RTreeObject.object g.Params.RTreeParams.MAX_SIZE c.leaf_parent.new.widest g.T.Envelope.Point.Point.DIMENSIONS h)) (sym c.if-below-eq0.true) c.leaf_parent.ensures.fresh;
-    same = c.leaf_parent.ensures.same;
-    wider = c.leaf_parent.ensures.wider;
-    counted = c.leaf_parent.ensures.counted;
+  fresh = subst (λ h. IfOk c.leaf_parent.result (IsFresh g.T.Envelope.Envelope.boxes g.T.RTreeObject.object g.Params.RTreeParams.MAX_SIZE c.leaf_parent.new.widest g.T.Envelope.Point.Point.DIMENSIONS h)) (sym c.if-below-eq0.true) c.leaf_parent.ensures.fresh;
+  same = c.leaf_parent.ensures.same;
+  wider = c.leaf_parent.ensures.wider;
+  counted = c.leaf_parent.ensures.counted;
 }
 
 pub load_node-returns : goal.load_node-returns
 load_node-returns g t c = record {
-    wider = up_to c.args.widest.now c.load_parts.new.widest c.make_wide_room.new.widest c.in_ok-load_parts.ensures.wider c.in_ok-make_wide_room.ensures.wider;
-    counted = c.in_ok-make_wide_room.ensures.counted;
-    same = parts_same (λ t' k. g.T.Envelope.Envelope.boxes.axis_key (g.T.RTreeObject.object.box_of t') k) (IsFreshNode g.T.Envelope.Envelope.boxes g.T.RTreeObject.object g.Params.RTreeParams.MAX_SIZE c.load_parts.new.widest g.T.Envelope.Point.Point.DIMENSIONS (c.args.below - 1)) c.slabs_on_axis-clusters.result g.T.Envelope.Point.Point.DIMENSIONS c.args.elements.items c.load_parts.new.nodes.items c.make_wide_room.new.nodes.items (rw (c.in_ok-nodes.ensures.items, c.DIMENSIONS-axes.ensures) at c.in_ok-load_parts.ensures.adds) c.make_wide_room.ensures.same;
-    fresh = let long : c.len.result ≡ length c.args.elements.items = same_as c.len.result (vec_len c.args.elements) (length c.args.elements.items) c.len.ensures c.args.elements.ok.0 in
-        parts_parent g.met.T.Envelope.Envelope.envelope_laws g.met.T.RTreeObject.object_law g.Params.RTreeParams.MAX_SIZE c.make_wide_room.new.widest g.T.Envelope.Point.Point.DIMENSIONS c.slabs_on_axis-clusters.result
-        (c.args.below - 1) c.args.below c.load_parts.new.widest c.slabs_on_axis-clusters.ensures.number.0 c.args.elements.items c.load_parts.new.nodes.items (record { children = c.make_wide_room.new.nodes; envelope = c.envelope_for_children-envelope.result }) c.requires.some
-        (deep_large g.Params.RTreeParams.MAX_SIZE g.T.Envelope.Point.Point.DIMENSIONS (c.args.below - 1) c.args.below (length c.args.elements.items) c.requires.deep (previous c.args.below c.if-below-eq0.false)) c.slabs_on_axis-clusters.ensures.least
-        (rw c.slabs_on_axis-clusters.ensures.number.2 (cluster_bound g.Params.RTreeParams.MAX_SIZE g.T.Envelope.Point.Point.DIMENSIONS c.len.result c.slabs_on_axis-clusters.ensures.number.0 (search rules) c.slabs_on_axis-clusters.ensures.number.1)) (two_some g.T.Envelope.Point.Point.DIMENSIONS c.requires.dimensions)
-        (rw long at c.slabs_on_axis-clusters.ensures.number.1) c.slabs_on_axis-clusters.ensures.number.2 c.in_ok-make_wide_room.ensures.wider
-        (rw (c.in_ok-nodes.ensures.items, c.DIMENSIONS-axes.ensures) at c.in_ok-load_parts.ensures.adds) c.make_wide_room.ensures.same (previous c.args.below c.if-below-eq0.false) (rw c.deref.ensures.value at c.envelope_for_children-envelope.ensures)
-        c.in_ok-make_wide_room.ensures.room (narrow_as (vec_len c.make_wide_room.new.nodes) (length c.make_wide_room.new.nodes.items) c.make_wide_room.new.widest c.make_wide_room.new.nodes.ok.0 c.in_ok-make_wide_room.ensures.narrow);
+  wider = up_to c.args.widest.now c.load_parts.new.widest c.make_wide_room.new.widest c.in_ok-load_parts.ensures.wider c.in_ok-make_wide_room.ensures.wider;
+  counted = c.in_ok-make_wide_room.ensures.counted;
+  same = parts_same (λ t' k. g.T.Envelope.Envelope.boxes.axis_key (g.T.RTreeObject.object.box_of t') k) (IsFreshNode g.T.Envelope.Envelope.boxes g.T.RTreeObject.object g.Params.RTreeParams.MAX_SIZE c.load_parts.new.widest g.T.Envelope.Point.Point.DIMENSIONS (c.args.below - 1)) c.slabs_on_axis-clusters.result g.T.Envelope.Point.Point.DIMENSIONS c.args.elements.items c.load_parts.new.nodes.items c.make_wide_room.new.nodes.items (rw (c.in_ok-nodes.ensures.items, c.DIMENSIONS-axes.ensures) at c.in_ok-load_parts.ensures.adds) c.make_wide_room.ensures.same;
+  fresh = let long : c.len.result ≡ length c.args.elements.items = same_as c.len.result (vec_len c.args.elements) (length c.args.elements.items) c.len.ensures c.args.elements.ok.0 in
+      parts_parent g.met.T.Envelope.Envelope.envelope_laws g.met.T.RTreeObject.object_law g.Params.RTreeParams.MAX_SIZE c.make_wide_room.new.widest g.T.Envelope.Point.Point.DIMENSIONS c.slabs_on_axis-clusters.result
+      (c.args.below - 1) c.args.below c.load_parts.new.widest c.slabs_on_axis-clusters.ensures.number.0 c.args.elements.items c.load_parts.new.nodes.items (record { children = c.make_wide_room.new.nodes; envelope = c.envelope_for_children-envelope.result }) c.requires.some
+      (deep_large g.Params.RTreeParams.MAX_SIZE g.T.Envelope.Point.Point.DIMENSIONS (c.args.below - 1) c.args.below (length c.args.elements.items) c.requires.deep (previous c.args.below c.if-below-eq0.false)) c.slabs_on_axis-clusters.ensures.least
+      (rw c.slabs_on_axis-clusters.ensures.number.2 (cluster_bound g.Params.RTreeParams.MAX_SIZE g.T.Envelope.Point.Point.DIMENSIONS c.len.result c.slabs_on_axis-clusters.ensures.number.0 (search rules) c.slabs_on_axis-clusters.ensures.number.1)) (two_some g.T.Envelope.Point.Point.DIMENSIONS c.requires.dimensions)
+      (rw long at c.slabs_on_axis-clusters.ensures.number.1) c.slabs_on_axis-clusters.ensures.number.2 c.in_ok-make_wide_room.ensures.wider
+      (rw (c.in_ok-nodes.ensures.items, c.DIMENSIONS-axes.ensures) at c.in_ok-load_parts.ensures.adds) c.make_wide_room.ensures.same (previous c.args.below c.if-below-eq0.false) (rw c.deref.ensures.value at c.envelope_for_children-envelope.ensures)
+      c.in_ok-make_wide_room.ensures.room (narrow_as (vec_len c.make_wide_room.new.nodes) (length c.make_wide_room.new.nodes.items) c.make_wide_room.new.widest c.make_wide_room.new.nodes.ok.0 c.in_ok-make_wide_room.ensures.narrow);
 }
 
 pub load_parts-load_node-requires : goal.load_parts-load_node-requires
@@ -117,23 +117,23 @@ load_parts-load_node-requires g t c κs within =
 
 pub load_parts-returns-then-axes-eq0 : goal.load_parts-returns-then-axes-eq0
 load_parts-returns-then-axes-eq0 g t c = record {
-    adds = one_part g.T.Envelope.Envelope.boxes g.T.RTreeObject.object g.Params.RTreeParams.MAX_SIZE c.load_node.new.widest g.T.Envelope.Point.Point.DIMENSIONS c.args.below c.args.clusters c.args.axes c.args.elements.items
-        c.args.nodes.now.items c.push.new.self.items c.in_ok-node.node c.if-axes-eq0.true c.in_ok-push.ensures.items c.in_ok-node.ensures.same c.in_ok-node.ensures.fresh;
-    wider = c.in_ok-node.ensures.wider;
-    counted = c.in_ok-node.ensures.counted;
+  adds = one_part g.T.Envelope.Envelope.boxes g.T.RTreeObject.object g.Params.RTreeParams.MAX_SIZE c.load_node.new.widest g.T.Envelope.Point.Point.DIMENSIONS c.args.below c.args.clusters c.args.axes c.args.elements.items
+      c.args.nodes.now.items c.push.new.self.items c.in_ok-node.node c.if-axes-eq0.true c.in_ok-push.ensures.items c.in_ok-node.ensures.same c.in_ok-node.ensures.fresh;
+  wider = c.in_ok-node.ensures.wider;
+  counted = c.in_ok-node.ensures.counted;
 }
 
 pub load_parts-loop-slab-init : goal.load_parts-loop-slab-init
 load_parts-loop-slab-init g t c =
     record {
-  axis = c.new-slabs.ensures.axis;
-  size = c.new-slabs.ensures.size c.requires.some;
-  cutting = c.new-slabs.ensures.cutting;
-  each = rw c.new-slabs.ensures.elements c.requires.elements;
-  wider = itself c.args.widest.now;
-  counted = c.requires.counted;
-  parts = rw c.new-slabs.ensures.elements (underway_start (λ t' k. g.T.Envelope.Envelope.boxes.axis_key (g.T.RTreeObject.object.box_of t') k) (IsFreshNode g.T.Envelope.Envelope.boxes g.T.RTreeObject.object g.Params.RTreeParams.MAX_SIZE c.args.widest.now g.T.Envelope.Point.Point.DIMENSIONS c.args.below) c.args.clusters (c.args.axes - 1) c.args.elements.items c.args.nodes.now.items c.requires.some);
-}
+      axis = c.new-slabs.ensures.axis;
+      size = c.new-slabs.ensures.size c.requires.some;
+      cutting = c.new-slabs.ensures.cutting;
+      each = rw c.new-slabs.ensures.elements c.requires.elements;
+      wider = itself c.args.widest.now;
+      counted = c.requires.counted;
+      parts = rw c.new-slabs.ensures.elements (underway_start (λ t' k. g.T.Envelope.Envelope.boxes.axis_key (g.T.RTreeObject.object.box_of t') k) (IsFreshNode g.T.Envelope.Envelope.boxes g.T.RTreeObject.object g.Params.RTreeParams.MAX_SIZE c.args.widest.now g.T.Envelope.Point.Point.DIMENSIONS c.args.below) c.args.clusters (c.args.axes - 1) c.args.elements.items c.args.nodes.now.items c.requires.some);
+    }
 
 pub load_parts-load_parts-requires : goal.load_parts-load_parts-requires
 load_parts-load_parts-requires g t c κs within =
@@ -158,8 +158,10 @@ load_parts-loop-slab-preserved g t c =
     record {
       axis = same_as (dimension_of c.next.new.self) (dimension_of c.loop-slab.slabs) (c.args.axes - 1) c.in-Some.ensures.steps.2 c.loop-slab.invariant.axis;
       size = same_as (slab_size_of c.next.new.self) (slab_size_of c.loop-slab.slabs) (div_ceil (length c.args.elements.items) c.args.clusters) c.in-Some.ensures.steps.1 c.loop-slab.invariant.size;
-      cutting = (some_as (slab_size_of c.next.new.self) (slab_size_of c.loop-slab.slabs) c.in-Some.ensures.steps.1 c.loop-slab.invariant.cutting.0,
-          below_as (dimension_of c.next.new.self) (dimension_of c.loop-slab.slabs) g.T.Envelope.Point.Point.DIMENSIONS c.in-Some.ensures.steps.2 c.loop-slab.invariant.cutting.1);
+      cutting = (
+        some_as (slab_size_of c.next.new.self) (slab_size_of c.loop-slab.slabs) c.in-Some.ensures.steps.1 c.loop-slab.invariant.cutting.0,
+        below_as (dimension_of c.next.new.self) (dimension_of c.loop-slab.slabs) g.T.Envelope.Point.Point.DIMENSIONS c.in-Some.ensures.steps.2 c.loop-slab.invariant.cutting.1,
+      );
       each = (slab_has (λ t'. g.T.Envelope.Envelope.boxes.axis_key (g.T.RTreeObject.object.box_of t') (c.args.axes - 1)) (λ t'. g.T.Envelope.Envelope.boxes.is_empty (g.T.RTreeObject.object.box_of t') ≡ false) (div_ceil (length c.args.elements.items) c.args.clusters) (elements_left c.loop-slab.slabs) c.in_ok-slab.field-0.items (elements_left c.next.new.self) cut.0 c.loop-slab.invariant.each).1;
       wider = up_to c.args.widest.now c.loop-slab.widest c.load_parts.new.widest was le;
       counted = c.in_ok-load_parts.ensures.counted;
@@ -168,9 +170,9 @@ load_parts-loop-slab-preserved g t c =
 
 pub load_parts-returns : goal.load_parts-returns
 load_parts-returns g t c = record {
-    adds = underway_end (λ t' k. g.T.Envelope.Envelope.boxes.axis_key (g.T.RTreeObject.object.box_of t') k) (IsFreshNode g.T.Envelope.Envelope.boxes g.T.RTreeObject.object g.Params.RTreeParams.MAX_SIZE c.loop-slab.widest g.T.Envelope.Point.Point.DIMENSIONS c.args.below) c.args.clusters (c.args.axes - 1) c.args.axes c.args.elements.items (elements_left c.loop-slab.slabs) c.args.nodes.now.items c.loop-slab.nodes.items (two_some c.args.clusters c.requires.clusters) c.loop-slab.invariant.parts c.in_default.ensures.steps.0.0 (previous c.args.axes c.if-axes-eq0.false);
-    wider = c.loop-slab.invariant.wider;
-    counted = c.loop-slab.invariant.counted;
+  adds = underway_end (λ t' k. g.T.Envelope.Envelope.boxes.axis_key (g.T.RTreeObject.object.box_of t') k) (IsFreshNode g.T.Envelope.Envelope.boxes g.T.RTreeObject.object g.Params.RTreeParams.MAX_SIZE c.loop-slab.widest g.T.Envelope.Point.Point.DIMENSIONS c.args.below) c.args.clusters (c.args.axes - 1) c.args.axes c.args.elements.items (elements_left c.loop-slab.slabs) c.args.nodes.now.items c.loop-slab.nodes.items (two_some c.args.clusters c.requires.clusters) c.loop-slab.invariant.parts c.in_default.ensures.steps.0.0 (previous c.args.axes c.if-axes-eq0.false);
+  wider = c.loop-slab.invariant.wider;
+  counted = c.loop-slab.invariant.counted;
 }
 
 pub load_node-leaf_parent-requires-clause-some : goal.load_node-leaf_parent-requires-clause-some
@@ -190,54 +192,54 @@ load_node-overflow_sub-below g t c = some c.args.below c.if-below-eq0.false
 
 pub load_node-returns-in_err-nodes : goal.load_node-returns-in_err-nodes
 load_node-returns-in_err-nodes g t c = record {
-    same = IfOk-from_err c.from_residual.result _ c.from_residual.ensures.0;
-    fresh = IfOk-from_err c.from_residual.result _ c.from_residual.ensures.0;
-    wider = IfOk-from_err c.from_residual.result _ c.from_residual.ensures.0;
-    counted = IfOk-from_err c.from_residual.result _ c.from_residual.ensures.0;
+  same = IfOk-from_err c.from_residual.result _ c.from_residual.ensures.0;
+  fresh = IfOk-from_err c.from_residual.result _ c.from_residual.ensures.0;
+  wider = IfOk-from_err c.from_residual.result _ c.from_residual.ensures.0;
+  counted = IfOk-from_err c.from_residual.result _ c.from_residual.ensures.0;
 }
 
 pub load_node-returns-in_err-load_parts : goal.load_node-returns-in_err-load_parts
 load_node-returns-in_err-load_parts g t c = record {
-    same = IfOk-from_err c.from_residual-in_err-load_parts.result _ c.from_residual-in_err-load_parts.ensures.0;
-    fresh = IfOk-from_err c.from_residual-in_err-load_parts.result _ c.from_residual-in_err-load_parts.ensures.0;
-    wider = IfOk-from_err c.from_residual-in_err-load_parts.result _ c.from_residual-in_err-load_parts.ensures.0;
-    counted = IfOk-from_err c.from_residual-in_err-load_parts.result _ c.from_residual-in_err-load_parts.ensures.0;
+  same = IfOk-from_err c.from_residual-in_err-load_parts.result _ c.from_residual-in_err-load_parts.ensures.0;
+  fresh = IfOk-from_err c.from_residual-in_err-load_parts.result _ c.from_residual-in_err-load_parts.ensures.0;
+  wider = IfOk-from_err c.from_residual-in_err-load_parts.result _ c.from_residual-in_err-load_parts.ensures.0;
+  counted = IfOk-from_err c.from_residual-in_err-load_parts.result _ c.from_residual-in_err-load_parts.ensures.0;
 }
 
 pub load_node-returns-in_err-make_wide_room : goal.load_node-returns-in_err-make_wide_room
 load_node-returns-in_err-make_wide_room g t c = record {
-    same = IfOk-from_err c.from_residual-in_err-make_wide_room.result _ c.from_residual-in_err-make_wide_room.ensures.0;
-    fresh = IfOk-from_err c.from_residual-in_err-make_wide_room.result _ c.from_residual-in_err-make_wide_room.ensures.0;
-    wider = IfOk-from_err c.from_residual-in_err-make_wide_room.result _ c.from_residual-in_err-make_wide_room.ensures.0;
-    counted = IfOk-from_err c.from_residual-in_err-make_wide_room.result _ c.from_residual-in_err-make_wide_room.ensures.0;
+  same = IfOk-from_err c.from_residual-in_err-make_wide_room.result _ c.from_residual-in_err-make_wide_room.ensures.0;
+  fresh = IfOk-from_err c.from_residual-in_err-make_wide_room.result _ c.from_residual-in_err-make_wide_room.ensures.0;
+  wider = IfOk-from_err c.from_residual-in_err-make_wide_room.result _ c.from_residual-in_err-make_wide_room.ensures.0;
+  counted = IfOk-from_err c.from_residual-in_err-make_wide_room.result _ c.from_residual-in_err-make_wide_room.ensures.0;
 }
 
 pub load_parts-returns-in_err-node : goal.load_parts-returns-in_err-node
 load_parts-returns-in_err-node g t c = record {
-    adds = IfOk-from_err c.from_residual.result _ c.from_residual.ensures.0;
-    wider = IfOk-from_err c.from_residual.result _ c.from_residual.ensures.0;
-    counted = IfOk-from_err c.from_residual.result _ c.from_residual.ensures.0;
+  adds = IfOk-from_err c.from_residual.result _ c.from_residual.ensures.0;
+  wider = IfOk-from_err c.from_residual.result _ c.from_residual.ensures.0;
+  counted = IfOk-from_err c.from_residual.result _ c.from_residual.ensures.0;
 }
 
 pub load_parts-returns-in_err-push : goal.load_parts-returns-in_err-push
 load_parts-returns-in_err-push g t c = record {
-    adds = IfOk-from_err c.from_residual-in_err-push.result _ c.from_residual-in_err-push.ensures.0;
-    wider = IfOk-from_err c.from_residual-in_err-push.result _ c.from_residual-in_err-push.ensures.0;
-    counted = IfOk-from_err c.from_residual-in_err-push.result _ c.from_residual-in_err-push.ensures.0;
+  adds = IfOk-from_err c.from_residual-in_err-push.result _ c.from_residual-in_err-push.ensures.0;
+  wider = IfOk-from_err c.from_residual-in_err-push.result _ c.from_residual-in_err-push.ensures.0;
+  counted = IfOk-from_err c.from_residual-in_err-push.result _ c.from_residual-in_err-push.ensures.0;
 }
 
 pub load_parts-returns-in_err-slab : goal.load_parts-returns-in_err-slab
 load_parts-returns-in_err-slab g t c = record {
-    adds = IfOk-from_err c.from_residual-in_err-slab.result _ c.from_residual-in_err-slab.ensures.0;
-    wider = IfOk-from_err c.from_residual-in_err-slab.result _ c.from_residual-in_err-slab.ensures.0;
-    counted = IfOk-from_err c.from_residual-in_err-slab.result _ c.from_residual-in_err-slab.ensures.0;
+  adds = IfOk-from_err c.from_residual-in_err-slab.result _ c.from_residual-in_err-slab.ensures.0;
+  wider = IfOk-from_err c.from_residual-in_err-slab.result _ c.from_residual-in_err-slab.ensures.0;
+  counted = IfOk-from_err c.from_residual-in_err-slab.result _ c.from_residual-in_err-slab.ensures.0;
 }
 
 pub load_parts-returns-in_err-load_parts : goal.load_parts-returns-in_err-load_parts
 load_parts-returns-in_err-load_parts g t c = record {
-    adds = IfOk-from_err c.from_residual-in_err-load_parts.result _ c.from_residual-in_err-load_parts.ensures.0;
-    wider = IfOk-from_err c.from_residual-in_err-load_parts.result _ c.from_residual-in_err-load_parts.ensures.0;
-    counted = IfOk-from_err c.from_residual-in_err-load_parts.result _ c.from_residual-in_err-load_parts.ensures.0;
+  adds = IfOk-from_err c.from_residual-in_err-load_parts.result _ c.from_residual-in_err-load_parts.ensures.0;
+  wider = IfOk-from_err c.from_residual-in_err-load_parts.result _ c.from_residual-in_err-load_parts.ensures.0;
+  counted = IfOk-from_err c.from_residual-in_err-load_parts.result _ c.from_residual-in_err-load_parts.ensures.0;
 }
 
 pub load_node-make_wide_room-requires : goal.load_node-make_wide_room-requires

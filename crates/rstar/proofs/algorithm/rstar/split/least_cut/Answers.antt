@@ -16,8 +16,8 @@ loop-k-preserved g c =
     let areas : ℕ → ℕ = areas_at g.T.Envelope.Envelope.boxes g.T.RTreeObject.object.box_of (unsigned_abs g.T.Envelope.Point.Scalar.Bounded.high) c.args.list.now in
     let value = g.T.Envelope.Point.Scalar.Number.value in
     let answer : (b : Bool) → c.is_below.result ≡ b → below (overlap c.loop-k.k) (areas c.loop-k.k) (overlap c.loop-k.best) (areas c.loop-k.best) ≡ b = λ b.
-        answered overlap areas c.loop-k.k c.loop-k.best (value c.measures_at-here.result.0) (value c.measures_at-here.result.1) (value c.loop-k.least.0) (value c.loop-k.least.1) c.is_below.result b
-        c.is_below.ensures c.measures_at-here.ensures.overlap c.measures_at-here.ensures.areas c.loop-k.invariant.first c.loop-k.invariant.second in
+    answered overlap areas c.loop-k.k c.loop-k.best (value c.measures_at-here.result.0) (value c.measures_at-here.result.1) (value c.loop-k.least.0) (value c.loop-k.least.1) c.is_below.result b
+    c.is_below.ensures c.measures_at-here.ensures.overlap c.measures_at-here.ensures.areas c.loop-k.invariant.first c.loop-k.invariant.second in
     elim c.if-is_below.branch [
       | then-is_below w ↦ rw (w.best-is, w.least-is) (record {
         allowed = (omega arith, omega arith);
