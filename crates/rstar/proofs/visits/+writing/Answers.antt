@@ -25,36 +25,28 @@ pub visit_node_mut-visit_nodes_mut-requires : goal.visit_node_mut-visit_nodes_mu
 visit_node_mut-visit_nodes_mut-requires g t c κs within =
     (below_parent (steps c.args.node.now) (steps (Parent c.in-Parent.parent)) (total (map steps (children_of c.in-Parent.parent))) (total (map steps c.as_mut_slice.result.now)) t c.decreases (ap (λ n. steps n) c.in-Parent.is) (steps-Parent c.in-Parent.parent) (ap (λ ns. total (map steps ns)) (rw c.in-Parent.parent-is at c.as_mut_slice.ensures.value)), search (rules, within))
 
-pub visit_node_mut-returns-then-should_unpack_leaf-clause-written : goal.visit_node_mut-returns-then-should_unpack_leaf-clause-written
-visit_node_mut-returns-then-should_unpack_leaf-clause-written g t c =
+pub visit_node_mut-returns-then-should_unpack_leaf : goal.visit_node_mut-returns-then-should_unpack_leaf
+visit_node_mut-returns-then-should_unpack_leaf g t c =
     let o = g.T.RTreeObject.object in
     let accepts = g.F.SelectionFunction.accepts c.args.func.now in
     let selects = g.F.SelectionFunction.selects c.args.func.now in
-    simp (c.in-Leaf.is, outs-Leaf) (leaf-called o accepts selects (goal.V-step g) c.args.visitor.now (Leaf c.in-Leaf.t) (Leaf c.visitor.new.arg2) c.in-Leaf.t _ _ c.visitor.result c.visitor.new.self refl refl refl (sym (rw c.in-Leaf.t-is at c.should_unpack_leaf.ensures) ∙ c.if-should_unpack_leaf.true) (rw c.in-Leaf.t-is at c.visitor.ensures))
+    record {
+      written = simp (c.in-Leaf.is, outs-Leaf) (leaf-called o accepts selects (goal.V-step g) c.args.visitor.now (Leaf c.in-Leaf.t) (Leaf c.visitor.new.arg2) c.in-Leaf.t _ _ c.visitor.result c.visitor.new.self refl refl refl (sym (rw c.in-Leaf.t-is at c.should_unpack_leaf.ensures) ∙ c.if-should_unpack_leaf.true) (rw c.in-Leaf.t-is at c.visitor.ensures));
+      changed = simp (c.in-Leaf.is, outs-Leaf) (λ k. leaf-changed o accepts selects (goal.V-step g) (Leaf c.in-Leaf.t) (Leaf c.visitor.new.arg2) c.in-Leaf.t c.visitor.new.arg2 refl refl (k c.args.visitor.now _ c.visitor.result _ c.visitor.new.self (rw c.in-Leaf.t-is at c.visitor.ensures)));
+    }
 
-pub visit_node_mut-returns-then-should_unpack_leaf-clause-changed : goal.visit_node_mut-returns-then-should_unpack_leaf-clause-changed
-visit_node_mut-returns-then-should_unpack_leaf-clause-changed g t c =
+pub visit_node_mut-returns-else-should_unpack_leaf : goal.visit_node_mut-returns-else-should_unpack_leaf
+visit_node_mut-returns-else-should_unpack_leaf g t c =
     let o = g.T.RTreeObject.object in
     let accepts = g.F.SelectionFunction.accepts c.args.func.now in
     let selects = g.F.SelectionFunction.selects c.args.func.now in
-    simp (c.in-Leaf.is, outs-Leaf) (λ k. leaf-changed o accepts selects (goal.V-step g) (Leaf c.in-Leaf.t) (Leaf c.visitor.new.arg2) c.in-Leaf.t c.visitor.new.arg2 refl refl (k c.args.visitor.now _ c.visitor.result _ c.visitor.new.self (rw c.in-Leaf.t-is at c.visitor.ensures)))
+    record {
+      written = simp (c.in-Leaf.is, outs-Leaf) (leaf-passed o accepts selects (goal.V-step g) c.args.visitor.now (Leaf c.in-Leaf.t) c.in-Leaf.t refl (sym (rw c.in-Leaf.t-is at c.should_unpack_leaf.ensures) ∙ c.if-should_unpack_leaf.false));
+      changed = simp (c.in-Leaf.is, outs-Leaf) (λ k. node-unchanged o accepts selects (goal.V-step g) (Leaf c.in-Leaf.t));
+    }
 
-pub visit_node_mut-returns-else-should_unpack_leaf-clause-written : goal.visit_node_mut-returns-else-should_unpack_leaf-clause-written
-visit_node_mut-returns-else-should_unpack_leaf-clause-written g t c =
-    let o = g.T.RTreeObject.object in
-    let accepts = g.F.SelectionFunction.accepts c.args.func.now in
-    let selects = g.F.SelectionFunction.selects c.args.func.now in
-    simp (c.in-Leaf.is, outs-Leaf) (leaf-passed o accepts selects (goal.V-step g) c.args.visitor.now (Leaf c.in-Leaf.t) c.in-Leaf.t refl (sym (rw c.in-Leaf.t-is at c.should_unpack_leaf.ensures) ∙ c.if-should_unpack_leaf.false))
-
-pub visit_node_mut-returns-else-should_unpack_leaf-clause-changed : goal.visit_node_mut-returns-else-should_unpack_leaf-clause-changed
-visit_node_mut-returns-else-should_unpack_leaf-clause-changed g t c =
-    let o = g.T.RTreeObject.object in
-    let accepts = g.F.SelectionFunction.accepts c.args.func.now in
-    let selects = g.F.SelectionFunction.selects c.args.func.now in
-    simp (c.in-Leaf.is, outs-Leaf) (λ k. node-unchanged o accepts selects (goal.V-step g) (Leaf c.in-Leaf.t))
-
-pub visit_node_mut-returns-then-should_unpack_parent-clause-written : goal.visit_node_mut-returns-then-should_unpack_parent-clause-written
-visit_node_mut-returns-then-should_unpack_parent-clause-written g t c =
+pub visit_node_mut-returns-then-should_unpack_parent : goal.visit_node_mut-returns-then-should_unpack_parent
+visit_node_mut-returns-then-should_unpack_parent g t c =
     let o = g.T.RTreeObject.object in
     let accepts = g.F.SelectionFunction.accepts c.args.func.now in
     let selects = g.F.SelectionFunction.selects c.args.func.now in
@@ -62,39 +54,27 @@ visit_node_mut-returns-then-should_unpack_parent-clause-written g t c =
     let new = c.visit_nodes_mut.new.nodes in
     let value = rw c.in-Parent.parent-is at c.as_mut_slice.ensures.value in
     let long : length new ≡ length (children_of p) = c.visit_nodes_mut.auto.nodes ∙ ap length value in
-    simp (c.in-Parent.is, outs-Parent)
-    (parent-written o accepts selects (goal.V-step g) c.args.visitor.now (Parent p) (Parent (record p { children = with_items p.children new })) p (record p { children = with_items p.children new }) c.visit_nodes_mut.result c.visit_nodes_mut.new.visitor refl refl
-    (sym (rw c.in-Parent.parent-is at c.should_unpack_parent.ensures) ∙ c.if-should_unpack_parent.true)
-    (subst (λ l. Writes (goal.V-step g) c.args.visitor.now (all_marked accepts selects l) c.visit_nodes_mut.result c.visit_nodes_mut.new.visitor (all_elements (with_items p.children new).items)) value
-    (subst (λ l. Writes (goal.V-step g) c.args.visitor.now (all_marked accepts selects c.as_mut_slice.result.now) c.visit_nodes_mut.result c.visit_nodes_mut.new.visitor (all_elements l)) (sym (refilled p.children new long)) c.visit_nodes_mut.ensures.written)))
+    record {
+      written = simp (c.in-Parent.is, outs-Parent)
+          (parent-written o accepts selects (goal.V-step g) c.args.visitor.now (Parent p) (Parent (record p { children = with_items p.children new })) p (record p { children = with_items p.children new }) c.visit_nodes_mut.result c.visit_nodes_mut.new.visitor refl refl
+          (sym (rw c.in-Parent.parent-is at c.should_unpack_parent.ensures) ∙ c.if-should_unpack_parent.true)
+          (subst (λ l. Writes (goal.V-step g) c.args.visitor.now (all_marked accepts selects l) c.visit_nodes_mut.result c.visit_nodes_mut.new.visitor (all_elements (with_items p.children new).items)) value
+          (subst (λ l. Writes (goal.V-step g) c.args.visitor.now (all_marked accepts selects c.as_mut_slice.result.now) c.visit_nodes_mut.result c.visit_nodes_mut.new.visitor (all_elements l)) (sym (refilled p.children new long)) c.visit_nodes_mut.ensures.written)));
+      changed = simp (c.in-Parent.is, outs-Parent)
+          (λ k. parent-changed o accepts selects (goal.V-step g) (Parent p) (Parent (record p { children = with_items p.children new })) p (record p { children = with_items p.children new }) refl refl refl refl
+          (λ h w. subst (AllZip (IsChanged (KeepsBox o) h) (children_of p)) (sym (refilled p.children new long))
+          (subst (λ l. AllZip (IsChanged (KeepsBox o) h) l new) value (c.visit_nodes_mut.ensures.changed k h (subst (AreTrees IsAny IsAny h) (sym value) w)))));
+    }
 
-pub visit_node_mut-returns-then-should_unpack_parent-clause-changed : goal.visit_node_mut-returns-then-should_unpack_parent-clause-changed
-visit_node_mut-returns-then-should_unpack_parent-clause-changed g t c =
+pub visit_node_mut-returns-else-should_unpack_parent : goal.visit_node_mut-returns-else-should_unpack_parent
+visit_node_mut-returns-else-should_unpack_parent g t c =
     let o = g.T.RTreeObject.object in
     let accepts = g.F.SelectionFunction.accepts c.args.func.now in
     let selects = g.F.SelectionFunction.selects c.args.func.now in
-    let p = c.in-Parent.parent in
-    let new = c.visit_nodes_mut.new.nodes in
-    let value = rw c.in-Parent.parent-is at c.as_mut_slice.ensures.value in
-    let long : length new ≡ length (children_of p) = c.visit_nodes_mut.auto.nodes ∙ ap length value in
-    simp (c.in-Parent.is, outs-Parent)
-    (λ k. parent-changed o accepts selects (goal.V-step g) (Parent p) (Parent (record p { children = with_items p.children new })) p (record p { children = with_items p.children new }) refl refl refl refl
-    (λ h w. subst (AllZip (IsChanged (KeepsBox o) h) (children_of p)) (sym (refilled p.children new long))
-    (subst (λ l. AllZip (IsChanged (KeepsBox o) h) l new) value (c.visit_nodes_mut.ensures.changed k h (subst (AreTrees IsAny IsAny h) (sym value) w)))))
-
-pub visit_node_mut-returns-else-should_unpack_parent-clause-written : goal.visit_node_mut-returns-else-should_unpack_parent-clause-written
-visit_node_mut-returns-else-should_unpack_parent-clause-written g t c =
-    let o = g.T.RTreeObject.object in
-    let accepts = g.F.SelectionFunction.accepts c.args.func.now in
-    let selects = g.F.SelectionFunction.selects c.args.func.now in
-    simp (c.in-Parent.is, outs-Parent) (parent-refused o accepts selects (goal.V-step g) c.args.visitor.now (Parent c.in-Parent.parent) c.in-Parent.parent refl (sym (rw c.in-Parent.parent-is at c.should_unpack_parent.ensures) ∙ c.if-should_unpack_parent.false))
-
-pub visit_node_mut-returns-else-should_unpack_parent-clause-changed : goal.visit_node_mut-returns-else-should_unpack_parent-clause-changed
-visit_node_mut-returns-else-should_unpack_parent-clause-changed g t c =
-    let o = g.T.RTreeObject.object in
-    let accepts = g.F.SelectionFunction.accepts c.args.func.now in
-    let selects = g.F.SelectionFunction.selects c.args.func.now in
-    simp (c.in-Parent.is, outs-Parent) (λ k. node-unchanged o accepts selects (goal.V-step g) (Parent c.in-Parent.parent))
+    record {
+      written = simp (c.in-Parent.is, outs-Parent) (parent-refused o accepts selects (goal.V-step g) c.args.visitor.now (Parent c.in-Parent.parent) c.in-Parent.parent refl (sym (rw c.in-Parent.parent-is at c.should_unpack_parent.ensures) ∙ c.if-should_unpack_parent.false));
+      changed = simp (c.in-Parent.is, outs-Parent) (λ k. node-unchanged o accepts selects (goal.V-step g) (Parent c.in-Parent.parent));
+    }
 
 -- ---- some nodes
 
@@ -110,19 +90,15 @@ visit_nodes_mut-visit_node_mut-requires g t c κs within =
     let less = λ (d : RTreeNode g.row.T.Denot g.row.T-Envelope.Denot g.row.T-Envelope-Point.Denot g.row.T-Envelope-Point-Scalar.Denot g.row.T-Envelope-Point-Scalar-FromStrRadixErr.Denot). here-steps g.T.RTreeObject.object (g.F.SelectionFunction.accepts c.args.func.now) (g.F.SelectionFunction.selects c.args.func.now) (goal.V-step g) (here g.T.RTreeObject.object (g.F.SelectionFunction.accepts c.args.func.now) (g.F.SelectionFunction.selects c.args.func.now) (goal.V-step g) c.loop-index.invariant d c.loop-index-test.true) in
     (below_nodes _ (total (map steps c.args.nodes.now)) t c.decreases (less _), search (rules, within))
 
-pub visit_nodes_mut-returns-in-Break-clause-written : goal.visit_nodes_mut-returns-in-Break-clause-written
-visit_nodes_mut-returns-in-Break-clause-written g t c =
+pub visit_nodes_mut-returns-in-Break : goal.visit_nodes_mut-returns-in-Break
+visit_nodes_mut-returns-in-Break g t c =
     let o = g.T.RTreeObject.object in
     let accepts = g.F.SelectionFunction.accepts c.args.func.now in
     let selects = g.F.SelectionFunction.selects c.args.func.now in
-    halfway-break o accepts selects (goal.V-step g) (here o accepts selects (goal.V-step g) c.loop-index.invariant _ c.loop-index-test.true) c.visit_node_mut.new.node c.in-Break.b c.visit_node_mut.new.visitor c.in-Break.ensures.written
-
-pub visit_nodes_mut-returns-in-Break-clause-changed : goal.visit_nodes_mut-returns-in-Break-clause-changed
-visit_nodes_mut-returns-in-Break-clause-changed g t c =
-    let o = g.T.RTreeObject.object in
-    let accepts = g.F.SelectionFunction.accepts c.args.func.now in
-    let selects = g.F.SelectionFunction.selects c.args.func.now in
-    halfway-break-changed o accepts selects (goal.V-step g) (here o accepts selects (goal.V-step g) c.loop-index.invariant _ c.loop-index-test.true) c.visit_node_mut.new.node c.visit_node_mut.ensures.changed
+    record {
+      written = halfway-break o accepts selects (goal.V-step g) (here o accepts selects (goal.V-step g) c.loop-index.invariant _ c.loop-index-test.true) c.visit_node_mut.new.node c.in-Break.b c.visit_node_mut.new.visitor c.in-Break.ensures.written;
+      changed = halfway-break-changed o accepts selects (goal.V-step g) (here o accepts selects (goal.V-step g) c.loop-index.invariant _ c.loop-index-test.true) c.visit_node_mut.new.node c.visit_node_mut.ensures.changed;
+    }
 
 pub visit_nodes_mut-loop-index-preserved : goal.visit_nodes_mut-loop-index-preserved
 visit_nodes_mut-loop-index-preserved g t c =
@@ -131,16 +107,13 @@ visit_nodes_mut-loop-index-preserved g t c =
     let selects = g.F.SelectionFunction.selects c.args.func.now in
     halfway-next o accepts selects (goal.V-step g) (here o accepts selects (goal.V-step g) c.loop-index.invariant _ c.loop-index-test.true) c.visit_node_mut.new.node c.visit_node_mut.new.visitor c.in_default.ensures.written c.visit_node_mut.ensures.changed
 
-pub visit_nodes_mut-returns-clause-written : goal.visit_nodes_mut-returns-clause-written
-visit_nodes_mut-returns-clause-written g t c =
+pub visit_nodes_mut-returns : goal.visit_nodes_mut-returns
+visit_nodes_mut-returns g t c =
     let o = g.T.RTreeObject.object in
     let accepts = g.F.SelectionFunction.accepts c.args.func.now in
     let selects = g.F.SelectionFunction.selects c.args.func.now in
-    (halfway-end o accepts selects (goal.V-step g) c.loop-index.invariant c.loop-index-test.false).0
-
-pub visit_nodes_mut-returns-clause-changed : goal.visit_nodes_mut-returns-clause-changed
-visit_nodes_mut-returns-clause-changed g t c =
-    let o = g.T.RTreeObject.object in
-    let accepts = g.F.SelectionFunction.accepts c.args.func.now in
-    let selects = g.F.SelectionFunction.selects c.args.func.now in
-    (halfway-end o accepts selects (goal.V-step g) c.loop-index.invariant c.loop-index-test.false).1
+    let over = halfway-end o accepts selects (goal.V-step g) c.loop-index.invariant c.loop-index-test.false in
+    record {
+      written = over.0;
+      changed = over.1;
+    }

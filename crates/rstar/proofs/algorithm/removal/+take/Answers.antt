@@ -31,17 +31,6 @@ take_among-loop-passed-init g t c = record {
   same = refl;
 }
 
-pub take_among-returns-then-is_selected_leaf-clause-takes : goal.take_among-returns-then-is_selected_leaf-clause-takes
-take_among-returns-then-is_selected_leaf-clause-takes g t c =
-    let i = c.len.result - 1 - c.loop-passed.passed in
-    let next : length c.loop-passed.children.items ≡ suc (i + c.loop-passed.passed) = next_is (length c.loop-passed.children.items) c.len.result c.len-passed-end.result c.loop-passed.passed (vec_len c.loop-passed.children) (vec_len c.args.children.now) c.len.ensures (ap vec_len c.loop-passed.invariant.same) c.len-passed-end.ensures c.loop-passed-test.true c.loop-passed.children.ok.0 in
-    let within : i < length c.loop-passed.children.items = one_of i c.loop-passed.passed (length c.loop-passed.children.items) next in
-    let here = same_read c.loop-passed.children.items i c.index.result.now (Leaf c.take_leaf-taken.result) within c.index.ensures c.take_leaf-taken.ensures.node in
-    let chosen = ap (is_selected_leaf (g.R.SelectionFunction.selects c.args.func.now)) (sym here) in
-    rw (c.set_first.ensures, c.take_leaf-taken.ensures.items)
-    (gives_leaf g.T.Envelope.Envelope.boxes g.T.RTreeObject.object (g.R.SelectionFunction.accepts c.args.func.now) (g.R.SelectionFunction.selects c.args.func.now) c.args.children.now.items c.args.path.now c.args.rest.now c.loop-passed.children.items c.loop-passed.path c.loop-passed.rest c.loop-passed.passed c.loop-passed.invariant.scanned i next c.take_leaf-taken.result c.take_leaf-taken.ensures.node
-    (sym (ap (selects_in (g.R.SelectionFunction.selects c.args.func.now)) (outs-Leaf _)) ∙ chosen ∙ sym c.is_selected_leaf.ensures ∙ c.if-is_selected_leaf.true))
-
 pub take_among-returns-then-is_some-clause-takes : goal.take_among-returns-then-is_some-clause-takes
 take_among-returns-then-is_some-clause-takes g t c =
     let i = c.len.result - 1 - c.loop-passed.passed in
@@ -77,24 +66,6 @@ take_among-loop-passed-preserved g t c =
       same = unchanged;
     }
 
-pub take_among-returns-clause-takes : goal.take_among-returns-clause-takes
-take_among-returns-clause-takes g t c =
-    rw c.set_first-2.ensures
-    (finishes g.T.Envelope.Envelope.boxes g.T.RTreeObject.object (g.R.SelectionFunction.accepts c.args.func.now) (g.R.SelectionFunction.selects c.args.func.now) c.args.children.now.items c.args.path.now c.args.rest.now c.loop-passed.children.items c.loop-passed.path c.loop-passed.rest c.loop-passed.passed c.loop-passed.invariant.scanned (omega (arith, c.args.children.now.ok.0, ap length c.loop-passed.invariant.scanned.same)) c.len-2.result (c.len-2.ensures ∙ c.loop-passed.children.ok.0))
-
-pub take_below-returns-then-is_some-clause-kept :
-    goal.take_below-returns-then-is_some-clause-kept
-take_below-returns-then-is_some-clause-kept g t c = λ m w h kept below at.
-    let takes = c.take_among-taken.ensures.takes in
-    let made = (rw c.deref.ensures.value at c.merge_along.ensures.merged) (takes.rests m w h below at) in
-    kept_anew g.met.T.Envelope.Envelope.envelope_laws g.met.T.RTreeObject.object_law m w h c.args.node.now _ kept (takes.whole m w h below at) takes.shorter c.take_among-taken.new.children.ok.0 c.args.node.now.children.ok.0 c.take_among-taken.ensures.capacity made
-
-pub take_below-returns-then-is_some-clause-takes :
-    goal.take_below-returns-then-is_some-clause-takes
-take_below-returns-then-is_some-clause-takes g t c =
-    along g.T.Envelope.Envelope.boxes g.T.RTreeObject.object (g.R.SelectionFunction.accepts c.args.func.now) (g.R.SelectionFunction.selects c.args.func.now) c.args.node.now.children.items c.take_among-taken.new.children.items c.args.path.now c.take_among-taken.new.path c.args.rest.now c.take_among-taken.new.rest c.merge_along.new.rest c.take_among-taken.result
-    c.take_among-taken.ensures.takes c.take_among-taken.auto.path (rw c.deref.ensures.value at c.merge_along.ensures.rests) c.merge_along.ensures.still
-
 pub take_inside-returns-then-should_unpack_parent :
     goal.take_inside-returns-then-should_unpack_parent
 take_inside-returns-then-should_unpack_parent g t c =
@@ -111,7 +82,38 @@ take_inside-returns-else-should_unpack_parent g t c =
     rw (c.in-Parent.is, outs-Parent c.in-Parent.parent)
     (not_entered g.T.Envelope.Envelope.boxes g.T.RTreeObject.object (g.R.SelectionFunction.accepts c.args.func.now) (g.R.SelectionFunction.selects c.args.func.now) g.met.T.Envelope.Envelope.envelope_laws g.met.T.RTreeObject.object_law c.in-Parent.parent (lower_numbers c.args.path.now) c.args.rest.now (sym refused ∙ c.if-should_unpack_parent.false))
 
--- ---- what stands there already
+pub take_among-returns-then-is_selected_leaf : goal.take_among-returns-then-is_selected_leaf
+take_among-returns-then-is_selected_leaf g t c = record {
+  takes = let i = c.len.result - 1 - c.loop-passed.passed in
+      let next : length c.loop-passed.children.items ≡ suc (i + c.loop-passed.passed) = next_is (length c.loop-passed.children.items) c.len.result c.len-passed-end.result c.loop-passed.passed (vec_len c.loop-passed.children) (vec_len c.args.children.now) c.len.ensures (ap vec_len c.loop-passed.invariant.same) c.len-passed-end.ensures c.loop-passed-test.true c.loop-passed.children.ok.0 in
+      let within : i < length c.loop-passed.children.items = one_of i c.loop-passed.passed (length c.loop-passed.children.items) next in
+      let here = same_read c.loop-passed.children.items i c.index.result.now (Leaf c.take_leaf-taken.result) within c.index.ensures c.take_leaf-taken.ensures.node in
+      let chosen = ap (is_selected_leaf (g.R.SelectionFunction.selects c.args.func.now)) (sym here) in
+      rw (c.set_first.ensures, c.take_leaf-taken.ensures.items)
+      (gives_leaf g.T.Envelope.Envelope.boxes g.T.RTreeObject.object (g.R.SelectionFunction.accepts c.args.func.now) (g.R.SelectionFunction.selects c.args.func.now) c.args.children.now.items c.args.path.now c.args.rest.now c.loop-passed.children.items c.loop-passed.path c.loop-passed.rest c.loop-passed.passed c.loop-passed.invariant.scanned i next c.take_leaf-taken.result c.take_leaf-taken.ensures.node
+      (sym (ap (selects_in (g.R.SelectionFunction.selects c.args.func.now)) (outs-Leaf _)) ∙ chosen ∙ sym c.is_selected_leaf.ensures ∙ c.if-is_selected_leaf.true));
+  capacity = c.take_leaf-taken.ensures.capacity ∙ ap vec_capacity c.loop-passed.invariant.same;
+  same = tt;
+}
+
+pub take_among-returns : goal.take_among-returns
+take_among-returns g t c = record {
+  takes = rw c.set_first-2.ensures
+      (finishes g.T.Envelope.Envelope.boxes g.T.RTreeObject.object (g.R.SelectionFunction.accepts c.args.func.now) (g.R.SelectionFunction.selects c.args.func.now) c.args.children.now.items c.args.path.now c.args.rest.now c.loop-passed.children.items c.loop-passed.path c.loop-passed.rest c.loop-passed.passed c.loop-passed.invariant.scanned (omega (arith, c.args.children.now.ok.0, ap length c.loop-passed.invariant.scanned.same)) c.len-2.result (c.len-2.ensures ∙ c.loop-passed.children.ok.0));
+  capacity = ap vec_capacity c.loop-passed.invariant.same;
+  same = c.loop-passed.invariant.same;
+}
+
+pub take_below-returns-then-is_some : goal.take_below-returns-then-is_some
+take_below-returns-then-is_some g t c = record {
+  takes = along g.T.Envelope.Envelope.boxes g.T.RTreeObject.object (g.R.SelectionFunction.accepts c.args.func.now) (g.R.SelectionFunction.selects c.args.func.now) c.args.node.now.children.items c.take_among-taken.new.children.items c.args.path.now c.take_among-taken.new.path c.args.rest.now c.take_among-taken.new.rest c.merge_along.new.rest c.take_among-taken.result
+      c.take_among-taken.ensures.takes c.take_among-taken.auto.path (rw c.deref.ensures.value at c.merge_along.ensures.rests) c.merge_along.ensures.still;
+  kept = λ m w h kept below at.
+      let takes = c.take_among-taken.ensures.takes in
+      let made = (rw c.deref.ensures.value at c.merge_along.ensures.merged) (takes.rests m w h below at) in
+      kept_anew g.met.T.Envelope.Envelope.envelope_laws g.met.T.RTreeObject.object_law m w h c.args.node.now _ kept (takes.whole m w h below at) takes.shorter c.take_among-taken.new.children.ok.0 c.args.node.now.children.ok.0 c.take_among-taken.ensures.capacity made;
+  same = some_one _ c.take_among-taken.result (sym c.is_some.ensures ∙ c.if-is_some.true);
+}
 
 pub take_among-overflow_sub-i : goal.take_among-overflow_sub-i
 take_among-overflow_sub-i g t c = some_left c.len.result c.len-passed-end.result c.loop-passed.passed (vec_len c.loop-passed.children) (vec_len c.args.children.now) c.len.ensures (ap vec_len c.loop-passed.invariant.same) c.len-passed-end.ensures c.loop-passed-test.true
@@ -134,20 +136,5 @@ take_among-index-requires-then-is_some g t c = place c.len.result c.len-passed-e
 pub take_among-drop_child-requires : goal.take_among-drop_child-requires
 take_among-drop_child-requires g t c = place c.len.result c.len-passed-end.result c.loop-passed.passed (vec_len c.loop-passed.children) (vec_len c.args.children.now) c.len.ensures (ap vec_len c.loop-passed.invariant.same) c.len-passed-end.ensures c.loop-passed-test.true
 
-pub take_among-returns-then-is_selected_leaf-clause-capacity : goal.take_among-returns-then-is_selected_leaf-clause-capacity
-take_among-returns-then-is_selected_leaf-clause-capacity g t c = c.take_leaf-taken.ensures.capacity ∙ ap vec_capacity c.loop-passed.invariant.same
-
-pub take_among-returns-then-is_selected_leaf-clause-same : goal.take_among-returns-then-is_selected_leaf-clause-same
-take_among-returns-then-is_selected_leaf-clause-same g t c = tt
-
 pub take_among-returns-then-is_some-clause-same : goal.take_among-returns-then-is_some-clause-same
 take_among-returns-then-is_some-clause-same g t c = some_one _ c.take_inside-taken.result (sym c.is_some.ensures ∙ c.if-is_some.true)
-
-pub take_among-returns-clause-capacity : goal.take_among-returns-clause-capacity
-take_among-returns-clause-capacity g t c = ap vec_capacity c.loop-passed.invariant.same
-
-pub take_among-returns-clause-same : goal.take_among-returns-clause-same
-take_among-returns-clause-same g t c = c.loop-passed.invariant.same
-
-pub take_below-returns-then-is_some-clause-same : goal.take_below-returns-then-is_some-clause-same
-take_below-returns-then-is_some-clause-same g t c = some_one _ c.take_among-taken.result (sym c.is_some.ensures ∙ c.if-is_some.true)
