@@ -52,7 +52,7 @@ impl<'a, T: PointDistance> NearestNeighborDistance2Iterator<'a, T> {
     pub fn opened(&self) -> usize
         ensures { result ≡ parents_opened self.now }
     {
-        self.search.opened()
+        self.search.opened
     }
 }
 
@@ -104,7 +104,7 @@ impl<'a, T: PointDistance> NearestNeighborIterator<'a, T> {
     pub fn opened(&self) -> usize
         ensures { result ≡ parents_opened (with_distances self.now) }
     {
-        self.with_distances.opened()
+        self.with_distances.search.opened
     }
 }
 

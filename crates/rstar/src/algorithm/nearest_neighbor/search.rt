@@ -107,7 +107,8 @@ enum Stage {
 pub(crate) struct NeighborSearch<'a, T: PointDistance> {
     root: &'a ParentNode<T>,
     heap: Heap<'a, T>,
-    opened: usize,
+    /// How many parents were opened, held at the greatest `usize`.
+    pub(crate) opened: usize,
     stage: Stage,
 }
 
@@ -127,13 +128,6 @@ impl<'a, T: PointDistance> NeighborSearch<'a, T> {
             opened: 0,
             stage: Stage::Fresh,
         }
-    }
-
-    /// How many parents were opened, held at the greatest `usize`.
-    pub(crate) fn opened(&self) -> usize
-        ensures { result ≡ self.now.opened }
-    {
-        self.opened
     }
 
     /// The nearest element that was not given yet, with its distance.
