@@ -218,7 +218,7 @@ fn merges_add_counts(rt: HostRuntime) {
         (AABB::from_corners([0, 0], [2, 2]), 1, 2),
         (AABB::new_empty(), 0, 0),
     ];
-    for (aabb, count, twice) in rows {
+    for &(aabb, count, twice) in &rows {
         assert!(rt; merges(aabb, &aabb, count, twice));
     }
     let none: [i64; 0] = [];

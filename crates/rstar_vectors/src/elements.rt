@@ -5,17 +5,16 @@
 ghost use Rattle.std.specs.Prelude.{◌≤◌};
 ghost use Rattle.rstar_base.specs.Elements.{carried_objects};
 
-use num_traits::One;
+use crate::scenarios::is_so_far;
 use rstar_base::aabb::AABB;
 use rstar_base::envelope::Envelope;
 use rstar_base::object::{
     Distance, PointDistance, PointOf, RTreeObject, partition_envelopes, sort_envelopes,
 };
-use rstar_base::point::{Point, RTreeNum};
+use rstar_base::point::Point;
 use rstar_base::primitives::{
     CachedEnvelope, GeomWithData, Line, ObjectRef, PointWithData, Rectangle,
 };
-use std::alloc::{AllocError, Global};
 use std::cell::Cell;
 use std::rc::Rc;
 use std::test::Fail;
@@ -71,14 +70,9 @@ fn where_its_numbers_do_not_fit_a_line_has_its_ends_alone(rt: HostRuntime) {
 fn rectangle_is_so_far<P: Point + Copy>(corners: (P, P), rows: &[(P, P, P::Scalar, bool)]) -> bool {
     let rectangle = Rectangle::from_corners(corners.0, corners.1);
     for (point, nearest, distance, contained) in rows {
-        let below = distance.clamped_sub(P::Scalar::one());
         if rectangle.nearest_point(point) != *nearest
-            || rectangle.distance_2(point) != *distance
             || rectangle.contains_point(point) != *contained
-            || rectangle
-                .distance_2_if_less_or_equal(point, below)
-                .is_some()
-            || rectangle.distance_2_if_less_or_equal(point, *distance) != Some(*distance)
+            || !is_so_far(&rectangle, point, *distance)
         {
             return false;
         }
@@ -90,7 +84,7 @@ fn rectangle_is_so_far<P: Point + Copy>(corners: (P, P), rows: &[(P, P, P::Scala
 // rectangle is that of rstar's test `rectangle_distance`, twice as large.
 #[test]
 fn a_rectangle_and_points(rt: HostRuntime) {
-    let rows: [([i64; 2], [i64; 2], i64, bool); 9] = [
+    const ROWS: [([i64; 2], [i64; 2], i64, bool); 9] = [
         ([1, 1], [1, 1], 0, true),
         ([0, 2], [1, 2], 1, false),
         ([0, 0], [1, 1], 2, false),
@@ -101,7 +95,7 @@ fn a_rectangle_and_points(rt: HostRuntime) {
         ([2, 2], [2, 2], 0, true),
         ([1, 4], [1, 4], 0, true),
     ];
-    assert!(rt; rectangle_is_so_far(([1, 1], [2, 4]), &rows));
+    assert!(rt; rectangle_is_so_far(([1, 1], [2, 4]), &ROWS));
 }
 
 /// Whether the rectangle of the empty box is empty and contains no such point, and that of the box of two points is the
@@ -123,57 +117,49 @@ fn rectangles_of_boxes(rt: HostRuntime) {
     assert!(rt; rectangle_is_its_box([0, 0], corners, [1, 1], [2, 4]));
 }
 
-/// Whether an element that is carried with a number is so far from a point, as what carries it and a reference to that
-/// are, and these are not within a lesser distance, and hold the number.
+/// Whether an element is so far from a point, as what carries it with a number and a reference to that are, and these hold
+/// the number.
 fn carried_is_so_far<R: PointDistance>(
     element: R,
     point: &PointOf<R>,
     distance: Distance<R>,
-    lesser: Distance<R>,
 ) -> bool {
     let mut road = GeomWithData::new(element, 7u64);
     road.data = 8;
     let lent = ObjectRef::new(&road);
-    road.geom().distance_2(point) == distance
-        && road.distance_2(point) == distance
-        && road.distance_2_if_less_or_equal(point, lesser).is_none()
-        && lent.data == 8
-        && lent.distance_2(point) == distance
+    lent.data == 8
+        && is_so_far(road.geom(), point, distance)
+        && is_so_far(&road, point, distance)
+        && is_so_far(&lent, point, distance)
 }
 
-/// Whether a point with a number contains itself, and a shared one is so far from another.
-fn carried_point_answers<P: Point + Copy>(
-    alloc: Global,
-    point: P,
-    other: &P,
-    distance: P::Scalar,
-) -> Result<bool, AllocError> {
+/// Whether a point with a number is at its place, and contains it.
+fn carried_is_there<P: Point + Copy>(point: P) -> bool {
     let stop = PointWithData::new(7u64, point);
-    let shared = Rc::new(alloc, point)?;
-    Ok(
-        *stop.position() == point
-            && stop.contains_point(&point)
-            && shared.distance_2(other) == distance,
-    )
+    *stop.position() == point && stop.contains_point(&point)
 }
 
 #[test]
 fn carriers_answer_as_what_they_carry(rt: HostRuntime) -> Result<(), Fail> {
     let line = Line::new([0i64, 0], [10, 0]);
-    assert!(rt; carried_is_so_far(line, &[9, 2], 4, 3));
-    assert!(rt; carried_point_answers(rt.alloc(), [1i64, 2], &[1, 5], 9)?);
+    assert!(rt; carried_is_so_far(line, &[9, 2], 4));
+    assert!(rt; carried_is_there([1i64, 2]));
+    let shared = Rc::new(rt.alloc(), [1i64, 2])?;
+    assert!(rt; is_so_far(&shared, &[1, 5], 9));
     Ok(())
 }
 
-/// Sorts four points on the first axis and splits them on the second, at the second place, and tells whether they come
-/// in this order, and whether these are the first two after the split.
-fn are_ordered<P: Point>(points: &mut [P; 4], sorted: &[P; 4], split: &[P; 2]) -> bool
-    requires { 2 ≤ P.DIMENSIONS }
+/// Sorts elements on the first axis and splits them on the second, at the second place, and tells whether they come in
+/// this order, and whether these are the first after the split.
+fn are_ordered<T: RTreeObject + PartialEq>(elements: &mut [T], sorted: &[T], split: &[T]) -> bool
+    requires { 2 ≤ T.Envelope.Point.DIMENSIONS }
 {
-    sort_envelopes(0, points);
-    let rises = *points == *sorted;
-    partition_envelopes(1, points, 1);
-    rises && points[0] == split[0] && points[1] == split[1]
+    sort_envelopes(0, elements);
+    if elements.len() < 2 || *elements != *sorted {
+        return false;
+    }
+    partition_envelopes(1, elements, 1);
+    elements.starts_with(split)
 }
 
 #[test]
@@ -203,16 +189,20 @@ impl<P: Point> RTreeObject for Counting<P> {
     ghost object_law = { λ c h. h };
 }
 
+/// Whether a kept envelope, asked for three times, is this.
+fn is_kept<T: RTreeObject>(cached: &CachedEnvelope<T>, wanted: &T::Envelope) -> bool {
+    let mut is_so = true;
+    for _ in 0..3 {
+        is_so = cached.envelope() == *wanted && is_so;
+    }
+    is_so
+}
+
 /// Whether a point's kept envelope, asked for three times, is its box, and the point was asked once.
 fn is_asked_once<P: Point + Copy>(at: P) -> bool {
     let calls = Cell::new(0);
     let cached = CachedEnvelope::new(Counting { at, calls });
-    let wanted = AABB::from_point(at);
-    let mut is_so = true;
-    for _ in 0..3 {
-        is_so = cached.envelope() == wanted && is_so;
-    }
-    is_so && cached.calls.get() == 1
+    is_kept(&cached, &AABB::from_point(at)) && cached.calls.get() == 1
 }
 
 #[test]

@@ -7,22 +7,26 @@ use std::test::Fail;
 
 /// What every scalar type answers at its ends: the least, the greatest, and -1.
 fn ends<S: RTreeNum>(low: S, high: S, minus_one: S) -> bool {
+    let zero = S::zero();
     low.ord() == low
-        && high.clamped_add(high) == high
-        && low.clamped_add(low) == low
-        && low.clamped_add(high) == minus_one
-        && high.clamped_sub(low) == high
-        && low.clamped_sub(high) == low
-        && high.clamped_sub(high) == S::zero()
-        && low.clamped_mul(low) == high
-        && low.clamped_mul(high) == low
-        && high.clamped_mul(low) == low
-        && low.clamped_mul(minus_one) == high
-        && high.clamped_mul(S::one()) == high
-        && high.half_sum(high) == high
-        && low.half_sum(low) == low
-        && low.half_sum(high) == S::zero()
-        && minus_one.half_sum(S::zero()) == S::zero()
+        && [
+            low.clamped_add(low),
+            low.clamped_add(high),
+            high.clamped_add(high),
+        ] == [low, minus_one, high]
+        && [
+            high.clamped_sub(low),
+            low.clamped_sub(high),
+            high.clamped_sub(high),
+        ] == [high, low, zero]
+        && [
+            low.clamped_mul(low),
+            low.clamped_mul(high),
+            high.clamped_mul(low),
+        ] == [high, low, low]
+        && [low.clamped_mul(minus_one), high.clamped_mul(S::one())] == [high, high]
+        && [high.half_sum(high), low.half_sum(low)] == [high, low]
+        && [low.half_sum(high), minus_one.half_sum(zero)] == [zero, zero]
 }
 
 #[test]
@@ -189,13 +193,13 @@ fn the_generator_is_asked_in_order(rt: HostRuntime) -> Result<(), Fail> {
         asked = asked.wrapping_add(1);
         if in_order { 1 } else { 0 }
     });
-    assert_eq!(rt; pair, (1, 1));
+    assert!(rt; pair == (1, 1));
     let mut asked = 0usize;
     let array = <[i64; 3]>::generate(|axis| {
         let in_order = axis == asked;
         asked = asked.wrapping_add(1);
         if in_order { 1 } else { 0 }
     });
-    assert_eq!(rt; array, [1, 1, 1]);
+    assert!(rt; array == [1, 1, 1]);
     Ok(())
 }

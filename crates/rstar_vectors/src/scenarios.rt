@@ -7,8 +7,11 @@ ghost use Rattle.std.specs.Prelude.{◌≤◌, IsTrue, IfOk};
 ghost use Rattle.rstar.specs.Loaded.{NoneEmpty};
 ghost use Rattle.rstar.specs.Trees.{IsWholeTree};
 
+use num_traits::One;
 use rstar::node::{ParentNode, RTreeNode};
-use rstar::{Envelope, Point, RTree, RTreeObject, RTreeParams};
+use rstar::object::{Distance, PointOf};
+use rstar::point::RTreeNum;
+use rstar::{Envelope, Point, PointDistance, RTree, RTreeObject, RTreeParams};
 use std::alloc::{AllocError, Global};
 
 /// Seven points in two groups on a line, which lie under two parents.
@@ -30,6 +33,18 @@ pub(crate) fn points(alloc: Global, count: usize) -> Result<Vec<[i32; 2]>, Alloc
         points.push([((37 * near) % 101) as i32, ((53 * near) % 103) as i32])?;
     }
     Ok(points)
+}
+
+/// Whether an element lies at this squared distance from a point, and within no lesser one.
+pub(crate) fn is_so_far<T: PointDistance>(
+    element: &T,
+    point: &PointOf<T>,
+    distance: Distance<T>,
+) -> bool {
+    let below = distance.clamped_sub(Distance::<T>::one());
+    element.distance_2(point) == distance
+        && element.distance_2_if_less_or_equal(point, below).is_none()
+        && element.distance_2_if_less_or_equal(point, distance) == Some(distance)
 }
 
 /// A tree of these elements, inserted in this order; an empty one where one is refused, or has an empty envelope.
