@@ -1,7 +1,7 @@
 //! Boxes: what each call answers on given corners.
 
 use crate::loads::shows;
-use num_traits::{One, Zero};
+use num_traits::Zero;
 use rstar_base::aabb::{AABB, upright};
 use rstar_base::envelope::Envelope;
 use rstar_base::point::{Point, RTreeNum};
@@ -19,9 +19,6 @@ fn boxed<P: Point + Copy>(lower: P, upper: P) -> AABB<P> {
 /// A scalar of an envelope.
 type ScalarOf<E> = <<E as Envelope>::Point as Point>::Scalar;
 
-/// The corners of a box, its area, its perimeter and its center.
-type MeasureRow<P> = (P, P, <P as Point>::Scalar, <P as Point>::Scalar, P);
-
 /// Whether an envelope has this area, this perimeter, this center, and on axis 1 this key.
 fn measures<E: Envelope>(
     made: &E,
@@ -37,24 +34,36 @@ fn measures<E: Envelope>(
         && made.axis_key(1) == *key
 }
 
-/// Whether a box has these corners and measures, and on axis 1 the key of the first corner.
+/// The corners of a box, its area, its perimeter, its center, and its key on axis 1.
+type MeasureRow<P> = (
+    P,
+    P,
+    <P as Point>::Scalar,
+    <P as Point>::Scalar,
+    P,
+    <P as Point>::Scalar,
+);
+
+/// Whether a box has these corners and measures.
 fn has_measures<P: Point + Copy>(row: &MeasureRow<P>) -> bool {
     let made = boxed(row.0, row.1);
-    1 < P::DIMENSIONS
-        && measures(&made, &row.2, &row.3, &row.4, &row.0.nth(1))
-        && made.lower() == row.0
+    made.lower() == row.0
         && made.upper() == row.1
+        && measures(&made, &row.2, &row.3, &row.4, &row.5)
 }
 
 // The full range and the empty box, whose measures are held at the greatest scalar and at 0, and a box between; and the
 // full range of the widest scalar.
 #[test]
 fn measures_and_centers(rt: HostRuntime) {
-    assert!(rt; has_measures(&([-128i8, -128], [127, 127], 127, 127, [0, 0])));
-    assert!(rt; has_measures(&([127i8, 127], [-128, -128], 0, 0, [0, 0])));
-    assert!(rt; has_measures(&([0i8, -3], [2, 4], 14, 9, [1, 0])));
     let (low, high) = (i128::MIN, i128::MAX);
-    assert!(rt; has_measures(&([low, low], [high, high], high, high, [0, 0])));
+    let answers = [
+        has_measures(&([-128i8, -128], [127, 127], 127, 127, [0, 0], -128)),
+        has_measures(&([127i8, 127], [-128, -128], 0, 0, [0, 0], 127)),
+        has_measures(&([0i8, -3], [2, 4], 14, 9, [1, 0], -3)),
+        has_measures(&([low, low], [high, high], high, high, [0, 0], low)),
+    ];
+    assert!(rt; answers == [true; 4]);
 }
 
 /// Whether the box between two corners is that between two others, the lower and the upper one.
@@ -69,10 +78,15 @@ fn is_point<P: Point + Copy>(point: P) -> bool {
 
 #[test]
 fn corners_come_in_any_order(rt: HostRuntime) {
-    assert!(rt; has_corners([2i8, -3], [0, 4], [0, -3], [2, 4]));
-    assert!(rt; has_corners([0i8, 2], [1, 1], [0, 1], [1, 2]));
-    assert!(rt; has_corners([127i8, -128], [127, -128], [127, -128], [127, -128]));
-    assert!(rt; is_point([2i8, -3]) && is_point([0i8, 2]) && is_point([127i8, -128]));
+    let answers = [
+        has_corners([2i8, -3], [0, 4], [0, -3], [2, 4]),
+        has_corners([0i8, 2], [1, 1], [0, 1], [1, 2]),
+        has_corners([127i8, -128], [127, -128], [127, -128], [127, -128]),
+        is_point([2i8, -3]),
+        is_point([0i8, 2]),
+        is_point([127i8, -128]),
+    ];
+    assert!(rt; answers == [true; 6]);
 }
 
 /// Whether the box round a center is that between two corners, with the distance and with its negative.
@@ -127,22 +141,21 @@ fn distances_from_a_point(rt: HostRuntime) {
     );
 }
 
-/// Whether the empty box of points with no axis is a point: not empty, of area 1, and at no distance from a point.
-fn is_dot<P: Point + Copy>(point: &P) -> bool {
-    let dot: AABB<P> = AABB::new_empty();
-    let (zero, one) = (P::Scalar::zero(), P::Scalar::one());
+/// Whether an envelope is a point: not empty, of area 1, and at no distance from a point.
+fn is_dot<E: Envelope>(dot: &E, point: &E::Point, zero: &ScalarOf<E>, one: &ScalarOf<E>) -> bool {
     !dot.is_empty()
-        && dot.area() == one
-        && dot.perimeter_value() == zero
-        && dot.min_max_dist_2(point) == zero
-        && dot.distance_2(point) == zero
+        && dot.area() == *one
+        && dot.perimeter_value() == *zero
+        && dot.min_max_dist_2(point) == *zero
+        && dot.distance_2(point) == *zero
         && dot.contains_point(point)
 }
 
+// The empty box of points with no axis is a point.
 #[test]
 fn a_box_with_no_axis(rt: HostRuntime) {
     let none: [i32; 0] = [];
-    assert!(rt; is_dot(&none));
+    assert!(rt; is_dot(&AABB::new_empty(), &none, &0, &1));
 }
 
 /// Whether the box of some points is that between two corners.
@@ -152,11 +165,14 @@ fn is_hull<P: Point + Copy>(points: &[P], lower: P, upper: P) -> bool {
 
 #[test]
 fn boxes_of_points(rt: HostRuntime) {
-    assert!(rt; is_hull(&[[1i32, 5], [2, 3], [1, 5], [1, 5]], [1, 3], [2, 5]));
-    assert!(rt; is_hull(&[[7i32, -7]], [7, -7], [7, -7]));
     let none: [[i32; 2]; 0] = [];
-    assert!(rt; is_hull(&none, [1, 1], [0, 0]));
-    assert!(rt; is_hull(&[(3i32, 3, 3), (4, 4, 4)], (3, 3, 3), (4, 4, 4)));
+    let answers = [
+        is_hull(&[[1i32, 5], [2, 3], [1, 5], [1, 5]], [1, 3], [2, 5]),
+        is_hull(&[[7i32, -7]], [7, -7], [7, -7]),
+        is_hull(&none, [1, 1], [0, 0]),
+        is_hull(&[(3i32, 3, 3), (4, 4, 4)], (3, 3, 3), (4, 4, 4)),
+    ];
+    assert!(rt; answers == [true; 4]);
 }
 
 /// A box as two corners, the first above the second for the empty one.

@@ -72,8 +72,7 @@ mod tests {
             back: [10, 4],
         };
         for &(point, distance, is_there) in &ROWS {
-            assert!(rt; is_so_far(&shop, &point, distance));
-            assert!(rt; shop.contains_point(&point) == is_there);
+            assert!(rt; is_so_far(&shop, &point, distance, is_there));
         }
     }
 }

@@ -15,9 +15,9 @@ use rstar_base::point::Point;
 use rstar_base::primitives::{
     CachedEnvelope, GeomWithData, Line, ObjectRef, PointWithData, Rectangle,
 };
+use std::alloc::Global;
 use std::cell::Cell;
 use std::rc::Rc;
-use std::test::Fail;
 
 /// The ends of a line and its squared length, a point, the line's nearest point, and the squared distance.
 type LineRow<P> = (P, P, <P as Point>::Scalar, P, P, <P as Point>::Scalar);
@@ -65,14 +65,15 @@ fn where_its_numbers_do_not_fit_a_line_has_its_ends_alone(rt: HostRuntime) {
     );
 }
 
-/// Whether the rectangle between two corners has at each point this nearest point, at this squared distance and at no
-/// lesser one, and contains the point as told.
-fn rectangle_is_so_far<P: Point + Copy>(corners: (P, P), rows: &[(P, P, P::Scalar, bool)]) -> bool {
-    let rectangle = Rectangle::from_corners(corners.0, corners.1);
+/// Whether a rectangle has at each point this nearest point, at this squared distance and at no lesser one, and contains
+/// the point as told.
+fn rectangle_is_so_far<P: Point + Copy>(
+    rectangle: &Rectangle<P>,
+    rows: &[(P, P, P::Scalar, bool)],
+) -> bool {
     for (point, nearest, distance, contained) in rows {
         if rectangle.nearest_point(point) != *nearest
-            || rectangle.contains_point(point) != *contained
-            || !is_so_far(&rectangle, point, *distance)
+            || !is_so_far(rectangle, point, *distance, *contained)
         {
             return false;
         }
@@ -95,30 +96,32 @@ fn a_rectangle_and_points(rt: HostRuntime) {
         ([2, 2], [2, 2], 0, true),
         ([1, 4], [1, 4], 0, true),
     ];
-    assert!(rt; rectangle_is_so_far(([1, 1], [2, 4]), &ROWS));
+    assert!(rt; rectangle_is_so_far(&Rectangle::from_corners([1, 1], [2, 4]), &ROWS));
 }
 
-/// Whether the rectangle of the empty box is empty and contains no such point, and that of the box of two points is the
-/// rectangle between two corners, the lower and the upper one.
-fn rectangle_is_its_box<P: Point + Copy>(point: P, box_of: (P, P), lower: P, upper: P) -> bool {
-    let none: Rectangle<P> = Rectangle::from_aabb(AABB::new_empty());
-    let same: Rectangle<P> = AABB::from_corners(box_of.0, box_of.1).into();
-    none.envelope().is_empty()
-        && !none.contains_point(&point)
-        && !same.envelope().is_empty()
-        && same == Rectangle::from_corners(lower, upper)
-        && same.lower() == lower
-        && same.upper() == upper
+/// Whether the envelope of an element is empty, and it contains no such point.
+fn is_nothing<T: PointDistance>(element: &T, point: &PointOf<T>) -> bool {
+    element.envelope().is_empty() && !element.contains_point(point)
+}
+
+/// Whether a rectangle is that between two corners, the lower and the upper one, and not empty.
+fn is_between<P: Point + Copy>(rectangle: &Rectangle<P>, lower: P, upper: P) -> bool {
+    *rectangle == Rectangle::from_corners(lower, upper)
+        && rectangle.lower() == lower
+        && rectangle.upper() == upper
+        && !rectangle.envelope().is_empty()
 }
 
 #[test]
 fn rectangles_of_boxes(rt: HostRuntime) {
-    let corners: ([i64; 2], [i64; 2]) = ([2, 4], [1, 1]);
-    assert!(rt; rectangle_is_its_box([0, 0], corners, [1, 1], [2, 4]));
+    let none: Rectangle<[i64; 2]> = Rectangle::from_aabb(AABB::new_empty());
+    assert!(rt; is_nothing(&none, &[0, 0]));
+    let same = AABB::from_corners([2i64, 4], [1, 1]).into();
+    assert!(rt; is_between(&same, [1, 1], [2, 4]));
 }
 
-/// Whether an element is so far from a point, as what carries it with a number and a reference to that are, and these hold
-/// the number.
+/// Whether an element is so far from a point, which it does not contain, as what carries it with a number and a reference
+/// to that are, and these hold the number.
 fn carried_is_so_far<R: PointDistance>(
     element: R,
     point: &PointOf<R>,
@@ -128,9 +131,9 @@ fn carried_is_so_far<R: PointDistance>(
     road.data = 8;
     let lent = ObjectRef::new(&road);
     lent.data == 8
-        && is_so_far(road.geom(), point, distance)
-        && is_so_far(&road, point, distance)
-        && is_so_far(&lent, point, distance)
+        && is_so_far(road.geom(), point, distance, false)
+        && is_so_far(&road, point, distance, false)
+        && is_so_far(&lent, point, distance, false)
 }
 
 /// Whether a point with a number is at its place, and contains it.
@@ -139,14 +142,25 @@ fn carried_is_there<P: Point + Copy>(point: P) -> bool {
     *stop.position() == point && stop.contains_point(&point)
 }
 
+/// Whether a shared element is so far from a point, which it does not contain.
+fn shared_is_so_far<T: PointDistance>(
+    alloc: Global,
+    element: T,
+    point: &PointOf<T>,
+    distance: Distance<T>,
+) -> bool {
+    match Rc::new(alloc, element) {
+        Ok(shared) => is_so_far(&shared, point, distance, false),
+        Err(_) => false,
+    }
+}
+
 #[test]
-fn carriers_answer_as_what_they_carry(rt: HostRuntime) -> Result<(), Fail> {
+fn carriers_answer_as_what_they_carry(rt: HostRuntime) {
     let line = Line::new([0i64, 0], [10, 0]);
     assert!(rt; carried_is_so_far(line, &[9, 2], 4));
     assert!(rt; carried_is_there([1i64, 2]));
-    let shared = Rc::new(rt.alloc(), [1i64, 2])?;
-    assert!(rt; is_so_far(&shared, &[1, 5], 9));
-    Ok(())
+    assert!(rt; shared_is_so_far(rt.alloc(), [1i64, 2], &[1, 5], 9));
 }
 
 /// Sorts elements on the first axis and splits them on the second, at the second place, and tells whether they come in
