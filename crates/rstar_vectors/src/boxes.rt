@@ -52,18 +52,21 @@ fn has_measures<P: Point + Copy>(row: &MeasureRow<P>) -> bool {
         && measures(&made, &row.2, &row.3, &row.4, &row.5)
 }
 
-// The full range and the empty box, whose measures are held at the greatest scalar and at 0, and a box between; and the
-// full range of the widest scalar.
+// The full range and the empty box, whose measures are held at the greatest scalar and at 0, and a box between.
 #[test]
 fn measures_and_centers(rt: HostRuntime) {
-    let (low, high) = (i128::MIN, i128::MAX);
     let answers = [
         has_measures(&([-128i8, -128], [127, 127], 127, 127, [0, 0], -128)),
         has_measures(&([127i8, 127], [-128, -128], 0, 0, [0, 0], 127)),
         has_measures(&([0i8, -3], [2, 4], 14, 9, [1, 0], -3)),
-        has_measures(&([low, low], [high, high], high, high, [0, 0], low)),
     ];
-    assert!(rt; answers == [true; 4]);
+    assert!(rt; answers == [true; 3]);
+}
+
+#[test]
+fn measures_of_the_widest_scalar(rt: HostRuntime) {
+    let (low, high) = (i128::MIN, i128::MAX);
+    assert!(rt; has_measures(&([low, low], [high, high], high, high, [0, 0], low)));
 }
 
 /// Whether the box between two corners is that between two others, the lower and the upper one.
