@@ -20,6 +20,11 @@ pub reached : {T F E P S X : Type 0} {accepts : F → E → Bool} {over : Parent
     → IsMade accepts over asked it → reach_by accepts it ≡ reach_of asked over
 reached {asked = asked} {it = it} made = ap (λ a. reach_of a (root_walked it)) made.question ∙ ap (reach_of asked) made.root
 
+-- the same, as far as a number goes
+pub opened-in : {T F E P S X : Type 0} {accepts : F → E → Bool} {over : ParentNode T E P S X} {asked : E → Bool} {it : SelectionIterator T F E P S X} {n : ℕ}
+    → n ≡ min (reach_by accepts it) usize_max → IsMade accepts over asked it → n ≡ min (reach_of asked over) usize_max
+opened-in opened made = opened ∙ ap (λ m. min m usize_max) (reached made)
+
 -- how many pairs of nodes a join has opened in the end, by the roots that it was made with
 pub met : {T E P S X U F Q R Y : Type 0} {meets : E → F → Bool} {left_box : T → E} {right_box : U → F} {left : ParentNode T E P S X} {right : ParentNode U F Q R Y} {it : IntersectionIterator T U E P S X F Q R Y}
     → IsJoinMade meets left_box right_box left right it → meet_by meets left_box right_box it ≡ meet_of_roots meets left_box right_box left right

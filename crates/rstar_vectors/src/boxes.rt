@@ -1,12 +1,11 @@
 //! Boxes: what each call answers on given corners.
 
-use num_traits::{One, Zero};
+use crate::loads::shows;
+use num_traits::Zero;
 use rstar_base::aabb::{AABB, upright};
 use rstar_base::envelope::Envelope;
 use rstar_base::point::{Point, RTreeNum};
-use std::alloc::{AllocError, Global};
 use std::hash::{DefaultHasher, Hash, Hasher};
-use std::test::Fail;
 
 /// The box between two corners; the empty box where the first lies above the second on some axis.
 fn boxed<P: Point + Copy>(lower: P, upper: P) -> AABB<P> {
@@ -17,64 +16,80 @@ fn boxed<P: Point + Copy>(lower: P, upper: P) -> AABB<P> {
     }
 }
 
-/// The corners of a box, its area, its perimeter and its center.
-type MeasureRow<P> = (P, P, <P as Point>::Scalar, <P as Point>::Scalar, P);
+/// A scalar of an envelope.
+type ScalarOf<E> = <<E as Envelope>::Point as Point>::Scalar;
 
-/// Whether boxes have these corners and measures, and on axis 1 the key of the first corner.
-fn have_measures<P: Point + Copy>(rows: &[MeasureRow<P>]) -> bool {
-    for (lower, upper, area, perimeter, center) in rows {
-        let made = boxed(*lower, *upper);
-        if P::DIMENSIONS < 2
-            || made.area() != *area
-            || made.perimeter_value() != *perimeter
-            || made.center() != *center
-            || made.axis_key(1) != lower.nth(1)
-            || made.lower() != *lower
-            || made.upper() != *upper
-        {
-            return false;
-        }
-    }
-    true
+/// Whether an envelope has this area, this perimeter, this center, and on axis 1 this key.
+fn measures<E: Envelope>(
+    made: &E,
+    area: &ScalarOf<E>,
+    perimeter: &ScalarOf<E>,
+    center: &E::Point,
+    key: &ScalarOf<E>,
+) -> bool {
+    1 < <E::Point as Point>::DIMENSIONS
+        && made.area() == *area
+        && made.perimeter_value() == *perimeter
+        && made.center() == *center
+        && made.axis_key(1) == *key
 }
 
-// The full range and the empty box, whose measures are held at the greatest scalar and at 0, and a box between; and the
-// full range of the widest scalar.
+/// The corners of a box, its area, its perimeter, its center, and its key on axis 1.
+type MeasureRow<P> = (
+    P,
+    P,
+    <P as Point>::Scalar,
+    <P as Point>::Scalar,
+    P,
+    <P as Point>::Scalar,
+);
+
+/// Whether a box has these corners and measures.
+fn has_measures<P: Point + Copy>(row: &MeasureRow<P>) -> bool {
+    let made = boxed(row.0, row.1);
+    made.lower() == row.0
+        && made.upper() == row.1
+        && measures(&made, &row.2, &row.3, &row.4, &row.5)
+}
+
+// The full range and the empty box, whose measures are held at the greatest scalar and at 0, and a box between.
 #[test]
 fn measures_and_centers(rt: HostRuntime) {
-    assert!(rt;
-        have_measures(&[
-            ([-128i8, -128], [127, 127], 127, 127, [0, 0]),
-            ([127, 127], [-128, -128], 0, 0, [0, 0]),
-            ([0, -3], [2, 4], 14, 9, [1, 0]),
-        ])
-    );
-    let (low, high) = (i128::MIN, i128::MAX);
-    assert!(rt; have_measures(&[([low, low], [high, high], high, high, [0, 0])]));
+    let answers = [
+        has_measures(&([-128i8, -128], [127, 127], 127, 127, [0, 0], -128)),
+        has_measures(&([127i8, 127], [-128, -128], 0, 0, [0, 0], 127)),
+        has_measures(&([0i8, -3], [2, 4], 14, 9, [1, 0], -3)),
+    ];
+    assert!(rt; answers == [true; 3]);
 }
 
-/// Whether the box between two corners is that between two others, the lower and the upper one; and the box of a point
-/// is that from it to itself.
-fn have_corners<P: Point + Copy>(rows: &[(P, P, P, P)]) -> bool {
-    for (one, other, lower, upper) in rows {
-        if AABB::from_corners(*one, *other) != boxed(*lower, *upper)
-            || AABB::from_point(*one) != AABB::from_corners(*one, *one)
-        {
-            return false;
-        }
-    }
-    true
+#[test]
+fn measures_of_the_widest_scalar(rt: HostRuntime) {
+    let (low, high) = (i128::MIN, i128::MAX);
+    assert!(rt; has_measures(&([low, low], [high, high], high, high, [0, 0], low)));
+}
+
+/// Whether the box between two corners is that between two others, the lower and the upper one.
+fn has_corners<P: Point + Copy>(one: P, other: P, lower: P, upper: P) -> bool {
+    AABB::from_corners(one, other) == boxed(lower, upper)
+}
+
+/// Whether the box of a point is that from it to itself.
+fn is_point<P: Point + Copy>(point: P) -> bool {
+    AABB::from_point(point) == boxed(point, point)
 }
 
 #[test]
 fn corners_come_in_any_order(rt: HostRuntime) {
-    assert!(rt;
-        have_corners(&[
-            ([2i8, -3], [0, 4], [0, -3], [2, 4]),
-            ([0, 2], [1, 1], [0, 1], [1, 2]),
-            ([127, -128], [127, -128], [127, -128], [127, -128]),
-        ])
-    );
+    let answers = [
+        has_corners([2i8, -3], [0, 4], [0, -3], [2, 4]),
+        has_corners([0i8, 2], [1, 1], [0, 1], [1, 2]),
+        has_corners([127i8, -128], [127, -128], [127, -128], [127, -128]),
+        is_point([2i8, -3]),
+        is_point([0i8, 2]),
+        is_point([127i8, -128]),
+    ];
+    assert!(rt; answers == [true; 6]);
 }
 
 /// Whether the box round a center is that between two corners, with the distance and with its negative.
@@ -129,44 +144,38 @@ fn distances_from_a_point(rt: HostRuntime) {
     );
 }
 
-/// Whether the empty box of points with no axis is a point: not empty, of area 1, and at no distance from a point.
-fn is_dot<P: Point + Copy>(point: &P) -> bool {
-    let dot: AABB<P> = AABB::new_empty();
-    let (zero, one) = (P::Scalar::zero(), P::Scalar::one());
+/// Whether an envelope is a point: not empty, of area 1, and at no distance from a point.
+fn is_dot<E: Envelope>(dot: &E, point: &E::Point, zero: &ScalarOf<E>, one: &ScalarOf<E>) -> bool {
     !dot.is_empty()
-        && dot.area() == one
-        && dot.perimeter_value() == zero
-        && dot.min_max_dist_2(point) == zero
-        && dot.distance_2(point) == zero
+        && dot.area() == *one
+        && dot.perimeter_value() == *zero
+        && dot.min_max_dist_2(point) == *zero
+        && dot.distance_2(point) == *zero
         && dot.contains_point(point)
 }
 
+// The empty box of points with no axis is a point.
 #[test]
 fn a_box_with_no_axis(rt: HostRuntime) {
     let none: [i32; 0] = [];
-    assert!(rt; is_dot(&none));
+    assert!(rt; is_dot(&AABB::new_empty(), &none, &0, &1));
 }
 
-/// Whether the boxes of some points are those between two corners.
-fn are_hulls<P: Point + Copy>(rows: &[(&[P], P, P)]) -> bool {
-    for (points, lower, upper) in rows {
-        if AABB::from_points(*points) != boxed(*lower, *upper) {
-            return false;
-        }
-    }
-    true
+/// Whether the box of some points is that between two corners.
+fn is_hull<P: Point + Copy>(points: &[P], lower: P, upper: P) -> bool {
+    AABB::from_points(points) == boxed(lower, upper)
 }
 
 #[test]
 fn boxes_of_points(rt: HostRuntime) {
-    let rows: [(&[[i32; 2]], [i32; 2], [i32; 2]); 3] = [
-        (&[[1, 5], [2, 3], [1, 5], [1, 5]], [1, 3], [2, 5]),
-        (&[[7, -7]], [7, -7], [7, -7]),
-        (&[], [1, 1], [0, 0]),
+    let none: [[i32; 2]; 0] = [];
+    let answers = [
+        is_hull(&[[1i32, 5], [2, 3], [1, 5], [1, 5]], [1, 3], [2, 5]),
+        is_hull(&[[7i32, -7]], [7, -7], [7, -7]),
+        is_hull(&none, [1, 1], [0, 0]),
+        is_hull(&[(3i32, 3, 3), (4, 4, 4)], (3, 3, 3), (4, 4, 4)),
     ];
-    assert!(rt; are_hulls(&rows));
-    let corners: [(i32, i32, i32); 2] = [(3, 3, 3), (4, 4, 4)];
-    assert!(rt; are_hulls(&[(&corners, corners[0], corners[1])]));
+    assert!(rt; answers == [true; 4]);
 }
 
 /// A box as two corners, the first above the second for the empty one.
@@ -179,18 +188,30 @@ const EMPTY: Corners = ([i64::MAX, i64::MAX], [i64::MIN, i64::MIN]);
 /// Two boxes, whether they intersect, whether the first contains the second, the area that they share, and their merge.
 type PairRow<P> = ((P, P), (P, P), bool, bool, <P as Point>::Scalar, (P, P));
 
+/// Whether two envelopes intersect, the first contains the second, they share this area, and their merge is this.
+fn is_paired<E: Envelope>(
+    one: &mut E,
+    other: &E,
+    intersects: bool,
+    contains: bool,
+    shared: &ScalarOf<E>,
+    merge: &E,
+) -> bool {
+    let answers = one.intersects(other) == intersects
+        && one.contains_envelope(other) == contains
+        && one.intersection_area(other) == *shared
+        && one.merged(other) == *merge;
+    one.merge(other);
+    answers && *one == *merge
+}
+
 /// Whether pairs of boxes answer as told.
 fn are_paired<P: Point + Copy>(rows: &[PairRow<P>]) -> bool {
     for (one, other, intersects, contains, shared, merge) in rows {
-        let mut one = boxed(one.0, one.1);
-        let other = boxed(other.0, other.1);
-        let merge = boxed(merge.0, merge.1);
-        let answers = one.intersects(&other) == *intersects
-            && one.contains_envelope(&other) == *contains
-            && one.intersection_area(&other) == *shared
-            && one.merged(&other) == merge;
-        one.merge(&other);
-        if !answers || one != merge {
+        let mut first = boxed(one.0, one.1);
+        let second = boxed(other.0, other.1);
+        let both = boxed(merge.0, merge.1);
+        if !is_paired(&mut first, &second, *intersects, *contains, shared, &both) {
             return false;
         }
     }
@@ -240,13 +261,9 @@ fn points_in_boxes(rt: HostRuntime) {
     );
 }
 
-/// Whether boxes rise strictly, and the greater of the first and the last is the last.
-fn rise<P: Point + Ord + Copy>(boxes: &[(P, P); 3]) -> bool {
-    let low = boxed(boxes[0].0, boxes[0].1);
-    let wide = boxed(boxes[1].0, boxes[1].1);
-    let high = boxed(boxes[2].0, boxes[2].1);
-    let greater = boxed(boxes[2].0, boxes[2].1).max(boxed(boxes[0].0, boxes[0].1));
-    low < wide && wide < high && greater == high && low != wide
+/// Whether three values rise strictly, and the greater of the last and the first is the last.
+fn rise<V: Ord + Copy>(low: V, wide: V, high: V) -> bool {
+    low < wide && wide < high && low != wide && high.max(low) == high
 }
 
 // Whether a box has two corners in order; boxes by their corners, by their lower ones first.
@@ -254,8 +271,9 @@ fn rise<P: Point + Ord + Copy>(boxes: &[(P, P); 3]) -> bool {
 fn boxes_are_ordered_by_their_corners(rt: HostRuntime) {
     assert!(rt; upright(&[0i64, -3], &[2, 4]));
     assert!(rt; !upright(&[0i64, 5], &[2, 4]));
-    let boxes: [Corners; 3] = [([0, 5], [1, 6]), ([0, 5], [9, 6]), ([1, 0], [1, 1])];
-    assert!(rt; rise(&boxes));
+    let low = AABB::from_corners([0i64, 5], [1, 6]);
+    let wide = AABB::from_corners([0, 5], [9, 6]);
+    assert!(rt; rise(low, wide, AABB::from_corners([1, 0], [1, 1])));
 }
 
 fn hashed<T: Hash>(item: &T) -> u64 {
@@ -264,23 +282,9 @@ fn hashed<T: Hash>(item: &T) -> u64 {
     state.finish()
 }
 
-/// Whether the box between two corners hashes as that between two others, the lower and the upper one, and shows these.
-fn hashes_and_shows<P: Point + Hash + Copy>(
-    alloc: Global,
-    corners: (P, P),
-    lower: P,
-    upper: P,
-    text: &str,
-) -> Result<bool, AllocError> {
-    let one = AABB::from_corners(corners.0, corners.1);
-    let same = boxed(lower, upper);
-    Ok(hashed(&one) == hashed(&same) && format!(in alloc; "{one:?}")?.as_str() == text)
-}
-
 #[test]
-fn equal_boxes_hash_alike_and_show_their_corners(rt: HostRuntime) -> Result<(), Fail> {
-    let corners: Corners = ([0, 2], [1, 1]);
-    let text = "AABB { lower: [0, 1], upper: [1, 2] }";
-    assert!(rt; hashes_and_shows(rt.alloc(), corners, [0, 1], [1, 2], text)?);
-    Ok(())
+fn equal_boxes_hash_alike_and_show_their_corners(rt: HostRuntime) {
+    let one = AABB::from_corners([0i64, 2], [1, 1]);
+    assert!(rt; hashed(&one) == hashed(&AABB::from_corners([0i64, 1], [1, 2])));
+    assert!(rt; shows(rt.alloc(), &one, "AABB { lower: [0, 1], upper: [1, 2] }"));
 }

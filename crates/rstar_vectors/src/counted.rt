@@ -192,21 +192,27 @@ fn places(alloc: Global, from: usize, end: usize) -> Result<Vec<Place<[i64; 2]>>
     Ok(places)
 }
 
-/// Whether a box, given twice, counts so often, alone and merged with itself, and nothing merged with it is it; what
-/// nothing was merged into is empty, and equals the box where this counts 0.
-fn merges<P: Point + Copy>(aabb: AABB<P>, same: &AABB<P>, count: usize, twice: usize) -> bool {
-    let one = Counted::new(aabb);
-    let merged = one.merged(&one);
-    let nothing = Counted::new_empty();
-    one.count() == count
-        && *one.aabb() == *same
-        && merged.count() == twice
-        && *merged.aabb() == *same
-        && (merged == one) == (count == twice)
-        && one.is_empty() == (count == 0)
-        && nothing.is_empty()
-        && (nothing == one) == (count == 0)
-        && nothing.merged(&one) == one
+/// Whether what is counted has this box and this count, and is empty where that is 0.
+fn has_count<P: Point>(counted: &Counted<P>, aabb: &AABB<P>, count: usize) -> bool {
+    *counted.aabb() == *aabb && counted.count() == count && counted.is_empty() == (count == 0)
+}
+
+/// Whether an envelope merged with itself is itself or not, as told, and nothing merged with it is it; and what nothing
+/// was merged into is empty, and equals it or not, as told.
+fn merges_alike<E: Envelope>(one: &E, twice: bool, nothing: bool) -> bool {
+    let empty = E::new_empty();
+    (one.merged(one) == *one) == twice
+        && (empty == *one) == nothing
+        && empty.merged(one) == *one
+        && empty.is_empty()
+}
+
+/// Whether a box that is counted counts so often, alone and merged with itself; what nothing was merged into equals it
+/// where this is 0.
+fn merges<P: Point>(one: &Counted<P>, aabb: &AABB<P>, count: usize, twice: usize) -> bool {
+    has_count(one, aabb, count)
+        && has_count(&one.merged(one), aabb, twice)
+        && merges_alike(one, count == twice, count == 0)
 }
 
 // What is counted, merged with itself: the count before and after. A box with no axis is not empty, and counts; the
@@ -218,12 +224,12 @@ fn merges_add_counts(rt: HostRuntime) {
         (AABB::from_corners([0, 0], [2, 2]), 1, 2),
         (AABB::new_empty(), 0, 0),
     ];
-    for (aabb, count, twice) in rows {
-        assert!(rt; merges(aabb, &aabb, count, twice));
+    for &(aabb, count, twice) in &rows {
+        assert!(rt; merges(&Counted::new(aabb), &aabb, count, twice));
     }
     let none: [i64; 0] = [];
     let one = AABB::from_point(none);
-    assert!(rt; merges(one, &one, 1, 2));
+    assert!(rt; merges(&Counted::new(one), &one, 1, 2));
 }
 
 // rstar's `test_envelopes_merge_every_element_once`, and drains after it: a load of 500, 1,500 insertions, which

@@ -55,39 +55,24 @@ impl<P: Point> EqualEnvelopes for Doors<P> {
 #[cfg(test)]
 mod tests {
     use super::*;
-    use num_traits::One;
-    use rstar_base::point::RTreeNum;
-
-    /// Whether two doors are this far from a point and no less, and one of them is at the point, as told.
-    fn are_so_far<P: Point + Copy>(
-        doors: (P, P),
-        point: &P,
-        distance: P::Scalar,
-        is_there: bool,
-    ) -> bool {
-        let shop = Doors {
-            front: doors.0,
-            back: doors.1,
-        };
-        let below = distance.clamped_sub(P::Scalar::one());
-        shop.distance_2(point) == distance
-            && shop.distance_2_if_less_or_equal(point, below).is_none()
-            && shop.distance_2_if_less_or_equal(point, distance) == Some(distance)
-            && shop.contains_point(point) == is_there
-    }
+    use crate::scenarios::is_so_far;
 
     // A point, its squared distance from the nearer door, and whether a door is there. The third lies inside the
     // envelope, and at neither door.
     #[test]
     fn the_nearer_door_counts(rt: HostRuntime) {
-        let rows: [([i64; 2], i64, bool); 4] = [
+        const ROWS: [([i64; 2], i64, bool); 4] = [
             ([1, 0], 1, false),
             ([10, 2], 4, false),
             ([5, 2], 29, false),
             ([10, 4], 0, true),
         ];
-        for (point, distance, is_there) in rows {
-            assert!(rt; are_so_far(([0, 0], [10, 4]), &point, distance, is_there));
+        let shop = Doors {
+            front: [0, 0],
+            back: [10, 4],
+        };
+        for &(point, distance, is_there) in &ROWS {
+            assert!(rt; is_so_far(&shop, &point, distance, is_there));
         }
     }
 }

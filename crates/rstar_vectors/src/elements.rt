@@ -5,20 +5,19 @@
 ghost use Rattle.std.specs.Prelude.{◌≤◌};
 ghost use Rattle.rstar_base.specs.Elements.{carried_objects};
 
-use num_traits::One;
+use crate::scenarios::is_so_far;
 use rstar_base::aabb::AABB;
 use rstar_base::envelope::Envelope;
 use rstar_base::object::{
     Distance, PointDistance, PointOf, RTreeObject, partition_envelopes, sort_envelopes,
 };
-use rstar_base::point::{Point, RTreeNum};
+use rstar_base::point::Point;
 use rstar_base::primitives::{
     CachedEnvelope, GeomWithData, Line, ObjectRef, PointWithData, Rectangle,
 };
-use std::alloc::{AllocError, Global};
+use std::alloc::Global;
 use std::cell::Cell;
 use std::rc::Rc;
-use std::test::Fail;
 
 /// The ends of a line and its squared length, a point, the line's nearest point, and the squared distance.
 type LineRow<P> = (P, P, <P as Point>::Scalar, P, P, <P as Point>::Scalar);
@@ -66,19 +65,15 @@ fn where_its_numbers_do_not_fit_a_line_has_its_ends_alone(rt: HostRuntime) {
     );
 }
 
-/// Whether the rectangle between two corners has at each point this nearest point, at this squared distance and at no
-/// lesser one, and contains the point as told.
-fn rectangle_is_so_far<P: Point + Copy>(corners: (P, P), rows: &[(P, P, P::Scalar, bool)]) -> bool {
-    let rectangle = Rectangle::from_corners(corners.0, corners.1);
+/// Whether a rectangle has at each point this nearest point, at this squared distance and at no lesser one, and contains
+/// the point as told.
+fn rectangle_is_so_far<P: Point + Copy>(
+    rectangle: &Rectangle<P>,
+    rows: &[(P, P, P::Scalar, bool)],
+) -> bool {
     for (point, nearest, distance, contained) in rows {
-        let below = distance.clamped_sub(P::Scalar::one());
         if rectangle.nearest_point(point) != *nearest
-            || rectangle.distance_2(point) != *distance
-            || rectangle.contains_point(point) != *contained
-            || rectangle
-                .distance_2_if_less_or_equal(point, below)
-                .is_some()
-            || rectangle.distance_2_if_less_or_equal(point, *distance) != Some(*distance)
+            || !is_so_far(rectangle, point, *distance, *contained)
         {
             return false;
         }
@@ -90,7 +85,7 @@ fn rectangle_is_so_far<P: Point + Copy>(corners: (P, P), rows: &[(P, P, P::Scala
 // rectangle is that of rstar's test `rectangle_distance`, twice as large.
 #[test]
 fn a_rectangle_and_points(rt: HostRuntime) {
-    let rows: [([i64; 2], [i64; 2], i64, bool); 9] = [
+    const ROWS: [([i64; 2], [i64; 2], i64, bool); 9] = [
         ([1, 1], [1, 1], 0, true),
         ([0, 2], [1, 2], 1, false),
         ([0, 0], [1, 1], 2, false),
@@ -101,79 +96,84 @@ fn a_rectangle_and_points(rt: HostRuntime) {
         ([2, 2], [2, 2], 0, true),
         ([1, 4], [1, 4], 0, true),
     ];
-    assert!(rt; rectangle_is_so_far(([1, 1], [2, 4]), &rows));
+    assert!(rt; rectangle_is_so_far(&Rectangle::from_corners([1, 1], [2, 4]), &ROWS));
 }
 
-/// Whether the rectangle of the empty box is empty and contains no such point, and that of the box of two points is the
-/// rectangle between two corners, the lower and the upper one.
-fn rectangle_is_its_box<P: Point + Copy>(point: P, box_of: (P, P), lower: P, upper: P) -> bool {
-    let none: Rectangle<P> = Rectangle::from_aabb(AABB::new_empty());
-    let same: Rectangle<P> = AABB::from_corners(box_of.0, box_of.1).into();
-    none.envelope().is_empty()
-        && !none.contains_point(&point)
-        && !same.envelope().is_empty()
-        && same == Rectangle::from_corners(lower, upper)
-        && same.lower() == lower
-        && same.upper() == upper
+/// Whether the envelope of an element is empty, and it contains no such point.
+fn is_nothing<T: PointDistance>(element: &T, point: &PointOf<T>) -> bool {
+    element.envelope().is_empty() && !element.contains_point(point)
+}
+
+/// Whether a rectangle is that between two corners, the lower and the upper one, and not empty.
+fn is_between<P: Point + Copy>(rectangle: &Rectangle<P>, lower: P, upper: P) -> bool {
+    *rectangle == Rectangle::from_corners(lower, upper)
+        && rectangle.lower() == lower
+        && rectangle.upper() == upper
+        && !rectangle.envelope().is_empty()
 }
 
 #[test]
 fn rectangles_of_boxes(rt: HostRuntime) {
-    let corners: ([i64; 2], [i64; 2]) = ([2, 4], [1, 1]);
-    assert!(rt; rectangle_is_its_box([0, 0], corners, [1, 1], [2, 4]));
+    let none: Rectangle<[i64; 2]> = Rectangle::from_aabb(AABB::new_empty());
+    assert!(rt; is_nothing(&none, &[0, 0]));
+    let same = AABB::from_corners([2i64, 4], [1, 1]).into();
+    assert!(rt; is_between(&same, [1, 1], [2, 4]));
 }
 
-/// Whether an element that is carried with a number is so far from a point, as what carries it and a reference to that
-/// are, and these are not within a lesser distance, and hold the number.
+/// Whether an element is so far from a point, which it does not contain, as what carries it with a number and a reference
+/// to that are, and these hold the number.
 fn carried_is_so_far<R: PointDistance>(
     element: R,
     point: &PointOf<R>,
     distance: Distance<R>,
-    lesser: Distance<R>,
 ) -> bool {
     let mut road = GeomWithData::new(element, 7u64);
     road.data = 8;
     let lent = ObjectRef::new(&road);
-    road.geom().distance_2(point) == distance
-        && road.distance_2(point) == distance
-        && road.distance_2_if_less_or_equal(point, lesser).is_none()
-        && lent.data == 8
-        && lent.distance_2(point) == distance
+    lent.data == 8
+        && is_so_far(road.geom(), point, distance, false)
+        && is_so_far(&road, point, distance, false)
+        && is_so_far(&lent, point, distance, false)
 }
 
-/// Whether a point with a number contains itself, and a shared one is so far from another.
-fn carried_point_answers<P: Point + Copy>(
-    alloc: Global,
-    point: P,
-    other: &P,
-    distance: P::Scalar,
-) -> Result<bool, AllocError> {
+/// Whether a point with a number is at its place, and contains it.
+fn carried_is_there<P: Point + Copy>(point: P) -> bool {
     let stop = PointWithData::new(7u64, point);
-    let shared = Rc::new(alloc, point)?;
-    Ok(
-        *stop.position() == point
-            && stop.contains_point(&point)
-            && shared.distance_2(other) == distance,
-    )
+    *stop.position() == point && stop.contains_point(&point)
+}
+
+/// Whether a shared element is so far from a point, which it does not contain.
+fn shared_is_so_far<T: PointDistance>(
+    alloc: Global,
+    element: T,
+    point: &PointOf<T>,
+    distance: Distance<T>,
+) -> bool {
+    match Rc::new(alloc, element) {
+        Ok(shared) => is_so_far(&shared, point, distance, false),
+        Err(_) => false,
+    }
 }
 
 #[test]
-fn carriers_answer_as_what_they_carry(rt: HostRuntime) -> Result<(), Fail> {
+fn carriers_answer_as_what_they_carry(rt: HostRuntime) {
     let line = Line::new([0i64, 0], [10, 0]);
-    assert!(rt; carried_is_so_far(line, &[9, 2], 4, 3));
-    assert!(rt; carried_point_answers(rt.alloc(), [1i64, 2], &[1, 5], 9)?);
-    Ok(())
+    assert!(rt; carried_is_so_far(line, &[9, 2], 4));
+    assert!(rt; carried_is_there([1i64, 2]));
+    assert!(rt; shared_is_so_far(rt.alloc(), [1i64, 2], &[1, 5], 9));
 }
 
-/// Sorts four points on the first axis and splits them on the second, at the second place, and tells whether they come
-/// in this order, and whether these are the first two after the split.
-fn are_ordered<P: Point>(points: &mut [P; 4], sorted: &[P; 4], split: &[P; 2]) -> bool
-    requires { 2 ≤ P.DIMENSIONS }
+/// Sorts elements on the first axis and splits them on the second, at the second place, and tells whether they come in
+/// this order, and whether these are the first after the split.
+fn are_ordered<T: RTreeObject + PartialEq>(elements: &mut [T], sorted: &[T], split: &[T]) -> bool
+    requires { 2 ≤ T.Envelope.Point.DIMENSIONS }
 {
-    sort_envelopes(0, points);
-    let rises = *points == *sorted;
-    partition_envelopes(1, points, 1);
-    rises && points[0] == split[0] && points[1] == split[1]
+    sort_envelopes(0, elements);
+    if elements.len() < 2 || *elements != *sorted {
+        return false;
+    }
+    partition_envelopes(1, elements, 1);
+    elements.starts_with(split)
 }
 
 #[test]
@@ -203,16 +203,20 @@ impl<P: Point> RTreeObject for Counting<P> {
     ghost object_law = { λ c h. h };
 }
 
+/// Whether a kept envelope, asked for three times, is this.
+fn is_kept<T: RTreeObject>(cached: &CachedEnvelope<T>, wanted: &T::Envelope) -> bool {
+    let mut is_so = true;
+    for _ in 0..3 {
+        is_so = cached.envelope() == *wanted && is_so;
+    }
+    is_so
+}
+
 /// Whether a point's kept envelope, asked for three times, is its box, and the point was asked once.
 fn is_asked_once<P: Point + Copy>(at: P) -> bool {
     let calls = Cell::new(0);
     let cached = CachedEnvelope::new(Counting { at, calls });
-    let wanted = AABB::from_point(at);
-    let mut is_so = true;
-    for _ in 0..3 {
-        is_so = cached.envelope() == wanted && is_so;
-    }
-    is_so && cached.calls.get() == 1
+    is_kept(&cached, &AABB::from_point(at)) && cached.calls.get() == 1
 }
 
 #[test]

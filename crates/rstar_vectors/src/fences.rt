@@ -79,12 +79,7 @@ impl Fences {
 fn count_in<T: RTreeObject>(tree: &RTree<T>, envelope: T::Envelope) -> Result<usize, AllocError>
     requires { IsWholeTree T.Envelope.boxes T.object ⟦<DefaultParams as RTreeParams>⟧.MAX_SIZE tree.now }
 {
-    let mut found = tree.locate_in_envelope(envelope)?;
-    let mut count = 0usize;
-    while let Some(_) = found.next() {
-        count = count.saturating_add(1);
-    }
-    Ok(count)
+    Ok(tree.locate_in_envelope(envelope)?.count())
 }
 
 /// The sum of the numbers of a tree's fences in a box.
@@ -152,20 +147,20 @@ mod tests {
     // count twice, and corners come in any order.
     #[test]
     fn fences_in_boxes(rt: HostRuntime) -> Result<(), Fail> {
-        let twice: [Row; 2] = [(7, [0, 0], [2, 2]), (7, [2, 2], [0, 0])];
-        let three: [Row; 3] = [
+        const TWICE: [Row; 2] = [(7, [0, 0], [2, 2]), (7, [2, 2], [0, 0])];
+        const THREE: [Row; 3] = [
             (7, [0, 0], [2, 2]),
             (8, [5, 5], [9, 9]),
             (9, [5, 5], [9, 10]),
         ];
-        let rows: [(&[Row], [i64; 2], [i64; 2], usize, u64); 5] = [
+        const ROWS: [(&'static [Row], [i64; 2], [i64; 2], usize, u64); 5] = [
             (&[], [5, 5], [4, 4], 0, 0),
-            (&twice, [0, 0], [2, 2], 2, 14),
-            (&twice, [0, 0], [2, 1], 0, 0),
-            (&three, [0, 0], [9, 9], 2, 15),
-            (&three, [9, 10], [3, 3], 2, 17),
+            (&TWICE, [0, 0], [2, 2], 2, 14),
+            (&TWICE, [0, 0], [2, 1], 0, 0),
+            (&THREE, [0, 0], [9, 9], 2, 15),
+            (&THREE, [9, 10], [3, 3], 2, 17),
         ];
-        for (list, one, other, count, sum) in rows {
+        for &(list, one, other, count, sum) in &ROWS {
             let area = AABB::from_corners(one, other);
             assert!(rt; add_up(rt.alloc(), list, area, count, sum)?);
         }
@@ -175,9 +170,9 @@ mod tests {
     #[test]
     fn a_fence_lies_in_a_box(rt: HostRuntime) {
         let fence = Fence::new(Rectangle::from_corners([0, 0], [2, 2]), 7);
-        for (other, is_inside) in [([2, 2], true), ([2, 1], false)] {
+        for &(other, is_inside) in &[([2, 2], true), ([2, 1], false)] {
             let area = AABB::from_corners([0, 0], other);
-            assert_eq!(rt; lies_in(&fence, &area), is_inside);
+            assert!(rt; lies_in(&fence, &area) == is_inside);
         }
     }
 }

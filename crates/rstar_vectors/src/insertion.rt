@@ -137,7 +137,7 @@ type Outline = (usize, [i32; 2], [i32; 2]);
 // Points, inserted in turn, and for both children of the root: how many children, and the envelope.
 #[test]
 fn insertions_shape_the_tree(rt: HostRuntime) {
-    let rows: [(&[[i32; 2]], Outline, Outline); 4] = [
+    const ROWS: [(&'static [[i32; 2]], Outline, Outline); 4] = [
         (&ALONG_A_LINE, (3, [0, 0], [2, 0]), (4, [100, 0], [103, 0])),
         (&TWO_HEAPS, (4, [0, 0], [3, 3]), (3, [10, 10], [12, 12])),
         // The ninth point goes where the overlap grows least.
@@ -145,7 +145,7 @@ fn insertions_shape_the_tree(rt: HostRuntime) {
         // The farthest children go in again: `[0, 0]` and `[6, 6]` are handed out.
         (&ELEVEN, (6, [0, 0], [3, 3]), (5, [6, 6], [12, 12])),
     ];
-    for (points, one, other) in rows {
+    for &(points, one, other) in &ROWS {
         let low = (one.0, AABB::from_corners(one.1, one.2));
         let high = (other.0, AABB::from_corners(other.1, other.2));
         assert!(rt; is_shaped(rt.alloc(), points, &low, &high), "{points:?}");

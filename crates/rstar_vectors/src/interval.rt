@@ -173,12 +173,12 @@ mod tests {
     // A stretch's ends, its distance and its min-max distance from 7, its center and its length.
     #[test]
     fn distances_and_measures(rt: HostRuntime) {
-        let rows: [(i64, i64, i64, i64, i64, i64); 3] = [
+        const ROWS: [(i64, i64, i64, i64, i64, i64); 3] = [
             (4, 1, 9, 9, 2, 3),
             (10, 12, 9, 9, 11, 2),
             (1, 12, 0, 25, 6, 11),
         ];
-        for (a, b, distance, min_max, center, length) in rows {
+        for &(a, b, distance, min_max, center, length) in &ROWS {
             let stretch = Stretch::new(a, b, 0);
             assert!(rt;
                 stretch.distance_2(&[7]) == distance

@@ -58,8 +58,10 @@ fn joined<'a, T: RTreeObject, U: InEnvelope<T::Envelope>>(
     ensures opened { IfOk result (λ r. r.1 ≡ min (meet_of_roots (meets_by T.Envelope.boxes U.seen)
         T.object.box_of U.object.box_of (root_of left.now) (root_of right.now)) usize.MAX) }
 {
-    let joined = paired(alloc, left.intersection_candidates_with_other_tree(right)?)?;
-    Ok(joined)
+    match left.intersection_candidates_with_other_tree(right) {
+        Ok(pairs) => paired(alloc, pairs),
+        Err(refused) => Err(refused),
+    }
 }
 
 /// The pairs of a plot and a point that meet.
@@ -91,8 +93,8 @@ fn count<T: RTreeObject, U: InEnvelope<T::Envelope>>(
     requires left { IsWholeTree T.Envelope.boxes T.object ⟦<DefaultParams as RTreeParams>⟧.MAX_SIZE left.now }
     requires right { IsWholeTree U.Envelope.boxes U.object ⟦<DefaultParams as RTreeParams>⟧.MAX_SIZE right.now }
 {
-    match joined(alloc, left, right) {
-        Ok((pairs, opened)) => Some((pairs.len(), opened)),
+    match &joined(alloc, left, right) {
+        Ok((pairs, opened)) => Some((pairs.len(), *opened)),
         Err(_) => None,
     }
 }
@@ -107,45 +109,17 @@ fn plots<P: Point + Copy>(alloc: Global, corners: &[(P, P)]) -> Result<Vec<PlotA
     Ok(all)
 }
 
-/// Whether a join of two trees of elements of one type counts so, and that of the second with the first.
-fn meet_alike<T: RTreeObject>(
-    alloc: Global,
-    left: &RTree<T>,
-    right: &RTree<T>,
-    counts: (usize, usize),
-) -> bool
-    requires left { IsWholeTree T.Envelope.boxes T.object ⟦<DefaultParams as RTreeParams>⟧.MAX_SIZE left.now }
-    requires right { IsWholeTree T.Envelope.boxes T.object ⟦<DefaultParams as RTreeParams>⟧.MAX_SIZE right.now }
-{
-    count(alloc, left, right) == Some(counts) && count(alloc, right, left) == Some(counts)
-}
-
-/// The same of elements of two types.
-fn meet_both_ways<
-    T: InEnvelope<<U as RTreeObject>::Envelope>,
-    U: InEnvelope<<T as RTreeObject>::Envelope>,
->(alloc: Global, left: &RTree<T>, right: &RTree<U>, counts: (usize, usize)) -> bool
-    requires left { IsWholeTree T.Envelope.boxes T.object ⟦<DefaultParams as RTreeParams>⟧.MAX_SIZE left.now }
-    requires right { IsWholeTree U.Envelope.boxes U.object ⟦<DefaultParams as RTreeParams>⟧.MAX_SIZE right.now }
-{
-    count(alloc, left, right) == Some(counts) && count(alloc, right, left) == Some(counts)
-}
-
-/// Whether elements meet others so, those points so, and the points themselves so.
+/// Whether the joins of two trees of these elements, either of them on the left, count so.
 fn meet<
     T: InEnvelope<<U as RTreeObject>::Envelope> + Copy,
     U: InEnvelope<<T as RTreeObject>::Envelope> + Copy,
->(alloc: Global, lefts: &[T], rights: &[T], points: &[U], counts: [(usize, usize); 3]) -> bool {
-    let [given, with_points, of_points] = counts;
+>(alloc: Global, lefts: &[T], rights: &[U], counts: (usize, usize)) -> bool {
     let left = inserted(alloc, lefts);
     let right = inserted(alloc, rights);
-    let third = inserted(alloc, points);
     left.size() == lefts.len()
         && right.size() == rights.len()
-        && third.size() == points.len()
-        && meet_alike(alloc, &left, &right, given)
-        && meet_both_ways(alloc, &left, &third, with_points)
-        && meet_alike(alloc, &third, &third, of_points)
+        && count(alloc, &left, &right) == Some(counts)
+        && count(alloc, &right, &left) == Some(counts)
 }
 
 const SQUARE: Corners = ([0, 0], [2, 2]);
@@ -212,27 +186,26 @@ const MEETINGS: [Meeting; 10] = [
     ),
 ];
 
-/// The same of plots between these corners.
+/// Whether plots between these corners meet others so, those points so, and the points themselves so.
 fn plots_meet<P: Point + Copy>(
     alloc: Global,
     lefts: &[(P, P)],
     rights: &[(P, P)],
     points: &[P],
-    counts: [(usize, usize); 3],
+    counts: &[(usize, usize); 3],
 ) -> Result<bool, AllocError> {
-    Ok(meet(
-        alloc,
-        &plots(alloc, lefts)?,
-        &plots(alloc, rights)?,
-        points,
-        counts,
-    ))
+    let lefts = plots(alloc, lefts)?;
+    Ok(
+        meet(alloc, &lefts, &plots(alloc, rights)?, counts[0])
+            && meet(alloc, &lefts, points, counts[1])
+            && meet(alloc, points, points, counts[2]),
+    )
 }
 
 #[test]
 fn pairs_that_intersect(rt: HostRuntime) -> Result<(), Fail> {
-    for (lefts, rights, points, counts) in MEETINGS {
-        assert!(rt; plots_meet(rt.alloc(), lefts, rights, points, counts)?);
+    for &(lefts, rights, points, counts) in &MEETINGS {
+        assert!(rt; plots_meet(rt.alloc(), lefts, rights, points, &counts)?);
     }
     Ok(())
 }
@@ -334,7 +307,7 @@ fn apart(alloc: Global, count: usize, is_odd: bool) -> Result<Vec<[i32; 2]>, All
 // rstar's `test_trivial_intersections`: how many points of a parity, and how many of the other.
 #[test]
 fn points_meet_themselves_alone(rt: HostRuntime) -> Result<(), Fail> {
-    for (count, is_odd, others) in [(1000, false, 2000), (2000, true, 1000)] {
+    for &(count, is_odd, others) in &[(1000, false, 2000), (2000, true, 1000)] {
         let all = apart(rt.alloc(), count, is_odd)?;
         let rest = apart(rt.alloc(), others, !is_odd)?;
         assert!(rt; met_by_loads(rt.alloc(), &all, &rest, 0, count));
@@ -362,7 +335,7 @@ fn spread(
 // rstar's `test_intersection_between_trees`: loads of 100 and of 42 rectangles; and some that split more.
 #[test]
 fn joins_give_what_a_scan_gives(rt: HostRuntime) -> Result<(), Fail> {
-    for (left, right) in [(100, 42), (42, 100), (3, 500), (300, 300)] {
+    for &(left, right) in &[(100, 42), (42, 100), (3, 500), (300, 300)] {
         let lefts = plots(rt.alloc(), &spread(rt.alloc(), left, 37, 53)?)?;
         let rights = plots(rt.alloc(), &spread(rt.alloc(), right, 59, 31)?)?;
         assert!(rt;

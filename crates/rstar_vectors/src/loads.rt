@@ -97,31 +97,41 @@ fn are_all_parted<T: RTreeObject>(parts: &[Vec<T>]) -> bool {
     true
 }
 
-/// Whether parents, so many levels above the lowest of them, are cut as a load cuts: more than `MAX_SIZE` elements, at
-/// most half of them below each child, at most `most` children, and any two of them parted.
-fn is_cut<T: RTreeObject + Copy, Params: RTreeParams>(
+/// Whether these parts of a parent with so many children are as a load cuts them: more than `wide` elements, at most
+/// half of them in each part, at most `most` parts, and any two of them parted.
+fn are_cut<T: RTreeObject>(parts: &[Vec<T>], children: usize, wide: usize, most: usize) -> bool {
+    let mut count = 0usize;
+    let mut longest = 0usize;
+    for own in parts {
+        count = count.saturating_add(own.len());
+        longest = longest.max(own.len());
+    }
+    wide < count
+        && longest <= count.div_ceil(2)
+        && parts.len() == children
+        && children <= most
+        && are_all_parted(parts)
+}
+
+/// Whether parents, so many levels above the lowest of them, are cut as a load cuts.
+fn is_cut<T: RTreeObject + Copy>(
     alloc: Global,
     parent: &ParentNode<T>,
     levels: usize,
+    wide: usize,
     most: usize,
 ) -> Result<bool, AllocError> {
     if levels == 0 {
         return Ok(true);
     }
-    let parts = parts_of(alloc, parent, levels - 1)?;
-    let mut count = 0usize;
-    for own in parts.iter() {
-        count = count.saturating_add(own.len());
-    }
-    let half = count.div_ceil(2);
-    let mut is_so = Params::MAX_SIZE < count
-        && parts.len() == parent.children().len()
-        && parts.len() <= most
-        && parts.iter().all(|own| own.len() <= half)
-        && are_all_parted(&parts);
+    let children = parent.children().len();
+    let mut is_so = match &parts_of(alloc, parent, levels - 1) {
+        Ok(parts) => are_cut(parts, children, wide, most),
+        Err(_) => return Err(AllocError),
+    };
     for node in parent.children() {
         if let RTreeNode::Parent(part) = node {
-            is_so = is_cut::<T, Params>(alloc, part, levels - 1, most)? && is_so;
+            is_so = is_cut(alloc, part, levels - 1, wide, most)? && is_so;
         }
     }
     Ok(is_so)
@@ -156,6 +166,21 @@ fn held<T: RTreeObject + Copy>(
 
 // ---- loads
 
+/// Whether the elements below a root, at most `levels` levels of parents down, are these, in some order.
+fn has_all<T: RTreeObject + Copy + Ord>(
+    alloc: Global,
+    root: &ParentNode<T>,
+    levels: usize,
+    elements: &[T],
+) -> Result<bool, AllocError> {
+    let mut sources = elements.to_vec(alloc)?;
+    let mut all = Vec::new(alloc);
+    gather(root.children(), levels, &mut all)?;
+    all.sort_unstable();
+    sources.sort_unstable();
+    Ok(all == sources)
+}
+
 /// Whether a load of these elements has them all, and is loaded.
 fn loads_well<T: RTreeObject + Copy + Ord, Params: RTreeParams>(
     alloc: Global,
@@ -164,19 +189,14 @@ fn loads_well<T: RTreeObject + Copy + Ord, Params: RTreeParams>(
 ) -> Result<bool, AllocError>
     requires { 2 ≤ T.Envelope.Point.DIMENSIONS }
 {
-    let mut sources = elements.to_vec(alloc)?;
-    let mut all = Vec::new(alloc);
     let tree: RTree<T, Params> = loaded(alloc, elements);
     let root = tree.root();
     let levels = levels_of(root);
-    gather(root.children(), levels, &mut all)?;
-    all.sort_unstable();
-    sources.sort_unstable();
     Ok(
-        all == sources
-            && tree.size() == elements.len()
+        tree.size() == elements.len()
             && stands(&tree)
-            && is_cut::<T, Params>(alloc, root, levels, most)?
+            && has_all(alloc, root, levels, elements)?
+            && is_cut(alloc, root, levels, Params::MAX_SIZE, most)?
             && narrowest(root, levels) <= Params::MAX_SIZE,
     )
 }
@@ -224,6 +244,15 @@ fn loads_of_many_sizes_are_loaded(rt: HostRuntime) -> Result<(), Fail> {
     Ok(())
 }
 
+/// Whether the children of a root have so many elements below them, in rising order.
+fn has_parts<T: RTreeObject + Copy>(
+    alloc: Global,
+    root: &ParentNode<T>,
+    parts: &[usize],
+) -> Result<bool, AllocError> {
+    Ok(held(alloc, root)?.as_slice() == parts)
+}
+
 /// Whether each child of a root has its elements in such parts.
 fn children_have_parts<T: RTreeObject + Copy>(
     alloc: Global,
@@ -234,7 +263,7 @@ fn children_have_parts<T: RTreeObject + Copy>(
         match node {
             RTreeNode::Leaf(_) => return Ok(false),
             RTreeNode::Parent(part) => {
-                if held(alloc, part)?.as_slice() != parts {
+                if !has_parts(alloc, part, parts)? {
                     return Ok(false);
                 }
             }
@@ -256,10 +285,7 @@ fn loads_in_parts<T: RTreeObject + Copy>(
 {
     let tree: RTree<T> = loaded(alloc, elements);
     let root = tree.root();
-    if !stands(&tree)
-        || levels_of(root) != levels
-        || held(alloc, root)?.as_slice() != parts
-    {
+    if !stands(&tree) || levels_of(root) != levels || held(alloc, root)?.as_slice() != parts {
         return Ok(false);
     }
     match below {
@@ -272,7 +298,7 @@ fn loads_in_parts<T: RTreeObject + Copy>(
 // these are alike how many are below each child of them.
 #[test]
 fn loads_have_their_parts(rt: HostRuntime) -> Result<(), Fail> {
-    let rows: [(usize, usize, &[usize], Option<&[usize]>); 8] = [
+    const ROWS: [(usize, usize, &'static [usize], Option<&'static [usize]>); 8] = [
         (0, 0, &[], None),
         (6, 0, &[], None),
         (7, 1, &[1, 2, 2, 2], None),
@@ -282,7 +308,7 @@ fn loads_have_their_parts(rt: HostRuntime) -> Result<(), Fail> {
         (36, 2, &[9, 9, 9, 9], None),
         (37, 2, &[9, 9, 9, 10], None),
     ];
-    for (count, levels, parts, below) in rows {
+    for &(count, levels, parts, below) in &ROWS {
         let flat = points(rt.alloc(), count)?;
         assert!(rt;
             loads_in_parts(rt.alloc(), &flat, levels, parts, below)?,
@@ -305,8 +331,10 @@ fn root_has_parts<T: RTreeObject + Copy>(
     if elements.is_empty() || !none_empty(&elements) {
         return Ok(false);
     }
-    let root = bulk_load_sequential::<T, DefaultParams>(elements)?;
-    Ok(held(alloc, &root)?.as_slice() == parts)
+    match &bulk_load_sequential::<T, DefaultParams>(elements) {
+        Ok(root) => has_parts(alloc, root, parts),
+        Err(_) => Err(AllocError),
+    }
 }
 
 #[test]
@@ -391,15 +419,34 @@ fn loaded_trees_take_insertions(rt: HostRuntime) -> Result<(), Fail> {
 // ---- clones and texts
 
 /// Whether this text is what a value shows.
-fn shows<V: Debug>(alloc: Global, value: &V, text: &str) -> bool {
+pub(crate) fn shows<V: Debug>(alloc: Global, value: &V, text: &str) -> bool {
     match format!(in alloc; "{value:?}") {
         Ok(shown) => shown.as_str() == text,
         Err(_) => false,
     }
 }
 
-/// Whether a clone of a tree shows what the tree shows, and an element that goes into the clone does not go into the
-/// tree.
+/// Whether a copy of a tree shows what the tree showed, and an element that goes into the copy does not go into the tree.
+fn stays_alone<T: RTreeObject + Copy + Debug>(
+    alloc: Global,
+    tree: &RTree<T>,
+    copy: &mut RTree<T>,
+    element: T,
+    text: &str,
+) -> bool
+    requires { IsWholeTree T.Envelope.boxes T.object ⟦<DefaultParams as RTreeParams>⟧.MAX_SIZE copy.old }
+{
+    let count = tree.size();
+    copy.size() == count
+        && shows(alloc, copy.root(), text)
+        && !element.envelope().is_empty()
+        && copy.insert(element).is_ok()
+        && tree.size() == count
+        && count < copy.size()
+        && shows(alloc, tree.root(), text)
+}
+
+/// The same of a clone of a tree.
 fn clones_alone<T: RTreeObject + Copy + Debug>(
     alloc: Global,
     tree: &RTree<T>,
@@ -408,18 +455,11 @@ fn clones_alone<T: RTreeObject + Copy + Debug>(
     requires whole { IsWholeTree T.Envelope.boxes T.object ⟦<DefaultParams as RTreeParams>⟧.MAX_SIZE tree.now }
     requires exact { ClonesEqual T.is_clone }
 {
-    let count = tree.size();
-    let before = format!(in alloc; "{:?}", tree.root())?;
-    let mut copy = tree.clone()?;
-    Ok(
-        copy.size() == count
-            && shows(alloc, copy.root(), &before)
-            && !element.envelope().is_empty()
-            && copy.insert(element).is_ok()
-            && tree.size() == count
-            && count < copy.size()
-            && shows(alloc, tree.root(), &before),
-    )
+    let text = format!(in alloc; "{:?}", tree.root())?;
+    match tree.clone() {
+        Ok(mut copy) => Ok(stays_alone(alloc, tree, &mut copy, element, &text)),
+        Err(refused) => Err(refused),
+    }
 }
 
 /// The same of a load of these elements.
@@ -454,7 +494,7 @@ fn prints<T: RTreeObject + Copy + Debug>(alloc: Global, elements: &[T], text: &s
 
 #[test]
 fn a_tree_prints_its_size_and_elements(rt: HostRuntime) -> Result<(), Fail> {
-    let rows = [
+    const ROWS: [(usize, &'static str); 3] = [
         (2, "RTree { size: 2, items: {[0, 1], [0, 1]} }"),
         (0, "RTree { size: 0, items: {} }"),
         (
@@ -462,7 +502,7 @@ fn a_tree_prints_its_size_and_elements(rt: HostRuntime) -> Result<(), Fail> {
             "RTree { size: 9, items: {[0, 1], [0, 1], [0, 1], [0, 1], [0, 1], [0, 1], [0, 1], [0, 1], [0, 1]} }",
         ),
     ];
-    for (count, text) in rows {
+    for &(count, text) in &ROWS {
         let same = vec![in rt.alloc(); [0, 1]; count]?;
         assert!(rt; prints(rt.alloc(), &same, text), "{count}");
     }
@@ -509,7 +549,7 @@ fn may_be_asked_again<T: RTreeObject + Copy>(
 /// `rt try --test --fail-alloc N` refuses the Nth allocation: what was refused is asked once more.
 #[test]
 fn a_refused_load_or_clone_may_be_asked_again(rt: HostRuntime) -> Result<(), Fail> {
-    for (count, part) in [(25, 6), (28, 7)] {
+    for &(count, part) in &[(25, 6), (28, 7)] {
         let flat = match points(rt.alloc(), count) {
             Ok(flat) => flat,
             Err(_) => points(rt.alloc(), count)?,

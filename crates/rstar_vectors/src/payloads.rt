@@ -42,125 +42,203 @@ pub fn walked<'a, T: RTreeObject, Func: SelectionFunction<T>>(
     Ok((all, walk.opened()))
 }
 
-/// All elements, those in an envelope, and those within a squared distance of a point: by `iter`, `locate_in_envelope`
-/// and `locate_within_distance`.
-fn found<'a, T: PointDistance>(
+/// All elements, by `iter`.
+fn all_of<'a, T: RTreeObject>(
+    alloc: Global,
+    tree: &'a RTree<T>,
+) -> Result<Walked<'a, T>, AllocError>
+    requires { IsWholeTree T.Envelope.boxes T.object ⟦<DefaultParams as RTreeParams>⟧.MAX_SIZE tree.now }
+    ensures given { IfOk result (λ r. map (λ t. t.now) r.0.items ≡ elements_in tree.now) }
+    ensures opened { IfOk result (λ r. r.1 ≡ min (reach_of (λ e. true) (root_of tree.now)) usize.MAX) }
+{
+    match tree.iter() {
+        Ok(walk) => walked(alloc, walk),
+        Err(refused) => Err(refused),
+    }
+}
+
+/// All points.
+pub fn all_points<'a>(
+    alloc: Global,
+    tree: &'a RTree<[i64; 2]>,
+) -> Result<Walked<'a, [i64; 2]>, AllocError>
+    requires { IsWholeTree ⟦<AABB<[i64; 2]> as Envelope>⟧.boxes ⟦<[i64; 2] as RTreeObject>⟧.object
+        ⟦<DefaultParams as RTreeParams>⟧.MAX_SIZE tree.now }
+    ensures given { IfOk result (λ r. map (λ t. t.now) r.0.items ≡ elements_in tree.now) }
+    ensures opened { IfOk result (λ r. r.1 ≡ min (reach_of (λ e. true) (root_of tree.now)) usize.MAX) }
+{
+    all_of(alloc, tree)
+}
+
+/// The elements in an envelope, by `locate_in_envelope`.
+fn inside<'a, T: RTreeObject>(
     alloc: Global,
     tree: &'a RTree<T>,
     area: T::Envelope,
-    point: PointOf<T>,
-    limit: Distance<T>,
-) -> Result<(Walked<'a, T>, Walked<'a, T>, Walked<'a, T>), AllocError>
+) -> Result<Walked<'a, T>, AllocError>
     requires { IsWholeTree T.Envelope.boxes T.object ⟦<DefaultParams as RTreeParams>⟧.MAX_SIZE tree.now }
-    ensures all { IfOk result (λ r. map (λ t. t.now) r.0.0.items ≡ elements_in tree.now) }
-    ensures inside { IfOk result (λ r. map (λ t. t.now) r.1.0.items ≡ filter
+    ensures given { IfOk result (λ r. map (λ t. t.now) r.0.items ≡ filter
         (λ t. T.Envelope.boxes.contains area (T.object.box_of t)) (elements_in tree.now)) }
-    ensures near { IfOk result (λ r. map (λ t. t.now) r.2.0.items ≡ filter
-        (λ t. int_le (pos (T.distances.distance_2 t (table T.Envelope.Point.DIMENSIONS
-        (T.Envelope.Point.coord point)))) (T.Envelope.Point.Scalar.value limit)) (elements_in tree.now)) }
-    ensures opened_all { IfOk result (λ r. r.0.1 ≡ min (reach_of (λ e. true) (root_of tree.now)) usize.MAX) }
-    ensures opened_inside { IfOk result (λ r. r.1.1
-        ≡ min (reach_of (λ e. T.Envelope.boxes.intersects area e) (root_of tree.now)) usize.MAX) }
-    ensures opened_near { IfOk result (λ r. r.2.1 ≡ min (reach_of (λ e. int_le
-        (pos (T.Envelope.boxes.distance_2 e (table T.Envelope.Point.DIMENSIONS (T.Envelope.Point.coord point))))
-        (T.Envelope.Point.Scalar.value limit)) (root_of tree.now)) usize.MAX) }
+    ensures opened { IfOk result (λ r. r.1 ≡ min (reach_of (λ e. T.Envelope.boxes.intersects area e) (root_of tree.now)) usize.MAX) }
 {
-    let all = walked(alloc, tree.iter()?)?;
-    let inside = walked(alloc, tree.locate_in_envelope(area)?)?;
-    let near = walked(alloc, tree.locate_within_distance(point, limit)?)?;
-    Ok((all, inside, near))
+    match tree.locate_in_envelope(area) {
+        Ok(walk) => walked(alloc, walk),
+        Err(refused) => Err(refused),
+    }
 }
 
-/// The same of points, and of a distance of 10.
-pub fn points_found<'a>(
+/// The points in a box.
+pub fn points_inside<'a>(
     alloc: Global,
     tree: &'a RTree<[i64; 2]>,
     area: AABB<[i64; 2]>,
-    point: [i64; 2],
-) -> Result<
-    (
-        Walked<'a, [i64; 2]>,
-        Walked<'a, [i64; 2]>,
-        Walked<'a, [i64; 2]>,
-    ),
-    AllocError,
->
+) -> Result<Walked<'a, [i64; 2]>, AllocError>
     requires { IsWholeTree ⟦<AABB<[i64; 2]> as Envelope>⟧.boxes ⟦<[i64; 2] as RTreeObject>⟧.object
         ⟦<DefaultParams as RTreeParams>⟧.MAX_SIZE tree.now }
-    ensures all { IfOk result (λ r. map (λ t. t.now) r.0.0.items ≡ elements_in tree.now) }
-    ensures inside { IfOk result (λ r. map (λ t. t.now) r.1.0.items ≡ filter
+    ensures given { IfOk result (λ r. map (λ t. t.now) r.0.items ≡ filter
         (λ t. contains_box area (⟦<[i64; 2] as RTreeObject>⟧.object.box_of t)) (elements_in tree.now)) }
-    ensures near { IfOk result (λ r. map (λ t. t.now) r.2.0.items ≡ filter
-        (λ t. int_le (pos (⟦<[i64; 2] as PointDistance>⟧.distances.distance_2 t
-        (table 2 (⟦<[i64; 2] as Point>⟧.coord point)))) (pos 100)) (elements_in tree.now)) }
-    ensures opened_all { IfOk result (λ r. r.0.1 ≡ min (reach_of (λ e. true) (root_of tree.now)) usize.MAX) }
-    ensures opened_inside { IfOk result (λ r. r.1.1
-        ≡ min (reach_of (λ e. boxes_intersect area e) (root_of tree.now)) usize.MAX) }
-    ensures opened_near { IfOk result (λ r. r.2.1 ≡ min (reach_of (λ e. int_le
-        (pos (⟦<AABB<[i64; 2]> as Envelope>⟧.boxes.distance_2 e
-        (table 2 (⟦<[i64; 2] as Point>⟧.coord point)))) (pos 100))
-        (root_of tree.now)) usize.MAX) }
+    ensures opened { IfOk result (λ r. r.1 ≡ min (reach_of (λ e. boxes_intersect area e) (root_of tree.now)) usize.MAX) }
 {
-    found(alloc, tree, area, point, 100)
+    inside(alloc, tree, area)
 }
 
-/// The elements that an envelope touches, those that contain a point, and those that equal one: by
-/// `locate_in_envelope_intersecting`, `locate_all_at_point`, and `locate_with_selection_function` with a
-/// `SelectEqualsFunction`.
-fn met<'a, T: PointDistance + EqualEnvelopes>(
+/// The elements within a squared distance of a point, by `locate_within_distance`.
+fn near<'a, T: PointDistance>(
+    alloc: Global,
+    tree: &'a RTree<T>,
+    point: PointOf<T>,
+    limit: Distance<T>,
+) -> Result<Walked<'a, T>, AllocError>
+    requires { IsWholeTree T.Envelope.boxes T.object ⟦<DefaultParams as RTreeParams>⟧.MAX_SIZE tree.now }
+    ensures given { IfOk result (λ r. map (λ t. t.now) r.0.items ≡ filter
+        (λ t. int_le (pos (T.distances.distance_2 t (table T.Envelope.Point.DIMENSIONS
+        (T.Envelope.Point.coord point)))) (T.Envelope.Point.Scalar.value limit)) (elements_in tree.now)) }
+    ensures opened { IfOk result (λ r. r.1 ≡ min (reach_of (λ e. int_le
+        (pos (T.Envelope.boxes.distance_2 e (table T.Envelope.Point.DIMENSIONS (T.Envelope.Point.coord point))))
+        (T.Envelope.Point.Scalar.value limit)) (root_of tree.now)) usize.MAX) }
+{
+    match tree.locate_within_distance(point, limit) {
+        Ok(walk) => walked(alloc, walk),
+        Err(refused) => Err(refused),
+    }
+}
+
+/// The points within a distance of 10 of a point.
+pub fn points_near<'a>(
+    alloc: Global,
+    tree: &'a RTree<[i64; 2]>,
+    point: [i64; 2],
+) -> Result<Walked<'a, [i64; 2]>, AllocError>
+    requires { IsWholeTree ⟦<AABB<[i64; 2]> as Envelope>⟧.boxes ⟦<[i64; 2] as RTreeObject>⟧.object
+        ⟦<DefaultParams as RTreeParams>⟧.MAX_SIZE tree.now }
+    ensures given { IfOk result (λ r. map (λ t. t.now) r.0.items ≡ filter
+        (λ t. int_le (pos (⟦<[i64; 2] as PointDistance>⟧.distances.distance_2 t
+        (table 2 (⟦<[i64; 2] as Point>⟧.coord point)))) (pos 100)) (elements_in tree.now)) }
+    ensures opened { IfOk result (λ r. r.1 ≡ min (reach_of (λ e. int_le
+        (pos (⟦<AABB<[i64; 2]> as Envelope>⟧.boxes.distance_2 e
+        (table 2 (⟦<[i64; 2] as Point>⟧.coord point)))) (pos 100)) (root_of tree.now)) usize.MAX) }
+{
+    near(alloc, tree, point, 100)
+}
+
+/// The elements that an envelope touches, by `locate_in_envelope_intersecting`.
+fn touched<'a, T: RTreeObject>(
     alloc: Global,
     tree: &'a RTree<T>,
     area: T::Envelope,
-    point: PointOf<T>,
-    wanted: &T,
-) -> Result<(Walked<'a, T>, Walked<'a, T>, Walked<'a, T>), AllocError>
+) -> Result<Walked<'a, T>, AllocError>
     requires { IsWholeTree T.Envelope.boxes T.object ⟦<DefaultParams as RTreeParams>⟧.MAX_SIZE tree.now }
-    ensures touching { IfOk result (λ r. map (λ t. t.now) r.0.0.items ≡ filter
+    ensures given { IfOk result (λ r. map (λ t. t.now) r.0.items ≡ filter
         (λ t. T.Envelope.boxes.intersects area (T.object.box_of t)) (elements_in tree.now)) }
-    ensures here { IfOk result (λ r. map (λ t. t.now) r.1.0.items ≡ filter
-        (λ t. T.distances.contains_point t (table T.Envelope.Point.DIMENSIONS (T.Envelope.Point.coord point)))
-        (elements_in tree.now)) }
-    ensures equal { IfOk result (λ r. map (λ t. t.now) r.2.0.items ≡ filter
-        (λ t. T.eq t wanted.now) (elements_in tree.now)) }
-    ensures opened_touching { IfOk result (λ r. r.0.1
-        ≡ min (reach_of (λ e. T.Envelope.boxes.intersects area e) (root_of tree.now)) usize.MAX) }
-    ensures opened_here { IfOk result (λ r. r.1.1 ≡ min (reach_of (λ e. T.Envelope.boxes.contains_point e
-        (table T.Envelope.Point.DIMENSIONS (T.Envelope.Point.coord point))) (root_of tree.now)) usize.MAX) }
-    ensures opened_equal { IfOk result (λ r. r.2.1 ≡ min (reach_of
-        (λ e. T.Envelope.boxes.contains e (T.object.box_of wanted.now)) (root_of tree.now)) usize.MAX) }
+    ensures opened { IfOk result (λ r. r.1 ≡ min (reach_of (λ e. T.Envelope.boxes.intersects area e) (root_of tree.now)) usize.MAX) }
 {
-    let touching = walked(alloc, tree.locate_in_envelope_intersecting(area)?)?;
-    let here = walked(alloc, tree.locate_all_at_point(point)?)?;
-    let func = SelectEqualsFunction::new(wanted);
-    let equal = walked(alloc, tree.locate_with_selection_function(func)?)?;
-    Ok((touching, here, equal))
+    match tree.locate_in_envelope_intersecting(area) {
+        Ok(walk) => walked(alloc, walk),
+        Err(refused) => Err(refused),
+    }
 }
 
-/// The same of plots.
-pub fn plots_met<'a>(
+/// The plots that a box touches.
+pub fn plots_touched<'a>(
     alloc: Global,
     tree: &'a RTree<Plot>,
     area: AABB<[i64; 2]>,
-    point: [i64; 2],
-    wanted: &Plot,
-) -> Result<(Walked<'a, Plot>, Walked<'a, Plot>, Walked<'a, Plot>), AllocError>
+) -> Result<Walked<'a, Plot>, AllocError>
     requires { IsWholeTree ⟦<AABB<[i64; 2]> as Envelope>⟧.boxes ⟦<Plot as RTreeObject>⟧.object
         ⟦<DefaultParams as RTreeParams>⟧.MAX_SIZE tree.now }
-    ensures touching { IfOk result (λ r. map (λ t. t.now) r.0.0.items ≡ filter
+    ensures given { IfOk result (λ r. map (λ t. t.now) r.0.items ≡ filter
         (λ t. boxes_intersect area (⟦<Plot as RTreeObject>⟧.object.box_of t)) (elements_in tree.now)) }
-    ensures here { IfOk result (λ r. map (λ t. t.now) r.1.0.items ≡ filter
+    ensures opened { IfOk result (λ r. r.1 ≡ min (reach_of (λ e. boxes_intersect area e) (root_of tree.now)) usize.MAX) }
+{
+    touched(alloc, tree, area)
+}
+
+/// The elements that contain a point, by `locate_all_at_point`.
+fn here<'a, T: PointDistance>(
+    alloc: Global,
+    tree: &'a RTree<T>,
+    point: PointOf<T>,
+) -> Result<Walked<'a, T>, AllocError>
+    requires { IsWholeTree T.Envelope.boxes T.object ⟦<DefaultParams as RTreeParams>⟧.MAX_SIZE tree.now }
+    ensures given { IfOk result (λ r. map (λ t. t.now) r.0.items ≡ filter
+        (λ t. T.distances.contains_point t (table T.Envelope.Point.DIMENSIONS (T.Envelope.Point.coord point)))
+        (elements_in tree.now)) }
+    ensures opened { IfOk result (λ r. r.1 ≡ min (reach_of (λ e. T.Envelope.boxes.contains_point e
+        (table T.Envelope.Point.DIMENSIONS (T.Envelope.Point.coord point))) (root_of tree.now)) usize.MAX) }
+{
+    match tree.locate_all_at_point(point) {
+        Ok(walk) => walked(alloc, walk),
+        Err(refused) => Err(refused),
+    }
+}
+
+/// The plots that contain a point.
+pub fn plots_here<'a>(
+    alloc: Global,
+    tree: &'a RTree<Plot>,
+    point: [i64; 2],
+) -> Result<Walked<'a, Plot>, AllocError>
+    requires { IsWholeTree ⟦<AABB<[i64; 2]> as Envelope>⟧.boxes ⟦<Plot as RTreeObject>⟧.object
+        ⟦<DefaultParams as RTreeParams>⟧.MAX_SIZE tree.now }
+    ensures given { IfOk result (λ r. map (λ t. t.now) r.0.items ≡ filter
         (λ t. ⟦<Plot as PointDistance>⟧.distances.contains_point t (table 2 (⟦<[i64; 2] as Point>⟧.coord point)))
         (elements_in tree.now)) }
-    ensures equal { IfOk result (λ r. map (λ t. t.now) r.2.0.items ≡ filter
-        (λ t. ⟦<Plot as PartialEq>⟧.eq t wanted.now) (elements_in tree.now)) }
-    ensures opened_touching { IfOk result (λ r. r.0.1
-        ≡ min (reach_of (λ e. boxes_intersect area e) (root_of tree.now)) usize.MAX) }
-    ensures opened_here { IfOk result (λ r. r.1.1 ≡ min (reach_of
-        (λ e. box_contains_point e (table 2 (⟦<[i64; 2] as Point>⟧.coord point))) (root_of tree.now)) usize.MAX) }
-    ensures opened_equal { IfOk result (λ r. r.2.1 ≡ min (reach_of
-        (λ e. contains_box e (⟦<Plot as RTreeObject>⟧.object.box_of wanted.now)) (root_of tree.now)) usize.MAX) }
+    ensures opened { IfOk result (λ r. r.1 ≡ min (reach_of (λ e. box_contains_point e (table 2 (⟦<[i64; 2] as Point>⟧.coord point))) (root_of tree.now)) usize.MAX) }
 {
-    met(alloc, tree, area, point, wanted)
+    here(alloc, tree, point)
+}
+
+/// The elements that equal one, by `locate_with_selection_function` with a `SelectEqualsFunction`.
+fn equal<'a, T: EqualEnvelopes>(
+    alloc: Global,
+    tree: &'a RTree<T>,
+    wanted: &T,
+) -> Result<Walked<'a, T>, AllocError>
+    requires { IsWholeTree T.Envelope.boxes T.object ⟦<DefaultParams as RTreeParams>⟧.MAX_SIZE tree.now }
+    ensures given { IfOk result (λ r. map (λ t. t.now) r.0.items ≡ filter
+        (λ t. T.eq t wanted.now) (elements_in tree.now)) }
+    ensures opened { IfOk result (λ r. r.1 ≡ min (reach_of (λ e. T.Envelope.boxes.contains e (T.object.box_of wanted.now)) (root_of tree.now)) usize.MAX) }
+{
+    let func = SelectEqualsFunction::new(wanted);
+    match tree.locate_with_selection_function(func) {
+        Ok(walk) => walked(alloc, walk),
+        Err(refused) => Err(refused),
+    }
+}
+
+/// The plots that equal one.
+pub fn equal_plots<'a>(
+    alloc: Global,
+    tree: &'a RTree<Plot>,
+    wanted: &Plot,
+) -> Result<Walked<'a, Plot>, AllocError>
+    requires { IsWholeTree ⟦<AABB<[i64; 2]> as Envelope>⟧.boxes ⟦<Plot as RTreeObject>⟧.object
+        ⟦<DefaultParams as RTreeParams>⟧.MAX_SIZE tree.now }
+    ensures given { IfOk result (λ r. map (λ t. t.now) r.0.items ≡ filter
+        (λ t. ⟦<Plot as PartialEq>⟧.eq t wanted.now) (elements_in tree.now)) }
+    ensures opened { IfOk result (λ r. r.1 ≡ min (reach_of (λ e. contains_box e (⟦<Plot as RTreeObject>⟧.object.box_of wanted.now)) (root_of tree.now)) usize.MAX) }
+{
+    equal(alloc, tree, wanted)
 }
 
 /// An element that contains a point, by `locate_at_point`, and one that contains another, by `locate_at_point_int`.
@@ -304,7 +382,7 @@ mod tests {
     #[test]
     fn a_number_is_written_where_a_plot_contains_the_point(rt: HostRuntime) {
         let plot = Plot::new(Rectangle::from_corners([0, 0], [2, 2]), 7);
-        for (point, other, is_inside) in [
+        for &(point, other, is_inside) in &[
             ([1, 1], [1, 1], true),
             ([3, 3], [1, 1], false),
             ([2, 2], [0, 0], true),

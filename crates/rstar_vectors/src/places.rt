@@ -4,6 +4,7 @@ ghost use Rattle.std.specs.Prelude.{◌≡◌, ◌∷◌, ◌≤◌, List, [], f
 ghost use Rattle.rstar.specs.Selections.{to_come, IsWalking};
 ghost use Rattle.rstar.specs.Trees.{IsWholeTree, elements_in};
 
+use crate::doors::Doors;
 use rstar::algorithm::selection_functions::SelectionFunction;
 use rstar::iterators::SelectionIterator;
 use rstar::params::{DefaultParams, InsertError, RTreeParams};
@@ -14,27 +15,6 @@ use rstar_base::object::RTreeObject;
 use rstar_base::point::Point;
 use std::alloc::{AllocError, Global};
 use std::test::Fail;
-
-/// An element type of one's own.
-#[derive(Drop)]
-struct Place {
-    at: [i64; 2],
-}
-
-impl RTreeObject for Place {
-    type Envelope = AABB<[i64; 2]>;
-
-    ghost object = { record {
-      IsValue = λ p. ⟦<[i64; 2] as RTreeObject>⟧.object.IsValue p.at;
-      box_of = λ p. ⟦<[i64; 2] as RTreeObject>⟧.object.box_of p.at;
-    } };
-
-    fn envelope(&self) -> AABB<[i64; 2]> {
-        self.at.envelope()
-    }
-
-    ghost object_law = { λ p h. h };
-}
 
 /// Two elements of any type.
 fn pair<T: RTreeObject>(alloc: Global, first: T, second: T) -> Result<RTree<T>, InsertError<T>>
@@ -63,7 +43,10 @@ fn listed<'a, T: RTreeObject>(alloc: Global, tree: &'a RTree<T>) -> Result<Vec<&
     requires { IsWholeTree T.Envelope.boxes T.object ⟦<DefaultParams as RTreeParams>⟧.MAX_SIZE tree.now }
     ensures { IfOk result (λ v. map (λ r. r.now) v.items ≡ elements_in tree.now) }
 {
-    tree.iter()?.collect(alloc)
+    match tree.iter() {
+        Ok(walk) => walk.collect(alloc),
+        Err(refused) => Err(refused),
+    }
 }
 
 /// What a walk gives, by a `for`.
@@ -91,8 +74,10 @@ fn inside<'a, T: RTreeObject>(
     ensures { IfOk result (λ v. map (λ r. r.now) v.items
         ≡ filter (λ t. T.Envelope.boxes.contains envelope (T.object.box_of t)) (elements_in tree.now)) }
 {
-    let all = taken(alloc, tree.locate_in_envelope(envelope)?)?;
-    Ok(all)
+    match tree.locate_in_envelope(envelope) {
+        Ok(walk) => taken(alloc, walk),
+        Err(refused) => Err(refused),
+    }
 }
 
 /// The first element inside an envelope that a `next` gives.
@@ -106,7 +91,10 @@ fn first_inside<T: RTreeObject>(
         (λ t. (rest : List T) × (filter
         (λ u. T.Envelope.boxes.contains envelope (T.object.box_of u)) (elements_in tree.now) ≡ t.now ∷ rest))) }
 {
-    Ok(tree.locate_in_envelope(envelope)?.next())
+    match tree.locate_in_envelope(envelope) {
+        Ok(mut walk) => Ok(walk.next()),
+        Err(refused) => Err(refused),
+    }
 }
 
 /// Whether a tree gives two elements, and so many inside an envelope.
@@ -158,7 +146,8 @@ fn two_elements(rt: HostRuntime) -> Result<(), Fail> {
     assert!(rt; matches!(two_points(rt.alloc()), Ok(2)));
     let area = AABB::from_corners([0, 0], [1, 2]);
     assert!(rt; gives_both(rt.alloc(), [1i64, 2], [3, 4], area, 1)?);
-    let (one, other) = (Place { at: [1, 2] }, Place { at: [1, 2] });
+    let (front, back) = ([1i64, 2], [1, 2]);
+    let (one, other) = (Doors { front, back }, Doors { front, back });
     assert!(rt; gives_both(rt.alloc(), one, other, area, 2)?);
     Ok(())
 }

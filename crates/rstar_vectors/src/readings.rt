@@ -142,7 +142,7 @@ mod tests {
     #[test]
     fn a_visit_comes_upon_what_is_selected(rt: HostRuntime) {
         let square = Plot::new(Rectangle::from_corners([0i64, 0], [2, 2]), 7);
-        for (one, other, point, plot, touched) in [
+        for &(one, other, point, plot, touched) in &[
             ([0, 0], [2, 2], true, true, true),
             ([1, 1], [1, 1], true, false, true),
             ([2, 2], [3, 3], false, false, true),

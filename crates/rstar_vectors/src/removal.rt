@@ -9,6 +9,7 @@ ghost use Rattle.rstar.specs.Trees.{IsWholeTree};
 use crate::neighbour_rows::take;
 use crate::node_sizes::Wide;
 use crate::scenarios::{ALONG_A_LINE, inserted, loaded, points, stands};
+use crate::selections::LeftOnly;
 use rstar::algorithm::selection_functions::{
     SelectAllFunc, SelectInEnvelopeFuncIntersecting, SelectionFunction,
 };
@@ -52,27 +53,9 @@ fn drain_some<T: RTreeObject, R: SelectionFunction<T>, Params: RTreeParams>(
     requires { IsWholeTree T.Envelope.boxes T.object Params.MAX_SIZE tree.old }
     ensures { IsWholeTree T.Envelope.boxes T.object Params.MAX_SIZE tree.new }
 {
-    let mut drain = tree.drain_with_selection_function(func)?;
-    Ok(call(&mut drain, most))
-}
-
-/// Opens the parents whose envelopes contain the point `[0, 0]`, and selects all leaves: it is not lawful.
-#[derive(Drop)]
-struct AboutZero;
-
-impl SelectionFunction<[i32; 2]> for AboutZero {
-    ghost use Rattle.std.specs.Prelude.{◌∷◌, [], true, pos};
-
-    ghost accepts = { λ _ e. ⟦<AABB<[i32; 2]> as Envelope>⟧.boxes.contains_point e (pos 0 ∷ pos 0 ∷ []) };
-
-    ghost selects = { λ _ _. true };
-
-    fn should_unpack_parent(&self, envelope: &AABB<[i32; 2]>) -> bool {
-        envelope.contains_point(&[0, 0])
-    }
-
-    fn should_unpack_leaf(&self, _leaf: &[i32; 2]) -> bool {
-        true
+    match tree.drain_with_selection_function(func) {
+        Ok(mut drain) => Ok(call(&mut drain, most)),
+        Err(refused) => Err(refused),
     }
 }
 
@@ -86,9 +69,11 @@ fn two_out_one_in<T: RTreeObject>(
     requires element { T.Envelope.boxes.is_empty (T.object.box_of one) ≡ false }
     ensures { IsWholeTree T.Envelope.boxes T.object ⟦<DefaultParams as RTreeParams>⟧.MAX_SIZE tree.new }
 {
-    {
-        let mut drain = tree.drain_in_envelope_intersecting(area)?;
-        let _came = call(&mut drain, 2);
+    match tree.drain_in_envelope_intersecting(area) {
+        Ok(mut drain) => {
+            let _came = call(&mut drain, 2);
+        }
+        Err(refused) => return Err(refused),
     }
     Ok(tree.insert(one).is_ok())
 }
@@ -104,6 +89,13 @@ fn two_points_out_one_in(
         ⟦<DefaultParams as RTreeParams>⟧.MAX_SIZE tree.new }
 {
     two_out_one_in(tree, area, [7, 8])
+}
+
+/// Whether a tree has an element to remove at a point, and none at another.
+fn is_at<T: PointDistance>(tree: &mut RTree<T>, point: PointOf<T>, other: PointOf<T>) -> bool
+    requires { IsWholeTree T.Envelope.boxes T.object ⟦<DefaultParams as RTreeParams>⟧.MAX_SIZE tree.old }
+{
+    tree.remove_at_point(other).is_none() && tree.remove_at_point(point).is_some()
 }
 
 /// Whether a tree of these elements stands after such a drain and an insertion with so many, none of them at the first
@@ -122,8 +114,7 @@ fn stands_with_one_in<T: PointDistance + Copy>(
         && matches!(two_out_one_in(&mut tree, area, one), Ok(true))
         && tree.size() == left
         && stands(&tree)
-        && tree.remove_at_point(first).is_none()
-        && tree.remove_at_point(other).is_some()
+        && is_at(&mut tree, other, first)
 }
 
 /// Drains at most so many elements, and gives how many came; none where the tree does not stand without them.
@@ -449,7 +440,7 @@ fn wide_nodes_are_drained(rt: HostRuntime) -> Result<(), Fail> {
 #[test]
 fn an_unlawful_drain_gives_what_it_reaches(rt: HostRuntime) {
     let far = [[100, 0], [101, 0], [102, 0], [103, 0]];
-    assert!(rt; drains_at_most(rt.alloc(), &ALONG_A_LINE, AboutZero, 3, &far));
+    assert!(rt; drains_at_most(rt.alloc(), &ALONG_A_LINE, LeftOnly, 3, &far));
 }
 
 #[test]

@@ -502,15 +502,26 @@ fn commands_of(alloc: Global, draws: &[Draw]) -> Result<Vec<Command<At>>, AllocE
     Ok(commands)
 }
 
+/// Whether replies, each with a size, are those to commands over a plain list, with as many points after each.
+fn are_right(
+    alloc: Global,
+    draws: &[Draw],
+    replies: &[(Reply<At>, usize)],
+) -> Result<bool, AllocError> {
+    let mut list = Vec::new(alloc);
+    let mut right = replies.len() == draws.len();
+    for (draw, (reply, size)) in draws.iter().zip(replies.iter()) {
+        right = is_right(alloc, &mut list, draw, reply)? && *size == list.len() && right;
+    }
+    Ok(right)
+}
+
 /// Whether commands, run one by one, are answered over a tree as over a plain list, with as many points after each.
 fn are_alike(alloc: Global, draws: &[Draw]) -> Result<bool, AllocError> {
-    let replies = replies_and_sizes(alloc, commands_of(alloc, draws)?)?;
-    let mut list = Vec::new(alloc);
-    let mut alike = replies.len() == draws.len();
-    for (draw, (reply, size)) in draws.iter().zip(replies.iter()) {
-        alike = is_right(alloc, &mut list, draw, reply)? && *size == list.len() && alike;
+    match &replies_and_sizes(alloc, commands_of(alloc, draws)?) {
+        Ok(replies) => are_right(alloc, draws, replies),
+        Err(_) => Err(AllocError),
     }
-    Ok(alike)
 }
 
 #[test]
@@ -537,32 +548,46 @@ fn given(reply: &Reply<At>) -> Option<usize> {
 /// What a command does, the place that it names, the number that it names, and how many elements its reply gives.
 type Row = (Kind, At, usize, usize);
 
-/// Whether the commands of some rows, run by one `replay`, give as many elements as the rows say, and run one by one
-/// are answered as over a list.
-fn go(alloc: Global, rows: &[Row]) -> Result<bool, AllocError> {
+/// The commands of some rows.
+fn draws_of(alloc: Global, rows: &[Row]) -> Result<Vec<Draw>, AllocError> {
     let mut draws = Vec::new(alloc);
-    for (kind, place, number, _) in rows {
+    for &(kind, place, number, _) in rows {
         draws.push(Draw {
-            kind: *kind,
+            kind,
             query: 0,
-            place: *place,
-            other: *place,
-            limit: i64::try_from(*number).unwrap_or(0),
-            most: *number,
+            place,
+            other: place,
+            limit: i64::try_from(number).unwrap_or(0),
+            most: number,
         })?;
     }
-    let replies = replies(alloc, commands_of(alloc, &draws)?)?;
+    Ok(draws)
+}
+
+/// Whether replies give as many elements as rows say.
+fn are_given(rows: &[Row], replies: &[Reply<At>]) -> bool {
     let mut right = replies.len() == rows.len();
     for (row, reply) in rows.iter().zip(replies.iter()) {
         right = given(reply) == Some(row.3) && right;
     }
+    right
+}
+
+/// Whether the commands of some rows, run by one `replay`, give as many elements as the rows say, and run one by one
+/// are answered as over a list.
+fn go(alloc: Global, rows: &[Row]) -> Result<bool, AllocError> {
+    let draws = draws_of(alloc, rows)?;
+    let right = match &replies(alloc, commands_of(alloc, &draws)?) {
+        Ok(replies) => are_given(rows, replies),
+        Err(_) => false,
+    };
     Ok(right && are_alike(alloc, &draws)?)
 }
 
 // A point that came twice leaves twice; five that were loaded are drained, two and then the others.
 #[test]
 fn rows_of_commands(rt: HostRuntime) -> Result<(), Fail> {
-    let twice: [Row; 6] = [
+    const TWICE: [Row; 6] = [
         (Kind::Insert, [0, 2], 0, 0),
         (Kind::Insert, [0, 2], 0, 0),
         (Kind::Remove, [0, 2], 0, 1),
@@ -570,13 +595,13 @@ fn rows_of_commands(rt: HostRuntime) -> Result<(), Fail> {
         (Kind::Remove, [0, 2], 0, 0),
         (Kind::Ask, [0, 0], 0, 0),
     ];
-    let five: [Row; 5] = [
+    const FIVE: [Row; 5] = [
         (Kind::LoadLine, [0, 0], 5, 0),
         (Kind::Drain, [0, 0], 2, 2),
         (Kind::Ask, [0, 0], 0, 3),
         (Kind::Drain, [0, 0], 9, 3),
         (Kind::Nearest, [0, 0], 0, 0),
     ];
-    assert!(rt; go(rt.alloc(), &twice)? && go(rt.alloc(), &five)?);
+    assert!(rt; go(rt.alloc(), &TWICE)? && go(rt.alloc(), &FIVE)?);
     Ok(())
 }

@@ -7,8 +7,11 @@ ghost use Rattle.std.specs.Prelude.{◌≤◌, IsTrue, IfOk};
 ghost use Rattle.rstar.specs.Loaded.{NoneEmpty};
 ghost use Rattle.rstar.specs.Trees.{IsWholeTree};
 
+use num_traits::One;
 use rstar::node::{ParentNode, RTreeNode};
-use rstar::{Envelope, Point, RTree, RTreeObject, RTreeParams};
+use rstar::object::{Distance, PointOf};
+use rstar::point::RTreeNum;
+use rstar::{Envelope, Point, PointDistance, RTree, RTreeObject, RTreeParams};
 use std::alloc::{AllocError, Global};
 
 /// Seven points in two groups on a line, which lie under two parents.
@@ -30,6 +33,20 @@ pub(crate) fn points(alloc: Global, count: usize) -> Result<Vec<[i32; 2]>, Alloc
         points.push([((37 * near) % 101) as i32, ((53 * near) % 103) as i32])?;
     }
     Ok(points)
+}
+
+/// Whether an element lies at this squared distance from a point, and within no lesser one, and contains the point as told.
+pub(crate) fn is_so_far<T: PointDistance>(
+    element: &T,
+    point: &PointOf<T>,
+    distance: Distance<T>,
+    contained: bool,
+) -> bool {
+    let below = distance.clamped_sub(Distance::<T>::one());
+    element.contains_point(point) == contained
+        && element.distance_2(point) == distance
+        && element.distance_2_if_less_or_equal(point, below).is_none()
+        && element.distance_2_if_less_or_equal(point, distance) == Some(distance)
 }
 
 /// A tree of these elements, inserted in this order; an empty one where one is refused, or has an empty envelope.
@@ -102,40 +119,38 @@ pub(crate) fn levels_of<T: RTreeObject>(root: &ParentNode<T>) -> usize {
     64
 }
 
-/// The merge of the envelopes of the elements below some nodes, and how many they are: none where an element does not
-/// lie `levels` levels below them, or a parent keeps another envelope than that merge of its own, or has fewer children
-/// than `least` or more than `most`.
+/// Merges the envelopes of the elements below some nodes into `all`, and counts them; tells whether each element lies
+/// `levels` levels below the nodes, and each parent keeps that merge of its own and has from `least` to `most` children.
 fn merge_below<T: RTreeObject>(
     nodes: &[RTreeNode<T>],
     levels: usize,
     least: usize,
     most: usize,
-) -> Option<(T::Envelope, usize)> {
-    let mut all = T::Envelope::new_empty();
-    let mut count = 0usize;
+    all: &mut T::Envelope,
+    count: &mut usize,
+) -> bool {
     for node in nodes {
-        let (own, held) = match node {
+        let mut own = T::Envelope::new_empty();
+        let is_so = match node {
             RTreeNode::Leaf(element) => {
-                if levels != 0 {
-                    return None;
-                }
-                (element.envelope(), 1)
+                own.merge(&element.envelope());
+                *count = count.saturating_add(1);
+                levels == 0
             }
             RTreeNode::Parent(parent) => {
                 let children = parent.children();
-                if levels == 0 || children.len() < least || most < children.len() {
-                    return None;
-                }
-                merge_below(children, levels - 1, least, most)?
+                levels > 0
+                    && least <= children.len()
+                    && children.len() <= most
+                    && merge_below(children, levels - 1, least, most, &mut own, count)
             }
         };
-        if node.envelope() != own {
-            return None;
+        if !is_so || node.envelope() != own {
+            return false;
         }
         all.merge(&own);
-        count = count.saturating_add(held);
     }
-    Some((all, count))
+    true
 }
 
 /// Whether all elements lie on one level, `size` counts them, each envelope is the merge of those of the elements below
@@ -146,12 +161,19 @@ pub(crate) fn stands_within<T: RTreeObject, Params: RTreeParams>(
     most: usize,
 ) -> bool {
     let root = tree.root();
-    match merge_below(root.children(), levels_of(root), least, most) {
-        Some((all, count)) => {
-            root.children().len() <= most && *root.envelope() == all && count == tree.size()
-        }
-        None => false,
-    }
+    let mut all = T::Envelope::new_empty();
+    let mut count = 0;
+    root.children().len() <= most
+        && merge_below(
+            root.children(),
+            levels_of(root),
+            least,
+            most,
+            &mut all,
+            &mut count,
+        )
+        && *root.envelope() == all
+        && count == tree.size()
 }
 
 /// The same where a parent has one child or any more.

@@ -82,14 +82,14 @@ type Row<'a> = (
 // `test_root_node_is_not_always_unpacked`.
 #[test]
 fn a_selection_opens_what_its_question_reaches(rt: HostRuntime) {
-    let rows: [Row<'_>; 5] = [
+    const ROWS: [Row<'static>; 5] = [
         (&ALONG_A_LINE, ([0, 0], [2, 0]), (3, 2), (7, 3)),
         (&ALONG_A_LINE, ([50, 0], [60, 0]), (0, 1), (7, 3)),
         (&ALONG_A_LINE, ([200, 200], [201, 201]), (0, 0), (7, 3)),
         (&[], ([0, 0], [0, 0]), (0, 0), (0, 0)),
         (&[[0, 0]], ([0, 0], [0, 0]), (1, 1), (1, 1)),
     ];
-    for (points, corners, inside, all) in rows {
+    for &(points, corners, inside, all) in &ROWS {
         let area = AABB::from_corners(corners.0, corners.1);
         assert!(rt; select_so(rt.alloc(), points, area, inside, all));
     }
@@ -97,7 +97,7 @@ fn a_selection_opens_what_its_question_reaches(rt: HostRuntime) {
 
 /// Accepts the parents that begin at 0 or left of it, and selects all points.
 #[derive(Drop)]
-struct LeftOnly;
+pub(crate) struct LeftOnly;
 
 impl SelectionFunction<[i32; 2]> for LeftOnly {
     ghost accepts = { λ _ e. int_le (⟦<AABB<[i32; 2]> as Envelope>⟧.boxes.axis_key e 0) (pos 0) };
@@ -116,10 +116,8 @@ impl SelectionFunction<[i32; 2]> for LeftOnly {
 // This one is not lawful either.
 #[test]
 fn unlawful_functions_give_less(rt: HostRuntime) {
-    let rows: [(&[[i32; 2]], (usize, usize)); 2] = [(&[[0, 0]], (1, 1)), (&ALONG_A_LINE, (3, 2))];
-    for (points, counts) in rows {
-        assert!(rt; selects(rt.alloc(), points, LeftOnly, counts));
-    }
+    assert!(rt; selects(rt.alloc(), &[[0, 0]], LeftOnly, (1, 1)));
+    assert!(rt; selects(rt.alloc(), &ALONG_A_LINE, LeftOnly, (3, 2)));
 }
 
 /// Selects all, and counts the leaves that it is asked for.
@@ -365,7 +363,7 @@ fn found_points<P: Point + Copy>(
 fn selections_of_one_rectangle(rt: HostRuntime) {
     let one = [Rectangle::from_corners([0i32, 0], [2, 2])];
     let middle = AABB::from_point([1, 1]);
-    for (point, limit, at, near) in [
+    for &(point, limit, at, near) in &[
         ([1, 1], 0, 1, 1),
         ([4, 2], 3, 0, 0),
         ([4, 2], 4, 0, 1),
@@ -386,7 +384,7 @@ fn rectangles_about_a_rectangle(rt: HostRuntime) {
         Rectangle::from_corners([60, 0], [100, 100]),
         Rectangle::from_corners([25, 0], [75, 100]),
     ];
-    for (lower, upper, inside, touching, at) in [
+    for &(lower, upper, inside, touching, at) in &[
         ([0, 0], [40, 100], 1, 2, 1),
         ([60, 0], [100, 100], 1, 2, 2),
         ([25, 0], [75, 100], 1, 3, 2),
@@ -413,7 +411,7 @@ fn the_empty_box_and_the_full_range(rt: HostRuntime) {
 #[test]
 fn a_thousand_points_are_found_as_by_a_scan(rt: HostRuntime) -> Result<(), Fail> {
     let all = points(rt.alloc(), 1000)?;
-    for (one, other, origin, limit) in [
+    for &(one, other, origin, limit) in &[
         ([0, 0], [100, 102], [20, 60], 900),
         ([50, 50], [100, 100], [0, 0], 0),
         ([0, 0], [9, 102], [50, 50], 10000),

@@ -2,9 +2,12 @@
 
 ghost use Rattle.std.specs.Prelude.{◌<◌};
 
+use num_traits::Zero;
 use rstar_base::clusters::{ClusterGroupIterator, calculate_number_of_clusters_on_axis};
-use rstar_base::object::partition_envelopes;
+use rstar_base::envelope::Envelope;
+use rstar_base::object::{Distance, RTreeObject, partition_envelopes};
 use rstar_base::params::DefaultParams;
+use rstar_base::point::least;
 use std::alloc::{AllocError, Global};
 use std::test::Fail;
 
@@ -17,72 +20,78 @@ fn down_a_line(alloc: Global, count: u16) -> Result<Vec<[i32; 2]>, AllocError> {
     Ok(points)
 }
 
-// The length and the least first coordinate of each slab along axis 0.
-fn slabs(
-    alloc: Global,
-    points: Vec<[i32; 2]>,
-    clusters: usize,
-) -> Result<Vec<(usize, i32)>, AllocError>
-    requires { 0 < clusters }
+/// Whether there is a slab, and it has this length, and this least key on an axis, or 0 if that is less.
+fn is_slab<T: RTreeObject>(
+    slab: &Option<Result<Vec<T>, AllocError>>,
+    axis: usize,
+    length: usize,
+    wanted: Distance<T>,
+) -> bool
+    requires { axis < T.Envelope.Point.DIMENSIONS }
 {
-    let mut found = Vec::new(alloc);
-    let mut slabs = ClusterGroupIterator::new(points, clusters, 0);
-    while let Some(slab) = slabs.next() {
-        let slab = slab?;
-        let mut least = 0;
-        for point in slab.iter() {
-            least = point[0].min(least);
-        }
-        found.push((slab.len(), least))?;
+    let Some(Ok(slab)) = slab else {
+        return false;
+    };
+    let mut key = Distance::<T>::zero();
+    for element in slab.iter() {
+        key = least(key, element.envelope().axis_key(axis));
     }
-    Ok(found)
+    slab.len() == length && key == wanted
 }
 
-// Whether so many points down a line are cut into slabs of these lengths and least first coordinates.
-fn cuts(
-    alloc: Global,
-    count: u16,
+/// Whether elements are cut along an axis into slabs of these lengths and least keys.
+fn are_cut<T: RTreeObject>(
+    elements: Vec<T>,
     clusters: usize,
-    wanted: &[(usize, i32)],
-) -> Result<bool, AllocError> {
-    if clusters == 0 {
-        return Ok(false);
+    axis: usize,
+    wanted: &[(usize, Distance<T>)],
+) -> bool
+    requires clusters { 0 < clusters }
+    requires axis { axis < T.Envelope.Point.DIMENSIONS }
+{
+    let mut slabs = ClusterGroupIterator::new(elements, clusters, axis);
+    for (length, key) in wanted {
+        if !is_slab(&slabs.next(), axis, *length, *key) {
+            return false;
+        }
     }
-    let points = down_a_line(alloc, count)?;
-    Ok(slabs(alloc, points, clusters)?.as_slice() == wanted)
+    slabs.next().is_none() && slabs.cluster_dimension() == axis
+}
+
+/// Whether so many points down a line are cut along an axis into slabs of these lengths and least coordinates.
+fn cuts(alloc: Global, count: u16, clusters: usize, axis: usize, wanted: &[(usize, i32)]) -> bool {
+    if clusters == 0 || 2 <= axis {
+        return false;
+    }
+    match down_a_line(alloc, count) {
+        Ok(points) => are_cut(points, clusters, axis, wanted),
+        Err(_) => false,
+    }
 }
 
 #[test]
-fn slabs_have_their_sizes_and_come_from_the_greatest_on(rt: HostRuntime) -> Result<(), Fail> {
-    // How many points, into how many clusters, and the slabs.
-    let rows: [(u16, usize, &[(usize, i32)]); 4] = [
-        (
+fn slabs_have_their_sizes_and_come_from_the_greatest_on(rt: HostRuntime) {
+    assert!(rt;
+        cuts(
+            rt.alloc(),
             374,
             5,
-            &[(75, -74), (75, -149), (75, -224), (75, -299), (74, -373)],
-        ),
-        (2, 5, &[(1, 0), (1, -1)]),
-        (3, 1, &[(3, -2)]),
-        (0, 1, &[]),
-    ];
-    for (count, clusters, wanted) in rows {
-        assert!(rt; cuts(rt.alloc(), count, clusters, wanted)?, "{count}");
-    }
-    let points = down_a_line(rt.alloc(), 3)?;
-    let slabs: ClusterGroupIterator<[i32; 2]> = ClusterGroupIterator::new(points, 2, 1);
-    assert_eq!(rt; slabs.cluster_dimension(), 1);
-    Ok(())
+            0,
+            &[(75, -74), (75, -149), (75, -224), (75, -299), (74, -373)]
+        )
+    );
+    assert!(rt; cuts(rt.alloc(), 2, 5, 0, &[(1, 0), (1, -1)]));
+    assert!(rt; cuts(rt.alloc(), 3, 1, 0, &[(3, -2)]));
+    assert!(rt; cuts(rt.alloc(), 3, 2, 1, &[(2, -1), (1, -2)]));
+    assert!(rt; cuts(rt.alloc(), 0, 1, 0, &[]));
 }
 
 #[test]
 fn cluster_numbers_are_whole_roots(rt: HostRuntime) {
-    let rows = [(7, 1), (25, 2), (36, 2), (37, 1), (216, 2), (usize::MAX, 2)];
-    for (count, clusters) in rows {
+    for &(count, clusters) in &[(7, 1), (25, 2), (36, 2), (37, 1), (216, 2), (usize::MAX, 2)] {
         assert!(rt; count > 6);
-        assert_eq!(rt;
-            calculate_number_of_clusters_on_axis::<[i32; 2], DefaultParams>(count),
-            clusters
-        );
+        let found = calculate_number_of_clusters_on_axis::<[i32; 2], DefaultParams>(count);
+        assert!(rt; found == clusters);
     }
 }
 
@@ -97,24 +106,52 @@ fn is_split(points: &[[i32; 2]], k: usize) -> bool {
     true
 }
 
+/// Whether the first so many of the points [0, 0], [29 % keys, 0], [58 % keys, 0], .. are split at a place by a
+/// partition there.
+fn splits(count: usize, keys: u16, k: usize) -> bool {
+    let mut points = [[0i32, 0]; 64];
+    let mut number = 0u16;
+    for point in &mut points {
+        point[0] = i32::from(number % keys.max(1));
+        number = number.wrapping_add(29);
+    }
+    if points.len() < count || count <= k {
+        return false;
+    }
+    let points = &mut points[..count];
+    partition_envelopes(0, points, k);
+    is_split(points, k)
+}
+
 #[test]
-fn a_partition_splits_equal_keys_too(rt: HostRuntime) -> Result<(), Fail> {
+fn a_partition_splits_equal_keys_too(rt: HostRuntime) {
     // How many points, and how many different keys they have.
-    let rows = [(1u16, 1u16), (2, 1), (3, 2), (40, 3), (41, 7), (64, 64)];
-    for (count, keys) in rows {
-        for k in 0..usize::from(count) {
-            let mut points = Vec::new(rt.alloc());
-            for i in 0..count {
-                points.push([i32::from(i.wrapping_mul(29) % keys.max(1)), 0])?;
-            }
-            assert!(rt; k < points.len());
-            partition_envelopes(0, &mut points, k);
-            assert!(rt; is_split(&points, k));
+    for &(count, keys) in &[(1usize, 1u16), (2, 1), (3, 2), (40, 3), (41, 7), (64, 64)] {
+        for k in 0..count {
+            assert!(rt; splits(count, keys, k));
         }
     }
-    let mut equal = vec![in rt.alloc(); [5, 5]; 1000]?;
-    assert_eq!(rt; equal.len(), 1000);
-    partition_envelopes(0, &mut equal, 3);
-    assert!(rt; equal.iter().all(|point: &[i32; 2]| *point == [5, 5]));
+}
+
+/// Whether elements that equal this one all do so after a partition at a place, too.
+fn are_kept<T: RTreeObject + PartialEq>(elements: &mut [T], k: usize, wanted: &T) -> bool
+    requires { 0 < T.Envelope.Point.DIMENSIONS }
+{
+    if elements.len() <= k {
+        return false;
+    }
+    partition_envelopes(0, elements, k);
+    for element in elements.iter() {
+        if *element != *wanted {
+            return false;
+        }
+    }
+    true
+}
+
+#[test]
+fn a_partition_keeps_equal_points(rt: HostRuntime) -> Result<(), Fail> {
+    let mut equal = vec![in rt.alloc(); [5i32, 5]; 1000]?;
+    assert!(rt; equal.len() == 1000 && are_kept(&mut equal, 3, &[5, 5]));
     Ok(())
 }

@@ -1,10 +1,11 @@
 use Rattle.std.proofs.Common.{◌∙◌, ap, min}
+use Rattle.std.proofs.lemmas.Result.{IfOk-weaker}
 use Rattle.rstar_base.specs.Counts.{usize_max}
 use Rattle.rstar_vectors.proofs.Callers.{met, listed}
 use Rattle.rstar_vectors.proofs.joins.joined.Goals as goal
 
-pub returns-clause-all : goal.returns-clause-all
-returns-clause-all g c = listed c.in_ok-joined.ensures.given c.in_ok-intersection_candidates_with_other_tree.ensures.all
+pub returns-in-Ok-clause-all : goal.returns-in-Ok-clause-all
+returns-in-Ok-clause-all g c = IfOk-weaker c.paired.result _ _ (λ r given. listed given c.in-Ok.ensures.all) c.paired.ensures.given
 
-pub returns-clause-opened : goal.returns-clause-opened
-returns-clause-opened g c = c.in_ok-joined.ensures.opened ∙ ap (λ n. min n usize_max) (met c.in_ok-intersection_candidates_with_other_tree.ensures.made)
+pub returns-in-Ok-clause-opened : goal.returns-in-Ok-clause-opened
+returns-in-Ok-clause-opened g c = IfOk-weaker c.paired.result _ _ (λ r opened. opened ∙ ap (λ n. min n usize_max) (met c.in-Ok.ensures.made)) c.paired.ensures.opened

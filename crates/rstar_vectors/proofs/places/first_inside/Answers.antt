@@ -10,5 +10,5 @@ first_of : {T F E P S X : Type 0} {accepts : F → E → Bool} {selects : F → 
 first_of it xs e None u h = sym e ∙ h.gives.0
 first_of {accepts = accepts} {selects = selects} it xs e (Some t) u h = (to_come accepts selects u, sym e ∙ h.gives)
 
-pub returns : goal.returns
-returns g c = first_of _ _ c.in_ok-locate_in_envelope.ensures.all c.next.result _ c.next.ensures.steps
+pub returns-in-Ok : goal.returns-in-Ok
+returns-in-Ok g c = first_of _ _ c.in-Ok.ensures.all c.next.result _ c.next.ensures.steps
