@@ -66,44 +66,31 @@ impl Fences {
 
     /// How many fences lie in a box.
     pub fn count_in(&self, area: AABB<[i64; 2]>) -> Result<usize, AllocError> {
-        count_in(&self.tree, area)
+        Ok(count_and_sum(&self.tree, area)?.0)
     }
 
     /// The sum of the numbers of the fences in a box, held at the greatest `u64`.
     pub fn sum_in(&self, area: AABB<[i64; 2]>) -> Result<u64, AllocError> {
-        sum_in(&self.tree, area)
+        Ok(count_and_sum(&self.tree, area)?.1)
     }
 }
 
-/// How many elements of a tree lie in an envelope.
-fn count_in<T: RTreeObject>(tree: &RTree<T>, envelope: T::Envelope) -> Result<usize, AllocError>
-    requires { IsWholeTree T.Envelope.boxes T.object ⟦<DefaultParams as RTreeParams>⟧.MAX_SIZE tree.now }
-{
-    Ok(tree.locate_in_envelope(envelope)?.count())
-}
-
-/// The sum of the numbers of a tree's fences in a box.
-fn sum_in(tree: &RTree<Fence>, area: AABB<[i64; 2]>) -> Result<u64, AllocError>
-    requires { IsWholeTree ⟦<AABB<[i64; 2]> as Envelope>⟧.boxes ⟦<Fence as RTreeObject>⟧.object
-        ⟦<DefaultParams as RTreeParams>⟧.MAX_SIZE tree.now }
-{
-    sum_of(tree, area)
-}
-
-/// The sum of the numbers of a tree's elements in an envelope.
-fn sum_of<R: RTreeObject>(
+/// How many elements of a tree lie in an envelope, and the sum of their numbers, held at the greatest `u64`.
+fn count_and_sum<R: RTreeObject>(
     tree: &RTree<GeomWithData<R, u64>>,
     envelope: R::Envelope,
-) -> Result<u64, AllocError>
+) -> Result<(usize, u64), AllocError>
     requires { IsWholeTree R.Envelope.boxes ⟦<GeomWithData<R, u64> as RTreeObject>⟧.object
         ⟦<DefaultParams as RTreeParams>⟧.MAX_SIZE tree.now }
 {
     let mut found = tree.locate_in_envelope(envelope)?;
+    let mut count = 0usize;
     let mut sum = 0u64;
     while let Some(element) = found.next() {
+        count = count.saturating_add(1);
         sum = sum.saturating_add(element.data);
     }
-    Ok(sum)
+    Ok((count, sum))
 }
 
 /// Whether a fence lies in a box, its edges included.
@@ -117,36 +104,27 @@ pub fn lies_in<P: Point>(fence: &GeomWithData<Rectangle<P>, u64>, area: &AABB<P>
 #[cfg(test)]
 mod tests {
     use super::*;
-    use std::test::Fail;
 
     /// A fence's number and two corners.
     type Row = (u64, [i64; 2], [i64; 2]);
 
     /// Whether fences, added one after another, are so many and have this sum in a box.
-    fn add_up(
-        alloc: Global,
-        list: &[Row],
-        area: AABB<[i64; 2]>,
-        count: usize,
-        sum: u64,
-    ) -> Result<bool, AllocError> {
+    fn add_up(alloc: Global, list: &[Row], area: AABB<[i64; 2]>, count: usize, sum: u64) -> bool {
         let mut fences = Fences::new(alloc);
-        for (number, one, other) in list {
-            if fences.add(*number, *one, *other).is_err() {
-                return Ok(false);
+        for &(number, one, other) in list {
+            if fences.add(number, one, other).is_err() {
+                return false;
             }
         }
-        Ok(
-            fences.len() == list.len()
-                && fences.count_in(area)? == count
-                && fences.sum_in(area)? == sum,
-        )
+        fences.len() == list.len()
+            && fences.count_in(area) == Ok(count)
+            && fences.sum_in(area) == Ok(sum)
     }
 
     // Fences, the corners of a box, and the count and the sum of those in it. Equal rectangles with equal numbers
     // count twice, and corners come in any order.
     #[test]
-    fn fences_in_boxes(rt: HostRuntime) -> Result<(), Fail> {
+    fn fences_in_boxes(rt: HostRuntime) {
         const TWICE: [Row; 2] = [(7, [0, 0], [2, 2]), (7, [2, 2], [0, 0])];
         const THREE: [Row; 3] = [
             (7, [0, 0], [2, 2]),
@@ -162,9 +140,8 @@ mod tests {
         ];
         for &(list, one, other, count, sum) in &ROWS {
             let area = AABB::from_corners(one, other);
-            assert!(rt; add_up(rt.alloc(), list, area, count, sum)?);
+            assert!(rt; add_up(rt.alloc(), list, area, count, sum));
         }
-        Ok(())
     }
 
     #[test]
