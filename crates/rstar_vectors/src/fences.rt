@@ -2,7 +2,7 @@
 
 ghost use Rattle.std.specs.Prelude.{◌≡◌, ◌+◌, [], length, OnOk, OnErr};
 ghost use Rattle.rstar.specs.Boxes.{contains_box};
-ghost use Rattle.rstar.specs.Trees.{IsWholeTree};
+ghost use Rattle.rstar.specs.Trees.{elements_in, IsWholeTree};
 
 use rstar::primitives::{GeomWithData, Rectangle};
 use rstar::{AABB, DefaultParams, Envelope, InsertError, Point, RTree, RTreeObject, RTreeParams};
@@ -41,9 +41,7 @@ impl Fences {
         }
     }
 
-    // That a whole tree's size counts its elements is inside the word, which is unfolded here.
     /// One fence more, between two corners.
-    #[tactic(auto, unfolding(rstar::specs::Trees::IsWholeTree))]
     pub fn add(
         &mut self,
         number: u64,
@@ -53,8 +51,7 @@ impl Fences {
         ensures added { OnOk result (length self.new ≡ length self.old + 1) }
         ensures unchanged { OnErr result (self.new ≡ self.old) }
     {
-        let fence = Rectangle::from_corners(one, other);
-        self.tree.insert(Fence::new(fence, number))
+        insert_between(&mut self.tree, number, one, other)
     }
 
     /// How many fences there are.
@@ -75,6 +72,26 @@ impl Fences {
     }
 }
 
+// That a whole tree's size counts its elements is inside the word, which is unfolded here.
+/// One rectangle more in a tree, between two corners.
+#[tactic(auto, unfolding(rstar::specs::Trees::IsWholeTree))]
+fn insert_between<P: Point>(
+    tree: &mut RTree<GeomWithData<Rectangle<P>, u64>>,
+    number: u64,
+    one: P,
+    other: P,
+) -> Result<(), InsertError<GeomWithData<Rectangle<P>, u64>>>
+    requires { IsWholeTree ⟦<AABB<P> as Envelope>⟧.boxes ⟦<GeomWithData<Rectangle<P>, u64> as RTreeObject>⟧.object
+        ⟦<DefaultParams as RTreeParams>⟧.MAX_SIZE tree.old }
+    ensures whole { IsWholeTree ⟦<AABB<P> as Envelope>⟧.boxes ⟦<GeomWithData<Rectangle<P>, u64> as RTreeObject>⟧.object
+        ⟦<DefaultParams as RTreeParams>⟧.MAX_SIZE tree.new }
+    ensures added { OnOk result (length (elements_in tree.new) ≡ length (elements_in tree.old) + 1) }
+    ensures unchanged { OnErr result (elements_in tree.new ≡ elements_in tree.old) }
+{
+    let rectangle = Rectangle::from_corners(one, other);
+    tree.insert(GeomWithData::new(rectangle, number))
+}
+
 /// How many elements of a tree lie in an envelope, and the sum of their numbers, held at the greatest `u64`.
 fn count_and_sum<R: RTreeObject>(
     tree: &RTree<GeomWithData<R, u64>>,
@@ -83,7 +100,9 @@ fn count_and_sum<R: RTreeObject>(
     requires { IsWholeTree R.Envelope.boxes ⟦<GeomWithData<R, u64> as RTreeObject>⟧.object
         ⟦<DefaultParams as RTreeParams>⟧.MAX_SIZE tree.now }
 {
-    let mut found = tree.locate_in_envelope(envelope)?;
+    let Ok(mut found) = tree.locate_in_envelope(envelope) else {
+        return Err(AllocError);
+    };
     let mut count = 0usize;
     let mut sum = 0u64;
     while let Some(element) = found.next() {

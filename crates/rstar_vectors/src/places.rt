@@ -24,9 +24,13 @@ fn pair<T: RTreeObject>(alloc: Global, first: T, second: T) -> Result<RTree<T>, 
         ⟦<DefaultParams as RTreeParams>⟧.MAX_SIZE tree) }
 {
     let mut tree = RTree::new(alloc);
-    tree.insert(first)?;
-    tree.insert(second)?;
-    Ok(tree)
+    if let Err(refused) = tree.insert(first) {
+        return Err(refused);
+    }
+    match tree.insert(second) {
+        Ok(()) => Ok(tree),
+        Err(refused) => Err(refused),
+    }
 }
 
 /// The example of README.md.
@@ -58,7 +62,9 @@ fn taken<'a, T: RTreeObject, Func: SelectionFunction<T>>(
 {
     let mut all = Vec::new(alloc);
     for t in walk {
-        all.push(t)?;
+        if all.push(t).is_err() {
+            return Err(AllocError);
+        }
     }
     Ok(all)
 }
