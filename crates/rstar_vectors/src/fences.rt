@@ -2,7 +2,7 @@
 
 ghost use Rattle.std.specs.Prelude.{◌≡◌, ◌+◌, [], length, OnOk, OnErr};
 ghost use Rattle.rstar.specs.Boxes.{contains_box};
-ghost use Rattle.rstar.specs.Trees.{IsWholeTree};
+ghost use Rattle.rstar.specs.Trees.{elements_in, IsWholeTree};
 
 use rstar::primitives::{GeomWithData, Rectangle};
 use rstar::{AABB, DefaultParams, Envelope, InsertError, Point, RTree, RTreeObject, RTreeParams};
@@ -41,9 +41,7 @@ impl Fences {
         }
     }
 
-    // That a whole tree's size counts its elements is inside the word, which is unfolded here.
     /// One fence more, between two corners.
-    #[tactic(auto, unfolding(rstar::specs::Trees::IsWholeTree))]
     pub fn add(
         &mut self,
         number: u64,
@@ -53,8 +51,7 @@ impl Fences {
         ensures added { OnOk result (length self.new ≡ length self.old + 1) }
         ensures unchanged { OnErr result (self.new ≡ self.old) }
     {
-        let fence = Rectangle::from_corners(one, other);
-        self.tree.insert(Fence::new(fence, number))
+        insert_between(&mut self.tree, number, one, other)
     }
 
     /// How many fences there are.
@@ -66,44 +63,53 @@ impl Fences {
 
     /// How many fences lie in a box.
     pub fn count_in(&self, area: AABB<[i64; 2]>) -> Result<usize, AllocError> {
-        count_in(&self.tree, area)
+        Ok(count_and_sum(&self.tree, area)?.0)
     }
 
     /// The sum of the numbers of the fences in a box, held at the greatest `u64`.
     pub fn sum_in(&self, area: AABB<[i64; 2]>) -> Result<u64, AllocError> {
-        sum_in(&self.tree, area)
+        Ok(count_and_sum(&self.tree, area)?.1)
     }
 }
 
-/// How many elements of a tree lie in an envelope.
-fn count_in<T: RTreeObject>(tree: &RTree<T>, envelope: T::Envelope) -> Result<usize, AllocError>
-    requires { IsWholeTree T.Envelope.boxes T.object ⟦<DefaultParams as RTreeParams>⟧.MAX_SIZE tree.now }
+// That a whole tree's size counts its elements is inside the word, which is unfolded here.
+/// One rectangle more in a tree, between two corners.
+#[tactic(auto, unfolding(rstar::specs::Trees::IsWholeTree))]
+fn insert_between<P: Point>(
+    tree: &mut RTree<GeomWithData<Rectangle<P>, u64>>,
+    number: u64,
+    one: P,
+    other: P,
+) -> Result<(), InsertError<GeomWithData<Rectangle<P>, u64>>>
+    requires { IsWholeTree ⟦<AABB<P> as Envelope>⟧.boxes ⟦<GeomWithData<Rectangle<P>, u64> as RTreeObject>⟧.object
+        ⟦<DefaultParams as RTreeParams>⟧.MAX_SIZE tree.old }
+    ensures whole { IsWholeTree ⟦<AABB<P> as Envelope>⟧.boxes ⟦<GeomWithData<Rectangle<P>, u64> as RTreeObject>⟧.object
+        ⟦<DefaultParams as RTreeParams>⟧.MAX_SIZE tree.new }
+    ensures added { OnOk result (length (elements_in tree.new) ≡ length (elements_in tree.old) + 1) }
+    ensures unchanged { OnErr result (elements_in tree.new ≡ elements_in tree.old) }
 {
-    Ok(tree.locate_in_envelope(envelope)?.count())
+    let rectangle = Rectangle::from_corners(one, other);
+    tree.insert(GeomWithData::new(rectangle, number))
 }
 
-/// The sum of the numbers of a tree's fences in a box.
-fn sum_in(tree: &RTree<Fence>, area: AABB<[i64; 2]>) -> Result<u64, AllocError>
-    requires { IsWholeTree ⟦<AABB<[i64; 2]> as Envelope>⟧.boxes ⟦<Fence as RTreeObject>⟧.object
-        ⟦<DefaultParams as RTreeParams>⟧.MAX_SIZE tree.now }
-{
-    sum_of(tree, area)
-}
-
-/// The sum of the numbers of a tree's elements in an envelope.
-fn sum_of<R: RTreeObject>(
+/// How many elements of a tree lie in an envelope, and the sum of their numbers, held at the greatest `u64`.
+fn count_and_sum<R: RTreeObject>(
     tree: &RTree<GeomWithData<R, u64>>,
     envelope: R::Envelope,
-) -> Result<u64, AllocError>
+) -> Result<(usize, u64), AllocError>
     requires { IsWholeTree R.Envelope.boxes ⟦<GeomWithData<R, u64> as RTreeObject>⟧.object
         ⟦<DefaultParams as RTreeParams>⟧.MAX_SIZE tree.now }
 {
-    let mut found = tree.locate_in_envelope(envelope)?;
+    let Ok(mut found) = tree.locate_in_envelope(envelope) else {
+        return Err(AllocError);
+    };
+    let mut count = 0usize;
     let mut sum = 0u64;
     while let Some(element) = found.next() {
+        count = count.saturating_add(1);
         sum = sum.saturating_add(element.data);
     }
-    Ok(sum)
+    Ok((count, sum))
 }
 
 /// Whether a fence lies in a box, its edges included.
@@ -117,36 +123,27 @@ pub fn lies_in<P: Point>(fence: &GeomWithData<Rectangle<P>, u64>, area: &AABB<P>
 #[cfg(test)]
 mod tests {
     use super::*;
-    use std::test::Fail;
 
     /// A fence's number and two corners.
     type Row = (u64, [i64; 2], [i64; 2]);
 
     /// Whether fences, added one after another, are so many and have this sum in a box.
-    fn add_up(
-        alloc: Global,
-        list: &[Row],
-        area: AABB<[i64; 2]>,
-        count: usize,
-        sum: u64,
-    ) -> Result<bool, AllocError> {
+    fn add_up(alloc: Global, list: &[Row], area: AABB<[i64; 2]>, count: usize, sum: u64) -> bool {
         let mut fences = Fences::new(alloc);
-        for (number, one, other) in list {
-            if fences.add(*number, *one, *other).is_err() {
-                return Ok(false);
+        for &(number, one, other) in list {
+            if fences.add(number, one, other).is_err() {
+                return false;
             }
         }
-        Ok(
-            fences.len() == list.len()
-                && fences.count_in(area)? == count
-                && fences.sum_in(area)? == sum,
-        )
+        fences.len() == list.len()
+            && fences.count_in(area) == Ok(count)
+            && fences.sum_in(area) == Ok(sum)
     }
 
     // Fences, the corners of a box, and the count and the sum of those in it. Equal rectangles with equal numbers
     // count twice, and corners come in any order.
     #[test]
-    fn fences_in_boxes(rt: HostRuntime) -> Result<(), Fail> {
+    fn fences_in_boxes(rt: HostRuntime) {
         const TWICE: [Row; 2] = [(7, [0, 0], [2, 2]), (7, [2, 2], [0, 0])];
         const THREE: [Row; 3] = [
             (7, [0, 0], [2, 2]),
@@ -162,9 +159,8 @@ mod tests {
         ];
         for &(list, one, other, count, sum) in &ROWS {
             let area = AABB::from_corners(one, other);
-            assert!(rt; add_up(rt.alloc(), list, area, count, sum)?);
+            assert!(rt; add_up(rt.alloc(), list, area, count, sum));
         }
-        Ok(())
     }
 
     #[test]

@@ -17,7 +17,6 @@ use rstar_base::object::{EqualEnvelopes, RTreeObject};
 use rstar_base::point::Point;
 use std::alloc::{AllocError, Global};
 use std::marker::Model;
-use std::test::Fail;
 
 const TWO_HEAPS: [[i32; 2]; 7] = [[12, 12], [0, 0], [10, 10], [2, 2], [11, 11], [3, 3], [1, 1]];
 
@@ -71,33 +70,46 @@ fn leaves_of<T: RTreeObject + Copy>(
     Ok(leaves)
 }
 
-/// Whether the list of these leaves is cut in two: as many in each part, with such an envelope.
-fn is_cut_in<T: RTreeObject + Copy>(
+/// Whether these nodes are so many, with such an envelope.
+fn are_so<T: RTreeObject>(nodes: &[RTreeNode<T>], outline: &(usize, T::Envelope)) -> bool {
+    nodes.len() == outline.0 && envelope_for_children(nodes) == outline.1
+}
+
+/// Whether this list is cut in two: as many in each part, with such an envelope.
+fn is_cut_in<T: RTreeObject>(
+    list: Vec<RTreeNode<T>>,
+    spare: Vec<RTreeNode<T>>,
+    one: &(usize, T::Envelope),
+    other: &(usize, T::Envelope),
+) -> bool {
+    if list.len() <= DefaultParams::MAX_SIZE || !spare.is_empty() || spare.capacity() < list.len() {
+        return false;
+    }
+    let (left, right) = &split_children::<T, DefaultParams>(list, spare);
+    are_so(left, one) && are_so(right, other)
+}
+
+/// The same of a list of these elements as leaves.
+fn leaves_are_cut_in<T: RTreeObject + Copy>(
     alloc: Global,
     elements: &[T],
     one: &(usize, T::Envelope),
     other: &(usize, T::Envelope),
-) -> Result<bool, AllocError> {
-    let spare = Vec::with_capacity(alloc, elements.len())?;
-    let list = leaves_of(alloc, elements)?;
-    if list.len() <= DefaultParams::MAX_SIZE || spare.capacity() < list.len() {
-        return Ok(false);
+) -> bool {
+    match (
+        leaves_of(alloc, elements),
+        Vec::with_capacity(alloc, elements.len()),
+    ) {
+        (Ok(list), Ok(spare)) => is_cut_in(list, spare, one, other),
+        _ => false,
     }
-    let (left, right) = split_children::<T, DefaultParams>(list, spare);
-    Ok(
-        left.len() == one.0
-            && right.len() == other.0
-            && envelope_for_children(&left) == one.1
-            && envelope_for_children(&right) == other.1,
-    )
 }
 
 #[test]
-fn a_list_is_cut_by_overlap_and_area(rt: HostRuntime) -> Result<(), Fail> {
+fn a_list_is_cut_by_overlap_and_area(rt: HostRuntime) {
     let low = AABB::from_corners([0, 0], [3, 3]);
     let high = AABB::from_corners([10, 10], [12, 12]);
-    assert!(rt; is_cut_in(rt.alloc(), &TWO_HEAPS, &(4, low), &(3, high))?);
-    Ok(())
+    assert!(rt; leaves_are_cut_in(rt.alloc(), &TWO_HEAPS, &(4, low), &(3, high)));
 }
 
 /// Whether one of some nodes has so many children, none for a leaf, and this envelope.

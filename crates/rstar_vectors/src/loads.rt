@@ -5,6 +5,7 @@ ghost use Rattle.rstar.specs.Clones.{ClonesEqual};
 ghost use Rattle.rstar.specs.Trees.{IsWholeTree};
 
 use crate::node_sizes::Small;
+use crate::reinsertion::all_go_in;
 use crate::scenarios::{levels_of, load_of, loaded, none_empty, points, stands};
 use rstar::algorithm::bulk_load::bulk_load_sequential;
 use rstar::node::{ParentNode, RTreeNode};
@@ -120,21 +121,21 @@ fn is_cut<T: RTreeObject + Copy>(
     levels: usize,
     wide: usize,
     most: usize,
-) -> Result<bool, AllocError> {
+) -> bool {
     if levels == 0 {
-        return Ok(true);
+        return true;
     }
-    let children = parent.children().len();
-    let mut is_so = match &parts_of(alloc, parent, levels - 1) {
-        Ok(parts) => are_cut(parts, children, wide, most),
-        Err(_) => return Err(AllocError),
-    };
     for node in parent.children() {
         if let RTreeNode::Parent(part) = node {
-            is_so = is_cut(alloc, part, levels - 1, wide, most)? && is_so;
+            if !is_cut(alloc, part, levels - 1, wide, most) {
+                return false;
+            }
         }
     }
-    Ok(is_so)
+    match &parts_of(alloc, parent, levels - 1) {
+        Ok(parts) => are_cut(parts, parent.children().len(), wide, most),
+        Err(_) => false,
+    }
 }
 
 /// The least number of children of a parent of leaves, so many levels below.
@@ -151,20 +152,39 @@ fn narrowest<T: RTreeObject>(parent: &ParentNode<T>, levels: usize) -> usize {
     least
 }
 
-/// How many elements each child of a root holds, in rising order.
-fn held<T: RTreeObject + Copy>(
-    alloc: Global,
-    root: &ParentNode<T>,
-) -> Result<Vec<usize>, AllocError> {
+/// Whether some lists are so long, in rising order.
+fn are_so_long<V>(alloc: Global, lists: &[Vec<V>], lengths: &[usize]) -> bool {
     let mut counts = Vec::new(alloc);
-    for own in parts_of(alloc, root, levels_of(root))?.iter() {
-        counts.push(own.len())?;
+    for list in lists {
+        if counts.push(list.len()).is_err() {
+            return false;
+        }
     }
     counts.sort_unstable();
-    Ok(counts)
+    counts.as_slice() == lengths
+}
+
+/// Whether the children of a root have so many elements below them, in rising order.
+fn has_parts<T: RTreeObject + Copy>(alloc: Global, root: &ParentNode<T>, parts: &[usize]) -> bool {
+    match &parts_of(alloc, root, levels_of(root)) {
+        Ok(own) => are_so_long(alloc, own, parts),
+        Err(_) => false,
+    }
 }
 
 // ---- loads
+
+/// Whether a list has these items, in some order.
+pub(crate) fn are_same<V: Ord + Copy>(alloc: Global, list: &mut Vec<V>, items: &[V]) -> bool {
+    list.sort_unstable();
+    match &mut items.to_vec(alloc) {
+        Ok(sources) => {
+            sources.sort_unstable();
+            *list == *sources
+        }
+        Err(_) => false,
+    }
+}
 
 /// Whether the elements below a root, at most `levels` levels of parents down, are these, in some order.
 fn has_all<T: RTreeObject + Copy + Ord>(
@@ -172,13 +192,9 @@ fn has_all<T: RTreeObject + Copy + Ord>(
     root: &ParentNode<T>,
     levels: usize,
     elements: &[T],
-) -> Result<bool, AllocError> {
-    let mut sources = elements.to_vec(alloc)?;
+) -> bool {
     let mut all = Vec::new(alloc);
-    gather(root.children(), levels, &mut all)?;
-    all.sort_unstable();
-    sources.sort_unstable();
-    Ok(all == sources)
+    gather(root.children(), levels, &mut all).is_ok() && are_same(alloc, &mut all, elements)
 }
 
 /// Whether a load of these elements has them all, and is loaded.
@@ -186,19 +202,17 @@ fn loads_well<T: RTreeObject + Copy + Ord, Params: RTreeParams>(
     alloc: Global,
     elements: &[T],
     most: usize,
-) -> Result<bool, AllocError>
+) -> bool
     requires { 2 ≤ T.Envelope.Point.DIMENSIONS }
 {
     let tree: RTree<T, Params> = loaded(alloc, elements);
     let root = tree.root();
     let levels = levels_of(root);
-    Ok(
-        tree.size() == elements.len()
-            && stands(&tree)
-            && has_all(alloc, root, levels, elements)?
-            && is_cut(alloc, root, levels, Params::MAX_SIZE, most)?
-            && narrowest(root, levels) <= Params::MAX_SIZE,
-    )
+    tree.size() == elements.len()
+        && stands(&tree)
+        && has_all(alloc, root, levels, elements)
+        && is_cut(alloc, root, levels, Params::MAX_SIZE, most)
+        && narrowest(root, levels) <= Params::MAX_SIZE
 }
 
 /// Points as `points` gives them, with a third coordinate.
@@ -220,7 +234,7 @@ fn loads_of_0_to_300_points_are_loaded(rt: HostRuntime) -> Result<(), Fail> {
     for count in 0..301 {
         let flat = points(rt.alloc(), count)?;
         assert!(rt;
-            loads_well::<[i32; 2], DefaultParams>(rt.alloc(), &flat, 6)?,
+            loads_well::<[i32; 2], DefaultParams>(rt.alloc(), &flat, 6),
             "{count}"
         );
     }
@@ -229,28 +243,16 @@ fn loads_of_0_to_300_points_are_loaded(rt: HostRuntime) -> Result<(), Fail> {
 
 #[test]
 fn loads_of_many_sizes_are_loaded(rt: HostRuntime) -> Result<(), Fail> {
-    for count in [5, 17, 63, 64, 65, 257, 693, 1024, 1537] {
+    for &count in &[5, 17, 63, 64, 65, 257, 693, 1024, 1537] {
         let flat = points(rt.alloc(), count)?;
-        assert!(rt;
-            loads_well::<[i32; 2], Small>(rt.alloc(), &flat, 4)?,
-            "{count}"
-        );
         let deep = deep_points(rt.alloc(), count)?;
         assert!(rt;
-            loads_well::<[i32; 3], DefaultParams>(rt.alloc(), &deep, 8)?,
+            loads_well::<[i32; 2], Small>(rt.alloc(), &flat, 4)
+                && loads_well::<[i32; 3], DefaultParams>(rt.alloc(), &deep, 8),
             "{count}"
         );
     }
     Ok(())
-}
-
-/// Whether the children of a root have so many elements below them, in rising order.
-fn has_parts<T: RTreeObject + Copy>(
-    alloc: Global,
-    root: &ParentNode<T>,
-    parts: &[usize],
-) -> Result<bool, AllocError> {
-    Ok(held(alloc, root)?.as_slice() == parts)
 }
 
 /// Whether each child of a root has its elements in such parts.
@@ -258,18 +260,17 @@ fn children_have_parts<T: RTreeObject + Copy>(
     alloc: Global,
     root: &ParentNode<T>,
     parts: &[usize],
-) -> Result<bool, AllocError> {
+) -> bool {
     for node in root.children() {
-        match node {
-            RTreeNode::Leaf(_) => return Ok(false),
-            RTreeNode::Parent(part) => {
-                if !has_parts(alloc, part, parts)? {
-                    return Ok(false);
-                }
-            }
+        let is_so = match node {
+            RTreeNode::Leaf(_) => false,
+            RTreeNode::Parent(part) => has_parts(alloc, part, parts),
+        };
+        if !is_so {
+            return false;
         }
     }
-    Ok(true)
+    true
 }
 
 /// Whether a load has so many levels of parents below its root, and so many elements below each child of it; and, where
@@ -279,68 +280,61 @@ fn loads_in_parts<T: RTreeObject + Copy>(
     elements: &[T],
     levels: usize,
     parts: &[usize],
-    below: Option<&[usize]>,
-) -> Result<bool, AllocError>
+    below: &[usize],
+) -> bool
     requires { 2 ≤ T.Envelope.Point.DIMENSIONS }
 {
     let tree: RTree<T> = loaded(alloc, elements);
     let root = tree.root();
-    if !stands(&tree) || levels_of(root) != levels || held(alloc, root)?.as_slice() != parts {
-        return Ok(false);
-    }
-    match below {
-        Some(parts) => children_have_parts(alloc, root, parts),
-        None => Ok(true),
-    }
+    stands(&tree)
+        && levels_of(root) == levels
+        && has_parts(alloc, root, parts)
+        && (below.is_empty() || children_have_parts(alloc, root, below))
 }
 
 // How many points, the levels of parents below the root, how many points are below each child of the root, and where all
-// these are alike how many are below each child of them.
+// these are alike how many are below each child of them: where none are given, that is not asked.
 #[test]
 fn loads_have_their_parts(rt: HostRuntime) -> Result<(), Fail> {
-    const ROWS: [(usize, usize, &'static [usize], Option<&'static [usize]>); 8] = [
-        (0, 0, &[], None),
-        (6, 0, &[], None),
-        (7, 1, &[1, 2, 2, 2], None),
-        (25, 1, &[6, 6, 6, 7], None),
-        (26, 1, &[6, 6, 7, 7], None),
-        (28, 2, &[7, 7, 7, 7], Some(&[1, 2, 2, 2])),
-        (36, 2, &[9, 9, 9, 9], None),
-        (37, 2, &[9, 9, 9, 10], None),
+    const ROWS: [(usize, usize, &'static [usize], &'static [usize]); 8] = [
+        (0, 0, &[], &[]),
+        (6, 0, &[], &[]),
+        (7, 1, &[1, 2, 2, 2], &[]),
+        (25, 1, &[6, 6, 6, 7], &[]),
+        (26, 1, &[6, 6, 7, 7], &[]),
+        (28, 2, &[7, 7, 7, 7], &[1, 2, 2, 2]),
+        (36, 2, &[9, 9, 9, 9], &[]),
+        (37, 2, &[9, 9, 9, 10], &[]),
     ];
     for &(count, levels, parts, below) in &ROWS {
         let flat = points(rt.alloc(), count)?;
         assert!(rt;
-            loads_in_parts(rt.alloc(), &flat, levels, parts, below)?,
+            loads_in_parts(rt.alloc(), &flat, levels, parts, below),
             "{count}"
         );
     }
     let deep = deep_points(rt.alloc(), 7)?;
-    assert!(rt; loads_in_parts(rt.alloc(), &deep, 1, &[1; 7], None)?);
+    assert!(rt; loads_in_parts(rt.alloc(), &deep, 1, &[1; 7], &[]));
     Ok(())
 }
 
 /// Whether the root of a load, made by itself, has so many elements below each child; no elements make no root.
-fn root_has_parts<T: RTreeObject + Copy>(
-    elements: Vec<T>,
-    parts: &[usize],
-) -> Result<bool, AllocError>
+fn root_has_parts<T: RTreeObject + Copy>(alloc: Global, elements: Vec<T>, parts: &[usize]) -> bool
     requires { 2 ≤ T.Envelope.Point.DIMENSIONS }
 {
-    let alloc = *elements.allocator();
     if elements.is_empty() || !none_empty(&elements) {
-        return Ok(false);
+        return false;
     }
     match &bulk_load_sequential::<T, DefaultParams>(elements) {
         Ok(root) => has_parts(alloc, root, parts),
-        Err(_) => Err(AllocError),
+        Err(_) => false,
     }
 }
 
 #[test]
 fn a_root_alone_is_loaded(rt: HostRuntime) -> Result<(), Fail> {
     let flat = points(rt.alloc(), 25)?;
-    assert!(rt; root_has_parts(flat, &[6, 6, 6, 7])?);
+    assert!(rt; root_has_parts(rt.alloc(), flat, &[6, 6, 6, 7]));
     Ok(())
 }
 
@@ -354,19 +348,8 @@ fn takes_more<T: RTreeObject + Copy, Params: RTreeParams>(
 ) -> bool
     requires { 2 ≤ T.Envelope.Point.DIMENSIONS }
 {
-    let mut count = elements.len();
     let mut tree: RTree<T, Params> = loaded(alloc, elements);
-    for element in more {
-        count = count.saturating_add(1);
-        if element.envelope().is_empty()
-            || tree.insert(*element).is_err()
-            || tree.size() != count
-            || !stands(&tree)
-        {
-            return false;
-        }
-    }
-    true
+    tree.size() == elements.len() && all_go_in(&mut tree, more, 1, usize::MAX)
 }
 
 const LOADED: [[i32; 3]; 16] = [
@@ -406,7 +389,7 @@ fn loaded_trees_take_insertions(rt: HostRuntime) -> Result<(), Fail> {
     assert!(rt; takes_more::<[i32; 3], DefaultParams>(rt.alloc(), &LOADED, &INSERTED));
     let more = points(rt.alloc(), 40)?;
     // The second has a parent of leaves that is too wide: 7 of 25.
-    for count in [0, 25, 28, 37, 300] {
+    for &count in &[0, 25, 28, 37, 300] {
         let flat = points(rt.alloc(), count)?;
         assert!(rt;
             takes_more::<[i32; 2], DefaultParams>(rt.alloc(), &flat, &more),
@@ -447,39 +430,30 @@ fn stays_alone<T: RTreeObject + Copy + Debug>(
 }
 
 /// The same of a clone of a tree.
-fn clones_alone<T: RTreeObject + Copy + Debug>(
-    alloc: Global,
-    tree: &RTree<T>,
-    element: T,
-) -> Result<bool, AllocError>
+fn clones_alone<T: RTreeObject + Copy + Debug>(alloc: Global, tree: &RTree<T>, element: T) -> bool
     requires whole { IsWholeTree T.Envelope.boxes T.object ⟦<DefaultParams as RTreeParams>⟧.MAX_SIZE tree.now }
     requires exact { ClonesEqual T.is_clone }
 {
-    let text = format!(in alloc; "{:?}", tree.root())?;
-    match tree.clone() {
-        Ok(mut copy) => Ok(stays_alone(alloc, tree, &mut copy, element, &text)),
-        Err(refused) => Err(refused),
+    match (&format!(in alloc; "{:?}", tree.root()), &mut tree.clone()) {
+        (Ok(text), Ok(copy)) => stays_alone(alloc, tree, copy, element, text),
+        _ => false,
     }
 }
 
 /// The same of a load of these elements.
-fn loads_cloned_alone<T: RTreeObject + Copy + Debug>(
-    alloc: Global,
-    elements: &[T],
-    more: T,
-) -> Result<bool, AllocError>
+fn loads_cloned_alone<T: RTreeObject + Copy + Debug>(alloc: Global, elements: &[T], more: T) -> bool
     requires dimensions { 2 ≤ T.Envelope.Point.DIMENSIONS }
     requires exact { ClonesEqual T.is_clone }
 {
     let tree = loaded(alloc, elements);
-    Ok(tree.size() == elements.len() && clones_alone(alloc, &tree, more)?)
+    tree.size() == elements.len() && clones_alone(alloc, &tree, more)
 }
 
 #[test]
 fn clones_show_the_same(rt: HostRuntime) -> Result<(), Fail> {
-    for count in [0, 1, 7, 25, 37, 300] {
+    for &count in &[0, 1, 7, 25, 37, 300] {
         let flat = points(rt.alloc(), count)?;
-        assert!(rt; loads_cloned_alone(rt.alloc(), &flat, [7, 7])?, "{count}");
+        assert!(rt; loads_cloned_alone(rt.alloc(), &flat, [7, 7]), "{count}");
     }
     Ok(())
 }
@@ -511,50 +485,65 @@ fn a_tree_prints_its_size_and_elements(rt: HostRuntime) -> Result<(), Fail> {
 
 // ---- refused growths
 
-/// Whether a tree has so many elements, and so many below the child of its root with the fewest; asked once more where
-/// the list of them is refused.
-fn has_least_part<T: RTreeObject + Copy>(
+/// Whether a tree has so many elements, in such parts; asked once more where memory for the parts is refused.
+fn has_parts_again<T: RTreeObject + Copy>(
     alloc: Global,
     tree: &RTree<T>,
-    size: usize,
-    part: usize,
-) -> Result<bool, AllocError> {
-    let parts = match held(alloc, tree.root()) {
-        Ok(parts) => parts,
-        Err(_) => held(alloc, tree.root())?,
-    };
-    Ok(tree.size() == size && parts.first().copied() == Some(part))
+    count: usize,
+    parts: &[usize],
+) -> bool {
+    let root = tree.root();
+    tree.size() == count && (has_parts(alloc, root, parts) || has_parts(alloc, root, parts))
 }
 
-/// Whether a load and its clone have all elements, each asked for once more where it is refused.
-fn may_be_asked_again<T: RTreeObject + Copy>(
+/// The same of a clone of a tree, where the tree is not refused that.
+fn clone_has_parts<T: RTreeObject + Copy>(
     alloc: Global,
-    elements: &[T],
-    part: usize,
-) -> Result<bool, AllocError>
+    tree: &RTree<T>,
+    count: usize,
+    parts: &[usize],
+) -> bool
+    requires { IsWholeTree T.Envelope.boxes T.object ⟦<DefaultParams as RTreeParams>⟧.MAX_SIZE tree.now }
+{
+    match &tree.clone() {
+        Ok(copy) => has_parts_again(alloc, copy, count, parts),
+        Err(_) => false,
+    }
+}
+
+/// The same of a load of these elements, where that is not refused, and of its clone, which is asked for once more where
+/// it is refused.
+fn load_has_parts<T: RTreeObject + Copy>(alloc: Global, elements: &[T], parts: &[usize]) -> bool
     requires { 2 ≤ T.Envelope.Point.DIMENSIONS }
 {
-    let tree: RTree<T> = match load_of(alloc, elements) {
-        Ok(tree) => tree,
-        Err(_) => load_of(alloc, elements)?,
-    };
-    let copy = match tree.clone() {
-        Ok(copy) => copy,
-        Err(_) => tree.clone()?,
-    };
     let count = elements.len();
-    Ok(has_least_part(alloc, &tree, count, part)? && has_least_part(alloc, &copy, count, part)?)
+    match &load_of(alloc, elements) {
+        Ok(tree) => {
+            has_parts_again(alloc, tree, count, parts)
+                && (clone_has_parts(alloc, tree, count, parts)
+                    || clone_has_parts(alloc, tree, count, parts))
+        }
+        Err(_) => false,
+    }
+}
+
+/// The same of a load that is asked for once more where it is refused.
+fn may_be_asked_again<T: RTreeObject + Copy>(alloc: Global, elements: &[T], parts: &[usize]) -> bool
+    requires { 2 ≤ T.Envelope.Point.DIMENSIONS }
+{
+    load_has_parts(alloc, elements, parts) || load_has_parts(alloc, elements, parts)
 }
 
 /// `rt try --test --fail-alloc N` refuses the Nth allocation: what was refused is asked once more.
 #[test]
 fn a_refused_load_or_clone_may_be_asked_again(rt: HostRuntime) -> Result<(), Fail> {
-    for &(count, part) in &[(25, 6), (28, 7)] {
+    const ROWS: [(usize, [usize; 4]); 2] = [(25, [6, 6, 6, 7]), (28, [7, 7, 7, 7])];
+    for &(count, parts) in &ROWS {
         let flat = match points(rt.alloc(), count) {
             Ok(flat) => flat,
             Err(_) => points(rt.alloc(), count)?,
         };
-        assert!(rt; may_be_asked_again(rt.alloc(), &flat, part)?, "{count}");
+        assert!(rt; may_be_asked_again(rt.alloc(), &flat, &parts), "{count}");
     }
     Ok(())
 }

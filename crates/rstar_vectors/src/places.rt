@@ -14,7 +14,6 @@ use rstar_base::envelope::Envelope;
 use rstar_base::object::RTreeObject;
 use rstar_base::point::Point;
 use std::alloc::{AllocError, Global};
-use std::test::Fail;
 
 /// Two elements of any type.
 fn pair<T: RTreeObject>(alloc: Global, first: T, second: T) -> Result<RTree<T>, InsertError<T>>
@@ -25,9 +24,13 @@ fn pair<T: RTreeObject>(alloc: Global, first: T, second: T) -> Result<RTree<T>, 
         ⟦<DefaultParams as RTreeParams>⟧.MAX_SIZE tree) }
 {
     let mut tree = RTree::new(alloc);
-    tree.insert(first)?;
-    tree.insert(second)?;
-    Ok(tree)
+    if let Err(refused) = tree.insert(first) {
+        return Err(refused);
+    }
+    match tree.insert(second) {
+        Ok(()) => Ok(tree),
+        Err(refused) => Err(refused),
+    }
 }
 
 /// The example of README.md.
@@ -59,7 +62,9 @@ fn taken<'a, T: RTreeObject, Func: SelectionFunction<T>>(
 {
     let mut all = Vec::new(alloc);
     for t in walk {
-        all.push(t)?;
+        if all.push(t).is_err() {
+            return Err(AllocError);
+        }
     }
     Ok(all)
 }
@@ -97,57 +102,54 @@ fn first_inside<T: RTreeObject>(
     }
 }
 
-/// Whether a tree gives two elements, and so many inside an envelope.
-fn gives_two<T: RTreeObject>(
-    alloc: Global,
-    tree: &RTree<T>,
-    area: T::Envelope,
-    near: usize,
-) -> Result<bool, AllocError>
+/// Whether a list is there, and has so many items.
+fn has<V>(list: &Result<Vec<V>, AllocError>, count: usize) -> bool {
+    match list {
+        Ok(all) => all.len() == count,
+        Err(_) => false,
+    }
+}
+
+/// Whether a tree gives two elements, and so many, one at least, inside an envelope.
+fn gives_two<T: RTreeObject>(alloc: Global, tree: &RTree<T>, area: T::Envelope, near: usize) -> bool
 where
     T::Envelope: Copy,
     requires { IsWholeTree T.Envelope.boxes T.object ⟦<DefaultParams as RTreeParams>⟧.MAX_SIZE tree.now }
 {
-    let all = listed(alloc, tree)?.len();
-    let all_near = inside(alloc, tree, area)?.len();
-    let has_first = first_inside(tree, area)?.is_some();
-    Ok(
-        all == 2
-            && all_near == near
-            && has_first == (near > 0)
-            && tree.size() == 2
-            && tree.root().children().len() == 2,
-    )
+    has(&listed(alloc, tree), 2)
+        && has(&inside(alloc, tree, area), near)
+        && matches!(first_inside(tree, area), Ok(Some(_)))
+        && tree.size() == 2
+        && tree.root().children().len() == 2
 }
 
-/// Whether a tree of two elements gives both, and so many inside an envelope.
+/// Whether a tree of two elements gives both, and so many, one at least, inside an envelope.
 fn gives_both<T: RTreeObject>(
     alloc: Global,
     first: T,
     second: T,
     area: T::Envelope,
     near: usize,
-) -> Result<bool, AllocError>
+) -> bool
 where
     T::Envelope: Copy,
     requires { 2 ≤ T.Envelope.Point.DIMENSIONS }
 {
     if first.envelope().is_empty() || second.envelope().is_empty() {
-        return Ok(false);
+        return false;
     }
-    match pair(alloc, first, second) {
-        Ok(tree) => gives_two(alloc, &tree, area, near),
-        Err(_) => Ok(false),
+    match &pair(alloc, first, second) {
+        Ok(tree) => gives_two(alloc, tree, area, near),
+        Err(_) => false,
     }
 }
 
 #[test]
-fn two_elements(rt: HostRuntime) -> Result<(), Fail> {
+fn two_elements(rt: HostRuntime) {
     assert!(rt; matches!(two_points(rt.alloc()), Ok(2)));
     let area = AABB::from_corners([0, 0], [1, 2]);
-    assert!(rt; gives_both(rt.alloc(), [1i64, 2], [3, 4], area, 1)?);
+    assert!(rt; gives_both(rt.alloc(), [1i64, 2], [3, 4], area, 1));
     let (front, back) = ([1i64, 2], [1, 2]);
     let (one, other) = (Doors { front, back }, Doors { front, back });
-    assert!(rt; gives_both(rt.alloc(), one, other, area, 2)?);
-    Ok(())
+    assert!(rt; gives_both(rt.alloc(), one, other, area, 2));
 }

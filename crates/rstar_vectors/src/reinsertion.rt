@@ -1,24 +1,40 @@
 //! Forced reinsertion: trees stay whole and sized, and a fixed sequence of points takes its shape.
 
+ghost use Rattle.rstar.specs.Trees.{IsWholeTree};
+
 use crate::node_sizes::{Emptying, Large, Small, Splitting};
 use crate::scenarios::{points, stands_within};
 use rstar::{DefaultParams, Envelope, RTree, RTreeObject, RTreeParams};
 use std::alloc::Global;
 use std::test::Fail;
 
-/// Whether a tree stands, and has its size, after each insertion of a list of elements.
-fn all_stand<T: RTreeObject + Copy, Params: RTreeParams>(alloc: Global, elements: &[T]) -> bool {
-    let mut tree: RTree<T, Params> = RTree::default(alloc);
-    for k in 0..elements.len() {
-        let element = elements[k];
-        if element.envelope().is_empty() || tree.insert(element).is_err() {
-            return false;
-        }
-        if tree.size() != k + 1 || !stands_within(&tree, Params::MIN_SIZE, Params::MAX_SIZE) {
+/// Whether elements go into a tree, one after another, and it stands after each with one more, where each parent has from
+/// `least` to `most` children.
+pub(crate) fn all_go_in<T: RTreeObject + Copy, Params: RTreeParams>(
+    tree: &mut RTree<T, Params>,
+    elements: &[T],
+    least: usize,
+    most: usize,
+) -> bool
+    requires { IsWholeTree T.Envelope.boxes T.object Params.MAX_SIZE tree.old }
+{
+    for element in elements {
+        let count = tree.size().saturating_add(1);
+        if element.envelope().is_empty()
+            || tree.insert(*element).is_err()
+            || tree.size() != count
+            || !stands_within(tree, least, most)
+        {
             return false;
         }
     }
     true
+}
+
+/// The same of an empty tree, where the node sizes bound the children.
+fn all_stand<T: RTreeObject + Copy, Params: RTreeParams>(alloc: Global, elements: &[T]) -> bool {
+    let mut tree: RTree<T, Params> = RTree::default(alloc);
+    all_go_in(&mut tree, elements, Params::MIN_SIZE, Params::MAX_SIZE)
 }
 
 /// Whether trees of all these node sizes stand after each insertion.

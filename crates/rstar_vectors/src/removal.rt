@@ -6,7 +6,7 @@ ghost use Rattle.std.specs.Prelude.{◌≡◌, ◌<◌, ◌≤◌, false, IfSome
 ghost use Rattle.rstar.specs.Drains.{drained, IsDraining};
 ghost use Rattle.rstar.specs.Trees.{IsWholeTree};
 
-use crate::neighbour_rows::take;
+use crate::loads::are_same;
 use crate::node_sizes::Wide;
 use crate::scenarios::{ALONG_A_LINE, inserted, loaded, points, stands};
 use crate::selections::LeftOnly;
@@ -331,20 +331,22 @@ fn drains_all_of<T: EqualEnvelopes + Copy>(
         && tree.size().saturating_add(asked.len()) == elements.len()
 }
 
-/// Whether a tree of these elements gives each of them when it is taken apart, and then none.
-fn gives_all<T: RTreeObject + PartialEq + Copy>(alloc: Global, elements: &[T]) -> bool {
-    let Ok(mut rest) = Vec::from_slice(alloc, elements) else {
-        return false;
-    };
-    let tree = inserted::<T, DefaultParams>(alloc, elements);
-    let Ok(mut all) = tree.into_iter() else {
-        return false;
-    };
-    let mut there = true;
-    while let Some(element) = all.next() {
-        there = take(&mut rest, &element) && there;
+/// What a tree gives when it is taken apart.
+fn taken_apart<T: RTreeObject>(alloc: Global, tree: RTree<T>) -> Result<Vec<T>, AllocError>
+    requires { IsWholeTree T.Envelope.boxes T.object ⟦<DefaultParams as RTreeParams>⟧.MAX_SIZE tree }
+{
+    match tree.into_iter() {
+        Ok(all) => all.collect(alloc),
+        Err(_) => Err(AllocError),
     }
-    there && rest.is_empty()
+}
+
+/// Whether a tree of these elements gives them when it is taken apart, each once and no other.
+fn gives_all<T: RTreeObject + Ord + Copy>(alloc: Global, elements: &[T]) -> bool {
+    match &mut taken_apart(alloc, inserted(alloc, elements)) {
+        Ok(all) => are_same(alloc, all, elements),
+        Err(_) => false,
+    }
 }
 
 /// A short line from each of these points on.
@@ -424,10 +426,10 @@ fn drains_that_are_given_up(rt: HostRuntime) {
 // A node of 90 leaves, and four of 75: a drain keeps the merge of those that it has not come to.
 #[test]
 fn wide_nodes_are_drained(rt: HostRuntime) -> Result<(), Fail> {
-    for count in [90, 300] {
-        for most in [0, 1, 9, 10, 57, 58, 59, 60, 75, 80, 90, 299, 300] {
-            let half = AABB::from_corners([0, 0], [50, 102]);
-            let all = points(rt.alloc(), count)?;
+    let half = AABB::from_corners([0, 0], [50, 102]);
+    for &count in &[90, 300] {
+        let all = points(rt.alloc(), count)?;
+        for &most in &[0, 1, 9, 10, 57, 58, 59, 60, 75, 80, 90, 299, 300] {
             assert!(rt;
                 loaded_stands::<[i32; 2], Wide>(rt.alloc(), &all, half, most),
                 "{count} {most}"
@@ -448,8 +450,7 @@ fn drains_end_where_none_is_left(rt: HostRuntime) -> Result<(), Fail> {
     let area = AABB::from_corners([20, 20], [70, 80]);
     let all = points(rt.alloc(), 300)?;
     let asked = met(rt.alloc(), &all, &area)?;
-    assert!(rt; 80 < asked.len());
-    assert!(rt; drains_all_of(rt.alloc(), &all, (area, area), 40, &asked));
+    assert!(rt; 80 < asked.len() && drains_all_of(rt.alloc(), &all, (area, area), 40, &asked));
     Ok(())
 }
 
@@ -478,7 +479,7 @@ fn callers_drain_boxes_and_insert_again(rt: HostRuntime) {
 
 #[test]
 fn a_tree_is_taken_apart(rt: HostRuntime) -> Result<(), Fail> {
-    for count in [0, 1, 3, 7, 60] {
+    for &count in &[0, 1, 3, 7, 60] {
         assert!(rt; gives_all(rt.alloc(), &points(rt.alloc(), count)?));
     }
     Ok(())
