@@ -12,16 +12,13 @@ ghost use Rattle.rstar.specs.Trees.{root_of, elements_in, IsWholeTree};
 use crate::payloads::Plot;
 use crate::scenarios::{ALONG_A_LINE, inserted, loaded};
 use rstar::iterators::{InEnvelope, IntersectionIterator};
-use rstar::primitives::{GeomWithData, Rectangle};
+use rstar::primitives::Rectangle;
 use rstar::{AABB, DefaultParams, Envelope, Point, RTree, RTreeObject, RTreeParams};
 use std::alloc::{AllocError, Global};
 use std::test::Fail;
 
 /// Two corners.
 type Corners = ([i32; 2], [i32; 2]);
-
-/// A rectangle with a number, at points of any type.
-type PlotAt<P> = GeomWithData<Rectangle<P>, u64>;
 
 /// Pairs of elements, and how many pairs of nodes were opened for them.
 pub type Paired<'a, T, U> = (Vec<(&'a T, &'a U)>, usize);
@@ -99,27 +96,54 @@ fn count<T: RTreeObject, U: InEnvelope<T::Envelope>>(
     }
 }
 
-/// Plots between these corners, numbered from 0 on.
-fn plots<P: Point + Copy>(alloc: Global, corners: &[(P, P)]) -> Result<Vec<PlotAt<P>>, AllocError> {
+/// Rectangles between these corners.
+fn rectangles<P: Point + Copy>(
+    alloc: Global,
+    corners: &[(P, P)],
+) -> Result<Vec<Rectangle<P>>, AllocError> {
     let mut all = Vec::new(alloc);
     for (one, other) in corners {
-        let number = all.len() as u64;
-        all.push(GeomWithData::new(Rectangle::from_corners(*one, *other), number))?;
+        all.push(Rectangle::from_corners(*one, *other))?;
     }
     Ok(all)
 }
 
-/// Whether the joins of two trees of these elements, either of them on the left, count so.
+/// Whether a join of two trees of elements of one type counts so, and that of the second with the first.
+fn meet_alike<T: RTreeObject>(
+    alloc: Global,
+    left: &RTree<T>,
+    right: &RTree<T>,
+    counts: (usize, usize),
+) -> bool
+    requires left { IsWholeTree T.Envelope.boxes T.object ⟦<DefaultParams as RTreeParams>⟧.MAX_SIZE left.now }
+    requires right { IsWholeTree T.Envelope.boxes T.object ⟦<DefaultParams as RTreeParams>⟧.MAX_SIZE right.now }
+{
+    count(alloc, left, right) == Some(counts) && count(alloc, right, left) == Some(counts)
+}
+
+/// The same of elements of two types.
+fn meet_both_ways<
+    T: InEnvelope<<U as RTreeObject>::Envelope>,
+    U: InEnvelope<<T as RTreeObject>::Envelope>,
+>(alloc: Global, left: &RTree<T>, right: &RTree<U>, counts: (usize, usize)) -> bool
+    requires left { IsWholeTree T.Envelope.boxes T.object ⟦<DefaultParams as RTreeParams>⟧.MAX_SIZE left.now }
+    requires right { IsWholeTree U.Envelope.boxes U.object ⟦<DefaultParams as RTreeParams>⟧.MAX_SIZE right.now }
+{
+    count(alloc, left, right) == Some(counts) && count(alloc, right, left) == Some(counts)
+}
+
+/// Whether elements meet others so, those points so, and the points themselves so.
 fn meet<
     T: InEnvelope<<U as RTreeObject>::Envelope> + Copy,
     U: InEnvelope<<T as RTreeObject>::Envelope> + Copy,
->(alloc: Global, lefts: &[T], rights: &[U], counts: (usize, usize)) -> bool {
+>(alloc: Global, lefts: &[T], rights: &[T], points: &[U], counts: &[(usize, usize); 3]) -> bool {
     let left = inserted(alloc, lefts);
     let right = inserted(alloc, rights);
-    left.size() == lefts.len()
-        && right.size() == rights.len()
-        && count(alloc, &left, &right) == Some(counts)
-        && count(alloc, &right, &left) == Some(counts)
+    let third = inserted(alloc, points);
+    [left.size(), right.size(), third.size()] == [lefts.len(), rights.len(), points.len()]
+        && meet_alike(alloc, &left, &right, counts[0])
+        && meet_both_ways(alloc, &left, &third, counts[1])
+        && meet_alike(alloc, &third, &third, counts[2])
 }
 
 const SQUARE: Corners = ([0, 0], [2, 2]);
@@ -135,7 +159,7 @@ const DIAGONAL: [Corners; 7] = [
     ([103, 103], [104, 104]),
 ];
 
-/// The corners of the plots of two trees, the points of a third, and three counts of pairs and of pairs of nodes opened.
+/// The corners of the rectangles of two trees, the points of a third, and three counts of pairs and of pairs of nodes opened.
 type Meeting = (
     &'static [Corners],
     &'static [Corners],
@@ -146,8 +170,8 @@ type Meeting = (
 // Of the points along a line with themselves.
 const LINE: (usize, usize) = (7, 3);
 
-// What is counted is the plots, those of the first tree with the points, and the points with themselves: trees of one
-// height, and of two, and empty ones on either side.
+// What is counted is the rectangles, those of the first tree with the points, and the points with themselves: trees of
+// one height, and of two, and empty ones on either side.
 const MEETINGS: [Meeting; 10] = [
     (
         &[SQUARE, SQUARE],
@@ -186,28 +210,25 @@ const MEETINGS: [Meeting; 10] = [
     ),
 ];
 
-/// Whether plots between these corners meet others so, those points so, and the points themselves so.
-fn plots_meet<P: Point + Copy>(
+/// The same of rectangles between these corners.
+fn rectangles_meet<P: Point + Copy>(
     alloc: Global,
     lefts: &[(P, P)],
     rights: &[(P, P)],
     points: &[P],
     counts: &[(usize, usize); 3],
-) -> Result<bool, AllocError> {
-    let lefts = plots(alloc, lefts)?;
-    Ok(
-        meet(alloc, &lefts, &plots(alloc, rights)?, counts[0])
-            && meet(alloc, &lefts, points, counts[1])
-            && meet(alloc, points, points, counts[2]),
-    )
+) -> bool {
+    match (&rectangles(alloc, lefts), &rectangles(alloc, rights)) {
+        (Ok(lefts), Ok(rights)) => meet(alloc, lefts, rights, points, counts),
+        _ => false,
+    }
 }
 
 #[test]
-fn pairs_that_intersect(rt: HostRuntime) -> Result<(), Fail> {
-    for &(lefts, rights, points, counts) in &MEETINGS {
-        assert!(rt; plots_meet(rt.alloc(), lefts, rights, points, &counts)?);
+fn pairs_that_intersect(rt: HostRuntime) {
+    for (lefts, rights, points, counts) in &MEETINGS {
+        assert!(rt; rectangles_meet(rt.alloc(), lefts, rights, points, counts));
     }
-    Ok(())
 }
 
 /// Whether pairs are those that a scan of two lists finds, in some order, and there are some.
@@ -307,7 +328,8 @@ fn apart(alloc: Global, count: usize, is_odd: bool) -> Result<Vec<[i32; 2]>, All
 // rstar's `test_trivial_intersections`: how many points of a parity, and how many of the other.
 #[test]
 fn points_meet_themselves_alone(rt: HostRuntime) -> Result<(), Fail> {
-    for &(count, is_odd, others) in &[(1000, false, 2000), (2000, true, 1000)] {
+    const ROWS: [(usize, bool, usize); 2] = [(1000, false, 2000), (2000, true, 1000)];
+    for &(count, is_odd, others) in &ROWS {
         let all = apart(rt.alloc(), count, is_odd)?;
         let rest = apart(rt.alloc(), others, !is_odd)?;
         assert!(rt; met_by_loads(rt.alloc(), &all, &rest, 0, count));
@@ -335,13 +357,11 @@ fn spread(
 // rstar's `test_intersection_between_trees`: loads of 100 and of 42 rectangles; and some that split more.
 #[test]
 fn joins_give_what_a_scan_gives(rt: HostRuntime) -> Result<(), Fail> {
-    for &(left, right) in &[(100, 42), (42, 100), (3, 500), (300, 300)] {
-        let lefts = plots(rt.alloc(), &spread(rt.alloc(), left, 37, 53)?)?;
-        let rights = plots(rt.alloc(), &spread(rt.alloc(), right, 59, 31)?)?;
-        assert!(rt;
-            met_as_scanned(rt.alloc(), &lefts, &rights),
-            "{left} {right}"
-        );
+    const ROWS: [(u64, u64); 4] = [(100, 42), (42, 100), (3, 500), (300, 300)];
+    for &(left, right) in &ROWS {
+        let lefts = rectangles(rt.alloc(), &spread(rt.alloc(), left, 37, 53)?)?;
+        let rights = rectangles(rt.alloc(), &spread(rt.alloc(), right, 59, 31)?)?;
+        assert!(rt; met_as_scanned(rt.alloc(), &lefts, &rights));
     }
     Ok(())
 }

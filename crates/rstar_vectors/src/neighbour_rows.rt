@@ -1,6 +1,6 @@
 //! Neighbours: rows, a plain scan beside the tree, and elements that note when they are asked.
 
-ghost use Rattle.std.specs.Prelude.{◌≡◌, ◌≤◌, IfSome};
+ghost use Rattle.std.specs.Prelude.{◌≡◌, ◌≤◌, IfSome, IsTrue};
 ghost use Rattle.std.specs.Mem.{FitsInMemory};
 ghost use Rattle.rstar_base.specs.Elements.{carried_objects, carried_distances};
 ghost use Rattle.rstar_base.specs.Sizes.{IsNarrow};
@@ -24,19 +24,24 @@ use std::test::Fail;
 
 type At = [i32; 2];
 
-/// The squared distance of the next neighbour, and how many parents are opened then; none at the end, or where it is
-/// refused.
-fn next_with_opened<T: PointDistance>(
+/// Whether the next neighbour lies at this squared distance, with so many parents opened then, where that is told.
+fn is_next<T: PointDistance>(
     neighbors: &mut NearestNeighborDistance2Iterator<'_, T>,
-) -> Option<(Distance<T>, usize)>
+    distance: Distance<T>,
+    opened: Option<&usize>,
+) -> bool
     requires { IsSearching T.Envelope.boxes T.object T.distances T.Envelope.Point.DIMENSIONS
         T.Envelope.Point.coord T.Envelope.Point.Scalar.cmp T.Envelope.Point.Scalar.value neighbors.old }
-    ensures { IfSome result (λ _. IsSearching T.Envelope.boxes T.object T.distances T.Envelope.Point.DIMENSIONS
-        T.Envelope.Point.coord T.Envelope.Point.Scalar.cmp T.Envelope.Point.Scalar.value neighbors.new) }
+    ensures { IsTrue result → IsSearching T.Envelope.boxes T.object T.distances T.Envelope.Point.DIMENSIONS
+        T.Envelope.Point.coord T.Envelope.Point.Scalar.cmp T.Envelope.Point.Scalar.value neighbors.new }
 {
     match neighbors.next() {
-        Some(Ok((_, found))) => Some((found, neighbors.opened())),
-        _ => None,
+        Some(Ok((_, found))) => found == distance
+            && match opened {
+                Some(count) => *count == neighbors.opened(),
+                None => true,
+            },
+        _ => false,
     }
 }
 
@@ -50,20 +55,13 @@ fn gives<T: PointDistance>(
     requires { IsSearching T.Envelope.boxes T.object T.distances T.Envelope.Point.DIMENSIONS
         T.Envelope.Point.coord T.Envelope.Point.Scalar.cmp T.Envelope.Point.Scalar.value neighbors.old }
 {
-    if neighbors.opened() != 0 {
-        return false;
-    }
+    let is_fresh = neighbors.opened() == 0;
     for k in 0..distances.len() {
-        match next_with_opened(neighbors) {
-            Some((found, count)) => if found != distances[k]
-                || (k < opened.len() && opened[k] != count)
-            {
-                return false;
-            },
-            None => return false,
+        if !is_next(neighbors, distances[k], opened.get(k)) {
+            return false;
         }
     }
-    neighbors.next().is_none()
+    is_fresh && neighbors.next().is_none()
 }
 
 /// The next element of an iterator without distances; none at the end, or where it is refused.
@@ -185,14 +183,12 @@ fn are_least_with_distance<T: PointDistance>(
     place: &PointOf<T>,
     least: Option<(Distance<T>, usize)>,
 ) -> bool {
-    match least {
-        Some((distance, count)) => match &found {
-            Ok(Some((all, one))) => {
-                *one == distance && are_least(all, place, Some((distance, count)))
-            }
-            _ => false,
-        },
-        None => matches!(&found, Ok(None)),
+    match (&found, least) {
+        (Ok(Some((all, one))), Some((distance, _))) => {
+            *one == distance && are_least(all, place, least)
+        }
+        (Ok(None), None) => true,
+        _ => false,
     }
 }
 

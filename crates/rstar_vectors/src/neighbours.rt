@@ -16,7 +16,7 @@ use rstar::params::{DefaultParams, RTreeParams};
 use rstar::rtree::RTree;
 use rstar_base::aabb::AABB;
 use rstar_base::envelope::Envelope;
-use rstar_base::object::{PointDistance, PointOf, RTreeObject};
+use rstar_base::object::{Distance, PointDistance, PointOf, RTreeObject};
 use rstar_base::point::{Point, RTreeNum};
 use rstar_base::primitives::{GeomWithData, Line, Rectangle};
 use std::alloc::{AllocError, Global};
@@ -146,22 +146,28 @@ fn nearest_plots<'a>(
     first_at(alloc, tree, place, most)
 }
 
-/// A point nearest to a place with its squared distance, and all those: by the functions over a root.
-fn nearest_below<'a>(
-    tree: &'a RTree<At>,
-    place: At,
-) -> Result<(Option<(&'a At, i64)>, Option<(Vec<&'a At>, i64)>), AllocError>
-    requires { IsWholeTree ⟦<AABB<[i64; 2]> as Envelope>⟧.boxes ⟦<[i64; 2] as RTreeObject>⟧.object
-        ⟦<DefaultParams as RTreeParams>⟧.MAX_SIZE tree.now }
-    ensures none { IfOk result (λ r. IfNone r.0 (elements_in tree.now ≡ [])) }
-    ensures one { IfOk result (λ r. IfSome r.0 (λ x. IsNearest
-        (λ t. ⟦<[i64; 2] as PointDistance>⟧.distances.distance_2 t (table 2 (⟦<[i64; 2] as Point>⟧.coord place)))
-        (elements_in tree.now) x.0.now)) }
-    ensures all { IfOk result (λ r. IfSome r.1 (λ x. (d : ℕ) × (x.1 ≡ pos d) × AreNearest
-        (λ t. ⟦<[i64; 2] as PointDistance>⟧.distances.distance_2 t (table 2 (⟦<[i64; 2] as Point>⟧.coord place)))
+/// An element nearest to a place with its squared distance, by the function over a root.
+fn one_below<'a, T: PointDistance>(
+    tree: &'a RTree<T>,
+    place: PointOf<T>,
+) -> Result<Option<(&'a T, Distance<T>)>, AllocError>
+    requires { IsWholeTree T.Envelope.boxes T.object ⟦<DefaultParams as RTreeParams>⟧.MAX_SIZE tree.now }
+    ensures none { IfOk result (λ r. IfNone r (elements_in tree.now ≡ [])) }
+    ensures one { IfOk result (λ r. IfSome r (λ x. IsNearest (λ t. T.distances.distance_2 t
+        (table T.Envelope.Point.DIMENSIONS (T.Envelope.Point.coord place))) (elements_in tree.now) x.0.now)) }
+{
+    nearest_neighbor_with_distance_2(tree.root(), place)
+}
+
+/// All elements nearest to a place with their squared distance, by the function over a root.
+fn all_below<'a, T: PointDistance>(
+    tree: &'a RTree<T>,
+    place: PointOf<T>,
+) -> Result<Option<(Vec<&'a T>, Distance<T>)>, AllocError>
+    requires { IsWholeTree T.Envelope.boxes T.object ⟦<DefaultParams as RTreeParams>⟧.MAX_SIZE tree.now }
+    ensures { IfOk result (λ r. IfSome r (λ x. (d : ℕ) × (T.Envelope.Point.Scalar.value x.1 ≡ pos d) × AreNearest
+        (λ t. T.distances.distance_2 t (table T.Envelope.Point.DIMENSIONS (T.Envelope.Point.coord place)))
         (elements_in tree.now) d (map (λ t. t.now) x.0.items))) }
 {
-    let one = nearest_neighbor_with_distance_2(tree.root(), place)?;
-    let all = nearest_neighbors_with_distance_2(tree.root(), place)?;
-    Ok((one, all))
+    nearest_neighbors_with_distance_2(tree.root(), place)
 }

@@ -371,91 +371,98 @@ mod tests {
         PointOf<R>: Copy,
     {
         let mut tree = inserted::<GeomWithData<R, u64>, DefaultParams>(alloc, elements);
+        let (one, two) = if is_inside { (9, 10) } else { (7, 7) };
         carries(&tree, other, 7)
-            && renumber(&mut tree, point, 9) == is_inside
-            && carries(&tree, other, if is_inside { 9 } else { 7 })
-            && renumber_int(&mut tree, point, 10) == is_inside
-            && carries(&tree, other, if is_inside { 10 } else { 7 })
+            & (renumber(&mut tree, point, 9) == is_inside)
+            & carries(&tree, other, one)
+            & (renumber_int(&mut tree, point, 10) == is_inside)
+            & carries(&tree, other, two)
     }
 
     // A plot that holds 7, written at points inside it, its border included, and not at one outside.
     #[test]
     fn a_number_is_written_where_a_plot_contains_the_point(rt: HostRuntime) {
         let plot = Plot::new(Rectangle::from_corners([0, 0], [2, 2]), 7);
-        for &(point, other, is_inside) in &[
+        const ROWS: [([i64; 2], [i64; 2], bool); 3] = [
             ([1, 1], [1, 1], true),
             ([3, 3], [1, 1], false),
             ([2, 2], [0, 0], true),
-        ] {
+        ];
+        for &(point, other, is_inside) in &ROWS {
             assert!(rt; writes_inside(rt.alloc(), &[plot], point, other, is_inside));
         }
     }
 
-    /// A square with its number at each of a hundred places, ten in a row.
-    fn squares(alloc: Global) -> Result<Vec<Plot>, AllocError> {
-        let mut all = Vec::new(alloc);
-        for number in 0..100u64 {
-            let (x, y) = ((number % 10) as i64 * 10, (number / 10) as i64 * 10);
-            let square = Rectangle::from_corners([x, y], [x + 9, y + 9]);
-            all.push(Plot::new(square, number))?;
-        }
-        Ok(all)
-    }
-
-    /// The numbers of all elements, in the order of a walk.
-    fn numbers<R: RTreeObject>(
+    /// Rectangles between these corners, numbered from 0 on.
+    fn numbered<P: Point + Copy>(
         alloc: Global,
-        tree: &RTree<GeomWithData<R, u64>>,
-    ) -> Result<Vec<u64>, AllocError>
-        requires { IsWholeTree R.Envelope.boxes ⟦<GeomWithData<R, u64> as RTreeObject>⟧.object
-            ⟦<DefaultParams as RTreeParams>⟧.MAX_SIZE tree.now }
-    {
-        let mut walk = tree.iter()?;
+        corners: &[(P, P)],
+    ) -> Result<Vec<GeomWithData<Rectangle<P>, u64>>, AllocError> {
         let mut all = Vec::new(alloc);
-        while let Some(element) = walk.next() {
-            all.push(element.data)?;
+        for (one, other) in corners {
+            let number = all.len() as u64;
+            all.push(GeomWithData::new(Rectangle::from_corners(*one, *other), number))?;
         }
         Ok(all)
     }
 
-    /// In how many places two lists differ.
-    fn differing(one: &[u64], other: &[u64]) -> usize {
+    /// The corners of a square at each of a hundred places, ten in a row.
+    fn squares(alloc: Global) -> Result<Vec<([i64; 2], [i64; 2])>, AllocError> {
+        let mut all = Vec::new(alloc);
+        for number in 0..100i64 {
+            let (x, y) = (number % 10 * 10, number / 10 * 10);
+            all.push(([x, y], [x + 9, y + 9]))?;
+        }
+        Ok(all)
+    }
+
+    /// How many elements of a list are among some.
+    fn common<T: PartialEq>(elements: &[T], found: &[&T]) -> usize {
         let mut count = 0usize;
-        for (a, b) in one.iter().zip(other.iter()) {
-            if a != b {
+        for element in elements {
+            if (&*found).contains(&element) {
                 count = count.saturating_add(1);
             }
         }
         count
     }
 
-    /// Whether a write at a point changes one number of all, which is read at another point.
-    fn changes_one<R: PointDistance + Copy>(
+    /// Whether a walk gives as many elements as a list has, and so many of that list.
+    fn gives_of<T: RTreeObject + PartialEq>(
+        alloc: Global,
+        tree: &RTree<T>,
+        elements: &[T],
+        count: usize,
+    ) -> bool
+        requires { IsWholeTree T.Envelope.boxes T.object ⟦<DefaultParams as RTreeParams>⟧.MAX_SIZE tree.now }
+    {
+        match &all_of(alloc, tree) {
+            Ok((found, _)) => found.len() == elements.len() && common(elements, found) == count,
+            Err(_) => false,
+        }
+    }
+
+    /// Whether a write at a point changes one element of all, whose number is read at another point.
+    fn changes_one<R: PointDistance + PartialEq + Copy>(
         alloc: Global,
         elements: &[GeomWithData<R, u64>],
         point: PointOf<R>,
         other: PointOf<R>,
-    ) -> Result<bool, AllocError>
+    ) -> bool
     where
         PointOf<R>: Copy,
     {
         let mut tree = inserted::<GeomWithData<R, u64>, DefaultParams>(alloc, elements);
-        let before = numbers(alloc, &tree)?;
-        let is_written = renumber(&mut tree, point, 1000);
-        let after = numbers(alloc, &tree)?;
-        Ok(
-            is_written
-                && before.len() == elements.len()
-                && after.len() == elements.len()
-                && differing(before.as_slice(), after.as_slice()) == 1
-                && carries(&tree, other, 1000),
-        )
+        gives_of(alloc, &tree, elements, elements.len())
+            & renumber(&mut tree, point, 1000)
+            & gives_of(alloc, &tree, elements, elements.len().saturating_sub(1))
+            & carries(&tree, other, 1000)
     }
 
     #[test]
     fn one_number_of_a_hundred_changes(rt: HostRuntime) -> Result<(), Fail> {
-        let plots = squares(rt.alloc())?;
-        assert!(rt; changes_one(rt.alloc(), &plots, [57, 31], [50, 39])?);
+        let plots = numbered(rt.alloc(), &squares(rt.alloc())?)?;
+        assert!(rt; changes_one(rt.alloc(), &plots, [57, 31], [50, 39]));
         Ok(())
     }
 }

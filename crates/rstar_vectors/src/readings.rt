@@ -120,13 +120,16 @@ mod tests {
     use rstar::primitives::Rectangle;
     use std::alloc::Global;
 
+    /// Whether there is an element inside an envelope, one that it touches, and one at a point.
+    type Told = (bool, bool, bool);
+
     /// Whether visits come upon an element of a tree as told: inside an envelope, touched by it, and at a point.
     fn comes_upon<T: PointDistance + Copy>(
         alloc: Global,
         elements: &[T],
         area: T::Envelope,
         point: PointOf<T>,
-        told: (bool, bool, bool),
+        told: Told,
     ) -> bool
     where
         T::Envelope: Copy,
@@ -138,21 +141,21 @@ mod tests {
             && first_selected(&tree, point).is_some() == told.2
     }
 
-    // Two corners of a box, whether it holds the one plot and the one point there are, and whether it touches the plot.
+    // Two corners of a box, and what is told of the one point there is, at the first corner, and of the one plot, at the
+    // second.
     #[test]
     fn a_visit_comes_upon_what_is_selected(rt: HostRuntime) {
+        const ROWS: [(At, At, Told, Told); 4] = [
+            ([0, 0], [2, 2], (true, true, false), (true, true, true)),
+            ([1, 1], [1, 1], (true, true, true), (false, true, true)),
+            ([2, 2], [3, 3], (false, false, false), (false, true, false)),
+            ([3, 3], [4, 4], (false, false, false), (false, false, false)),
+        ];
         let square = Plot::new(Rectangle::from_corners([0i64, 0], [2, 2]), 7);
-        for &(one, other, point, plot, touched) in &[
-            ([0, 0], [2, 2], true, true, true),
-            ([1, 1], [1, 1], true, false, true),
-            ([2, 2], [3, 3], false, false, true),
-            ([3, 3], [4, 4], false, false, false),
-        ] {
+        for &(one, other, point, plot) in &ROWS {
             let area = AABB::from_corners(one, other);
-            let told = (point, point, one == [1, 1]);
-            assert!(rt; comes_upon(rt.alloc(), &[[1i64, 1]], area, one, told));
-            let told = (plot, touched, other[0] <= 2);
-            assert!(rt; comes_upon(rt.alloc(), &[square], area, other, told));
+            assert!(rt; comes_upon(rt.alloc(), &[[1i64, 1]], area, one, point));
+            assert!(rt; comes_upon(rt.alloc(), &[square], area, other, plot));
         }
     }
 }

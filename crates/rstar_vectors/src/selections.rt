@@ -363,13 +363,14 @@ fn found_points<P: Point + Copy>(
 fn selections_of_one_rectangle(rt: HostRuntime) {
     let one = [Rectangle::from_corners([0i32, 0], [2, 2])];
     let middle = AABB::from_point([1, 1]);
-    for &(point, limit, at, near) in &[
+    const ROWS: [([i32; 2], i32, usize, usize); 5] = [
         ([1, 1], 0, 1, 1),
         ([4, 2], 3, 0, 0),
         ([4, 2], 4, 0, 1),
         ([2, 2], 0, 1, 1),
         ([3, 3], 0, 0, 0),
-    ] {
+    ];
+    for &(point, limit, at, near) in &ROWS {
         let counts = found_rectangles(rt.alloc(), &one, middle, point, limit);
         assert!(rt; counts == Some([1, 0, 1, at, near]));
     }
@@ -384,14 +385,15 @@ fn rectangles_about_a_rectangle(rt: HostRuntime) {
         Rectangle::from_corners([60, 0], [100, 100]),
         Rectangle::from_corners([25, 0], [75, 100]),
     ];
-    for &(lower, upper, inside, touching, at) in &[
+    const ROWS: [([i32; 2], [i32; 2], usize, usize, usize); 6] = [
         ([0, 0], [40, 100], 1, 2, 1),
         ([60, 0], [100, 100], 1, 2, 2),
         ([25, 0], [75, 100], 1, 3, 2),
         ([50, 7], [50, 9], 0, 1, 1),
         ([100, 100], [101, 101], 0, 1, 1),
         ([101, 0], [101, 1], 0, 0, 0),
-    ] {
+    ];
+    for &(lower, upper, inside, touching, at) in &ROWS {
         let area = AABB::from_corners(lower, upper);
         let counts = found_rectangles(rt.alloc(), &three, area, lower, 0);
         assert!(rt; counts == Some([3, inside, touching, at, at]));
@@ -410,13 +412,14 @@ fn the_empty_box_and_the_full_range(rt: HostRuntime) {
 // corners, of which the first two hold all, and a point and a squared distance.
 #[test]
 fn a_thousand_points_are_found_as_by_a_scan(rt: HostRuntime) -> Result<(), Fail> {
-    let all = points(rt.alloc(), 1000)?;
-    for &(one, other, origin, limit) in &[
+    const ROWS: [([i32; 2], [i32; 2], [i32; 2], i32); 4] = [
         ([0, 0], [100, 102], [20, 60], 900),
         ([50, 50], [100, 100], [0, 0], 0),
         ([0, 0], [9, 102], [50, 50], 10000),
         ([7, 7], [7, 7], [7, 7], 1),
-    ] {
+    ];
+    let all = points(rt.alloc(), 1000)?;
+    for &(one, other, origin, limit) in &ROWS {
         let area = AABB::from_corners(one, other);
         assert!(rt; found_points(rt.alloc(), &all, area, origin, limit).is_some());
     }
@@ -437,8 +440,9 @@ fn rectangles(alloc: Global, points: &[[i32; 2]]) -> Result<Vec<Rectangle<[i32; 
 // rstar's test `test_locate_all`, on other rectangles: how many of a list contain a point.
 #[test]
 fn rectangles_at_a_point_are_found_as_by_a_scan(rt: HostRuntime) -> Result<(), Fail> {
+    const PLACES: [[i32; 2]; 6] = [[0, 0], [50, 50], [7, 93], [100, 102], [105, -5], [200, 0]];
     let all = rectangles(rt.alloc(), &points(rt.alloc(), 1000)?)?;
-    for point in [[0, 0], [50, 50], [7, 93], [100, 102], [105, -5], [200, 0]] {
+    for &point in &PLACES {
         let counts = found_rectangles(rt.alloc(), &all, AABB::from_point(point), point, 9);
         assert!(rt; counts.is_some());
     }
