@@ -231,6 +231,22 @@ fn pairs_that_intersect(rt: HostRuntime) {
     }
 }
 
+// A rectangle with a number in the place of one without.
+#[test]
+fn plots_meet_points(rt: HostRuntime) {
+    let plots = [Plot::new(Rectangle::from_corners([0, 0], [2, 2]), 7)];
+    let points = [[0i64, 0], [2, 2], [2, 2], [5, 5]];
+    assert!(rt;
+        meet(
+            rt.alloc(),
+            &plots,
+            &plots,
+            &points,
+            &[(1, 1), (3, 1), (6, 1)]
+        )
+    );
+}
+
 /// Whether pairs are those that a scan of two lists finds, in some order, and there are some.
 fn are_scanned<T: RTreeObject + PartialEq>(pairs: &[(&T, &T)], lefts: &[T], rights: &[T]) -> bool {
     let mut wanted = 0usize;

@@ -9,10 +9,10 @@ ghost use Rattle.rstar.specs.Neighbors.{with_distances, IsSearching};
 ghost use Rattle.rstar.specs.Trees.{IsWholeTree};
 ghost use Rattle.rstar_vectors.specs.Fits.{iterator_row, alone_row};
 
+use crate::neighbours::{all_below, one_below};
 use crate::scenarios::{ALONG_A_LINE, inserted, loaded, points};
 use rstar::algorithm::nearest_neighbor::{
-    NearestNeighborDistance2Iterator, NearestNeighborIterator, nearest_neighbor_with_distance_2,
-    nearest_neighbors_with_distance_2,
+    NearestNeighborDistance2Iterator, NearestNeighborIterator,
 };
 use rstar::object::{Distance, PointDistance, PointOf, RTreeObject};
 use rstar::point::{Point, RTreeNum};
@@ -204,22 +204,14 @@ where
 {
     is_least_alone(tree.nearest_neighbor(place), &place, least)
         && is_least(tree.nearest_neighbor_with_distance_2(place), &place, least)
-        && is_least(
-            nearest_neighbor_with_distance_2(tree.root(), place),
-            &place,
-            least,
-        )
+        && is_least(one_below(tree, place), &place, least)
         && are_least_alone(tree.nearest_neighbors(&place), &place, least)
         && are_least_with_distance(
             tree.nearest_neighbors_with_distance_2(&place),
             &place,
             least,
         )
-        && are_least_with_distance(
-            nearest_neighbors_with_distance_2(tree.root(), place),
-            &place,
-            least,
-        )
+        && are_least_with_distance(all_below(tree, place), &place, least)
 }
 
 /// Whether all neighbours of a place lie at these squared distances, by each call that leaves the tree, with so many

@@ -147,7 +147,7 @@ fn nearest_plots<'a>(
 }
 
 /// An element nearest to a place with its squared distance, by the function over a root.
-fn one_below<'a, T: PointDistance>(
+pub(crate) fn one_below<'a, T: PointDistance>(
     tree: &'a RTree<T>,
     place: PointOf<T>,
 ) -> Result<Option<(&'a T, Distance<T>)>, AllocError>
@@ -160,7 +160,7 @@ fn one_below<'a, T: PointDistance>(
 }
 
 /// All elements nearest to a place with their squared distance, by the function over a root.
-fn all_below<'a, T: PointDistance>(
+pub(crate) fn all_below<'a, T: PointDistance>(
     tree: &'a RTree<T>,
     place: PointOf<T>,
 ) -> Result<Option<(Vec<&'a T>, Distance<T>)>, AllocError>
