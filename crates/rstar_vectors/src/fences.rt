@@ -100,6 +100,7 @@ fn count_and_sum<R: RTreeObject>(
     requires { IsWholeTree R.Envelope.boxes ⟦<GeomWithData<R, u64> as RTreeObject>⟧.object
         ⟦<DefaultParams as RTreeParams>⟧.MAX_SIZE tree.now }
 {
+    // In the place of a `?`, which the check pays for in each statement that has a walk in hand.
     let Ok(mut found) = tree.locate_in_envelope(envelope) else {
         return Err(AllocError);
     };

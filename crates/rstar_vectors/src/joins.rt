@@ -159,7 +159,8 @@ const DIAGONAL: [Corners; 7] = [
     ([103, 103], [104, 104]),
 ];
 
-/// The corners of the rectangles of two trees, the points of a third, and three counts of pairs and of pairs of nodes opened.
+/// The corners of the rectangles of two trees, the points of a third, and three counts of pairs and of pairs of nodes
+/// opened.
 type Meeting = (
     &'static [Corners],
     &'static [Corners],

@@ -1,7 +1,8 @@
 //! Steps that tests of every subject share: trees made of a list of elements, and whether a tree stands.
 //!
 //! What is done to a tree is generic, a test gives it elements: what is proved once for all types is cheap, the same
-//! steps at a concrete type are dear.
+//! steps at a concrete type are dear. What may be refused and holds a list, a walk or a tree is matched and lent, where
+//! one would write `?`: docs/DECISIONS.md has what each form costs.
 
 ghost use Rattle.std.specs.Prelude.{◌≤◌, IsTrue, IfOk};
 ghost use Rattle.rstar.specs.Loaded.{NoneEmpty};
