@@ -1,4 +1,5 @@
 pub mod Callers
+pub mod Drained
 pub mod FirstSeen
 pub mod Fits
 pub mod GivenSoFar

@@ -2,7 +2,8 @@
 //!
 //! What is done to trees is generic, and a test gives it elements.
 
-ghost use Rattle.std.specs.Prelude.{◌≡◌, ◌≤◌, min, map, IfOk};
+ghost use Rattle.std.specs.Prelude.{◌≡◌, ◌≤◌, min, map, None, IfOk};
+ghost use Rattle.std.specs.Iterator.{IsFinite, YieldsThen};
 ghost use Rattle.std.specs.List.Sorted.{IsPermutation};
 ghost use Rattle.rstar.specs.Boxes.{boxes_intersect};
 ghost use Rattle.rstar.specs.Joins.{meets_by, join, meet_by, pairs_to_come, IsJoining};
@@ -12,13 +13,31 @@ ghost use Rattle.rstar.specs.Trees.{root_of, elements_in, IsWholeTree};
 use crate::payloads::Plot;
 use crate::scenarios::{ALONG_A_LINE, inserted, loaded};
 use rstar::iterators::{InEnvelope, IntersectionIterator};
-use rstar::primitives::Rectangle;
+use rstar::primitives::{GeomWithData, Rectangle};
 use rstar::{AABB, DefaultParams, Envelope, Point, RTree, RTreeObject, RTreeParams};
 use std::alloc::{AllocError, Global};
 use std::test::Fail;
 
 /// Two corners.
 type Corners = ([i32; 2], [i32; 2]);
+
+/// A rectangle with a number.
+type Numbered = GeomWithData<Rectangle<[i32; 2]>, u64>;
+
+/// All that an iterator gives, up to its end.
+fn drained<I: Iterator>(alloc: Global, items: &mut I) -> Result<Vec<I::Item>, AllocError>
+where
+    I::Item: Drop,
+    requires can { I.can_next items.old }
+    requires ends { IsFinite (I.remaining items.old) }
+    ensures { IfOk result (λ all. YieldsThen I.next_gives items.old all.items None items.new) }
+{
+    let mut all = Vec::new(alloc);
+    while let Some(item) = items.next() {
+        all.push(item)?;
+    }
+    Ok(all)
+}
 
 /// Pairs of elements, and how many pairs of nodes were opened for them.
 pub type Paired<'a, T, U> = (Vec<(&'a T, &'a U)>, usize);
@@ -34,11 +53,13 @@ fn paired<'a, T: RTreeObject, U: InEnvelope<T::Envelope>>(
     ensures opened { IfOk result (λ r. r.1
         ≡ min (meet_by (meets_by T.Envelope.boxes U.seen) T.object.box_of U.object.box_of pairs.entry) usize.MAX) }
 {
-    let mut all = Vec::new(alloc);
-    while let Some(pair) = pairs.next() {
-        all.push(pair)?;
+    let all = drained(alloc, &mut pairs);
+    let opened = pairs.opened();
+    drop(pairs);
+    match all {
+        Ok(all) => Ok((all, opened)),
+        Err(refused) => Err(refused),
     }
-    Ok((all, pairs.opened()))
 }
 
 /// The pairs of elements of two trees that meet: those that a scan of all pairs finds, in some order.
@@ -81,69 +102,73 @@ pub fn plots_joined<'a>(
     joined(alloc, left, right)
 }
 
-/// How many pairs a join gives, and how many pairs of nodes it opens; none where it is refused.
-fn count<T: RTreeObject, U: InEnvelope<T::Envelope>>(
+/// Whether a join gives so many pairs, and opens so many pairs of nodes where that is told.
+fn joins_so<T: RTreeObject, U: InEnvelope<T::Envelope>>(
     alloc: Global,
     left: &RTree<T>,
     right: &RTree<U>,
-) -> Option<(usize, usize)>
+    count: usize,
+    opened: Option<usize>,
+) -> bool
     requires left { IsWholeTree T.Envelope.boxes T.object ⟦<DefaultParams as RTreeParams>⟧.MAX_SIZE left.now }
     requires right { IsWholeTree U.Envelope.boxes U.object ⟦<DefaultParams as RTreeParams>⟧.MAX_SIZE right.now }
 {
     match &joined(alloc, left, right) {
-        Ok((pairs, opened)) => Some((pairs.len(), *opened)),
-        Err(_) => None,
+        Ok((pairs, seen)) => pairs.len() == count && opened.unwrap_or(*seen) == *seen,
+        Err(_) => false,
     }
 }
 
-/// Rectangles between these corners.
-fn rectangles<P: Point + Copy>(
-    alloc: Global,
-    corners: &[(P, P)],
-) -> Result<Vec<Rectangle<P>>, AllocError> {
-    let mut all = Vec::new(alloc);
-    for (one, other) in corners {
-        all.push(Rectangle::from_corners(*one, *other))?;
-    }
-    Ok(all)
-}
-
-/// Whether a join of two trees of elements of one type counts so, and that of the second with the first.
-fn meet_alike<T: RTreeObject>(
-    alloc: Global,
-    left: &RTree<T>,
-    right: &RTree<T>,
-    counts: (usize, usize),
-) -> bool
-    requires left { IsWholeTree T.Envelope.boxes T.object ⟦<DefaultParams as RTreeParams>⟧.MAX_SIZE left.now }
-    requires right { IsWholeTree T.Envelope.boxes T.object ⟦<DefaultParams as RTreeParams>⟧.MAX_SIZE right.now }
-{
-    count(alloc, left, right) == Some(counts) && count(alloc, right, left) == Some(counts)
-}
-
-/// The same of elements of two types.
+/// Whether a join of two trees of these elements counts so, and that of the second with the first.
 fn meet_both_ways<
-    T: InEnvelope<<U as RTreeObject>::Envelope>,
-    U: InEnvelope<<T as RTreeObject>::Envelope>,
->(alloc: Global, left: &RTree<T>, right: &RTree<U>, counts: (usize, usize)) -> bool
-    requires left { IsWholeTree T.Envelope.boxes T.object ⟦<DefaultParams as RTreeParams>⟧.MAX_SIZE left.now }
-    requires right { IsWholeTree U.Envelope.boxes U.object ⟦<DefaultParams as RTreeParams>⟧.MAX_SIZE right.now }
-{
-    count(alloc, left, right) == Some(counts) && count(alloc, right, left) == Some(counts)
+    T: InEnvelope<<U as RTreeObject>::Envelope> + Copy,
+    U: InEnvelope<<T as RTreeObject>::Envelope> + Copy,
+>(alloc: Global, lefts: &[T], rights: &[U], counts: (usize, usize)) -> bool {
+    let left = inserted(alloc, lefts);
+    let right = inserted(alloc, rights);
+    left.size() == lefts.len()
+        && right.size() == rights.len()
+        && joins_so(alloc, &left, &right, counts.0, Some(counts.1))
+        && joins_so(alloc, &right, &left, counts.0, Some(counts.1))
+}
+
+/// The same of elements of one type.
+fn meet_alike<T: RTreeObject + Copy>(
+    alloc: Global,
+    lefts: &[T],
+    rights: &[T],
+    counts: (usize, usize),
+) -> bool {
+    meet_both_ways(alloc, lefts, rights, counts)
 }
 
 /// Whether elements meet others so, those points so, and the points themselves so.
 fn meet<
     T: InEnvelope<<U as RTreeObject>::Envelope> + Copy,
     U: InEnvelope<<T as RTreeObject>::Envelope> + Copy,
->(alloc: Global, lefts: &[T], rights: &[T], points: &[U], counts: &[(usize, usize); 3]) -> bool {
-    let left = inserted(alloc, lefts);
-    let right = inserted(alloc, rights);
-    let third = inserted(alloc, points);
-    [left.size(), right.size(), third.size()] == [lefts.len(), rights.len(), points.len()]
-        && meet_alike(alloc, &left, &right, counts[0])
-        && meet_both_ways(alloc, &left, &third, counts[1])
-        && meet_alike(alloc, &third, &third, counts[2])
+>(
+    alloc: Global,
+    lefts: &Result<Vec<T>, AllocError>,
+    rights: &Result<Vec<T>, AllocError>,
+    points: &[U],
+    counts: &[(usize, usize); 3],
+) -> bool {
+    match (lefts, rights) {
+        (Ok(lefts), Ok(rights)) => meet_alike(alloc, lefts, rights, counts[0])
+            && meet_both_ways(alloc, lefts, points, counts[1])
+            && meet_alike(alloc, points, points, counts[2]),
+        _ => false,
+    }
+}
+
+/// Rectangles between these corners, with a number each.
+fn numbered(alloc: Global, corners: &[Corners]) -> Result<Vec<Numbered>, AllocError> {
+    let mut all = Vec::new(alloc);
+    for (one, other) in corners {
+        let number = all.len() as u64;
+        all.push(Numbered::new(Rectangle::from_corners(*one, *other), number))?;
+    }
+    Ok(all)
 }
 
 const SQUARE: Corners = ([0, 0], [2, 2]);
@@ -211,41 +236,24 @@ const MEETINGS: [Meeting; 10] = [
     ),
 ];
 
-/// The same of rectangles between these corners.
-fn rectangles_meet<P: Point + Copy>(
-    alloc: Global,
-    lefts: &[(P, P)],
-    rights: &[(P, P)],
-    points: &[P],
-    counts: &[(usize, usize); 3],
-) -> bool {
-    match (&rectangles(alloc, lefts), &rectangles(alloc, rights)) {
-        (Ok(lefts), Ok(rights)) => meet(alloc, lefts, rights, points, counts),
-        _ => false,
+/// Whether each row of a table is so.
+//
+// The table is lent by the test: its walk holds no constant of many rows.
+fn all_meet(alloc: Global, rows: &[Meeting]) -> bool {
+    for (lefts, rights, points, counts) in rows {
+        let lefts = numbered(alloc, lefts);
+        let rights = numbered(alloc, rights);
+        if !meet(alloc, &lefts, &rights, points, counts) {
+            return false;
+        }
     }
+    true
 }
 
+// The rectangles have a number, so that what carries an element is joined with points, and with its like.
 #[test]
 fn pairs_that_intersect(rt: HostRuntime) {
-    for (lefts, rights, points, counts) in &MEETINGS {
-        assert!(rt; rectangles_meet(rt.alloc(), lefts, rights, points, counts));
-    }
-}
-
-// A rectangle with a number in the place of one without.
-#[test]
-fn plots_meet_points(rt: HostRuntime) {
-    let plots = [Plot::new(Rectangle::from_corners([0, 0], [2, 2]), 7)];
-    let points = [[0i64, 0], [2, 2], [2, 2], [5, 5]];
-    assert!(rt;
-        meet(
-            rt.alloc(),
-            &plots,
-            &plots,
-            &points,
-            &[(1, 1), (3, 1), (6, 1)]
-        )
-    );
+    assert!(rt; all_meet(rt.alloc(), &MEETINGS));
 }
 
 /// Whether pairs are those that a scan of two lists finds, in some order, and there are some.
@@ -275,8 +283,8 @@ fn gives_scanned<T: RTreeObject + PartialEq>(
     requires left { IsWholeTree T.Envelope.boxes T.object ⟦<DefaultParams as RTreeParams>⟧.MAX_SIZE left.now }
     requires right { IsWholeTree T.Envelope.boxes T.object ⟦<DefaultParams as RTreeParams>⟧.MAX_SIZE right.now }
 {
-    match joined(alloc, left, right) {
-        Ok((pairs, _opened)) => are_scanned(&pairs, lefts, rights),
+    match &joined(alloc, left, right) {
+        Ok((pairs, _)) => are_scanned(pairs, lefts, rights),
         Err(_) => false,
     }
 }
@@ -284,14 +292,21 @@ fn gives_scanned<T: RTreeObject + PartialEq>(
 /// The same of the loads of two lists.
 fn met_as_scanned<T: RTreeObject + PartialEq + Copy>(
     alloc: Global,
-    lefts: &[T],
-    rights: &[T],
+    lefts: &Result<Vec<T>, AllocError>,
+    rights: &Result<Vec<T>, AllocError>,
 ) -> bool
     requires { 2 ≤ T.Envelope.Point.DIMENSIONS }
 {
-    let left = loaded(alloc, lefts);
-    let right = loaded(alloc, rights);
-    gives_scanned(alloc, &left, &right, lefts, rights)
+    match (lefts, rights) {
+        (Ok(lefts), Ok(rights)) => gives_scanned(
+            alloc,
+            &loaded(alloc, lefts),
+            &loaded(alloc, rights),
+            lefts,
+            rights,
+        ),
+        _ => false,
+    }
 }
 
 /// Whether a join of two loads gives so many pairs, and one of the first with itself.
@@ -306,8 +321,7 @@ fn met_by_loads<T: RTreeObject + Copy>(
 {
     let left = loaded(alloc, lefts);
     let right = loaded(alloc, rights);
-    matches!(count(alloc, &left, &right), Some((n, _)) if n == pairs)
-        && matches!(count(alloc, &left, &left), Some((n, _)) if n == own)
+    joins_so(alloc, &left, &right, pairs, None) && joins_so(alloc, &left, &left, own, None)
 }
 
 /// The points `[i, 0]` for each number below a count.
@@ -354,31 +368,30 @@ fn points_meet_themselves_alone(rt: HostRuntime) -> Result<(), Fail> {
     Ok(())
 }
 
-/// So many pairs of corners, spread by two factors.
+/// So many rectangles, spread by two factors.
 fn spread(
     alloc: Global,
     count: u64,
     across: u64,
     along: u64,
-) -> Result<Vec<([i64; 2], [i64; 2])>, AllocError> {
-    let mut corners = Vec::new(alloc);
+) -> Result<Vec<Rectangle<[i64; 2]>>, AllocError> {
+    let mut all = Vec::new(alloc);
     for number in 0..count {
         let x = (number.wrapping_mul(across) % 101) as i64;
         let y = (number.wrapping_mul(along) % 103) as i64;
         let upper = [x + (number % 11) as i64, y + (number % 13) as i64];
-        corners.push(([x, y], upper))?;
+        all.push(Rectangle::from_corners([x, y], upper))?;
     }
-    Ok(corners)
+    Ok(all)
 }
 
 // rstar's `test_intersection_between_trees`: loads of 100 and of 42 rectangles; and some that split more.
 #[test]
-fn joins_give_what_a_scan_gives(rt: HostRuntime) -> Result<(), Fail> {
+fn joins_give_what_a_scan_gives(rt: HostRuntime) {
     const ROWS: [(u64, u64); 4] = [(100, 42), (42, 100), (3, 500), (300, 300)];
     for &(left, right) in &ROWS {
-        let lefts = rectangles(rt.alloc(), &spread(rt.alloc(), left, 37, 53)?)?;
-        let rights = rectangles(rt.alloc(), &spread(rt.alloc(), right, 59, 31)?)?;
+        let lefts = spread(rt.alloc(), left, 37, 53);
+        let rights = spread(rt.alloc(), right, 59, 31);
         assert!(rt; met_as_scanned(rt.alloc(), &lefts, &rights));
     }
-    Ok(())
 }

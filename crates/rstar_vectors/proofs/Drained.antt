@@ -1,0 +1,40 @@
+-- What a loop over any iterator has taken, and what all that a join gives says of the join.
+use Rattle.std.proofs.Common.{◌≡◌, ◌∙◌, List, ◌++◌, ◌∷◌, [], map, min, Bool, Option, Some, None, refl, sym, ap, ap₂, subst}
+use Rattle.std.specs.Borrow.{Bor}
+use Rattle.std.specs.Iterator.{Yields, YieldsThen}
+use Rattle.rstar.specs.declared.iterators.joins.IntersectionIterator.{IntersectionIterator}
+use Rattle.rstar.specs.declared.node.ParentNode.{ParentNode}
+use Rattle.rstar.specs.Joins.{pairs_to_come, pairs_opened, meet_by, GivesPair}
+use Rattle.rstar.specs.Meets.{meet_of_roots}
+use Rattle.rstar_base.specs.Counts.{usize_max}
+
+module _ {S A : Type 0} (steps : S → Option A → S → Type 0) where
+  pub none-yielded : (none : List A) (s : S) → none ≡ [] → Yields steps s none s
+  none-yielded none s e = subst (λ (xs : List A). Yields steps s xs s) (sym e) refl
+
+  further : (xs : List A) (x : A) (s t u : S) → Yields steps s xs t → steps t (Some x) u → Yields steps s (xs ++ x ∷ []) u
+  further [] x s t u y e = (u, subst (λ (k : S). steps k (Some x) u) (sym y) e, refl)
+  further (z ∷ xs) x s t u y e = (y.0, y.1, further xs x y.0 t u y.2 e)
+
+  pub one-more-yielded : (xs more : List A) (x : A) (s t u : S) → more ≡ xs ++ x ∷ [] → Yields steps s xs t → steps t (Some x) u → Yields steps s more u
+  one-more-yielded xs more x s t u m y e = subst (λ (l : List A). Yields steps s l u) (sym m) (further xs x s t u y e)
+
+module _ {T E P S X U F Q R Y : Type 0} (meets : E → F → Bool) (left_box : T → E) (right_box : U → F) where
+  -- the pairs that were to come
+  pub all-pairs : (xs : List (Bor T × Bor U)) (it end : IntersectionIterator T U E P S X F Q R Y)
+      → YieldsThen (GivesPair meets left_box right_box) it xs None end
+      → map (λ p. (p.0.now, p.1.now)) xs ≡ pairs_to_come meets left_box right_box it
+  all-pairs [] it end y = sym (ap (pairs_to_come meets left_box right_box) y.1 ∙ y.2.gives.0)
+  all-pairs (x ∷ xs) it end y =
+      let step = y.1.1 in
+      ap (λ (l : List (T × U)). (x.0.now, x.1.now) ∷ l) (all-pairs xs y.1.0 end (y.0, y.1.2, y.2)) ∙ sym step.gives
+
+  -- how many pairs of nodes were opened then
+  pub all-opened : (xs : List (Bor T × Bor U)) (it end : IntersectionIterator T U E P S X F Q R Y)
+      → YieldsThen (GivesPair meets left_box right_box) it xs None end
+      → pairs_opened end ≡ min (meet_by meets left_box right_box it) usize_max
+  all-opened [] it end y = y.2.ended ∙ ap (λ (i : IntersectionIterator T U E P S X F Q R Y). min (meet_by meets left_box right_box i) usize_max) (sym y.1)
+  all-opened (x ∷ xs) it end y =
+      let step = y.1.1 in
+      all-opened xs y.1.0 end (y.0, y.1.2, y.2)
+      ∙ ap₂ (λ (l : ParentNode T E P S X) (r : ParentNode U F Q R Y). min (meet_of_roots meets left_box right_box l r) usize_max) step.left step.right
