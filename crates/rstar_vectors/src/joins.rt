@@ -151,12 +151,13 @@ fn meet<
     lefts: &Result<Vec<T>, AllocError>,
     rights: &Result<Vec<T>, AllocError>,
     points: &[U],
-    counts: &[(usize, usize); 3],
+    counts: &[(usize, usize); 2],
+    own: (usize, usize),
 ) -> bool {
     match (lefts, rights) {
         (Ok(lefts), Ok(rights)) => meet_alike(alloc, lefts, rights, counts[0])
             && meet_both_ways(alloc, lefts, points, counts[1])
-            && meet_alike(alloc, points, points, counts[2]),
+            && meet_alike(alloc, points, points, own),
         _ => false,
     }
 }
@@ -184,66 +185,40 @@ const DIAGONAL: [Corners; 7] = [
     ([103, 103], [104, 104]),
 ];
 
-/// The corners of the rectangles of two trees, the points of a third, and three counts of pairs and of pairs of nodes
-/// opened.
-type Meeting = (
-    &'static [Corners],
-    &'static [Corners],
-    &'static [[i32; 2]],
-    [(usize, usize); 3],
-);
+/// The corners of the rectangles of two trees, and the counts of pairs and of pairs of nodes opened: of these trees, and
+/// of the first with one of points.
+type Meeting = (&'static [Corners], &'static [Corners], [(usize, usize); 2]);
 
-// Of the points along a line with themselves.
-const LINE: (usize, usize) = (7, 3);
-
-// What is counted is the rectangles, those of the first tree with the points, and the points with themselves: trees of
-// one height, and of two, and empty ones on either side.
-const MEETINGS: [Meeting; 10] = [
-    (
-        &[SQUARE, SQUARE],
-        &[([2, 2], [4, 4])],
-        &ALONG_A_LINE,
-        [(2, 1), (6, 3), LINE],
-    ),
-    (
-        &[([2, 2], [4, 4])],
-        &[SQUARE, SQUARE],
-        &ALONG_A_LINE,
-        [(2, 1), (0, 0), LINE],
-    ),
-    (
-        &[SQUARE],
-        &[([3, 3], [4, 4])],
-        &ALONG_A_LINE,
-        [(0, 0), (3, 2), LINE],
-    ),
-    (&[SQUARE], &[], &ALONG_A_LINE, [(0, 0), (3, 2), LINE]),
-    (&[SQUARE], &DIAGONAL, &ALONG_A_LINE, [(3, 2), (3, 2), LINE]),
-    (&DIAGONAL, &DIAGONAL, &ALONG_A_LINE, [(17, 3), (2, 2), LINE]),
-    (&[], &[], &ALONG_A_LINE, [(0, 0), (0, 0), LINE]),
-    (&[SQUARE], &[SQUARE], &[], [(1, 1), (0, 0), (0, 0)]),
-    (
-        &[SQUARE],
-        &[SQUARE],
-        &[[0, 0], [2, 2], [2, 2], [5, 5]],
-        [(1, 1), (3, 1), (6, 1)],
-    ),
-    (
-        &[SQUARE, ([2, 2], [4, 4])],
-        &[],
-        &[[0, 0], [2, 2], [2, 2], [5, 5]],
-        [(0, 0), (5, 1), (6, 1)],
-    ),
+// With points along a line: trees of one height, and of two, and empty ones on either side.
+const AT_A_LINE: [Meeting; 7] = [
+    (&[SQUARE, SQUARE], &[([2, 2], [4, 4])], [(2, 1), (6, 3)]),
+    (&[([2, 2], [4, 4])], &[SQUARE, SQUARE], [(2, 1), (0, 0)]),
+    (&[SQUARE], &[([3, 3], [4, 4])], [(0, 0), (3, 2)]),
+    (&[SQUARE], &[], [(0, 0), (3, 2)]),
+    (&[SQUARE], &DIAGONAL, [(3, 2), (3, 2)]),
+    (&DIAGONAL, &DIAGONAL, [(17, 3), (2, 2)]),
+    (&[], &[], [(0, 0), (0, 0)]),
 ];
 
-/// Whether each row of a table is so.
+// With four points, of which two lie in one place.
+const NEAR: [[i32; 2]; 4] = [[0, 0], [2, 2], [2, 2], [5, 5]];
+
+const AT_FOUR: [Meeting; 2] = [
+    (&[SQUARE], &[SQUARE], [(1, 1), (3, 1)]),
+    (&[SQUARE, ([2, 2], [4, 4])], &[], [(0, 0), (5, 1)]),
+];
+
+// With no points.
+const AT_NONE: [Meeting; 1] = [(&[SQUARE], &[SQUARE], [(1, 1), (0, 0)])];
+
+/// Whether each row of a table is so with these points, and the points with themselves.
 //
 // The table is lent by the test: its walk holds no constant of many rows.
-fn all_meet(alloc: Global, rows: &[Meeting]) -> bool {
-    for (lefts, rights, points, counts) in rows {
+fn all_meet(alloc: Global, rows: &[Meeting], points: &[[i32; 2]], own: (usize, usize)) -> bool {
+    for (lefts, rights, counts) in rows {
         let lefts = numbered(alloc, lefts);
         let rights = numbered(alloc, rights);
-        if !meet(alloc, &lefts, &rights, points, counts) {
+        if !meet(alloc, &lefts, &rights, points, counts, own) {
             return false;
         }
     }
@@ -253,7 +228,9 @@ fn all_meet(alloc: Global, rows: &[Meeting]) -> bool {
 // The rectangles have a number, so that what carries an element is joined with points, and with its like.
 #[test]
 fn pairs_that_intersect(rt: HostRuntime) {
-    assert!(rt; all_meet(rt.alloc(), &MEETINGS));
+    assert!(rt; all_meet(rt.alloc(), &AT_A_LINE, &ALONG_A_LINE, (7, 3)));
+    assert!(rt; all_meet(rt.alloc(), &AT_FOUR, &NEAR, (6, 1)));
+    assert!(rt; all_meet(rt.alloc(), &AT_NONE, &[], (0, 0)));
 }
 
 /// Whether pairs are those that a scan of two lists finds, in some order, and there are some.
