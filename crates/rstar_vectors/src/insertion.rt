@@ -241,8 +241,7 @@ fn too_many_lists_are_refused_first(rt: HostRuntime) {
 /// all parents below.
 fn splits_once<T: RTreeObject + Copy>(alloc: Global, elements: &[T]) -> bool {
     let tree = &inserted::<T, DefaultParams>(alloc, elements);
-    [tree.size(), tree.root().children().len()] == [elements.len(), 2]
-        && stands_within(tree, 3, 6)
+    [tree.size(), tree.root().children().len()] == [elements.len(), 2] && stands_within(tree, 3, 6)
 }
 
 #[test]
