@@ -11,7 +11,7 @@ use rstar::algorithm::bulk_load::bulk_load_sequential;
 use rstar::node::{ParentNode, RTreeNode};
 use rstar::object::PointOf;
 use rstar::params::{DefaultParams, RTreeParams};
-use rstar::primitives::{GeomWithData, Rectangle};
+use rstar::primitives::Rectangle;
 use rstar::rtree::RTree;
 use rstar_base::aabb::AABB;
 use rstar_base::envelope::Envelope;
@@ -565,9 +565,6 @@ pub fn found_and_count<T: PointDistance>(
     (found, tree.size())
 }
 
-/// A rectangle with the number of what it fences in.
-type Fence = GeomWithData<Rectangle<[i64; 2]>, u64>;
-
 #[test]
 fn callers_load_query_and_insert(rt: HostRuntime) -> Result<(), Fail> {
     let tree = points_loaded(rt.alloc(), [7, 8])?;
@@ -591,10 +588,9 @@ fn found_in_load<T: PointDistance + Copy>(
 }
 
 #[test]
-fn fences_are_loaded_queried_and_inserted(rt: HostRuntime) {
-    let near = Fence::new(Rectangle::from_corners([0, 0], [2, 2]), 7);
-    let far = Fence::new(Rectangle::from_corners([5, 5], [9, 9]), 8);
-    let more = Fence::new(Rectangle::from_corners([9, 9], [5, 5]), 9);
-    let found = found_in_load(rt.alloc(), &[near, far], [1, 1], more);
-    assert!(rt; found == Some((true, 3)));
+fn rectangles_are_loaded_queried_and_inserted(rt: HostRuntime) {
+    let near = Rectangle::from_corners([0i64, 0], [2, 2]);
+    let far = Rectangle::from_corners([5, 5], [9, 9]);
+    let more = Rectangle::from_corners([9, 9], [5, 5]);
+    assert!(rt; found_in_load(rt.alloc(), &[near, far], [1, 1], more) == Some((true, 3)));
 }
