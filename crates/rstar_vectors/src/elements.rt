@@ -120,8 +120,17 @@ fn rectangles_of_boxes(rt: HostRuntime) {
     assert!(rt; is_between(&same, [1, 1], [2, 4]));
 }
 
-/// Whether an element is so far from a point, which it does not contain, as what carries it with a number and a reference
-/// to that are, and these hold the number.
+/// Whether an element is so far from a point, which it does not contain, and a reference to it is as far.
+fn lent_is_so_far<T: PointDistance>(
+    element: &T,
+    point: &PointOf<T>,
+    distance: Distance<T>,
+) -> bool {
+    is_so_far(element, point, distance, false)
+        && is_so_far(&ObjectRef::new(element), point, distance, false)
+}
+
+/// The same of an element that carries a number, which it holds, and of what it carries.
 fn carried_is_so_far<R: PointDistance>(
     element: R,
     point: &PointOf<R>,
@@ -129,11 +138,9 @@ fn carried_is_so_far<R: PointDistance>(
 ) -> bool {
     let mut road = GeomWithData::new(element, 7u64);
     road.data = 8;
-    let lent = ObjectRef::new(&road);
-    lent.data == 8
+    ObjectRef::new(&road).data == 8
         && is_so_far(road.geom(), point, distance, false)
-        && is_so_far(&road, point, distance, false)
-        && is_so_far(&lent, point, distance, false)
+        && lent_is_so_far(&road, point, distance)
 }
 
 /// Whether a point with a number is at its place, and contains it.

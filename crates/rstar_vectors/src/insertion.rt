@@ -4,7 +4,7 @@ ghost use Rattle.std.specs.Prelude.{◌≡◌, ◌≤◌, false};
 ghost use Rattle.rstar.specs.Trees.{IsWholeTree};
 
 use crate::node_sizes::Huge;
-use crate::scenarios::{ALONG_A_LINE, inserted, levels_of, stands, stands_within};
+use crate::scenarios::{ALONG_A_LINE, inserted, stands, stands_within};
 use rstar::algorithm::rstar::{RStarInsertionStrategy, split_children};
 use rstar::node::{RTreeNode, envelope_for_children};
 use rstar::params::{
@@ -134,11 +134,10 @@ fn is_shaped<T: RTreeObject + Copy>(
     one: &(usize, T::Envelope),
     other: &(usize, T::Envelope),
 ) -> bool {
-    let tree = inserted::<T, DefaultParams>(alloc, elements);
+    let tree = &inserted::<T, DefaultParams>(alloc, elements);
     let nodes = tree.root().children();
-    tree.size() == elements.len()
-        && stands(&tree)
-        && nodes.len() == 2
+    [tree.size(), nodes.len()] == [elements.len(), 2]
+        && stands(tree)
         && has_node(nodes, one.0, &one.1)
         && has_node(nodes, other.0, &other.1)
 }
@@ -238,14 +237,11 @@ fn too_many_lists_are_refused_first(rt: HostRuntime) {
     assert!(rt; is_one_too_many(rt.alloc(), [0, 0]));
 }
 
-/// Whether the root of a tree of these elements has two parents of leaves, of three to six children each.
+/// Whether the root of a tree of these elements has two children, which are parents of three to six nodes each, as are
+/// all parents below.
 fn splits_once<T: RTreeObject + Copy>(alloc: Global, elements: &[T]) -> bool {
-    let tree = inserted::<T, DefaultParams>(alloc, elements);
-    let root = tree.root();
-    tree.size() == elements.len()
-        && root.children().len() == 2
-        && levels_of(root) == 1
-        && stands_within(&tree, 3, 6)
+    let tree = &inserted::<T, DefaultParams>(alloc, elements);
+    [tree.size(), tree.root().children().len()] == [elements.len(), 2] && stands_within(tree, 3, 6)
 }
 
 #[test]

@@ -11,7 +11,7 @@ use rstar::algorithm::bulk_load::bulk_load_sequential;
 use rstar::node::{ParentNode, RTreeNode};
 use rstar::object::PointOf;
 use rstar::params::{DefaultParams, RTreeParams};
-use rstar::primitives::{GeomWithData, Rectangle};
+use rstar::primitives::Rectangle;
 use rstar::rtree::RTree;
 use rstar_base::aabb::AABB;
 use rstar_base::envelope::Envelope;
@@ -233,10 +233,7 @@ fn deep_points(alloc: Global, count: usize) -> Result<Vec<[i32; 3]>, AllocError>
 fn loads_of_0_to_300_points_are_loaded(rt: HostRuntime) -> Result<(), Fail> {
     for count in 0..301 {
         let flat = points(rt.alloc(), count)?;
-        assert!(rt;
-            loads_well::<[i32; 2], DefaultParams>(rt.alloc(), &flat, 6),
-            "{count}"
-        );
+        assert!(rt; loads_well::<[i32; 2], DefaultParams>(rt.alloc(), &flat, 6));
     }
     Ok(())
 }
@@ -246,11 +243,8 @@ fn loads_of_many_sizes_are_loaded(rt: HostRuntime) -> Result<(), Fail> {
     for &count in &[5, 17, 63, 64, 65, 257, 693, 1024, 1537] {
         let flat = points(rt.alloc(), count)?;
         let deep = deep_points(rt.alloc(), count)?;
-        assert!(rt;
-            loads_well::<[i32; 2], Small>(rt.alloc(), &flat, 4)
-                && loads_well::<[i32; 3], DefaultParams>(rt.alloc(), &deep, 8),
-            "{count}"
-        );
+        assert!(rt; loads_well::<[i32; 2], Small>(rt.alloc(), &flat, 4));
+        assert!(rt; loads_well::<[i32; 3], DefaultParams>(rt.alloc(), &deep, 8));
     }
     Ok(())
 }
@@ -308,11 +302,13 @@ fn loads_have_their_parts(rt: HostRuntime) -> Result<(), Fail> {
     ];
     for &(count, levels, parts, below) in &ROWS {
         let flat = points(rt.alloc(), count)?;
-        assert!(rt;
-            loads_in_parts(rt.alloc(), &flat, levels, parts, below),
-            "{count}"
-        );
+        assert!(rt; loads_in_parts(rt.alloc(), &flat, levels, parts, below));
     }
+    Ok(())
+}
+
+#[test]
+fn a_load_in_three_dimensions_has_its_parts(rt: HostRuntime) -> Result<(), Fail> {
     let deep = deep_points(rt.alloc(), 7)?;
     assert!(rt; loads_in_parts(rt.alloc(), &deep, 1, &[1; 7], &[]));
     Ok(())
@@ -341,15 +337,11 @@ fn a_root_alone_is_loaded(rt: HostRuntime) -> Result<(), Fail> {
 // ---- what loaded trees take
 
 /// Whether a loaded tree takes more elements, one after another, and stands after each.
-fn takes_more<T: RTreeObject + Copy, Params: RTreeParams>(
-    alloc: Global,
-    elements: &[T],
-    more: &[T],
-) -> bool
+fn takes_more<T: RTreeObject + Copy>(alloc: Global, elements: &[T], more: &[T]) -> bool
     requires { 2 ≤ T.Envelope.Point.DIMENSIONS }
 {
-    let mut tree: RTree<T, Params> = loaded(alloc, elements);
-    tree.size() == elements.len() && all_go_in(&mut tree, more, 1, usize::MAX)
+    let tree = &mut loaded::<T, DefaultParams>(alloc, elements);
+    tree.size() == elements.len() && all_go_in(tree, more, 1, usize::MAX)
 }
 
 const LOADED: [[i32; 3]; 16] = [
@@ -385,16 +377,17 @@ const INSERTED: [[i32; 3]; 10] = [
 ];
 
 #[test]
-fn loaded_trees_take_insertions(rt: HostRuntime) -> Result<(), Fail> {
-    assert!(rt; takes_more::<[i32; 3], DefaultParams>(rt.alloc(), &LOADED, &INSERTED));
+fn a_loaded_tree_takes_insertions(rt: HostRuntime) {
+    assert!(rt; takes_more(rt.alloc(), &LOADED, &INSERTED));
+}
+
+// The second has a parent of leaves that is too wide: 7 of 25.
+#[test]
+fn loads_of_many_sizes_take_insertions(rt: HostRuntime) -> Result<(), Fail> {
     let more = points(rt.alloc(), 40)?;
-    // The second has a parent of leaves that is too wide: 7 of 25.
     for &count in &[0, 25, 28, 37, 300] {
         let flat = points(rt.alloc(), count)?;
-        assert!(rt;
-            takes_more::<[i32; 2], DefaultParams>(rt.alloc(), &flat, &more),
-            "{count}"
-        );
+        assert!(rt; takes_more(rt.alloc(), &flat, &more));
     }
     Ok(())
 }
@@ -453,7 +446,7 @@ fn loads_cloned_alone<T: RTreeObject + Copy + Debug>(alloc: Global, elements: &[
 fn clones_show_the_same(rt: HostRuntime) -> Result<(), Fail> {
     for &count in &[0, 1, 7, 25, 37, 300] {
         let flat = points(rt.alloc(), count)?;
-        assert!(rt; loads_cloned_alone(rt.alloc(), &flat, [7, 7]), "{count}");
+        assert!(rt; loads_cloned_alone(rt.alloc(), &flat, [7, 7]));
     }
     Ok(())
 }
@@ -478,7 +471,7 @@ fn a_tree_prints_its_size_and_elements(rt: HostRuntime) -> Result<(), Fail> {
     ];
     for &(count, text) in &ROWS {
         let same = vec![in rt.alloc(); [0, 1]; count]?;
-        assert!(rt; prints(rt.alloc(), &same, text), "{count}");
+        assert!(rt; prints(rt.alloc(), &same, text));
     }
     Ok(())
 }
@@ -543,7 +536,7 @@ fn a_refused_load_or_clone_may_be_asked_again(rt: HostRuntime) -> Result<(), Fai
             Ok(flat) => flat,
             Err(_) => points(rt.alloc(), count)?,
         };
-        assert!(rt; may_be_asked_again(rt.alloc(), &flat, &parts), "{count}");
+        assert!(rt; may_be_asked_again(rt.alloc(), &flat, &parts));
     }
     Ok(())
 }
@@ -572,9 +565,6 @@ pub fn found_and_count<T: PointDistance>(
     (found, tree.size())
 }
 
-/// A rectangle with the number of what it fences in.
-type Fence = GeomWithData<Rectangle<[i64; 2]>, u64>;
-
 #[test]
 fn callers_load_query_and_insert(rt: HostRuntime) -> Result<(), Fail> {
     let tree = points_loaded(rt.alloc(), [7, 8])?;
@@ -598,10 +588,9 @@ fn found_in_load<T: PointDistance + Copy>(
 }
 
 #[test]
-fn fences_are_loaded_queried_and_inserted(rt: HostRuntime) {
-    let near = Fence::new(Rectangle::from_corners([0, 0], [2, 2]), 7);
-    let far = Fence::new(Rectangle::from_corners([5, 5], [9, 9]), 8);
-    let more = Fence::new(Rectangle::from_corners([9, 9], [5, 5]), 9);
-    let found = found_in_load(rt.alloc(), &[near, far], [1, 1], more);
-    assert!(rt; found == Some((true, 3)));
+fn rectangles_are_loaded_queried_and_inserted(rt: HostRuntime) {
+    let near = Rectangle::from_corners([0i64, 0], [2, 2]);
+    let far = Rectangle::from_corners([5, 5], [9, 9]);
+    let more = Rectangle::from_corners([9, 9], [5, 5]);
+    assert!(rt; found_in_load(rt.alloc(), &[near, far], [1, 1], more) == Some((true, 3)));
 }
