@@ -121,18 +121,24 @@ fn least_of<S: RTreeNum>(ascending: &[S]) -> Option<(S, usize)> {
     Some((least, count))
 }
 
+/// Whether there is a least distance, and it is this.
+fn is_at<S: RTreeNum>(least: Option<(S, usize)>, distance: S) -> bool {
+    match least {
+        Some((number, _)) => number == distance,
+        None => false,
+    }
+}
+
 /// Whether a neighbour that was found, with its distance, lies at the least distance of some; none, where there is none.
 fn is_least<T: PointDistance>(
     found: Result<Option<(&T, Distance<T>)>, AllocError>,
     place: &PointOf<T>,
     least: Option<(Distance<T>, usize)>,
 ) -> bool {
-    match (found, least) {
-        (Ok(Some((element, distance))), Some((least, _))) => {
-            distance == least && element.distance_2(place) == least
-        }
-        (Ok(None), None) => true,
-        _ => false,
+    match found {
+        Ok(Some((element, one))) => is_at(least, one) && element.distance_2(place) == one,
+        Ok(None) => least.is_none(),
+        Err(_) => false,
     }
 }
 
@@ -142,10 +148,10 @@ fn is_least_alone<T: PointDistance>(
     place: &PointOf<T>,
     least: Option<(Distance<T>, usize)>,
 ) -> bool {
-    match (found, least) {
-        (Ok(Some(element)), Some((least, _))) => element.distance_2(place) == least,
-        (Ok(None), None) => true,
-        _ => false,
+    match found {
+        Ok(Some(element)) => is_at(least, element.distance_2(place)),
+        Ok(None) => least.is_none(),
+        Err(_) => false,
     }
 }
 
@@ -183,12 +189,10 @@ fn are_least_with_distance<T: PointDistance>(
     place: &PointOf<T>,
     least: Option<(Distance<T>, usize)>,
 ) -> bool {
-    match (&found, least) {
-        (Ok(Some((all, one))), Some((distance, _))) => {
-            *one == distance && are_least(all, place, least)
-        }
-        (Ok(None), None) => true,
-        _ => false,
+    match &found {
+        Ok(Some((all, one))) => is_at(least, *one) && are_least(all, place, least),
+        Ok(None) => least.is_none(),
+        Err(_) => false,
     }
 }
 
@@ -300,14 +304,35 @@ fn popped_at<T: PointDistance + PartialEq + Copy>(
     elements: &[T],
     place: PointOf<T>,
     distances: &[Distance<T>],
-) -> Result<bool, AllocError>
+) -> bool
 where
     PointOf<T>: Copy,
     requires dimensions { 2 ≤ T.Envelope.Point.DIMENSIONS }
 {
-    let mut rest = Vec::from_slice(alloc, elements)?;
-    let mut tree = loaded::<T, DefaultParams>(alloc, elements);
-    Ok(pops(&mut tree, &mut rest, place, distances))
+    match &mut Vec::from_slice(alloc, elements) {
+        Ok(rest) => {
+            let mut tree = loaded::<T, DefaultParams>(alloc, elements);
+            pops(&mut tree, rest, place, distances)
+        }
+        Err(_) => false,
+    }
+}
+
+/// Whether elements with numbers come at a place, and are popped at another, at these squared distances.
+fn numbered_come_and_go<R: PointDistance + PartialEq + Copy>(
+    alloc: Global,
+    elements: &[GeomWithData<R, u64>],
+    place: PointOf<R>,
+    distances: &[Distance<R>],
+    other: PointOf<R>,
+    popped: &[Distance<R>],
+) -> bool
+where
+    PointOf<R>: Copy,
+    requires narrow { IsNarrow R.Envelope.Point.row }
+    requires dimensions { 2 ≤ R.Envelope.Point.DIMENSIONS }
+{
+    come_at(alloc, elements, place, distances, &[]) && popped_at(alloc, elements, other, popped)
 }
 
 #[test]
@@ -318,14 +343,12 @@ fn lines_come_by_their_own_distances(rt: HostRuntime) {
 
 // Two plots that touch, both seen from a corner of the one and popped at the other's side, the other first.
 #[test]
-fn plots_come_by_their_own_distances(rt: HostRuntime) -> Result<(), Fail> {
+fn plots_come_by_their_own_distances(rt: HostRuntime) {
     let plots = [
         GeomWithData::new(Rectangle::from_corners([0i64, 0], [2, 2]), 7u64),
         GeomWithData::new(Rectangle::from_corners([2, 2], [4, 4]), 8),
     ];
-    assert!(rt; come_at(rt.alloc(), &plots, [0, 0], &[0, 8], &[]));
-    assert!(rt; popped_at(rt.alloc(), &plots, [9, 9], &[50, 98])?);
-    Ok(())
+    assert!(rt; numbered_come_and_go(rt.alloc(), &plots, [0, 0], &[0, 8], [9, 9], &[50, 98]));
 }
 
 // ---- beside a plain scan
@@ -452,13 +475,17 @@ fn popped_as_a_scan<T: PointDistance + PartialEq + Copy>(
     elements: &[T],
     place: PointOf<T>,
     first: &[Distance<T>],
-) -> Result<bool, AllocError>
+) -> bool
 where
     PointOf<T>: Copy,
     requires dimensions { 2 ≤ T.Envelope.Point.DIMENSIONS }
 {
-    let distances = scanned(alloc, elements, &place)?;
-    Ok(distances.starts_with(first) && popped_at(alloc, elements, place, &distances)?)
+    match &scanned(alloc, elements, &place) {
+        Ok(distances) => {
+            distances.starts_with(first) && popped_at(alloc, elements, place, distances)
+        }
+        Err(_) => false,
+    }
 }
 
 // The nearest first, each once, and then none: of an empty tree, of two points, and of a thousand.
@@ -471,7 +498,7 @@ fn the_nearest_are_popped_first(rt: HostRuntime) -> Result<(), Fail> {
         (&thousand, [50, 51], &[]),
     ];
     for &(list, place, distances) in &rows {
-        assert!(rt; popped_as_a_scan(rt.alloc(), list, place, distances)?);
+        assert!(rt; popped_as_a_scan(rt.alloc(), list, place, distances));
     }
     Ok(())
 }
@@ -552,17 +579,18 @@ fn asks_so<T: PointDistance>(
     neighbors.next().is_none()
 }
 
-/// The same of a tree, whose elements were asked before.
-fn asked_so<T: PointDistance>(
-    tree: &RTree<T>,
+/// The same of a tree of elements, which are asked as they are inserted, and counted from then on.
+fn asked_so<T: PointDistance + Copy>(
+    alloc: Global,
+    elements: &[T],
     place: PointOf<T>,
     near: &Cell<u32>,
     far: &Cell<u32>,
     rows: &[(u32, u32)],
 ) -> bool
-    requires narrow { IsNarrow T.Envelope.Point.row }
-    requires whole { IsWholeTree T.Envelope.boxes T.object ⟦<DefaultParams as RTreeParams>⟧.MAX_SIZE tree.now }
+    requires { IsNarrow T.Envelope.Point.row }
 {
+    let tree = inserted::<T, DefaultParams>(alloc, elements);
     near.set(0);
     far.set(0);
     fits::<PointOf<T>>();
@@ -600,10 +628,7 @@ fn note_who_is_asked<T: PointDistance + Copy>(
     let near = Cell::new(0u32);
     let far = Cell::new(0u32);
     match &noted(alloc, elements, first_far, &near, &far) {
-        Ok(list) => {
-            let tree = inserted::<Noting<'_, T>, DefaultParams>(alloc, list);
-            asked_so(&tree, place, &near, &far, rows)
-        }
+        Ok(list) => asked_so(alloc, list, place, &near, &far, rows),
         Err(_) => false,
     }
 }

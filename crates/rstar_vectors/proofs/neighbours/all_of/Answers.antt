@@ -42,3 +42,6 @@ pub returns-clause-opened : goal.returns-clause-opened
 returns-clause-opened g c =
     opened-all g.T.Envelope.Envelope.boxes g.T.PointDistance.distances g.T.Envelope.Point.Point.DIMENSIONS g.T.Envelope.Point.Point.coord (λ x. x.now) (with_distances c.loop-found.neighbors) _ (with_distances c.next.new.self) c.in_default.ensures.steps refl c.loop-found.invariant.going_on
     ∙ ap (λ r. min (parents_of r) usize_max) c.loop-found.invariant.root
+
+pub returns-clause-order : goal.returns-clause-order
+returns-clause-order g c = c.loop-found.invariant.first.order
