@@ -37,13 +37,16 @@ pub fn walked<'a, T: RTreeObject, Func: SelectionFunction<T>>(
 {
     let mut all = Vec::new(alloc);
     while let Some(element) = walk.next() {
-        all.push(element)?;
+        match all.push(element) {
+            Ok(()) => {}
+            Err(_) => return Err(AllocError),
+        }
     }
     Ok((all, walk.opened()))
 }
 
 /// All elements, by `iter`.
-fn all_of<'a, T: RTreeObject>(
+pub(crate) fn all_of<'a, T: RTreeObject>(
     alloc: Global,
     tree: &'a RTree<T>,
 ) -> Result<Walked<'a, T>, AllocError>
@@ -71,7 +74,7 @@ pub fn all_points<'a>(
 }
 
 /// The elements in an envelope, by `locate_in_envelope`.
-fn inside<'a, T: RTreeObject>(
+pub(crate) fn inside<'a, T: RTreeObject>(
     alloc: Global,
     tree: &'a RTree<T>,
     area: T::Envelope,
@@ -103,7 +106,7 @@ pub fn points_inside<'a>(
 }
 
 /// The elements within a squared distance of a point, by `locate_within_distance`.
-fn near<'a, T: PointDistance>(
+pub(crate) fn near<'a, T: PointDistance>(
     alloc: Global,
     tree: &'a RTree<T>,
     point: PointOf<T>,
@@ -142,7 +145,7 @@ pub fn points_near<'a>(
 }
 
 /// The elements that an envelope touches, by `locate_in_envelope_intersecting`.
-fn touched<'a, T: RTreeObject>(
+pub(crate) fn touched<'a, T: RTreeObject>(
     alloc: Global,
     tree: &'a RTree<T>,
     area: T::Envelope,
@@ -158,23 +161,8 @@ fn touched<'a, T: RTreeObject>(
     }
 }
 
-/// The plots that a box touches.
-pub fn plots_touched<'a>(
-    alloc: Global,
-    tree: &'a RTree<Plot>,
-    area: AABB<[i64; 2]>,
-) -> Result<Walked<'a, Plot>, AllocError>
-    requires { IsWholeTree ⟦<AABB<[i64; 2]> as Envelope>⟧.boxes ⟦<Plot as RTreeObject>⟧.object
-        ⟦<DefaultParams as RTreeParams>⟧.MAX_SIZE tree.now }
-    ensures given { IfOk result (λ r. map (λ t. t.now) r.0.items ≡ filter
-        (λ t. boxes_intersect area (⟦<Plot as RTreeObject>⟧.object.box_of t)) (elements_in tree.now)) }
-    ensures opened { IfOk result (λ r. r.1 ≡ min (reach_of (λ e. boxes_intersect area e) (root_of tree.now)) usize.MAX) }
-{
-    touched(alloc, tree, area)
-}
-
 /// The elements that contain a point, by `locate_all_at_point`.
-fn here<'a, T: PointDistance>(
+pub(crate) fn here<'a, T: PointDistance>(
     alloc: Global,
     tree: &'a RTree<T>,
     point: PointOf<T>,
@@ -190,22 +178,6 @@ fn here<'a, T: PointDistance>(
         Ok(walk) => walked(alloc, walk),
         Err(refused) => Err(refused),
     }
-}
-
-/// The plots that contain a point.
-pub fn plots_here<'a>(
-    alloc: Global,
-    tree: &'a RTree<Plot>,
-    point: [i64; 2],
-) -> Result<Walked<'a, Plot>, AllocError>
-    requires { IsWholeTree ⟦<AABB<[i64; 2]> as Envelope>⟧.boxes ⟦<Plot as RTreeObject>⟧.object
-        ⟦<DefaultParams as RTreeParams>⟧.MAX_SIZE tree.now }
-    ensures given { IfOk result (λ r. map (λ t. t.now) r.0.items ≡ filter
-        (λ t. ⟦<Plot as PointDistance>⟧.distances.contains_point t (table 2 (⟦<[i64; 2] as Point>⟧.coord point)))
-        (elements_in tree.now)) }
-    ensures opened { IfOk result (λ r. r.1 ≡ min (reach_of (λ e. box_contains_point e (table 2 (⟦<[i64; 2] as Point>⟧.coord point))) (root_of tree.now)) usize.MAX) }
-{
-    here(alloc, tree, point)
 }
 
 /// The elements that equal one, by `locate_with_selection_function` with a `SelectEqualsFunction`.
@@ -226,21 +198,6 @@ fn equal<'a, T: EqualEnvelopes>(
     }
 }
 
-/// The plots that equal one.
-pub fn equal_plots<'a>(
-    alloc: Global,
-    tree: &'a RTree<Plot>,
-    wanted: &Plot,
-) -> Result<Walked<'a, Plot>, AllocError>
-    requires { IsWholeTree ⟦<AABB<[i64; 2]> as Envelope>⟧.boxes ⟦<Plot as RTreeObject>⟧.object
-        ⟦<DefaultParams as RTreeParams>⟧.MAX_SIZE tree.now }
-    ensures given { IfOk result (λ r. map (λ t. t.now) r.0.items ≡ filter
-        (λ t. ⟦<Plot as PartialEq>⟧.eq t wanted.now) (elements_in tree.now)) }
-    ensures opened { IfOk result (λ r. r.1 ≡ min (reach_of (λ e. contains_box e (⟦<Plot as RTreeObject>⟧.object.box_of wanted.now)) (root_of tree.now)) usize.MAX) }
-{
-    equal(alloc, tree, wanted)
-}
-
 /// An element that contains a point, by `locate_at_point`, and one that contains another, by `locate_at_point_int`.
 pub fn either_at<T: PointDistance>(
     tree: &RTree<T>,
@@ -256,16 +213,75 @@ pub fn either_at<T: PointDistance>(
     (tree.locate_at_point(one), tree.locate_at_point_int(other))
 }
 
-/// The same of plots, at one point.
-pub fn plots_at(tree: &RTree<Plot>, point: [i64; 2]) -> (Option<&Plot>, Option<&Plot>)
+/// What an envelope touches, what contains a point, what equals an element, and an element at the point, twice.
+pub type Found<'a, T> = (
+    Result<Walked<'a, T>, AllocError>,
+    Result<Walked<'a, T>, AllocError>,
+    Result<Walked<'a, T>, AllocError>,
+    (Option<&'a T>, Option<&'a T>),
+);
+
+/// The elements that an envelope touches, those that contain a point, those that equal one, and one at the point.
+fn found<'a, T: EqualEnvelopes + PointDistance>(
+    alloc: Global,
+    tree: &'a RTree<T>,
+    area: T::Envelope,
+    point: PointOf<T>,
+    wanted: &T,
+) -> Found<'a, T>
+where
+    PointOf<T>: Copy,
+    requires { IsWholeTree T.Envelope.boxes T.object ⟦<DefaultParams as RTreeParams>⟧.MAX_SIZE tree.now }
+    ensures touched { IfOk result.0 (λ r. map (λ t. t.now) r.0.items ≡ filter
+        (λ t. T.Envelope.boxes.intersects area (T.object.box_of t)) (elements_in tree.now)) }
+    ensures touched_opened { IfOk result.0 (λ r. r.1 ≡ min (reach_of (λ e. T.Envelope.boxes.intersects area e) (root_of tree.now)) usize.MAX) }
+    ensures here { IfOk result.1 (λ r. map (λ t. t.now) r.0.items ≡ filter
+        (λ t. T.distances.contains_point t (table T.Envelope.Point.DIMENSIONS (T.Envelope.Point.coord point)))
+        (elements_in tree.now)) }
+    ensures here_opened { IfOk result.1 (λ r. r.1 ≡ min (reach_of (λ e. T.Envelope.boxes.contains_point e
+        (table T.Envelope.Point.DIMENSIONS (T.Envelope.Point.coord point))) (root_of tree.now)) usize.MAX) }
+    ensures equal { IfOk result.2 (λ r. map (λ t. t.now) r.0.items ≡ filter
+        (λ t. T.eq t wanted.now) (elements_in tree.now)) }
+    ensures equal_opened { IfOk result.2 (λ r. r.1 ≡ min (reach_of (λ e. T.Envelope.boxes.contains e (T.object.box_of wanted.now)) (root_of tree.now)) usize.MAX) }
+    ensures one { IsOneOf (filter (λ t. T.distances.contains_point t
+        (table T.Envelope.Point.DIMENSIONS (T.Envelope.Point.coord point))) (elements_in tree.now)) result.3.0 }
+    ensures other { IsOneOf (filter (λ t. T.distances.contains_point t
+        (table T.Envelope.Point.DIMENSIONS (T.Envelope.Point.coord point))) (elements_in tree.now)) result.3.1 }
+{
+    (
+        touched(alloc, tree, area),
+        here(alloc, tree, point),
+        equal(alloc, tree, wanted),
+        either_at(tree, point, point),
+    )
+}
+
+/// The same of plots.
+pub fn plots_found<'a>(
+    alloc: Global,
+    tree: &'a RTree<Plot>,
+    area: AABB<[i64; 2]>,
+    point: [i64; 2],
+    wanted: &Plot,
+) -> Found<'a, Plot>
     requires { IsWholeTree ⟦<AABB<[i64; 2]> as Envelope>⟧.boxes ⟦<Plot as RTreeObject>⟧.object
         ⟦<DefaultParams as RTreeParams>⟧.MAX_SIZE tree.now }
+    ensures touched { IfOk result.0 (λ r. map (λ t. t.now) r.0.items ≡ filter
+        (λ t. boxes_intersect area (⟦<Plot as RTreeObject>⟧.object.box_of t)) (elements_in tree.now)) }
+    ensures touched_opened { IfOk result.0 (λ r. r.1 ≡ min (reach_of (λ e. boxes_intersect area e) (root_of tree.now)) usize.MAX) }
+    ensures here { IfOk result.1 (λ r. map (λ t. t.now) r.0.items ≡ filter
+        (λ t. ⟦<Plot as PointDistance>⟧.distances.contains_point t (table 2 (⟦<[i64; 2] as Point>⟧.coord point)))
+        (elements_in tree.now)) }
+    ensures here_opened { IfOk result.1 (λ r. r.1 ≡ min (reach_of (λ e. box_contains_point e (table 2 (⟦<[i64; 2] as Point>⟧.coord point))) (root_of tree.now)) usize.MAX) }
+    ensures equal { IfOk result.2 (λ r. map (λ t. t.now) r.0.items ≡ filter
+        (λ t. ⟦<Plot as PartialEq>⟧.eq t wanted.now) (elements_in tree.now)) }
+    ensures equal_opened { IfOk result.2 (λ r. r.1 ≡ min (reach_of (λ e. contains_box e (⟦<Plot as RTreeObject>⟧.object.box_of wanted.now)) (root_of tree.now)) usize.MAX) }
     ensures one { IsOneOf (filter (λ t. ⟦<Plot as PointDistance>⟧.distances.contains_point t
-        (table 2 (⟦<[i64; 2] as Point>⟧.coord point))) (elements_in tree.now)) result.0 }
+        (table 2 (⟦<[i64; 2] as Point>⟧.coord point))) (elements_in tree.now)) result.3.0 }
     ensures other { IsOneOf (filter (λ t. ⟦<Plot as PointDistance>⟧.distances.contains_point t
-        (table 2 (⟦<[i64; 2] as Point>⟧.coord point))) (elements_in tree.now)) result.1 }
+        (table 2 (⟦<[i64; 2] as Point>⟧.coord point))) (elements_in tree.now)) result.3.1 }
 {
-    either_at(tree, point, point)
+    found(alloc, tree, area, point, wanted)
 }
 
 /// Writes a number into an element that contains a point, and whether there is one.
@@ -393,25 +409,14 @@ mod tests {
         }
     }
 
-    /// Rectangles between these corners, numbered from 0 on.
-    fn numbered<P: Point + Copy>(
-        alloc: Global,
-        corners: &[(P, P)],
-    ) -> Result<Vec<GeomWithData<Rectangle<P>, u64>>, AllocError> {
+    /// Plots at each of a hundred places, ten in a row, numbered from 0 on.
+    fn plots(alloc: Global) -> Result<Vec<Plot>, AllocError> {
         let mut all = Vec::new(alloc);
-        for (one, other) in corners {
+        for place in 0..100i64 {
+            let (x, y) = (place % 10 * 10, place / 10 * 10);
+            let square = Rectangle::from_corners([x, y], [x + 9, y + 9]);
             let number = all.len() as u64;
-            all.push(GeomWithData::new(Rectangle::from_corners(*one, *other), number))?;
-        }
-        Ok(all)
-    }
-
-    /// The corners of a square at each of a hundred places, ten in a row.
-    fn squares(alloc: Global) -> Result<Vec<([i64; 2], [i64; 2])>, AllocError> {
-        let mut all = Vec::new(alloc);
-        for number in 0..100i64 {
-            let (x, y) = (number % 10 * 10, number / 10 * 10);
-            all.push(([x, y], [x + 9, y + 9]))?;
+            all.push(GeomWithData::new(square, number))?;
         }
         Ok(all)
     }
@@ -461,7 +466,7 @@ mod tests {
 
     #[test]
     fn one_number_of_a_hundred_changes(rt: HostRuntime) -> Result<(), Fail> {
-        let plots = numbered(rt.alloc(), &squares(rt.alloc())?)?;
+        let plots = plots(rt.alloc())?;
         assert!(rt; changes_one(rt.alloc(), &plots, [57, 31], [50, 39]));
         Ok(())
     }

@@ -62,8 +62,9 @@ fn taken<'a, T: RTreeObject, Func: SelectionFunction<T>>(
 {
     let mut all = Vec::new(alloc);
     for t in walk {
-        if all.push(t).is_err() {
-            return Err(AllocError);
+        match all.push(t) {
+            Ok(()) => {}
+            Err(_) => return Err(AllocError),
         }
     }
     Ok(all)
@@ -135,13 +136,12 @@ where
     T::Envelope: Copy,
     requires { 2 ≤ T.Envelope.Point.DIMENSIONS }
 {
-    if first.envelope().is_empty() || second.envelope().is_empty() {
-        return false;
-    }
-    match &pair(alloc, first, second) {
-        Ok(tree) => gives_two(alloc, tree, area, near),
-        Err(_) => false,
-    }
+    !first.envelope().is_empty()
+        && !second.envelope().is_empty()
+        && match &pair(alloc, first, second) {
+            Ok(tree) => gives_two(alloc, tree, area, near),
+            Err(_) => false,
+        }
 }
 
 #[test]

@@ -2,16 +2,14 @@
 //!
 //! What is asked of a tree is generic, and a test gives it elements.
 
-ghost use Rattle.std.specs.Prelude.{◌<◌, true, false, pos, int_le, IfOk};
-ghost use Rattle.rstar.specs.Selections.{IsWalking};
+ghost use Rattle.std.specs.Prelude.{◌<◌, true, false, pos, int_le};
 ghost use Rattle.rstar.specs.Trees.{IsWholeTree};
 
-use crate::payloads::walked;
+use crate::payloads::{Walked, all_of, either_at, here, inside, near, touched, walked};
 use crate::scenarios::{ALONG_A_LINE, inserted, points, stands};
 use rstar::algorithm::selection_functions::{
     SelectAllFunc, SelectInEnvelopeFunction, SelectionFunction,
 };
-use rstar::iterators::SelectionIterator;
 use rstar::object::{Distance, PointDistance, PointOf, RTreeObject};
 use rstar::point::{Point, RTreeNum};
 use rstar::primitives::Rectangle;
@@ -222,32 +220,37 @@ fn scanned<T: PointDistance>(elements: &[T], asked: &Asked<T>) -> [usize; 5] {
     counts
 }
 
-/// Whether a walk gives those elements of a list that answer a question, and as many; of equal ones it gives one.
-fn gives<'a, T: PointDistance + PartialEq, Func: SelectionFunction<T>>(
-    alloc: Global,
-    walk: Result<SelectionIterator<'a, T, Func>, AllocError>,
+/// Whether those elements of a list that answer a question were found, and as many; of equal ones one is enough.
+fn are_answers<T: PointDistance + PartialEq>(
+    found: &[&T],
     elements: &[T],
     asked: &Asked<T>,
     question: usize,
 ) -> bool
-    requires walking { IfOk walk (IsWalking Func.accepts) }
-    requires question { question < 5 }
+    requires { question < 5 }
 {
-    let found = match walk {
-        Ok(walk) => walked(alloc, walk),
-        Err(refused) => Err(refused),
-    };
-    match found {
-        Ok((found, _opened)) => {
-            let mut count = 0usize;
-            let mut is_so = true;
-            for element in elements {
-                let is_wanted = answers(element, asked)[question];
-                is_so = is_so && found.contains(&element) == is_wanted;
-                count = count.saturating_add(usize::from(is_wanted));
-            }
-            is_so && found.len() == count
+    let mut count = 0usize;
+    for element in elements {
+        let is_wanted = answers(element, asked)[question];
+        if (&*found).contains(&element) != is_wanted {
+            return false;
         }
+        count = count.saturating_add(usize::from(is_wanted));
+    }
+    found.len() == count
+}
+
+/// The same of what a walk gave.
+fn gives<T: PointDistance + PartialEq>(
+    walked: Result<Walked<'_, T>, AllocError>,
+    elements: &[T],
+    asked: &Asked<T>,
+    question: usize,
+) -> bool
+    requires { question < 5 }
+{
+    match walked {
+        Ok((found, _opened)) => are_answers(&found, elements, asked, question),
         Err(_) => false,
     }
 }
@@ -264,23 +267,11 @@ where
     PointOf<T>: Copy,
     requires { IsWholeTree T.Envelope.boxes T.object ⟦<DefaultParams as RTreeParams>⟧.MAX_SIZE tree.now }
 {
-    gives(alloc, tree.iter(), elements, asked, 0)
-        && gives(alloc, tree.locate_in_envelope(asked.0), elements, asked, 1)
-        && gives(
-            alloc,
-            tree.locate_in_envelope_intersecting(asked.0),
-            elements,
-            asked,
-            2,
-        )
-        && gives(alloc, tree.locate_all_at_point(asked.1), elements, asked, 3)
-        && gives(
-            alloc,
-            tree.locate_within_distance(asked.1, asked.2),
-            elements,
-            asked,
-            4,
-        )
+    gives(all_of(alloc, tree), elements, asked, 0)
+        && gives(inside(alloc, tree, asked.0), elements, asked, 1)
+        && gives(touched(alloc, tree, asked.0), elements, asked, 2)
+        && gives(here(alloc, tree, asked.1), elements, asked, 3)
+        && gives(near(alloc, tree, asked.1, asked.2), elements, asked, 4)
 }
 
 /// Counts the calls of a visitor that goes on.
@@ -306,10 +297,8 @@ where
     let _end = tree.locate_in_envelope_intersecting_int(area, |_element: &T| called(&mut touched));
     let mut located = 0usize;
     let _end = tree.locate_all_at_point_int(point, |_element: &T| called(&mut located));
-    touched == touching
-        && located == at
-        && tree.locate_at_point(point).is_some() == (at > 0)
-        && tree.locate_at_point_int(point).is_some() == (at > 0)
+    let (one, other) = either_at(tree, point, point);
+    (touched, located) == (touching, at) && one.is_some() == (at > 0) && other.is_some() == (at > 0)
 }
 
 /// How many elements a tree of some has, how many of them an envelope contains, how many it intersects, how many contain

@@ -17,7 +17,7 @@ loop-element-preserved g c =
     let steps = c.in-Some.ensures.steps in
     record {
       walking = steps.walking;
-      same = one-more-given (λ t. t.now) _ _ _ _ _ _ c.in_ok-push.ensures.items c.loop-element.invariant.same steps.gives;
+      same = one-more-given (λ t. t.now) _ _ _ _ _ _ c.in-Ok.ensures.items c.loop-element.invariant.same steps.gives;
       root = steps.root ∙ c.loop-element.invariant.root;
       question = steps.question ∙ c.loop-element.invariant.question;
     }

@@ -1,7 +1,10 @@
-use Rattle.std.proofs.Common.{◌∙◌, ap, map}
+use Rattle.std.proofs.Common.{◌∙◌, ◌++◌, ◌∷◌, [], ap, map}
 use Rattle.rstar.proofs.Chains.{selection_end}
 use Rattle.rstar.specs.Selections.{to_come}
 use Rattle.rstar_vectors.proofs.places.taken.Goals as goal
+
+pub loop-t-preserved : goal.loop-t-preserved
+loop-t-preserved g c = c.in-Ok.ensures.items ∙ ap (λ l. l ++ (c.in-Some.t ∷ [])) c.loop-t.invariant
 
 pub returns : goal.returns
 returns g c =
