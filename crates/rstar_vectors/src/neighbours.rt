@@ -18,14 +18,11 @@ use rstar_base::aabb::AABB;
 use rstar_base::envelope::Envelope;
 use rstar_base::object::{Distance, PointDistance, PointOf, RTreeObject};
 use rstar_base::point::{Point, RTreeNum};
-use rstar_base::primitives::{GeomWithData, Line, Rectangle};
+use rstar_base::primitives::Line;
 use std::alloc::{AllocError, Global};
 
 /// A place.
 type At = [i64; 2];
-
-/// A rectangle with a number.
-type Plot = GeomWithData<Rectangle<At>, u64>;
 
 /// All that an iterator has to give.
 fn all_of<'a, T: PointDistance>(
@@ -130,17 +127,17 @@ fn first_at<'a, T: PointDistance>(
     first_of(alloc, &mut neighbors, most)
 }
 
-/// The plots nearest to a place, the nearest first: so many, or all.
-fn nearest_plots<'a>(
+/// The points nearest to a place, the nearest first: so many, or all.
+fn nearest_points<'a>(
     alloc: Global,
-    tree: &'a RTree<Plot>,
+    tree: &'a RTree<At>,
     place: At,
     most: usize,
-) -> Result<Vec<&'a Plot>, AllocError>
-    requires { IsWholeTree ⟦<AABB<[i64; 2]> as Envelope>⟧.boxes ⟦<Plot as RTreeObject>⟧.object
+) -> Result<Vec<&'a At>, AllocError>
+    requires { IsWholeTree ⟦<AABB<[i64; 2]> as Envelope>⟧.boxes ⟦<[i64; 2] as RTreeObject>⟧.object
         ⟦<DefaultParams as RTreeParams>⟧.MAX_SIZE tree.now }
     ensures { IfOk result (λ ts. AreNearestOf
-        (λ t. ⟦<Plot as PointDistance>⟧.distances.distance_2 t (table 2 (⟦<[i64; 2] as Point>⟧.coord place)))
+        (λ t. ⟦<[i64; 2] as PointDistance>⟧.distances.distance_2 t (table 2 (⟦<[i64; 2] as Point>⟧.coord place)))
         (elements_in tree.now) most (map (λ t. t.now) ts.items)) }
 {
     first_at(alloc, tree, place, most)
