@@ -121,20 +121,8 @@ take_among-overflow_sub-i g t c = some_left c.len.result c.len-passed-end.result
 pub take_among-overflow_sub-i-in-loop-passed : goal.take_among-overflow_sub-i-in-loop-passed
 take_among-overflow_sub-i-in-loop-passed g t c = not_last c.len.result c.len-passed-end.result c.loop-passed.passed (vec_len c.loop-passed.children) (vec_len c.args.children.now) c.len.ensures (ap vec_len c.loop-passed.invariant.same) c.len-passed-end.ensures c.loop-passed-test.true
 
-pub take_among-index-requires : goal.take_among-index-requires
-take_among-index-requires g t c = place c.len.result c.len-passed-end.result c.loop-passed.passed (vec_len c.loop-passed.children) (vec_len c.args.children.now) c.len.ensures (ap vec_len c.loop-passed.invariant.same) c.len-passed-end.ensures c.loop-passed-test.true
-
 pub take_among-take_leaf-taken-requires-clause-within : goal.take_among-take_leaf-taken-requires-clause-within
 take_among-take_leaf-taken-requires-clause-within g t c = place c.len.result c.len-passed-end.result c.loop-passed.passed (vec_len c.loop-passed.children) (vec_len c.args.children.now) c.len.ensures (ap vec_len c.loop-passed.invariant.same) c.len-passed-end.ensures c.loop-passed-test.true
-
-pub take_among-index_mut-requires : goal.take_among-index_mut-requires
-take_among-index_mut-requires g t c = place c.len.result c.len-passed-end.result c.loop-passed.passed (vec_len c.loop-passed.children) (vec_len c.args.children.now) c.len.ensures (ap vec_len c.loop-passed.invariant.same) c.len-passed-end.ensures c.loop-passed-test.true
-
-pub take_among-index-requires-then-is_some : goal.take_among-index-requires-then-is_some
-take_among-index-requires-then-is_some g t c = place c.len.result c.len-passed-end.result c.loop-passed.passed (vec_len c.loop-passed.children) (vec_len c.args.children.now) c.len.ensures (ap vec_len c.loop-passed.invariant.same) c.len-passed-end.ensures c.loop-passed-test.true
-
-pub take_among-drop_child-requires : goal.take_among-drop_child-requires
-take_among-drop_child-requires g t c = place c.len.result c.len-passed-end.result c.loop-passed.passed (vec_len c.loop-passed.children) (vec_len c.args.children.now) c.len.ensures (ap vec_len c.loop-passed.invariant.same) c.len-passed-end.ensures c.loop-passed-test.true
 
 pub take_among-returns-then-is_some-clause-same : goal.take_among-returns-then-is_some-clause-same
 take_among-returns-then-is_some-clause-same g t c = some_one _ c.take_inside-taken.result (sym c.is_some.ensures ∙ c.if-is_some.true)

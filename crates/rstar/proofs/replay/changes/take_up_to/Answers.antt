@@ -68,8 +68,5 @@ returns-in_default-clause-selected g c = c.loop-turn.invariant.selected
 pub returns-in_default-clause-same : goal.returns-in_default-clause-same
 returns-in_default-clause-same g c = c.in_default.ensures.steps.1 ∙ c.loop-turn.invariant.same
 
-pub next-requires : goal.next-requires
-next-requires g c = c.loop-turn.invariant.draining
-
 pub returns-clause-same : goal.returns-clause-same
 returns-clause-same g c = c.loop-turn.invariant.same

@@ -242,9 +242,6 @@ load_parts-returns-in_err-load_parts g t c = record {
   counted = IfOk-from_err c.from_residual-in_err-load_parts.result _ c.from_residual-in_err-load_parts.ensures.0;
 }
 
-pub load_node-make_wide_room-requires : goal.load_node-make_wide_room-requires
-load_node-make_wide_room-requires g t c = record { counted = c.in_ok-load_parts.ensures.counted }
-
 pub load_parts-overflow_sub-axes : goal.load_parts-overflow_sub-axes
 load_parts-overflow_sub-axes g t c = some c.args.axes c.if-axes-eq0.false
 
@@ -256,6 +253,3 @@ load_parts-new-slabs-requires-clause-clusters g t c = two_some c.args.clusters c
 
 pub load_parts-new-slabs-requires-clause-axis : goal.load_parts-new-slabs-requires-clause-axis
 load_parts-new-slabs-requires-clause-axis g t c = last_axis c.args.axes g.T.Envelope.Point.Point.DIMENSIONS c.requires.axes c.if-axes-eq0.false
-
-pub load_parts-next-requires : goal.load_parts-next-requires
-load_parts-next-requires g t c = c.loop-slab.invariant.cutting
