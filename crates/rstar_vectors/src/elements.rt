@@ -192,12 +192,12 @@ fn elements_in_the_order_of_their_keys(rt: HostRuntime) {
 
 // A point that counts how often its envelope is asked for.
 #[derive(Drop)]
-struct Counting<P> {
+struct Counting<'a, P> {
     at: P,
-    calls: Cell<u32>,
+    calls: &'a Cell<u32>,
 }
 
-impl<P: Point> RTreeObject for Counting<P> {
+impl<'a, P: Point> RTreeObject for Counting<'a, P> {
     type Envelope = AABB<P>;
 
     ghost object = { carried_objects ⟦<P as RTreeObject>⟧.object (λ c. c.at) };
@@ -210,20 +210,20 @@ impl<P: Point> RTreeObject for Counting<P> {
     ghost object_law = { λ c h. h };
 }
 
-/// Whether a kept envelope, asked for three times, is this.
-fn is_kept<T: RTreeObject>(cached: &CachedEnvelope<T>, wanted: &T::Envelope) -> bool {
+/// Whether the envelope that is kept of an element, asked for three times, is this, as that of the element itself.
+fn is_kept<T: RTreeObject>(element: T, wanted: &T::Envelope) -> bool {
+    let cached = CachedEnvelope::new(element);
     let mut is_so = true;
     for _ in 0..3 {
         is_so = cached.envelope() == *wanted && is_so;
     }
-    is_so
+    is_so && (*cached).envelope() == *wanted
 }
 
-/// Whether a point's kept envelope, asked for three times, is its box, and the point was asked once.
+/// Whether a point's kept envelope is its box, and the point was asked once for that, and once by itself.
 fn is_asked_once<P: Point + Copy>(at: P) -> bool {
-    let calls = Cell::new(0);
-    let cached = CachedEnvelope::new(Counting { at, calls });
-    is_kept(&cached, &AABB::from_point(at)) && cached.calls.get() == 1
+    let calls = &Cell::new(0);
+    is_kept(Counting { at, calls }, &AABB::from_point(at)) && calls.get() == 2
 }
 
 #[test]
