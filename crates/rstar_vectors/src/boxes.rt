@@ -107,15 +107,19 @@ fn boxes_round_a_center_are_held_in_the_range(rt: HostRuntime) {
 /// A box, a point, the nearest point of the box, its squared distance, and the box's min-max distance.
 type DistanceRow<P> = (P, P, P, P, <P as Point>::Scalar, <P as Point>::Scalar);
 
-/// Whether the boxes between two corners have this nearest point to a point, at this squared distance, and this min-max
+/// Whether the box between two corners has this nearest point to a point, at this squared distance, and this min-max
 /// distance.
+fn box_is_so_far<P: Point + Copy>(row: &DistanceRow<P>) -> bool {
+    let made = boxed(row.0, row.1);
+    made.min_point(&row.2) == row.3
+        && made.distance_2(&row.2) == row.4
+        && made.min_max_dist_2(&row.2) == row.5
+}
+
+/// The same of several boxes.
 fn are_so_far<P: Point + Copy>(rows: &[DistanceRow<P>]) -> bool {
-    for (lower, upper, point, nearest, distance, min_max) in rows {
-        let made = boxed(*lower, *upper);
-        if made.min_point(point) != *nearest
-            || made.distance_2(point) != *distance
-            || made.min_max_dist_2(point) != *min_max
-        {
+    for row in rows {
+        if !box_is_so_far(row) {
             return false;
         }
     }
@@ -205,13 +209,18 @@ fn is_paired<E: Envelope>(
     answers && *one == *merge
 }
 
+/// Whether a pair of boxes answers as told.
+fn pair_is_so<P: Point + Copy>(row: &PairRow<P>) -> bool {
+    let mut first = boxed(row.0.0, row.0.1);
+    let second = boxed(row.1.0, row.1.1);
+    let both = boxed(row.5.0, row.5.1);
+    is_paired(&mut first, &second, row.2, row.3, &row.4, &both)
+}
+
 /// Whether pairs of boxes answer as told.
 fn are_paired<P: Point + Copy>(rows: &[PairRow<P>]) -> bool {
-    for (one, other, intersects, contains, shared, merge) in rows {
-        let mut first = boxed(one.0, one.1);
-        let second = boxed(other.0, other.1);
-        let both = boxed(merge.0, merge.1);
-        if !is_paired(&mut first, &second, *intersects, *contains, shared, &both) {
+    for row in rows {
+        if !pair_is_so(row) {
             return false;
         }
     }

@@ -141,8 +141,8 @@ mod tests {
             && first_selected(&tree, point).is_some() == told.2
     }
 
-    // Two corners of a box, and what is told of the one point there is, at the first corner, and of the one plot, at the
-    // second.
+    // Two corners of a box, and what is told of the one point there is, at the first corner, and of the one
+    // rectangle, at the second.
     #[test]
     fn a_visit_comes_upon_what_is_selected(rt: HostRuntime) {
         const ROWS: [(At, At, Told, Told); 4] = [
@@ -151,11 +151,11 @@ mod tests {
             ([2, 2], [3, 3], (false, false, false), (false, true, false)),
             ([3, 3], [4, 4], (false, false, false), (false, false, false)),
         ];
-        let square = Plot::new(Rectangle::from_corners([0i64, 0], [2, 2]), 7);
-        for &(one, other, point, plot) in &ROWS {
+        let square = Rectangle::from_corners([0i64, 0], [2, 2]);
+        for &(one, other, point, within) in &ROWS {
             let area = AABB::from_corners(one, other);
             assert!(rt; comes_upon(rt.alloc(), &[[1i64, 1]], area, one, point));
-            assert!(rt; comes_upon(rt.alloc(), &[square], area, other, plot));
+            assert!(rt; comes_upon(rt.alloc(), &[square], area, other, within));
         }
     }
 }
