@@ -22,14 +22,18 @@ use std::rc::Rc;
 /// The ends of a line and its squared length, a point, the line's nearest point, and the squared distance.
 type LineRow<P> = (P, P, <P as Point>::Scalar, P, P, <P as Point>::Scalar);
 
-/// Whether lines have these lengths, nearest points and distances.
+/// Whether a line has this length, nearest point and distance.
+fn line_is_so_far<P: Point + Copy>(row: &LineRow<P>) -> bool {
+    let line = Line::new(row.0, row.1);
+    line.length_2() == row.2
+        && line.nearest_point(&row.3) == row.4
+        && line.distance_2(&row.3) == row.5
+}
+
+/// The same of several lines.
 fn lines_are_so_far<P: Point + Copy>(rows: &[LineRow<P>]) -> bool {
-    for (from, to, length, point, nearest, distance) in rows {
-        let line = Line::new(*from, *to);
-        if line.length_2() != *length
-            || line.nearest_point(point) != *nearest
-            || line.distance_2(point) != *distance
-        {
+    for row in rows {
+        if !line_is_so_far(row) {
             return false;
         }
     }
