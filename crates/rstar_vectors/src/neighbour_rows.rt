@@ -45,6 +45,14 @@ fn is_next<T: PointDistance>(
     }
 }
 
+/// Whether no neighbour is left.
+fn is_over<T: PointDistance>(neighbors: &mut NearestNeighborDistance2Iterator<'_, T>) -> bool
+    requires { IsSearching T.Envelope.boxes T.object T.distances T.Envelope.Point.DIMENSIONS
+        T.Envelope.Point.coord T.Envelope.Point.Scalar.cmp T.Envelope.Point.Scalar.value neighbors.old }
+{
+    neighbors.next().is_none()
+}
+
 /// Whether an iterator opens no parent before it is asked, gives neighbours at these squared distances with so many
 /// parents opened after each, as far as these numbers go, and then none.
 fn gives<T: PointDistance>(
@@ -61,7 +69,7 @@ fn gives<T: PointDistance>(
             return false;
         }
     }
-    is_fresh && neighbors.next().is_none()
+    is_fresh && is_over(neighbors)
 }
 
 /// The next element of an iterator without distances; none at the end, or where it is refused.
