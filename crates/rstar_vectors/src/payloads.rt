@@ -378,7 +378,7 @@ mod tests {
     /// point, and else what it carried; it is read at another point.
     fn writes_inside<R: PointDistance + Copy>(
         alloc: Global,
-        element: R,
+        elements: &[GeomWithData<R, u64>],
         point: PointOf<R>,
         other: PointOf<R>,
         is_inside: bool,
@@ -386,8 +386,7 @@ mod tests {
     where
         PointOf<R>: Copy,
     {
-        let elements = [GeomWithData::new(element, 7)];
-        let mut tree = inserted::<GeomWithData<R, u64>, DefaultParams>(alloc, &elements);
+        let mut tree = inserted::<GeomWithData<R, u64>, DefaultParams>(alloc, elements);
         let (one, two) = if is_inside { (9, 10) } else { (7, 7) };
         carries(&tree, other, 7)
             & (renumber(&mut tree, point, 9) == is_inside)
@@ -399,14 +398,14 @@ mod tests {
     // A plot that holds 7, written at points inside it, its border included, and not at one outside.
     #[test]
     fn a_number_is_written_where_a_plot_contains_the_point(rt: HostRuntime) {
-        let square = Rectangle::from_corners([0i64, 0], [2, 2]);
+        let plot = Plot::new(Rectangle::from_corners([0, 0], [2, 2]), 7);
         const ROWS: [([i64; 2], [i64; 2], bool); 3] = [
             ([1, 1], [1, 1], true),
             ([3, 3], [1, 1], false),
             ([2, 2], [0, 0], true),
         ];
         for &(point, other, is_inside) in &ROWS {
-            assert!(rt; writes_inside(rt.alloc(), square, point, other, is_inside));
+            assert!(rt; writes_inside(rt.alloc(), &[plot], point, other, is_inside));
         }
     }
 
