@@ -1,10 +1,10 @@
--- What a loop over any iterator has taken, and what all that a join gives says of the join.
-use Rattle.std.proofs.Common.{◌≡◌, ◌∙◌, List, ◌++◌, ◌∷◌, [], map, min, Bool, Option, Some, None, refl, sym, ap, ap₂, subst}
+-- What a loop over any iterator has taken, and how many pairs of nodes a join has opened when all is taken.
+use Rattle.std.proofs.Common.{◌≡◌, ◌∙◌, List, ◌++◌, ◌∷◌, [], min, Bool, Option, Some, None, refl, sym, ap, ap₂, subst}
 use Rattle.std.specs.Borrow.{Bor}
 use Rattle.std.specs.Iterator.{Yields, YieldsThen}
 use Rattle.rstar.specs.declared.iterators.joins.IntersectionIterator.{IntersectionIterator}
 use Rattle.rstar.specs.declared.node.ParentNode.{ParentNode}
-use Rattle.rstar.specs.Joins.{pairs_to_come, pairs_opened, meet_by, GivesPair}
+use Rattle.rstar.specs.Joins.{pairs_opened, meet_by, GivesPair}
 use Rattle.rstar.specs.Meets.{meet_of_roots}
 use Rattle.rstar_base.specs.Counts.{usize_max}
 
@@ -20,16 +20,7 @@ module _ {S A : Type 0} (steps : S → Option A → S → Type 0) where
   one-more-yielded xs more x s t u m y e = subst (λ (l : List A). Yields steps s l u) (sym m) (further xs x s t u y e)
 
 module _ {T E P S X U F Q R Y : Type 0} (meets : E → F → Bool) (left_box : T → E) (right_box : U → F) where
-  -- the pairs that were to come
-  pub all-pairs : (xs : List (Bor T × Bor U)) (it end : IntersectionIterator T U E P S X F Q R Y)
-      → YieldsThen (GivesPair meets left_box right_box) it xs None end
-      → map (λ p. (p.0.now, p.1.now)) xs ≡ pairs_to_come meets left_box right_box it
-  all-pairs [] it end y = sym (ap (pairs_to_come meets left_box right_box) y.1 ∙ y.2.gives.0)
-  all-pairs (x ∷ xs) it end y =
-      let step = y.1.1 in
-      ap (λ (l : List (T × U)). (x.0.now, x.1.now) ∷ l) (all-pairs xs y.1.0 end (y.0, y.1.2, y.2)) ∙ sym step.gives
-
-  -- how many pairs of nodes were opened then
+  -- all that meet were opened then
   pub all-opened : (xs : List (Bor T × Bor U)) (it end : IntersectionIterator T U E P S X F Q R Y)
       → YieldsThen (GivesPair meets left_box right_box) it xs None end
       → pairs_opened end ≡ min (meet_by meets left_box right_box it) usize_max

@@ -212,8 +212,6 @@ const AT_FOUR: [Meeting; 2] = [
 const AT_NONE: [Meeting; 1] = [(&[SQUARE], &[SQUARE], [(1, 1), (0, 0)])];
 
 /// Whether each row of a table is so with these points, and the points with themselves.
-//
-// The table is lent by the test: its walk holds no constant of many rows.
 fn all_meet(alloc: Global, rows: &[Meeting], points: &[[i32; 2]], own: (usize, usize)) -> bool {
     for (lefts, rights, counts) in rows {
         let lefts = numbered(alloc, lefts);

@@ -213,7 +213,8 @@ pub fn either_at<T: PointDistance>(
     (tree.locate_at_point(one), tree.locate_at_point_int(other))
 }
 
-/// What an envelope touches, what contains a point, what equals an element, and an element at the point, twice.
+/// What an envelope touches, what contains a point, what equals an element, and an element at the point by each of the two
+/// look-ups.
 pub type Found<'a, T> = (
     Result<Walked<'a, T>, AllocError>,
     Result<Walked<'a, T>, AllocError>,
