@@ -54,6 +54,14 @@ impl<P: Point> PointDistance for Place<P> {
         self.at.contains_point(point)
     }
 
+    fn distance_2_if_less_or_equal(
+        &self,
+        point: &P,
+        max_distance_2: P::Scalar,
+    ) -> Option<P::Scalar> {
+        self.at.distance_2_if_less_or_equal(point, max_distance_2)
+    }
+
     ghost distance_laws = { counted_element_laws (box_data P.Scalar.low P.Scalar.high P.DIMENSIONS)
         (point_object P.Scalar.low P.Scalar.high P.DIMENSIONS (λ p. P.coord p.at))
         (point_distances P.Scalar.high P.DIMENSIONS (λ p. P.coord p.at))

@@ -75,34 +75,24 @@ fn are_so<T: RTreeObject>(nodes: &[RTreeNode<T>], outline: &(usize, T::Envelope)
     nodes.len() == outline.0 && envelope_for_children(nodes) == outline.1
 }
 
-/// Whether this list is cut in two: as many in each part, with such an envelope.
-fn is_cut_in<T: RTreeObject>(
-    list: Vec<RTreeNode<T>>,
-    spare: Vec<RTreeNode<T>>,
-    one: &(usize, T::Envelope),
-    other: &(usize, T::Envelope),
-) -> bool {
-    if list.len() <= DefaultParams::MAX_SIZE || !spare.is_empty() || spare.capacity() < list.len() {
-        return false;
-    }
-    let (left, right) = &split_children::<T, DefaultParams>(list, spare);
-    are_so(left, one) && are_so(right, other)
-}
-
-/// The same of a list of these elements as leaves.
+/// Whether a list of these elements as leaves is cut in two: as many in each part, with such an envelope.
 fn leaves_are_cut_in<T: RTreeObject + Copy>(
     alloc: Global,
     elements: &[T],
     one: &(usize, T::Envelope),
     other: &(usize, T::Envelope),
 ) -> bool {
-    match (
-        leaves_of(alloc, elements),
-        Vec::with_capacity(alloc, elements.len()),
-    ) {
-        (Ok(list), Ok(spare)) => is_cut_in(list, spare, one, other),
-        _ => false,
+    let Ok(list) = leaves_of(alloc, elements) else {
+        return false;
+    };
+    let Ok(spare) = Vec::with_capacity(alloc, list.len()) else {
+        return false;
+    };
+    if list.len() <= DefaultParams::MAX_SIZE {
+        return false;
     }
+    let (left, right) = &split_children::<T, DefaultParams>(list, spare);
+    are_so(left, one) && are_so(right, other)
 }
 
 #[test]
@@ -126,8 +116,8 @@ fn has_node<T: RTreeObject>(nodes: &[RTreeNode<T>], count: usize, envelope: &T::
     false
 }
 
-/// Whether elements, inserted in turn, give a tree that stands, and the root two children: how many children each has,
-/// and its envelope.
+/// Whether elements, inserted in turn, give a tree that stands, where each parent has three to six children, and the root
+/// two: how many children each has, and its envelope.
 fn is_shaped<T: RTreeObject + Copy>(
     alloc: Global,
     elements: &[T],
@@ -137,7 +127,7 @@ fn is_shaped<T: RTreeObject + Copy>(
     let tree = &inserted::<T, DefaultParams>(alloc, elements);
     let nodes = tree.root().children();
     [tree.size(), nodes.len()] == [elements.len(), 2]
-        && stands(tree)
+        && stands_within(tree, 3, 6)
         && has_node(nodes, one.0, &one.1)
         && has_node(nodes, other.0, &other.1)
 }
@@ -237,15 +227,9 @@ fn too_many_lists_are_refused_first(rt: HostRuntime) {
     assert!(rt; is_one_too_many(rt.alloc(), [0, 0]));
 }
 
-/// Whether the root of a tree of these elements has two children, which are parents of three to six nodes each, as are
-/// all parents below.
-fn splits_once<T: RTreeObject + Copy>(alloc: Global, elements: &[T]) -> bool {
-    let tree = &inserted::<T, DefaultParams>(alloc, elements);
-    [tree.size(), tree.root().children().len()] == [elements.len(), 2] && stands_within(tree, 3, 6)
-}
-
 #[test]
 fn points_without_axes_split_too(rt: HostRuntime) {
     let ten: [[i32; 0]; 10] = [[]; 10];
-    assert!(rt; splits_once(rt.alloc(), &ten));
+    let nowhere = AABB::from_point([]);
+    assert!(rt; is_shaped(rt.alloc(), &ten, &(4, nowhere), &(6, nowhere)));
 }

@@ -53,11 +53,8 @@ fn paired<'a, T: RTreeObject, U: InEnvelope<T::Envelope>>(
     ensures opened { IfOk result (λ r. r.1
         ≡ min (meet_by (meets_by T.Envelope.boxes U.seen) T.object.box_of U.object.box_of pairs.entry) usize.MAX) }
 {
-    let all = drained(alloc, &mut pairs);
-    let opened = pairs.opened();
-    drop(pairs);
-    match all {
-        Ok(all) => Ok((all, opened)),
+    match drained(alloc, &mut pairs) {
+        Ok(all) => Ok((all, pairs.opened())),
         Err(refused) => Err(refused),
     }
 }
@@ -223,64 +220,49 @@ fn all_meet(alloc: Global, rows: &[Meeting], points: &[[i32; 2]], own: (usize, u
     true
 }
 
+// Tables of meetings, each with its points and the counts of these with themselves.
+const TABLES: [(&'static [Meeting], &'static [[i32; 2]], (usize, usize)); 3] = [
+    (&AT_A_LINE, &ALONG_A_LINE, (7, 3)),
+    (&AT_FOUR, &NEAR, (6, 1)),
+    (&AT_NONE, &[], (0, 0)),
+];
+
 // The rectangles have a number, so that what carries an element is joined with points, and with its like.
 #[test]
 fn pairs_that_intersect(rt: HostRuntime) {
-    assert!(rt; all_meet(rt.alloc(), &AT_A_LINE, &ALONG_A_LINE, (7, 3)));
-    assert!(rt; all_meet(rt.alloc(), &AT_FOUR, &NEAR, (6, 1)));
-    assert!(rt; all_meet(rt.alloc(), &AT_NONE, &[], (0, 0)));
+    for &(rows, points, own) in &TABLES {
+        assert!(rt; all_meet(rt.alloc(), rows, points, own));
+    }
 }
 
 /// Whether pairs are those that a scan of two lists finds, in some order, and there are some.
 fn are_scanned<T: RTreeObject + PartialEq>(pairs: &[(&T, &T)], lefts: &[T], rights: &[T]) -> bool {
     let mut wanted = 0usize;
+    let mut has_all = true;
     for left in lefts {
         for right in rights {
             if left.envelope().intersects(&right.envelope()) {
-                if !(&*pairs).contains(&(left, right)) {
-                    return false;
-                }
+                has_all = has_all && (&*pairs).contains(&(left, right));
                 wanted = wanted.saturating_add(1);
             }
         }
     }
-    0 < wanted && pairs.len() == wanted
+    has_all && 0 < wanted && pairs.len() == wanted
 }
 
-/// Whether a join of two trees of these elements gives what a scan of the lists finds.
-fn gives_scanned<T: RTreeObject + PartialEq>(
+/// Whether a join of the loads of two lists gives what a scan of the lists finds.
+fn met_as_scanned<T: RTreeObject + PartialEq + Copy>(
     alloc: Global,
-    left: &RTree<T>,
-    right: &RTree<T>,
     lefts: &[T],
     rights: &[T],
 ) -> bool
-    requires left { IsWholeTree T.Envelope.boxes T.object ⟦<DefaultParams as RTreeParams>⟧.MAX_SIZE left.now }
-    requires right { IsWholeTree T.Envelope.boxes T.object ⟦<DefaultParams as RTreeParams>⟧.MAX_SIZE right.now }
-{
-    match &joined(alloc, left, right) {
-        Ok((pairs, _)) => are_scanned(pairs, lefts, rights),
-        Err(_) => false,
-    }
-}
-
-/// The same of the loads of two lists.
-fn met_as_scanned<T: RTreeObject + PartialEq + Copy>(
-    alloc: Global,
-    lefts: &Result<Vec<T>, AllocError>,
-    rights: &Result<Vec<T>, AllocError>,
-) -> bool
     requires { 2 ≤ T.Envelope.Point.DIMENSIONS }
 {
-    match (lefts, rights) {
-        (Ok(lefts), Ok(rights)) => gives_scanned(
-            alloc,
-            &loaded(alloc, lefts),
-            &loaded(alloc, rights),
-            lefts,
-            rights,
-        ),
-        _ => false,
+    let left = loaded(alloc, lefts);
+    let right = loaded(alloc, rights);
+    match &joined(alloc, &left, &right) {
+        Ok((pairs, _)) => are_scanned(pairs, lefts, rights),
+        Err(_) => false,
     }
 }
 
@@ -308,15 +290,6 @@ fn on_a_line(alloc: Global, count: i32) -> Result<Vec<[i32; 2]>, AllocError> {
     Ok(points)
 }
 
-#[test]
-fn loads_of_unequal_height(rt: HostRuntime) -> Result<(), Fail> {
-    let line = on_a_line(rt.alloc(), 28)?;
-    let twice = [[5, 0], [5, 0]];
-    assert!(rt; met_by_loads(rt.alloc(), &line, &twice, 2, 28));
-    assert!(rt; met_by_loads(rt.alloc(), &twice, &line, 2, 4));
-    Ok(())
-}
-
 /// Points, no two of them in one place, and none in the place of one of the other parity.
 fn apart(alloc: Global, count: usize, is_odd: bool) -> Result<Vec<[i32; 2]>, AllocError> {
     let odd = if is_odd { 1 } else { 0 };
@@ -331,10 +304,15 @@ fn apart(alloc: Global, count: usize, is_odd: bool) -> Result<Vec<[i32; 2]>, All
     Ok(points)
 }
 
-// rstar's `test_trivial_intersections`: how many points of a parity, and how many of the other.
+// Loads of unequal height; and rstar's `test_trivial_intersections`: how many points of a parity, and how many of the
+// other, which meet themselves alone.
 #[test]
-fn points_meet_themselves_alone(rt: HostRuntime) -> Result<(), Fail> {
+fn loads_of_points_meet(rt: HostRuntime) -> Result<(), Fail> {
+    const TWICE: [[i32; 2]; 2] = [[5, 0], [5, 0]];
     const ROWS: [(usize, bool, usize); 2] = [(1000, false, 2000), (2000, true, 1000)];
+    let line = on_a_line(rt.alloc(), 28)?;
+    assert!(rt; met_by_loads(rt.alloc(), &line, &TWICE, 2, 28));
+    assert!(rt; met_by_loads(rt.alloc(), &TWICE, &line, 2, 4));
     for &(count, is_odd, others) in &ROWS {
         let all = apart(rt.alloc(), count, is_odd)?;
         let rest = apart(rt.alloc(), others, !is_odd)?;
@@ -362,11 +340,12 @@ fn spread(
 
 // rstar's `test_intersection_between_trees`: loads of 100 and of 42 rectangles; and some that split more.
 #[test]
-fn joins_give_what_a_scan_gives(rt: HostRuntime) {
+fn joins_give_what_a_scan_gives(rt: HostRuntime) -> Result<(), Fail> {
     const ROWS: [(u64, u64); 4] = [(100, 42), (42, 100), (3, 500), (300, 300)];
     for &(left, right) in &ROWS {
-        let lefts = spread(rt.alloc(), left, 37, 53);
-        let rights = spread(rt.alloc(), right, 59, 31);
+        let lefts = spread(rt.alloc(), left, 37, 53)?;
+        let rights = spread(rt.alloc(), right, 59, 31)?;
         assert!(rt; met_as_scanned(rt.alloc(), &lefts, &rights));
     }
+    Ok(())
 }

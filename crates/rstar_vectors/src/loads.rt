@@ -114,20 +114,23 @@ fn are_cut<T: RTreeObject>(parts: &[Vec<T>], children: usize, wide: usize, most:
         && are_all_parted(parts)
 }
 
-/// Whether parents, so many levels above the lowest of them, are cut as a load cuts.
+/// Whether parents, so many levels above the lowest of them, are cut as a load cuts; `least` becomes the least number of
+/// children of a parent of leaves, where that is less.
 fn is_cut<T: RTreeObject + Copy>(
     alloc: Global,
     parent: &ParentNode<T>,
     levels: usize,
     wide: usize,
     most: usize,
+    least: &mut usize,
 ) -> bool {
     if levels == 0 {
+        *least = (*least).min(parent.children().len());
         return true;
     }
     for node in parent.children() {
         if let RTreeNode::Parent(part) = node {
-            if !is_cut(alloc, part, levels - 1, wide, most) {
+            if !is_cut(alloc, part, levels - 1, wide, most, least) {
                 return false;
             }
         }
@@ -136,20 +139,6 @@ fn is_cut<T: RTreeObject + Copy>(
         Ok(parts) => are_cut(parts, parent.children().len(), wide, most),
         Err(_) => false,
     }
-}
-
-/// The least number of children of a parent of leaves, so many levels below.
-fn narrowest<T: RTreeObject>(parent: &ParentNode<T>, levels: usize) -> usize {
-    if levels == 0 {
-        return parent.children().len();
-    }
-    let mut least = usize::MAX;
-    for node in parent.children() {
-        if let RTreeNode::Parent(part) = node {
-            least = least.min(narrowest(part, levels - 1));
-        }
-    }
-    least
 }
 
 /// Whether some lists are so long, in rising order.
@@ -197,22 +186,26 @@ fn has_all<T: RTreeObject + Copy + Ord>(
     gather(root.children(), levels, &mut all).is_ok() && are_same(alloc, &mut all, elements)
 }
 
-/// Whether a load of these elements has them all, and is loaded.
+/// Whether a load of these elements has them all, and is loaded; and whether it takes more of them, one after another,
+/// and stands after each.
 fn loads_well<T: RTreeObject + Copy + Ord, Params: RTreeParams>(
     alloc: Global,
     elements: &[T],
     most: usize,
+    more: &[T],
 ) -> bool
     requires { 2 ≤ T.Envelope.Point.DIMENSIONS }
 {
-    let tree: RTree<T, Params> = loaded(alloc, elements);
+    let tree: &mut RTree<T, Params> = &mut loaded(alloc, elements);
     let root = tree.root();
     let levels = levels_of(root);
+    let mut least = usize::MAX;
     tree.size() == elements.len()
-        && stands(&tree)
+        && stands(&*tree)
         && has_all(alloc, root, levels, elements)
-        && is_cut(alloc, root, levels, Params::MAX_SIZE, most)
-        && narrowest(root, levels) <= Params::MAX_SIZE
+        && is_cut(alloc, root, levels, Params::MAX_SIZE, most, &mut least)
+        && least <= Params::MAX_SIZE
+        && all_go_in(tree, more, 1, usize::MAX)
 }
 
 /// Points as `points` gives them, with a third coordinate.
@@ -227,121 +220,6 @@ fn deep_points(alloc: Global, count: usize) -> Result<Vec<[i32; 3]>, AllocError>
         ])?;
     }
     Ok(points)
-}
-
-#[test]
-fn loads_of_0_to_300_points_are_loaded(rt: HostRuntime) -> Result<(), Fail> {
-    for count in 0..301 {
-        let flat = points(rt.alloc(), count)?;
-        assert!(rt; loads_well::<[i32; 2], DefaultParams>(rt.alloc(), &flat, 6));
-    }
-    Ok(())
-}
-
-#[test]
-fn loads_of_many_sizes_are_loaded(rt: HostRuntime) -> Result<(), Fail> {
-    for &count in &[5, 17, 63, 64, 65, 257, 693, 1024, 1537] {
-        let flat = points(rt.alloc(), count)?;
-        let deep = deep_points(rt.alloc(), count)?;
-        assert!(rt; loads_well::<[i32; 2], Small>(rt.alloc(), &flat, 4));
-        assert!(rt; loads_well::<[i32; 3], DefaultParams>(rt.alloc(), &deep, 8));
-    }
-    Ok(())
-}
-
-/// Whether each child of a root has its elements in such parts.
-fn children_have_parts<T: RTreeObject + Copy>(
-    alloc: Global,
-    root: &ParentNode<T>,
-    parts: &[usize],
-) -> bool {
-    for node in root.children() {
-        let is_so = match node {
-            RTreeNode::Leaf(_) => false,
-            RTreeNode::Parent(part) => has_parts(alloc, part, parts),
-        };
-        if !is_so {
-            return false;
-        }
-    }
-    true
-}
-
-/// Whether a load has so many levels of parents below its root, and so many elements below each child of it; and, where
-/// that is asked, so many below each child of such a child.
-fn loads_in_parts<T: RTreeObject + Copy>(
-    alloc: Global,
-    elements: &[T],
-    levels: usize,
-    parts: &[usize],
-    below: &[usize],
-) -> bool
-    requires { 2 ≤ T.Envelope.Point.DIMENSIONS }
-{
-    let tree: RTree<T> = loaded(alloc, elements);
-    let root = tree.root();
-    stands(&tree)
-        && levels_of(root) == levels
-        && has_parts(alloc, root, parts)
-        && (below.is_empty() || children_have_parts(alloc, root, below))
-}
-
-// How many points, the levels of parents below the root, how many points are below each child of the root, and where all
-// these are alike how many are below each child of them: where none are given, that is not asked.
-#[test]
-fn loads_have_their_parts(rt: HostRuntime) -> Result<(), Fail> {
-    const ROWS: [(usize, usize, &'static [usize], &'static [usize]); 8] = [
-        (0, 0, &[], &[]),
-        (6, 0, &[], &[]),
-        (7, 1, &[1, 2, 2, 2], &[]),
-        (25, 1, &[6, 6, 6, 7], &[]),
-        (26, 1, &[6, 6, 7, 7], &[]),
-        (28, 2, &[7, 7, 7, 7], &[1, 2, 2, 2]),
-        (36, 2, &[9, 9, 9, 9], &[]),
-        (37, 2, &[9, 9, 9, 10], &[]),
-    ];
-    for &(count, levels, parts, below) in &ROWS {
-        let flat = points(rt.alloc(), count)?;
-        assert!(rt; loads_in_parts(rt.alloc(), &flat, levels, parts, below));
-    }
-    Ok(())
-}
-
-#[test]
-fn a_load_in_three_dimensions_has_its_parts(rt: HostRuntime) -> Result<(), Fail> {
-    let deep = deep_points(rt.alloc(), 7)?;
-    assert!(rt; loads_in_parts(rt.alloc(), &deep, 1, &[1; 7], &[]));
-    Ok(())
-}
-
-/// Whether the root of a load, made by itself, has so many elements below each child; no elements make no root.
-fn root_has_parts<T: RTreeObject + Copy>(alloc: Global, elements: Vec<T>, parts: &[usize]) -> bool
-    requires { 2 ≤ T.Envelope.Point.DIMENSIONS }
-{
-    if elements.is_empty() || !none_empty(&elements) {
-        return false;
-    }
-    match &bulk_load_sequential::<T, DefaultParams>(elements) {
-        Ok(root) => has_parts(alloc, root, parts),
-        Err(_) => false,
-    }
-}
-
-#[test]
-fn a_root_alone_is_loaded(rt: HostRuntime) -> Result<(), Fail> {
-    let flat = points(rt.alloc(), 25)?;
-    assert!(rt; root_has_parts(rt.alloc(), flat, &[6, 6, 6, 7]));
-    Ok(())
-}
-
-// ---- what loaded trees take
-
-/// Whether a loaded tree takes more elements, one after another, and stands after each.
-fn takes_more<T: RTreeObject + Copy>(alloc: Global, elements: &[T], more: &[T]) -> bool
-    requires { 2 ≤ T.Envelope.Point.DIMENSIONS }
-{
-    let tree = &mut loaded::<T, DefaultParams>(alloc, elements);
-    tree.size() == elements.len() && all_go_in(tree, more, 1, usize::MAX)
 }
 
 const LOADED: [[i32; 3]; 16] = [
@@ -376,50 +254,200 @@ const INSERTED: [[i32; 3]; 10] = [
     [172932530, 106000230, 35850134],
 ];
 
+// A load of 25 has a parent of leaves that is too wide: 7 of them.
 #[test]
-fn a_loaded_tree_takes_insertions(rt: HostRuntime) {
-    assert!(rt; takes_more(rt.alloc(), &LOADED, &INSERTED));
+fn loads_of_0_to_300_points_are_loaded_and_take_insertions(rt: HostRuntime) -> Result<(), Fail> {
+    for count in 0..301 {
+        let flat = points(rt.alloc(), count)?;
+        let taken = match count {
+            0 | 25 | 28 | 37 | 300 => 40,
+            _ => 0,
+        };
+        let more = points(rt.alloc(), taken)?;
+        assert!(rt; loads_well::<[i32; 2], DefaultParams>(rt.alloc(), &flat, 6, &more));
+    }
+    Ok(())
 }
 
-// The second has a parent of leaves that is too wide: 7 of 25.
 #[test]
-fn loads_of_many_sizes_take_insertions(rt: HostRuntime) -> Result<(), Fail> {
-    let more = points(rt.alloc(), 40)?;
-    for &count in &[0, 25, 28, 37, 300] {
+fn loads_of_many_sizes_are_loaded(rt: HostRuntime) -> Result<(), Fail> {
+    for &count in &[5, 17, 63, 64, 65, 257, 693, 1024, 1537] {
         let flat = points(rt.alloc(), count)?;
-        assert!(rt; takes_more(rt.alloc(), &flat, &more));
+        let deep = deep_points(rt.alloc(), count)?;
+        assert!(rt; loads_well::<[i32; 2], Small>(rt.alloc(), &flat, 4, &[]));
+        assert!(rt; loads_well::<[i32; 3], DefaultParams>(rt.alloc(), &deep, 8, &[]));
     }
+    assert!(rt; loads_well::<[i32; 3], DefaultParams>(rt.alloc(), &LOADED, 8, &INSERTED));
+    Ok(())
+}
+
+/// Whether each child of a root has its elements in such parts.
+fn children_have_parts<T: RTreeObject + Copy>(
+    alloc: Global,
+    root: &ParentNode<T>,
+    parts: &[usize],
+) -> bool {
+    for node in root.children() {
+        let is_so = match node {
+            RTreeNode::Leaf(_) => false,
+            RTreeNode::Parent(part) => has_parts(alloc, part, parts),
+        };
+        if !is_so {
+            return false;
+        }
+    }
+    true
+}
+
+/// The levels of parents below a root, how many elements are below each child of it, in rising order, and where these are
+/// alike how many are below each child of such a child: where none are given, that is not asked.
+type Parts<'a> = (usize, &'a [usize], &'a [usize]);
+
+/// Whether a tree stands, and has so many elements, in such parts; asked once more where memory for the parts is refused.
+fn is_in_parts<T: RTreeObject + Copy>(
+    alloc: Global,
+    tree: &RTree<T>,
+    count: usize,
+    parts: &Parts<'_>,
+) -> bool {
+    let root = tree.root();
+    tree.size() == count
+        && stands(tree)
+        && levels_of(root) == parts.0
+        && (has_parts(alloc, root, parts.1) || has_parts(alloc, root, parts.1))
+        && (parts.2.is_empty()
+            || children_have_parts(alloc, root, parts.2)
+            || children_have_parts(alloc, root, parts.2))
+}
+
+/// The same of a clone of a tree, where the tree is not refused that.
+fn clone_is_in_parts<T: RTreeObject + Copy>(
+    alloc: Global,
+    tree: &RTree<T>,
+    count: usize,
+    parts: &Parts<'_>,
+) -> bool
+    requires { IsWholeTree T.Envelope.boxes T.object ⟦<DefaultParams as RTreeParams>⟧.MAX_SIZE tree.now }
+{
+    match &tree.clone() {
+        Ok(copy) => is_in_parts(alloc, copy, count, parts),
+        Err(_) => false,
+    }
+}
+
+/// The same of a load of these elements, where that is not refused, and of its clone, which is asked for once more where
+/// it is refused.
+fn load_is_in_parts<T: RTreeObject + Copy>(alloc: Global, elements: &[T], parts: &Parts<'_>) -> bool
+    requires { 2 ≤ T.Envelope.Point.DIMENSIONS }
+{
+    let count = elements.len();
+    match &load_of(alloc, elements) {
+        Ok(tree) => {
+            is_in_parts(alloc, tree, count, parts)
+                && (clone_is_in_parts(alloc, tree, count, parts)
+                    || clone_is_in_parts(alloc, tree, count, parts))
+        }
+        Err(_) => false,
+    }
+}
+
+/// The same of a load that is asked for once more where it is refused.
+fn may_be_asked_again<T: RTreeObject + Copy>(
+    alloc: Global,
+    elements: &[T],
+    parts: &Parts<'_>,
+) -> bool
+    requires { 2 ≤ T.Envelope.Point.DIMENSIONS }
+{
+    load_is_in_parts(alloc, elements, parts) || load_is_in_parts(alloc, elements, parts)
+}
+
+/// How many points, and their parts. `rt try --test --fail-alloc N` refuses the Nth allocation: what was refused is asked
+/// once more.
+#[test]
+fn loads_and_clones_have_their_parts_and_may_be_asked_again(rt: HostRuntime) -> Result<(), Fail> {
+    const ROWS: [(usize, Parts<'static>); 8] = [
+        (0, (0, &[], &[])),
+        (6, (0, &[], &[])),
+        (7, (1, &[1, 2, 2, 2], &[])),
+        (25, (1, &[6, 6, 6, 7], &[])),
+        (26, (1, &[6, 6, 7, 7], &[])),
+        (28, (2, &[7, 7, 7, 7], &[1, 2, 2, 2])),
+        (36, (2, &[9, 9, 9, 9], &[])),
+        (37, (2, &[9, 9, 9, 10], &[])),
+    ];
+    for (count, parts) in &ROWS {
+        let flat = match points(rt.alloc(), *count) {
+            Ok(flat) => flat,
+            Err(_) => points(rt.alloc(), *count)?,
+        };
+        assert!(rt; may_be_asked_again(rt.alloc(), &flat, parts));
+    }
+    Ok(())
+}
+
+#[test]
+fn a_load_in_three_dimensions_has_its_parts(rt: HostRuntime) -> Result<(), Fail> {
+    let deep = deep_points(rt.alloc(), 7)?;
+    assert!(rt; may_be_asked_again(rt.alloc(), &deep, &(1, &[1; 7], &[])));
+    Ok(())
+}
+
+/// Whether the root of a load, made by itself, has so many elements below each child; no elements make no root.
+fn root_has_parts<T: RTreeObject + Copy>(alloc: Global, elements: Vec<T>, parts: &[usize]) -> bool
+    requires { 2 ≤ T.Envelope.Point.DIMENSIONS }
+{
+    if elements.is_empty() || !none_empty(&elements) {
+        return false;
+    }
+    match &bulk_load_sequential::<T, DefaultParams>(elements) {
+        Ok(root) => has_parts(alloc, root, parts),
+        Err(_) => false,
+    }
+}
+
+#[test]
+fn a_root_alone_is_loaded(rt: HostRuntime) -> Result<(), Fail> {
+    let flat = points(rt.alloc(), 25)?;
+    assert!(rt; root_has_parts(rt.alloc(), flat, &[6, 6, 6, 7]));
     Ok(())
 }
 
 // ---- clones and texts
 
+/// What a value shows.
+fn shown<V: Debug>(alloc: Global, value: &V) -> Result<String, AllocError> {
+    format!(in alloc; "{value:?}")
+}
+
 /// Whether this text is what a value shows.
 pub(crate) fn shows<V: Debug>(alloc: Global, value: &V, text: &str) -> bool {
-    match format!(in alloc; "{value:?}") {
+    match &shown(alloc, value) {
         Ok(shown) => shown.as_str() == text,
         Err(_) => false,
     }
 }
 
-/// Whether a copy of a tree shows what the tree showed, and an element that goes into the copy does not go into the tree.
+/// Whether a copy of a tree shows what the tree shows, and an element that goes into the copy does not go into the tree.
 fn stays_alone<T: RTreeObject + Copy + Debug>(
     alloc: Global,
     tree: &RTree<T>,
     copy: &mut RTree<T>,
     element: T,
-    text: &str,
 ) -> bool
     requires { IsWholeTree T.Envelope.boxes T.object ⟦<DefaultParams as RTreeParams>⟧.MAX_SIZE copy.old }
 {
     let count = tree.size();
-    copy.size() == count
-        && shows(alloc, copy.root(), text)
-        && !element.envelope().is_empty()
-        && copy.insert(element).is_ok()
-        && tree.size() == count
-        && count < copy.size()
-        && shows(alloc, tree.root(), text)
+    match &shown(alloc, tree.root()) {
+        Ok(text) => copy.size() == count
+            && shows(alloc, copy.root(), text)
+            && !element.envelope().is_empty()
+            && copy.insert(element).is_ok()
+            && tree.size() == count
+            && count < copy.size()
+            && shows(alloc, tree.root(), text),
+        Err(_) => false,
+    }
 }
 
 /// The same of a clone of a tree.
@@ -427,116 +455,45 @@ fn clones_alone<T: RTreeObject + Copy + Debug>(alloc: Global, tree: &RTree<T>, e
     requires whole { IsWholeTree T.Envelope.boxes T.object ⟦<DefaultParams as RTreeParams>⟧.MAX_SIZE tree.now }
     requires exact { ClonesEqual T.is_clone }
 {
-    match (&format!(in alloc; "{:?}", tree.root()), &mut tree.clone()) {
-        (Ok(text), Ok(copy)) => stays_alone(alloc, tree, copy, element, text),
-        _ => false,
+    match &mut tree.clone() {
+        Ok(copy) => stays_alone(alloc, tree, copy, element),
+        Err(_) => false,
     }
 }
 
-/// The same of a load of these elements.
-fn loads_cloned_alone<T: RTreeObject + Copy + Debug>(alloc: Global, elements: &[T], more: T) -> bool
+/// The same of a load of these elements; and whether the load shows a text, where one is given.
+fn loads_cloned_alone<T: RTreeObject + Copy + Debug>(
+    alloc: Global,
+    elements: &[T],
+    more: T,
+    text: &str,
+) -> bool
     requires dimensions { 2 ≤ T.Envelope.Point.DIMENSIONS }
     requires exact { ClonesEqual T.is_clone }
 {
     let tree = loaded(alloc, elements);
-    tree.size() == elements.len() && clones_alone(alloc, &tree, more)
+    tree.size() == elements.len()
+        && (text.is_empty() || shows(alloc, &tree, text))
+        && clones_alone(alloc, &tree, more)
 }
 
+// Points in one place, with the text of their load; and points of several counts.
 #[test]
-fn clones_show_the_same(rt: HostRuntime) -> Result<(), Fail> {
-    for &count in &[0, 1, 7, 25, 37, 300] {
-        let flat = points(rt.alloc(), count)?;
-        assert!(rt; loads_cloned_alone(rt.alloc(), &flat, [7, 7]));
-    }
-    Ok(())
-}
-
-/// Whether a load of these elements prints this.
-fn prints<T: RTreeObject + Copy + Debug>(alloc: Global, elements: &[T], text: &str) -> bool
-    requires { 2 ≤ T.Envelope.Point.DIMENSIONS }
-{
-    let tree: RTree<T> = loaded(alloc, elements);
-    shows(alloc, &tree, text)
-}
-
-#[test]
-fn a_tree_prints_its_size_and_elements(rt: HostRuntime) -> Result<(), Fail> {
-    const ROWS: [(usize, &'static str); 3] = [
-        (2, "RTree { size: 2, items: {[0, 1], [0, 1]} }"),
-        (0, "RTree { size: 0, items: {} }"),
+fn loads_show_their_elements_and_clones_the_same(rt: HostRuntime) -> Result<(), Fail> {
+    const ROWS: [(&'static [[i32; 2]], &'static str); 3] = [
+        (&[[0, 1]; 2], "RTree { size: 2, items: {[0, 1], [0, 1]} }"),
+        (&[], "RTree { size: 0, items: {} }"),
         (
-            9,
+            &[[0, 1]; 9],
             "RTree { size: 9, items: {[0, 1], [0, 1], [0, 1], [0, 1], [0, 1], [0, 1], [0, 1], [0, 1], [0, 1]} }",
         ),
     ];
-    for &(count, text) in &ROWS {
-        let same = vec![in rt.alloc(); [0, 1]; count]?;
-        assert!(rt; prints(rt.alloc(), &same, text));
+    for &(same, text) in &ROWS {
+        assert!(rt; loads_cloned_alone(rt.alloc(), same, [7, 7], text));
     }
-    Ok(())
-}
-
-// ---- refused growths
-
-/// Whether a tree has so many elements, in such parts; asked once more where memory for the parts is refused.
-fn has_parts_again<T: RTreeObject + Copy>(
-    alloc: Global,
-    tree: &RTree<T>,
-    count: usize,
-    parts: &[usize],
-) -> bool {
-    let root = tree.root();
-    tree.size() == count && (has_parts(alloc, root, parts) || has_parts(alloc, root, parts))
-}
-
-/// The same of a clone of a tree, where the tree is not refused that.
-fn clone_has_parts<T: RTreeObject + Copy>(
-    alloc: Global,
-    tree: &RTree<T>,
-    count: usize,
-    parts: &[usize],
-) -> bool
-    requires { IsWholeTree T.Envelope.boxes T.object ⟦<DefaultParams as RTreeParams>⟧.MAX_SIZE tree.now }
-{
-    match &tree.clone() {
-        Ok(copy) => has_parts_again(alloc, copy, count, parts),
-        Err(_) => false,
-    }
-}
-
-/// The same of a load of these elements, where that is not refused, and of its clone, which is asked for once more where
-/// it is refused.
-fn load_has_parts<T: RTreeObject + Copy>(alloc: Global, elements: &[T], parts: &[usize]) -> bool
-    requires { 2 ≤ T.Envelope.Point.DIMENSIONS }
-{
-    let count = elements.len();
-    match &load_of(alloc, elements) {
-        Ok(tree) => {
-            has_parts_again(alloc, tree, count, parts)
-                && (clone_has_parts(alloc, tree, count, parts)
-                    || clone_has_parts(alloc, tree, count, parts))
-        }
-        Err(_) => false,
-    }
-}
-
-/// The same of a load that is asked for once more where it is refused.
-fn may_be_asked_again<T: RTreeObject + Copy>(alloc: Global, elements: &[T], parts: &[usize]) -> bool
-    requires { 2 ≤ T.Envelope.Point.DIMENSIONS }
-{
-    load_has_parts(alloc, elements, parts) || load_has_parts(alloc, elements, parts)
-}
-
-/// `rt try --test --fail-alloc N` refuses the Nth allocation: what was refused is asked once more.
-#[test]
-fn a_refused_load_or_clone_may_be_asked_again(rt: HostRuntime) -> Result<(), Fail> {
-    const ROWS: [(usize, [usize; 4]); 2] = [(25, [6, 6, 6, 7]), (28, [7, 7, 7, 7])];
-    for &(count, parts) in &ROWS {
-        let flat = match points(rt.alloc(), count) {
-            Ok(flat) => flat,
-            Err(_) => points(rt.alloc(), count)?,
-        };
-        assert!(rt; may_be_asked_again(rt.alloc(), &flat, &parts));
+    for &count in &[0, 1, 7, 25, 37, 300] {
+        let flat = points(rt.alloc(), count)?;
+        assert!(rt; loads_cloned_alone(rt.alloc(), &flat, [7, 7], ""));
     }
     Ok(())
 }
@@ -572,19 +529,20 @@ fn callers_load_query_and_insert(rt: HostRuntime) -> Result<(), Fail> {
     Ok(())
 }
 
-/// The same of a load of these elements; none where one more has an empty envelope.
+/// Whether that is so of a load of these elements; not where one more has an empty envelope.
 fn found_in_load<T: PointDistance + Copy>(
     alloc: Global,
     elements: &[T],
     point: PointOf<T>,
     more: T,
-) -> Option<(bool, usize)>
+    wanted: (bool, usize),
+) -> bool
     requires { 2 ≤ T.Envelope.Point.DIMENSIONS }
 {
     if more.envelope().is_empty() {
-        return None;
+        return false;
     }
-    Some(found_and_count(loaded(alloc, elements), point, more))
+    found_and_count(loaded(alloc, elements), point, more) == wanted
 }
 
 #[test]
@@ -592,5 +550,5 @@ fn rectangles_are_loaded_queried_and_inserted(rt: HostRuntime) {
     let near = Rectangle::from_corners([0i64, 0], [2, 2]);
     let far = Rectangle::from_corners([5, 5], [9, 9]);
     let more = Rectangle::from_corners([9, 9], [5, 5]);
-    assert!(rt; found_in_load(rt.alloc(), &[near, far], [1, 1], more) == Some((true, 3)));
+    assert!(rt; found_in_load(rt.alloc(), &[near, far], [1, 1], more, (true, 3)));
 }

@@ -1,21 +1,19 @@
 //! Neighbours: rows, a plain scan beside the tree, and elements that note when they are asked.
 
-ghost use Rattle.std.specs.Prelude.{◌≡◌, ◌≤◌, IfSome, IsTrue};
+ghost use Rattle.std.specs.Prelude.{◌≡◌, ◌≤◌, IfSome};
 ghost use Rattle.std.specs.Mem.{FitsInMemory};
 ghost use Rattle.rstar_base.specs.Elements.{carried_objects, carried_distances};
 ghost use Rattle.rstar_base.specs.Sizes.{IsNarrow};
 ghost use Rattle.rstar_base.specs.laws.CarrierLaws.{carried_laws};
-ghost use Rattle.rstar.specs.Neighbors.{with_distances, IsSearching};
+ghost use Rattle.rstar.specs.Neighbors.{IsSearching};
 ghost use Rattle.rstar.specs.Trees.{IsWholeTree};
 ghost use Rattle.rstar_vectors.specs.Fits.{iterator_row, alone_row};
 
-use crate::neighbours::{all_below, one_below};
+use crate::neighbours::{all_below, first_at, one_below};
 use crate::scenarios::{ALONG_A_LINE, inserted, loaded, points};
-use rstar::algorithm::nearest_neighbor::{
-    NearestNeighborDistance2Iterator, NearestNeighborIterator,
-};
+use rstar::algorithm::nearest_neighbor::NearestNeighborDistance2Iterator;
 use rstar::object::{Distance, PointDistance, PointOf, RTreeObject};
-use rstar::point::{Point, RTreeNum};
+use rstar::point::Point;
 use rstar::primitives::{GeomWithData, Line, Rectangle};
 use rstar::{AABB, DefaultParams, Envelope, RTree, RTreeParams};
 use std::alloc::{AllocError, Global};
@@ -24,33 +22,27 @@ use std::test::Fail;
 
 type At = [i32; 2];
 
-/// Whether the next neighbour lies at this squared distance, with so many parents opened then, where that is told.
-fn is_next<T: PointDistance>(
+/// The squared distance of the next neighbour; none at the end, or where it is refused.
+fn next_distance<T: PointDistance>(
     neighbors: &mut NearestNeighborDistance2Iterator<'_, T>,
-    distance: Distance<T>,
-    opened: Option<&usize>,
-) -> bool
+) -> Option<Distance<T>>
     requires { IsSearching T.Envelope.boxes T.object T.distances T.Envelope.Point.DIMENSIONS
         T.Envelope.Point.coord T.Envelope.Point.Scalar.cmp T.Envelope.Point.Scalar.value neighbors.old }
-    ensures { IsTrue result → IsSearching T.Envelope.boxes T.object T.distances T.Envelope.Point.DIMENSIONS
-        T.Envelope.Point.coord T.Envelope.Point.Scalar.cmp T.Envelope.Point.Scalar.value neighbors.new }
+    ensures { IfSome result (λ _. IsSearching T.Envelope.boxes T.object T.distances T.Envelope.Point.DIMENSIONS
+        T.Envelope.Point.coord T.Envelope.Point.Scalar.cmp T.Envelope.Point.Scalar.value neighbors.new) }
 {
     match neighbors.next() {
-        Some(Ok((_, found))) => found == distance
-            && match opened {
-                Some(count) => *count == neighbors.opened(),
-                None => true,
-            },
-        _ => false,
+        Some(Ok((_, found))) => Some(found),
+        _ => None,
     }
 }
 
-/// Whether no neighbour is left.
-fn is_over<T: PointDistance>(neighbors: &mut NearestNeighborDistance2Iterator<'_, T>) -> bool
-    requires { IsSearching T.Envelope.boxes T.object T.distances T.Envelope.Point.DIMENSIONS
-        T.Envelope.Point.coord T.Envelope.Point.Scalar.cmp T.Envelope.Point.Scalar.value neighbors.old }
-{
-    neighbors.next().is_none()
+/// Whether a number is as told, where one is told.
+fn is_as_told(number: usize, told: Option<&usize>) -> bool {
+    match told {
+        Some(wanted) => number == *wanted,
+        None => true,
+    }
 }
 
 /// Whether an iterator opens no parent before it is asked, gives neighbours at these squared distances with so many
@@ -64,50 +56,17 @@ fn gives<T: PointDistance>(
         T.Envelope.Point.coord T.Envelope.Point.Scalar.cmp T.Envelope.Point.Scalar.value neighbors.old }
 {
     let is_fresh = neighbors.opened() == 0;
-    for k in 0..distances.len() {
-        if !is_next(neighbors, distances[k], opened.get(k)) {
-            return false;
-        }
-    }
-    is_fresh && is_over(neighbors)
-}
-
-/// The next element of an iterator without distances; none at the end, or where it is refused.
-fn next_element<'a, T: PointDistance>(
-    neighbors: &mut NearestNeighborIterator<'a, T>,
-) -> Option<&'a T>
-    requires { IsSearching T.Envelope.boxes T.object T.distances T.Envelope.Point.DIMENSIONS
-        T.Envelope.Point.coord T.Envelope.Point.Scalar.cmp T.Envelope.Point.Scalar.value
-        (with_distances neighbors.old) }
-    ensures { IfSome result (λ _. IsSearching T.Envelope.boxes T.object T.distances T.Envelope.Point.DIMENSIONS
-        T.Envelope.Point.coord T.Envelope.Point.Scalar.cmp T.Envelope.Point.Scalar.value
-        (with_distances neighbors.new)) }
-{
-    match neighbors.next() {
-        Some(Ok(element)) => Some(element),
-        _ => None,
-    }
-}
-
-/// Whether an iterator without distances gives elements at these squared distances from a place, and then none.
-fn gives_elements<T: PointDistance>(
-    neighbors: &mut NearestNeighborIterator<'_, T>,
-    place: &PointOf<T>,
-    distances: &[Distance<T>],
-) -> bool
-    requires { IsSearching T.Envelope.boxes T.object T.distances T.Envelope.Point.DIMENSIONS
-        T.Envelope.Point.coord T.Envelope.Point.Scalar.cmp T.Envelope.Point.Scalar.value
-        (with_distances neighbors.old) }
-{
+    let mut k = 0usize;
     for distance in distances {
-        match next_element(neighbors) {
-            Some(element) => if element.distance_2(place) != *distance {
+        match next_distance(neighbors) {
+            Some(found) => if found != *distance || !is_as_told(neighbors.opened(), opened.get(k)) {
                 return false;
             },
             None => return false,
         }
+        k = k.saturating_add(1);
     }
-    neighbors.next().is_none()
+    is_fresh && neighbors.next().is_none()
 }
 
 /// Does nothing but tell that an iterator over neighbours, which holds a point by value, fits in memory.
@@ -117,22 +76,33 @@ pub(crate) fn fits<P: Point>()
     ensures alone { FitsInMemory (alone_row P.row P.Scalar.row) }
 {}
 
-/// The first number of an ascending list, and how often it stands there.
-fn least_of<S: RTreeNum>(ascending: &[S]) -> Option<(S, usize)> {
-    let least = *ascending.first()?;
-    let mut count = 0usize;
-    for number in ascending {
-        if *number == least {
-            count = count.saturating_add(1);
+/// Whether elements lie at these squared distances from a place, in this order.
+fn lie_at<T: PointDistance>(found: &[&T], place: &PointOf<T>, distances: &[Distance<T>]) -> bool {
+    if found.len() != distances.len() {
+        return false;
+    }
+    for k in 0..distances.len() {
+        if found[k].distance_2(place) != distances[k] {
+            return false;
         }
     }
-    Some((least, count))
+    true
+}
+
+/// Those numbers at the begin of an ascending list that equal the first.
+fn least_of<S: PartialEq>(ascending: &[S]) -> &[S] {
+    for k in 0..ascending.len() {
+        if ascending[k] != ascending[0] {
+            return ascending.split_at(k).0;
+        }
+    }
+    ascending
 }
 
 /// Whether there is a least distance, and it is this.
-fn is_at<S: RTreeNum>(least: Option<(S, usize)>, distance: S) -> bool {
-    match least {
-        Some((number, _)) => number == distance,
+fn is_at<S: PartialEq>(least: &[S], distance: &S) -> bool {
+    match least.first() {
+        Some(first) => *first == *distance,
         None => false,
     }
 }
@@ -141,11 +111,11 @@ fn is_at<S: RTreeNum>(least: Option<(S, usize)>, distance: S) -> bool {
 fn is_least<T: PointDistance>(
     found: Result<Option<(&T, Distance<T>)>, AllocError>,
     place: &PointOf<T>,
-    least: Option<(Distance<T>, usize)>,
+    least: &[Distance<T>],
 ) -> bool {
     match found {
-        Ok(Some((element, one))) => is_at(least, one) && element.distance_2(place) == one,
-        Ok(None) => least.is_none(),
+        Ok(Some((element, one))) => is_at(least, &one) && element.distance_2(place) == one,
+        Ok(None) => least.is_empty(),
         Err(_) => false,
     }
 }
@@ -154,62 +124,42 @@ fn is_least<T: PointDistance>(
 fn is_least_alone<T: PointDistance>(
     found: Result<Option<&T>, AllocError>,
     place: &PointOf<T>,
-    least: Option<(Distance<T>, usize)>,
+    least: &[Distance<T>],
 ) -> bool {
     match found {
-        Ok(Some(element)) => is_at(least, element.distance_2(place)),
-        Ok(None) => least.is_none(),
+        Ok(Some(element)) => is_at(least, &element.distance_2(place)),
+        Ok(None) => least.is_empty(),
         Err(_) => false,
     }
 }
 
-/// Whether all neighbours that were found lie at the least distance of some, and are as many.
+/// Whether elements that were found lie at these squared distances from a place, in this order.
+fn are_at<T: PointDistance>(
+    found: &Result<Vec<&T>, AllocError>,
+    place: &PointOf<T>,
+    distances: &[Distance<T>],
+) -> bool {
+    match found {
+        Ok(all) => lie_at(all, place, distances),
+        Err(_) => false,
+    }
+}
+
+/// The same of all nearest neighbours with their distance, and of the least distances.
 fn are_least<T: PointDistance>(
-    found: &[&T],
+    found: &Result<Option<(Vec<&T>, Distance<T>)>, AllocError>,
     place: &PointOf<T>,
-    least: Option<(Distance<T>, usize)>,
+    least: &[Distance<T>],
 ) -> bool {
-    let Some((least, count)) = least else {
-        return found.is_empty();
-    };
-    let mut is_so = found.len() == count;
-    for element in found {
-        is_so = is_so && element.distance_2(place) == least;
-    }
-    is_so
-}
-
-/// The same of a call that may be refused.
-fn are_least_alone<T: PointDistance>(
-    found: Result<Vec<&T>, AllocError>,
-    place: &PointOf<T>,
-    least: Option<(Distance<T>, usize)>,
-) -> bool {
-    match &found {
-        Ok(all) => are_least(all, place, least),
+    match found {
+        Ok(Some((all, one))) => is_at(least, one) && lie_at(all, place, least),
+        Ok(None) => least.is_empty(),
         Err(_) => false,
     }
 }
 
-/// The same of neighbours with their distance.
-fn are_least_with_distance<T: PointDistance>(
-    found: Result<Option<(Vec<&T>, Distance<T>)>, AllocError>,
-    place: &PointOf<T>,
-    least: Option<(Distance<T>, usize)>,
-) -> bool {
-    match &found {
-        Ok(Some((all, one))) => is_at(least, *one) && are_least(all, place, least),
-        Ok(None) => least.is_none(),
-        Err(_) => false,
-    }
-}
-
-/// Whether each call that looks for a nearest neighbour, or for all of them, finds those at the least of some distances.
-fn calls_find<T: PointDistance>(
-    tree: &RTree<T>,
-    place: PointOf<T>,
-    least: Option<(Distance<T>, usize)>,
-) -> bool
+/// Whether each call that looks for a nearest neighbour finds one at the least of some distances.
+fn calls_find<T: PointDistance>(tree: &RTree<T>, place: PointOf<T>, least: &[Distance<T>]) -> bool
 where
     PointOf<T>: Copy,
     requires whole { IsWholeTree T.Envelope.boxes T.object ⟦<DefaultParams as RTreeParams>⟧.MAX_SIZE tree.now }
@@ -217,18 +167,36 @@ where
     is_least_alone(tree.nearest_neighbor(place), &place, least)
         && is_least(tree.nearest_neighbor_with_distance_2(place), &place, least)
         && is_least(one_below(tree, place), &place, least)
-        && are_least_alone(tree.nearest_neighbors(&place), &place, least)
-        && are_least_with_distance(
-            tree.nearest_neighbors_with_distance_2(&place),
+}
+
+/// Whether the iterator without distances gives all at some squared distances, and each call that looks for all nearest
+/// neighbours those at the least.
+fn calls_find_all<T: PointDistance>(
+    alloc: Global,
+    tree: &RTree<T>,
+    place: PointOf<T>,
+    distances: &[Distance<T>],
+    least: &[Distance<T>],
+) -> bool
+where
+    PointOf<T>: Copy,
+    requires narrow { IsNarrow T.Envelope.Point.row }
+    requires whole { IsWholeTree T.Envelope.boxes T.object ⟦<DefaultParams as RTreeParams>⟧.MAX_SIZE tree.now }
+{
+    are_at(&first_at(alloc, tree, place, usize::MAX), &place, distances)
+        && are_at(&tree.nearest_neighbors(&place), &place, least)
+        && are_least(
+            &tree.nearest_neighbors_with_distance_2(&place),
             &place,
             least,
         )
-        && are_least_with_distance(all_below(tree, place), &place, least)
+        && are_least(&all_below(tree, place), &place, least)
 }
 
 /// Whether all neighbours of a place lie at these squared distances, by each call that leaves the tree, with so many
 /// parents opened after each, as far as these numbers go.
 fn answers<T: PointDistance>(
+    alloc: Global,
     tree: &RTree<T>,
     place: PointOf<T>,
     distances: &[Distance<T>],
@@ -240,6 +208,7 @@ where
     requires whole { IsWholeTree T.Envelope.boxes T.object ⟦<DefaultParams as RTreeParams>⟧.MAX_SIZE tree.now }
 {
     fits::<PointOf<T>>();
+    let least = least_of(distances);
     gives(
         &mut tree.nearest_neighbor_iter_with_distance_2(place),
         distances,
@@ -248,8 +217,8 @@ where
         &mut tree.nearest_neighbor_iter_with_distance(place),
         distances,
         opened,
-    ) && gives_elements(&mut tree.nearest_neighbor_iter(place), &place, distances)
-        && calls_find(tree, place, least_of(distances))
+    ) && calls_find(tree, place, least)
+        && calls_find_all(alloc, tree, place, distances, least)
 }
 
 /// The same of a tree of these elements.
@@ -265,7 +234,7 @@ where
     requires narrow { IsNarrow T.Envelope.Point.row }
 {
     let tree = inserted::<T, DefaultParams>(alloc, elements);
-    answers(&tree, place, distances, opened)
+    answers(alloc, &tree, place, distances, opened)
 }
 
 /// Takes one element that equals this one out of a list, and whether there is one.
@@ -291,19 +260,16 @@ where
     PointOf<T>: Copy,
     requires whole { IsWholeTree T.Envelope.boxes T.object ⟦<DefaultParams as RTreeParams>⟧.MAX_SIZE tree.old }
 {
-    let mut is_so = true;
     for distance in distances {
-        is_so = is_so
-            && match tree.pop_nearest_neighbor(place) {
-                Ok(Some(element)) => element.distance_2(&place) == *distance
-                    && take(rest, &element),
-                _ => false,
-            };
+        let is_next = match tree.pop_nearest_neighbor(place) {
+            Ok(Some(element)) => element.distance_2(&place) == *distance && take(rest, &element),
+            _ => false,
+        };
+        if !is_next {
+            return false;
+        }
     }
-    is_so
-        && rest.is_empty()
-        && tree.size() == 0
-        && matches!(tree.pop_nearest_neighbor(place), Ok(None))
+    rest.is_empty() && tree.size() == 0 && matches!(tree.pop_nearest_neighbor(place), Ok(None))
 }
 
 /// The same of a loaded tree of these elements.
@@ -317,11 +283,9 @@ where
     PointOf<T>: Copy,
     requires dimensions { 2 ≤ T.Envelope.Point.DIMENSIONS }
 {
+    let mut tree = loaded::<T, DefaultParams>(alloc, elements);
     match &mut Vec::from_slice(alloc, elements) {
-        Ok(rest) => {
-            let mut tree = loaded::<T, DefaultParams>(alloc, elements);
-            pops(&mut tree, rest, place, distances)
-        }
+        Ok(rest) => pops(&mut tree, rest, place, distances),
         Err(_) => false,
     }
 }
@@ -345,8 +309,17 @@ where
 
 #[test]
 fn lines_come_by_their_own_distances(rt: HostRuntime) {
-    let lines = [Line::new([0i64, 0], [10, 0]), Line::new([9, 5], [9, 6])];
-    assert!(rt; come_at(rt.alloc(), &lines, [9, 0], &[0, 25], &[]));
+    const LINES: [Line<[i64; 2]>; 2] = [
+        Line {
+            from: [0, 0],
+            to: [10, 0],
+        },
+        Line {
+            from: [9, 5],
+            to: [9, 6],
+        },
+    ];
+    assert!(rt; come_at(rt.alloc(), &LINES, [9, 0], &[0, 25], &[]));
 }
 
 // Two plots that touch, both seen from a corner of the one and popped at the other's side, the other first.
@@ -375,27 +348,25 @@ fn scanned<T: PointDistance>(
     Ok(all)
 }
 
-/// Whether a tree of these elements, and a load of them, answer at a place as a scan does.
-fn answers_as_a_scan<T: PointDistance + Copy>(
+/// Whether a tree of some elements answers at a place as a scan of them does.
+fn answers_as_a_scan<T: PointDistance>(
     alloc: Global,
-    load: &RTree<T>,
+    tree: &RTree<T>,
     elements: &[T],
     place: PointOf<T>,
 ) -> bool
 where
     PointOf<T>: Copy,
     requires narrow { IsNarrow T.Envelope.Point.row }
-    requires whole { IsWholeTree T.Envelope.boxes T.object ⟦<DefaultParams as RTreeParams>⟧.MAX_SIZE load.now }
+    requires whole { IsWholeTree T.Envelope.boxes T.object ⟦<DefaultParams as RTreeParams>⟧.MAX_SIZE tree.now }
 {
     match &scanned(alloc, elements, &place) {
-        Ok(wanted) => {
-            come_at(alloc, elements, place, wanted, &[]) && answers(load, place, wanted, &[])
-        }
+        Ok(wanted) => answers(alloc, tree, place, wanted, &[]),
         Err(_) => false,
     }
 }
 
-/// The same at each of some places.
+/// The same of a tree of these elements, and of a load of them, at each of some places.
 fn answer_as_a_scan<T: PointDistance + Copy>(
     alloc: Global,
     elements: &[T],
@@ -406,9 +377,12 @@ where
     requires narrow { IsNarrow T.Envelope.Point.row }
     requires dimensions { 2 ≤ T.Envelope.Point.DIMENSIONS }
 {
+    let tree = inserted::<T, DefaultParams>(alloc, elements);
     let load = loaded::<T, DefaultParams>(alloc, elements);
     for place in places {
-        if !answers_as_a_scan(alloc, &load, elements, *place) {
+        if !answers_as_a_scan(alloc, &tree, elements, *place)
+            || !answers_as_a_scan(alloc, &load, elements, *place)
+        {
             return false;
         }
     }
@@ -562,47 +536,48 @@ impl<'a, T: PointDistance> PointDistance for Noting<'a, T> {
         self.note().contains_point(point)
     }
 
+    fn distance_2_if_less_or_equal(
+        &self,
+        point: &PointOf<T>,
+        max_distance_2: Distance<T>,
+    ) -> Option<Distance<T>> {
+        self.note()
+            .distance_2_if_less_or_equal(point, max_distance_2)
+    }
+
     ghost distance_laws = { carried_laws T.Envelope.boxes T.object T.distances (λ n. n.inner) T.distance_laws };
 }
 
-/// Whether near elements and far ones, each with their cell, are asked so often at each neighbour, and then none is left.
-fn asks_so<T: PointDistance>(
-    neighbors: &mut NearestNeighborIterator<'_, T>,
-    near: &Cell<u32>,
-    far: &Cell<u32>,
-    rows: &[(u32, u32)],
-) -> bool
-    requires { IsSearching T.Envelope.boxes T.object T.distances T.Envelope.Point.DIMENSIONS
-        T.Envelope.Point.coord T.Envelope.Point.Scalar.cmp T.Envelope.Point.Scalar.value
-        (with_distances neighbors.old) }
-{
-    for row in rows {
-        match next_element(neighbors) {
-            Some(_) => if (near.replace(0), far.replace(0)) != *row {
-                return false;
-            },
-            None => return false,
-        }
-    }
-    neighbors.next().is_none()
-}
+/// How many neighbours are looked for, how many are given, and how often near elements and far ones are asked for them.
+type AskedRow = (usize, usize, u32, u32);
 
-/// The same of a tree of elements, which are asked as they are inserted, and counted from then on.
+/// Whether near elements and far ones, each with their cell, are asked so often for the first neighbours in a tree; they
+/// are asked as they are inserted, and counted from then on.
 fn asked_so<T: PointDistance + Copy>(
     alloc: Global,
     elements: &[T],
     place: PointOf<T>,
     near: &Cell<u32>,
     far: &Cell<u32>,
-    rows: &[(u32, u32)],
+    rows: &[AskedRow],
 ) -> bool
-    requires { IsNarrow T.Envelope.Point.row }
+where
+    PointOf<T>: Copy,
+    requires narrow { IsNarrow T.Envelope.Point.row }
 {
     let tree = inserted::<T, DefaultParams>(alloc, elements);
-    near.set(0);
-    far.set(0);
-    fits::<PointOf<T>>();
-    asks_so(&mut tree.nearest_neighbor_iter(place), near, far, rows)
+    for &(most, given, first, other) in rows {
+        near.set(0);
+        far.set(0);
+        let is_given = match &first_at(alloc, &tree, place, most) {
+            Ok(found) => found.len() == given,
+            Err(_) => false,
+        };
+        if !is_given || near.get() != first || far.get() != other {
+            return false;
+        }
+    }
+    true
 }
 
 /// Elements that count, the first so many of them in one cell, the others in another.
@@ -629,8 +604,10 @@ fn note_who_is_asked<T: PointDistance + Copy>(
     elements: &[T],
     first_far: usize,
     place: PointOf<T>,
-    rows: &[(u32, u32)],
+    rows: &[AskedRow],
 ) -> bool
+where
+    PointOf<T>: Copy,
     requires narrow { IsNarrow T.Envelope.Point.row }
 {
     let near = Cell::new(0u32);
@@ -641,10 +618,20 @@ fn note_who_is_asked<T: PointDistance + Copy>(
     }
 }
 
-// The seven points: how often the three on the left and the four on the right are asked at each neighbour. None of the
-// four is asked before the fourth.
+// The seven points, three on the left and four on the right: what was asked is not asked again, and none of the four is
+// asked before the fourth is looked for.
 #[test]
 fn below_a_parent_that_waits_no_element_is_asked(rt: HostRuntime) {
-    let rows = [(3, 0), (0, 0), (0, 0), (0, 4), (0, 0), (0, 0), (0, 0)];
-    assert!(rt; note_who_is_asked(rt.alloc(), &ALONG_A_LINE, 3, [0, 0], &rows));
+    const ROWS: [AskedRow; 9] = [
+        (0, 0, 0, 0),
+        (1, 1, 3, 0),
+        (2, 2, 3, 0),
+        (3, 3, 3, 0),
+        (4, 4, 3, 4),
+        (5, 5, 3, 4),
+        (6, 6, 3, 4),
+        (7, 7, 3, 4),
+        (8, 7, 3, 4),
+    ];
+    assert!(rt; note_who_is_asked(rt.alloc(), &ALONG_A_LINE, 3, [0, 0], &ROWS));
 }

@@ -111,7 +111,7 @@ fn lines_in_order<'a>(
 }
 
 /// The elements of a tree that are nearest to a place, the nearest first: so many, or all.
-fn first_at<'a, T: PointDistance>(
+pub(crate) fn first_at<'a, T: PointDistance>(
     alloc: Global,
     tree: &'a RTree<T>,
     place: PointOf<T>,

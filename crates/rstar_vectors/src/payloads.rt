@@ -356,7 +356,6 @@ pub fn renumber_plot(tree: &mut RTree<Plot>, point: [i64; 2], number: u64) -> bo
 mod tests {
     use super::*;
     use crate::scenarios::inserted;
-    use std::test::Fail;
 
     /// Whether an element that contains a point carries a number, by both look-ups.
     fn carries<R: PointDistance>(
@@ -373,53 +372,6 @@ mod tests {
             (Some(one), Some(other)) => one.data == number && other.data == number,
             _ => false,
         }
-    }
-
-    /// Whether the one element of a tree, which carries 7, carries what is written at a point, where it contains that
-    /// point, and else what it carried; it is read at another point.
-    fn writes_inside<R: PointDistance + Copy>(
-        alloc: Global,
-        elements: &[GeomWithData<R, u64>],
-        point: PointOf<R>,
-        other: PointOf<R>,
-        is_inside: bool,
-    ) -> bool
-    where
-        PointOf<R>: Copy,
-    {
-        let mut tree = inserted::<GeomWithData<R, u64>, DefaultParams>(alloc, elements);
-        let (one, two) = if is_inside { (9, 10) } else { (7, 7) };
-        carries(&tree, other, 7)
-            & (renumber(&mut tree, point, 9) == is_inside)
-            & carries(&tree, other, one)
-            & (renumber_int(&mut tree, point, 10) == is_inside)
-            & carries(&tree, other, two)
-    }
-
-    // A plot that holds 7, written at points inside it, its border included, and not at one outside.
-    #[test]
-    fn a_number_is_written_where_a_plot_contains_the_point(rt: HostRuntime) {
-        let plot = Plot::new(Rectangle::from_corners([0, 0], [2, 2]), 7);
-        const ROWS: [([i64; 2], [i64; 2], bool); 3] = [
-            ([1, 1], [1, 1], true),
-            ([3, 3], [1, 1], false),
-            ([2, 2], [0, 0], true),
-        ];
-        for &(point, other, is_inside) in &ROWS {
-            assert!(rt; writes_inside(rt.alloc(), &[plot], point, other, is_inside));
-        }
-    }
-
-    /// Plots at each of a hundred places, ten in a row, numbered from 0 on.
-    fn plots(alloc: Global) -> Result<Vec<Plot>, AllocError> {
-        let mut all = Vec::new(alloc);
-        for place in 0..100i64 {
-            let (x, y) = (place % 10 * 10, place / 10 * 10);
-            let square = Rectangle::from_corners([x, y], [x + 9, y + 9]);
-            let number = all.len() as u64;
-            all.push(GeomWithData::new(square, number))?;
-        }
-        Ok(all)
     }
 
     /// How many elements of a list are among some.
@@ -443,32 +395,67 @@ mod tests {
         requires { IsWholeTree T.Envelope.boxes T.object ⟦<DefaultParams as RTreeParams>⟧.MAX_SIZE tree.now }
     {
         match &all_of(alloc, tree) {
-            Ok((found, _)) => found.len() == elements.len() && common(elements, found) == count,
+            Ok((found, _)) => (found.len() == elements.len()) & (common(elements, found) == count),
             Err(_) => false,
         }
     }
 
-    /// Whether a write at a point changes one element of all, whose number is read at another point.
-    fn changes_one<R: PointDistance + PartialEq + Copy>(
+    /// Whether writes at a point, by both look-ups in turn, change one element of a tree, where one contains that point,
+    /// and none where none does. What is written is read at another point, where an element carries a number at first.
+    fn writes<R: PointDistance + PartialEq + Copy>(
         alloc: Global,
         elements: &[GeomWithData<R, u64>],
         point: PointOf<R>,
         other: PointOf<R>,
+        number: u64,
+        is_inside: bool,
     ) -> bool
     where
         PointOf<R>: Copy,
     {
         let mut tree = inserted::<GeomWithData<R, u64>, DefaultParams>(alloc, elements);
+        let (one, two) = if is_inside {
+            (1000, 1001)
+        } else {
+            (number, number)
+        };
+        let left = elements.len().saturating_sub(usize::from(is_inside));
         gives_of(alloc, &tree, elements, elements.len())
-            & renumber(&mut tree, point, 1000)
-            & gives_of(alloc, &tree, elements, elements.len().saturating_sub(1))
-            & carries(&tree, other, 1000)
+            & carries(&tree, other, number)
+            & (renumber(&mut tree, point, 1000) == is_inside)
+            & carries(&tree, other, one)
+            & gives_of(alloc, &tree, elements, left)
+            & (renumber_int(&mut tree, point, 1001) == is_inside)
+            & carries(&tree, other, two)
     }
 
+    /// So many plots, ten in a row and ten apart, each so wide and so high, numbered from a number on.
+    fn plots(alloc: Global, count: u8, side: u8, first: u8) -> Result<Vec<Plot>, AllocError> {
+        let mut all = Vec::new(alloc);
+        for place in 0..count {
+            let (x, y) = ((place % 10) as i64 * 10, (place / 10) as i64 * 10);
+            let square = Rectangle::from_corners([x, y], [x + side as i64, y + side as i64]);
+            all.push(Plot::new(square, first as u64 + place as u64))?;
+        }
+        Ok(all)
+    }
+
+    // How many plots, their side, and the first one's number; a point where it is written, one where it is read, the
+    // number there before, and whether a plot contains the first point: inside it, its border included, and outside.
     #[test]
-    fn one_number_of_a_hundred_changes(rt: HostRuntime) -> Result<(), Fail> {
-        let plots = plots(rt.alloc())?;
-        assert!(rt; changes_one(rt.alloc(), &plots, [57, 31], [50, 39]));
-        Ok(())
+    fn a_number_is_written_where_a_plot_contains_the_point(rt: HostRuntime) {
+        const ROWS: [((u8, u8, u8), [i64; 2], [i64; 2], u64, bool); 4] = [
+            ((1, 2, 7), [1, 1], [1, 1], 7, true),
+            ((1, 2, 7), [3, 3], [1, 1], 7, false),
+            ((1, 2, 7), [2, 2], [0, 0], 7, true),
+            ((100, 9, 0), [57, 31], [50, 39], 35, true),
+        ];
+        for &((count, side, first), point, other, number, is_inside) in &ROWS {
+            let is_so = match &plots(rt.alloc(), count, side, first) {
+                Ok(plots) => writes(rt.alloc(), plots, point, other, number, is_inside),
+                Err(_) => false,
+            };
+            assert!(rt; is_so);
+        }
     }
 }

@@ -1,12 +1,11 @@
 //! Calls in generic code with all that they promise, at points and at an element type of one's own.
 
-ghost use Rattle.std.specs.Prelude.{◌≡◌, ◌∷◌, ◌≤◌, List, [], false, map, filter, IfOk, MatchOption};
-ghost use Rattle.rstar.specs.Selections.{to_come, IsWalking};
+ghost use Rattle.std.specs.Prelude.{◌≡◌, ◌∷◌, ◌≤◌, List, [], false, length, map, filter, min, IfOk, IfSome, MatchOption};
+ghost use Rattle.std.specs.Iterator.{IsFinite};
 ghost use Rattle.rstar.specs.Trees.{IsWholeTree, elements_in};
+ghost use Rattle.rstar_vectors.specs.Callers.{IsCountOf};
 
 use crate::doors::Doors;
-use rstar::algorithm::selection_functions::SelectionFunction;
-use rstar::iterators::SelectionIterator;
 use rstar::params::{DefaultParams, InsertError, RTreeParams};
 use rstar::rtree::RTree;
 use rstar_base::aabb::AABB;
@@ -52,37 +51,30 @@ fn listed<'a, T: RTreeObject>(alloc: Global, tree: &'a RTree<T>) -> Result<Vec<&
     }
 }
 
-/// What a walk gives, by a `for`.
-fn taken<'a, T: RTreeObject, Func: SelectionFunction<T>>(
-    alloc: Global,
-    walk: SelectionIterator<'a, T, Func>,
-) -> Result<Vec<&'a T>, AllocError>
-    requires { IsWalking Func.accepts walk }
-    ensures { IfOk result (λ v. map (λ r. r.now) v.items ≡ to_come Func.accepts Func.selects walk.entry) }
+/// How many items an iterator gives, by a `for`.
+fn counted<I: Iterator>(items: I) -> usize
+where
+    I::Item: Drop,
+    requires can { I.can_next items }
+    requires ends { IsFinite (I.remaining items) }
+    ensures { IsCountOf I.next_gives items result }
 {
-    let mut all = Vec::new(alloc);
-    for t in walk {
-        match all.push(t) {
-            Ok(()) => {}
-            Err(_) => return Err(AllocError),
-        }
+    let mut count = 0usize;
+    for _ in items {
+        count = count.saturating_add(1);
     }
-    Ok(all)
+    count
 }
 
-/// The elements inside an envelope, by a `for`.
-fn inside<'a, T: RTreeObject>(
-    alloc: Global,
-    tree: &'a RTree<T>,
-    envelope: T::Envelope,
-) -> Result<Vec<&'a T>, AllocError>
+/// How many elements there are inside an envelope; none where the walk is refused.
+fn counted_inside<T: RTreeObject>(tree: &RTree<T>, envelope: T::Envelope) -> Option<usize>
     requires { IsWholeTree T.Envelope.boxes T.object ⟦<DefaultParams as RTreeParams>⟧.MAX_SIZE tree.now }
-    ensures { IfOk result (λ v. map (λ r. r.now) v.items
-        ≡ filter (λ t. T.Envelope.boxes.contains envelope (T.object.box_of t)) (elements_in tree.now)) }
+    ensures { IfSome result (λ count. count ≡ min (length (filter
+        (λ t. T.Envelope.boxes.contains envelope (T.object.box_of t)) (elements_in tree.now))) usize.MAX) }
 {
     match tree.locate_in_envelope(envelope) {
-        Ok(walk) => taken(alloc, walk),
-        Err(refused) => Err(refused),
+        Ok(walk) => Some(counted(walk)),
+        Err(_) => None,
     }
 }
 
@@ -103,25 +95,20 @@ fn first_inside<T: RTreeObject>(
     }
 }
 
-/// Whether a list is there, and has so many items.
-fn has<V>(list: &Result<Vec<V>, AllocError>, count: usize) -> bool {
-    match list {
-        Ok(all) => all.len() == count,
-        Err(_) => false,
-    }
-}
-
 /// Whether a tree gives two elements, and so many, one at least, inside an envelope.
 fn gives_two<T: RTreeObject>(alloc: Global, tree: &RTree<T>, area: T::Envelope, near: usize) -> bool
 where
     T::Envelope: Copy,
     requires { IsWholeTree T.Envelope.boxes T.object ⟦<DefaultParams as RTreeParams>⟧.MAX_SIZE tree.now }
 {
-    has(&listed(alloc, tree), 2)
-        && has(&inside(alloc, tree, area), near)
-        && matches!(first_inside(tree, area), Ok(Some(_)))
-        && tree.size() == 2
+    tree.size() == 2
         && tree.root().children().len() == 2
+        && counted_inside(tree, area) == Some(near)
+        && matches!(first_inside(tree, area), Ok(Some(_)))
+        && match &listed(alloc, tree) {
+            Ok(all) => all.len() == 2,
+            Err(_) => false,
+        }
 }
 
 /// Whether a tree of two elements gives both, and so many, one at least, inside an envelope.
@@ -136,12 +123,13 @@ where
     T::Envelope: Copy,
     requires { 2 ≤ T.Envelope.Point.DIMENSIONS }
 {
-    !first.envelope().is_empty()
-        && !second.envelope().is_empty()
-        && match &pair(alloc, first, second) {
-            Ok(tree) => gives_two(alloc, tree, area, near),
-            Err(_) => false,
-        }
+    if first.envelope().is_empty() || second.envelope().is_empty() {
+        return false;
+    }
+    match &pair(alloc, first, second) {
+        Ok(tree) => gives_two(alloc, tree, area, near),
+        Err(_) => false,
+    }
 }
 
 #[test]

@@ -1,6 +1,7 @@
 //! Visits that read: what each visit comes to first, its reference given by a break.
 
-ghost use Rattle.std.specs.Prelude.{filter};
+ghost use Rattle.std.specs.Prelude.{◌≡◌, filter};
+ghost use Rattle.std.specs.declared.ops.ControlFlow.TheVariants.{Break};
 ghost use Rattle.rstar.specs.Boxes.{contains_box, boxes_intersect};
 ghost use Rattle.rstar.specs.Points.{table};
 ghost use Rattle.rstar.specs.Trees.{elements_in, IsWholeTree};
@@ -15,37 +16,11 @@ use std::ops::ControlFlow;
 
 type At = [i64; 2];
 
-/// The first element in an envelope, by `locate_in_envelope_int`.
-fn first_inside<T: RTreeObject>(tree: &RTree<T>, envelope: T::Envelope) -> Option<&T>
-    requires { IsWholeTree T.Envelope.boxes T.object ⟦<DefaultParams as RTreeParams>⟧.MAX_SIZE tree.now }
-    ensures { IsFirst (filter (λ t. T.Envelope.boxes.contains envelope (T.object.box_of t))
-        (elements_in tree.now)) result }
+/// Breaks with the element that it is called at.
+fn at_once<'a, T>(element: &'a T) -> ControlFlow<&'a T>
+    ensures { result ≡ Break element.entry }
 {
-    let found = tree.locate_in_envelope_int(envelope, |found: &T| ControlFlow::Break(found));
-    found.break_value()
-}
-
-/// The first element that an envelope touches, by `locate_in_envelope_intersecting_int`.
-fn first_touched<T: RTreeObject>(tree: &RTree<T>, envelope: T::Envelope) -> Option<&T>
-    requires { IsWholeTree T.Envelope.boxes T.object ⟦<DefaultParams as RTreeParams>⟧.MAX_SIZE tree.now }
-    ensures { IsFirst (filter (λ t. T.Envelope.boxes.intersects envelope (T.object.box_of t))
-        (elements_in tree.now)) result }
-{
-    let found = tree.locate_in_envelope_intersecting_int(
-        envelope,
-        |found: &T| ControlFlow::Break(found),
-    );
-    found.break_value()
-}
-
-/// The first element that contains a point, by `locate_all_at_point_int`.
-fn first_here<T: PointDistance>(tree: &RTree<T>, point: PointOf<T>) -> Option<&T>
-    requires { IsWholeTree T.Envelope.boxes T.object ⟦<DefaultParams as RTreeParams>⟧.MAX_SIZE tree.now }
-    ensures { IsFirst (filter (λ t. T.distances.contains_point t
-        (table T.Envelope.Point.DIMENSIONS (T.Envelope.Point.coord point))) (elements_in tree.now)) result }
-{
-    let found = tree.locate_all_at_point_int(point, |found: &T| ControlFlow::Break(found));
-    found.break_value()
+    ControlFlow::Break(element)
 }
 
 /// The first element that a selection function selects, by `locate_with_selection_function_int`.
@@ -55,14 +30,12 @@ fn first_selected<T: PointDistance>(tree: &RTree<T>, point: PointOf<T>) -> Optio
         (table T.Envelope.Point.DIMENSIONS (T.Envelope.Point.coord point))) (elements_in tree.now)) result }
 {
     let func = SelectAtPointFunction::new(point);
-    let found = tree.locate_with_selection_function_int(
-        func,
-        |found: &T| ControlFlow::Break(found),
-    );
+    let found = tree.locate_with_selection_function_int(func, at_once);
     found.break_value()
 }
 
-/// The first element in an envelope, the first that it touches, and the first that contains a point.
+/// The first element in an envelope, by `locate_in_envelope_int`, the first that it touches, by
+/// `locate_in_envelope_intersecting_int`, and the first that contains a point, by `locate_all_at_point_int`.
 fn come_upon<T: PointDistance>(
     tree: &RTree<T>,
     area: T::Envelope,
@@ -78,11 +51,12 @@ where
     ensures here { IsFirst (filter (λ t. T.distances.contains_point t
         (table T.Envelope.Point.DIMENSIONS (T.Envelope.Point.coord point))) (elements_in tree.now)) result.2 }
 {
-    (
-        first_inside(tree, area),
-        first_touched(tree, area),
-        first_here(tree, point),
-    )
+    let inside = tree.locate_in_envelope_int(area, at_once).break_value();
+    let touched = tree
+        .locate_in_envelope_intersecting_int(area, at_once)
+        .break_value();
+    let here = tree.locate_all_at_point_int(point, at_once).break_value();
+    (inside, touched, here)
 }
 
 /// The same of plots.

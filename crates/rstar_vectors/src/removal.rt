@@ -44,21 +44,6 @@ fn call<T: RTreeObject, R: SelectionFunction<T>, Params: RTreeParams>(
     most
 }
 
-/// Drains at most so many elements, drops the drain, and gives how many came.
-fn drain_some<T: RTreeObject, R: SelectionFunction<T>, Params: RTreeParams>(
-    tree: &mut RTree<T, Params>,
-    func: R,
-    most: usize,
-) -> Result<usize, AllocError>
-    requires { IsWholeTree T.Envelope.boxes T.object Params.MAX_SIZE tree.old }
-    ensures { IsWholeTree T.Envelope.boxes T.object Params.MAX_SIZE tree.new }
-{
-    match tree.drain_with_selection_function(func) {
-        Ok(mut drain) => Ok(call(&mut drain, most)),
-        Err(refused) => Err(refused),
-    }
-}
-
 /// At most two elements of those that meet an envelope are drained, the drain is dropped, and one is inserted.
 fn two_out_one_in<T: RTreeObject>(
     tree: &mut RTree<T>,
@@ -91,30 +76,43 @@ fn two_points_out_one_in(
     two_out_one_in(tree, area, [7, 8])
 }
 
-/// Whether a tree has an element to remove at a point, and none at another.
-fn is_at<T: PointDistance>(tree: &mut RTree<T>, point: PointOf<T>, other: PointOf<T>) -> bool
+/// Whether a tree stands with so many elements, none of them at the first point and one at the other.
+fn stands_with<T: PointDistance>(
+    tree: &mut RTree<T>,
+    left: usize,
+    first: PointOf<T>,
+    other: PointOf<T>,
+) -> bool
     requires { IsWholeTree T.Envelope.boxes T.object ⟦<DefaultParams as RTreeParams>⟧.MAX_SIZE tree.old }
 {
-    tree.remove_at_point(other).is_none() && tree.remove_at_point(point).is_some()
+    tree.size() == left
+        && stands(tree)
+        && tree.remove_at_point(first).is_none()
+        && tree.remove_at_point(other).is_some()
 }
 
-/// Whether a tree of these elements stands after such a drain and an insertion with so many, none of them at the first
-/// point and one at the other.
+/// Whether a tree of points stands so, with two of them, after such a drain and an insertion.
+fn two_points_stand_with_one_in(tree: &mut RTree<[i64; 2]>, area: AABB<[i64; 2]>) -> bool
+    requires { IsWholeTree ⟦<AABB<[i64; 2]> as Envelope>⟧.boxes ⟦<[i64; 2] as RTreeObject>⟧.object
+        ⟦<DefaultParams as RTreeParams>⟧.MAX_SIZE tree.old }
+{
+    matches!(two_points_out_one_in(tree, area), Ok(true)) && stands_with(tree, 2, [9, 9], [7, 8])
+}
+
+/// The same of a tree of these elements.
 fn stands_with_one_in<T: PointDistance + Copy>(
     alloc: Global,
     elements: &[T],
     area: T::Envelope,
     one: T,
     left: usize,
-    points: (PointOf<T>, PointOf<T>),
+    first: PointOf<T>,
+    other: PointOf<T>,
 ) -> bool {
-    let (first, other) = points;
     let mut tree = inserted::<T, DefaultParams>(alloc, elements);
     !one.envelope().is_empty()
         && matches!(two_out_one_in(&mut tree, area, one), Ok(true))
-        && tree.size() == left
-        && stands(&tree)
-        && is_at(&mut tree, other, first)
+        && stands_with(&mut tree, left, first, other)
 }
 
 /// Drains at most so many elements, and gives how many came; none where the tree does not stand without them.
@@ -127,15 +125,14 @@ pub(crate) fn drain_and_stand<T: RTreeObject, R: SelectionFunction<T>, Params: R
     ensures { IsWholeTree T.Envelope.boxes T.object Params.MAX_SIZE tree.new }
 {
     let before = tree.size();
-    match drain_some(tree, func, most) {
-        Ok(came) => {
-            if tree.size().checked_add(came) == Some(before) && stands(tree) {
-                Some(came)
-            } else {
-                None
-            }
-        }
-        Err(_) => None,
+    let came = match tree.drain_with_selection_function(func) {
+        Ok(mut drain) => call(&mut drain, most),
+        Err(_) => return None,
+    };
+    if tree.size().saturating_add(came) == before && stands(tree) {
+        Some(came)
+    } else {
+        None
     }
 }
 
@@ -155,7 +152,7 @@ fn leaves<T: EqualEnvelopes + Copy, Params: RTreeParams>(
     if is_last && (tree.contains(element) || tree.remove(element).is_some()) {
         return false;
     }
-    tree.size().checked_add(1) == Some(before) && stands(tree)
+    tree.size().saturating_add(1) == before && stands(tree)
 }
 
 /// The place that comes `k`-th in an order of `count` places.
@@ -191,17 +188,6 @@ fn all_leave<T: EqualEnvelopes + Copy, Params: RTreeParams>(
     tree.size() == 0
 }
 
-/// Whether the elements of a tree leave in such an order, to the end.
-fn leave_to_the_end<T: EqualEnvelopes + Copy>(
-    alloc: Global,
-    elements: &[T],
-    order: usize,
-    distinct: bool,
-) -> bool {
-    let mut tree = inserted::<T, DefaultParams>(alloc, elements);
-    all_leave(&mut tree, elements, order, distinct)
-}
-
 /// Whether a tree has no element to drain near a point.
 fn has_none_near<T: PointDistance>(
     tree: &mut RTree<T>,
@@ -217,15 +203,18 @@ fn has_none_near<T: PointDistance>(
     }
 }
 
-/// Whether a tree that lost its elements has none to drain near a point, and stands.
-fn emptied_drains_none<T: EqualEnvelopes + PointDistance + Copy>(
+/// Whether the elements of a tree leave in such an order, to the end, and the tree then stands, with none to drain near
+/// a point.
+fn leave_to_the_end<T: EqualEnvelopes + PointDistance + Copy>(
     alloc: Global,
     elements: &[T],
+    order: usize,
+    distinct: bool,
     point: PointOf<T>,
     limit: Distance<T>,
 ) -> bool {
     let mut tree = inserted::<T, DefaultParams>(alloc, elements);
-    all_leave(&mut tree, elements, 0, true)
+    all_leave(&mut tree, elements, order, distinct)
         && has_none_near(&mut tree, point, limit)
         && tree.size() == 0
         && stands(&tree)
@@ -238,12 +227,11 @@ fn dropped_stands<T: EqualEnvelopes + Copy>(
     calls: usize,
     one: T,
 ) -> bool {
-    let count = elements.len().saturating_add(1);
     let mut tree = inserted::<T, DefaultParams>(alloc, elements);
     drain_and_stand(&mut tree, SelectAllFunc, calls) == Some(calls)
         && !one.envelope().is_empty()
         && tree.insert(one).is_ok()
-        && tree.size().saturating_add(calls) == count
+        && tree.size().saturating_add(calls) == elements.len().saturating_add(1)
         && stands(&tree)
         && tree.contains(&one)
 }
@@ -251,84 +239,87 @@ fn dropped_stands<T: EqualEnvelopes + Copy>(
 /// Whether a tree stands, without what was given, after a drain of so many calls was forgotten.
 fn forgotten_stands<T: RTreeObject + Copy>(alloc: Global, elements: &[T], calls: usize) -> bool {
     let mut tree = inserted::<T, DefaultParams>(alloc, elements);
-    let is_so = match tree.drain() {
+    let came = match tree.drain() {
         Ok(mut drain) => {
             let came = call(&mut drain, calls);
             forget(drain);
-            came == calls
+            came
         }
-        Err(_) => false,
+        Err(_) => return false,
     };
-    is_so && tree.size().saturating_add(calls) == elements.len() && stands(&tree)
+    came == calls && tree.size().saturating_add(calls) == elements.len() && stands(&tree)
 }
 
-/// Whether a loaded tree stands after at most so many elements were drained, and after a drain of those that meet an
-/// envelope.
-fn loaded_stands<T: RTreeObject + Copy, Params: RTreeParams>(
-    alloc: Global,
-    elements: &[T],
-    area: T::Envelope,
-    most: usize,
-) -> bool
-    requires { 2 ≤ T.Envelope.Point.DIMENSIONS }
-{
-    let count = elements.len();
-    let func = SelectInEnvelopeFuncIntersecting::new(area);
-    let mut tree = loaded::<T, Params>(alloc, elements);
-    tree.size() == count
-        && drain_and_stand(&mut tree, SelectAllFunc, most) == Some(most.min(count))
-        && drain_and_stand(&mut tree, func, most).is_some()
-}
-
-/// Whether a drain takes at most so many out, and none of those that are to be kept.
-fn drains_at_most<T: EqualEnvelopes + Copy, R: SelectionFunction<T>>(
-    alloc: Global,
-    elements: &[T],
-    func: R,
-    most: usize,
-    kept: &[T],
-) -> bool {
-    let mut tree = inserted::<T, DefaultParams>(alloc, elements);
-    match drain_and_stand(&mut tree, func, elements.len().saturating_add(2)) {
-        Some(came) => came <= most && count_of(&tree, kept) == kept.len(),
-        None => false,
-    }
-}
-
-/// How many of these elements are there.
-fn count_of<T: EqualEnvelopes, Params: RTreeParams>(
+/// How many of these elements meet an envelope and are there.
+fn left_in<T: EqualEnvelopes, Params: RTreeParams>(
     tree: &RTree<T, Params>,
     elements: &[T],
+    area: &T::Envelope,
 ) -> usize
     requires { IsWholeTree T.Envelope.boxes T.object Params.MAX_SIZE tree.now }
 {
     let mut count = 0usize;
     for element in elements {
-        if tree.contains(element) {
+        if area.intersects(&element.envelope()) && tree.contains(element) {
             count = count.saturating_add(1);
         }
     }
     count
 }
 
-/// Whether a drain of those elements that meet an envelope, given twice, takes them out in two parts, and no other.
-fn drains_all_of<T: EqualEnvelopes + Copy>(
+/// Drains at most `most` elements of a tree of these, loaded or inserted, and then those that meet an envelope, in two
+/// parts, `part` and the rest; gives how many these were, and none where the tree does not stand after each drain,
+/// without what came and no other.
+fn drained_in_parts<T: EqualEnvelopes + Copy, Params: RTreeParams>(
     alloc: Global,
     elements: &[T],
-    areas: (T::Envelope, T::Envelope),
+    is_loaded: bool,
     most: usize,
-    asked: &[T],
+    area: &T::Envelope,
+    part: usize,
+) -> Option<usize>
+    requires { 2 ≤ T.Envelope.Point.DIMENSIONS }
+{
+    let count = elements.len();
+    let mut tree = if is_loaded {
+        loaded::<T, Params>(alloc, elements)
+    } else {
+        inserted::<T, Params>(alloc, elements)
+    };
+    if tree.size() != count
+        || drain_and_stand(&mut tree, SelectAllFunc, most) != Some(most.min(count))
+    {
+        return None;
+    }
+    let asked = left_in(&tree, elements, area);
+    let first = SelectInEnvelopeFuncIntersecting::new(area.merged(area));
+    let second = SelectInEnvelopeFuncIntersecting::new(area.merged(area));
+    let rest = asked.saturating_sub(part);
+    if drain_and_stand(&mut tree, first, part) == Some(part.min(asked))
+        && left_in(&tree, elements, area) == rest
+        && drain_and_stand(&mut tree, second, count) == Some(rest)
+        && left_in(&tree, elements, area) == 0
+    {
+        Some(asked)
+    } else {
+        None
+    }
+}
+
+/// Whether a drain takes at most so many out, and leaves so many of those that meet an envelope.
+fn drains_at_most<T: EqualEnvelopes + Copy, R: SelectionFunction<T>>(
+    alloc: Global,
+    elements: &[T],
+    func: R,
+    most: usize,
+    kept: &T::Envelope,
+    left: usize,
 ) -> bool {
     let mut tree = inserted::<T, DefaultParams>(alloc, elements);
-    let first = SelectInEnvelopeFuncIntersecting::new(areas.0);
-    let second = SelectInEnvelopeFuncIntersecting::new(areas.1);
-    let rest = asked.len().saturating_sub(most);
-    count_of(&tree, asked) == asked.len()
-        && drain_and_stand(&mut tree, first, most) == Some(most)
-        && count_of(&tree, asked) == rest
-        && drain_and_stand(&mut tree, second, elements.len()) == Some(rest)
-        && count_of(&tree, asked) == 0
-        && tree.size().saturating_add(asked.len()) == elements.len()
+    match drain_and_stand(&mut tree, func, elements.len().saturating_add(2)) {
+        Some(came) => came <= most && left_in(&tree, elements, kept) == left,
+        None => false,
+    }
 }
 
 /// What a tree gives when it is taken apart.
@@ -349,9 +340,10 @@ fn gives_all<T: RTreeObject + Ord + Copy>(alloc: Global, elements: &[T]) -> bool
     }
 }
 
-/// A short line from each of these points on.
-fn edges(alloc: Global, points: &[[i32; 2]]) -> Result<Vec<Edge>, AllocError> {
+/// So many points, a short line from each of them on.
+fn edges(alloc: Global, count: usize) -> Result<Vec<Edge>, AllocError> {
     let mut edges = Vec::new(alloc);
+    let points = points(alloc, count)?;
     for i in 0..points.len() {
         let [x, y] = points[i];
         edges.push(Line::new(
@@ -367,50 +359,32 @@ fn edges(alloc: Global, points: &[[i32; 2]]) -> Result<Vec<Edge>, AllocError> {
     Ok(edges)
 }
 
-/// Those elements that meet an envelope.
-fn met<T: RTreeObject + Copy>(
-    alloc: Global,
-    elements: &[T],
-    area: &T::Envelope,
-) -> Result<Vec<T>, AllocError> {
-    let mut all = Vec::new(alloc);
-    for element in elements {
-        if area.intersects(&element.envelope()) {
-            all.push(*element)?;
-        }
-    }
-    Ok(all)
-}
-
+// Each point leaves once, and equal ones one by one.
 #[test]
 fn removals_of_all_in_several_orders(rt: HostRuntime) -> Result<(), Fail> {
     for count in 1..301 {
         let all = points(rt.alloc(), count)?;
         for order in 0..3 {
             assert!(rt;
-                leave_to_the_end(rt.alloc(), &all, order, true),
+                leave_to_the_end(rt.alloc(), &all, order, true, [0, 0], 10),
                 "{count} {order}"
             );
         }
     }
+    assert!(rt; leave_to_the_end(rt.alloc(), &[[0, 2], [0, 2]], 0, false, [0, 0], 10));
     Ok(())
 }
 
 #[test]
-fn equal_elements_leave_one_by_one(rt: HostRuntime) {
-    assert!(rt; leave_to_the_end(rt.alloc(), &[[0, 2], [0, 2]], 0, false));
-}
-
-#[test]
 fn an_emptied_tree_is_drained(rt: HostRuntime) {
-    assert!(rt; emptied_drains_none(rt.alloc(), &[[1i64, 2, 3]], [0, 0, 0], 10));
+    assert!(rt; leave_to_the_end(rt.alloc(), &[[1i64, 2, 3]], 0, true, [0, 0, 0], 10));
 }
 
 // rstar's test `test_remove`, on other lines: each leaves once.
 #[test]
 fn lines_leave_once(rt: HostRuntime) -> Result<(), Fail> {
-    let lines = edges(rt.alloc(), &points(rt.alloc(), 300)?)?;
-    assert!(rt; leave_to_the_end(rt.alloc(), &lines, 0, true));
+    let lines = edges(rt.alloc(), 300)?;
+    assert!(rt; leave_to_the_end(rt.alloc(), &lines, 0, true, [0, 0], 10));
     Ok(())
 }
 
@@ -418,20 +392,25 @@ fn lines_leave_once(rt: HostRuntime) -> Result<(), Fail> {
 #[test]
 fn drains_that_are_given_up(rt: HostRuntime) {
     for calls in 0..8usize {
-        assert!(rt; dropped_stands(rt.alloc(), &ALONG_A_LINE, calls, [5, 5]));
-        assert!(rt; forgotten_stands(rt.alloc(), &ALONG_A_LINE, calls));
+        assert!(rt;
+            dropped_stands(rt.alloc(), &ALONG_A_LINE, calls, [5, 5])
+                && forgotten_stands(rt.alloc(), &ALONG_A_LINE, calls),
+            "{calls}"
+        );
     }
 }
 
 // A node of 90 leaves, and four of 75: a drain keeps the merge of those that it has not come to.
 #[test]
 fn wide_nodes_are_drained(rt: HostRuntime) -> Result<(), Fail> {
+    const COUNTS: [usize; 2] = [90, 300];
+    const MOST: [usize; 13] = [0, 1, 9, 10, 57, 58, 59, 60, 75, 80, 90, 299, 300];
     let half = AABB::from_corners([0, 0], [50, 102]);
-    for &count in &[90, 300] {
+    for &count in &COUNTS {
         let all = points(rt.alloc(), count)?;
-        for &most in &[0, 1, 9, 10, 57, 58, 59, 60, 75, 80, 90, 299, 300] {
+        for &most in &MOST {
             assert!(rt;
-                loaded_stands::<[i32; 2], Wide>(rt.alloc(), &all, half, most),
+                drained_in_parts::<_, Wide>(rt.alloc(), &all, true, most, &half, most).is_some(),
                 "{count} {most}"
             );
         }
@@ -441,28 +420,25 @@ fn wide_nodes_are_drained(rt: HostRuntime) -> Result<(), Fail> {
 
 #[test]
 fn an_unlawful_drain_gives_what_it_reaches(rt: HostRuntime) {
-    let far = [[100, 0], [101, 0], [102, 0], [103, 0]];
-    assert!(rt; drains_at_most(rt.alloc(), &ALONG_A_LINE, LeftOnly, 3, &far));
+    let far = AABB::from_corners([100, 0], [103, 0]);
+    assert!(rt; drains_at_most(rt.alloc(), &ALONG_A_LINE, LeftOnly, 3, &far, 4));
 }
 
 #[test]
 fn drains_end_where_none_is_left(rt: HostRuntime) -> Result<(), Fail> {
     let area = AABB::from_corners([20, 20], [70, 80]);
     let all = points(rt.alloc(), 300)?;
-    let asked = met(rt.alloc(), &all, &area)?;
-    assert!(rt; 80 < asked.len() && drains_all_of(rt.alloc(), &all, (area, area), 40, &asked));
+    let asked = drained_in_parts::<_, DefaultParams>(rt.alloc(), &all, false, 0, &area, 40);
+    assert!(rt; asked == Some(89));
     Ok(())
 }
 
 #[test]
-fn callers_drain_and_insert_again(rt: HostRuntime) -> Result<(), Fail> {
-    let three = [[0i64, 0], [1, 1], [2, 2]];
+fn callers_drain_and_insert_again(rt: HostRuntime) {
+    const THREE: [[i64; 2]; 3] = [[0, 0], [1, 1], [2, 2]];
     let all = AABB::from_corners([0, 0], [2, 2]);
-    let points = ([9, 9], [7, 8]);
-    assert!(rt; stands_with_one_in(rt.alloc(), &three, all, [7, 8], 2, points));
-    let mut tree = inserted::<[i64; 2], DefaultParams>(rt.alloc(), &three);
-    assert!(rt; two_points_out_one_in(&mut tree, all)? && tree.size() == 2);
-    Ok(())
+    let mut tree = inserted::<[i64; 2], DefaultParams>(rt.alloc(), &THREE);
+    assert!(rt; two_points_stand_with_one_in(&mut tree, all));
 }
 
 #[test]
@@ -473,13 +449,13 @@ fn callers_drain_boxes_and_insert_again(rt: HostRuntime) {
     ];
     let area = AABB::from_corners([1, 1], [4, 4]);
     let one = Rectangle::from_corners([7, 8], [9, 9]);
-    let points = ([1, 1], [8, 9]);
-    assert!(rt; stands_with_one_in(rt.alloc(), &two, area, one, 2, points));
+    assert!(rt; stands_with_one_in(rt.alloc(), &two, area, one, 2, [1, 1], [8, 9]));
 }
 
 #[test]
 fn a_tree_is_taken_apart(rt: HostRuntime) -> Result<(), Fail> {
-    for &count in &[0, 1, 3, 7, 60] {
+    const COUNTS: [usize; 5] = [0, 1, 3, 7, 60];
+    for &count in &COUNTS {
         assert!(rt; gives_all(rt.alloc(), &points(rt.alloc(), count)?));
     }
     Ok(())

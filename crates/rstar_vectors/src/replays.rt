@@ -11,7 +11,6 @@ ghost use Rattle.rstar.specs.Trees.{root_of, size_of, elements_in, IsUnchanged, 
 use crate::counted::Place;
 use crate::neighbour_rows::take;
 use crate::scenarios::none_empty;
-use rstar::primitives::Rectangle;
 use rstar::replay::{Command, Query, Reply, replay, step};
 use rstar::{
     AABB, Counted, DefaultParams, Envelope, EqualEnvelopes, Point, PointDistance, RTree,
@@ -114,86 +113,6 @@ fn replies<T: PointDistance + EqualEnvelopes + Clone>(
     }
     let mut tree: RTree<T> = RTree::default(alloc);
     replay(&mut tree, commands)
-}
-
-/// The reply to a command, and the tree's size after it; none where the command is not fit.
-fn reply_and_size<T: PointDistance + EqualEnvelopes + Clone>(
-    tree: &mut RTree<T>,
-    command: Command<T>,
-) -> Option<(Reply<T>, usize)>
-    requires dimensions { 2 ≤ T.Envelope.Point.DIMENSIONS }
-    requires clones { ClonesEqual T.is_clone }
-    requires whole { IsWholeTree T.Envelope.boxes T.object ⟦<DefaultParams as RTreeParams>⟧.MAX_SIZE tree.old }
-    ensures { IsWholeTree T.Envelope.boxes T.object ⟦<DefaultParams as RTreeParams>⟧.MAX_SIZE tree.new }
-{
-    if is_fit(&command) {
-        Some((step(tree, command), tree.size()))
-    } else {
-        None
-    }
-}
-
-/// The replies to commands that are run one by one on an empty tree, with its size after each, up to the first that is
-/// not fit.
-fn replies_and_sizes<T: PointDistance + EqualEnvelopes + Clone>(
-    alloc: Global,
-    commands: Vec<Command<T>>,
-) -> Result<Vec<(Reply<T>, usize)>, AllocError>
-    requires dimensions { 2 ≤ T.Envelope.Point.DIMENSIONS }
-    requires clones { ClonesEqual T.is_clone }
-{
-    let mut tree: RTree<T> = RTree::default(alloc);
-    let mut all = Vec::new(alloc);
-    for command in commands {
-        match reply_and_size(&mut tree, command) {
-            Some(pair) => all.push(pair)?,
-            None => break,
-        }
-    }
-    Ok(all)
-}
-
-/// Commands that insert an element twice, and join the tree with another.
-fn twice_and_joined<T: PointDistance + Copy>(
-    alloc: Global,
-    one: T,
-    other: T,
-) -> Result<Vec<Command<T>>, AllocError> {
-    let mut others = Vec::new(alloc);
-    others.push(other)?;
-    let mut commands = Vec::new(alloc);
-    commands.push(Command::Insert(one))?;
-    commands.push(Command::Insert(one))?;
-    commands.push(Command::Join(others))?;
-    Ok(commands)
-}
-
-/// How many pairs the last of those commands is answered.
-fn pairs_given<T: PointDistance + EqualEnvelopes + Copy>(
-    alloc: Global,
-    one: T,
-    other: T,
-) -> Option<usize>
-    requires dimensions { 2 ≤ T.Envelope.Point.DIMENSIONS }
-    requires clones { ClonesEqual T.is_clone }
-{
-    let Ok(commands) = twice_and_joined(alloc, one, other) else {
-        return None;
-    };
-    match &replies(alloc, commands) {
-        Ok(all) => match all.last() {
-            Some(Reply::Pairs(pairs)) => Some(pairs.len()),
-            _ => None,
-        },
-        Err(_) => None,
-    }
-}
-
-#[test]
-fn equal_rectangles_are_joined_each(rt: HostRuntime) {
-    let square = Rectangle::from_corners([0i64, 0], [2, 2]);
-    let other = Rectangle::from_corners([2, 2], [4, 4]);
-    assert!(rt; pairs_given(rt.alloc(), square, other) == Some(2));
 }
 
 // ---- a plain list
@@ -513,26 +432,37 @@ fn commands_of(alloc: Global, draws: &[Draw]) -> Result<Vec<Command<At>>, AllocE
     Ok(commands)
 }
 
-/// Whether replies, each with a size, are those to commands over a plain list, with as many points after each.
-fn are_right(
+/// Whether a command, run by `step`, is answered over a tree as over a plain list, with as many points after it; one that
+/// is not fit is not run.
+fn is_answered(
     alloc: Global,
-    draws: &[Draw],
-    replies: &[(Reply<At>, usize)],
-) -> Result<bool, AllocError> {
-    let mut list = Vec::new(alloc);
-    let mut right = replies.len() == draws.len();
-    for (draw, (reply, size)) in draws.iter().zip(replies.iter()) {
-        right = is_right(alloc, &mut list, draw, reply)? && *size == list.len() && right;
+    tree: &mut RTree<At>,
+    list: &mut Vec<At>,
+    draw: &Draw,
+) -> Result<bool, AllocError>
+    requires { IsWholeTree ⟦<AABB<[i64; 2]> as Envelope>⟧.boxes ⟦<[i64; 2] as RTreeObject>⟧.object
+        ⟦<DefaultParams as RTreeParams>⟧.MAX_SIZE tree.old }
+    ensures { IsWholeTree ⟦<AABB<[i64; 2]> as Envelope>⟧.boxes ⟦<[i64; 2] as RTreeObject>⟧.object
+        ⟦<DefaultParams as RTreeParams>⟧.MAX_SIZE tree.new }
+{
+    let command = command_of(alloc, draw)?;
+    if !is_fit(&command) {
+        return Ok(false);
     }
-    Ok(right)
+    let right = is_right(alloc, list, draw, &step_points(tree, command));
+    Ok(right? && tree.size() == list.len())
 }
 
 /// Whether commands, run one by one, are answered over a tree as over a plain list, with as many points after each.
 fn are_alike(alloc: Global, draws: &[Draw]) -> Result<bool, AllocError> {
-    match &replies_and_sizes(alloc, commands_of(alloc, draws)?) {
-        Ok(replies) => are_right(alloc, draws, replies),
-        Err(_) => Err(AllocError),
+    let mut tree: RTree<At> = RTree::default(alloc);
+    let mut list = Vec::new(alloc);
+    for draw in draws {
+        if !is_answered(alloc, &mut tree, &mut list, draw)? {
+            return Ok(false);
+        }
     }
+    Ok(true)
 }
 
 #[test]
@@ -595,12 +525,14 @@ fn go(alloc: Global, rows: &[Row]) -> Result<bool, AllocError> {
     Ok(right && are_alike(alloc, &draws)?)
 }
 
-// A point that came twice leaves twice; five that were loaded are drained, two and then the others.
+// A point that came twice is joined twice, and leaves twice; five that were loaded are drained, two and then the others.
 #[test]
 fn rows_of_commands(rt: HostRuntime) -> Result<(), Fail> {
-    const TWICE: [Row; 6] = [
+    const TWICE: [Row; 7] = [
         (Kind::Insert, [0, 2], 0, 0),
         (Kind::Insert, [0, 2], 0, 0),
+        // The list of this seed has the point once.
+        (Kind::Join, [0, 2], 4, 2),
         (Kind::Remove, [0, 2], 0, 1),
         (Kind::Remove, [0, 2], 0, 1),
         (Kind::Remove, [0, 2], 0, 0),

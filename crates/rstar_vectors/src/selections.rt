@@ -37,25 +37,7 @@ fn selects<T: RTreeObject + Copy, Func: SelectionFunction<T>>(
     is_so && stands(&tree)
 }
 
-/// Accepts no parent.
-#[derive(Drop)]
-struct SelectNoneFunc;
-
-impl<T: RTreeObject> SelectionFunction<T> for SelectNoneFunc {
-    ghost accepts = { λ _ _. false };
-
-    ghost selects = { λ _ _. true };
-
-    fn should_unpack_parent(&self, _envelope: &T::Envelope) -> bool {
-        false
-    }
-
-    fn should_unpack_leaf(&self, _leaf: &T) -> bool {
-        true
-    }
-}
-
-/// The same of what lies between two corners, of all elements, and of none, for which no parent is opened.
+/// The same of what lies between two corners, and of all elements.
 fn select_so<T: RTreeObject + Copy>(
     alloc: Global,
     elements: &[T],
@@ -65,7 +47,6 @@ fn select_so<T: RTreeObject + Copy>(
 ) -> bool {
     selects(alloc, elements, SelectInEnvelopeFunction::new(area), inside)
         && selects(alloc, elements, SelectAllFunc, all)
-        && selects(alloc, elements, SelectNoneFunc, (0, 0))
 }
 
 /// Points, two corners, how many points are between them, of all the points there are, each with the parents opened.
@@ -76,8 +57,6 @@ type Row<'a> = (
     (usize, usize),
 );
 
-// Functions that are not lawful miss some. The one that accepts no parent, with a tree of one point, is rstar's test
-// `test_root_node_is_not_always_unpacked`.
 #[test]
 fn a_selection_opens_what_its_question_reaches(rt: HostRuntime) {
     const ROWS: [Row<'static>; 5] = [
@@ -111,11 +90,34 @@ impl SelectionFunction<[i32; 2]> for LeftOnly {
     }
 }
 
-// This one is not lawful either.
+/// Points, and how many of them are selected, with the parents opened.
+type Counted<'a> = (&'a [[i32; 2]], (usize, usize));
+
+// A function that is not lawful misses some. Where no parent is accepted, none is opened: of the last three trees not
+// even the root, which is with one point rstar's test `test_root_node_is_not_always_unpacked`.
 #[test]
 fn unlawful_functions_give_less(rt: HostRuntime) {
-    assert!(rt; selects(rt.alloc(), &[[0, 0]], LeftOnly, (1, 1)));
-    assert!(rt; selects(rt.alloc(), &ALONG_A_LINE, LeftOnly, (3, 2)));
+    const ROWS: [Counted<'static>; 5] = [
+        (&[[0, 0]], (1, 1)),
+        (&ALONG_A_LINE, (3, 2)),
+        (&[], (0, 0)),
+        (&[[1, 0]], (0, 0)),
+        (
+            &[
+                [1, 0],
+                [2, 0],
+                [3, 0],
+                [101, 0],
+                [102, 0],
+                [103, 0],
+                [104, 0],
+            ],
+            (0, 0),
+        ),
+    ];
+    for &(points, counts) in &ROWS {
+        assert!(rt; selects(rt.alloc(), points, LeftOnly, counts));
+    }
 }
 
 /// Selects all, and counts the leaves that it is asked for.
@@ -139,11 +141,16 @@ impl<'a, T: RTreeObject> SelectionFunction<T> for CountingFunc<'a> {
     }
 }
 
-/// Whether a function is asked of no leaf when a walk begins, and of one more at each of its first calls.
-fn is_asked_one_by_one<T: RTreeObject + Copy>(alloc: Global, elements: &[T]) -> bool {
-    let asked = Cell::new(0u32);
+/// Whether a function, whose leaves a cell counts, is asked of none when a walk begins, and of one more at each of its
+/// first calls.
+fn asks_one_by_one<T: RTreeObject + Copy, Func: SelectionFunction<T>>(
+    alloc: Global,
+    elements: &[T],
+    func: Func,
+    asked: &Cell<u32>,
+) -> bool {
     let tree = inserted::<T, DefaultParams>(alloc, elements);
-    let Ok(mut walk) = tree.locate_with_selection_function(CountingFunc { asked: &asked }) else {
+    let Ok(mut walk) = tree.locate_with_selection_function(func) else {
         return false;
     };
     let mut is_so = asked.get() == 0;
@@ -157,7 +164,9 @@ fn is_asked_one_by_one<T: RTreeObject + Copy>(alloc: Global, elements: &[T]) -> 
 // rstar's test `test_leaves_are_tested_lazily`: each `next` asks one leaf more.
 #[test]
 fn a_leaf_is_asked_when_the_walk_comes_to_it(rt: HostRuntime) {
-    assert!(rt; is_asked_one_by_one(rt.alloc(), &ALONG_A_LINE));
+    let asked = Cell::new(0u32);
+    let func = CountingFunc { asked: &asked };
+    assert!(rt; asks_one_by_one(rt.alloc(), &ALONG_A_LINE, func, &asked));
 }
 
 /// Whether a visit of the elements in an envelope ends at the call that breaks, whose break is the answer.
@@ -298,7 +307,7 @@ where
     let mut located = 0usize;
     let _end = tree.locate_all_at_point_int(point, |_element: &T| called(&mut located));
     let (one, other) = either_at(tree, point, point);
-    (touched, located) == (touching, at) && one.is_some() == (at > 0) && other.is_some() == (at > 0)
+    touched == touching && located == at && one.is_some() == (at > 0) && other.is_some() == (at > 0)
 }
 
 /// How many elements a tree of some has, how many of them an envelope contains, how many it intersects, how many contain

@@ -50,12 +50,11 @@ fn are_cut<T: RTreeObject>(
     requires axis { axis < T.Envelope.Point.DIMENSIONS }
 {
     let mut slabs = ClusterGroupIterator::new(elements, clusters, axis);
+    let mut are_so = true;
     for (length, key) in wanted {
-        if !is_slab(&slabs.next(), axis, *length, *key) {
-            return false;
-        }
+        are_so = is_slab(&slabs.next(), axis, *length, *key) && are_so;
     }
-    slabs.next().is_none() && slabs.cluster_dimension() == axis
+    are_so && slabs.next().is_none() && slabs.cluster_dimension() == axis
 }
 
 /// Whether so many points down a line are cut along an axis into slabs of these lengths and least coordinates.
@@ -69,29 +68,43 @@ fn cuts(alloc: Global, count: u16, clusters: usize, axis: usize, wanted: &[(usiz
     }
 }
 
+// How many points, the number of slabs, the axis, and the lengths and least coordinates.
+const CUTS: [(u16, usize, usize, &'static [(usize, i32)]); 5] = [
+    (
+        374,
+        5,
+        0,
+        &[(75, -74), (75, -149), (75, -224), (75, -299), (74, -373)],
+    ),
+    (2, 5, 0, &[(1, 0), (1, -1)]),
+    (3, 1, 0, &[(3, -2)]),
+    (3, 2, 1, &[(2, -1), (1, -2)]),
+    (0, 1, 0, &[]),
+];
+
 #[test]
 fn slabs_have_their_sizes_and_come_from_the_greatest_on(rt: HostRuntime) {
-    assert!(rt;
-        cuts(
-            rt.alloc(),
-            374,
-            5,
-            0,
-            &[(75, -74), (75, -149), (75, -224), (75, -299), (74, -373)]
-        )
-    );
-    assert!(rt; cuts(rt.alloc(), 2, 5, 0, &[(1, 0), (1, -1)]));
-    assert!(rt; cuts(rt.alloc(), 3, 1, 0, &[(3, -2)]));
-    assert!(rt; cuts(rt.alloc(), 3, 2, 1, &[(2, -1), (1, -2)]));
-    assert!(rt; cuts(rt.alloc(), 0, 1, 0, &[]));
+    for &(count, clusters, axis, wanted) in &CUTS {
+        assert!(rt; cuts(rt.alloc(), count, clusters, axis, wanted));
+    }
 }
 
 #[test]
 fn cluster_numbers_are_whole_roots(rt: HostRuntime) {
-    for &(count, clusters) in &[(7, 1), (25, 2), (36, 2), (37, 1), (216, 2), (usize::MAX, 2)] {
-        assert!(rt; count > 6);
-        let found = calculate_number_of_clusters_on_axis::<[i32; 2], DefaultParams>(count);
-        assert!(rt; found == clusters);
+    const ROWS: [(usize, usize); 6] = [
+        (7, 1),
+        (25, 2),
+        (36, 2),
+        (37, 1),
+        (216, 2),
+        (usize::MAX, 2),
+    ];
+    for &(count, clusters) in &ROWS {
+        assert!(rt;
+            count > 6
+                && calculate_number_of_clusters_on_axis::<[i32; 2], DefaultParams>(count)
+                    == clusters
+        );
     }
 }
 
@@ -106,6 +119,15 @@ fn is_split(points: &[[i32; 2]], k: usize) -> bool {
     true
 }
 
+/// Whether points are split at a place by a partition there.
+fn are_split(points: &mut [[i32; 2]], k: usize) -> bool {
+    if points.len() <= k {
+        return false;
+    }
+    partition_envelopes(0, points, k);
+    is_split(points, k)
+}
+
 /// Whether the first so many of the points [0, 0], [29 % keys, 0], [58 % keys, 0], .. are split at a place by a
 /// partition there.
 fn splits(count: usize, keys: u16, k: usize) -> bool {
@@ -115,12 +137,7 @@ fn splits(count: usize, keys: u16, k: usize) -> bool {
         point[0] = i32::from(number % keys.max(1));
         number = number.wrapping_add(29);
     }
-    if points.len() < count || count <= k {
-        return false;
-    }
-    let points = &mut points[..count];
-    partition_envelopes(0, points, k);
-    is_split(points, k)
+    count <= points.len() && are_split(&mut points[..count], k)
 }
 
 #[test]
@@ -133,25 +150,12 @@ fn a_partition_splits_equal_keys_too(rt: HostRuntime) {
     }
 }
 
-/// Whether elements that equal this one all do so after a partition at a place, too.
-fn are_kept<T: RTreeObject + PartialEq>(elements: &mut [T], k: usize, wanted: &T) -> bool
-    requires { 0 < T.Envelope.Point.DIMENSIONS }
-{
-    if elements.len() <= k {
-        return false;
-    }
-    partition_envelopes(0, elements, k);
-    for element in elements.iter() {
-        if *element != *wanted {
-            return false;
-        }
-    }
-    true
-}
-
 #[test]
 fn a_partition_keeps_equal_points(rt: HostRuntime) -> Result<(), Fail> {
     let mut equal = vec![in rt.alloc(); [5i32, 5]; 1000]?;
-    assert!(rt; equal.len() == 1000 && are_kept(&mut equal, 3, &[5, 5]));
+    assert!(rt; equal.len() == 1000 && are_split(&mut equal, 3));
+    for point in &equal {
+        assert!(rt; point[0] == 5 && point[1] == 5);
+    }
     Ok(())
 }

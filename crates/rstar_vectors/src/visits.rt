@@ -70,13 +70,17 @@ mod tests {
         sum
     }
 
-    /// What a visit that adds 10 to each number breaks with at its first call, 0 where it does not break, and the sum of
-    /// the numbers after it.
-    fn sum_after<R: RTreeObject + Copy>(
+    /// What a visit of all that adds 10 to each number breaks with at its first call, 0 where it does not break, and the
+    /// sums of the numbers after it, after a visit of what an envelope contains, after one of what contains a point, each
+    /// of which adds 1 to a number, and after one of what another envelope intersects, which clears it.
+    fn visited<R: PointDistance + Copy>(
         alloc: Global,
         elements: &[Numbered<R>],
         breaks: bool,
-    ) -> (u64, u64) {
+        area: R::Envelope,
+        point: PointOf<R>,
+        cleared: R::Envelope,
+    ) -> (u64, u64, u64, u64, u64) {
         let mut tree = inserted::<Numbered<R>, DefaultParams>(alloc, elements);
         let answer = tree.locate_with_selection_function_int_mut(
             SelectAllFunc,
@@ -89,57 +93,46 @@ mod tests {
                 }
             },
         );
-        (answer.break_value().unwrap_or(0), sum(&tree))
-    }
-
-    /// The sums of the numbers after a visit of what an envelope contains, one of what it intersects, one of what contains
-    /// a point, each of which adds 1 to a number, and one of what another envelope intersects, which clears it.
-    fn sums_after<R: PointDistance + Copy>(
-        alloc: Global,
-        elements: &[Numbered<R>],
-        area: R::Envelope,
-        point: PointOf<R>,
-        cleared: R::Envelope,
-    ) -> [u64; 4]
-    where
-        R::Envelope: Copy,
-    {
-        let mut tree = inserted::<Numbered<R>, DefaultParams>(alloc, elements);
+        let first = sum(&tree);
         let add_one = |one: &mut Numbered<R>| {
             one.data = one.data.wrapping_add(1);
             ControlFlow::<()>::Continue(())
         };
         tree.locate_in_envelope_int_mut(area, add_one);
-        let first = sum(&tree);
-        tree.locate_in_envelope_intersecting_int_mut(area, add_one);
         let second = sum(&tree);
         tree.locate_all_at_point_int_mut(point, add_one);
         let third = sum(&tree);
         clear(&mut tree, cleared);
-        [first, second, third, sum(&tree)]
+        (
+            answer.break_value().unwrap_or(0),
+            first,
+            second,
+            third,
+            sum(&tree),
+        )
     }
 
-    // Whether the visitor breaks at its first call, and the sum of the numbers 1, 2 and 3 after it added 10 at each.
+    // The numbers 1, 2 and 3 in one place, each changed, or one until a break; and two fences. A box that contains none of
+    // them, and touches the first, a point inside that, and the point at its corner, where it is cleared, as by that box.
     #[test]
-    fn a_visit_writes_until_a_break(rt: HostRuntime) {
-        let fence = Rectangle::from_corners([0i64, 0], [2, 2]);
+    fn visits_write_what_they_select_until_a_break(rt: HostRuntime) {
+        let square = Rectangle::from_corners([0i64, 0], [2, 2]);
         let three = [
-            Fence::new(fence, 1),
-            Fence::new(fence, 2),
-            Fence::new(fence, 3),
+            Fence::new(square, 1),
+            Fence::new(square, 2),
+            Fence::new(square, 3),
         ];
-        assert!(rt; sum_after(rt.alloc(), &three, false) == (0, 36));
-        assert!(rt; matches!(sum_after(rt.alloc(), &three, true), (11 | 12 | 13, 16)));
-    }
-
-    // Two fences; a box that contains neither, and touches the first, a point inside that, and the point at its corner.
-    #[test]
-    fn visits_write_what_they_select(rt: HostRuntime) {
-        let fence = Fence::new(Rectangle::from_corners([0i64, 0], [2, 2]), 7);
-        let other = Fence::new(Rectangle::from_corners([3, 3], [4, 4]), 5);
+        let other = Rectangle::from_corners([3, 3], [4, 4]);
+        let two = [Fence::new(square, 7), Fence::new(other, 5)];
         let area = AABB::from_corners([0, 0], [1, 1]);
-        let corner = AABB::from_point([2, 2]);
-        let sums = sums_after(rt.alloc(), &[fence, other], area, [1, 1], corner);
-        assert!(rt; sums == [12, 13, 14, 5]);
+        let corner = AABB::from_corners([2, 2], [2, 2]);
+        let sums = visited(rt.alloc(), &three, false, area, [1, 1], corner);
+        assert!(rt; sums == (0, 36, 36, 39, 0));
+        let sums = visited(rt.alloc(), &three, true, area, [1, 1], corner);
+        assert!(rt; matches!(sums, (11 | 12 | 13, 16, 16, 19, 0)));
+        let sums = visited(rt.alloc(), &two, false, area, [1, 1], corner);
+        assert!(rt; sums == (0, 32, 32, 33, 15));
+        let sums = visited(rt.alloc(), &two, false, area, [1, 1], area);
+        assert!(rt; sums == (0, 32, 32, 33, 15));
     }
 }
