@@ -89,7 +89,7 @@ fn lie_at<T: PointDistance>(found: &[&T], place: &PointOf<T>, distances: &[Dista
     true
 }
 
-/// Those numbers at the begin of an ascending list that equal the first.
+/// Those numbers at the beginning of an ascending list that equal the first.
 fn least_of<S: PartialEq>(ascending: &[S]) -> &[S] {
     for k in 0..ascending.len() {
         if ascending[k] != ascending[0] {

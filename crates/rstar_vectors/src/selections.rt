@@ -91,13 +91,13 @@ impl SelectionFunction<[i32; 2]> for LeftOnly {
 }
 
 /// Points, and how many of them are selected, with the parents opened.
-type Counted<'a> = (&'a [[i32; 2]], (usize, usize));
+type Selected<'a> = (&'a [[i32; 2]], (usize, usize));
 
 // A function that is not lawful misses some. Where no parent is accepted, none is opened: of the last three trees not
 // even the root, which is with one point rstar's test `test_root_node_is_not_always_unpacked`.
 #[test]
 fn unlawful_functions_give_less(rt: HostRuntime) {
-    const ROWS: [Counted<'static>; 5] = [
+    const ROWS: [Selected<'static>; 5] = [
         (&[[0, 0]], (1, 1)),
         (&ALONG_A_LINE, (3, 2)),
         (&[], (0, 0)),

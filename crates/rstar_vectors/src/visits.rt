@@ -112,8 +112,9 @@ mod tests {
         )
     }
 
-    // The numbers 1, 2 and 3 in one place, each changed, or one until a break; and two fences. A box that contains none of
-    // them, and touches the first, a point inside that, and the point at its corner, where it is cleared, as by that box.
+    // The numbers 1, 2 and 3 in one place, inside a box, each changed, or one until a break; and two fences. A box that
+    // contains none of them, and touches the first, a point inside that, and the point at its corner, where it is cleared,
+    // as by that box.
     #[test]
     fn visits_write_what_they_select_until_a_break(rt: HostRuntime) {
         let square = Rectangle::from_corners([0i64, 0], [2, 2]);
@@ -126,8 +127,9 @@ mod tests {
         let two = [Fence::new(square, 7), Fence::new(other, 5)];
         let area = AABB::from_corners([0, 0], [1, 1]);
         let corner = AABB::from_corners([2, 2], [2, 2]);
-        let sums = visited(rt.alloc(), &three, false, area, [1, 1], corner);
-        assert!(rt; sums == (0, 36, 36, 39, 0));
+        let wide = AABB::from_corners([0, 0], [2, 2]);
+        let sums = visited(rt.alloc(), &three, false, wide, [1, 1], corner);
+        assert!(rt; sums == (0, 36, 39, 42, 0));
         let sums = visited(rt.alloc(), &three, true, area, [1, 1], corner);
         assert!(rt; matches!(sums, (11 | 12 | 13, 16, 16, 19, 0)));
         let sums = visited(rt.alloc(), &two, false, area, [1, 1], corner);
