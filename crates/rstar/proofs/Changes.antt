@@ -10,7 +10,7 @@ use Rattle.rstar.specs.declared.node.RTreeNode.TheVariants.{outs-Parent, outs-Le
 use Rattle.rstar.specs.declared.node.RTreeNode.TheOpen as layer
 use Rattle.rstar.specs.declared.node.ParentNode.{ParentNode}
 use Rattle.rstar.specs.declared.rtree.RTree.{RTree}
-use Rattle.rstar.specs.Nodes.{Layer, layer_of, children_of, elements, all_elements, IsTree, IsInner, IsElement}
+use Rattle.rstar.specs.Nodes.{Layer, layer_of, children_of, elements, all_elements, IsTree, IsInner, IsElement, IsWhole}
 use Rattle.rstar.specs.Shapes.{IsAny}
 use Rattle.rstar.specs.Heights.{levels, levels_below}
 use Rattle.rstar.specs.Shown.{parent, more, row_of, shown, shown_root, outline, outline_row}
@@ -150,19 +150,24 @@ module _ {T E P S X : Type 0} (v : Boxes E) (o : Objects T E) where
   pub same-outline : {D : Type 0} (h : ℕ) (old new : RTree T D E P S X) → IsChangedTree (KeepsBox o) h old new → HasSameOutline old new
   same-outline h old new w = record { outline = outline-changed (KeepsBox o) h old.root new.root w.root; size = w.size }
 
+  -- a whole root stays whole
+  pub root-kept : (old new : ParentNode T E P S X) (whole : IsWhole v o old) → IsChangedParent (IsChanged (KeepsBox o) whole.height) old new → IsWhole v o new
+  root-kept old new whole w = record {
+    height = whole.height;
+    tight = tight-kept whole.height old new w whole.tight;
+    below = trees-kept (KeepsBox o) (IsInner v o) (IsElement v o) (element-kept v o) inner-kept whole.height (children_of old) (children_of new) w.children whole.below;
+  }
+
   -- a whole tree stays whole
   pub whole-kept : {D : Type 0} (max : ℕ) (old new : RTree T D E P S X) (whole : WholeTree v o max old)
       → IsChangedTree (KeepsBox o) whole.root_whole.height old new → WholeTree v o max new
+  unfolding root-kept
   whole-kept max old new whole w =
       let h = whole.root_whole.height in
       let few = AllZip-long (IsChanged (KeepsBox o) h) (children_of (root_of old)) (children_of (root_of new)) w.root.children in
       let many = AllZip-long (KeepsBox o) (elements_in old) (elements_in new) (changed-below (KeepsBox o) h (children_of (root_of old)) (children_of (root_of new)) w.root.children) in
       record {
-        root_whole = record {
-          height = h;
-          tight = tight-kept h old.root new.root w.root whole.root_whole.tight;
-          below = trees-kept (KeepsBox o) (IsInner v o) (IsElement v o) (element-kept v o) inner-kept h (children_of (root_of old)) (children_of (root_of new)) w.root.children whole.root_whole.below;
-        };
+        root_whole = root-kept old.root new.root whole.root_whole w.root;
         counted = w.size ∙ whole.counted ∙ sym many;
         leveled = w.levels ∙ whole.leveled ∙ sym (levels-below (KeepsBox o) h (children_of (root_of old)) (children_of (root_of new)) w.root.children);
         low = subst (λ n. n < 2 ^ 64) (sym w.levels) whole.low;

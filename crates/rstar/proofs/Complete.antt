@@ -7,9 +7,9 @@ use Rattle.rstar_base.specs.Elements.{Objects, ObjectLaws}
 use Rattle.rstar_base.specs.Hulls.{hull}
 use Rattle.rstar_base.specs.Selections.{IsLawful}
 use Rattle.rstar_base.proofs.Hulls.{hull-value}
-use Rattle.rstar.specs.declared.node.RTreeNode.{RTreeNode}
+use Rattle.rstar.specs.declared.node.RTreeNode.{RTreeNode, Leaf, Parent', Row_of-RTreeNode, end_of-RTreeNode, more_of-RTreeNode}
 use Rattle.rstar.specs.declared.node.ParentNode.{ParentNode}
-use Rattle.rstar.specs.Nodes.{given, all_given, given_of, elements, all_elements, elements_of, children_of, envelope_of, IsTree, IsElement, IsInner, AreWhole, IsWhole}
+use Rattle.rstar.specs.Nodes.{fold_tree, fold_row, joined, given, all_given, given_of, elements, all_elements, elements_of, children_of, envelope_of, IsTree, IsElement, IsInner, AreWhole, IsWhole}
 use Rattle.rstar.specs.Selections.{IsPartOf}
 use Rattle.rstar.proofs.Rows.{is_leaf, is_parent, elements-Leaf, elements-Parent, given-Leaf, given-Parent}
 use Rattle.rstar.proofs.Trees.{all_sound, values-of}
@@ -33,32 +33,28 @@ part-if : {A : Type 0} (b : Bool) (xs ys : List A) → IsPartOf xs ys → IsPart
 part-if true xs ys p = p
 part-if false xs ys p = part-none ys
 
--- what is claimed of the elements of a node and of what is given from it
-module _ {T E P S X : Type 0} (v : Boxes E) (o : Objects T E) (accepts : E → Bool) (selects : T → Bool) where
-  part-each : (h : ℕ) → ((n : RTreeNode T E P S X) → IsTree (IsInner v o) (IsElement v o) h n → IsPartOf (given accepts selects n) (filter selects (elements n)))
-      → (ns : List (RTreeNode T E P S X)) → AreWhole v o h ns → IsPartOf (all_given accepts selects ns) (filter selects (all_elements ns))
-  part-each h one [] w = refl
-  part-each h one (n ∷ ns) w =
+module _ {T E P S X : Type 0} (accepts : E → Bool) (selects : T → Bool) where
+  mutual
+    unfolding given elements fold_tree
+
+    part-node : (n : RTreeNode T E P S X) → IsPartOf (given accepts selects n) (filter selects (elements n))
+    part-node (Leaf t) = part-refl (filter selects (t ∷ []))
+    part-node (Parent' shape children envelope) = part-if (accepts envelope) _ _ (part-row children)
+
+    part-row : {k : _} (row : Row_of-RTreeNode T E P S X k)
+        → IsPartOf (joined (fold_row (λ t. if selects t then t ∷ [] else []) (λ e below. if accepts e then joined below else []) row)) (filter selects (joined (fold_row (λ t. t ∷ []) (λ e below. joined below) row)))
+    part-row end_of-RTreeNode = refl
+    part-row (more_of-RTreeNode node rest) =
+        subst (IsPartOf _) (sym (filter-append selects (elements node) _)) (part-append (given accepts selects node) _ (filter selects (elements node)) _ (part-node node) (part-row rest))
+
+  part-all : (ns : List (RTreeNode T E P S X)) → IsPartOf (all_given accepts selects ns) (filter selects (all_elements ns))
+  part-all [] = refl
+  part-all (n ∷ ns) =
       subst (IsPartOf (all_given accepts selects (n ∷ ns))) (sym (filter-append selects (elements n) (all_elements ns)))
-      (part-append (given accepts selects n) (all_given accepts selects ns) (filter selects (elements n)) (filter selects (all_elements ns)) (one n w.0) (part-each h one ns w.1))
+      (part-append (given accepts selects n) (all_given accepts selects ns) (filter selects (elements n)) (filter selects (all_elements ns)) (part-node n) (part-all ns))
 
-  part-node : (h : ℕ) (n : RTreeNode T E P S X) → IsTree (IsInner v o) (IsElement v o) h n → IsPartOf (given accepts selects n) (filter selects (elements n))
-  part-node zero n w =
-      let l = is_leaf (IsElement v o) n w in
-      let e : given accepts selects n ≡ filter selects (l.0 ∷ []) = ap (given accepts selects) l.1 ∙ given-Leaf T E P S X accepts selects l.0 in
-      let d : elements n ≡ l.0 ∷ [] = ap elements l.1 ∙ elements-Leaf T E P S X l.0 in
-      subst (λ (ts : List T). IsPartOf (given accepts selects n) (filter selects ts)) (sym d)
-      (subst (λ (ts : List T). IsPartOf ts (filter selects (l.0 ∷ []))) (sym e) (part-refl (filter selects (l.0 ∷ []))))
-  part-node (suc h) n w =
-      let p = is_parent _ n w in
-      let e : given accepts selects n ≡ (if accepts (envelope_of p.0) then all_given accepts selects (children_of p.0) else []) = ap (given accepts selects) p.1 ∙ given-Parent accepts selects p.0 in
-      let d : elements n ≡ elements_of p.0 = ap elements p.1 ∙ elements-Parent p.0 in
-      subst (λ (ts : List T). IsPartOf (given accepts selects n) (filter selects ts)) (sym d)
-      (subst (λ (ts : List T). IsPartOf ts (filter selects (elements_of p.0))) (sym e)
-      (part-if (accepts (envelope_of p.0)) _ _ (part-each h (part-node h) (children_of p.0) p.2.1)))
-
-  pub part-root : (root : ParentNode T E P S X) → IsWhole v o root → IsPartOf (given_of accepts selects root) (filter selects (elements_of root))
-  part-root root whole = part-if (accepts (envelope_of root)) _ _ (part-each whole.height (part-node whole.height) (children_of root) whole.below)
+  pub part-root : (root : ParentNode T E P S X) → IsPartOf (given_of accepts selects root) (filter selects (elements_of root))
+  part-root root = part-if (accepts (envelope_of root)) _ _ (part-all (children_of root))
 
 -- ---- a lawful function: all that is selected is given
 

@@ -7,7 +7,7 @@ use Rattle.rstar_base.specs.Selections.{IsLawful}
 use Rattle.rstar.specs.declared.iterators.drain.DrainIterator.{DrainIterator}
 use Rattle.rstar.specs.Nodes.{children_of}
 use Rattle.rstar.specs.Trees.{root_of}
-use Rattle.rstar.specs.Removals.{NoneSelected}
+use Rattle.rstar.specs.Lists.{NoneSelected}
 use Rattle.rstar.specs.Taking.{IsPast, Removes}
 use Rattle.rstar.specs.Drains.{drained, drain_question, elements_left, IsDraining, TakesNext}
 use Rattle.rstar.proofs.Scans.{if_none}

@@ -1,24 +1,28 @@
--- What a loop over neighbours keeps: the elements given so far are the first of all.
-use Rattle.std.proofs.Common.{◌≡◌, ℕ, ◌+◌, ◌-◌, ◌≤◌, length, refl, min, ℤ, List, [], ◌∷◌, ◌++◌, Option, Some, None, Result, Ok, IfSome, IfNone, IfOk, sym, ap, ◌∙◌, subst, append_assoc, append-nil, arith}
-use Rattle.std.specs.List.{AllByRecursion}
+-- What an iterator over neighbours has given so far are the first of all: call by call, and over whole runs of calls.
+use Rattle.std.proofs.Common.{◌≡◌, ℕ, ◌+◌, ◌-◌, ◌≤◌, length, Vec, Global, vec_len, vec_capacity, refl, min, ℤ, List, [], ◌∷◌, ◌++◌, map, Option, Some, None, Result, Ok, sym, ap, ◌∙◌, subst, append_assoc, append-nil, arith}
+use Rattle.std.specs.Borrow.{Bor}
+use Rattle.std.specs.Iterator.{Yields, YieldsThen, TryCollects}
+use Rattle.std.specs.declared.alloc.AllocError.{AllocError}
+use Rattle.std.specs.declared.cmp.Ordering.{Ordering}
+use Rattle.std.specs.Iterator.Adapters.{take_source, take_count, take_steps}
+use Rattle.std.specs.declared.iter.Take.{Take}
+use Rattle.std.specs.List.{AllByRecursion, FoldsTo}
 use Rattle.std.specs.List.Sorted.{IsPermutation}
-use Rattle.std.proofs.lemmas.List.Sorted.{IsPermutation-refl, IsPermutation-trans, IsPermutation-append_right}
-use Rattle.rstar_base.proofs.Lists.{all-append, all_along, all_map}
+use Rattle.std.proofs.lemmas.List.{length-map}
+use Rattle.std.proofs.lemmas.List.Sorted.{IsPermutation-refl, IsPermutation-trans, IsPermutation-cons, IsPermutation-append_right}
+use Rattle.rstar_base.proofs.Lists.{all-append, all_along, all_map, all_first, all_second}
 use Rattle.rstar_base.specs.Envelopes.{Boxes}
-use Rattle.rstar_base.specs.Elements.{Distances}
+use Rattle.rstar_base.specs.Elements.{Objects, Distances}
 use Rattle.rstar_base.specs.Points.{table}
 use Rattle.rstar.specs.declared.node.RTreeNode.{Parent}
 use Rattle.rstar.specs.declared.node.ParentNode.{ParentNode}
-use Rattle.rstar.specs.declared.algorithm.nearest_neighbor.NearestNeighborDistance2Iterator.{NearestNeighborDistance2Iterator}
+use Rattle.rstar.specs.Lists.{AreInOrder, AreNearestFirst, AreNearestOf}
 use Rattle.rstar.specs.Nodes.{elements, all_elements, all_parents, elements_of, parents_of}
 use Rattle.rstar_base.specs.Counts.{usize_max}
-use Rattle.rstar.specs.Neighbors.{AreInOrder, AreNearestFirst, IsFresh, IsNeighbor, GivesNeighbor, IsGoingOn, root_searched, point_searched, nodes_waiting, elements_waiting, parents_opened}
+use Rattle.rstar.specs.Neighbors.{NearestNeighborIterator, Search, search_of, with_distances, HasBegun, GivesNeighbor, GivesElement, IsGoingOn, elements_waiting}
 use Rattle.rstar.proofs.Rows.{elements-Parent}
 
--- a list with one item more
-pub longer : {A : Type 0} (xs : List A) (x : A) → length (xs ++ x ∷ []) ≡ length xs + 1
-longer [] x = refl
-longer (y ∷ ys) x = let rest = longer ys x in omega arith
+-- ---- lists
 
 module _ {T : Type 0} (distance : T → ℕ) where
   order-push : (ts : List T) (t : T) → AreInOrder distance ts → AllByRecursion (λ s. distance s ≤ distance t) ts → AreInOrder distance (ts ++ t ∷ [])
@@ -40,31 +44,162 @@ module _ {T : Type 0} (distance : T → ℕ) where
         least = all-append _ first (t ∷ []) (all_map _ (λ s. AllByRecursion (λ u. distance s ≤ distance u) after) (λ s h. h.1) first parted) (least, tt);
       }
 
+  -- the nearest of all is given before the others
+  before-first : (all mid first left : List T) (t : T) → IsPermutation all (t ∷ mid) → AllByRecursion (λ u. distance t ≤ distance u) mid → AreNearestFirst distance mid first left
+      → AreNearestFirst distance all (t ∷ first) left
+  before-first all mid first left t bag least are =
+      let others = all_along (λ u. distance t ≤ distance u) mid (first ++ left) are.bag least in
+      record {
+        bag = IsPermutation-trans _ _ _ bag (IsPermutation-cons t mid (first ++ left) are.bag);
+        order = (all_first (λ u. distance t ≤ distance u) first left others, are.order);
+        least = (all_second (λ u. distance t ≤ distance u) first left others, are.least);
+      }
+
   -- where none is left, all were given
   pub all-first : (all first left : List T) → AreNearestFirst distance all first left → left ≡ [] → IsPermutation all first
   all-first all first left are none = subst (IsPermutation all) (append-nil first) (subst (λ l. IsPermutation all (first ++ l)) none are.bag)
 
--- an iterator as it is made has all elements left
-pub fresh-left : {T E P S X : Type 0} (over : ParentNode T E P S X) (at : P) (it : NearestNeighborDistance2Iterator T E P S X) → IsFresh over at it → elements_waiting it ≡ elements_of over
-fresh-left over at it fresh = ap all_elements fresh.waiting ∙ append-nil (elements (Parent over)) ∙ elements-Parent over
+-- a search that has begun has all elements left
+pub begun-left : {T E P S X : Type 0} (over : ParentNode T E P S X) (at : P) (s : Search T E P S X) → HasBegun over at s → elements_waiting s ≡ elements_of over
+begun-left over at s begun = ap all_elements begun.waiting ∙ append-nil (elements (Parent over)) ∙ elements-Parent over
 
--- a call of `next`
-module _ {T E P S X A Z : Type 0} (v : Boxes E) (d : Distances T) (axes : ℕ) (coord : P → ℕ → ℤ) (element : A → T) (old : NearestNeighborDistance2Iterator T E P S X) (r : Option (Result A Z)) (new : NearestNeighborDistance2Iterator T E P S X)
-    (steps : GivesNeighbor v d axes coord element old r new) where
-  -- it gives an element
-  pub gives-first : (p : P) → point_searched old ≡ p → (y : A) → r ≡ Some (Ok y) → (all first : List T) → AreNearestFirst (λ t. d.distance_2 t (table axes (coord p))) all first (elements_waiting old)
-      → AreNearestFirst (λ t. d.distance_2 t (table axes (coord p))) all (first ++ element y ∷ []) (elements_waiting new)
-  gives-first p at y is all first are =
-      let given = subst (λ s. IfSome s (λ x. IfOk x (λ y. IsNeighbor v d (table axes (coord (point_searched old))) (root_searched old) (nodes_waiting old) (nodes_waiting new) (element y)))) is steps.gives in
-      let here = subst (λ q. IsNeighbor v d (table axes (coord q)) (root_searched old) (nodes_waiting old) (nodes_waiting new) (element y)) at given in
-      more-first (λ t. d.distance_2 t (table axes (coord p))) all first (elements_waiting old) (elements_waiting new) (element y) are here.bag here.least
+-- ---- runs of calls of `next`
 
-  -- it gives none: all parents were opened
-  pub opened-all : r ≡ None → IsGoingOn old → parents_opened new ≡ min (parents_of (root_searched old)) usize_max
-  opened-all is going =
-      let on = subst (λ s. IfNone s (IsGoingOn old → IsGoingOn new)) is steps.goes_on_at_end going in
-      let over = subst (λ s. IfNone s (IsGoingOn old → nodes_waiting new ≡ [])) is steps.over going in
-      steps.opened on ∙ ap (λ ns. min (parents_of (root_searched old) - all_parents ns) usize_max) over ∙ ap (λ n. min n usize_max) (less-none (parents_of (root_searched old)))
+-- calls that each gave a neighbour: these are the first of what waited
+pub record HasGiven {T E P S X : Type 0} (distance : P → T → ℕ) (old : Search T E P S X) (given : List T) (new : Search T E P S X) : Type 0 where
+  pub root : new.root ≡ old.root
+  pub point : new.point ≡ old.point
+  pub going_on : IsGoingOn new
+  pub first : AreNearestFirst (distance old.point) (elements_waiting old) given (elements_waiting new)
+
+-- the same, and then `None`: these are all, and each parent was opened
+pub record HasGivenAll {T E P S X : Type 0} (distance : P → T → ℕ) (old : Search T E P S X) (given : List T) (new : Search T E P S X) : Type 0 where
+  pub bag : IsPermutation (elements_waiting old) given
+  pub order : AreInOrder (distance old.point) given
+  pub opened : new.opened ≡ min (parents_of old.root) usize_max
+
+module _ {I T E P S X A Z : Type 0} (v : Boxes E) (d : Distances T) (axes : ℕ) (coord : P → ℕ → ℤ) (element : A → T) (shown : I → Search T E P S X)
+    (steps : I → Option (Result A Z) → I → Type 0) (tell : (s : I) (r : Option (Result A Z)) (t : I) → steps s r t → GivesNeighbor v d axes coord element (shown s) r (shown t)) where
+  abbrev pub distance_at : P → T → ℕ
+  distance_at p t = d.distance_2 t (table axes (coord p))
+
+  -- one call
+  one-given : (s t : I) (y : A) → steps s (Some (Ok y)) t → HasGiven distance_at (shown s) (element y ∷ []) (shown t)
+  one-given s t y step =
+      let told = tell s (Some (Ok y)) t step in
+      record {
+        root = told.root;
+        point = told.point;
+        going_on = told.goes_on;
+        first = before-first (distance_at (shown s).point) (elements_waiting (shown s)) (elements_waiting (shown t)) [] (elements_waiting (shown t)) (element y) told.gives.bag told.gives.least (none-first _ (elements_waiting (shown t)));
+      }
+
+  pub run-given : (ys : List A) (s t : I) → IsGoingOn (shown s) → Yields steps s (map Ok ys) t → HasGiven distance_at (shown s) (map element ys) (shown t)
+  run-given [] s t going run =
+      subst (λ u. HasGiven distance_at (shown s) [] (shown u)) run (record { root = refl; point = refl; going_on = going; first = none-first _ (elements_waiting (shown s)) })
+  run-given (y ∷ ys) s t going run =
+      let told = tell s (Some (Ok y)) run.0 run.1 in
+      let rest = run-given ys run.0 t told.goes_on run.2 in
+      record {
+        root = rest.root ∙ told.root;
+        point = rest.point ∙ told.point;
+        going_on = rest.going_on;
+        first = before-first (distance_at (shown s).point) (elements_waiting (shown s)) (elements_waiting (shown run.0)) (map element ys) (elements_waiting (shown t)) (element y) told.gives.bag told.gives.least
+            (subst (λ p. AreNearestFirst (distance_at p) (elements_waiting (shown run.0)) (map element ys) (elements_waiting (shown t))) told.point rest.first);
+      }
+
+  -- up to the end
+  pub run-ended : (ys : List A) (s t u : I) → IsGoingOn (shown s) → Yields steps s (map Ok ys) t → steps t None u → HasGivenAll distance_at (shown s) (map element ys) (shown u)
+  run-ended ys s t u going run last =
+      let given = run-given ys s t going run in
+      let told = tell t None u last in
+      record {
+        bag = all-first (distance_at (shown s).point) _ _ _ given.first (told.none given.going_on);
+        order = given.first.order;
+        opened = told.opened (told.goes_on_at_end given.going_on)
+            ∙ ap (λ ns. min (parents_of (shown t).root - all_parents ns) usize_max) (told.over given.going_on)
+            ∙ ap (λ n. min n usize_max) (less-none (parents_of (shown t).root))
+            ∙ ap (λ r. min (parents_of r) usize_max) given.root;
+      }
     where
       less-none : (n : ℕ) → n - 0 ≡ n
       less-none n = omega arith
+
+  -- `take`, up to its end
+  run-taken : (ys : List A) (s t : Take I) → Yields (take_steps steps) s (map Ok ys) t → Yields steps (take_source s) (map Ok ys) (take_source t) × (take_count t + length ys ≡ take_count s)
+  run-taken [] s t run = let same = ap take_count run in (ap take_source run, omega (arith, same))
+  run-taken (y ∷ ys) s t run =
+      let rest = run-taken ys run.0 t run.2 in
+      let one = run.1.1 in
+      let others = rest.1 in
+      ((take_source run.0, run.1.0, rest.0), omega (arith, one, others))
+
+  pub taken-first : (most : ℕ) (ys : List A) (s t u : Take I) → take_count s ≡ most → IsGoingOn (shown (take_source s)) → Yields (take_steps steps) s (map Ok ys) t → take_steps steps t None u
+      → AreNearestOf (distance_at (shown (take_source s)).point) (elements_waiting (shown (take_source s))) most (map element ys)
+  taken-first most ys s t u is going run last =
+      let source = run-taken ys s t run in
+      let given = run-given ys (take_source s) (take_source t) going source.0 in
+      let count = source.1 in
+      let long = length-map ys element in
+      record {
+        left = elements_waiting (shown (take_source t));
+        first = given.first;
+        few = omega (arith, count, long, is);
+        enough = λ less. (tell (take_source t) None (take_source u) (last (omega (arith, count, long, is, less)))).none given.going_on;
+      }
+
+-- `try_collect` into a list: each item was an `Ok`, and then came `None`
+module _ {I A Z V : Type 0} (steps : I → Option (Result A Z) → I → Type 0) (items : V → List A) (collects : List A → V → Type 0) (extends : V → List A → V → Type 0)
+    (empty : (v : V) → collects [] v → items v ≡ []) (longer : (v w : V) (ys : List A) → extends v ys w → items w ≡ items v ++ ys) where
+  each-ok : (xs : List (Result A Z)) (b v : V) → FoldsTo (λ p x q. (y : A) × (Ok y ≡ x) × extends p (y ∷ []) q) b xs v → (ys : List A) × (xs ≡ map Ok ys) × (items v ≡ items b ++ ys)
+  each-ok [] b v folds = ([], refl, sym (ap items folds) ∙ sym (append-nil (items b)))
+  each-ok (x ∷ xs) b v folds =
+      let rest = each-ok xs folds.0 v folds.2 in (
+        folds.1.0 ∷ rest.0,
+        ap (λ z. z ∷ xs) (sym folds.1.1) ∙ ap (λ zs. Ok folds.1.0 ∷ zs) rest.1,
+        rest.2 ∙ ap (λ l. l ++ rest.0) (longer b folds.0 (folds.1.0 ∷ []) folds.1.2) ∙ append_assoc (items b) (folds.1.0 ∷ []) rest.0,
+      )
+
+  pub run-collected : (s : I) (v : V) → TryCollects steps (λ x r. r ≡ x) collects extends s v → (u : I) × YieldsThen steps s (map Ok (items v)) None u
+  run-collected s v all =
+      let each = each-ok all.0 all.1 v all.4 in
+      let same : all.0 ≡ map Ok (items v) = each.1 ∙ ap (map Ok) (sym (each.2 ∙ ap (λ l. l ++ each.0) (empty all.1 all.3))) in
+      (all.2.0, subst (λ (l : List (Result A Z)). YieldsThen steps s l None all.2.0) same all.2.1)
+
+-- ---- the same of the iterator of a tree, or below any root
+
+module _ {T E P S X : Type 0} (v : Boxes E) (o : Objects T E) (d : Distances T) (axes : ℕ) (coord : P → ℕ → ℤ) (compare : S → S → Ordering) (value : S → ℤ)
+    (over : ParentNode T E P S X) (at : P) (it : NearestNeighborIterator T E P S X) (begun : HasBegun over at (search_of (with_distances it))) where
+  abbrev gives : NearestNeighborIterator T E P S X → Option (Result (Bor T) AllocError) → NearestNeighborIterator T E P S X → Type 0
+  gives = GivesElement v o d axes coord compare value
+
+  -- at the end of a loop
+  pub neighbors_end : (ys : List (Bor T)) (t u : NearestNeighborIterator T E P S X) → Yields gives it (map Ok ys) t → gives t None u
+      → IsPermutation (elements_of over) (map (λ y. y.now) ys) × AreInOrder (λ t. d.distance_2 t (table axes (coord at))) (map (λ y. y.now) ys) × ((search_of (with_distances u)).opened ≡ min (parents_of over) usize_max)
+  neighbors_end ys t u run last =
+      let all = run-ended v d axes coord (λ (y : Bor T). y.now) (λ (i : NearestNeighborIterator T E P S X). search_of (with_distances i)) gives (λ s r t h. h.0) ys it t u begun.going_on run last in (
+        subst (λ l. IsPermutation l (map (λ y. y.now) ys)) (begun-left over at (search_of (with_distances it)) begun) all.bag,
+        subst (λ p. AreInOrder (λ t. d.distance_2 t (table axes (coord p))) (map (λ y. y.now) ys)) begun.point all.order,
+        all.opened ∙ ap (λ r. min (parents_of r) usize_max) begun.root,
+      )
+
+  -- at the end of a loop over `take`
+  pub neighbors_taken : (most : ℕ) (ys : List (Bor T)) (s t u : Take (NearestNeighborIterator T E P S X)) → take_source s ≡ it → take_count s ≡ most → Yields (take_steps gives) s (map Ok ys) t → take_steps gives t None u
+      → AreNearestOf (λ t. d.distance_2 t (table axes (coord at))) (elements_of over) most (map (λ y. y.now) ys)
+  neighbors_taken most ys s t u source count run last =
+      let shown = λ (i : NearestNeighborIterator T E P S X). search_of (with_distances i) in
+      let going = subst (λ i. IsGoingOn (shown i)) (sym source) begun.going_on in
+      let first = taken-first v d axes coord (λ (y : Bor T). y.now) shown gives (λ s r t h. h.0) most ys s t u count going run last in
+      let here = subst (λ i. AreNearestOf (λ t. d.distance_2 t (table axes (coord (shown i).point))) (elements_waiting (shown i)) most (map (λ y. y.now) ys)) source first in
+      let point = subst (λ p. AreNearestOf (λ t. d.distance_2 t (table axes (coord p))) (elements_waiting (shown it)) most (map (λ y. y.now) ys)) begun.point here in
+      subst (λ l. AreNearestOf (λ t. d.distance_2 t (table axes (coord at))) l most (map (λ y. y.now) ys)) (begun-left over at (shown it) begun) point
+
+  -- what `try_collect` has taken into a list
+  pub neighbors_collected : (all : Vec (Bor T) Global)
+      → TryCollects gives (λ x r. r ≡ x) (λ ys v. (v.items ≡ ys) × (vec_len v ≡ length ys)) (λ v ys w. (w.items ≡ v.items ++ ys) × (vec_len w ≡ vec_len v + length ys) × (vec_capacity v ≤ vec_capacity w)) it all
+      → IsPermutation (elements_of over) (map (λ y. y.now) all.items) × AreInOrder (λ t. d.distance_2 t (table axes (coord at))) (map (λ y. y.now) all.items)
+  neighbors_collected all collected =
+      let run = run-collected gives (λ (v : Vec (Bor T) Global). v.items) (λ ys v. (v.items ≡ ys) × (vec_len v ≡ length ys)) (λ v ys w. (w.items ≡ v.items ++ ys) × (vec_len w ≡ vec_len v + length ys) × (vec_capacity v ≤ vec_capacity w))
+      (λ v h. h.0) (λ v w ys h. h.0) it all collected in
+      let end = neighbors_end all.items run.1.0 run.0 run.1.1 run.1.2 in
+      (end.0, end.1)

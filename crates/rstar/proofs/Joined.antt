@@ -19,7 +19,8 @@ use Rattle.rstar.specs.Heights.{levels_below}
 use Rattle.rstar_base.specs.Counts.{usize_max}
 use Rattle.rstar.specs.Walks.{IsLevel}
 use Rattle.rstar.specs.Nodes.{elements, all_elements, elements_of, envelope_of, children_of, node_box, is_leaf_node, total, IsTree, IsElement, IsInner, AreWhole, IsWhole}
-use Rattle.rstar.specs.Meets.{product, opened_to, both_leaves, count_parents, meet, meet_of_roots, meet_of_shown, pairs_at, opens_at, all_pairs, all_opens, pairs_from_roots}
+use Rattle.rstar.specs.Lists.{product}
+use Rattle.rstar.specs.Meets.{opened_to, both_leaves, count_parents, meet, meet_of_roots, meet_of_shown, pairs_at, opens_at, all_pairs, all_opens, pairs_from_roots}
 use Rattle.rstar.specs.Shown.{parent, row_of, shown}
 use Rattle.rstar.specs.JoinWalks.{frame_of, marked, rows_beside, Frame, IsMetPair, IsFrame, AreFrames, met_of, unasked_of, in_hand, frames_of, pairs_below, opens_below, pairs_from_frames, opens_from_frames, HasItsPaths}
 use Rattle.rstar.specs.Joins.{SeenLaws, meets_by, join}

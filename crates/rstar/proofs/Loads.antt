@@ -22,7 +22,8 @@ use Rattle.rstar.specs.declared.node.RTreeNode.{RTreeNode, Leaf, Parent}
 use Rattle.rstar.specs.Nodes.{elements, all_elements, elements_of, children_of, node_box, IsTree, IsElement, IsInner, AreWhole, IsLeafOf, IsParentOf}
 use Rattle.rstar.specs.Shapes.{IsParentTree, AreTrees, IsAny}
 use Rattle.rstar.specs.Kept.{HasRoom, IsRoomy}
-use Rattle.rstar.specs.Loaded.{NoneEmpty, IsSlabSize, IsPartSize, EndsAt, IsParted, IsCutAbove, HasSmallParent}
+use Rattle.rstar.specs.Lists.{NoneEmpty}
+use Rattle.rstar.specs.Loaded.{IsSlabSize, IsPartSize, EndsAt, IsParted, IsCutAbove, HasSmallParent}
 use Rattle.rstar.specs.Loads.{part_bound, HasNodeOf, AddsParts, IsUnderway, IsFresh, IsFreshNode}
 use Rattle.rstar.proofs.Rows.{elements-Leaf, elements-Parent, is_parent, IsLeafOf-Leaf, IsParentOf-Parent}
 use Rattle.rstar.proofs.Trees.{merged_is_hull}
@@ -276,7 +277,7 @@ module _ {T E P S X : Type 0} where
 
   module _ (v : Boxes E) (o : Objects T E) (most widest axes : ℕ) where
     -- elements, each a leaf
-    pub leaves_parent : (ts : List T) (p : ParentNode T E P S X) → AllByRecursion o.IsValue ts → NoneEmpty v o ts → ts ≢ [] → p.children.items ≡ map Leaf ts → p.envelope ≡ hull v o.box_of ts
+    pub leaves_parent : (ts : List T) (p : ParentNode T E P S X) → AllByRecursion o.IsValue ts → NoneEmpty v.is_empty o.box_of ts → ts ≢ [] → p.children.items ≡ map Leaf ts → p.envelope ≡ hull v o.box_of ts
         → HasRoom most p.children → length p.children.items ≤ widest → IsFresh v o most widest axes 0 p
     leaves_parent ts p own full some are box room narrow =
         let these : elements_of p ≡ ts = ap (λ ns. all_elements ns) are ∙ leaves_elements E P S X ts in

@@ -5,7 +5,7 @@ use lib.Count.{count_trailing_zeros, under}
 use Rattle.std.proofs.lemmas.List.{take_all, length-drop, length-map, drop-append-le}
 use Rattle.std.proofs.Math.Seq.{drop-append-add}
 use Rattle.std.proofs.Math.Nat.{zero-mul, one-mul, add-mul, zero-add, mul-le-mul_right}
-use Rattle.rstar.specs.Meets.{product}
+use Rattle.rstar.specs.Lists.{product}
 use Rattle.rstar.specs.JoinWalks.{marked, with_marks, IsFirstPair}
 use Rattle.rstar.proofs.PairRows.{the_pair}
 

@@ -11,7 +11,8 @@ use Rattle.rstar_base.proofs.Hulls.{hull-value}
 use Rattle.std.proofs.lemmas.List.Concat.{flat_map-append}
 use Rattle.rstar.specs.declared.node.RTreeNode.{RTreeNode}
 use Rattle.rstar.specs.Nodes.{elements, all_elements}
-use Rattle.rstar.specs.Meets.{product, pairs_at, all_pairs}
+use Rattle.rstar.specs.Lists.{product}
+use Rattle.rstar.specs.Meets.{pairs_at, all_pairs}
 use Rattle.rstar.specs.Joins.{SeenLaws, meets_by, join}
 use Rattle.rstar.proofs.PairRows.{the_pair}
 

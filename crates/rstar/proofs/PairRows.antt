@@ -7,7 +7,8 @@ use Rattle.rstar.specs.declared.node.RTreeNode.TheVariants.{outs-Parent, outs-Le
 use Rattle.rstar.specs.declared.node.RTreeNode.TheOpen as layer
 use Rattle.rstar.specs.declared.node.ParentNode.{ParentNode}
 use Rattle.rstar.specs.Nodes.{Layer, children_of, fold_tree, total, reach, given, all_given, all_reach, node_box, is_leaf_node}
-use Rattle.rstar.specs.Meets.{product, opened_to, next_nodes, next_shown, shown_box, count_shown, meet_shown, both_leaves, count_parents, meet, pairs_at, opens_at, all_pairs, all_opens}
+use Rattle.rstar.specs.Lists.{product}
+use Rattle.rstar.specs.Meets.{opened_to, next_nodes, next_shown, shown_box, count_shown, meet_shown, both_leaves, count_parents, meet, pairs_at, opens_at, all_pairs, all_opens}
 use Rattle.rstar.specs.Shown.{Shown, parent, nodes_in, row_of, fold_shown, fold_shown_row, shown}
 use Rattle.rstar.specs.JoinWalks.{row_steps, all_steps, steps_at, steps_beside}
 use Rattle.rstar.proofs.Rows.{fold_tree-Parent, given-Leaf, given-Parent, reach-Leaf, reach-Parent, node_box-Leaf, node_box-Parent, shown-Leaf, shown-Parent, total-map}

@@ -16,7 +16,8 @@ use Rattle.rstar.specs.declared.iterators.joins.IntersectionIterator.{Intersecti
 use Rattle.rstar.specs.Nodes.{is_leaf_node, total}
 use Rattle.rstar_base.specs.Counts.{usize_max}
 use Rattle.rstar.specs.Walks.{IsLevel}
-use Rattle.rstar.specs.Meets.{product, opened_to, both_leaves, pairs_at, opens_at, all_pairs, all_opens, meet_of_roots}
+use Rattle.rstar.specs.Lists.{product}
+use Rattle.rstar.specs.Meets.{opened_to, both_leaves, pairs_at, opens_at, all_pairs, all_opens, meet_of_roots}
 use Rattle.rstar.specs.declared.iterators.joins.PairStep.{PairStep}
 use Rattle.rstar.specs.declared.iterators.joins.PairStep.TheVariants.{Found, Passed, Ended}
 use Rattle.rstar.specs.JoinWalks.{frame_of, marked, rows_beside, Frame, IsMetPair, IsFrame, AreFrames, met_of, unasked_of, frames_of, pairs_below, opens_below, pairs_by, pairs_from_frames, opens_from_frames, IsCounted, all_steps, steps_at, steps_of_pair, steps_of_frame, steps_of_frames, IsGivenPair, IsNearerPair, IsPairStep}

@@ -14,7 +14,8 @@ use Rattle.rstar_base.specs.Hulls.{hull}
 use Rattle.rstar.specs.declared.algorithm.removal.Rest.{Rest}
 use Rattle.rstar.specs.declared.node.RTreeNode.{RTreeNode}
 use Rattle.rstar.specs.Nodes.{node_box, elements, all_elements}
-use Rattle.rstar.specs.Removals.{IsWithout, NoneSelected}
+use Rattle.rstar.specs.Lists.{NoneSelected}
+use Rattle.rstar.specs.Removals.{IsWithout}
 use Rattle.rstar.specs.Taking.{IsPast, IsRest, IsRestAt, first_children, with_first, first_number, lower_numbers}
 
 module _ {A : Type 0} where

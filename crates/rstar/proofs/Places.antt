@@ -1,6 +1,8 @@
 -- What holds of each item of a list, at an index and after a write, and of two lists place by place.
-use Rattle.std.proofs.Common.{ℕ, zero, suc, ◌<◌, List, [], ◌∷◌, ◌++◌, length, get_or, set, arith}
+use Rattle.std.proofs.Common.{◌≡◌, ◌∙◌, ℕ, zero, suc, ◌+◌, ◌<◌, ◌≤◌, List, [], ◌∷◌, ◌++◌, length, get_or, set, take, ap, sym, subst, arith}
+use Rattle.std.proofs.lemmas.List.{take_more, take_all}
 use Rattle.std.specs.List.{AllByRecursion, AllZip}
+use Rattle.rstar_base.proofs.Lists.{all-append}
 
 module _ {A : Type 0} (F : A → Type 0) where
   pub all_set : (xs : List A) (i : ℕ) (y : A) → AllByRecursion F xs → F y → AllByRecursion F (set xs i y)
@@ -12,6 +14,15 @@ module _ {A : Type 0} (F : A → Type 0) where
   all_get [] i d below h = absurd (omega arith)
   all_get (x ∷ xs) zero d below h = h.0
   all_get (x ∷ xs) (suc i) d below h = all_get xs i d (omega arith) h.1
+
+-- what holds of the first items, and of the next, and of all
+pub all_more : {A : Type 0} (P : A → Type 0) (xs : List A) (k : ℕ) (x : A) → k < length xs → x ≡ get_or xs k x → P x → AllByRecursion P (take k xs) → AllByRecursion P (take (k + 1) xs)
+all_more P xs k x below is holds before =
+    let more : take (k + 1) xs ≡ take k xs ++ x ∷ [] = take_more xs k x below ∙ ap (λ u. take k xs ++ u ∷ []) (sym is) in
+    subst (AllByRecursion P) (sym more) (all-append P (take k xs) (x ∷ []) before (holds, tt))
+
+pub all_whole : {A : Type 0} (P : A → Type 0) (xs : List A) (k : ℕ) → length xs ≤ k → AllByRecursion P (take k xs) → AllByRecursion P xs
+all_whole P xs k ended = subst (AllByRecursion P) (take_all k xs ended)
 
 pub AllZip-append : {A B : Type 0} (R : A → B → Type 0) (xs xs' : List A) (ys ys' : List B)
     → AllZip R xs ys → AllZip R xs' ys' → AllZip R (xs ++ xs') (ys ++ ys')

@@ -3,8 +3,7 @@ use Rattle.std.proofs.Common.{◌≡◌, ℕ, ℤ, pos, int_le, true, false, Lis
 use Rattle.std.specs.List.Sorted.{IsPermutation}
 use Rattle.std.proofs.lemmas.List.Sorted.{IsPermutation-sym, Contains-permutation}
 use Rattle.std.proofs.lemmas.List.Elements.{All-contains, All-from_recursion}
-use Rattle.rstar.specs.Neighbors.{IsNearest}
-use Rattle.rstar.specs.Removals.{NoneSelected}
+use Rattle.rstar.specs.Lists.{IsNearest, NoneSelected}
 use Rattle.rstar.proofs.Nearness.{lower}
 use Rattle.rstar.proofs.Ties.{close-by, far-by}
 

@@ -1,7 +1,7 @@
 -- Each call that gives something leaves fewer.
-use Rattle.std.proofs.Common.{◌≡◌, ℕ, ℤ, ◌+◌, ◌-◌, ◌<◌, min, List, [], ◌∷◌, length, refl, ap, sym, subst, arith, Option, Some, None, Result, Ok, Err, IfSome, IfNone, IfOk, IfErr, OnSome, OnErr}
+use Rattle.std.proofs.Common.{◌≡◌, ℕ, ℤ, ◌+◌, ◌<◌, ◌≤◌, List, [], ◌∷◌, length, refl, ap, sym, ◌∙◌, subst, arith, Option, Some, None, Result, Ok, Err, IfSome, IfNone, IfOk, IfErr, OnSome, OnErr}
 use Rattle.std.specs.Borrow.{Bor}
-use Rattle.std.specs.Iterator.{IsFinite, size}
+use Rattle.std.specs.Iterator.{size}
 use Rattle.std.proofs.lemmas.List.Sorted.{length_permutation}
 use Rattle.rstar_base.specs.Envelopes.{Boxes}
 use Rattle.std.specs.declared.cmp.Ordering.{Ordering}
@@ -11,34 +11,24 @@ use Rattle.rstar.specs.declared.node.RTreeNode.{Parent}
 use Rattle.rstar.specs.declared.node.ParentNode.{ParentNode}
 use Rattle.rstar.specs.declared.algorithm.nearest_neighbor.search.Stage.{Stage}
 use Rattle.rstar.specs.declared.algorithm.nearest_neighbor.search.Stage.TheVariants.{Fresh, Running, Ended}
-use Rattle.rstar.specs.declared.algorithm.nearest_neighbor.search.NeighborSearch.{NeighborSearch}
-use Rattle.rstar.specs.Nodes.{all_elements, all_parents, parents_of}
-use Rattle.rstar_base.specs.Counts.{usize_max}
+use Rattle.rstar.specs.Nodes.{all_elements, all_far, far_of, parents_of}
 use Rattle.rstar.specs.Neighbors.{IsNeighbor}
-use Rattle.rstar.specs.Searches.{Item, waiting_at, calls_at, waiting_of, held_by, calls_left, IsUnrefused, IsCounted, IsReady, IsReadyAt}
-use Rattle.rstar.proofs.Searches.{fresh-counted}
+use Rattle.rstar.specs.Searches.{NodeSearch, Item, waiting_nodes, waiting_at, calls_at, waiting_of, held_by, calls_left, IsUnrefused, IsCounted, IsRunning, IsReady, IsReadyAt}
+use Rattle.rstar.proofs.Searches.{fresh-counted, all-far-fewer}
 
 module _ {T E P S X : Type 0} where
-  finite_at : (stage : Stage) (root : ParentNode T E P S X) (ws : List (Item T E P S X)) → IsFinite (calls_at stage root ws)
-  finite_at Fresh root ws = tt
-  finite_at Running root ws = tt
-  finite_at Ended root ws = tt
-
-  pub finite : (s : NeighborSearch T E P S X) → IsFinite (calls_left s)
-  finite s = finite_at s.stage s.root.now (held_by s)
-
-  many_at : (stage : Stage) (root : ParentNode T E P S X) (ws : List (Item T E P S X)) → IsUnrefused stage → size (calls_at stage root ws) ≡ length (all_elements (waiting_at stage root ws)) + 1
+  many_at : (stage : Stage) (root : ParentNode T E P S X) (ws : List (Item T E P S X)) → IsUnrefused stage → calls_at stage root ws ≡ length (all_elements (waiting_at stage root ws)) + 1
   many_at Fresh root ws h = refl
   many_at Running root ws h = refl
   many_at Ended root ws h = absurd h
 
-  many : (s : NeighborSearch T E P S X) → IsUnrefused s.stage → size (calls_left s) ≡ length (all_elements (waiting_of s)) + 1
+  many : (s : NodeSearch T E P S X) → IsUnrefused s.stage → size (calls_left s) ≡ length (all_elements (waiting_of s)) + 1
   many s = many_at s.stage s.root.now (held_by s)
 
-  none_at : (stage : Stage) (root : ParentNode T E P S X) (ws : List (Item T E P S X)) → stage ≡ Ended → size (calls_at stage root ws) ≡ 0
-  none_at stage root ws e = ap (λ v. size (calls_at v root ws)) e
+  none_at : (stage : Stage) (root : ParentNode T E P S X) (ws : List (Item T E P S X)) → stage ≡ Ended → calls_at stage root ws ≡ 0
+  none_at stage root ws e = ap (λ v. calls_at v root ws) e
 
-  module _ (v : Boxes E) (d : Distances T) (p : List ℤ) (s t : NeighborSearch T E P S X) where
+  module _ (v : Boxes E) (d : Distances T) (p : List ℤ) (s t : NodeSearch T E P S X) where
     -- a neighbour more
     pub given-fewer : (x : T) → IsNeighbor v d p s.root.now (waiting_of s) (waiting_of t) x → t.stage ≡ Running → IsUnrefused s.stage → size (calls_left t) < size (calls_left s)
     given-fewer x gives on going =
@@ -61,9 +51,34 @@ counted-at v d p compare value o Fresh root heap opened ready going = subst (IsC
 counted-at v d p compare value o Running root heap opened ready going = ready.counted
 counted-at v d p compare value o Ended root heap opened ready going = absurd going
 
-pub opened-counted : {T E P S X : Type 0} (v : Boxes E) (d : Distances T) (p : List ℤ) (compare : S → S → Ordering) (value : S → ℤ) (o : Objects T E) (s : NeighborSearch T E P S X) → IsReady v d p compare value o s → IsUnrefused s.stage
-    → s.opened ≡ min (parents_of s.root.now - all_parents (waiting_of s)) usize_max
-opened-counted v d p compare value o s ready going = let counted = counted-at v d p compare value o s.stage s.root.now s.heap s.opened ready going in counted.counts
+pub counted : {T E P S X : Type 0} (v : Boxes E) (d : Distances T) (p : List ℤ) (compare : S → S → Ordering) (value : S → ℤ) (o : Objects T E) (s : NodeSearch T E P S X) → IsReady v d p compare value o s → IsUnrefused s.stage
+    → IsCounted s.root.now (waiting_of s) s.opened
+counted v d p compare value o s ready going = counted-at v d p compare value o s.stage s.root.now s.heap s.opened ready going
+
+-- the parents opened, and those farther than what was given, are no more than there are
+module _ {T E P S X : Type 0} (v : Boxes E) (d : Distances T) (p : List ℤ) (compare : S → S → Ordering) (value : S → ℤ) (o : Objects T E) (s t : NodeSearch T E P S X)
+    (ready : IsReady v d p compare value o t) (same : t.root.now ≡ s.root.now) where
+  running : t.stage ≡ Running → IsRunning v d p compare value o t.root.now t.heap t.opened
+  running on = subst (λ stage. IsReadyAt v d p compare value o stage t.root.now t.heap t.opened) on ready
+
+  pub given-cost : (x : T) → IsNeighbor v d p s.root.now (waiting_of s) (waiting_of t) x → t.stage ≡ Running
+      → t.opened + far_of (λ e. v.distance_2 e p) (d.distance_2 x p) t.root.now ≤ parents_of t.root.now
+  given-cost x gives on =
+      let m = d.distance_2 x p in
+      let is = running on in
+      let waits : waiting_of t ≡ waiting_nodes (held_by t) = ap (λ stage. waiting_at stage t.root.now (held_by t)) on in
+      let still : all_far (λ e. v.distance_2 e p) m (waiting_nodes (held_by t)) ≡ far_of (λ e. v.distance_2 e p) m t.root.now =
+      ap (all_far (λ e. v.distance_2 e p) m) (sym waits) ∙ gives.still_far ∙ ap (far_of (λ e. v.distance_2 e p) m) (sym same) in
+      let few = all-far-fewer (λ e. v.distance_2 e p) m (waiting_nodes (held_by t)) in
+      let fewer = is.counted.fewer in
+      let counts = is.counted.counts in
+      omega (arith, still, few, fewer, counts)
+
+  pub cost : {A Z : Type 0} (element : A → T) (r : Option (Result A Z)) → IfSome r (λ x. IfOk x (λ y. IsNeighbor v d p s.root.now (waiting_of s) (waiting_of t) (element y)))
+      → IfSome r (λ x. IfOk x (λ _. t.stage ≡ Running)) → IfSome r (λ x. IfOk x (λ y. t.opened + far_of (λ e. v.distance_2 e p) (d.distance_2 (element y) p) t.root.now ≤ parents_of t.root.now))
+  cost element None gives on = tt
+  cost element (Some (Ok y)) gives on = given-cost (element y) gives on
+  cost element (Some (Err z)) gives on = tt
 
 pub goes_on : {A Z : Type 0} (stage : Stage) (r : Option (Result A Z)) → IfSome r (λ x. IfOk x (λ _. stage ≡ Running)) → IfSome r (λ x. IfOk x (λ _. IsUnrefused stage))
 goes_on stage None h = tt
@@ -80,7 +95,7 @@ ends stage (Some (Ok x)) h = tt
 ends stage (Some (Err x)) h = λ going. subst IsUnrefused h going
 
 -- what a call gives leaves fewer
-pub fewer-left : {T E P S X Z : Type 0} (v : Boxes E) (d : Distances T) (p : List ℤ) (s t : NeighborSearch T E P S X) (r : Option (Result (Bor T × S) Z)) → IfSome r (λ x. IfOk x (λ y. IsNeighbor v d p s.root.now (waiting_of s) (waiting_of t) y.0.now))
+pub fewer-left : {T E P S X Z : Type 0} (v : Boxes E) (d : Distances T) (p : List ℤ) (s t : NodeSearch T E P S X) (r : Option (Result (Bor T × S) Z)) → IfSome r (λ x. IfOk x (λ y. IsNeighbor v d p s.root.now (waiting_of s) (waiting_of t) y.0.now))
     → IfSome r (λ x. IfOk x (λ _. t.stage ≡ Running)) → IfSome r (λ x. IfErr x (λ _. t.stage ≡ Ended)) → IfSome r (λ _. IsUnrefused s.stage) → OnSome r (size (calls_left t) < size (calls_left s))
 fewer-left v d p s t None gives on refused going = tt
 fewer-left v d p s t (Some (Ok y)) gives on refused going = given-fewer v d p s t y.0.now gives on going

@@ -17,7 +17,7 @@ use Rattle.rstar_base.proofs.Lists.{all-append, all_first, all_along, all_map}
 use Rattle.rstar.specs.declared.node.RTreeNode.{RTreeNode, Leaf, Parent}
 use Rattle.rstar.specs.declared.node.ParentNode.{ParentNode}
 use Rattle.rstar.specs.Nodes.{elements, parents, all_elements, all_parents, node_box, children_of, elements_of, envelope_of, IsWhole}
-use Rattle.rstar.specs.Neighbors.{IsNearest}
+use Rattle.rstar.specs.Lists.{IsNearest}
 use Rattle.rstar.specs.Pruned.{IsBound, IsAbove, IsPruned}
 use Rattle.rstar.specs.Searches.{Item, waiting_nodes, distance_of}
 use Rattle.rstar.proofs.Nearness.{IsMeasured, IsPart, above-node, node-within, root-below, root-within, part-Parent, parts}

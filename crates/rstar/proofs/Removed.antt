@@ -14,7 +14,8 @@ use Rattle.rstar.specs.Nodes.{children_of, IsElement}
 use Rattle.rstar.specs.Kept.{IsKept, IsKeptInner, AreKept}
 use Rattle.rstar.specs.Trees.{root_of, elements_in, IsWholeTree}
 use Rattle.rstar.specs.Heights.{levels_below}
-use Rattle.rstar.specs.Removals.{NoneSelected, IsWithout}
+use Rattle.rstar.specs.Lists.{NoneSelected}
+use Rattle.rstar.specs.Removals.{IsWithout}
 use Rattle.rstar.specs.Visits.{IsOneOf}
 use Rattle.rstar.specs.Taking.{IsPast, IsRestAt, Takes, Removes}
 use Rattle.rstar.proofs.Heights.{levels_are}

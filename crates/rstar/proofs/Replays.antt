@@ -14,9 +14,8 @@ use Rattle.rstar.specs.declared.replay.Reply.{Reply}
 use Rattle.rstar.specs.declared.replay.Reply.TheVariants as reply
 use Rattle.rstar.specs.declared.rtree.RTree.{RTree}
 use Rattle.rstar.specs.Joins.{join}
-use Rattle.rstar.specs.Meets.{product}
-use Rattle.rstar.specs.Neighbors.{IsNearest}
-use Rattle.rstar.specs.Removals.{NoneSelected, IsTakenOut}
+use Rattle.rstar.specs.Lists.{product, IsNearest, NoneSelected}
+use Rattle.rstar.specs.Removals.{IsTakenOut}
 use Rattle.rstar.specs.Steps.{Questions, TakesOne, TakesNearest, TakesSome, Step, Run, IsInsertion}
 use Rattle.rstar.specs.Trees.{IsUnchanged}
 use Rattle.rstar.proofs.Removed.{bag_without}

@@ -16,7 +16,8 @@ use Rattle.rstar.specs.declared.node.RTreeNode.TheOpen as layer
 use Rattle.rstar.specs.declared.node.ParentNode.{ParentNode}
 use Rattle.rstar.specs.Nodes.{Layer, node_box, elements, all_elements, elements_of, children_of, IsElement, IsTree, IsTight, AreWhole}
 use Rattle.rstar.specs.Kept.{IsKept, IsKeptInner, AreKept}
-use Rattle.rstar.specs.Removals.{NoneSelected, IsWithout}
+use Rattle.rstar.specs.Lists.{NoneSelected}
+use Rattle.rstar.specs.Removals.{IsWithout}
 use Rattle.rstar.specs.Taking.{IsPast, IsMerged, IsRest, IsRestAt, Takes, TakesInside, first_children, node_children, children_in, with_first, first_number, lower_numbers, is_selected_leaf, selects_in, is_childless, childless_in, is_nil}
 use Rattle.rstar.proofs.Places.{all_set, all_get}
 use Rattle.rstar.proofs.Rows.{elements-Leaf, elements-Parent, is_leaf, parent_of, no_leaf, no_parent, IsParentOf-Parent}

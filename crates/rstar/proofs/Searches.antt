@@ -6,7 +6,7 @@ use Rattle.std.specs.Ordering.{is_lt, int_cmp}
 use Rattle.std.specs.declared.cmp.Ordering.{Ordering}
 use Rattle.std.proofs.lemmas.List.Sorted.{IsPermutation-trans, IsPermutation-to_front, IsPermutation-sym, IsPermutation-cons, IsPermutation-map, IsPermutation-append_comm, sum_by-IsPermutation, sum_by_popped, Contains-permutation}
 use Rattle.std.proofs.lemmas.List.Elements.{All-from_recursion, All-contains}
-use Rattle.std.proofs.lemmas.List.Sums.{sum_by-append}
+use Rattle.std.proofs.lemmas.List.Sums.{sum_by-append, sum_by-cons}
 use Rattle.std.proofs.lemmas.List.Concat.{flat_map-append}
 use Rattle.std.proofs.lemmas.Bool.{ltb-true}
 use Rattle.std.proofs.lemmas.Cmp.{int_ranked, by_ranked}
@@ -15,9 +15,9 @@ use Rattle.rstar_base.specs.Envelopes.{Boxes}
 use Rattle.rstar_base.specs.Elements.{Objects, Distances}
 use Rattle.rstar_base.proofs.Along.{IsPermutation-flat_map}
 use Rattle.rstar_base.proofs.Lists.{all-append, all_along}
-use Rattle.rstar.specs.declared.node.RTreeNode.{RTreeNode, Leaf, Parent}
+use Rattle.rstar.specs.declared.node.RTreeNode.{RTreeNode, Leaf, Parent, Parent', Row_of-RTreeNode, end_of-RTreeNode, more_of-RTreeNode}
 use Rattle.rstar.specs.declared.node.ParentNode.{ParentNode}
-use Rattle.rstar.specs.Nodes.{fold_tree, elements, parents, far, all_elements, all_parents, all_far, far_of, IsTight, AreWhole, children_of, envelope_of}
+use Rattle.rstar.specs.Nodes.{fold_tree, fold_row, total, elements, parents, far, all_elements, all_parents, all_far, far_of, IsTight, AreWhole, children_of, envelope_of}
 use Rattle.rstar_base.specs.Counts.{usize_max}
 use Rattle.rstar.specs.Searches.{Item, waiting_nodes, distance_of, AreParts, IsCounted, IsFarKept}
 use Rattle.rstar.proofs.Nearness.{IsMeasured, IsPart, lower, above-node, above-Parent, parts}
@@ -63,6 +63,33 @@ least-nodes v d p value compare order w (u ∷ us) e h k = (
       (sym (ap is_lt (order u.distance w.distance ∙ ap (λ z. int_cmp z (value w.distance)) h.0 ∙ ap (int_cmp (pos (distance_of v d p u.node.now))) e)) ∙ k.0),
   least-nodes v d p value compare order w us e h.1 k.1,
 )
+
+one-more : (b : Bool) (x y : ℕ) → x ≤ y → (if b then 1 else 0) + x ≤ 1 + y
+one-more true x y le = omega (arith, le)
+one-more false x y le = omega (arith, le)
+
+-- of the parents, those that are farther than some distance are no more than all
+module _ {T E P S X : Type 0} (dist : E → ℕ) (m : ℕ) where
+  mutual
+    unfolding far parents fold_tree
+
+    far-fewer : (n : RTreeNode T E P S X) → far dist m n ≤ parents n
+    far-fewer (Leaf t) = omega arith
+    far-fewer (Parent' shape children envelope) = one-more (nat_lt m (dist envelope)) _ _ (far-row children)
+
+    far-row : {k : _} (row : Row_of-RTreeNode T E P S X k)
+        → total (fold_row (λ t. 0) (λ e below. (if nat_lt m (dist e) then 1 else 0) + total below) row) ≤ total (fold_row (λ t. 0) (λ e below. 1 + total below) row)
+    far-row end_of-RTreeNode = omega arith
+    far-row (more_of-RTreeNode node rest) = let one = far-fewer node in let others = far-row rest in omega (arith, one, others)
+
+  pub all-far-fewer : (ns : List (RTreeNode T E P S X)) → all_far dist m ns ≤ all_parents ns
+  all-far-fewer [] = omega arith
+  all-far-fewer (n ∷ ns) =
+      let one = far-fewer n in
+      let rest = all-far-fewer ns in
+      let a = sum_by-cons (far dist m) n ns in
+      let b = sum_by-cons parents n ns in
+      omega (arith, one, rest, a, b)
 
 -- the root alone
 pub fresh-counted : {T E P S X : Type 0} (root : ParentNode T E P S X) → IsCounted root (Parent root ∷ []) 0

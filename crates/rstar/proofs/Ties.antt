@@ -11,13 +11,12 @@ use Rattle.rstar_base.proofs.Lists.{all-append, all_along, all_map}
 use Rattle.rstar.specs.declared.node.RTreeNode.{Parent}
 use Rattle.rstar.specs.declared.node.ParentNode.{ParentNode}
 use Rattle.rstar.specs.declared.algorithm.nearest_neighbor.search.Stage.TheVariants.{Fresh}
-use Rattle.rstar.specs.declared.algorithm.nearest_neighbor.search.NeighborSearch.{NeighborSearch}
-use Rattle.rstar.specs.Neighbors.{AreNearest}
+use Rattle.rstar.specs.Lists.{AreSomeNearest}
 use Rattle.rstar.specs.Nodes.{elements, all_elements, elements_of}
 use Rattle.std.specs.declared.cmp.Ordering.{Ordering}
 use Rattle.rstar_base.specs.Envelopes.{Boxes}
 use Rattle.rstar_base.specs.Elements.{Objects, Distances}
-use Rattle.rstar.specs.Searches.{waiting_at, waiting_of, held_by, IsReady}
+use Rattle.rstar.specs.Searches.{NodeSearch, waiting_at, waiting_of, held_by, IsReady}
 use Rattle.rstar.specs.Ties.{IsTied}
 use Rattle.rstar.proofs.Rows.{elements-Parent}
 
@@ -60,21 +59,25 @@ module _ {T : Type 0} (distance : T → ℕ) (d : ℕ) where
 
   module _ (all taken left : List T) (tied : IsTied distance all d taken left) where
     -- all that is left is farther
-    pub tied-done : AllByRecursion (λ t. d < distance t) left → AreNearest distance all d taken
+    pub tied-done : AllByRecursion (λ t. d < distance t) left → AreSomeNearest distance all d taken
     tied-done far =
         let whole = filter-append (λ t. distance t == d) taken left ∙ ap (λ l. l ++ filter (λ t. distance t == d) left) (filter-all taken tied.at) ∙ ap (λ l. taken ++ l) (filter-none left far) ∙ append-nil taken in
         record {
-          least = all_along _ (taken ++ left) all (IsPermutation-sym _ _ tied.bag) (all-append _ taken left (reaches taken tied.at) tied.least);
-          bag = subst (IsPermutation (filter (λ t. distance t == d) all)) whole (filter-along (λ t. distance t == d) all (taken ++ left) tied.bag);
-          some = λ e. absurd (tied.some e);
+          nearest = record {
+            least = all_along _ (taken ++ left) all (IsPermutation-sym _ _ tied.bag) (all-append _ taken left (reaches taken tied.at) tied.least);
+            bag = subst (IsPermutation (filter (λ t. distance t == d) all)) whole (filter-along (λ t. distance t == d) all (taken ++ left) tied.bag);
+            at = tied.at;
+            some = λ e. absurd (tied.some e);
+          };
+          some = tied.some;
         }
 
-    pub tied-none : left ≡ [] → AreNearest distance all d taken
+    pub tied-none : left ≡ [] → AreSomeNearest distance all d taken
     tied-none e = tied-done (subst (AllByRecursion (λ t. d < distance t)) (sym e) tt)
 
     module _ (t : T) (after : List T) (bag : IsPermutation left (t ∷ after)) (least : AllByRecursion (λ u. distance t ≤ distance u) after) where
       -- the nearest that is left is farther
-      pub tied-over : d < distance t → AreNearest distance all d taken
+      pub tied-over : d < distance t → AreSomeNearest distance all d taken
       tied-over less = tied-done (all_along _ (t ∷ after) left (IsPermutation-sym _ _ bag) (less, farther (distance t) after less least))
 
       -- it is taken too
@@ -105,12 +108,12 @@ pub far-by : (x y : ℤ) (m d : ℕ) (b : Bool) → x ≡ pos m → y ≡ pos d 
 far-by x y m d b h k e t = let le : int_le (pos m) (pos d) ≡ false = sym (ap (λ z. int_le z y) h ∙ ap (int_le (pos m)) k) ∙ sym e ∙ t in grind (arith, ints)
 
 -- a search that was made holds all elements
-pub fresh-elements : {T E P S X : Type 0} (s : NeighborSearch T E P S X) (root : ParentNode T E P S X) → s.stage ≡ Fresh → s.root.now ≡ root → all_elements (waiting_of s) ≡ elements_of root
+pub fresh-elements : {T E P S X : Type 0} (s : NodeSearch T E P S X) (root : ParentNode T E P S X) → s.stage ≡ Fresh → s.root.now ≡ root → all_elements (waiting_of s) ≡ elements_of root
 fresh-elements {T} {E} {P} {S} {X} s root fresh is =
     ap (λ stage. all_elements (waiting_at stage s.root.now (held_by s))) fresh
     ∙ append-nil (elements (Parent s.root.now)) ∙ elements-Parent s.root.now ∙ ap (λ (r : ParentNode T E P S X). elements_of r) is
 
 -- a search that is ready for any point is so for this one
-pub ready_at : {T E P S X : Type 0} (v : Boxes E) (d : Distances T) (p : List ℤ) (compare : S → S → Ordering) (value : S → ℤ) (o : Objects T E) (s : NeighborSearch T E P S X)
+pub ready_at : {T E P S X : Type 0} (v : Boxes E) (d : Distances T) (p : List ℤ) (compare : S → S → Ordering) (value : S → ℤ) (o : Objects T E) (s : NodeSearch T E P S X)
     → ((q : List ℤ) → IsReady v d q compare value o s) → IsReady v d p compare value o s
 ready_at v d p compare value o s ready = ready p

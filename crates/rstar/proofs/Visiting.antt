@@ -1,12 +1,12 @@
 -- Walks by recursion, one part of a list after another.
-use Rattle.std.proofs.Common.{◌≡◌, ◌<◌, ◌∙◌, List, [], ◌∷◌, ◌++◌, inl, inr, ap, subst, sym, refl, Bool, if◌then◌else◌, map, arith, Option, Some, None}
+use Rattle.std.proofs.Common.{◌≡◌, ◌<◌, ◌∙◌, List, [], ◌∷◌, ◌++◌, ◌⊎◌, inl, inr, ap, subst, sym, refl, Bool, true, false, if◌then◌else◌, map, arith, Option, Some, None}
 use Rattle.std.specs.Borrow.{Bor}
 use Rattle.std.specs.List.{Contains}
 use Rattle.std.specs.declared.ops.ControlFlow.{ControlFlow}
 use Rattle.std.specs.declared.ops.ControlFlow.TheVariants.{Continue, Break}
 use Rattle.rstar.specs.declared.node.RTreeNode.{RTreeNode, Leaf, Parent}
 use Rattle.rstar.specs.declared.node.ParentNode.{ParentNode}
-use Rattle.rstar.specs.Nodes.{total, given, all_given, children_of}
+use Rattle.rstar.specs.Nodes.{total, given, all_given, given_of, children_of, envelope_of}
 use Rattle.rstar.specs.Visits.{IsFirst, IsOneOf, Visits, IsVisit, IsVisitWithin}
 use Rattle.rstar.specs.Walks.{steps}
 use Rattle.rstar.proofs.Rows.{given-Leaf, given-Parent, steps-Leaf, steps-Parent}
@@ -72,4 +72,24 @@ module _ {V A T B : Type 0} (now : A → T) (step : V → A → ControlFlow B (U
   -- a visit of all
   pub visit_all : {all : Type 0} {v : V} {xs ys : List T} {r : ControlFlow B (Unit {0})}
       → xs ≡ ys → all → IsVisitWithin now step all v xs r → IsVisit now step v ys r
-  visit_all {v = v} {r = r} same holds visit = subst (λ l. IsVisit now step v l r) (visit.complete holds ∙ same) visit.visit
+  visit_all {v = v} {r = r} same holds visit =
+      record { last = visit.last; visits = subst (λ l. Visits now step v l r visit.last) (visit.within.complete holds ∙ same) visit.within.visits }
+
+  -- a visit of none
+  pub visits_none : (v : V) (xs : List T) → xs ≡ [] → Visits now step v xs (Continue tt) v
+  visits_none v xs none = subst (λ l. Visits now step v l (Continue tt) v) (sym none) (refl, refl)
+
+-- ---- from a root
+
+module _ {T E P S X : Type 0} (accepts : E → Bool) (selects : T → Bool) (root : ParentNode T E P S X) where
+  -- a root without children, or one that is refused
+  pub gives_none : (children_of root ≡ []) ⊎ (accepts (envelope_of root) ≡ false) → given_of accepts selects root ≡ []
+  gives_none (inl none) = ap (λ ns. if accepts (envelope_of root) then all_given accepts selects ns else []) none ∙ either (accepts (envelope_of root))
+    where
+      either : (b : Bool) → ◌≡◌ {A = List T} (if b then [] else []) []
+      either true = refl
+      either false = refl
+  gives_none (inr refused) = ap (λ (b : Bool). if b then all_given accepts selects (children_of root) else []) refused
+
+  pub gives_below : accepts (envelope_of root) ≡ true → given_of accepts selects root ≡ all_given accepts selects (children_of root)
+  gives_below accepted = ap (λ (b : Bool). if b then all_given accepts selects (children_of root) else []) accepted

@@ -250,7 +250,8 @@ module _ {V T E B P S X : Type 0} (o : Objects T E) (accepts : E → Bool) (sele
 -- a visit of all that is selected
 pub written_all : {V T B : Type 0} (step : Step V T B) {all : Type 0} {first : V} {asked selects : T → Bool} {ts : List T} {r : ControlFlow B (Unit {0})} {us : List T}
     → asked ≡ selects → all → IsWrittenWithin step all first asked ts r us → IsWritten step first (marked_by selects ts) r us
-written_all step {first = first} {ts = ts} {r = r} {us = us} same holds visit = subst (λ ms. IsWritten step first ms r us) (visit.complete holds ∙ ap (λ s. marked_by s ts) same) visit.written
+written_all step {first = first} {ts = ts} {r = r} {us = us} same holds visit =
+    record { last = visit.last; writes = subst (λ ms. Writes step first ms r visit.last us) (visit.within.complete holds ∙ ap (λ s. marked_by s ts) same) visit.within.writes }
 
 -- where each call goes on and leaves f of what it was lent, f was applied to what is selected, in its place
 pub written_as : {V T B : Type 0} (step : Step V T B) (first : V) (selects : T → Bool) (ts : List T) (r : ControlFlow B (Unit {0})) (us : List T)

@@ -14,4 +14,4 @@ heap_row S = heap.the_row (waiting.the_row usize (copied 0 S))
 
 -- a search without its point
 abbrev pub search_row : RattleType → RattleType
-search_row S = search.the_row static_lft (copied 0 S) (copied 0 S) (copied 0 S) (copied 0 S) (copied 0 S)
+search_row S = search.the_row static_lft usize usize (copied 0 S)

@@ -9,7 +9,8 @@ use Rattle.rstar.specs.declared.iterators.joins.Frame.{Frame as Kept}
 use Rattle.rstar.specs.declared.iterators.joins.PairStep.{PairStep}
 use Rattle.rstar.specs.declared.iterators.joins.PairStep.TheVariants.{Found, Passed, Ended}
 use Rattle.rstar.specs.Nodes.{fold_tree, node_box, total}
-use Rattle.rstar.specs.Meets.{product, opened_to, meet_of_roots, pairs_at, opens_at}
+use Rattle.rstar.specs.Lists.{product}
+use Rattle.rstar.specs.Meets.{opened_to, meet_of_roots, pairs_at, opens_at}
 use Rattle.rstar_base.specs.Counts.{usize_max}
 use Rattle.rstar.specs.Walks.{IsLevel}
 

@@ -7,7 +7,8 @@ use Rattle.std.specs.Iterator.{YieldsFirstBy}
 use Rattle.rstar_base.specs.Envelopes.{Boxes}
 use Rattle.rstar.specs.declared.node.ParentNode.{ParentNode}
 use Rattle.rstar.specs.declared.iterators.joins.IntersectionIterator.{IntersectionIterator}
-use Rattle.rstar.specs.Meets.{product, meet_of_roots}
+use Rattle.rstar.specs.Lists.{product}
+use Rattle.rstar.specs.Meets.{meet_of_roots}
 use Rattle.rstar.specs.JoinWalks.{pairs_by, HasItsPaths}
 use Rattle.rstar_base.specs.Counts.{usize_max}
 

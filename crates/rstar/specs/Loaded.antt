@@ -1,6 +1,6 @@
 -- What a loaded tree looks like, and how deep it goes, after Lee and Lee (2003).
 -- T is the element's type, E its envelope's, P its point's, S its scalar's, X what a scalar's text is refused with.
-use Rattle.std.specs.Prelude.{◌≡◌, ℕ, ℤ, zero, suc, ◌<◌, ◌≤◌, ◌+◌, ◌-◌, ◌*◌, ◌^◌, false, List, length, min, max, All, AllPairs, ⊤}
+use Rattle.std.specs.Prelude.{◌≡◌, ℕ, ℤ, zero, suc, ◌<◌, ◌≤◌, ◌+◌, ◌-◌, ◌*◌, ◌^◌, length, min, max, All, AllPairs, ⊤}
 use Rattle.std.specs.Int.{div_ceil}
 use Rattle.std.specs.List.{AllByRecursion, Contains}
 use Rattle.rstar_base.specs.Clusters.{IsClusterNumber}
@@ -11,10 +11,6 @@ use Rattle.rstar.specs.declared.node.ParentNode.{ParentNode}
 use Rattle.rstar.specs.declared.node.RTreeNode.{RTreeNode}
 use Rattle.rstar.specs.Nodes.{elements, elements_of, children_of, IsLeafOf, IsParentOf}
 use Rattle.rstar.specs.Shapes.{IsAny}
-
--- no element has an empty envelope
-abbrev pub NoneEmpty : {T E : Type 0} → Boxes E → Objects T E → List T → Type 0
-NoneEmpty v o ts = All (λ t. v.is_empty (o.box_of t) ≡ false) ts
 
 -- ---- how deep a load goes
 

@@ -1,18 +1,14 @@
 -- Pairs of nodes of two trees: what a join of the two gives, and what it counts.
 -- T, E, P, S, X are the types of the left tree as in Nodes, and U, F, Q, R, Y those of the right one. `meets` says
 -- whether an envelope of the left tree intersects one of the right tree.
-use Rattle.std.specs.Prelude.{ℕ, ◌+◌, Bool, false, List, [], ◌∷◌, ◌++◌, map, flat_map, sum_by, if◌then◌else◌}
+use Rattle.std.specs.Prelude.{ℕ, ◌+◌, Bool, false, List, [], ◌∷◌, map, flat_map, sum_by, if◌then◌else◌}
 use Rattle.rstar.specs.declared.node.RTreeNode.{RTreeNode}
 use Rattle.rstar.specs.declared.node.RTreeNode.TheOpen as layer
 use Rattle.rstar.specs.declared.node.ParentNode.{ParentNode}
+use Rattle.rstar.specs.Lists.{product}
 use Rattle.rstar.specs.Nodes.{Layer, layer_of, fold_tree, total, reach, given, node_box}
 use Rattle.rstar.specs.Nodes.{is_leaf_node, children_of, envelope_of}
 use Rattle.rstar.specs.Shown.{Shown, leaf, parent, end, more, nodes_in, fold_shown, shown, shown_root}
-
--- each item of the first list with each of the second
-abbrev pub product : {A B : Type 0} → List A → List B → List (A × B)
-product [] ys = []
-product (x ∷ xs) ys = map (λ y. (x, y)) ys ++ product xs ys
 
 -- ---- Meet, over what the nodes of two trees show
 

@@ -1,77 +1,64 @@
--- What neighbours are, what an iterator over them gives, and what it costs. All distances are squared.
+-- What a search for neighbours shows, what an iterator over it gives, and what it costs. All distances are squared.
 -- T is the element's type, E its envelope's, P its point's, S its scalar's, X what a scalar's text is refused with.
-use Rattle.std.specs.Prelude.{◌≡◌, ℕ, ◌-◌, ◌<◌, ◌≤◌, ◌==◌, min, ℤ, List, [], ◌∷◌, ◌++◌, length, ⊤, filter, Option, Result, IfSome, IfNone, IfOk, IfErr}
+use Rattle.std.specs.Prelude.{◌≡◌, ℕ, ◌+◌, ◌-◌, ◌<◌, ◌≤◌, min, ℤ, pos, List, [], ◌∷◌, Option, Result, IfSome, IfNone, IfOk, IfErr}
+use Rattle.std.specs.Borrow.{Bor}
 use Rattle.std.specs.Iterator.{Count}
-use Rattle.std.specs.List.{AllByRecursion, Contains}
+use Rattle.std.specs.List.{AllByRecursion}
 use Rattle.std.specs.List.Sorted.{IsPermutation}
+use Rattle.std.specs.declared.alloc.AllocError.{AllocError}
 use Rattle.std.specs.declared.cmp.Ordering.{Ordering}
 use Rattle.rstar_base.specs.Envelopes.{Boxes}
 use Rattle.rstar_base.specs.Elements.{Objects, Distances}
 use Rattle.rstar_base.specs.Points.{table}
 use Rattle.rstar.specs.declared.node.RTreeNode.{RTreeNode, Parent}
 use Rattle.rstar.specs.declared.node.ParentNode.{ParentNode}
-use Rattle.rstar.specs.declared.algorithm.nearest_neighbor.NearestNeighborDistance2Iterator.{NearestNeighborDistance2Iterator}
-use Rattle.rstar.specs.declared.algorithm.nearest_neighbor.NearestNeighborIterator.{NearestNeighborIterator}
+use Rattle.rstar.specs.declared.algorithm.nearest_neighbor.search.Stage.{Stage}
+use Rattle.rstar.specs.declared.algorithm.nearest_neighbor.NeighborsWithDistance.{NeighborsWithDistance}
+use Rattle.rstar.specs.declared.algorithm.nearest_neighbor.Neighbors.{Neighbors}
 use Rattle.rstar.specs.Nodes.{all_elements, all_parents, all_far, parents_of, far_of}
 use Rattle.rstar_base.specs.Counts.{usize_max}
 use Rattle.rstar.specs.Searches.{IsUnrefused, waiting_of, calls_left, IsReady}
 
--- ---- the nearest of a list
+-- the two iterators over the nodes of a tree
+abbrev pub NearestNeighborDistance2Iterator : (T E P S X : Type 0) → Type 0
+NearestNeighborDistance2Iterator T E P S X = NeighborsWithDistance (ParentNode T E P S X) (RTreeNode T E P S X) S P
 
--- an element than which none is nearer
-pub record IsNearest {T : Type 0} (distance : T → ℕ) (all : List T) (t : T) : Type 0 where
-  pub member : Contains all t
-  pub least : AllByRecursion (λ u. distance t ≤ distance u) all
+abbrev pub NearestNeighborIterator : (T E P S X : Type 0) → Type 0
+NearestNeighborIterator T E P S X = Neighbors (ParentNode T E P S X) (RTreeNode T E P S X) S P
 
--- all elements at a distance than which none is nearer; there is one where there is any element
-pub record AreNearest {T : Type 0} (distance : T → ℕ) (all : List T) (d : ℕ) (ts : List T) : Type 0 where
-  pub least : AllByRecursion (λ u. d ≤ distance u) all
-  pub bag : IsPermutation (filter (λ u. distance u == d) all) ts
-  pub some : ts ≡ [] → all ≡ []
+-- ---- what a search shows
 
--- elements whose distances never fall
-abbrev pub AreInOrder : {T : Type 0} → (T → ℕ) → List T → Type 0
-AreInOrder distance [] = ⊤
-AreInOrder distance (t ∷ ts) = AllByRecursion (λ u. distance t ≤ distance u) ts × AreInOrder distance ts
-
--- the first of all elements, in the order of their distances; none of those that are left is nearer
-pub record AreNearestFirst {T : Type 0} (distance : T → ℕ) (all first left : List T) : Type 0 where
-  pub bag : IsPermutation all (first ++ left)
-  pub order : AreInOrder distance first
-  pub least : AllByRecursion (λ t. AllByRecursion (λ u. distance t ≤ distance u) left) first
-
--- the nearest of all elements, in the order of their distances: so many, or all
-pub record AreNearestOf {T : Type 0} (distance : T → ℕ) (all : List T) (most : ℕ) (nearest : List T) : Type 0 where
-  pub left : List T
-  pub first : AreNearestFirst distance all nearest left
-  pub few : length nearest ≤ most
-  pub enough : length nearest < most → left ≡ []
-
--- ---- what an iterator shows
+-- its root and its point; the nodes that wait: the root until it is opened, then what it has come upon and neither
+-- opened nor given; how many parents it has opened, and how far it has come
+pub record Search (T E P S X : Type 0) : Type 0 where
+  pub root : ParentNode T E P S X
+  pub point : P
+  pub waiting : List (RTreeNode T E P S X)
+  pub opened : ℕ
+  pub stage : Stage
 
 module _ {T E P S X : Type 0} where
-  -- its root and its point
-  abbrev pub root_searched : NearestNeighborDistance2Iterator T E P S X → ParentNode T E P S X
-  root_searched it = it.search.root.now
-
-  abbrev pub point_searched : NearestNeighborDistance2Iterator T E P S X → P
-  point_searched it = it.point
-
-  -- how many parents it has opened
-  abbrev pub parents_opened : NearestNeighborDistance2Iterator T E P S X → ℕ
-  parents_opened it = it.search.opened
-
-  -- the nodes that wait: the root until it is opened, then what it has come upon and neither opened nor given
-  abbrev pub nodes_waiting : NearestNeighborDistance2Iterator T E P S X → List (RTreeNode T E P S X)
-  nodes_waiting it = waiting_of it.search
-
   -- the elements that it has not given
-  abbrev pub elements_waiting : NearestNeighborDistance2Iterator T E P S X → List T
-  elements_waiting it = all_elements (nodes_waiting it)
+  abbrev pub elements_waiting : Search T E P S X → List T
+  elements_waiting s = all_elements s.waiting
 
   -- no memory was refused to it yet
-  abbrev pub IsGoingOn : NearestNeighborDistance2Iterator T E P S X → Type 0
-  IsGoingOn it = IsUnrefused it.search.stage
+  abbrev pub IsGoingOn : Search T E P S X → Type 0
+  IsGoingOn s = IsUnrefused s.stage
+
+  -- what an iterator shows
+  abbrev pub search_of : NearestNeighborDistance2Iterator T E P S X → Search T E P S X
+  search_of it = record {
+    root = it.search.root.now;
+    point = it.point;
+    waiting = waiting_of it.search;
+    opened = it.search.opened;
+    stage = it.search.stage;
+  }
+
+  -- the iterator with distances inside one that gives the elements alone
+  abbrev pub with_distances : NearestNeighborIterator T E P S X → NearestNeighborDistance2Iterator T E P S X
+  with_distances it = it.with_distances
 
   -- how many calls of `next` may give something
   abbrev pub neighbors_left : NearestNeighborDistance2Iterator T E P S X → Count
@@ -82,18 +69,13 @@ module _ {T E P S X : Type 0} where
       → NearestNeighborDistance2Iterator T E P S X → Type 0
   IsSearching v o d axes coord compare value it = IsReady v d (table axes (coord it.point)) compare value o it.search
 
-  -- the iterator with distances inside one that gives the elements alone
-  abbrev pub with_distances : NearestNeighborIterator T E P S X → NearestNeighborDistance2Iterator T E P S X
-  with_distances it = it.with_distances
-
--- an iterator as it is made: over this root and this point, with the root waiting, and nothing opened
-pub record IsFresh {T E P S X : Type 0} (over : ParentNode T E P S X) (at : P)
-    (it : NearestNeighborDistance2Iterator T E P S X) : Type 0 where
-  pub root : root_searched it ≡ over
-  pub point : point_searched it ≡ at
-  pub waiting : nodes_waiting it ≡ Parent over ∷ []
-  pub opened : parents_opened it ≡ 0
-  pub going_on : IsGoingOn it
+-- a search that has begun: over this root and this point, with the root waiting, and nothing opened
+pub record HasBegun {T E P S X : Type 0} (over : ParentNode T E P S X) (at : P) (s : Search T E P S X) : Type 0 where
+  pub root : s.root ≡ over
+  pub point : s.point ≡ at
+  pub waiting : s.waiting ≡ Parent over ∷ []
+  pub opened : s.opened ≡ 0
+  pub going_on : IsGoingOn s
 
 -- ---- what a call of `next` gives
 
@@ -105,22 +87,46 @@ module _ {T E P S X : Type 0} (v : Boxes E) (d : Distances T) (p : List ℤ) whe
     pub still_far : all_far (λ e. v.distance_2 e p) (d.distance_2 t p) after
         ≡ far_of (λ e. v.distance_2 e p) (d.distance_2 t p) root
 
+  -- the parents opened and those farther than t are no more than there are: none was opened twice, and none that is
+  -- farther than t
+  abbrev pub HasCost : Search T E P S X → T → Type 0
+  HasCost s t = s.opened + far_of (λ e. v.distance_2 e p) (d.distance_2 t p) s.root ≤ parents_of s.root
+
 -- until a refusal, a call gives the nearest element that waits, and `None` where none does; a refusal comes once, only
 -- where a parent waits that could be opened, and then `None` for good. The parents opened are those of the root that
 -- do not wait, nor lie below what waits.
 pub record GivesNeighbor {T E P S X A Z : Type 0} (v : Boxes E) (d : Distances T) (axes : ℕ) (coord : P → ℕ → ℤ)
-    (element : A → T) (old : NearestNeighborDistance2Iterator T E P S X) (r : Option (Result A Z))
-    (new : NearestNeighborDistance2Iterator T E P S X) : Type 0 where
-  pub root : root_searched new ≡ root_searched old
-  pub point : point_searched new ≡ point_searched old
-  pub gives : IfSome r (λ x. IfOk x (λ y. IsNeighbor v d (table axes (coord (point_searched old))) (root_searched old)
-      (nodes_waiting old) (nodes_waiting new) (element y)))
+    (element : A → T) (old : Search T E P S X) (r : Option (Result A Z)) (new : Search T E P S X) : Type 0 where
+  pub root : new.root ≡ old.root
+  pub point : new.point ≡ old.point
+  pub gives : IfSome r (λ x. IfOk x (λ y. IsNeighbor v d (table axes (coord old.point)) old.root
+      old.waiting new.waiting (element y)))
+  pub cost : IfSome r (λ x. IfOk x (λ y. HasCost v d (table axes (coord new.point)) new (element y)))
   pub none : IfNone r (IsGoingOn old → elements_waiting old ≡ [])
-  pub over : IfNone r (IsGoingOn old → nodes_waiting new ≡ [])
+  pub over : IfNone r (IsGoingOn old → new.waiting ≡ [])
   pub goes_on_at_end : IfNone r (IsGoingOn old → IsGoingOn new)
-  pub refused : IfSome r (λ x. IfErr x (λ _. 0 < all_parents (nodes_waiting old)))
+  pub refused : IfSome r (λ x. IfErr x (λ _. 0 < all_parents old.waiting))
   pub goes_on : IfSome r (λ x. IfOk x (λ _. IsGoingOn new))
   pub ends : IfSome r (λ x. IfErr x (λ _. IsGoingOn new → ⊥))
   pub once : IfSome r (λ _. IsGoingOn old)
-  pub opened : IsGoingOn new
-      → parents_opened new ≡ min (parents_of (root_searched old) - all_parents (nodes_waiting new)) usize_max
+  pub stays_ended : (IsGoingOn old → ⊥) → IsGoingOn new → ⊥
+  pub opened : IsGoingOn new → new.opened ≡ min (parents_of old.root - all_parents new.waiting) usize_max
+  pub fewer : IsGoingOn new → all_parents new.waiting ≤ parents_of old.root
+
+-- ---- a call of `next` of each iterator; `next` may be called again, also after `None`
+
+module _ {T E P S X : Type 0} (v : Boxes E) (o : Objects T E) (d : Distances T) (axes : ℕ) (coord : P → ℕ → ℤ)
+    (compare : S → S → Ordering) (value : S → ℤ) where
+  abbrev pub GivesElement : NearestNeighborIterator T E P S X → Option (Result (Bor T) AllocError)
+      → NearestNeighborIterator T E P S X → Type 0
+  GivesElement old r new =
+      GivesNeighbor v d axes coord (λ x. x.now) (search_of (with_distances old)) r (search_of (with_distances new))
+      × IsSearching v o d axes coord compare value (with_distances new)
+
+  -- with its distance
+  abbrev pub GivesWithDistance : NearestNeighborDistance2Iterator T E P S X
+      → Option (Result (Bor T × S) AllocError) → NearestNeighborDistance2Iterator T E P S X → Type 0
+  GivesWithDistance old r new =
+      GivesNeighbor v d axes coord (λ x. x.0.now) (search_of old) r (search_of new)
+      × IfSome r (λ y. IfOk y (λ x. value x.1 ≡ pos (d.distance_2 x.0.now (table axes (coord old.point)))))
+      × IsSearching v o d axes coord compare value new

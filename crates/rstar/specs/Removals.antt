@@ -1,10 +1,5 @@
 -- What a removal takes out.
-use Rattle.std.specs.Prelude.{◌≡◌, Bool, false, List, ◌∷◌, ◌++◌, Option, Some, None}
-use Rattle.std.specs.List.{AllByRecursion}
-
--- none of these is selected
-abbrev pub NoneSelected : {T : Type 0} → (T → Bool) → List T → Type 0
-NoneSelected selects ts = AllByRecursion (λ t. selects t ≡ false) ts
+use Rattle.std.specs.Prelude.{◌≡◌, List, ◌∷◌, ◌++◌, Option, Some, None}
 
 -- new is old without one x
 pub record IsTakenOut {T : Type 0} (old : List T) (x : T) (new : List T) : Type 0 where

@@ -52,21 +52,25 @@ waiting_at Running root ws = waiting_nodes ws
 waiting_at Ended root ws = waiting_nodes ws
 
 -- how many calls may give something: each element and a refusal
-abbrev pub calls_at : {T E P S X : Type 0} → Stage → ParentNode T E P S X → List (Item T E P S X) → Count
-calls_at Fresh root ws = at_most (length (all_elements (Parent root ∷ [])) + 1)
-calls_at Running root ws = at_most (length (all_elements (waiting_nodes ws)) + 1)
-calls_at Ended root ws = at_most 0
+abbrev pub calls_at : {T E P S X : Type 0} → Stage → ParentNode T E P S X → List (Item T E P S X) → ℕ
+calls_at Fresh root ws = length (all_elements (Parent root ∷ [])) + 1
+calls_at Running root ws = length (all_elements (waiting_nodes ws)) + 1
+calls_at Ended root ws = 0
+
+-- a search over the nodes of a tree
+abbrev pub NodeSearch : (T E P S X : Type 0) → Type 0
+NodeSearch T E P S X = NeighborSearch (ParentNode T E P S X) (RTreeNode T E P S X) S
 
 module _ {T E P S X : Type 0} where
   -- the items in the heap of a search
-  abbrev pub held_by : NeighborSearch T E P S X → List (Item T E P S X)
+  abbrev pub held_by : NodeSearch T E P S X → List (Item T E P S X)
   held_by s = items_of s.heap
 
-  abbrev pub waiting_of : NeighborSearch T E P S X → List (RTreeNode T E P S X)
+  abbrev pub waiting_of : NodeSearch T E P S X → List (RTreeNode T E P S X)
   waiting_of s = waiting_at s.stage s.root.now (held_by s)
 
-  abbrev pub calls_left : NeighborSearch T E P S X → Count
-  calls_left s = calls_at s.stage s.root.now (held_by s)
+  abbrev pub calls_left : NodeSearch T E P S X → Count
+  calls_left s = at_most (calls_at s.stage s.root.now (held_by s))
 
 -- ---- what a search keeps, at the point with the coordinates p; scalars compare by `compare` and mean `value`
 
@@ -101,5 +105,5 @@ module _ {T E P S X : Type 0} (v : Boxes E) (d : Distances T) (p : List ℤ) whe
     IsReadyAt o Running root heap opened = IsRunning o root heap opened
     IsReadyAt o Ended root heap opened = ⊤
 
-    abbrev pub IsReady : Objects T E → NeighborSearch T E P S X → Type 0
+    abbrev pub IsReady : Objects T E → NodeSearch T E P S X → Type 0
     IsReady o s = IsReadyAt o s.stage s.root.now s.heap s.opened

@@ -1,7 +1,7 @@
 -- What a command may be answered, and which elements it leaves, over lists alone: no node, path or bound of a tree. The
 -- lists are bags: every order of the elements is right.
 -- T is the element's type, E its envelope's, P its point's, S its scalar's, X what a scalar's text is refused with.
-use Rattle.std.specs.Prelude.{◌≡◌, ◌≤◌, ℕ, ℤ, Bool, true, false, pos, int_le, min, map, filter, length, take, List, [], ◌∷◌, ◌++◌, Option, Some, None, ⊤, All, AllPairs}
+use Rattle.std.specs.Prelude.{◌≡◌, ◌≤◌, ℕ, ℤ, Bool, true, false, pos, int_le, min, map, filter, length, take, List, [], ◌∷◌, ◌++◌, Option, Some, None, ⊤}
 use Rattle.std.specs.List.{AllByRecursion, list_any}
 use Rattle.std.specs.List.Sorted.{IsPermutation}
 use Rattle.rstar_base.specs.Envelopes.{Boxes}
@@ -13,9 +13,7 @@ use Rattle.rstar.specs.declared.replay.Command.{Command}
 use Rattle.rstar.specs.declared.replay.Command.TheVariants as command
 use Rattle.rstar.specs.declared.replay.Reply.{Reply}
 use Rattle.rstar.specs.declared.replay.Reply.TheVariants as reply
-use Rattle.rstar.specs.Meets.{product}
-use Rattle.rstar.specs.Neighbors.{IsNearest}
-use Rattle.rstar.specs.Removals.{NoneSelected}
+use Rattle.rstar.specs.Lists.{product, NoneSelected, NoneEmpty, IsNearest, AreInOrder}
 
 -- what a scan asks of elements, envelopes, points and scalars; distances are squared
 pub record Questions (T E P S : Type 0) : Type 0 where
@@ -71,7 +69,7 @@ pub record AreFirst {T S : Type 0} (distance : T → ℕ) (value : S → ℤ) (k
     : Type 0 where
   pub order : List T
   pub bag : IsPermutation ts order
-  pub rising : AllPairs (λ t u. distance t ≤ distance u) order
+  pub rising : AreInOrder distance order
   pub first : map (λ n. n.0) ns ≡ take k order
   pub distances : AllByRecursion (λ n. value n.1 ≡ pos (distance n.0)) ns
 
@@ -127,9 +125,9 @@ module _ {T E P S X : Type 0} (q : Questions T E P S) where
 
   -- what is asked of a command: no element that it brings has an empty envelope, and loads have two dimensions
   abbrev pub IsFit : ℕ → Command T E P S X → Type 0
-  IsFit dimensions (command.Load list) = (2 ≤ dimensions) × All (λ t. q.is_empty (q.box_of t) ≡ false) list.items
+  IsFit dimensions (command.Load list) = (2 ≤ dimensions) × NoneEmpty q.is_empty q.box_of list.items
   IsFit dimensions (command.Insert t) = q.is_empty (q.box_of t) ≡ false
-  IsFit dimensions (command.Join list) = (2 ≤ dimensions) × All (λ t. q.is_empty (q.box_of t) ≡ false) list.items
+  IsFit dimensions (command.Join list) = (2 ≤ dimensions) × NoneEmpty q.is_empty q.box_of list.items
   IsFit dimensions _ = ⊤
 
 -- whether a command is an insertion, which alone can be one too many

@@ -13,7 +13,8 @@ use Rattle.rstar.specs.declared.rtree.RTree.{RTree}
 use Rattle.rstar.specs.Nodes.{Layer, layer_of, node_box, elements, all_elements, children_of, IsElement, IsTree}
 use Rattle.rstar.specs.Kept.{IsKeptInner, AreKept}
 use Rattle.rstar.specs.Trees.{root_of, elements_in, IsWholeTree}
-use Rattle.rstar.specs.Removals.{NoneSelected, IsWithout}
+use Rattle.rstar.specs.Lists.{NoneSelected}
+use Rattle.rstar.specs.Removals.{IsWithout}
 
 -- ---- nodes, by one layer
 

@@ -43,13 +43,19 @@ pub record IsVisit {V A T B : Type 0} (now : A → T) (step : V → A → Contro
   pub last : V
   pub visits : Visits now step first xs r last
 
--- a visit of some of the items, and of all of them where a condition holds
-pub record IsVisitWithin {V A T B : Type 0} (now : A → T) (step : V → A → ControlFlow B (Unit {0}) → V → Type 0)
-    (all : Type 0) (first : V) (xs : List T) (r : ControlFlow B (Unit {0})) : Type 0 where
+-- a visit of some of the items, each place at most once, and of all of them where a condition holds
+pub record VisitsWithin {V A T B : Type 0} (now : A → T) (step : V → A → ControlFlow B (Unit {0}) → V → Type 0)
+    (all : Type 0) (first : V) (xs : List T) (r : ControlFlow B (Unit {0})) (last : V) : Type 0 where
   pub visited : List T
   pub part : IsPartOf visited xs
   pub complete : all → visited ≡ xs
-  pub visit : IsVisit now step first visited r
+  pub visits : Visits now step first visited r last
+
+-- the same, whatever state the last call left
+pub record IsVisitWithin {V A T B : Type 0} (now : A → T) (step : V → A → ControlFlow B (Unit {0}) → V → Type 0)
+    (all : Type 0) (first : V) (xs : List T) (r : ControlFlow B (Unit {0})) : Type 0 where
+  pub last : V
+  pub within : VisitsWithin now step all first xs r last
 
 -- ---- visits that write
 
@@ -89,14 +95,21 @@ pub record IsWritten {V T B : Type 0} (step : V → MutBor T → ControlFlow B (
   pub writes : Writes step first ms r last us
 
 -- a visit of some of the elements that pass the test, and of all of them where a condition holds
-pub record IsWrittenWithin {V T B : Type 0} (step : V → MutBor T → ControlFlow B (Unit {0}) → MutBor T → V → Type 0)
-    (all : Type 0) (first : V) (selects : T → Bool) (ts : List T) (r : ControlFlow B (Unit {0})) (us : List T)
+pub record WritesWithin {V T B : Type 0} (step : V → MutBor T → ControlFlow B (Unit {0}) → MutBor T → V → Type 0)
+    (all : Type 0) (first : V) (selects : T → Bool) (ts : List T) (r : ControlFlow B (Unit {0})) (us : List T) (last : V)
     : Type 0 where
   pub marks : List (Marked T)
   pub same : without_marks marks ≡ ts
   pub selected : AllByRecursion (λ m. m.1 ≡ true → selects m.0 ≡ true) marks
   pub complete : all → marks ≡ marked_by selects ts
-  pub written : IsWritten step first marks r us
+  pub writes : Writes step first marks r last us
+
+-- the same, whatever state the last call left
+pub record IsWrittenWithin {V T B : Type 0} (step : V → MutBor T → ControlFlow B (Unit {0}) → MutBor T → V → Type 0)
+    (all : Type 0) (first : V) (selects : T → Bool) (ts : List T) (r : ControlFlow B (Unit {0})) (us : List T)
+    : Type 0 where
+  pub last : V
+  pub within : WritesWithin step all first selects ts r us last
 
 -- each call leaves an element with the envelope that it had, and a value where it was one
 abbrev pub Keeps : {V T E B : Type 0} → Objects T E

@@ -10,10 +10,12 @@ ghost use Rattle.rstar.specs.Trees.{root_of, size_of, elements_in, IsUnchanged, 
 
 mod answers;
 mod changes;
+mod fits;
 
 use crate::rtree::RTree;
 use answers::{ask, contains, join, nearest, neighbours};
 use changes::{drain, insert, load, pop_nearest, remove, remove_at_point};
+pub use fits::{all_fit, is_fit};
 use rstar_base::envelope::Envelope;
 use rstar_base::object::{Distance, EqualEnvelopes, PointDistance, PointOf, RTreeObject};
 use rstar_base::params::RTreeParams;

@@ -11,7 +11,6 @@ ghost use Rattle.rstar.specs.Trees.{root_of, size_of, elements_in, IsUnchanged, 
 
 mod copies;
 mod drains;
-mod firsts;
 mod joins;
 mod loads;
 mod neighbours;

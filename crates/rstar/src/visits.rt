@@ -1,11 +1,12 @@
 //! Walks by recursion, which take no memory: look-ups, and visits of what is selected.
 
-ghost use Rattle.std.specs.Prelude.{ℕ};
+ghost use Rattle.std.specs.Prelude.{ℕ, filter};
 ghost use Rattle.std.specs.List.{AllZip};
+ghost use Rattle.rstar_base.specs.Selections.{IsLawful};
 ghost use Rattle.rstar.specs.Changes.{KeepsBox, IsChanged, IsChangedParent};
-ghost use Rattle.rstar.specs.Nodes.{all_given, given_of, children_of, elements, all_elements, elements_of, IsTree};
+ghost use Rattle.rstar.specs.Nodes.{all_given, given_of, children_of, elements, all_elements, elements_of, IsTree, IsWhole};
 ghost use Rattle.rstar.specs.Shapes.{AreTrees, IsAny};
-ghost use Rattle.rstar.specs.Visits.{IsFirst, Visits, Writes, Keeps, marked, all_marked, marked_of};
+ghost use Rattle.rstar.specs.Visits.{IsFirst, Visits, VisitsWithin, Writes, WritesWithin, Keeps, marked, all_marked};
 
 use crate::node::{ParentNode, RTreeNode};
 use rstar_base::algorithm::selection_functions::SelectionFunction;
@@ -145,7 +146,8 @@ fn visit_nodes<
 }
 
 /// Calls the visitor at the elements that a function selects below a root, in some order, each at most once, until a
-/// call breaks; its break is the answer. A function that is not lawful may miss some. It takes no memory.
+/// call breaks; its break is the answer. A function that is not lawful may miss some; a lawful one misses
+/// none below a root that is whole, as the root of a tree is. It takes no memory.
 pub fn select_nodes<
     'a,
     T: RTreeObject,
@@ -154,8 +156,9 @@ pub fn select_nodes<
     B: Drop,
 >(root: &'a ParentNode<T>, func: &F, visitor: &mut V) -> ControlFlow<B>
     requires { (state : V) (x : _) → V.pre state x }
-    ensures { Visits (λ t. t.now) V.step visitor.old (given_of (F.accepts func.now) (F.selects func.now) root.now)
-        result visitor.new }
+    ensures { VisitsWithin (λ t. t.now) V.step (IsWhole T.Envelope.boxes T.object root.now
+        × IsLawful T.Envelope.boxes T.object (F.accepts func.now) (F.selects func.now))
+        visitor.old (filter (F.selects func.now) (elements_of root.now)) result visitor.new }
 {
     if root.children.is_empty() || !func.should_unpack_parent(&root.envelope) {
         return ControlFlow::Continue(());
@@ -221,7 +224,8 @@ fn visit_nodes_mut<
 
 /// Calls the visitor at the elements that a function selects below a root, in some order, each at most once, until a
 /// call breaks; its break is the answer. The visitor may write the elements; it must keep their envelopes, and then
-/// nothing else of the nodes changes. A function that is not lawful may miss some. It takes no memory.
+/// nothing else of the nodes changes, and a whole root stays whole. A function that is not lawful may miss some; a
+/// lawful one misses none below a root that is whole. It takes no memory.
 pub fn select_nodes_mut<
     T: RTreeObject,
     F: SelectionFunction<T>,
@@ -230,8 +234,10 @@ pub fn select_nodes_mut<
 >(root: &mut ParentNode<T>, func: &F, visitor: &mut V) -> ControlFlow<B>
     requires callable { (state : V) (x : _) → V.pre state x }
     requires keeps { Keeps T.object V.step }
-    ensures written { Writes V.step visitor.old (marked_of (F.accepts func.now) (F.selects func.now) root.old)
-        result visitor.new (elements_of root.new) }
+    ensures written { WritesWithin V.step (IsWhole T.Envelope.boxes T.object root.old
+        × IsLawful T.Envelope.boxes T.object (F.accepts func.now) (F.selects func.now))
+        visitor.old (F.selects func.now) (elements_of root.old) result (elements_of root.new) visitor.new }
+    ensures whole { IsWhole T.Envelope.boxes T.object root.old → IsWhole T.Envelope.boxes T.object root.new }
 
     // Where the leaves lie so many levels below the children.
     ensures changed { (h : ℕ) → AreTrees IsAny IsAny h (children_of root.old)

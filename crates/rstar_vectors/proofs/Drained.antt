@@ -1,7 +1,8 @@
 -- What a loop over any iterator has taken, and how many pairs of nodes a join has opened when all is taken.
-use Rattle.std.proofs.Common.{◌≡◌, ◌∙◌, List, ◌++◌, ◌∷◌, [], min, Bool, Option, Some, None, refl, sym, ap, ap₂, subst}
+use Rattle.std.proofs.Common.{◌≡◌, ◌∙◌, List, ◌++◌, ◌∷◌, [], map, min, Bool, Option, Some, None, Result, Ok, refl, sym, ap, ap₂, subst}
 use Rattle.std.specs.Borrow.{Bor}
 use Rattle.std.specs.Iterator.{Yields, YieldsThen}
+use Rattle.std.proofs.lemmas.List.{map-append}
 use Rattle.rstar.specs.declared.iterators.joins.IntersectionIterator.{IntersectionIterator}
 use Rattle.rstar.specs.declared.node.ParentNode.{ParentNode}
 use Rattle.rstar.specs.Joins.{pairs_opened, meet_by, GivesPair}
@@ -18,6 +19,14 @@ module _ {S A : Type 0} (steps : S → Option A → S → Type 0) where
 
   pub one-more-yielded : (xs more : List A) (x : A) (s t u : S) → more ≡ xs ++ x ∷ [] → Yields steps s xs t → steps t (Some x) u → Yields steps s more u
   one-more-yielded xs more x s t u m y e = subst (λ (l : List A). Yields steps s l u) (sym m) (further xs x s t u y e)
+
+-- the same of an iterator over results, each of which was an `Ok`
+module _ {S A Z : Type 0} (steps : S → Option (Result A Z) → S → Type 0) where
+  pub none-taken : (none : List A) (s : S) → none ≡ [] → Yields steps s (map Ok none) s
+  none-taken none s e = none-yielded steps (map Ok none) s (ap (map Ok) e)
+
+  pub one-more-taken : (all more : List A) (x : A) (s t u : S) → more ≡ all ++ x ∷ [] → Yields steps s (map Ok all) t → steps t (Some (Ok x)) u → Yields steps s (map Ok more) u
+  one-more-taken all more x s t u m y e = one-more-yielded steps (map Ok all) (map Ok more) (Ok x) s t u (ap (map Ok) m ∙ map-append Ok all (x ∷ [])) y e
 
 module _ {T E P S X U F Q R Y : Type 0} (meets : E → F → Bool) (left_box : T → E) (right_box : U → F) where
   -- all that meet were opened then

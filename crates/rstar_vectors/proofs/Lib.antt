@@ -3,3 +3,4 @@ pub mod Drained
 pub mod FirstSeen
 pub mod Fits
 pub mod GivenSoFar
+pub mod LeftHalf

@@ -6,8 +6,8 @@ ghost use Rattle.rstar.specs.Trees.{IsWholeTree};
 
 use crate::node_sizes::Small;
 use crate::reinsertion::all_go_in;
-use crate::scenarios::{levels_of, load_of, loaded, none_empty, points, stands};
-use rstar::algorithm::bulk_load::bulk_load_sequential;
+use crate::scenarios::{levels_of, load_of, loaded, points, stands};
+use rstar::algorithm::bulk_load::{bulk_load_sequential, none_empty};
 use rstar::node::{ParentNode, RTreeNode};
 use rstar::object::PointOf;
 use rstar::params::{DefaultParams, RTreeParams};

@@ -5,13 +5,15 @@ ghost use Rattle.std.specs.Mem.{FitsInMemory};
 ghost use Rattle.rstar_base.specs.Elements.{carried_objects, carried_distances};
 ghost use Rattle.rstar_base.specs.Sizes.{IsNarrow};
 ghost use Rattle.rstar_base.specs.laws.CarrierLaws.{carried_laws};
-ghost use Rattle.rstar.specs.Neighbors.{IsSearching};
+ghost use Rattle.rstar.specs.Neighbors.{with_distances, IsSearching};
 ghost use Rattle.rstar.specs.Trees.{IsWholeTree};
 ghost use Rattle.rstar_vectors.specs.Fits.{iterator_row, alone_row};
 
-use crate::neighbours::{all_below, first_at, one_below};
+use crate::neighbours::{all_below, in_order, one_below};
 use crate::scenarios::{ALONG_A_LINE, inserted, loaded, points};
-use rstar::algorithm::nearest_neighbor::NearestNeighborDistance2Iterator;
+use rstar::algorithm::nearest_neighbor::{
+    NearestNeighborDistance2Iterator, NearestNeighborIterator,
+};
 use rstar::object::{Distance, PointDistance, PointOf, RTreeObject};
 use rstar::point::Point;
 use rstar::primitives::{GeomWithData, Line, Rectangle};
@@ -145,6 +147,39 @@ fn are_at<T: PointDistance>(
     }
 }
 
+/// The same of elements that were found with a count of parents.
+fn are_in_order<T: PointDistance>(
+    found: &Result<(Vec<&T>, usize), AllocError>,
+    place: &PointOf<T>,
+    distances: &[Distance<T>],
+) -> bool {
+    match found {
+        Ok((all, _opened)) => lie_at(all, place, distances),
+        Err(_) => false,
+    }
+}
+
+/// Whether elements that were found with their distances have these, in this order.
+fn are_first<T: PointDistance>(
+    found: &Result<Vec<(&T, Distance<T>)>, AllocError>,
+    distances: &[Distance<T>],
+) -> bool {
+    match found {
+        Ok(all) => {
+            if all.len() != distances.len() {
+                return false;
+            }
+            for k in 0..distances.len() {
+                if all[k].1 != distances[k] {
+                    return false;
+                }
+            }
+            true
+        }
+        Err(_) => false,
+    }
+}
+
 /// The same of all nearest neighbours with their distance, and of the least distances.
 fn are_least<T: PointDistance>(
     found: &Result<Option<(Vec<&T>, Distance<T>)>, AllocError>,
@@ -169,8 +204,8 @@ where
         && is_least(one_below(tree, place), &place, least)
 }
 
-/// Whether the iterator without distances gives all at some squared distances, and each call that looks for all nearest
-/// neighbours those at the least.
+/// Whether the iterator without distances gives all at some squared distances, a call that lends the first of them all,
+/// and those at the least, and each call that looks for all nearest neighbours those at the least.
 fn calls_find_all<T: PointDistance>(
     alloc: Global,
     tree: &RTree<T>,
@@ -183,7 +218,9 @@ where
     requires narrow { IsNarrow T.Envelope.Point.row }
     requires whole { IsWholeTree T.Envelope.boxes T.object ⟦<DefaultParams as RTreeParams>⟧.MAX_SIZE tree.now }
 {
-    are_at(&first_at(alloc, tree, place, usize::MAX), &place, distances)
+    are_in_order(&in_order(alloc, tree, place), &place, distances)
+        && are_first(&tree.first_neighbors(&place, usize::MAX), distances)
+        && are_first(&tree.first_neighbors(&place, least.len()), least)
         && are_at(&tree.nearest_neighbors(&place), &place, least)
         && are_least(
             &tree.nearest_neighbors_with_distance_2(&place),
@@ -551,6 +588,20 @@ impl<'a, T: PointDistance> PointDistance for Noting<'a, T> {
 /// How many neighbours are looked for, how many are given, and how often near elements and far ones are asked for them.
 type AskedRow = (usize, usize, u32, u32);
 
+/// How many neighbours come by at most so many calls.
+fn come<T: PointDistance>(neighbors: &mut NearestNeighborIterator<'_, T>, most: usize) -> usize
+    requires { IsSearching T.Envelope.boxes T.object T.distances T.Envelope.Point.DIMENSIONS
+        T.Envelope.Point.coord T.Envelope.Point.Scalar.cmp T.Envelope.Point.Scalar.value
+        (with_distances neighbors.old) }
+{
+    for turn in 0..most {
+        if !matches!(neighbors.next(), Some(Ok(_))) {
+            return turn;
+        }
+    }
+    most
+}
+
 /// Whether near elements and far ones, each with their cell, are asked so often for the first neighbours in a tree; they
 /// are asked as they are inserted, and counted from then on.
 fn asked_so<T: PointDistance + Copy>(
@@ -565,15 +616,13 @@ where
     PointOf<T>: Copy,
     requires narrow { IsNarrow T.Envelope.Point.row }
 {
+    fits::<PointOf<T>>();
     let tree = inserted::<T, DefaultParams>(alloc, elements);
     for &(most, given, first, other) in rows {
         near.set(0);
         far.set(0);
-        let is_given = match &first_at(alloc, &tree, place, most) {
-            Ok(found) => found.len() == given,
-            Err(_) => false,
-        };
-        if !is_given || near.get() != first || far.get() != other {
+        let mut neighbors = tree.nearest_neighbor_iter(place);
+        if come(&mut neighbors, most) != given || near.get() != first || far.get() != other {
             return false;
         }
     }

@@ -1,16 +1,17 @@
 //! Callers that loop over neighbours, at concrete types and at any.
 
-ghost use Rattle.std.specs.Prelude.{◌≡◌, ℕ, [], pos, min, map, IfOk, IfSome, IfNone, OnOk};
+ghost use Rattle.std.specs.Prelude.{◌≡◌, ℕ, [], pos, min, map, Ok, IfOk, IfSome, IfNone};
+ghost use Rattle.std.specs.Iterator.{IsFinite, Drains};
 ghost use Rattle.std.specs.List.Sorted.{IsPermutation};
 ghost use Rattle.rstar_base.specs.Points.{table};
 ghost use Rattle.rstar_base.specs.Sizes.{IsNarrow};
-ghost use Rattle.rstar.specs.Neighbors.{with_distances, root_searched, point_searched, parents_opened, elements_waiting, IsGoingOn, IsSearching, AreInOrder, AreNearestOf, IsNearest, AreNearest};
+ghost use Rattle.rstar.specs.Lists.{AreInOrder, AreNearestOf, IsNearest, AreSomeNearest};
 ghost use Rattle.rstar.specs.Nodes.{parents_of};
 ghost use Rattle.rstar.specs.Trees.{root_of, elements_in, IsWholeTree};
 
 use crate::neighbour_rows::fits;
 use rstar::algorithm::nearest_neighbor::{
-    NearestNeighborIterator, nearest_neighbor_with_distance_2, nearest_neighbors_with_distance_2,
+    nearest_neighbor_with_distance_2, nearest_neighbors_with_distance_2,
 };
 use rstar::params::{DefaultParams, RTreeParams};
 use rstar::rtree::RTree;
@@ -24,59 +25,8 @@ use std::alloc::{AllocError, Global};
 /// A place.
 type At = [i64; 2];
 
-/// All that an iterator has to give.
-fn all_of<'a, T: PointDistance>(
-    alloc: Global,
-    neighbors: &mut NearestNeighborIterator<'a, T>,
-) -> Result<Vec<&'a T>, AllocError>
-    requires searching { IsSearching T.Envelope.boxes T.object T.distances T.Envelope.Point.DIMENSIONS
-        T.Envelope.Point.coord T.Envelope.Point.Scalar.cmp T.Envelope.Point.Scalar.value
-        (with_distances neighbors.old) }
-    requires going_on { IsGoingOn (with_distances neighbors.old) }
-    ensures all { IfOk result (λ ts. IsPermutation (elements_waiting (with_distances neighbors.old))
-        (map (λ t. t.now) ts.items)) }
-    ensures order { IfOk result (λ ts. AreInOrder (λ t. T.distances.distance_2 t (table T.Envelope.Point.DIMENSIONS
-        (T.Envelope.Point.coord (point_searched (with_distances neighbors.old))))) (map (λ t. t.now) ts.items)) }
-    ensures opened { OnOk result (parents_opened (with_distances neighbors.new)
-        ≡ min (parents_of (root_searched (with_distances neighbors.old))) usize.MAX) }
-{
-    let mut all = Vec::new(alloc);
-    while let Some(found) = neighbors.next() {
-        let element = found?;
-        all.push(element)?;
-    }
-    Ok(all)
-}
-
-/// The first that an iterator has to give, so many or all.
-fn first_of<'a, T: PointDistance>(
-    alloc: Global,
-    neighbors: &mut NearestNeighborIterator<'a, T>,
-    most: usize,
-) -> Result<Vec<&'a T>, AllocError>
-    requires searching { IsSearching T.Envelope.boxes T.object T.distances T.Envelope.Point.DIMENSIONS
-        T.Envelope.Point.coord T.Envelope.Point.Scalar.cmp T.Envelope.Point.Scalar.value
-        (with_distances neighbors.old) }
-    requires going_on { IsGoingOn (with_distances neighbors.old) }
-    ensures { IfOk result (λ ts. AreNearestOf (λ t. T.distances.distance_2 t (table T.Envelope.Point.DIMENSIONS
-        (T.Envelope.Point.coord (point_searched (with_distances neighbors.old)))))
-        (elements_waiting (with_distances neighbors.old)) most (map (λ t. t.now) ts.items)) }
-{
-    let mut all = Vec::new(alloc);
-    for _ in 0..most {
-        match neighbors.next() {
-            Some(found) => {
-                let element = found?;
-                all.push(element)?;
-            }
-            None => return Ok(all),
-        }
-    }
-    Ok(all)
-}
-
 /// All elements of a tree, the nearest to a place first, and how many parents are opened for them.
-fn in_order<'a, T: PointDistance>(
+pub(crate) fn in_order<'a, T: PointDistance>(
     alloc: Global,
     tree: &'a RTree<T>,
     place: PointOf<T>,
@@ -90,7 +40,11 @@ fn in_order<'a, T: PointDistance>(
 {
     fits::<PointOf<T>>();
     let mut neighbors = tree.nearest_neighbor_iter(place);
-    let all = all_of(alloc, &mut neighbors)?;
+    let mut all = Vec::new(alloc);
+    while let Some(found) = neighbors.next() {
+        let item = found?;
+        all.push(item)?;
+    }
     Ok((all, neighbors.opened()))
 }
 
@@ -110,24 +64,24 @@ fn lines_in_order<'a>(
     in_order(alloc, tree, place)
 }
 
-/// The elements of a tree that are nearest to a place, the nearest first: so many, or all.
-pub(crate) fn first_at<'a, T: PointDistance>(
+/// All that an iterator over results gives, by a `for`, up to its end or its first refusal.
+fn listed<A: Drop, I: Iterator<Item = Result<A, AllocError>>>(
     alloc: Global,
-    tree: &'a RTree<T>,
-    place: PointOf<T>,
-    most: usize,
-) -> Result<Vec<&'a T>, AllocError>
-    requires narrow { IsNarrow T.Envelope.Point.row }
-    requires whole { IsWholeTree T.Envelope.boxes T.object ⟦<DefaultParams as RTreeParams>⟧.MAX_SIZE tree.now }
-    ensures { IfOk result (λ ts. AreNearestOf (λ t. T.distances.distance_2 t (table T.Envelope.Point.DIMENSIONS
-        (T.Envelope.Point.coord place))) (elements_in tree.now) most (map (λ t. t.now) ts.items)) }
+    items: I,
+) -> Result<Vec<A>, AllocError>
+    requires can { I.can_next items }
+    requires ends { IsFinite (I.remaining items) }
+    ensures { IfOk result (λ all. Drains I.next_gives items (map Ok all.items)) }
 {
-    fits::<PointOf<T>>();
-    let mut neighbors = tree.nearest_neighbor_iter(place);
-    first_of(alloc, &mut neighbors, most)
+    let mut all = Vec::new(alloc);
+    for item in items {
+        let found = item?;
+        all.push(found)?;
+    }
+    Ok(all)
 }
 
-/// The points nearest to a place, the nearest first: so many, or all.
+/// The points nearest to a place, the nearest first: so many, or all. `take` ends the loop after so many.
 fn nearest_points<'a>(
     alloc: Global,
     tree: &'a RTree<At>,
@@ -140,7 +94,22 @@ fn nearest_points<'a>(
         (λ t. ⟦<[i64; 2] as PointDistance>⟧.distances.distance_2 t (table 2 (⟦<[i64; 2] as Point>⟧.coord place)))
         (elements_in tree.now) most (map (λ t. t.now) ts.items)) }
 {
-    first_at(alloc, tree, place, most)
+    listed(alloc, tree.nearest_neighbor_iter(place).take(most))
+}
+
+/// All points, the nearest to a place first, collected.
+fn points_in_order<'a>(
+    alloc: Global,
+    tree: &'a RTree<At>,
+    place: At,
+) -> Result<Vec<&'a At>, AllocError>
+    requires { IsWholeTree ⟦<AABB<[i64; 2]> as Envelope>⟧.boxes ⟦<[i64; 2] as RTreeObject>⟧.object
+        ⟦<DefaultParams as RTreeParams>⟧.MAX_SIZE tree.now }
+    ensures all { IfOk result (λ ts. IsPermutation (elements_in tree.now) (map (λ t. t.now) ts.items)) }
+    ensures order { IfOk result (λ ts. AreInOrder (λ t. ⟦<[i64; 2] as PointDistance>⟧.distances.distance_2 t
+        (table 2 (⟦<[i64; 2] as Point>⟧.coord place))) (map (λ t. t.now) ts.items)) }
+{
+    tree.nearest_neighbor_iter(place).try_collect(alloc)
 }
 
 /// An element nearest to a place with its squared distance, by the function over a root.
@@ -162,7 +131,7 @@ pub(crate) fn all_below<'a, T: PointDistance>(
     place: PointOf<T>,
 ) -> Result<Option<(Vec<&'a T>, Distance<T>)>, AllocError>
     requires { IsWholeTree T.Envelope.boxes T.object ⟦<DefaultParams as RTreeParams>⟧.MAX_SIZE tree.now }
-    ensures { IfOk result (λ r. IfSome r (λ x. (d : ℕ) × (T.Envelope.Point.Scalar.value x.1 ≡ pos d) × AreNearest
+    ensures { IfOk result (λ r. IfSome r (λ x. (d : ℕ) × (T.Envelope.Point.Scalar.value x.1 ≡ pos d) × AreSomeNearest
         (λ t. T.distances.distance_2 t (table T.Envelope.Point.DIMENSIONS (T.Envelope.Point.coord place)))
         (elements_in tree.now) d (map (λ t. t.now) x.0.items))) }
 {

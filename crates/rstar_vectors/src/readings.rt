@@ -3,12 +3,15 @@
 ghost use Rattle.std.specs.Prelude.{◌≡◌, filter};
 ghost use Rattle.std.specs.declared.ops.ControlFlow.TheVariants.{Break};
 ghost use Rattle.rstar.specs.Boxes.{contains_box, boxes_intersect};
+ghost use Rattle.rstar.specs.Nodes.{elements_of, IsWhole};
 ghost use Rattle.rstar.specs.Points.{table};
 ghost use Rattle.rstar.specs.Trees.{elements_in, IsWholeTree};
 ghost use Rattle.rstar.specs.Visits.{IsFirst};
 
 use crate::payloads::Plot;
 use rstar::algorithm::selection_functions::SelectAtPointFunction;
+use rstar::iterators::select_nodes;
+use rstar::node::ParentNode;
 use rstar::object::PointOf;
 use rstar::point::Point;
 use rstar::{AABB, DefaultParams, Envelope, PointDistance, RTree, RTreeObject, RTreeParams};
@@ -32,6 +35,16 @@ fn first_selected<T: PointDistance>(tree: &RTree<T>, point: PointOf<T>) -> Optio
     let func = SelectAtPointFunction::new(point);
     let found = tree.locate_with_selection_function_int(func, at_once);
     found.break_value()
+}
+
+/// The first element below a root that contains a point, by `select_nodes`.
+fn first_below<T: PointDistance>(root: &ParentNode<T>, point: PointOf<T>) -> Option<&T>
+    requires { IsWhole T.Envelope.boxes T.object root.now }
+    ensures { IsFirst (filter (λ t. T.distances.contains_point t
+        (table T.Envelope.Point.DIMENSIONS (T.Envelope.Point.coord point))) (elements_of root.now)) result }
+{
+    let func = SelectAtPointFunction::new(point);
+    select_nodes(root, &func, &mut at_once).break_value()
 }
 
 /// The first element in an envelope, by `locate_in_envelope_int`, the first that it touches, by
@@ -87,6 +100,15 @@ fn point_selected(tree: &RTree<At>, point: At) -> Option<&At>
     first_selected(tree, point)
 }
 
+/// The first point below a root at a place.
+fn point_below(root: &ParentNode<At>, point: At) -> Option<&At>
+    requires { IsWhole ⟦<AABB<[i64; 2]> as Envelope>⟧.boxes ⟦<[i64; 2] as RTreeObject>⟧.object root.now }
+    ensures { IsFirst (filter (λ t. ⟦<[i64; 2] as PointDistance>⟧.distances.contains_point t
+        (table 2 (⟦<[i64; 2] as Point>⟧.coord point))) (elements_of root.now)) result }
+{
+    first_below(root, point)
+}
+
 #[cfg(test)]
 mod tests {
     use super::*;
@@ -113,6 +135,7 @@ mod tests {
         let (inside, touched, here) = come_upon(&tree, area, point);
         (inside.is_some(), touched.is_some(), here.is_some()) == told
             && first_selected(&tree, point).is_some() == told.2
+            && first_below(tree.root(), point).is_some() == told.2
     }
 
     // Two corners of a box, and what is told of the one point there is, at the first corner, and of the one

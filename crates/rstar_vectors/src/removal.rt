@@ -2,9 +2,10 @@
 //!
 //! What is done to a tree is generic, and a test gives it elements.
 
-ghost use Rattle.std.specs.Prelude.{◌≡◌, ◌<◌, ◌≤◌, false, IfSome};
+ghost use Rattle.std.specs.Prelude.{◌≡◌, ◌<◌, ◌≤◌, false, IfOk, IfSome};
 ghost use Rattle.rstar.specs.Drains.{drained, IsDraining};
-ghost use Rattle.rstar.specs.Trees.{IsWholeTree};
+ghost use Rattle.rstar.specs.Removals.{IsWithout};
+ghost use Rattle.rstar.specs.Trees.{elements_in, IsWholeTree};
 
 use crate::loads::are_same;
 use crate::node_sizes::Wide;
@@ -42,6 +43,18 @@ fn call<T: RTreeObject, R: SelectionFunction<T>, Params: RTreeParams>(
         }
     }
     most
+}
+
+/// Takes one element out by a drain that is dropped after its first `next`, and gives it; none of an empty tree.
+fn one_out<T: RTreeObject>(tree: &mut RTree<T>) -> Result<Option<T>, AllocError>
+    requires { IsWholeTree T.Envelope.boxes T.object ⟦<DefaultParams as RTreeParams>⟧.MAX_SIZE tree.old }
+    ensures left { IfOk result (λ r. IsWithout (elements_in tree.old) r (elements_in tree.new)) }
+    ensures whole { IsWholeTree T.Envelope.boxes T.object ⟦<DefaultParams as RTreeParams>⟧.MAX_SIZE tree.new }
+{
+    match tree.drain() {
+        Ok(mut drain) => Ok(drain.next()),
+        Err(refused) => Err(refused),
+    }
 }
 
 /// At most two elements of those that meet an envelope are drained, the drain is dropped, and one is inserted.
@@ -220,7 +233,7 @@ fn leave_to_the_end<T: EqualEnvelopes + PointDistance + Copy>(
         && stands(&tree)
 }
 
-/// Whether a tree stands after so many calls of a drain that is dropped, and takes one element more.
+/// Whether a tree stands after so many calls of a drain that is dropped, takes one element more, and gives one up.
 fn dropped_stands<T: EqualEnvelopes + Copy>(
     alloc: Global,
     elements: &[T],
@@ -234,6 +247,8 @@ fn dropped_stands<T: EqualEnvelopes + Copy>(
         && tree.size().saturating_add(calls) == elements.len().saturating_add(1)
         && stands(&tree)
         && tree.contains(&one)
+        && matches!(one_out(&mut tree), Ok(Some(_)))
+        && tree.size().saturating_add(calls) == elements.len()
 }
 
 /// Whether a tree stands, without what was given, after a drain of so many calls was forgotten.

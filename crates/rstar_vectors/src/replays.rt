@@ -1,6 +1,6 @@
 //! Commands: rows, callers at concrete types, and thousands of commands beside a plain list.
 
-ghost use Rattle.std.specs.Prelude.{◌≡◌, ◌<◌, ◌≤◌, ◌↔◌, ◌⊎◌, IsTrue, IfOk, OnErr};
+ghost use Rattle.std.specs.Prelude.{◌≡◌, ◌<◌, ◌≤◌, ◌↔◌, ◌⊎◌, IfOk, OnErr};
 ghost use Rattle.std.specs.List.{AllByRecursion};
 ghost use Rattle.rstar.specs.declared.replay.Reply.TheVariants.{TooMany};
 ghost use Rattle.rstar.specs.Clones.{ClonesEqual};
@@ -10,8 +10,7 @@ ghost use Rattle.rstar.specs.Trees.{root_of, size_of, elements_in, IsUnchanged, 
 
 use crate::counted::Place;
 use crate::neighbour_rows::take;
-use crate::scenarios::none_empty;
-use rstar::replay::{Command, Query, Reply, replay, step};
+use rstar::replay::{Command, Query, Reply, all_fit, is_fit, replay, step};
 use rstar::{
     AABB, Counted, DefaultParams, Envelope, EqualEnvelopes, Point, PointDistance, RTree,
     RTreeObject, RTreeParams,
@@ -66,47 +65,12 @@ fn replay_places(
 
 // ---- rows
 
-/// Whether a command brings no element whose envelope is empty, as `step` asks.
-fn is_fit<T: PointDistance + EqualEnvelopes>(command: &Command<T>) -> bool
-    requires { 2 ≤ T.Envelope.Point.DIMENSIONS }
-    ensures { IsTrue result → IsFit (questions_of T.Envelope.boxes T.object T.distances T.Envelope.Point.DIMENSIONS
-        T.Envelope.Point.coord T.Envelope.Point.Scalar.value T.eq) T.Envelope.Point.DIMENSIONS command.now }
-{
-    match command {
-        Command::Load(list) => none_empty(list),
-        Command::Join(list) => none_empty(list),
-        Command::Insert(t) => !t.envelope().is_empty(),
-        Command::Remove(_) => true,
-        Command::RemoveAtPoint(_) => true,
-        Command::PopNearest(_) => true,
-        Command::Drain(_, _) => true,
-        Command::Ask(_) => true,
-        Command::Contains(_) => true,
-        Command::Nearest(_) => true,
-        Command::Neighbours(_, _) => true,
-    }
-}
-
-/// Whether all commands are fit.
-fn all_fit<T: PointDistance + EqualEnvelopes>(commands: &[Command<T>]) -> bool
-    requires { 2 ≤ T.Envelope.Point.DIMENSIONS }
-    ensures { IsTrue result → AllByRecursion (IsFit (questions_of T.Envelope.boxes T.object T.distances
-        T.Envelope.Point.DIMENSIONS T.Envelope.Point.coord T.Envelope.Point.Scalar.value T.eq)
-        T.Envelope.Point.DIMENSIONS) commands.now }
-{
-    match commands.split_first() {
-        Some((command, rest)) => is_fit(command) && all_fit(rest),
-        None => true,
-    }
-}
-
 /// The replies to commands that one `replay` runs on an empty tree; none where one is not fit.
 fn replies<T: PointDistance + EqualEnvelopes + Clone>(
     alloc: Global,
     commands: Vec<Command<T>>,
 ) -> Result<Vec<Reply<T>>, AllocError>
-    requires dimensions { 2 ≤ T.Envelope.Point.DIMENSIONS }
-    requires clones { ClonesEqual T.is_clone }
+    requires { ClonesEqual T.is_clone }
 {
     if !all_fit(&commands) {
         return Ok(Vec::new(alloc));

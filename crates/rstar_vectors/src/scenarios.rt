@@ -4,11 +4,11 @@
 //! steps at a concrete type are dear. What may be refused and holds a list, a walk or a tree is matched and lent, where
 //! one would write `?`: docs/DECISIONS.md has what each form costs.
 
-ghost use Rattle.std.specs.Prelude.{◌≤◌, IsTrue, IfOk};
-ghost use Rattle.rstar.specs.Loaded.{NoneEmpty};
+ghost use Rattle.std.specs.Prelude.{◌≤◌, IfOk};
 ghost use Rattle.rstar.specs.Trees.{IsWholeTree};
 
 use num_traits::One;
+use rstar::algorithm::bulk_load::none_empty;
 use rstar::node::{ParentNode, RTreeNode};
 use rstar::object::{Distance, PointOf};
 use rstar::point::RTreeNum;
@@ -64,18 +64,6 @@ pub(crate) fn inserted<T: RTreeObject + Copy, Params: RTreeParams>(
         }
     }
     tree
-}
-
-/// Whether no element has an empty envelope, as loads ask.
-pub(crate) fn none_empty<T: RTreeObject>(elements: &[T]) -> bool
-    ensures { IsTrue result → NoneEmpty T.Envelope.boxes T.object elements.now }
-{
-    for element in elements {
-        if element.envelope().is_empty() {
-            return false;
-        }
-    }
-    true
 }
 
 /// A load of these elements; an empty tree where one of them has an empty envelope.

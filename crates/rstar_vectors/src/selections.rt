@@ -2,8 +2,9 @@
 //!
 //! What is asked of a tree is generic, and a test gives it elements.
 
-ghost use Rattle.std.specs.Prelude.{◌<◌, true, false, pos, int_le};
-ghost use Rattle.rstar.specs.Trees.{IsWholeTree};
+ghost use Rattle.std.specs.Prelude.{◌≡◌, ◌<◌, true, false, pos, int_le, int_lt, map, filter, IfOk};
+ghost use Rattle.rstar.specs.Selections.{IsLawful};
+ghost use Rattle.rstar.specs.Trees.{elements_in, IsWholeTree};
 
 use crate::payloads::{Walked, all_of, either_at, here, inside, near, touched, walked};
 use crate::scenarios::{ALONG_A_LINE, inserted, points, stands};
@@ -35,6 +36,21 @@ fn selects<T: RTreeObject + Copy, Func: SelectionFunction<T>>(
         Err(_) => false,
     };
     is_so && stands(&tree)
+}
+
+/// The elements that a lawful function selects, in the order of the tree.
+fn chosen<'a, T: RTreeObject, Func: SelectionFunction<T>>(
+    alloc: Global,
+    tree: &'a RTree<T>,
+    func: Func,
+) -> Result<Vec<&'a T>, AllocError>
+    requires whole { IsWholeTree T.Envelope.boxes T.object ⟦<DefaultParams as RTreeParams>⟧.MAX_SIZE tree.now }
+    requires lawful { IsLawful T.Envelope.boxes T.object (Func.accepts func) (Func.selects func) }
+    ensures { IfOk result (λ ts. map (λ t. t.now) ts.items ≡ filter (Func.selects func) (elements_in tree.now)) }
+{
+    let walk = tree.locate_with_selection_function(func)?;
+    let (all, _opened) = walked(alloc, walk)?;
+    Ok(all)
 }
 
 /// The same of what lies between two corners, and of all elements.
@@ -70,6 +86,74 @@ fn a_selection_opens_what_its_question_reaches(rt: HostRuntime) {
         let area = AABB::from_corners(corners.0, corners.1);
         assert!(rt; select_so(rt.alloc(), points, area, inside, all));
     }
+}
+
+/// Selects the points in the left half of a map that is 100 wide. A selection function of a user's own says which
+/// envelopes it accepts and which elements it selects; that it is lawful is proved where it is made.
+#[derive(Drop)]
+pub(crate) struct LeftHalf;
+
+impl LeftHalf {
+    /// The points whose first coordinate is below 50.
+    pub(crate) fn new() -> Self
+        ensures { IsLawful ⟦<AABB<[i32; 2]> as Envelope>⟧.boxes ⟦<[i32; 2] as RTreeObject>⟧.object
+            (⟦<LeftHalf as SelectionFunction<[i32; 2]>>⟧.accepts result)
+            (⟦<LeftHalf as SelectionFunction<[i32; 2]>>⟧.selects result) }
+    {
+        LeftHalf
+    }
+}
+
+impl SelectionFunction<[i32; 2]> for LeftHalf {
+    ghost accepts = { λ _ e. int_lt (⟦<AABB<[i32; 2]> as Envelope>⟧.boxes.axis_key e 0) (pos 50) };
+
+    ghost selects = { λ _ t. int_lt (⟦<[i32; 2] as Point>⟧.coord t 0) (pos 50) };
+
+    fn should_unpack_parent(&self, envelope: &AABB<[i32; 2]>) -> bool {
+        envelope.axis_key(0) < 50
+    }
+
+    fn should_unpack_leaf(&self, leaf: &[i32; 2]) -> bool {
+        leaf[0] < 50
+    }
+}
+
+/// The points in the left half, in the order of the tree.
+fn left_points<'a>(
+    alloc: Global,
+    tree: &'a RTree<[i32; 2]>,
+) -> Result<Vec<&'a [i32; 2]>, AllocError>
+    requires { IsWholeTree ⟦<AABB<[i32; 2]> as Envelope>⟧.boxes ⟦<[i32; 2] as RTreeObject>⟧.object
+        ⟦<DefaultParams as RTreeParams>⟧.MAX_SIZE tree.now }
+    ensures { IfOk result (λ ts. map (λ t. t.now) ts.items
+        ≡ filter (λ t. int_lt (⟦<[i32; 2] as Point>⟧.coord t 0) (pos 50)) (elements_in tree.now)) }
+{
+    chosen(alloc, tree, LeftHalf::new())
+}
+
+/// Whether a tree of points has so many of them in the left half.
+fn as_many_lie_left(alloc: Global, points: &[[i32; 2]], count: usize) -> bool {
+    let tree = inserted::<[i32; 2], DefaultParams>(alloc, points);
+    match &left_points(alloc, &tree) {
+        Ok(left) => left.len() == count,
+        Err(_) => false,
+    }
+}
+
+// rstar's test `test_locate_with_selection_func`, in whole numbers.
+#[test]
+fn a_function_of_ones_own_selects_what_it_says(rt: HostRuntime) {
+    const ON_BOTH_SIDES: [[i32; 2]; 7] = [
+        [49, 0],
+        [50, 0],
+        [51, 1],
+        [0, 99],
+        [-7, 3],
+        [99, 99],
+        [48, 48],
+    ];
+    assert!(rt; as_many_lie_left(rt.alloc(), &ALONG_A_LINE, 3));
+    assert!(rt; as_many_lie_left(rt.alloc(), &ON_BOTH_SIDES, 4));
 }
 
 /// Accepts the parents that begin at 0 or left of it, and selects all points.

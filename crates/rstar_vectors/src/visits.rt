@@ -2,9 +2,13 @@
 
 ghost use Rattle.std.specs.Prelude.{◌≡◌, if◌then◌else◌, map};
 ghost use Rattle.rstar.specs.Boxes.{boxes_intersect};
+ghost use Rattle.rstar.specs.Nodes.{elements_of, IsWhole};
 ghost use Rattle.rstar.specs.Trees.{elements_in, HasSameOutline, IsWholeTree};
 
 use crate::fences::Fence;
+use rstar::algorithm::selection_functions::SelectInEnvelopeFuncIntersecting;
+use rstar::iterators::select_nodes_mut;
+use rstar::node::ParentNode;
 use rstar::primitives::GeomWithData;
 use rstar::{AABB, DefaultParams, Envelope, RTree, RTreeObject, RTreeParams};
 use std::ops::ControlFlow;
@@ -23,6 +27,25 @@ pub fn clear<R: RTreeObject>(tree: &mut RTree<GeomWithData<R, u64>>, area: R::En
     let _went_on: ControlFlow<()> = tree.locate_in_envelope_intersecting_int_mut(
         area,
         |one: &mut GeomWithData<R, u64>| {
+            one.data = 0;
+            ControlFlow::Continue(())
+        },
+    );
+}
+
+/// The same below a root that no tree holds.
+fn clear_below<R: RTreeObject>(root: &mut ParentNode<GeomWithData<R, u64>>, area: R::Envelope)
+    requires { IsWhole R.Envelope.boxes ⟦<GeomWithData<R, u64> as RTreeObject>⟧.object root.old }
+    ensures cleared { elements_of root.new
+        ≡ map (λ one. if R.Envelope.boxes.intersects area (⟦<GeomWithData<R, u64> as RTreeObject>⟧.object.box_of one)
+        then (one.0, 0) else one) (elements_of root.old) }
+    ensures whole { IsWhole R.Envelope.boxes ⟦<GeomWithData<R, u64> as RTreeObject>⟧.object root.new }
+{
+    let func = SelectInEnvelopeFuncIntersecting::new(area);
+    let _went_on: ControlFlow<()> = select_nodes_mut(
+        root,
+        &func,
+        &mut |one: &mut GeomWithData<R, u64>| {
             one.data = 0;
             ControlFlow::Continue(())
         },

@@ -1,10 +1,11 @@
 //! Loading a list of elements at once, after Lee and Lee, "OMT: Overlap Minimizing Top-down Bulk Loading Algorithm for
 //! R-tree" (2003).
 
-ghost use Rattle.std.specs.Prelude.{◌≡◌, ◌≢◌, ◌≤◌, ◌<◌, ◌+◌, ◌^◌, [], length, IfOk, OnOk};
+ghost use Rattle.std.specs.Prelude.{◌≡◌, ◌≢◌, ◌≤◌, ◌<◌, ◌+◌, ◌^◌, ◌↔◌, [], length, IsTrue, IfOk, OnOk};
 ghost use Rattle.std.specs.List.Sorted.{IsPermutation};
 ghost use Rattle.rstar.specs.Nodes.{elements_of, IsWhole};
-ghost use Rattle.rstar.specs.Loaded.{NoneEmpty, IsLoadDepth, IsLoaded};
+ghost use Rattle.rstar.specs.Lists.{NoneEmpty};
+ghost use Rattle.rstar.specs.Loaded.{IsLoadDepth, IsLoaded};
 ghost use Rattle.rstar.specs.Loads.{IsFresh};
 
 pub(crate) mod depth;
@@ -31,7 +32,7 @@ pub fn bulk_load_sequential<T: RTreeObject, Params: RTreeParams>(
     elements: Vec<T>,
 ) -> Result<ParentNode<T>, AllocError>
     requires some { elements.items ≢ [] }
-    requires elements { NoneEmpty T.Envelope.boxes T.object elements.items }
+    requires elements { NoneEmpty T.Envelope.boxes.is_empty T.object.box_of elements.items }
     requires dimensions { 2 ≤ T.Envelope.Point.DIMENSIONS }
     ensures same { IfOk result (λ root. IsPermutation elements.items (elements_of root)) }
     ensures whole { IfOk result (IsWhole T.Envelope.boxes T.object) }
@@ -50,7 +51,7 @@ pub(crate) fn load_root<T: RTreeObject, Params: RTreeParams>(
     widest: &mut usize,
 ) -> Result<ParentNode<T>, AllocError>
     requires some { elements.items ≢ [] }
-    requires elements { NoneEmpty T.Envelope.boxes T.object elements.items }
+    requires elements { NoneEmpty T.Envelope.boxes.is_empty T.object.box_of elements.items }
     requires dimensions { 2 ≤ T.Envelope.Point.DIMENSIONS }
     requires depth { IsLoadDepth Params.MAX_SIZE T.Envelope.Point.DIMENSIONS (length elements.items) levels }
     requires counted { widest.old + 1 < 2 ^ 64 }
@@ -62,4 +63,16 @@ pub(crate) fn load_root<T: RTreeObject, Params: RTreeParams>(
     ensures counted { OnOk result (widest.new + 1 < 2 ^ 64) }
 {
     load_node::<T, Params>(elements, levels, widest)
+}
+
+/// Whether no element has an empty envelope, as loads ask. It looks at each until one has.
+pub fn none_empty<T: RTreeObject>(elements: &[T]) -> bool
+    ensures { IsTrue result ↔ NoneEmpty T.Envelope.boxes.is_empty T.object.box_of elements.now }
+{
+    for element in elements {
+        if element.envelope().is_empty() {
+            return false;
+        }
+    }
+    true
 }

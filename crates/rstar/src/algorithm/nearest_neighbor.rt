@@ -3,14 +3,15 @@
 ghost use Rattle.std.specs.Prelude.{◌≡◌, ◌≤◌, ℕ, [], pos, map, IfOk, IfSome, IfNone};
 ghost use Rattle.rstar_base.specs.Points.{table};
 ghost use Rattle.rstar.specs.Nodes.{elements_of, envelope_of, IsWhole};
-ghost use Rattle.rstar.specs.Neighbors.{with_distances, parents_opened, neighbors_left, IsSearching, IsFresh, GivesNeighbor, IsNearest, AreNearest};
+ghost use Rattle.rstar.specs.Lists.{IsNearest, AreSomeNearest};
+ghost use Rattle.rstar.specs.Neighbors.{with_distances, search_of, neighbors_left, IsSearching, HasBegun, GivesElement, GivesWithDistance};
 
 mod firsts;
 mod pruned;
 mod search;
 mod ties;
 
-use crate::node::ParentNode;
+use crate::node::{ParentNode, RTreeNode};
 pub(crate) use firsts::first_nearest;
 pub(crate) use pruned::one_nearest;
 use rstar_base::envelope::Envelope;
@@ -27,21 +28,36 @@ pub(crate) use ties::all_nearest;
 /// other one: the first opens the root. A distance is computed once for each child of an opened parent. It takes memory
 /// where more than 32 nodes wait; a refusal comes once, and then `None`. The order is that of Roussopoulos, Kelley and
 /// Vincent (1995) by MINDIST alone.
+pub type NearestNeighborDistance2Iterator<'a, T> = NeighborsWithDistance<
+    'a,
+    ParentNode<T>,
+    RTreeNode<T>,
+    Distance<T>,
+    PointOf<T>,
+>;
+
+/// What a `NearestNeighborDistance2Iterator` is, by the types that it holds: a root's, a node's, a scalar's, a point's.
 #[derive(Drop)]
-pub struct NearestNeighborDistance2Iterator<'a, T: PointDistance> {
-    search: NeighborSearch<'a, T>,
-    point: PointOf<T>,
+pub struct NeighborsWithDistance<'a, R, N, S, P> {
+    search: NeighborSearch<'a, R, N, S>,
+    point: P,
 }
 
-impl<'a, T: PointDistance> NearestNeighborDistance2Iterator<'a, T> {
+impl<'a, T: PointDistance> NeighborsWithDistance<
+    'a,
+    ParentNode<T>,
+    RTreeNode<T>,
+    Distance<T>,
+    PointOf<T>,
+> {
     /// The neighbours of a point below a root. It takes no memory.
     pub(crate) fn new(root: &'a ParentNode<T>, point: PointOf<T>) -> Self
         requires { IsWhole T.Envelope.boxes T.object root.now }
-        ensures fresh { IsFresh root.now point result }
+        ensures begun { HasBegun root.now point (search_of result) }
         ensures searching { IsSearching T.Envelope.boxes T.object T.distances T.Envelope.Point.DIMENSIONS
             T.Envelope.Point.coord T.Envelope.Point.Scalar.cmp T.Envelope.Point.Scalar.value result }
     {
-        NearestNeighborDistance2Iterator {
+        NeighborsWithDistance {
             search: NeighborSearch::new(root),
             point,
         }
@@ -50,22 +66,21 @@ impl<'a, T: PointDistance> NearestNeighborDistance2Iterator<'a, T> {
     /// How many parents were opened so far, the root among them, held at the greatest `usize`; 0 before the first
     /// `next`.
     pub fn opened(&self) -> usize
-        ensures { result ≡ parents_opened self.now }
+        ensures { result ≡ (search_of self.now).opened }
     {
         self.search.opened
     }
 }
 
-impl<'a, T: PointDistance> Iterator for NearestNeighborDistance2Iterator<'a, T> {
+impl<'a, T: PointDistance> Iterator
+    for NeighborsWithDistance<'a, ParentNode<T>, RTreeNode<T>, Distance<T>, PointOf<T>> {
     type Item = Result<(&'a T, Distance<T>), AllocError>;
 
     ghost can_next = { IsSearching T.Envelope.boxes T.object T.distances T.Envelope.Point.DIMENSIONS
         T.Envelope.Point.coord T.Envelope.Point.Scalar.cmp T.Envelope.Point.Scalar.value };
 
-    ghost next_gives = { λ s r t. GivesNeighbor T.Envelope.boxes T.distances T.Envelope.Point.DIMENSIONS
-        T.Envelope.Point.coord (λ x. x.0.now) s r t × IfSome r (λ y. IfOk y (λ x. T.Envelope.Point.Scalar.value x.1
-        ≡ pos (T.distances.distance_2 x.0.now
-        (table T.Envelope.Point.DIMENSIONS (T.Envelope.Point.coord s.point))))) };
+    ghost next_gives = { GivesWithDistance T.Envelope.boxes T.object T.distances T.Envelope.Point.DIMENSIONS
+        T.Envelope.Point.coord T.Envelope.Point.Scalar.cmp T.Envelope.Point.Scalar.value };
 
     ghost remaining = { neighbors_left };
 
@@ -81,41 +96,51 @@ impl<'a, T: PointDistance> Iterator for NearestNeighborDistance2Iterator<'a, T> 
 
 /// The elements of a tree, the nearest to a point first, and then `None`, as `NearestNeighborDistance2Iterator` gives
 /// them with their distances.
+pub type NearestNeighborIterator<'a, T> = Neighbors<
+    'a,
+    ParentNode<T>,
+    RTreeNode<T>,
+    Distance<T>,
+    PointOf<T>,
+>;
+
+/// What a `NearestNeighborIterator` is, by the types that it holds.
 #[derive(Drop)]
-pub struct NearestNeighborIterator<'a, T: PointDistance> {
-    with_distances: NearestNeighborDistance2Iterator<'a, T>,
+pub struct Neighbors<'a, R, N, S, P> {
+    with_distances: NeighborsWithDistance<'a, R, N, S, P>,
 }
 
-impl<'a, T: PointDistance> NearestNeighborIterator<'a, T> {
+impl<'a, T: PointDistance> Neighbors<'a, ParentNode<T>, RTreeNode<T>, Distance<T>, PointOf<T>> {
     /// The neighbours of a point below a root. It takes no memory.
     pub(crate) fn new(root: &'a ParentNode<T>, point: PointOf<T>) -> Self
         requires { IsWhole T.Envelope.boxes T.object root.now }
-        ensures fresh { IsFresh root.now point (with_distances result) }
+        ensures begun { HasBegun root.now point (search_of (with_distances result)) }
         ensures searching { IsSearching T.Envelope.boxes T.object T.distances T.Envelope.Point.DIMENSIONS
             T.Envelope.Point.coord T.Envelope.Point.Scalar.cmp T.Envelope.Point.Scalar.value (with_distances result) }
     {
-        NearestNeighborIterator {
-            with_distances: NearestNeighborDistance2Iterator::new(root, point),
+        Neighbors {
+            with_distances: NeighborsWithDistance::new(root, point),
         }
     }
 
     /// How many parents were opened so far, the root among them, held at the greatest `usize`; 0 before the first
     /// `next`.
     pub fn opened(&self) -> usize
-        ensures { result ≡ parents_opened (with_distances self.now) }
+        ensures { result ≡ (search_of (with_distances self.now)).opened }
     {
         self.with_distances.search.opened
     }
 }
 
-impl<'a, T: PointDistance> Iterator for NearestNeighborIterator<'a, T> {
+impl<'a, T: PointDistance> Iterator
+    for Neighbors<'a, ParentNode<T>, RTreeNode<T>, Distance<T>, PointOf<T>> {
     type Item = Result<&'a T, AllocError>;
 
     ghost can_next = { λ it. IsSearching T.Envelope.boxes T.object T.distances T.Envelope.Point.DIMENSIONS
         T.Envelope.Point.coord T.Envelope.Point.Scalar.cmp T.Envelope.Point.Scalar.value (with_distances it) };
 
-    ghost next_gives = { λ s r t. GivesNeighbor T.Envelope.boxes T.distances T.Envelope.Point.DIMENSIONS
-        T.Envelope.Point.coord (λ x. x.now) (with_distances s) r (with_distances t) };
+    ghost next_gives = { GivesElement T.Envelope.boxes T.object T.distances T.Envelope.Point.DIMENSIONS
+        T.Envelope.Point.coord T.Envelope.Point.Scalar.cmp T.Envelope.Point.Scalar.value };
 
     ghost remaining = { λ it. neighbors_left (with_distances it) };
 
@@ -160,8 +185,8 @@ pub fn nearest_neighbor_with_distance_2<'a, T: PointDistance>(
     one_nearest(root, &point)
 }
 
-/// All elements of least squared distance to a point, in some order, with that distance; `None` exactly where the node
-/// has no element.
+/// All elements of least squared distance to a point, of which there is one at least, in some order, with that distance;
+/// `None` exactly where the node has no element.
 ///
 /// It takes neighbours, as `NearestNeighborDistance2Iterator` gives them, until one is farther than the first. It is
 /// refused where the allocator refuses the list or what waits.
@@ -172,7 +197,7 @@ pub fn nearest_neighbors_with_distance_2<'a, T: PointDistance>(
     requires { IsWhole T.Envelope.boxes T.object root.now }
     ensures none { IfOk result (λ r. IfNone r (elements_of root.now ≡ [])) }
     ensures nearest { IfOk result (λ r. IfSome r (λ x. (d : ℕ) × (T.Envelope.Point.Scalar.value x.1 ≡ pos d)
-        × AreNearest (λ t. T.distances.distance_2 t (table T.Envelope.Point.DIMENSIONS (T.Envelope.Point.coord point)))
+        × AreSomeNearest (λ t. T.distances.distance_2 t (table T.Envelope.Point.DIMENSIONS (T.Envelope.Point.coord point)))
         (elements_of root.now) d (map (λ t. t.now) x.0.items))) }
 {
     all_nearest(root, &point)

@@ -5,7 +5,8 @@ ghost use Rattle.std.specs.Iterator.{item_count};
 ghost use Rattle.rstar.specs.declared.node.RTreeNode.{Leaf};
 ghost use Rattle.rstar.specs.Heights.{levels_below};
 ghost use Rattle.rstar.specs.Nodes.{children_of, node_box, IsWhole};
-ghost use Rattle.rstar.specs.Meets.{product, opened_to, both_leaves, pairs_from_roots};
+ghost use Rattle.rstar.specs.Lists.{product};
+ghost use Rattle.rstar.specs.Meets.{opened_to, both_leaves, pairs_from_roots};
 ghost use Rattle.rstar.specs.JoinWalks.{marked, with_marks, rows_beside, IsFirstPair, IsSingle, HasItsPaths, IsPairStep};
 ghost use Rattle.rstar.specs.Joins.{SeenLaws, meets_by, pairs_opened, pairs_to_come, IsJoinMade, IsJoining, GivesPair};
 

@@ -1,13 +1,14 @@
 //! Commands that leave a tree.
 
-ghost use Rattle.std.specs.Prelude.{◌≡◌, ◌≤◌, false, filter, All, IfOk};
+ghost use Rattle.std.specs.Prelude.{◌≡◌, ◌≤◌, filter, IfOk};
 ghost use Rattle.std.specs.List.Sorted.{IsPermutation};
 ghost use Rattle.rstar_base.specs.Points.{table};
 ghost use Rattle.rstar_base.specs.Selections.{IsLawful};
 ghost use Rattle.rstar.specs.declared.replay.Command.TheVariants.{Ask, Contains, Nearest, Neighbours, Join};
 ghost use Rattle.rstar.specs.Clones.{ClonesEqual};
 ghost use Rattle.rstar.specs.Joins.{join};
-ghost use Rattle.rstar.specs.Steps.{questions_of, selects, IsNearestWith, Step};
+ghost use Rattle.rstar.specs.Lists.{NoneEmpty};
+ghost use Rattle.rstar.specs.Steps.{questions_of, selects, IsNearestWith, AreFirst, Step};
 ghost use Rattle.rstar.specs.Trees.{elements_in, IsWholeTree};
 
 use crate::replay::{Query, Reply};
@@ -143,10 +144,31 @@ pub(super) fn neighbours<T: PointDistance + EqualEnvelopes + Clone, Params: RTre
         T.Envelope.Point.coord T.Envelope.Point.Scalar.value T.eq)
         (elements_in tree.now) (Neighbours point most) result (elements_in tree.now) }
 {
-    match tree.first_neighbors(&point, most) {
+    match first_clones(tree, &point, most) {
         Ok(found) => Reply::Neighbours(found),
         Err(_) => Reply::NoMemory,
     }
+}
+
+/// The clones of so many elements, the nearest to a point first, with their distances.
+fn first_clones<T: PointDistance + Clone, Params: RTreeParams>(
+    tree: &RTree<T, Params>,
+    point: &PointOf<T>,
+    most: usize,
+) -> Result<Vec<(T, Distance<T>)>, AllocError>
+    requires whole { IsWholeTree T.Envelope.boxes T.object Params.MAX_SIZE tree.now }
+    requires clones { ClonesEqual T.is_clone }
+    ensures { IfOk result (λ found. AreFirst (λ t. T.distances.distance_2 t
+        (table T.Envelope.Point.DIMENSIONS (T.Envelope.Point.coord point.now))) T.Envelope.Point.Scalar.value most
+        (elements_in tree.now) found.items) }
+{
+    let lent = tree.first_neighbors(point, most)?;
+    let mut found = Vec::with_capacity(*tree.root().children.allocator(), lent.len())?;
+    for place in 0..lent.len() {
+        let near = &lent[place];
+        found.push((near.0.clone()?, near.1))?;
+    }
+    Ok(found)
 }
 
 /// The pairs of an element of the tree and one of a list whose envelopes intersect.
@@ -158,7 +180,7 @@ pub(super) fn join<T: PointDistance + EqualEnvelopes + Clone, Params: RTreeParam
     requires whole { IsWholeTree T.Envelope.boxes T.object Params.MAX_SIZE tree.now }
     requires clones { ClonesEqual T.is_clone }
     requires dimensions { 2 ≤ T.Envelope.Point.DIMENSIONS }
-    requires elements { All (λ t. T.Envelope.boxes.is_empty (T.object.box_of t) ≡ false) list.items }
+    requires elements { NoneEmpty T.Envelope.boxes.is_empty T.object.box_of list.items }
     ensures { Step (questions_of T.Envelope.boxes T.object T.distances T.Envelope.Point.DIMENSIONS
         T.Envelope.Point.coord T.Envelope.Point.Scalar.value T.eq)
         (elements_in tree.now) (Join list) result (elements_in tree.now) }
@@ -177,7 +199,7 @@ fn pairs_with<T: RTreeObject + Clone, Params: RTreeParams>(
     requires whole { IsWholeTree T.Envelope.boxes T.object Params.MAX_SIZE tree.now }
     requires clones { ClonesEqual T.is_clone }
     requires dimensions { 2 ≤ T.Envelope.Point.DIMENSIONS }
-    requires elements { All (λ t. T.Envelope.boxes.is_empty (T.object.box_of t) ≡ false) list.items }
+    requires elements { NoneEmpty T.Envelope.boxes.is_empty T.object.box_of list.items }
     ensures { IfOk result (λ pairs. IsPermutation
         (join T.Envelope.boxes.intersects T.object.box_of T.object.box_of (elements_in tree.now) list.items)
         pairs.items) }

@@ -1,6 +1,6 @@
 //! Commands that change a tree.
 
-ghost use Rattle.std.specs.Prelude.{◌≡◌, ◌<◌, ◌≤◌, ◌↔◌, ◌⊎◌, ◌++◌, [], true, false, length, IfOk, OnErr, All, vec_capacity};
+ghost use Rattle.std.specs.Prelude.{◌≡◌, ◌<◌, ◌≤◌, ◌↔◌, ◌⊎◌, ◌++◌, [], true, false, length, IfOk, OnErr, vec_capacity};
 ghost use Rattle.std.specs.List.{AllByRecursion};
 ghost use Rattle.std.specs.List.Sorted.{IsPermutation};
 ghost use Rattle.rstar_base.specs.Selections.{IsLawful};
@@ -8,7 +8,7 @@ ghost use Rattle.rstar.specs.declared.replay.Command.TheVariants.{Load, Insert, 
 ghost use Rattle.rstar.specs.declared.replay.Reply.TheVariants.{TooMany};
 ghost use Rattle.rstar.specs.Drains.{drained, drain_question, elements_left, IsDraining};
 ghost use Rattle.rstar.specs.Heights.{height_of, spare_lists};
-ghost use Rattle.rstar.specs.Removals.{NoneSelected};
+ghost use Rattle.rstar.specs.Lists.{NoneSelected, NoneEmpty};
 ghost use Rattle.rstar.specs.Steps.{questions_of, selects, IsRefusal, TakesSome, Step};
 ghost use Rattle.rstar.specs.Trees.{root_of, size_of, elements_in, IsUnchanged, IsWholeTree};
 
@@ -34,7 +34,7 @@ pub(super) fn load<T: PointDistance + EqualEnvelopes, Params: RTreeParams>(
 ) -> Reply<T>
     requires whole { IsWholeTree T.Envelope.boxes T.object Params.MAX_SIZE tree.old }
     requires dimensions { 2 ≤ T.Envelope.Point.DIMENSIONS }
-    requires elements { All (λ t. T.Envelope.boxes.is_empty (T.object.box_of t) ≡ false) list.items }
+    requires elements { NoneEmpty T.Envelope.boxes.is_empty T.object.box_of list.items }
     ensures step { Step (questions_of T.Envelope.boxes T.object T.distances T.Envelope.Point.DIMENSIONS
         T.Envelope.Point.coord T.Envelope.Point.Scalar.value T.eq)
         (elements_in tree.old) (Load list) result (elements_in tree.new) }

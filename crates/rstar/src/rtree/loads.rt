@@ -2,7 +2,8 @@
 
 ghost use Rattle.std.specs.Prelude.{◌≢◌, ◌≤◌, [], IfOk};
 ghost use Rattle.std.specs.List.Sorted.{IsPermutation};
-ghost use Rattle.rstar.specs.Loaded.{NoneEmpty, IsLoaded};
+ghost use Rattle.rstar.specs.Lists.{NoneEmpty};
+ghost use Rattle.rstar.specs.Loaded.{IsLoaded};
 ghost use Rattle.rstar.specs.Trees.{root_of, elements_in, IsWholeTree};
 
 use crate::algorithm::bulk_load::depth::load_depth;
@@ -24,7 +25,7 @@ impl<T: RTreeObject> RTree<T> {
     /// costs.
     pub fn bulk_load(elements: Vec<T>) -> Result<Self, AllocError>
         requires dimensions { 2 ≤ T.Envelope.Point.DIMENSIONS }
-        requires elements { NoneEmpty T.Envelope.boxes T.object elements.items }
+        requires elements { NoneEmpty T.Envelope.boxes.is_empty T.object.box_of elements.items }
         ensures same { IfOk result (λ tree. IsPermutation elements.items (elements_in tree)) }
         ensures whole { IfOk result
             (IsWholeTree T.Envelope.boxes T.object ⟦<DefaultParams as RTreeParams>⟧.MAX_SIZE) }
@@ -40,7 +41,7 @@ impl<T: RTreeObject, Params: RTreeParams> RTree<T, Params> {
     #[tactic(auto, unfolding(crate::specs::Trees::IsWholeTree))]
     pub fn bulk_load_with_params(elements: Vec<T>) -> Result<Self, AllocError>
         requires dimensions { 2 ≤ T.Envelope.Point.DIMENSIONS }
-        requires elements { NoneEmpty T.Envelope.boxes T.object elements.items }
+        requires elements { NoneEmpty T.Envelope.boxes.is_empty T.object.box_of elements.items }
         ensures same { IfOk result (λ tree. IsPermutation elements.items (elements_in tree)) }
         ensures whole { IfOk result (IsWholeTree T.Envelope.boxes T.object Params.MAX_SIZE) }
         ensures loaded { elements.items ≢ [] → IfOk result (λ tree. IsLoaded T.Envelope.boxes T.object

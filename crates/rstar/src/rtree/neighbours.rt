@@ -1,14 +1,17 @@
 //! Neighbours.
 
-ghost use Rattle.std.specs.Prelude.{◌≡◌, ◌+◌, ℕ, [], ◌∷◌, pos, map, IfOk, IfSome, IfNone, OnErr};
+ghost use Rattle.std.specs.Prelude.{◌≡◌, ◌+◌, ◌≤◌, ℕ, [], ◌∷◌, pos, map, IfOk, IfSome, IfNone, OnErr};
+ghost use Rattle.std.specs.List.{AllByRecursion};
 ghost use Rattle.std.specs.List.Sorted.{IsPermutation};
 ghost use Rattle.rstar_base.specs.Points.{table};
-ghost use Rattle.rstar.specs.Neighbors.{with_distances, IsSearching, IsFresh, IsNearest, AreNearest};
+ghost use Rattle.rstar.specs.Lists.{IsNearest, AreNearest, AreSomeNearest, AreNearestOf};
+ghost use Rattle.rstar.specs.Neighbors.{with_distances, search_of, IsSearching, HasBegun};
+ghost use Rattle.rstar.specs.Nodes.{envelope_of};
 ghost use Rattle.rstar.specs.Trees.{root_of, size_of, elements_in, IsWholeTree};
 
 use crate::algorithm::nearest_neighbor::{
-    NearestNeighborDistance2Iterator, NearestNeighborIterator, all_nearest,
-    nearest_neighbor_with_distance_2, one_nearest,
+    NearestNeighborDistance2Iterator, NearestNeighborIterator, Neighbors, NeighborsWithDistance,
+    all_nearest, first_nearest, nearest_neighbor_with_distance_2, one_nearest,
 };
 use crate::rtree::RTree;
 use rstar_base::algorithm::selection_functions::SelectWithinDistanceFunction;
@@ -25,11 +28,11 @@ impl<T: PointDistance, Params: RTreeParams> RTree<T, Params> {
     #[tactic(auto, unfolding(crate::specs::Trees::IsWholeTree))]
     pub fn nearest_neighbor_iter(&self, point: PointOf<T>) -> NearestNeighborIterator<'_, T>
         requires { IsWholeTree T.Envelope.boxes T.object Params.MAX_SIZE self.now }
-        ensures fresh { IsFresh (root_of self.now) point (with_distances result) }
+        ensures begun { HasBegun (root_of self.now) point (search_of (with_distances result)) }
         ensures searching { IsSearching T.Envelope.boxes T.object T.distances T.Envelope.Point.DIMENSIONS
             T.Envelope.Point.coord T.Envelope.Point.Scalar.cmp T.Envelope.Point.Scalar.value (with_distances result) }
     {
-        NearestNeighborIterator::new(&self.root, point)
+        Neighbors::new(&self.root, point)
     }
 
     /// All elements with their squared distances, the nearest to a point first: each once, with the distances never
@@ -42,11 +45,11 @@ impl<T: PointDistance, Params: RTreeParams> RTree<T, Params> {
         point: PointOf<T>,
     ) -> NearestNeighborDistance2Iterator<'_, T>
         requires { IsWholeTree T.Envelope.boxes T.object Params.MAX_SIZE self.now }
-        ensures fresh { IsFresh (root_of self.now) point result }
+        ensures begun { HasBegun (root_of self.now) point (search_of result) }
         ensures searching { IsSearching T.Envelope.boxes T.object T.distances T.Envelope.Point.DIMENSIONS
             T.Envelope.Point.coord T.Envelope.Point.Scalar.cmp T.Envelope.Point.Scalar.value result }
     {
-        NearestNeighborDistance2Iterator::new(&self.root, point)
+        NeighborsWithDistance::new(&self.root, point)
     }
 
     /// The old name of `nearest_neighbor_iter_with_distance_2`, whose distances are squared.
@@ -56,7 +59,7 @@ impl<T: PointDistance, Params: RTreeParams> RTree<T, Params> {
         point: PointOf<T>,
     ) -> NearestNeighborDistance2Iterator<'_, T>
         requires { IsWholeTree T.Envelope.boxes T.object Params.MAX_SIZE self.now }
-        ensures fresh { IsFresh (root_of self.now) point result }
+        ensures begun { HasBegun (root_of self.now) point (search_of result) }
         ensures searching { IsSearching T.Envelope.boxes T.object T.distances T.Envelope.Point.DIMENSIONS
             T.Envelope.Point.coord T.Envelope.Point.Scalar.cmp T.Envelope.Point.Scalar.value result }
     {
@@ -97,6 +100,12 @@ impl<T: PointDistance, Params: RTreeParams> RTree<T, Params> {
         ensures distance { IfOk result (λ r. IfSome r (λ x. T.Envelope.Point.Scalar.value x.1
             ≡ pos (T.distances.distance_2 x.0.now
             (table T.Envelope.Point.DIMENSIONS (T.Envelope.Point.coord point))))) }
+        ensures not_below { IfOk result (λ r. IfSome r (λ x. T.Envelope.boxes.distance_2 (envelope_of (root_of self.now))
+            (table T.Envelope.Point.DIMENSIONS (T.Envelope.Point.coord point)) ≤ T.distances.distance_2 x.0.now
+            (table T.Envelope.Point.DIMENSIONS (T.Envelope.Point.coord point)))) }
+        ensures not_above { IfOk result (λ r. IfSome r (λ x. T.distances.distance_2 x.0.now
+            (table T.Envelope.Point.DIMENSIONS (T.Envelope.Point.coord point)) ≤ T.Envelope.boxes.min_max_dist_2
+            (envelope_of (root_of self.now)) (table T.Envelope.Point.DIMENSIONS (T.Envelope.Point.coord point)))) }
     {
         nearest_neighbor_with_distance_2(&self.root, point)
     }
@@ -147,8 +156,8 @@ impl<T: PointDistance, Params: RTreeParams> RTree<T, Params> {
         }
     }
 
-    /// All elements of least squared distance to a point, in some order, with that distance; `None` exactly where the
-    /// tree is empty.
+    /// All elements of least squared distance to a point, of which there is one at least, in some order, with that
+    /// distance; `None` exactly where the tree is empty.
     ///
     /// It takes neighbours, the nearest first, until one is farther than the first. It is refused where the allocator
     /// refuses the list or what waits.
@@ -160,10 +169,32 @@ impl<T: PointDistance, Params: RTreeParams> RTree<T, Params> {
         requires { IsWholeTree T.Envelope.boxes T.object Params.MAX_SIZE self.now }
         ensures none { IfOk result (λ r. IfNone r (elements_in self.now ≡ [])) }
         ensures nearest { IfOk result (λ r. IfSome r (λ x. (d : ℕ) × (T.Envelope.Point.Scalar.value x.1 ≡ pos d)
-            × AreNearest (λ t. T.distances.distance_2 t
+            × AreSomeNearest (λ t. T.distances.distance_2 t
             (table T.Envelope.Point.DIMENSIONS (T.Envelope.Point.coord point.now))) (elements_in self.now) d
             (map (λ t. t.now) x.0.items))) }
     {
         all_nearest(&self.root, point)
+    }
+
+    /// So many elements with their squared distances, the nearest to a point first; all where there are fewer.
+    ///
+    /// It costs what `nearest_neighbor_iter_with_distance_2` costs for as many. Its list takes memory once, for no more
+    /// elements than the tree has, however many are asked for. It is refused where the allocator refuses the list or
+    /// what waits.
+    #[tactic(auto, unfolding(crate::specs::Trees::IsWholeTree))]
+    pub fn first_neighbors(
+        &self,
+        point: &PointOf<T>,
+        most: usize,
+    ) -> Result<Vec<(&T, Distance<T>)>, AllocError>
+        requires { IsWholeTree T.Envelope.boxes T.object Params.MAX_SIZE self.now }
+        ensures first { IfOk result (λ found. AreNearestOf (λ t. T.distances.distance_2 t
+            (table T.Envelope.Point.DIMENSIONS (T.Envelope.Point.coord point.now))) (elements_in self.now) most
+            (map (λ n. n.0.now) found.items)) }
+        ensures distances { IfOk result (λ found. AllByRecursion (λ n. T.Envelope.Point.Scalar.value n.1
+            ≡ pos (T.distances.distance_2 n.0.now
+            (table T.Envelope.Point.DIMENSIONS (T.Envelope.Point.coord point.now)))) found.items) }
+    {
+        first_nearest(&self.root, point, most, most.min(self.size))
     }
 }

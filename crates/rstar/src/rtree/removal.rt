@@ -5,7 +5,7 @@ ghost use Rattle.std.specs.List.{list_any};
 ghost use Rattle.std.specs.List.Sorted.{IsPermutation};
 ghost use Rattle.rstar_base.specs.Points.{table};
 ghost use Rattle.rstar_base.specs.Selections.{IsLawful};
-ghost use Rattle.rstar.specs.Removals.{NoneSelected};
+ghost use Rattle.rstar.specs.Lists.{NoneSelected};
 ghost use Rattle.rstar.specs.Taking.{Removes};
 ghost use Rattle.rstar.specs.Trees.{size_of, elements_in, IsWholeTree};
 

@@ -5,7 +5,8 @@ ghost use Rattle.std.specs.List.Sorted.{IsPermutation};
 ghost use Rattle.rstar.specs.declared.node.RTreeNode.{Leaf};
 ghost use Rattle.rstar.specs.Nodes.{elements_of};
 ghost use Rattle.rstar.specs.Kept.{HasRoom};
-ghost use Rattle.rstar.specs.Loaded.{NoneEmpty, IsPartSize, GoesDeep};
+ghost use Rattle.rstar.specs.Lists.{NoneEmpty};
+ghost use Rattle.rstar.specs.Loaded.{IsPartSize, GoesDeep};
 ghost use Rattle.rstar.specs.Loads.{AddsParts, IsFresh, IsFreshNode};
 
 use crate::algorithm::bulk_load::depth::slabs_on_axis;
@@ -70,7 +71,7 @@ pub(crate) fn load_node<T: RTreeObject, Params: RTreeParams>(
     widest: &mut usize,
 ) -> Result<ParentNode<T>, AllocError>
     requires some { elements.items ≢ [] }
-    requires elements { NoneEmpty T.Envelope.boxes T.object elements.items }
+    requires elements { NoneEmpty T.Envelope.boxes.is_empty T.object.box_of elements.items }
     requires dimensions { 2 ≤ T.Envelope.Point.DIMENSIONS }
     requires deep { GoesDeep Params.MAX_SIZE T.Envelope.Point.DIMENSIONS below (length elements.items) }
     requires counted { widest.old + 1 < 2 ^ 64 }
@@ -101,7 +102,7 @@ fn leaf_parent<T: RTreeObject, Params: RTreeParams>(
     widest: &mut usize,
 ) -> Result<ParentNode<T>, AllocError>
     requires some { elements.items ≢ [] }
-    requires elements { NoneEmpty T.Envelope.boxes T.object elements.items }
+    requires elements { NoneEmpty T.Envelope.boxes.is_empty T.object.box_of elements.items }
     requires counted { widest.old + 1 < 2 ^ 64 }
     ensures same { IfOk result (λ parent. IsPermutation elements.items (elements_of parent)) }
     ensures fresh { IfOk result
@@ -127,7 +128,7 @@ fn load_parts<T: RTreeObject, Params: RTreeParams>(
     widest: &mut usize,
 ) -> Result<(), AllocError>
     requires some { elements.items ≢ [] }
-    requires elements { NoneEmpty T.Envelope.boxes T.object elements.items }
+    requires elements { NoneEmpty T.Envelope.boxes.is_empty T.object.box_of elements.items }
     requires dimensions { 2 ≤ T.Envelope.Point.DIMENSIONS }
     requires axes { axes ≤ T.Envelope.Point.DIMENSIONS }
     requires clusters { 2 ≤ clusters }

@@ -6,7 +6,7 @@ ghost use Rattle.std.specs.Ordering.{on, flip_args};
 ghost use Rattle.rstar_base.specs.Points.{table, IsPoint};
 ghost use Rattle.rstar_base.specs.SmallHeaps.{items_of, IsOrdered};
 ghost use Rattle.rstar.specs.declared.node.RTreeNode.{RTreeNode};
-ghost use Rattle.rstar.specs.Neighbors.{IsNearest};
+ghost use Rattle.rstar.specs.Lists.{IsNearest};
 ghost use Rattle.rstar.specs.Nodes.{all_parents, elements_of, envelope_of, parents, node_box, IsWhole};
 ghost use Rattle.rstar.specs.Pruned.{IsAbove, IsPruned};
 ghost use Rattle.rstar.specs.Searches.{waiting_nodes, distance_of, AreWaiting};

@@ -102,17 +102,21 @@ enum Stage {
 }
 
 /// A search for neighbours, but for its point, which each call is lent: so what it holds by value is of bounded size,
-/// and a generic function may hold it.
+/// and a generic function may hold it. Its parameters are the types that it holds, a root's, a node's and a scalar's:
+/// so the check can follow its drop where an iterator over it is passed to a function that takes any iterator.
 #[derive(Drop)]
-pub(crate) struct NeighborSearch<'a, T: PointDistance> {
-    root: &'a ParentNode<T>,
-    heap: Heap<'a, T>,
+pub(crate) struct NeighborSearch<'a, R, N, S> {
+    root: &'a R,
+    heap: SmallHeap<Waiting<&'a N, S>>,
     /// How many parents were opened, held at the greatest `usize`.
     pub(crate) opened: usize,
     stage: Stage,
 }
 
-impl<'a, T: PointDistance> NeighborSearch<'a, T> {
+/// A search over the nodes of a tree.
+pub(crate) type NodeSearch<'a, T> = NeighborSearch<'a, ParentNode<T>, RTreeNode<T>, Distance<T>>;
+
+impl<'a, T: PointDistance> NeighborSearch<'a, ParentNode<T>, RTreeNode<T>, Distance<T>> {
     /// A search in which the root waits. It takes no memory.
     pub(crate) fn new(root: &'a ParentNode<T>) -> Self
         requires { IsWhole T.Envelope.boxes T.object root.now }
@@ -154,6 +158,7 @@ impl<'a, T: PointDistance> NeighborSearch<'a, T> {
         ensures goes_on { IfSome result (λ r. IfOk r (λ _. self.new.stage ≡ Running)) }
         ensures ends { IfSome result (λ r. IfErr r (λ _. self.new.stage ≡ Ended)) }
         ensures once { IfSome result (λ _. IsUnrefused self.old.stage) }
+        ensures ended { (IsUnrefused self.old.stage → ⊥) → IsUnrefused self.new.stage → ⊥ }
     {
         if let Stage::Ended = self.stage {
             return None;

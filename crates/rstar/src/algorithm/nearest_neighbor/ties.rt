@@ -2,19 +2,20 @@
 
 ghost use Rattle.std.specs.Prelude.{◌≡◌, ℕ, List, [], pos, map, IfOk, IfSome, IfNone, OnOk};
 ghost use Rattle.rstar_base.specs.Points.{table};
-ghost use Rattle.rstar.specs.Neighbors.{AreNearest};
+ghost use Rattle.rstar.specs.Lists.{AreSomeNearest};
 ghost use Rattle.rstar.specs.Nodes.{all_elements, elements_of, IsWhole};
 ghost use Rattle.rstar.specs.Searches.{waiting_of, IsReady, IsUnrefused};
 ghost use Rattle.rstar.specs.Ties.{IsTied};
 
-use crate::algorithm::nearest_neighbor::search::{NeighborSearch, fits};
+use crate::algorithm::nearest_neighbor::search::{NeighborSearch, NodeSearch, fits};
 use crate::node::ParentNode;
 use rstar_base::envelope::Envelope;
 use rstar_base::object::{Distance, PointDistance, PointOf, RTreeObject};
 use rstar_base::point::{Point, RTreeNum, not_above};
 use std::alloc::AllocError;
 
-/// All elements of least squared distance to a point, with that distance; `None` exactly where there is no element.
+/// All elements of least squared distance to a point, one at least, with that distance; `None` exactly where there is no
+/// element.
 #[tactic(auto, using(crate::proofs::Ties::ready_at))]
 pub(crate) fn all_nearest<'a, T: PointDistance>(
     root: &'a ParentNode<T>,
@@ -23,7 +24,7 @@ pub(crate) fn all_nearest<'a, T: PointDistance>(
     requires { IsWhole T.Envelope.boxes T.object root.now }
     ensures none { IfOk result (λ r. IfNone r (elements_of root.now ≡ [])) }
     ensures nearest { IfOk result (λ r. IfSome r (λ x. (d : ℕ) × (T.Envelope.Point.Scalar.value x.1 ≡ pos d)
-        × AreNearest (λ t. T.distances.distance_2 t
+        × AreSomeNearest (λ t. T.distances.distance_2 t
         (table T.Envelope.Point.DIMENSIONS (T.Envelope.Point.coord point.now))) (elements_of root.now) d
         (map (λ t. t.now) x.0.items))) }
 {
@@ -41,7 +42,7 @@ pub(crate) fn all_nearest<'a, T: PointDistance>(
 
 /// Takes the elements at a distance that is the least of those that wait, or less than it.
 fn take_ties<'a, T: PointDistance>(
-    search: &mut NeighborSearch<'a, T>,
+    search: &mut NodeSearch<'a, T>,
     point: &PointOf<T>,
     least: Distance<T>,
     all: &mut Vec<&'a T>,
@@ -54,7 +55,7 @@ fn take_ties<'a, T: PointDistance>(
         → IsTied (λ t. T.distances.distance_2 t
         (table T.Envelope.Point.DIMENSIONS (T.Envelope.Point.coord point.now))) whole d (map (λ t. t.now) all.old.items)
         (all_elements (waiting_of search.old))
-        → AreNearest (λ t. T.distances.distance_2 t
+        → AreSomeNearest (λ t. T.distances.distance_2 t
         (table T.Envelope.Point.DIMENSIONS (T.Envelope.Point.coord point.now))) whole d
         (map (λ t. t.now) all.new.items)) }
 {

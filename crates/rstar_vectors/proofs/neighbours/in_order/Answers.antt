@@ -1,14 +1,25 @@
-use Rattle.std.proofs.Common.{◌∙◌, ap, min}
-use Rattle.rstar_base.specs.Counts.{usize_max}
-use Rattle.rstar.specs.Nodes.{parents_of}
-use Rattle.rstar.proofs.InOrder.{fresh-left}
+use Rattle.std.proofs.Common.{◌∙◌}
+use Rattle.rstar.specs.Neighbors.{GivesElement}
+use Rattle.rstar.proofs.InOrder.{neighbors_end}
+use Rattle.rstar_vectors.proofs.Drained.{none-taken, one-more-taken}
 use Rattle.rstar_vectors.proofs.neighbours.in_order.Goals as goal
 
-pub returns-clause-all : goal.returns-clause-all
-returns-clause-all g c = rw (fresh-left _ _ _ c.nearest_neighbor_iter-neighbors.ensures.fresh) at c.in_ok-all.ensures.all
+pub loop-found-init : goal.loop-found-init
+loop-found-init g c = record {
+  searching = c.nearest_neighbor_iter-neighbors.ensures.searching;
+  given = none-taken (GivesElement g.T.Envelope.Envelope.boxes g.T.RTreeObject.object g.T.PointDistance.distances g.T.Envelope.Point.Point.DIMENSIONS g.T.Envelope.Point.Point.coord g.T.Envelope.Point.Scalar.Ord.cmp g.T.Envelope.Point.Scalar.Number.value)
+      _ c.nearest_neighbor_iter-neighbors.result c.new-all.ensures.items;
+}
 
-pub returns-clause-order : goal.returns-clause-order
-returns-clause-order g c = rw c.nearest_neighbor_iter-neighbors.ensures.fresh.point at c.in_ok-all.ensures.order
+pub loop-found-preserved : goal.loop-found-preserved
+loop-found-preserved g c = record {
+  searching = c.in-Some.ensures.steps.1;
+  given = one-more-taken (GivesElement g.T.Envelope.Envelope.boxes g.T.RTreeObject.object g.T.PointDistance.distances g.T.Envelope.Point.Point.DIMENSIONS g.T.Envelope.Point.Point.coord g.T.Envelope.Point.Scalar.Ord.cmp g.T.Envelope.Point.Scalar.Number.value)
+      c.loop-found.all.items _ _ c.nearest_neighbor_iter-neighbors.result c.loop-found.neighbors c.next.new.self c.in_ok-push.ensures.items c.loop-found.invariant.given (rw c.in_ok-item.was at c.in-Some.ensures.steps);
+}
 
-pub returns-clause-opened : goal.returns-clause-opened
-returns-clause-opened g c = c.opened.ensures ∙ c.in_ok-all.ensures.opened ∙ ap (λ r. min (parents_of r) usize_max) c.nearest_neighbor_iter-neighbors.ensures.fresh.root
+pub returns : goal.returns
+returns g c =
+    let end = neighbors_end g.T.Envelope.Envelope.boxes g.T.RTreeObject.object g.T.PointDistance.distances g.T.Envelope.Point.Point.DIMENSIONS g.T.Envelope.Point.Point.coord g.T.Envelope.Point.Scalar.Ord.cmp g.T.Envelope.Point.Scalar.Number.value
+    _ _ _ c.nearest_neighbor_iter-neighbors.ensures.begun _ c.loop-found.neighbors c.next.new.self c.loop-found.invariant.given c.in_default.ensures.steps in
+    record { all = end.0; order = end.1; opened = c.opened.ensures ∙ end.2 }

@@ -3,7 +3,7 @@ use Rattle.std.proofs.lemmas.Bool.Decides.{nat_tests}
 use Rattle.std.proofs.lemmas.Nat.{div-add-mod'}
 use lib.Count.{count_trailing_zeros}
 use Rattle.rstar.specs.JoinWalks.{marked}
-use Rattle.rstar.specs.Meets.{product}
+use Rattle.rstar.specs.Lists.{product}
 use Rattle.rstar.proofs.PairRows.{product-none}
 use Rattle.rstar.proofs.Walks.{no-items}
 use Rattle.rstar.proofs.Marked.{marked-zero, lowest-pair, pairs-none}

@@ -4,7 +4,7 @@ use Rattle.std.specs.List.Sorted.{IsPermutation}
 use Rattle.std.proofs.lemmas.List.Sorted.{IsPermutation-refl}
 use Rattle.rstar_base.proofs.Lists.{all-append}
 use Rattle.rstar.specs.Drains.{drain_question, elements_left, IsDraining}
-use Rattle.rstar.specs.Removals.{NoneSelected}
+use Rattle.rstar.specs.Lists.{NoneSelected}
 use Rattle.rstar.specs.Trees.{elements_in}
 use Rattle.rstar.proofs.Replays.{taken_more}
 use Rattle.rstar.proofs.replay.changes.take_up_to.Goals as goal

@@ -16,5 +16,5 @@ unfolding IsWholeTree
 returns-clause-part g c =
     IfOk-weaker c.new.result _ _ (λ it gives.
     subst (λ l. IsPartOf l (filter (g.Func.SelectionFunction.selects c.args.func) (elements_in c.args.self.now))) (sym gives)
-    (part-root g.T.Envelope.Envelope.boxes g.T.RTreeObject.object (g.Func.SelectionFunction.accepts c.args.func) (g.Func.SelectionFunction.selects c.args.func) c.args.self.now.root c.requires.root_whole))
+    (part-root (g.Func.SelectionFunction.accepts c.args.func) (g.Func.SelectionFunction.selects c.args.func) c.args.self.now.root))
     c.new.ensures.gives

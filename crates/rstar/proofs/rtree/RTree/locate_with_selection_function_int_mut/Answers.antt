@@ -1,24 +1,18 @@
 use Rattle.std.proofs.Common.{refl}
 use Rattle.rstar.specs.Nodes.{children_of}
 use Rattle.rstar.specs.Trees.{IsWholeTree}
-use Rattle.rstar.specs.Visits.{marked_of}
 use Rattle.rstar.proofs.Changes.{same-outline, whole-kept}
 use Rattle.rstar.proofs.Insertion.{trees_map}
-use Rattle.rstar.proofs.Marks.{same-marks, selected-marks, marked-root}
 use Rattle.rstar.proofs.rtree.RTree.locate_with_selection_function_int_mut.Goals as goal
 
 pub returns-clause-written : goal.returns-clause-written
 unfolding IsWholeTree
 returns-clause-written g c =
-    let accepts = g.F.SelectionFunction.accepts c.args.func in
-    let selects = g.F.SelectionFunction.selects c.args.func in
-    let root = c.args.self.now.root in
+    let told = c.select_nodes_mut.ensures.written in
+    let whole = c.requires.whole.root_whole in
     record {
-      marks = marked_of accepts selects root;
-      same = same-marks accepts selects root;
-      selected = selected-marks accepts selects root;
-      complete = λ lawful. marked-root g.met.T.Envelope.Envelope.envelope_laws g.met.T.RTreeObject.object_law accepts selects lawful root c.requires.whole.root_whole;
-      written = record { last = c.select_nodes_mut.new.visitor; writes = c.select_nodes_mut.ensures.written };
+      last = c.select_nodes_mut.new.visitor;
+      within = record { marks = told.marks; same = told.same; selected = told.selected; complete = λ lawful. told.complete (whole, lawful); writes = told.writes };
     }
 
 pub returns-clause-outline : goal.returns-clause-outline

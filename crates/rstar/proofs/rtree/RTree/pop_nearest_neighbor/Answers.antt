@@ -1,7 +1,6 @@
 use Rattle.std.proofs.Common.{pos, true, ◌≡◌, IfSome, IfNone, subst}
 use Rattle.rstar_base.specs.Points.{table}
-use Rattle.rstar.specs.Neighbors.{IsNearest}
-use Rattle.rstar.specs.Removals.{NoneSelected}
+use Rattle.rstar.specs.Lists.{IsNearest, NoneSelected}
 use Rattle.rstar.specs.Trees.{elements_in, IsWholeTree}
 use Rattle.rstar.proofs.Popped.{popped-nearest, popped-some}
 use Rattle.rstar.proofs.Removed.{none_when}

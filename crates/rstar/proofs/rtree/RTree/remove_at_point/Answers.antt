@@ -1,5 +1,5 @@
 use Rattle.std.proofs.Common.{IfSome, IfNone, subst, true, ◌≡◌}
-use Rattle.rstar.specs.Removals.{NoneSelected}
+use Rattle.rstar.specs.Lists.{NoneSelected}
 use Rattle.rstar.specs.Trees.{elements_in}
 use Rattle.rstar.proofs.Removed.{none_when}
 use Rattle.rstar.proofs.rtree.RTree.remove_at_point.Goals as goal

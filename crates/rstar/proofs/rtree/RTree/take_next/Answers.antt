@@ -1,6 +1,6 @@
 use Rattle.std.proofs.Common.{◌∙◌, ap, subst, sym, arith, refl, List}
 use Rattle.rstar.specs.Nodes.{children_of, all_elements}
-use Rattle.rstar.specs.Removals.{NoneSelected}
+use Rattle.rstar.specs.Lists.{NoneSelected}
 use Rattle.rstar.specs.Trees.{IsWholeTree}
 use Rattle.rstar.proofs.Walks.{no-items, some-items}
 use Rattle.rstar.proofs.Scans.{none_gives, some_one}

@@ -3,7 +3,8 @@ use Rattle.std.proofs.Math.Nat.{suc-mul}
 use Rattle.std.proofs.lemmas.Result.{IfOk-from_err}
 use Rattle.std.specs.Int.{div_ceil}
 use Rattle.rstar_base.specs.Slabs.{elements_left, slab_size_of, dimension_of}
-use Rattle.rstar.specs.Loaded.{NoneEmpty, GoesDeep, IsPartSize}
+use Rattle.rstar.specs.Lists.{NoneEmpty}
+use Rattle.rstar.specs.Loaded.{GoesDeep, IsPartSize}
 use Rattle.rstar.specs.Loads.{IsFresh, IsFreshNode}
 use Rattle.rstar.proofs.Depths.{cluster_bound, deep_large, deep_parts, deep_slab}
 use Rattle.rstar.proofs.Loads.{slab_given, slab_some, slab_has, parts_parent, parts_same, one_part, underway_start, underway_more, underway_end, underway_better, fresh_wider, next_size}
@@ -138,7 +139,7 @@ load_parts-loop-slab-init g t c =
 pub load_parts-load_parts-requires : goal.load_parts-load_parts-requires
 load_parts-load_parts-requires g t c κs within =
     let cut = slab_given (λ t' k. g.T.Envelope.Envelope.boxes.axis_key (g.T.RTreeObject.object.box_of t') k) (dimension_of c.loop-slab.slabs) (c.args.axes - 1) (slab_size_of c.loop-slab.slabs) (div_ceil (length c.args.elements.items) c.args.clusters) (elements_left c.loop-slab.slabs) c.in-Some.slab c.in_ok-slab.field-0 (elements_left c.next.new.self) c.in-Some.ensures.steps.0 c.in_ok-slab.was c.loop-slab.invariant.axis c.loop-slab.invariant.size in
-    let each : NoneEmpty g.T.Envelope.Envelope.boxes g.T.RTreeObject.object c.in_ok-slab.field-0.items = (slab_has (λ t'. g.T.Envelope.Envelope.boxes.axis_key (g.T.RTreeObject.object.box_of t') (c.args.axes - 1)) (λ t'. g.T.Envelope.Envelope.boxes.is_empty (g.T.RTreeObject.object.box_of t') ≡ false) (div_ceil (length c.args.elements.items) c.args.clusters) (elements_left c.loop-slab.slabs) c.in_ok-slab.field-0.items (elements_left c.next.new.self) cut.0 c.loop-slab.invariant.each).0 in
+    let each : NoneEmpty g.T.Envelope.Envelope.boxes.is_empty g.T.RTreeObject.object.box_of c.in_ok-slab.field-0.items = (slab_has (λ t'. g.T.Envelope.Envelope.boxes.axis_key (g.T.RTreeObject.object.box_of t') (c.args.axes - 1)) (λ t'. g.T.Envelope.Envelope.boxes.is_empty (g.T.RTreeObject.object.box_of t') ≡ false) (div_ceil (length c.args.elements.items) c.args.clusters) (elements_left c.loop-slab.slabs) c.in_ok-slab.field-0.items (elements_left c.next.new.self) cut.0 c.loop-slab.invariant.each).0 in
     let filled : c.in_ok-slab.field-0.items ≢ [] = slab_some (λ t'. g.T.Envelope.Envelope.boxes.axis_key (g.T.RTreeObject.object.box_of t') (c.args.axes - 1)) (div_ceil (length c.args.elements.items) c.args.clusters) (elements_left c.loop-slab.slabs) c.in_ok-slab.field-0.items (elements_left c.next.new.self) cut.0 (some_by (slab_size_of c.loop-slab.slabs) (div_ceil (length c.args.elements.items) c.args.clusters) c.loop-slab.invariant.size c.loop-slab.invariant.cutting.0) cut.1 in
     let deep : (m : ℕ) → IsPartSize c.args.clusters (c.args.axes - 1) (length c.in_ok-slab.field-0.items) m → GoesDeep g.Params.RTreeParams.MAX_SIZE g.T.Envelope.Point.Point.DIMENSIONS c.args.below m =
     deep_slab g.Params.RTreeParams.MAX_SIZE g.T.Envelope.Point.Point.DIMENSIONS c.args.below c.args.clusters c.args.axes (c.args.axes - 1) (length c.args.elements.items) (length c.in_ok-slab.field-0.items) (previous c.args.axes c.if-axes-eq0.false) c.requires.deep

@@ -1,7 +1,7 @@
 use Rattle.std.proofs.Common.{◌≡◌, ◌+◌, ◌-◌, ◌*◌, ◌^◌, ◌<◌, ◌≤◌, length}
 use Rattle.std.specs.Int.{div_ceil}
 use Rattle.rstar_base.specs.Slabs.{elements_left, slab_size_of, dimension_of, IsCutting}
-use Rattle.rstar.specs.Loaded.{NoneEmpty}
+use Rattle.rstar.specs.Lists.{NoneEmpty}
 use Rattle.rstar.specs.Loads.{IsUnderway, IsFreshNode}
 use Rattle.rstar.proofs.algorithm.bulk_load.parts.+load.Given as goal
 
@@ -16,7 +16,7 @@ invariant-load_parts-loop-slab g l = record {
   axis : dimension_of l.slabs ≡ l.axes - 1;
   size : slab_size_of l.slabs ≡ div_ceil (length l.fn.elements.items) l.clusters;
   cutting : IsCutting g.T.Envelope.Point.Point.DIMENSIONS l.slabs;
-  each : NoneEmpty g.T.Envelope.Envelope.boxes g.T.RTreeObject.object (elements_left l.slabs);
+  each : NoneEmpty g.T.Envelope.Envelope.boxes.is_empty g.T.RTreeObject.object.box_of (elements_left l.slabs);
   wider : l.fn.widest ≤ l.widest;
   counted : l.widest + 1 < 2 ^ 64;
   parts : IsUnderway (λ t k. g.T.Envelope.Envelope.boxes.axis_key (g.T.RTreeObject.object.box_of t) k)

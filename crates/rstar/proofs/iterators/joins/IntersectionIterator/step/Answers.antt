@@ -1,6 +1,6 @@
 use Rattle.std.proofs.Common.{◌≡◌, ◌<◌, ◌∙◌, ◌*◌, ◌≤◌, ap, sym, refl, arith, subst, length, min, filter}
 use Rattle.std.proofs.lemmas.Bool.Decides.{nat_tests}
-use Rattle.rstar.specs.Meets.{product}
+use Rattle.rstar.specs.Lists.{product}
 use Rattle.rstar.specs.JoinWalks.{marked, in_hand, frames_of, rows_beside, IsFirstPair}
 use Rattle.rstar.specs.Joins.{meets_by}
 use Rattle.rstar.proofs.Walks.{no-items}
