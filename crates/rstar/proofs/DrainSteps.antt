@@ -9,7 +9,7 @@ use Rattle.rstar.specs.Nodes.{children_of}
 use Rattle.rstar.specs.Trees.{root_of}
 use Rattle.rstar.specs.Lists.{NoneSelected}
 use Rattle.rstar.specs.Taking.{IsPast, Removes}
-use Rattle.rstar.specs.Drains.{drained, drain_question, elements_left, IsDraining, TakesNext}
+use Rattle.rstar.specs.Drains.{drained, drain_question, left_in_tree, IsDraining, TakesNext}
 use Rattle.rstar.proofs.Scans.{if_none}
 use Rattle.rstar.proofs.Removed.{one_less}
 
@@ -21,7 +21,7 @@ module _ {T F D E P S X : Type 0} (v : Boxes E) (o : Objects T E) (max : ℕ) (a
   takes_next old new r is question removes = record {
     taken = removes.taken;
     selected = removes.selected;
-    ended = if_none r (λ (missed : IsLawful v o (accepts (drain_question old)) (selects (drain_question old)) → IsPast (selects (drain_question old)) old.path.items (children_of (root_of (drained old))) → NoneSelected (selects (drain_question old)) (elements_left old)).
+    ended = if_none r (λ (missed : IsLawful v o (accepts (drain_question old)) (selects (drain_question old)) → IsPast (selects (drain_question old)) old.path.items (children_of (root_of (drained old))) → NoneSelected (selects (drain_question old)) (left_in_tree old)).
         λ lawful. missed lawful (is.2 lawful)) removes.missed;
     kept = removes.kept;
     whole = removes.whole is.1;
@@ -36,8 +36,8 @@ module _ {T F D E P S X : Type 0} (v : Boxes E) (o : Objects T E) (max : ℕ) (a
   }
 
   pub goes_on : (old new : DrainIterator T F D (Vec ℕ Global) E P S X) (r : Option T) → TakesNext v o max accepts selects old r new
-      → MakesProgress (IsDraining v o max accepts selects) (item_count elements_left) old r new
+      → MakesProgress (IsDraining v o max accepts selects) (item_count left_in_tree) old r new
   goes_on old new None next = record { on = λ finite. tt; keeps = tt; rests = λ finite. tt }
   goes_on old new (Some x) next =
-      let less = one_less (elements_left old) (elements_left new) (Some x) refl next.taken in
+      let less = one_less (left_in_tree old) (left_in_tree new) (Some x) refl next.taken in
       record { on = λ finite. (next.draining, tt, omega arith); keeps = next.draining; rests = λ finite. tt }

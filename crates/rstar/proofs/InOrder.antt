@@ -1,5 +1,5 @@
 -- What an iterator over neighbours has given so far are the first of all: call by call, and over whole runs of calls.
-use Rattle.std.proofs.Common.{◌≡◌, ℕ, ◌+◌, ◌-◌, ◌≤◌, length, Vec, Global, vec_len, vec_capacity, refl, min, ℤ, List, [], ◌∷◌, ◌++◌, map, Option, Some, None, Result, Ok, sym, ap, ◌∙◌, subst, append_assoc, append-nil, arith}
+use Rattle.std.proofs.Common.{◌≡◌, ℕ, ◌+◌, ◌-◌, ◌≤◌, pos, length, Vec, Global, vec_len, vec_capacity, refl, min, ℤ, List, [], ◌∷◌, ◌++◌, map, Option, Some, None, Result, Ok, sym, ap, ◌∙◌, subst, append_assoc, append-nil, arith}
 use Rattle.std.specs.Borrow.{Bor}
 use Rattle.std.specs.Iterator.{Yields, YieldsThen, TryCollects}
 use Rattle.std.specs.declared.alloc.AllocError.{AllocError}
@@ -19,7 +19,7 @@ use Rattle.rstar.specs.declared.node.ParentNode.{ParentNode}
 use Rattle.rstar.specs.Lists.{AreInOrder, AreNearestFirst, AreNearestOf}
 use Rattle.rstar.specs.Nodes.{elements, all_elements, all_parents, elements_of, parents_of}
 use Rattle.rstar_base.specs.Counts.{usize_max}
-use Rattle.rstar.specs.Neighbors.{NearestNeighborIterator, Search, search_of, with_distances, HasBegun, GivesNeighbor, GivesElement, IsGoingOn, elements_waiting}
+use Rattle.rstar.specs.Neighbors.{NearestNeighborIterator, NearestNeighborDistance2Iterator, Search, search_of, with_distances, HasBegun, GivesNeighbor, GivesElement, GivesWithDistance, IsGoingOn, elements_waiting}
 use Rattle.rstar.proofs.Rows.{elements-Parent}
 
 -- ---- lists
@@ -82,17 +82,6 @@ module _ {I T E P S X A Z : Type 0} (v : Boxes E) (d : Distances T) (axes : ℕ)
     (steps : I → Option (Result A Z) → I → Type 0) (tell : (s : I) (r : Option (Result A Z)) (t : I) → steps s r t → GivesNeighbor v d axes coord element (shown s) r (shown t)) where
   abbrev pub distance_at : P → T → ℕ
   distance_at p t = d.distance_2 t (table axes (coord p))
-
-  -- one call
-  one-given : (s t : I) (y : A) → steps s (Some (Ok y)) t → HasGiven distance_at (shown s) (element y ∷ []) (shown t)
-  one-given s t y step =
-      let told = tell s (Some (Ok y)) t step in
-      record {
-        root = told.root;
-        point = told.point;
-        going_on = told.goes_on;
-        first = before-first (distance_at (shown s).point) (elements_waiting (shown s)) (elements_waiting (shown t)) [] (elements_waiting (shown t)) (element y) told.gives.bag told.gives.least (none-first _ (elements_waiting (shown t)));
-      }
 
   pub run-given : (ys : List A) (s t : I) → IsGoingOn (shown s) → Yields steps s (map Ok ys) t → HasGiven distance_at (shown s) (map element ys) (shown t)
   run-given [] s t going run =
@@ -203,3 +192,29 @@ module _ {T E P S X : Type 0} (v : Boxes E) (o : Objects T E) (d : Distances T) 
       (λ v h. h.0) (λ v w ys h. h.0) it all collected in
       let end = neighbors_end all.items run.1.0 run.0 run.1.1 run.1.2 in
       (end.0, end.1)
+
+-- ---- the same of the iterator that gives each element with its distance
+
+module _ {T E P S X : Type 0} (v : Boxes E) (o : Objects T E) (d : Distances T) (axes : ℕ) (coord : P → ℕ → ℤ) (compare : S → S → Ordering) (value : S → ℤ) where
+  abbrev gives_distance : NearestNeighborDistance2Iterator T E P S X → Option (Result (Bor T × S) AllocError) → NearestNeighborDistance2Iterator T E P S X → Type 0
+  gives_distance = GivesWithDistance v o d axes coord compare value
+
+  -- each was given with its distance from the point of the search
+  each-told : (ys : List (Bor T × S)) (s t : NearestNeighborDistance2Iterator T E P S X) → Yields gives_distance s (map Ok ys) t
+      → AllByRecursion (λ y. value y.1 ≡ pos (d.distance_2 y.0.now (table axes (coord s.point)))) ys
+  each-told [] s t run = tt
+  each-told (y ∷ ys) s t run =
+      (run.1.1, subst (λ p. AllByRecursion (λ y. value y.1 ≡ pos (d.distance_2 y.0.now (table axes (coord p)))) ys) run.1.0.point (each-told ys run.0 t run.2))
+
+  -- at the end of a loop
+  pub distances_end : (over : ParentNode T E P S X) (at : P) (it : NearestNeighborDistance2Iterator T E P S X) → HasBegun over at (search_of it)
+      → (ys : List (Bor T × S)) (t u : NearestNeighborDistance2Iterator T E P S X) → Yields gives_distance it (map Ok ys) t → gives_distance t None u
+      → IsPermutation (elements_of over) (map (λ y. y.0.now) ys) × AreInOrder (λ t. d.distance_2 t (table axes (coord at))) (map (λ y. y.0.now) ys)
+      × AllByRecursion (λ y. value y.1 ≡ pos (d.distance_2 y.0.now (table axes (coord at)))) ys × ((search_of u).opened ≡ min (parents_of over) usize_max)
+  distances_end over at it begun ys t u run last =
+      let all = run-ended v d axes coord (λ (y : Bor T × S). y.0.now) (λ (i : NearestNeighborDistance2Iterator T E P S X). search_of i) gives_distance (λ s r t h. h.0) ys it t u begun.going_on run last in (
+        subst (λ l. IsPermutation l (map (λ y. y.0.now) ys)) (begun-left over at (search_of it) begun) all.bag,
+        subst (λ p. AreInOrder (λ t. d.distance_2 t (table axes (coord p))) (map (λ y. y.0.now) ys)) begun.point all.order,
+        subst (λ p. AllByRecursion (λ y. value y.1 ≡ pos (d.distance_2 y.0.now (table axes (coord p)))) ys) begun.point (each-told ys it t run),
+        all.opened ∙ ap (λ r. min (parents_of r) usize_max) begun.root,
+      )

@@ -13,7 +13,7 @@ use Rattle.rstar.specs.declared.node.RTreeNode.{RTreeNode, Leaf, Parent}
 use Rattle.rstar.specs.declared.node.ParentNode.{ParentNode}
 use Rattle.rstar.specs.Nodes.{fold_tree, elements, all_elements, parents, all_parents, node_box, IsTree, IsElement, IsInner, AreWhole}
 use Rattle.rstar.specs.Shapes.{AreTrees, IsParentTree, IsAny, HasSize}
-use Rattle.rstar.specs.Kept.{HasRoom, IsKeptInner, IsFit, AreKept, IsKeptTree, second_children, as_node, IsSizedAfter}
+use Rattle.rstar.specs.Kept.{HasRoom, IsKeptInner, HasMergedBox, AreKept, IsKeptTree, second_children, as_node, IsSizedAfter}
 use Rattle.rstar.proofs.Places.{all_set, all_get}
 use Rattle.rstar.proofs.Rows.{elements-Leaf, elements-Parent, parents-Parent, node_box-Parent, is_leaf, is_parent, parent_of, no_parent, IsLeafOf-Leaf, IsParentOf-Parent}
 use Rattle.rstar.proofs.Trees.{all_sound, values-of, merged_is_hull}
@@ -180,21 +180,21 @@ module _ {T E : Type 0} {IsPoint : List ℤ → Type 0} {v : Boxes E} {o : Objec
       let is : f ≡ hull v o.box_of (all_elements new) = next ∙ laws.merge_comm e (o.box_of t) first (ok t value) ∙ ap (v.merge (o.box_of t)) was ∙ both.0 in
       (is, is ∙ sym (merged_is_hull laws ok h new (whole_of_kept h new after)))
 
-  pub inner_of_fit : (h : ℕ) (p : ParentNode T E P S X) → AreKept v o max widest h p.children.items → IsFit v o max widest p → IsKeptInner v o max widest p
+  pub inner_of_fit : (h : ℕ) (p : ParentNode T E P S X) → AreKept v o max widest h p.children.items → HasMergedBox v o max widest p → IsKeptInner v o max widest p
   inner_of_fit h p trees fit =
       (record { tight = fit.merged ∙ merged_is_hull laws ok h p.children.items (whole_of_kept h p.children.items trees); roomy = fit.roomy }, fit.some)
 
   -- what an insertion leaves of a list of children, after it was parted
   pub added : (h : ℕ) (t : T) (old before : List (RTreeNode T E P S X)) (p : ParentNode T E P S X) (r : Option (ParentNode T E P S X))
       → IsPermutation (t ∷ all_elements old) (all_elements before) → AreKept v o max widest h before → IsPermutation before (p.children.items ++ second_children r)
-      → IsFit v o max widest p → IfSome r (IsFit v o max widest)
+      → HasMergedBox v o max widest p → IfSome r (HasMergedBox v o max widest)
       → IsPermutation (t ∷ all_elements old) (all_elements (p.children.items ++ second_children r)) × IsKeptTree v o max widest h p × IfSome r (IsKeptTree v o max widest h)
   added h t old before p r bag trees same first second =
       let parts = all_along (IsTree (IsKeptInner v o max widest) (IsElement v o) h) before (p.children.items ++ second_children r) same trees in
       let one = all_first (IsTree (IsKeptInner v o max widest) (IsElement v o) h) p.children.items (second_children r) parts in
       let two = all_second (IsTree (IsKeptInner v o max widest) (IsElement v o) h) p.children.items (second_children r) parts in
       (IsPermutation-trans _ _ _ bag (elements_along before (p.children.items ++ second_children r) same), (inner_of_fit h p one first, one), other r two second) where
-        other : (r : Option (ParentNode T E P S X)) → AreKept v o max widest h (second_children r) → IfSome r (IsFit v o max widest) → IfSome r (IsKeptTree v o max widest h)
+        other : (r : Option (ParentNode T E P S X)) → AreKept v o max widest h (second_children r) → IfSome r (HasMergedBox v o max widest) → IfSome r (IsKeptTree v o max widest h)
         other None trees fit = tt
         other (Some q) trees fit = (inner_of_fit h q trees fit, trees)
 

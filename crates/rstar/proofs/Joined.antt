@@ -22,7 +22,7 @@ use Rattle.rstar.specs.Nodes.{elements, all_elements, elements_of, envelope_of, 
 use Rattle.rstar.specs.Lists.{product}
 use Rattle.rstar.specs.Meets.{opened_to, both_leaves, count_parents, meet, meet_of_roots, meet_of_shown, pairs_at, opens_at, all_pairs, all_opens, pairs_from_roots}
 use Rattle.rstar.specs.Shown.{parent, row_of, shown}
-use Rattle.rstar.specs.JoinWalks.{frame_of, marked, rows_beside, Frame, IsMetPair, IsFrame, AreFrames, met_of, unasked_of, in_hand, frames_of, pairs_below, opens_below, pairs_from_frames, opens_from_frames, HasItsPaths}
+use Rattle.rstar.specs.JoinWalks.{frame_of, marked_items, rows_beside, Frame, IsMetPair, IsFrame, AreFrames, met_of, unasked_of, in_hand, frames_of, pairs_below, opens_below, pairs_from_frames, opens_from_frames, HasItsPaths}
 use Rattle.rstar.specs.Joins.{SeenLaws, meets_by, join}
 use Rattle.rstar.proofs.Rows.{is_leaf, is_parent, elements-Leaf, elements-Parent, node_box-Leaf, node_box-Parent, total-map}
 use Rattle.rstar.proofs.Heights.{levels_are}
@@ -323,7 +323,7 @@ module _ {T E P S X U F Q R Y : Type 0} (meets : E → F → Bool) (left_box : T
           let e = ap (opens_from_frames meets left_box right_box) alone in
           let k = rows_beside it.rights.now in
           let f : opens_below meets left_box right_box (met_of (in_hand it) ++ unasked_of (in_hand it)) ≡ all_opens meets left_box right_box it.lefts.now it.rights.now =
-          (λ i. opens_below meets left_box right_box (marked (unmarked i) (product (take k it.lefts.now) it.asked.now) ++ (product (take k it.lefts.now) (untouched i) ++ product (drop k it.lefts.now) it.rights.now)))
+          (λ i. opens_below meets left_box right_box (marked_items (unmarked i) (product (take k it.lefts.now) it.asked.now) ++ (product (take k it.lefts.now) (untouched i) ++ product (drop k it.lefts.now) it.rights.now)))
           ∙ ap (opens_below meets left_box right_box) (fresh meets left_box right_box it.lefts it.asked it.rights) in
           omega (arith, e, f, all);
     };

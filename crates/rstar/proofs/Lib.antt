@@ -36,6 +36,7 @@ pub mod Popped
 pub mod Room
 pub mod Fits
 pub mod PairRows
+pub mod Alike
 pub mod Marked
 pub mod PairWalks
 pub mod Meets

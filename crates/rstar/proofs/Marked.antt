@@ -6,7 +6,7 @@ use Rattle.std.proofs.lemmas.List.{take_all, length-drop, length-map, drop-appen
 use Rattle.std.proofs.Math.Seq.{drop-append-add}
 use Rattle.std.proofs.Math.Nat.{zero-mul, one-mul, add-mul, zero-add, mul-le-mul_right}
 use Rattle.rstar.specs.Lists.{product}
-use Rattle.rstar.specs.JoinWalks.{marked, with_marks, IsFirstPair}
+use Rattle.rstar.specs.JoinWalks.{marked_items, with_marks, IsFirstPair}
 use Rattle.rstar.proofs.PairRows.{the_pair}
 
 digit : (P : ℕ → Type 0) → P 0 → P 1 → (n : ℕ) → n < 2 → P n
@@ -18,7 +18,7 @@ twice-fits : (marks n : ℕ) (b : Bool) → marks < 2 ^ n → (if b then 1 else 
 twice-fits marks n true h = omega (arith, h, pow-suc 2 n)
 twice-fits marks n false h = omega (arith, h, pow-suc 2 n)
 
-pub marked-zero : {A : Type 0} (xs : List A) → marked 0 xs ≡ []
+pub marked-zero : {A : Type 0} (xs : List A) → marked_items 0 xs ≡ []
 marked-zero [] = refl
 marked-zero (x ∷ xs) = marked-zero xs
 
@@ -27,19 +27,19 @@ with_digit d x rest = if d == 1 then x ∷ rest else rest
 
 module _ {A : Type 0} where
   -- the place of the lowest digit lies behind the items
-  pub marked-none : (k m : ℕ) (xs : List A) → length xs ≤ count_trailing_zeros k m → marked m xs ≡ []
+  pub marked-none : (k m : ℕ) (xs : List A) → length xs ≤ count_trailing_zeros k m → marked_items m xs ≡ []
   unfolding count_trailing_zeros
   marked-none k m [] long = refl
   marked-none zero m (x ∷ xs) long = absurd (omega (arith, long))
-  marked-none (suc k) m (x ∷ xs) long = digit (λ d. length (x ∷ xs) ≤ under d (count_trailing_zeros k (m / 2)) → with_digit d x (marked (m / 2) xs) ≡ [])
+  marked-none (suc k) m (x ∷ xs) long = digit (λ d. length (x ∷ xs) ≤ under d (count_trailing_zeros k (m / 2)) → with_digit d x (marked_items (m / 2) xs) ≡ [])
       (λ h. marked-none k (m / 2) xs (omega (arith, h))) (λ h. absurd (omega (arith, h))) (m % 2) (mod-lt m (zero-lt-suc 1)) long
 
   abbrev Goal : ℕ → ℕ → A → List A → ℕ → Type 0
   Goal k m x xs d = under d (count_trailing_zeros k (m / 2)) < length (x ∷ xs)
-      → (first : A) × (behind : List A) × (drop (under d (count_trailing_zeros k (m / 2))) (x ∷ xs) ≡ first ∷ behind) × (with_digit d x (marked (m / 2) xs) ≡ first ∷ marked (bit_and m (m - 1)) (x ∷ xs))
+      → (first : A) × (behind : List A) × (drop (under d (count_trailing_zeros k (m / 2))) (x ∷ xs) ≡ first ∷ behind) × (with_digit d x (marked_items (m / 2) xs) ≡ first ∷ marked_items (bit_and m (m - 1)) (x ∷ xs))
 
   first-marked : (k m : ℕ) (xs : List A) → 0 < m → m < 2 ^ k → count_trailing_zeros k m < length xs
-      → (first : A) × (behind : List A) × (drop (count_trailing_zeros k m) xs ≡ first ∷ behind) × (marked m xs ≡ first ∷ marked (bit_and m (m - 1)) xs)
+      → (first : A) × (behind : List A) × (drop (count_trailing_zeros k m) xs ≡ first ∷ behind) × (marked_items m xs ≡ first ∷ marked_items (bit_and m (m - 1)) xs)
   unfolding count_trailing_zeros
   first-marked k m [] some h short = absurd (omega (arith, short))
   first-marked zero m (x ∷ xs) some h short = absurd (omega (arith, some, h))
@@ -52,10 +52,10 @@ module _ {A : Type 0} where
         let is : y ≡ m / 2 * 2 + 0 = and_step m (m - 1) ∙ ap₂ (λ u v. u * 2 + v) (ap (bit_and (m / 2)) half ∙ and_self (m / 2)) low in
         let p : y % 2 ≡ 0 = omega arith in
         let q : y / 2 ≡ m / 2 = omega arith in
-        (x, xs, refl, ap (λ l. x ∷ l) (sym (ap₂ (λ u v. with_digit u x (marked v xs)) p q)))
+        (x, xs, refl, ap (λ l. x ∷ l) (sym (ap₂ (λ u v. with_digit u x (marked_items v xs)) p q)))
 
     even : (0 < m / 2 → m / 2 < 2 ^ k → count_trailing_zeros k (m / 2) < length xs
-        → (first : A) × (behind : List A) × (drop (count_trailing_zeros k (m / 2)) xs ≡ first ∷ behind) × (marked (m / 2) xs ≡ first ∷ marked (bit_and (m / 2) (m / 2 - 1)) xs)) → m % 2 ≡ 0 → Goal k m x xs 0
+        → (first : A) × (behind : List A) × (drop (count_trailing_zeros k (m / 2)) xs ≡ first ∷ behind) × (marked_items (m / 2) xs ≡ first ∷ marked_items (bit_and (m / 2) (m / 2 - 1)) xs)) → m % 2 ≡ 0 → Goal k m x xs 0
     even rest e s =
         let y = bit_and m (m - 1) in
         let half : (m - 1) / 2 ≡ m / 2 - 1 = omega arith in
@@ -65,7 +65,7 @@ module _ {A : Type 0} where
         let p : y % 2 ≡ 0 = omega arith in
         let q : y / 2 ≡ z = omega arith in
         let below = rest (omega arith) (omega (arith, pow-suc 2 k)) (omega (arith, s)) in
-        (below.0, below.1, below.2, below.3 ∙ ap (λ l. below.0 ∷ l) (sym (ap₂ (λ u v. with_digit u x (marked v xs)) p q)))
+        (below.0, below.1, below.2, below.3 ∙ ap (λ l. below.0 ∷ l) (sym (ap₂ (λ u v. with_digit u x (marked_items v xs)) p q)))
 
 -- ---- pairs, row by row
 
@@ -137,11 +137,11 @@ module _ {A B : Type 0} where
         right_behind = y.1;
         left_begins = is ∙ take_all (length xs - row) (drop row xs) (let l = length-drop row xs in omega (arith, l)) ∙ x.2;
         right_begins = is' ∙ take_all (length ys - column) (drop column ys) (let l = length-drop column ys in omega (arith, l)) ∙ y.2;
-        all = a.3 ∙ (λ i. head i ∷ marked (sym made i) (product xs ys));
+        all = a.3 ∙ (λ i. head i ∷ marked_items (sym made i) (product xs ys));
       }
 
   -- it lies behind the last row
-  pub pairs-none : (m : ℕ) (xs : List A) (ys : List B) (place row column : ℕ) → place ≡ count_trailing_zeros 64 m → place ≡ row * length ys + column → length xs ≤ row → marked m (product xs ys) ≡ []
+  pub pairs-none : (m : ℕ) (xs : List A) (ys : List B) (place row column : ℕ) → place ≡ count_trailing_zeros 64 m → place ≡ row * length ys + column → length xs ≤ row → marked_items m (product xs ys) ≡ []
   pairs-none m xs ys place row column at parts past =
       let rows : length xs * length ys ≤ row * length ys = mul-le-mul_right (length ys) past in
       let long = length-product xs ys in
@@ -149,14 +149,14 @@ module _ {A B : Type 0} where
 
 -- ---- marks made from the last item on
 
-digits : {A : Type 0} (test : A → Bool) (x : A) (done : List A) (marks : ℕ) → marked marks done ≡ filter test done → (b : Bool) → test x ≡ b
-    → with_digit (((if b then 1 else 0) + 2 * marks) % 2) x (marked (((if b then 1 else 0) + 2 * marks) / 2) done) ≡ filter test (x ∷ done)
+digits : {A : Type 0} (test : A → Bool) (x : A) (done : List A) (marks : ℕ) → marked_items marks done ≡ filter test done → (b : Bool) → test x ≡ b
+    → with_digit (((if b then 1 else 0) + 2 * marks) % 2) x (marked_items (((if b then 1 else 0) + 2 * marks) / 2) done) ≡ filter test (x ∷ done)
 digits test x done marks is true tested =
     let p : (1 + 2 * marks) % 2 ≡ 1 = omega arith in let q : (1 + 2 * marks) / 2 ≡ marks = omega arith in
-    ap₂ (λ u v. with_digit u x (marked v done)) p q ∙ ap (λ l. x ∷ l) is ∙ ap (λ (c : Bool). if c then x ∷ filter test done else filter test done) (sym tested)
+    ap₂ (λ u v. with_digit u x (marked_items v done)) p q ∙ ap (λ l. x ∷ l) is ∙ ap (λ (c : Bool). if c then x ∷ filter test done else filter test done) (sym tested)
 digits test x done marks is false tested =
     let p : (0 + 2 * marks) % 2 ≡ 0 = omega arith in let q : (0 + 2 * marks) / 2 ≡ marks = omega arith in
-    ap₂ (λ u v. with_digit u x (marked v done)) p q ∙ is ∙ ap (λ (c : Bool). if c then x ∷ filter test done else filter test done) (sym tested)
+    ap₂ (λ u v. with_digit u x (marked_items v done)) p q ∙ is ∙ ap (λ (c : Bool). if c then x ∷ filter test done else filter test done) (sym tested)
 
 -- so far marks stand for those behind the rest
 pub record IsRow {A : Type 0} (test : A → Bool) (items rest : List A) (others marks : ℕ) : Type 0 where
@@ -196,7 +196,7 @@ module _ {A : Type 0} (test : A → Bool) (items : List A) (others : ℕ) where
 pub record AreRows {A B : Type 0} (test : A × B → Bool) (lefts rest : List A) (rights : List B) (marks : ℕ) : Type 0 where
   pub done : List A
   pub all : lefts ≡ rest ++ done
-  pub made : marked marks (product done rights) ≡ filter test (product done rights)
+  pub made : marked_items marks (product done rights) ≡ filter test (product done rights)
   pub room : marks < 2 ^ (length done * length rights)
 
 module _ {A B : Type 0} (test : A × B → Bool) (lefts : List A) (rights : List B) where
@@ -224,8 +224,8 @@ module _ {A B : Type 0} (test : A × B → Bool) (lefts : List A) (rights : List
       let power : 2 ^ (length so.done * length rights) ≤ 2 ^ (64 - length rights) = pow_mono fewer in
       omega (arith, so.room, power)
 
-  row-marked : (x : A) (others : List (A × B)) (marks : ℕ) → marked marks others ≡ filter test others → (ys : List B)
-      → marked (with_marks (map (λ y. test (the_pair x y)) ys) marks) (map (λ y. the_pair x y) ys ++ others) ≡ filter test (map (λ y. the_pair x y) ys ++ others)
+  row-marked : (x : A) (others : List (A × B)) (marks : ℕ) → marked_items marks others ≡ filter test others → (ys : List B)
+      → marked_items (with_marks (map (λ y. test (the_pair x y)) ys) marks) (map (λ y. the_pair x y) ys ++ others) ≡ filter test (map (λ y. the_pair x y) ys ++ others)
   row-marked x others marks so [] = so
   row-marked x others marks so (y ∷ ys) =
       digits test (the_pair x y) (map (λ y. the_pair x y) ys ++ others) (with_marks (map (λ y. test (the_pair x y)) ys) marks) (row-marked x others marks so ys) (test (the_pair x y)) refl
@@ -244,11 +244,11 @@ module _ {A B : Type 0} (test : A × B → Bool) (lefts : List A) (rights : List
       record {
         done = x ∷ so.done;
         all = so.all ∙ ap (λ l. l ++ so.done) is ∙ append_assoc before (x ∷ []) so.done;
-        made = ap (λ n. marked n (product (x ∷ so.done) rights)) made ∙ row-marked x (product so.done rights) marks so.made rights;
+        made = ap (λ n. marked_items n (product (x ∷ so.done) rights)) made ∙ row-marked x (product so.done rights) marks so.made rights;
         room = subst (λ n. n < 2 ^ (length (x ∷ so.done) * length rights)) (sym made)
             (subst (λ k. with_marks (map (λ y. test (the_pair x y)) rights) marks < 2 ^ k) (ap (λ k. k + length so.done * length rights) long ∙ rows) (row-room (map (λ y. test (the_pair x y)) rights) marks (length so.done * length rights) so.room));
       }
 
-  pub rows-all : (rest : List A) (marks : ℕ) → AreRows test lefts rest rights marks → length rest ≡ 0 → marked marks (product lefts rights) ≡ filter test (product lefts rights)
-  rows-all [] marks so none = subst (λ l. marked marks (product l rights) ≡ filter test (product l rights)) (sym so.all) so.made
+  pub rows-all : (rest : List A) (marks : ℕ) → AreRows test lefts rest rights marks → length rest ≡ 0 → marked_items marks (product lefts rights) ≡ filter test (product lefts rights)
+  rows-all [] marks so none = subst (λ l. marked_items marks (product l rights) ≡ filter test (product l rights)) (sym so.all) so.made
   rows-all (x ∷ rest) marks so none = absurd (omega (arith, none))

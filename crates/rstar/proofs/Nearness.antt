@@ -12,7 +12,7 @@ use Rattle.rstar_base.proofs.Hulls.{hull-value, hull-single}
 use Rattle.rstar.specs.declared.node.RTreeNode.{RTreeNode, Parent}
 use Rattle.rstar.specs.declared.node.ParentNode.{ParentNode}
 use Rattle.rstar.specs.Nodes.{elements, all_elements, elements_of, children_of, envelope_of, node_box, IsTree, IsElement, IsInner, IsTight, AreWhole, IsWhole}
-use Rattle.rstar.specs.Searches.{AreParts, distance_of}
+use Rattle.rstar.specs.Searches.{AreWholeNodes, distance_of}
 use Rattle.rstar.proofs.Rows.{no_leaf, parent_of, is_leaf, is_parent, elements-Leaf, elements-Parent, node_box-Leaf, node_box-Parent, node_distance-Leaf, node_distance-Parent}
 use Rattle.rstar.proofs.Trees.{sound, all_sound, box_is_hull, merged_is_hull, values-of}
 
@@ -149,7 +149,7 @@ module _ {T E : Type 0} {IsPoint : List ℤ → Type 0} {v : Boxes E} {o : Objec
       subst (λ e. AllByRecursion (λ c. v.distance_2 e p ≤ at c) (children_of q)) (sym box) all
 
   -- the children of a parent
-  pub parts : (h : ℕ) (ns : List (RTreeNode T E P S X)) → AreWhole v o h ns → AreParts v o ns
+  pub parts : (h : ℕ) (ns : List (RTreeNode T E P S X)) → AreWhole v o h ns → AreWholeNodes v o ns
   parts h = all_map (IsTree (IsInner v o) (IsElement v o) h) IsPart (λ n w. (h, w))
 
   -- a parent that waits is tight, with its children

@@ -85,7 +85,7 @@ all_steps-applied f xs ys = ap (λ n. 1 + n) (total-applied f (λ (b : _ → ℕ
 
 -- ---- what a row shows
 
-nodes-row : {T E : Type 0} (ns : List (Shown T E)) → nodes_in (row_of ns) ≡ ns
+pub nodes-row : {T E : Type 0} (ns : List (Shown T E)) → nodes_in (row_of ns) ≡ ns
 nodes-row [] = refl
 nodes-row (n ∷ ns) = ap (λ (l : List (Shown _ _)). n ∷ l) (nodes-row ns)
 

@@ -20,7 +20,7 @@ use Rattle.rstar.specs.Lists.{product}
 use Rattle.rstar.specs.Meets.{opened_to, both_leaves, pairs_at, opens_at, all_pairs, all_opens, meet_of_roots}
 use Rattle.rstar.specs.declared.iterators.joins.PairStep.{PairStep}
 use Rattle.rstar.specs.declared.iterators.joins.PairStep.TheVariants.{Found, Passed, Ended}
-use Rattle.rstar.specs.JoinWalks.{frame_of, marked, rows_beside, Frame, IsMetPair, IsFrame, AreFrames, met_of, unasked_of, frames_of, pairs_below, opens_below, pairs_by, pairs_from_frames, opens_from_frames, IsCounted, all_steps, steps_at, steps_of_pair, steps_of_frame, steps_of_frames, IsGivenPair, IsNearerPair, IsPairStep}
+use Rattle.rstar.specs.JoinWalks.{frame_of, marked_items, rows_beside, Frame, IsMetPair, IsFrame, AreFrames, met_of, unasked_of, frames_of, pairs_below, opens_below, pairs_by, pairs_from_frames, opens_from_frames, CountsPairs, all_steps, steps_at, steps_of_pair, steps_of_frame, steps_of_frames, IsGivenPair, IsNearerPair, IsPairStep}
 use Rattle.rstar.proofs.Rows.{no_parent}
 use Rattle.rstar.proofs.Walks.{level-Parent}
 use Rattle.rstar.proofs.PairRows.{the_pair, product-none, node-cases, does_meet, opened, passed, steps-positive, opened_to-Leaf, opened_to-Parent, is_leaf-Leaf, is_leaf-Parent}
@@ -227,7 +227,7 @@ module _ {T E P S X U F Q R Y : Type 0} (meets : E → F → Bool) (left_box : T
         (frames-after (n + 1) (last.0 + 1) left news last.1 last.2 (move.room last.0 last.3))
 
     pub move-count : (root : ParentNode T E P S X) (root' : ParentNode U F Q R Y) (count count' : ℕ) → count' ≡ min (count + opens) usize_max
-        → IsCounted meets left_box right_box root root' old count → IsCounted meets left_box right_box root root' new count'
+        → CountsPairs meets left_box right_box root root' old count → CountsPairs meets left_box right_box root root' new count'
     move-count root root' count count' more h =
         let a = ap (opens_from_frames meets left_box right_box) was in let b = ap (opens_from_frames meets left_box right_box) is in
         let c = opens-after left (frame ∷ []) in let d = opens-after left news in let e = move.opened in let f = h.all in
@@ -304,7 +304,7 @@ module _ {T E P S X U F Q R Y : Type 0} (meets : E → F → Bool) (left_box : T
   pub move-drop : (frame : Frame T E P S X U F Q R Y) → frame.lefts.now ≡ [] → IsMove frame [] [] 0
   move-drop frame none =
       let k = rows_beside frame.rights.now in
-      let met : met_of frame ≡ [] = ap (λ l. marked frame.marks (product l frame.asked.now)) (ap (take k) none ∙ take-nil k) in
+      let met : met_of frame ≡ [] = ap (λ l. marked_items frame.marks (product l frame.asked.now)) (ap (take k) none ∙ take-nil k) in
       let unasked : unasked_of frame ≡ [] = (λ i. product ((ap (take k) none ∙ take-nil k) i) frame.later.now ++ product ((ap (drop k) none ∙ drop-nil k) i) frame.rights.now) in
       let both : met_of frame ++ unasked_of frame ≡ [] = (λ i. met i ++ unasked i) in
       record {
@@ -346,7 +346,7 @@ module _ {T E P S X U F Q R Y : Type 0} (meets : E → F → Bool) (left_box : T
   -- the next nodes on the right are asked
   pub move-ask : (ls : Bor (List (RTreeNode T E P S X))) (asked later chunk rest rights : Bor (List (RTreeNode U F Q R Y))) (marks more : ℕ) → met_of (frame_of ls asked marks later rights) ≡ []
       → later.now ≡ chunk.now ++ rest.now → 0 < length chunk.now → 0 < length (take (rows_beside rights.now) ls.now) → (rest.now ≡ []) ⊎ (length (take (rows_beside rights.now) ls.now) ≤ 1)
-      → marked more (product (take (rows_beside rights.now) ls.now) chunk.now) ≡ filter meets_pair (product (take (rows_beside rights.now) ls.now) chunk.now)
+      → marked_items more (product (take (rows_beside rights.now) ls.now) chunk.now) ≡ filter meets_pair (product (take (rows_beside rights.now) ls.now) chunk.now)
       → IsMove (frame_of ls asked marks later rights) ((frame_of ls chunk more rest rights) ∷ []) [] 0
   move-ask ls asked later chunk rest rights marks more none split some some' narrow made =
       let k = rows_beside rights.now in
@@ -531,10 +531,10 @@ module _ {T E P S X U F Q R Y : Type 0} (meets : E → F → Bool) (left_box : T
     same-meet : left ≡ left' → right ≡ right' → meet_of_roots meets left_box right_box left right ≡ meet_of_roots meets left_box right_box left' right'
     same-meet e e' = (λ i. meet_of_roots meets left_box right_box (e i) (e' i))
 
-    pub count-at_most : {frames : List (Frame T E P S X U F Q R Y)} {opened : ℕ} → left ≡ left' → right ≡ right' → IsCounted meets left_box right_box left right frames opened
+    pub count-at_most : {frames : List (Frame T E P S X U F Q R Y)} {opened : ℕ} → left ≡ left' → right ≡ right' → CountsPairs meets left_box right_box left right frames opened
         → opened ≤ meet_of_roots meets left_box right_box left' right'
     count-at_most e e' h = let same = same-meet e e' in omega (arith, h.all, h.counted)
 
-    pub count-ended : {frames : List (Frame T E P S X U F Q R Y)} {opened : ℕ} → left ≡ left' → right ≡ right' → opens_from_frames meets left_box right_box frames ≡ 0 → IsCounted meets left_box right_box left right frames opened
+    pub count-ended : {frames : List (Frame T E P S X U F Q R Y)} {opened : ℕ} → left ≡ left' → right ≡ right' → opens_from_frames meets left_box right_box frames ≡ 0 → CountsPairs meets left_box right_box left right frames opened
         → opened ≡ min (meet_of_roots meets left_box right_box left' right') usize_max
     count-ended e e' nothing h = let same = same-meet e e' in omega (arith, h.all, h.counted, nothing)

@@ -13,7 +13,7 @@ use Rattle.rstar.specs.declared.algorithm.nearest_neighbor.search.Stage.{Stage}
 use Rattle.rstar.specs.declared.algorithm.nearest_neighbor.search.Stage.TheVariants.{Fresh, Running, Ended}
 use Rattle.rstar.specs.Nodes.{all_elements, all_far, far_of, parents_of}
 use Rattle.rstar.specs.Neighbors.{IsNeighbor}
-use Rattle.rstar.specs.Searches.{NodeSearch, Item, waiting_nodes, waiting_at, calls_at, waiting_of, held_by, calls_left, IsUnrefused, IsCounted, IsRunning, IsReady, IsReadyAt}
+use Rattle.rstar.specs.Searches.{NodeSearch, Item, waiting_nodes, waiting_at, calls_at, waiting_of, held_by, calls_left, IsUnrefused, CountsOpenings, IsRunning, IsReady, IsReadyAt}
 use Rattle.rstar.proofs.Searches.{fresh-counted, all-far-fewer}
 
 module _ {T E P S X : Type 0} where
@@ -46,13 +46,13 @@ module _ {T E P S X : Type 0} where
 
 -- until a refusal, the parents opened are those that do not wait
 counted-at : {T E P S X : Type 0} (v : Boxes E) (d : Distances T) (p : List ℤ) (compare : S → S → Ordering) (value : S → ℤ) (o : Objects T E) (stage : Stage) (root : ParentNode T E P S X) (heap : Held (Item T E P S X)) (opened : ℕ)
-    → IsReadyAt v d p compare value o stage root heap opened → IsUnrefused stage → IsCounted root (waiting_at stage root (items_of heap)) opened
-counted-at v d p compare value o Fresh root heap opened ready going = subst (IsCounted root (Parent root ∷ [])) (sym ready.2) (fresh-counted root)
+    → IsReadyAt v d p compare value o stage root heap opened → IsUnrefused stage → CountsOpenings root (waiting_at stage root (items_of heap)) opened
+counted-at v d p compare value o Fresh root heap opened ready going = subst (CountsOpenings root (Parent root ∷ [])) (sym ready.2) (fresh-counted root)
 counted-at v d p compare value o Running root heap opened ready going = ready.counted
 counted-at v d p compare value o Ended root heap opened ready going = absurd going
 
 pub counted : {T E P S X : Type 0} (v : Boxes E) (d : Distances T) (p : List ℤ) (compare : S → S → Ordering) (value : S → ℤ) (o : Objects T E) (s : NodeSearch T E P S X) → IsReady v d p compare value o s → IsUnrefused s.stage
-    → IsCounted s.root.now (waiting_of s) s.opened
+    → CountsOpenings s.root.now (waiting_of s) s.opened
 counted v d p compare value o s ready going = counted-at v d p compare value o s.stage s.root.now s.heap s.opened ready going
 
 -- the parents opened, and those farther than what was given, are no more than there are

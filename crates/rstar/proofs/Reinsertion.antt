@@ -12,7 +12,7 @@ use Rattle.rstar.specs.declared.node.ParentNode.{ParentNode}
 use Rattle.rstar.specs.Heights.{spare_lists}
 use Rattle.rstar.specs.Nodes.{all_elements, parents, all_parents, node_box, IsTree, IsElement}
 use Rattle.rstar.specs.Shapes.{AreTrees, IsAny, HasSize}
-use Rattle.rstar.specs.Kept.{IsKeptInner, IsFit, AreKept, IsKeptTree, IsSizedAfter}
+use Rattle.rstar.specs.Kept.{IsKeptInner, HasMergedBox, AreKept, IsKeptTree, IsSizedAfter}
 use Rattle.rstar.proofs.Places.{all_set}
 use Rattle.rstar.proofs.Rows.{elements-Leaf, elements-Parent, is_leaf, leaf_of}
 use Rattle.rstar.proofs.Trees.{merged_is_hull}
@@ -66,7 +66,7 @@ module _ {T E : Type 0} (v : Boxes E) (o : Objects T E) (max widest : ℕ) {P S 
 module _ {T E : Type 0} {IsPoint : _} {v : Boxes E} {o : Objects T E} (laws : EnvelopeLaws IsPoint v) (ok : ObjectLaws v o) (max widest : ℕ) {P S X : Type 0} where
   -- a lowest parent took a leaf in, and handed some out
   pub leaf_handed : (h : ℕ) (t : T) (old before out : List (RTreeNode T E P S X)) (p : ParentNode T E P S X) → h ≡ 0
-      → IsPermutation (t ∷ all_elements old) (all_elements before) → AreKept v o max widest h before → IsPermutation before (p.children.items ++ out) → IsFit v o max widest p
+      → IsPermutation (t ∷ all_elements old) (all_elements before) → AreKept v o max widest h before → IsPermutation before (p.children.items ++ out) → HasMergedBox v o max widest p
       → IsPermutation (t ∷ all_elements old) (all_elements p.children.items ++ all_elements out) × IsKeptTree v o max widest h p × AreKept v o max widest 0 out
   leaf_handed h t old before out p low bag trees same fit =
       let parts = all_along (IsTree (IsKeptInner v o max widest) (IsElement v o) h) before (p.children.items ++ out) same trees in

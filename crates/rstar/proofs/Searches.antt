@@ -19,7 +19,7 @@ use Rattle.rstar.specs.declared.node.RTreeNode.{RTreeNode, Leaf, Parent, Parent'
 use Rattle.rstar.specs.declared.node.ParentNode.{ParentNode}
 use Rattle.rstar.specs.Nodes.{fold_tree, fold_row, total, elements, parents, far, all_elements, all_parents, all_far, far_of, IsTight, AreWhole, children_of, envelope_of}
 use Rattle.rstar_base.specs.Counts.{usize_max}
-use Rattle.rstar.specs.Searches.{Item, waiting_nodes, distance_of, AreParts, IsCounted, IsFarKept}
+use Rattle.rstar.specs.Searches.{Item, waiting_nodes, distance_of, AreWholeNodes, CountsOpenings, IsFarKept}
 use Rattle.rstar.proofs.Nearness.{IsMeasured, IsPart, lower, above-node, above-Parent, parts}
 use Rattle.rstar.proofs.Rows.{elements-Parent, parents-Parent, far-Parent, elements-Leaf, far-Leaf, node_distance-Leaf, node_distance-Parent}
 
@@ -92,7 +92,7 @@ module _ {T E P S X : Type 0} (dist : E → ℕ) (m : ℕ) where
       omega (arith, one, rest, a, b)
 
 -- the root alone
-pub fresh-counted : {T E P S X : Type 0} (root : ParentNode T E P S X) → IsCounted root (Parent root ∷ []) 0
+pub fresh-counted : {T E P S X : Type 0} (root : ParentNode T E P S X) → CountsOpenings root (Parent root ∷ []) 0
 fresh-counted root =
     let one = parents-Parent root in
     record { fewer = omega arith; counts = omega arith }
@@ -109,7 +109,7 @@ module _ {T E : Type 0} {IsPoint : List ℤ → Type 0} {v : Boxes E} {o : Objec
   at = distance_of v d p
 
   -- where no waiting node is nearer than m, no element is
-  pub above-all : (m : ℕ) (ns : List (RTreeNode T E P S X)) → AreParts v o ns → AllByRecursion (λ c. m ≤ at c) ns → AllByRecursion (λ t. m ≤ d.distance_2 t p) (all_elements ns)
+  pub above-all : (m : ℕ) (ns : List (RTreeNode T E P S X)) → AreWholeNodes v o ns → AllByRecursion (λ c. m ≤ at c) ns → AllByRecursion (λ t. m ≤ d.distance_2 t p) (all_elements ns)
   above-all m [] h k = tt
   above-all m (n ∷ ns) h k = all-append (λ t. m ≤ d.distance_2 t p) (elements n) (all_elements ns) (lower (λ t. d.distance_2 t p) m _ (elements n) k.0 (above-node law n h.0)) (above-all m ns h.1 k.1)
 
@@ -132,7 +132,7 @@ module _ {T E : Type 0} {IsPoint : List ℤ → Type 0} {v : Boxes E} {o : Objec
           let e = subst (λ (l : List T). IsPermutation (all_elements old) (l ++ all_elements rest)) (elements-Parent q) a in
           IsPermutation-trans _ _ _ e (IsPermutation-trans _ _ _ c (subst (λ (l : List T). IsPermutation l (all_elements new)) (flat_map-append elements rest (children_of q)) b))
 
-      pub counted-parent : (opened more : ℕ) → more ≡ min (opened + 1) usize_max → IsCounted root old opened → IsCounted root new more
+      pub counted-parent : (opened more : ℕ) → more ≡ min (opened + 1) usize_max → CountsOpenings root old opened → CountsOpenings root new more
       counted-parent opened more is s =
           let less = fewer-parents in
           let before = s.fewer in
@@ -140,7 +140,7 @@ module _ {T E : Type 0} {IsPoint : List ℤ → Type 0} {v : Boxes E} {o : Objec
           record { fewer = omega arith; counts = omega arith }
 
       module _ (h : ℕ) (tight : IsTight v o q) (below : AreWhole v o h (children_of q)) where
-        pub parts-parent : AreParts v o rest → AreParts v o new
+        pub parts-parent : AreWholeNodes v o rest → AreWholeNodes v o new
         parts-parent w = all_along (IsPart law) (rest ++ children_of q) new put (all-append (IsPart law) rest (children_of q) w (parts law h (children_of q) below))
 
         module _ (least : AllByRecursion (λ c. at (Parent q) ≤ at c) rest) where
@@ -181,7 +181,7 @@ module _ {T E : Type 0} {IsPoint : List ℤ → Type 0} {v : Boxes E} {o : Objec
       pub bag-given : IsPermutation (all_elements old) (t ∷ all_elements rest)
       bag-given = subst (λ (l : List T). IsPermutation (all_elements old) (l ++ all_elements rest)) (elements-Leaf T E P S X t) (IsPermutation-flat_map elements old (Leaf t ∷ rest) popped)
 
-      pub counted-leaf : (opened : ℕ) → IsCounted root old opened → IsCounted root rest opened
+      pub counted-leaf : (opened : ℕ) → CountsOpenings root old opened → CountsOpenings root rest opened
       counted-leaf opened s =
           let same = sum_by_popped parents (Leaf t) old rest popped in
           let none = parents-Leaf T E P S X t in
@@ -190,7 +190,7 @@ module _ {T E : Type 0} {IsPoint : List ℤ → Type 0} {v : Boxes E} {o : Objec
           record { fewer = omega arith; counts = omega arith }
 
       module _ (least : AllByRecursion (λ c. at (Leaf t) ≤ at c) rest) where
-        pub least-given : AreParts v o rest → AllByRecursion (λ u. d.distance_2 t p ≤ d.distance_2 u p) (all_elements rest)
+        pub least-given : AreWholeNodes v o rest → AllByRecursion (λ u. d.distance_2 t p ≤ d.distance_2 u p) (all_elements rest)
         least-given whole = above-all (d.distance_2 t p) rest whole (subst (λ m. AllByRecursion (λ c. m ≤ at c) rest) mine least)
 
         pub far-rest : IsFarKept v d p root old → IsFarKept v d p root rest

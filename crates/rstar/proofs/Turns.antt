@@ -15,7 +15,7 @@ use Rattle.rstar.specs.declared.node.ParentNode.{ParentNode}
 use Rattle.rstar.specs.Nodes.{all_elements, all_parents, parents, children_of}
 use Rattle.rstar_base.specs.Counts.{usize_max}
 use Rattle.rstar.specs.Neighbors.{IsNeighbor}
-use Rattle.rstar.specs.Searches.{Item, waiting_nodes, distance_of, AreParts, AreWaiting, IsCounted, IsFarKept, IsRunning}
+use Rattle.rstar.specs.Searches.{Item, waiting_nodes, distance_of, AreWholeNodes, AreWaiting, CountsOpenings, IsFarKept, IsRunning}
 use Rattle.rstar.proofs.Rows.{node_distance-Leaf, parents-Parent}
 use Rattle.rstar.proofs.Nearness.{IsMeasured, IsPart, part-Parent}
 use Rattle.rstar.proofs.Searches.{least-nodes, parts-parent, fewer-parents, same-elements, counted-parent, far-parent, bag-given, least-given, far-given, counted-leaf, far-rest}
@@ -74,7 +74,7 @@ module _ {T E : Type 0} {IsPoint : List ℤ → Type 0} {v : Boxes E} {o : Objec
   abbrev rest : List (RTreeNode T E P S X)
   rest = waiting_nodes (items_of us)
 
-  all-parts : AreParts v o (w.node.now ∷ rest)
+  all-parts : AreWholeNodes v o (w.node.now ∷ rest)
   all-parts = all_along (IsPart law) old (w.node.now ∷ rest) (popped-nodes v d p value compare ws us w running.waiting ordered popped) running.parts
 
   -- the item was a leaf
@@ -137,8 +137,8 @@ pub same-running : {T E P S X : Type 0} (v : Boxes E) (d : Distances T) (p : Lis
     → IsRunning v d p compare value o root ws opened → IsRunning v d p compare value o root us opened
 same-running {T} {E} {P} {S} {X} v d p value compare o root ws us opened e ordered running = record {
   waiting = record { ordered = ordered; at = subst (AllByRecursion (λ (w : Item T E P S X). value w.distance ≡ pos (distance_of v d p w.node.now))) e running.waiting.at };
-  parts = subst (λ (l : List (Item T E P S X)). AreParts v o (waiting_nodes l)) e running.parts;
-  counted = subst (λ (l : List (Item T E P S X)). IsCounted root (waiting_nodes l) opened) e running.counted;
+  parts = subst (λ (l : List (Item T E P S X)). AreWholeNodes v o (waiting_nodes l)) e running.parts;
+  counted = subst (λ (l : List (Item T E P S X)). CountsOpenings root (waiting_nodes l) opened) e running.counted;
   still_far = subst (λ (l : List (Item T E P S X)). IsFarKept v d p root (waiting_nodes l)) e running.still_far;
 }
 

@@ -20,8 +20,8 @@ use Rattle.rstar.specs.Taking.{IsPast, IsRestAt}
 abbrev pub drained : {T F D Q E P S X : Type 0} → DrainIterator T F D Q E P S X → RTree T D E P S X
 drained it = it.tree.now
 
-abbrev pub elements_left : {T F D Q E P S X : Type 0} → DrainIterator T F D Q E P S X → List T
-elements_left it = elements_in (drained it)
+abbrev pub left_in_tree : {T F D Q E P S X : Type 0} → DrainIterator T F D Q E P S X → List T
+left_in_tree it = elements_in (drained it)
 
 abbrev pub drain_question : {T F D Q E P S X : Type 0} → DrainIterator T F D Q E P S X → F
 drain_question it = it.func
@@ -56,10 +56,10 @@ module _ {T F D E P S X : Type 0} (v : Boxes E) (o : Objects T E) (max : ℕ) (a
   -- and the tree is as it was
   pub record TakesNext (old : DrainIterator T F D (Vec ℕ Global) E P S X) (r : Option T)
       (new : DrainIterator T F D (Vec ℕ Global) E P S X) : Type 0 where
-    pub taken : IsWithout (elements_left old) r (elements_left new)
+    pub taken : IsWithout (left_in_tree old) r (left_in_tree new)
     pub selected : IfSome r (λ x. selects (drain_question old) x ≡ true)
     pub ended : IfNone r (IsLawful v o (accepts (drain_question old)) (selects (drain_question old))
-        → NoneSelected (selects (drain_question old)) (elements_left old))
+        → NoneSelected (selects (drain_question old)) (left_in_tree old))
     pub kept : IfNone r (drained new ≡ drained old)
     pub whole : IsWholeTree v o max (drained new)
     pub question : drain_question new ≡ drain_question old

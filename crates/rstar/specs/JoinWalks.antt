@@ -17,9 +17,9 @@ use Rattle.rstar.specs.Walks.{IsLevel}
 -- ---- marks: the binary digits of a number, the lowest for the first item
 
 -- the items that are marked
-abbrev pub marked : {A : Type 0} → ℕ → List A → List A
-marked marks [] = []
-marked marks (x ∷ xs) = if marks % 2 == 1 then x ∷ marked (marks / 2) xs else marked (marks / 2) xs
+abbrev pub marked_items : {A : Type 0} → ℕ → List A → List A
+marked_items marks [] = []
+marked_items marks (x ∷ xs) = if marks % 2 == 1 then x ∷ marked_items (marks / 2) xs else marked_items (marks / 2) xs
 
 -- the first pair that is marked, as the items from each of the two on, and marks for the others
 pub record IsFirstPair {A B : Type 0} (lefts : List A) (rights : List B) (marks : ℕ) (from : List A) (beside : List B)
@@ -30,7 +30,7 @@ pub record IsFirstPair {A B : Type 0} (lefts : List A) (rights : List B) (marks 
   pub right_behind : List B
   pub left_begins : from ≡ left ∷ left_behind
   pub right_begins : beside ≡ right ∷ right_behind
-  pub all : marked marks (product lefts rights) ≡ (left, right) ∷ marked others (product lefts rights)
+  pub all : marked_items marks (product lefts rights) ≡ (left, right) ∷ marked_items others (product lefts rights)
 
 -- marks with one for each of these tests in front of them
 abbrev pub with_marks : List Bool → ℕ → ℕ
@@ -59,7 +59,7 @@ IsSingle xs = length xs ≡ 1
 module _ {T E P S X U F Q R Y : Type 0} where
   -- the pairs that meet and are still to be read, and those that are asked later
   abbrev pub met_of : Frame T E P S X U F Q R Y → List (RTreeNode T E P S X × RTreeNode U F Q R Y)
-  met_of frame = marked frame.marks (product (take (rows_beside frame.rights.now) frame.lefts.now) frame.asked.now)
+  met_of frame = marked_items frame.marks (product (take (rows_beside frame.rights.now) frame.lefts.now) frame.asked.now)
 
   abbrev pub unasked_of : Frame T E P S X U F Q R Y → List (RTreeNode T E P S X × RTreeNode U F Q R Y)
   unasked_of frame = product (take (rows_beside frame.rights.now) frame.lefts.now) frame.later.now
@@ -113,7 +113,7 @@ module _ {T E P S X U F Q R Y : Type 0} (meets : E → F → Bool) (left_box : T
   opens_from_frames (frame ∷ frames) = opens_from_frames frames + opens_below (met_of frame ++ unasked_of frame)
 
   -- the pairs opened and those still to be opened are all that Meet counts
-  pub record IsCounted (left : ParentNode T E P S X) (right : ParentNode U F Q R Y)
+  pub record CountsPairs (left : ParentNode T E P S X) (right : ParentNode U F Q R Y)
       (frames : List (Frame T E P S X U F Q R Y)) (opened : ℕ) : Type 0 where
     pub count : ℕ
     pub counted : opened ≡ min count usize_max
@@ -122,7 +122,7 @@ module _ {T E P S X U F Q R Y : Type 0} (meets : E → F → Bool) (left_box : T
   -- what a join on its way keeps: room for all frames that may come, and the count
   pub record HasItsPaths (it : IntersectionIterator T U E P S X F Q R Y) : Type 0 where
     pub frames : AreFrames (it.path.capacity + 1) (frames_of it)
-    pub count : IsCounted it.left.now it.right.now (frames_of it) it.opened
+    pub count : CountsPairs it.left.now it.right.now (frames_of it) it.opened
 
   -- the pairs that it still gives, in order
   abbrev pub pairs_by : IntersectionIterator T U E P S X F Q R Y → List (T × U)

@@ -51,7 +51,7 @@ module _ {T E P S X : Type 0} (v : Boxes E) (o : Objects T E) (max widest : ℕ)
   IsKeptInner p = IsKept p × (0 < length p.children.items)
 
   -- a parent whose envelope is the merge of its children's, with a child
-  pub record IsFit (p : ParentNode T E P S X) : Type 0 where
+  pub record HasMergedBox (p : ParentNode T E P S X) : Type 0 where
     pub merged : p.envelope ≡ hull v (node_box o.box_of) p.children.items
     pub some : 0 < length p.children.items
     pub roomy : IsRoomy max widest p

@@ -7,7 +7,7 @@ use Rattle.rstar_base.specs.Envelopes.{Boxes}
 use Rattle.rstar_base.specs.Elements.{Objects, Distances}
 use Rattle.rstar.specs.declared.node.RTreeNode.{RTreeNode}
 use Rattle.rstar.specs.Nodes.{all_elements}
-use Rattle.rstar.specs.Searches.{AreParts}
+use Rattle.rstar.specs.Searches.{AreWholeNodes}
 
 -- a bound: each element that was cut lies above it, and not all that are left do
 pub record IsBound {T : Type 0} (distance : T → ℕ) (left cut : List T) (bound : ℤ) : Type 0 where
@@ -24,7 +24,7 @@ IsAbove value (Some s) distance = value s <ℤ pos distance
 -- all elements are those of the nodes that are left and those that were cut, which are none where there is no bound
 pub record IsPruned {T E P S X : Type 0} (v : Boxes E) (o : Objects T E) (d : Distances T) (p : List ℤ) (value : S → ℤ)
     (all : List T) (nodes : List (RTreeNode T E P S X)) (bound : Option S) : Type 0 where
-  pub parts : AreParts v o nodes
+  pub parts : AreWholeNodes v o nodes
   pub cut : List T
   pub bag : IsPermutation all (all_elements nodes ++ cut)
   pub bounded : MatchOption bound (cut ≡ []) (λ s. IsBound (λ t. d.distance_2 t p) (all_elements nodes) cut (value s))

@@ -27,11 +27,11 @@ abbrev pub waiting_nodes : {T E P S X : Type 0} → List (Item T E P S X) → Li
 waiting_nodes ws = map (λ w. w.node.now) ws
 
 -- whole nodes, of any heights
-abbrev pub AreParts : {T E P S X : Type 0} → Boxes E → Objects T E → List (RTreeNode T E P S X) → Type 0
-AreParts v o ns = AllByRecursion (λ n. (h : ℕ) × IsTree (IsInner v o) (IsElement v o) h n) ns
+abbrev pub AreWholeNodes : {T E P S X : Type 0} → Boxes E → Objects T E → List (RTreeNode T E P S X) → Type 0
+AreWholeNodes v o ns = AllByRecursion (λ n. (h : ℕ) × IsTree (IsInner v o) (IsElement v o) h n) ns
 
 -- how many parents were opened: those of the root that neither wait nor lie below what waits
-pub record IsCounted {T E P S X : Type 0} (root : ParentNode T E P S X) (waiting : List (RTreeNode T E P S X))
+pub record CountsOpenings {T E P S X : Type 0} (root : ParentNode T E P S X) (waiting : List (RTreeNode T E P S X))
     (opened : ℕ) : Type 0 where
   pub fewer : all_parents waiting ≤ parents_of root
   pub counts : opened ≡ min (parents_of root - all_parents waiting) usize_max
@@ -94,8 +94,8 @@ module _ {T E P S X : Type 0} (v : Boxes E) (d : Distances T) (p : List ℤ) whe
     pub record IsRunning (o : Objects T E) (root : ParentNode T E P S X) (heap : Held (Item T E P S X)) (opened : ℕ)
         : Type 0 where
       pub waiting : AreWaiting heap
-      pub parts : AreParts v o (waiting_nodes (items_of heap))
-      pub counted : IsCounted root (waiting_nodes (items_of heap)) opened
+      pub parts : AreWholeNodes v o (waiting_nodes (items_of heap))
+      pub counted : CountsOpenings root (waiting_nodes (items_of heap)) opened
       pub still_far : IsFarKept root (waiting_nodes (items_of heap))
 
     -- what holds between two calls, until a refusal

@@ -5,7 +5,7 @@ ghost use Rattle.std.specs.List.{AllByRecursion};
 ghost use Rattle.rstar.specs.declared.replay.Reply.TheVariants.{TooMany};
 ghost use Rattle.rstar.specs.Clones.{ClonesEqual};
 ghost use Rattle.rstar.specs.Heights.{height_of, spare_lists};
-ghost use Rattle.rstar.specs.Steps.{questions_of, IsFit, IsInsertion, IsRefusal, Step, Run};
+ghost use Rattle.rstar.specs.Steps.{Questions, questions_of, IsFit, IsInsertion, IsRefusal, Step, Run};
 ghost use Rattle.rstar.specs.Trees.{root_of, size_of, elements_in, IsUnchanged, IsWholeTree};
 
 mod answers;
@@ -21,6 +21,17 @@ use rstar_base::object::{Distance, EqualEnvelopes, PointDistance, PointOf, RTree
 use rstar_base::params::RTreeParams;
 use rstar_base::point::{Point, RTreeNum};
 use std::alloc::AllocError;
+
+/// What a scan asks of elements, in one word for contracts. It has no methods, and each type of elements with distances
+/// and equal envelopes has it.
+pub trait Scanned: PointDistance + EqualEnvelopes {
+    ghost questions: { Questions Self Self.Envelope Self.Envelope.Point Self.Envelope.Point.Scalar };
+}
+
+impl<T: PointDistance + EqualEnvelopes> Scanned for T {
+    ghost questions = { questions_of T.Envelope.boxes T.object T.distances T.Envelope.Point.DIMENSIONS
+        T.Envelope.Point.coord T.Envelope.Point.Scalar.value T.eq };
+}
 
 /// Which elements are asked for.
 #[derive(Drop)]
@@ -101,11 +112,8 @@ pub fn step<T: PointDistance + EqualEnvelopes + Clone, Params: RTreeParams>(
 ) -> Reply<T>
     requires whole { IsWholeTree T.Envelope.boxes T.object Params.MAX_SIZE tree.old }
     requires clones { ClonesEqual T.is_clone }
-    requires fit { IsFit (questions_of T.Envelope.boxes T.object T.distances T.Envelope.Point.DIMENSIONS
-        T.Envelope.Point.coord T.Envelope.Point.Scalar.value T.eq) T.Envelope.Point.DIMENSIONS command }
-    ensures step { Step (questions_of T.Envelope.boxes T.object T.distances T.Envelope.Point.DIMENSIONS
-        T.Envelope.Point.coord T.Envelope.Point.Scalar.value T.eq)
-        (elements_in tree.old) command result (elements_in tree.new) }
+    requires fit { IsFit ⟦<T as Scanned>⟧.questions T.Envelope.Point.DIMENSIONS command }
+    ensures step { Step ⟦<T as Scanned>⟧.questions (elements_in tree.old) command result (elements_in tree.new) }
     ensures whole { IsWholeTree T.Envelope.boxes T.object Params.MAX_SIZE tree.new }
     ensures refused { IsRefusal result → IsUnchanged tree.old tree.new }
     ensures too_many { (result ≡ TooMany) ↔ (IsInsertion command × ((size_of tree.old ≡ usize.MAX)
@@ -135,12 +143,8 @@ pub fn replay<T: PointDistance + EqualEnvelopes + Clone, Params: RTreeParams>(
 ) -> Result<Vec<Reply<T>>, AllocError>
     requires whole { IsWholeTree T.Envelope.boxes T.object Params.MAX_SIZE tree.old }
     requires clones { ClonesEqual T.is_clone }
-    requires fit { AllByRecursion (IsFit (questions_of T.Envelope.boxes T.object T.distances
-        T.Envelope.Point.DIMENSIONS T.Envelope.Point.coord T.Envelope.Point.Scalar.value T.eq)
-        T.Envelope.Point.DIMENSIONS) commands.items }
-    ensures run { IfOk result (λ replies. Run (questions_of T.Envelope.boxes T.object T.distances
-        T.Envelope.Point.DIMENSIONS T.Envelope.Point.coord T.Envelope.Point.Scalar.value T.eq)
-        (elements_in tree.old) commands.items replies.items (elements_in tree.new)) }
+    requires fit { AllByRecursion (IsFit ⟦<T as Scanned>⟧.questions T.Envelope.Point.DIMENSIONS) commands.items }
+    ensures run { IfOk result (λ replies. Run ⟦<T as Scanned>⟧.questions (elements_in tree.old) commands.items replies.items (elements_in tree.new)) }
     ensures none_run { OnErr result (tree.new ≡ tree.old) }
     ensures whole { IsWholeTree T.Envelope.boxes T.object Params.MAX_SIZE tree.new }
 {

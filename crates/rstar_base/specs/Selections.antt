@@ -1,4 +1,4 @@
--- What makes a selection function lawful.
+-- What makes a selection function lawful, and what it selects by.
 use Rattle.std.specs.Prelude.{◌≡◌, Bool, true, false}
 use Rattle.rstar_base.specs.Envelopes.{Boxes}
 use Rattle.rstar_base.specs.Elements.{Objects}
@@ -9,3 +9,10 @@ module _ {T E : Type 0} (v : Boxes E) (o : Objects T E) where
   IsLawful accepts selects =
       (t : T) (e : E) → o.IsValue t → v.IsValue e → selects t ≡ true → v.is_empty (o.box_of t) ≡ false
       → accepts (v.merge (o.box_of t) e) ≡ true
+
+  -- it opens a parent by one test, selects an element by another, and is lawful
+  pub record SelectsBy (opening : E → Bool) (selecting : T → Bool) (opens : E → Bool) (asks : T → Bool)
+      : Type 0 where
+    pub accepts : opening ≡ opens
+    pub selects : selecting ≡ asks
+    pub lawful : IsLawful opening selecting

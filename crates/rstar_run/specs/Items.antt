@@ -1,13 +1,13 @@
 -- Rectangles with IDs, as the tree holds them, and what a scan asks of them.
-use Rattle.std.specs.Prelude.{◌≡◌, ◌^◌, ◌-◌, ◌&&◌, ◌==◌, ℕ, ℤ, Bool, List, pos, negsuc, length, slice_index_or}
-use Rattle.std.specs.Int.{int_min, int_max}
+use Rattle.std.specs.Prelude.{◌≡◌, ◌^◌, ◌-◌, ◌&&◌, ◌==◌, ℕ, ℤ, Bool, List, pos, negsuc, length}
 use Rattle.std.specs.Ordering.{int_eq}
 use Rattle.std.specs.Cmp.Lexicographic.{pointwise}
 use Rattle.std.specs.declared.num.ParseIntError.{ParseIntError}
 use Rattle.rstar_base.specs.declared.primitives.Rectangle.{Rectangle}
 use Rattle.rstar_base.specs.BoxData.{box_data}
-use Rattle.rstar.specs.Boxes.{between_corners}
+use Rattle.rstar.specs.Boxes.{box_of_corners}
 use Rattle.rstar.specs.Elements.{Objects, Distances, carried_objects, carried_distances}
+use Rattle.rstar.specs.Segments.{coordinate}
 use Rattle.rstar.specs.Rectangles.{rectangle_objects, rectangle_distances}
 use Rattle.rstar.specs.Steps as steps
 use Rattle.rstar.specs.declared.replay.Command as commands
@@ -22,15 +22,15 @@ Item = Rectangle (List ℤ) × ℕ
 abbrev pub Box : Type 0
 Box = List (ℤ × ℤ)
 
-abbrev pub Place : Type 0
-Place = List ℤ
+abbrev pub Point : Type 0
+Point = List ℤ
 
 -- commands and replies over such items; ParseIntError is the error of the coordinates' type
 abbrev pub Command : Type 0
-Command = commands.Command Item Box Place ℤ ParseIntError
+Command = commands.Command Item Box Point ℤ ParseIntError
 
 abbrev pub Reply : Type 0
-Reply = replies.Reply Item Box Place ℤ ParseIntError
+Reply = replies.Reply Item Box Point ℤ ParseIntError
 
 -- the least and the greatest coordinate
 abbrev pub low : ℤ
@@ -38,9 +38,6 @@ low = negsuc (2 ^ 63 - 1)
 
 abbrev pub high : ℤ
 high = pos (2 ^ 63 - 1)
-
-abbrev pub coordinate : Place → ℕ → ℤ
-coordinate p axis = slice_index_or p axis (pos 0)
 
 -- an item is where its rectangle is
 abbrev pub item_objects : Objects Item Box
@@ -56,13 +53,12 @@ abbrev pub same_item : Item → Item → Bool
 same_item a b =
     (pointwise int_eq a.0.lower b.0.lower && pointwise int_eq a.0.upper b.0.upper) && a.1 == b.1
 
-abbrev pub questions : steps.Questions Item Box Place ℤ
+abbrev pub questions : steps.Questions Item Box Point ℤ
 questions = steps.questions_of (box_data low high 2) item_objects item_distances 2 coordinate (λ n. n) same_item
 
 -- the box of two opposite corners: on each axis from the lesser coordinate to the greater
 abbrev pub box_between : Corners → Box
-box_between c = between_corners 2 (λ axis. int_min (coordinate c.one axis) (coordinate c.other axis))
-    (λ axis. int_max (coordinate c.one axis) (coordinate c.other axis))
+box_between c = box_of_corners 2 (coordinate c.one) (coordinate c.other)
 
 -- the item is the rectangle between these corners, with this ID: there is one such item, since its own corners have
 -- two coordinates

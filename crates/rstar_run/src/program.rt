@@ -1,7 +1,8 @@
 //! Lines in, lines out.
 
-ghost use Rattle.std.specs.Prelude.{◌≡◌, ◌+◌, ◌++◌, ℕ, List, [], Ok, Err, true, false, All, IsErr, OnOk, IfOk, IfErr};
+ghost use Rattle.std.specs.Prelude.{◌≡◌, ◌+◌, ◌++◌, ℕ, List, [], Ok, Err, true, false, IsErr, OnOk, IfOk, IfErr};
 ghost use Rattle.std.specs.Io.KnownBytes.{Appends, IsAtEnd, Keeps};
+ghost use Rattle.rstar.specs.Lists.{NoneEmpty};
 ghost use Rattle.rstar.specs.Steps.{IsFit, Step};
 ghost use Rattle.rstar_run.specs.Items.{Reply, questions};
 ghost use Rattle.rstar_run.specs.Lines.{bytes_left, TakesLine};
@@ -96,7 +97,7 @@ fn read_load<R: Read + Drop, W: Write>(
 ) -> Result<Vec<Item>, Stop>
     ensures load { ReadsLoad count (bytes_left R.remaining lines.old) (bytes_left R.remaining lines.new)
         lines.old.number lines.new.number result }
-    ensures filled { IfOk result (λ items. All (λ t. questions.is_empty (questions.box_of t) ≡ false) items.items) }
+    ensures filled { IfOk result (λ items. NoneEmpty questions.is_empty questions.box_of items.items) }
     ensures shown { Printed result (W.contents output.old) (W.contents output.new)
         printer.old.held.items [] printer.new.held.items }
 {

@@ -69,6 +69,11 @@ fn where_its_numbers_do_not_fit_a_line_has_its_ends_alone(rt: HostRuntime) {
     );
 }
 
+#[test]
+fn a_distance_is_held_at_the_greatest_number(rt: HostRuntime) {
+    assert!(rt; is_so_far(&[-128i8, -128], &[127, 127], 127, false));
+}
+
 /// Whether a rectangle has at each point this nearest point, at this squared distance and at no lesser one, and contains
 /// the point as told.
 fn rectangle_is_so_far<P: Point + Copy>(

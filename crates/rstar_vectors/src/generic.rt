@@ -16,7 +16,7 @@ use rstar_base::point::{Point, known};
 use rstar_base::primitives::{GeomWithData, Line, Rectangle};
 
 /// An element with a number.
-type Place<R> = GeomWithData<R, u64>;
+type Numbered<R> = GeomWithData<R, u64>;
 
 // A write changes that coordinate and no other.
 fn write<P: Point>(p: &mut P, i: usize, s: P::Scalar)
@@ -85,9 +85,9 @@ fn points_alike(a: &[i64; 2], b: &[i64; 2]) -> bool
     alike(a, b)
 }
 
-fn places_alike<R: EqualEnvelopes>(a: &Place<R>, b: &Place<R>) -> bool
+fn numbered_alike<R: EqualEnvelopes>(a: &Numbered<R>, b: &Numbered<R>) -> bool
     ensures { IsTrue result
-        → ⟦<Place<R> as RTreeObject>⟧.object.box_of a.now ≡ ⟦<Place<R> as RTreeObject>⟧.object.box_of b.now }
+        → ⟦<Numbered<R> as RTreeObject>⟧.object.box_of a.now ≡ ⟦<Numbered<R> as RTreeObject>⟧.object.box_of b.now }
 {
     alike(a, b)
 }
@@ -95,15 +95,15 @@ fn places_alike<R: EqualEnvelopes>(a: &Place<R>, b: &Place<R>) -> bool
 // Whether two elements are equal and have one envelope, which is not empty, where both have the number 7, and are told
 // apart where the other has the number 8.
 fn are_told_apart<R: EqualEnvelopes + Copy>(one: R, other: R) -> bool {
-    let a = Place::new(one, 7);
-    let mut b = Place::new(other, 7);
+    let a = Numbered::new(one, 7);
+    let mut b = Numbered::new(other, 7);
     let envelope = a.envelope();
     let equal = !envelope.is_empty()
         && envelope == other.envelope()
         && a.data == 7
-        && places_alike(&a, &b);
+        && numbered_alike(&a, &b);
     b.data = 8;
-    equal && !places_alike(&a, &b)
+    equal && !numbered_alike(&a, &b)
 }
 
 #[test]

@@ -10,8 +10,9 @@ ghost use Rattle.rstar.specs.Joins.{meets_by, join, meet_by, pairs_to_come, IsJo
 ghost use Rattle.rstar.specs.Meets.{meet_of_roots};
 ghost use Rattle.rstar.specs.Trees.{root_of, elements_in, IsWholeTree};
 
-use crate::payloads::Plot;
-use crate::scenarios::{ALONG_A_LINE, inserted, loaded};
+use crate::fences::Fence;
+use crate::node_sizes::Splitting;
+use crate::scenarios::{ALONG_A_LINE, inserted, levels_of, loaded};
 use rstar::iterators::{InEnvelope, IntersectionIterator};
 use rstar::primitives::{GeomWithData, Rectangle};
 use rstar::{AABB, DefaultParams, Envelope, Point, RTree, RTreeObject, RTreeParams};
@@ -79,21 +80,21 @@ fn joined<'a, T: RTreeObject, U: InEnvelope<T::Envelope>>(
     }
 }
 
-/// The pairs of a plot and a point that meet.
-pub fn plots_joined<'a>(
+/// The pairs of a fence and a point that meet.
+pub fn fences_joined<'a>(
     alloc: Global,
-    left: &'a RTree<Plot>,
+    left: &'a RTree<Fence>,
     right: &'a RTree<[i64; 2]>,
-) -> Result<Paired<'a, Plot, [i64; 2]>, AllocError>
-    requires left { IsWholeTree ⟦<AABB<[i64; 2]> as Envelope>⟧.boxes ⟦<Plot as RTreeObject>⟧.object
+) -> Result<Paired<'a, Fence, [i64; 2]>, AllocError>
+    requires left { IsWholeTree ⟦<AABB<[i64; 2]> as Envelope>⟧.boxes ⟦<Fence as RTreeObject>⟧.object
         ⟦<DefaultParams as RTreeParams>⟧.MAX_SIZE left.now }
     requires right { IsWholeTree ⟦<AABB<[i64; 2]> as Envelope>⟧.boxes ⟦<[i64; 2] as RTreeObject>⟧.object
         ⟦<DefaultParams as RTreeParams>⟧.MAX_SIZE right.now }
     ensures all { IfOk result (λ r. IsPermutation (map (λ p. (p.0.now, p.1.now)) r.0.items)
-        (join boxes_intersect ⟦<Plot as RTreeObject>⟧.object.box_of ⟦<[i64; 2] as RTreeObject>⟧.object.box_of
+        (join boxes_intersect ⟦<Fence as RTreeObject>⟧.object.box_of ⟦<[i64; 2] as RTreeObject>⟧.object.box_of
         (elements_in left.now) (elements_in right.now))) }
     ensures opened { IfOk result (λ r. r.1 ≡ min (meet_of_roots boxes_intersect
-        ⟦<Plot as RTreeObject>⟧.object.box_of ⟦<[i64; 2] as RTreeObject>⟧.object.box_of
+        ⟦<Fence as RTreeObject>⟧.object.box_of ⟦<[i64; 2] as RTreeObject>⟧.object.box_of
         (root_of left.now) (root_of right.now)) usize.MAX) }
 {
     joined(alloc, left, right)
@@ -281,11 +282,37 @@ fn met_by_loads<T: RTreeObject + Copy>(
     joins_so(alloc, &left, &right, pairs, None) && joins_so(alloc, &left, &left, own, None)
 }
 
+/// Whether a tree of these elements, in nodes of two to four, has so many levels of parents below its root, or more, and a join of
+/// it with itself gives as many pairs as there are elements.
+fn meets_itself_at_depth<T: RTreeObject + Copy>(
+    alloc: Global,
+    elements: &[T],
+    levels: usize,
+) -> bool {
+    let tree = inserted::<T, Splitting>(alloc, elements);
+    match tree.intersection_candidates_with_other_tree(&tree) {
+        Ok(join) => match &paired(alloc, join) {
+            Ok((pairs, _)) => levels <= levels_of(tree.root()) && pairs.len() == elements.len(),
+            Err(_) => false,
+        },
+        Err(_) => false,
+    }
+}
+
 /// The points `[i, 0]` for each number below a count.
 fn on_a_line(alloc: Global, count: i32) -> Result<Vec<[i32; 2]>, AllocError> {
     let mut points = Vec::new(alloc);
     for i in 0..count {
         points.push([i, 0])?;
+    }
+    Ok(points)
+}
+
+/// The points `[0, 0]`, `[0, -1]`, .., so many of them: inserted in turn, they leave nodes of two behind.
+fn down_an_axis(alloc: Global, count: i32) -> Result<Vec<[i32; 2]>, AllocError> {
+    let mut points = Vec::new(alloc);
+    for i in 0..count {
+        points.push([0, 0i32.wrapping_sub(i)])?;
     }
     Ok(points)
 }
@@ -318,6 +345,13 @@ fn loads_of_points_meet(rt: HostRuntime) -> Result<(), Fail> {
         let rest = apart(rt.alloc(), others, !is_odd)?;
         assert!(rt; met_by_loads(rt.alloc(), &all, &rest, 0, count));
     }
+    Ok(())
+}
+
+#[test]
+fn a_deep_tree_meets_itself(rt: HostRuntime) -> Result<(), Fail> {
+    let line = down_an_axis(rt.alloc(), 65000)?;
+    assert!(rt; meets_itself_at_depth(rt.alloc(), &line, 14));
     Ok(())
 }
 

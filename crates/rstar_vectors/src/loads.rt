@@ -24,7 +24,7 @@ use std::test::Fail;
 // ---- what a root shows
 
 /// The elements below some nodes, at most `levels` levels of parents down, left to right, into a list.
-fn gather<T: RTreeObject + Copy>(
+pub(crate) fn gather<T: RTreeObject + Copy>(
     nodes: &[RTreeNode<T>],
     levels: usize,
     all: &mut Vec<T>,
@@ -209,7 +209,7 @@ fn loads_well<T: RTreeObject + Copy + Ord, Params: RTreeParams>(
 }
 
 /// Points as `points` gives them, with a third coordinate.
-fn deep_points(alloc: Global, count: usize) -> Result<Vec<[i32; 3]>, AllocError> {
+pub(crate) fn deep_points(alloc: Global, count: usize) -> Result<Vec<[i32; 3]>, AllocError> {
     let mut points = Vec::new(alloc);
     for i in 0..count {
         let near = i % 1000;
@@ -222,7 +222,7 @@ fn deep_points(alloc: Global, count: usize) -> Result<Vec<[i32; 3]>, AllocError>
     Ok(points)
 }
 
-const LOADED: [[i32; 3]; 16] = [
+const LOADED: [[i32; 3]; 40] = [
     [57000000, 108000000, 8900000],
     [3000000, 108000000, 62700000],
     [191600000, 108000000, 6800000],
@@ -237,6 +237,30 @@ const LOADED: [[i32; 3]; 16] = [
     [167400000, 108000000, 70500000],
     [13600000, 108000000, 2200000],
     [159300000, 108000000, 7100000],
+    [58600000, 108000000, 27200000],
+    [34800000, 108000000, 37300000],
+    [50200000, 108000000, 200000],
+    [148800000, 108000000, 107200000],
+    [3100000, 108000000, 52600000],
+    [169500000, 108000000, 55900000],
+    [166300000, 108000000, 29800000],
+    [31600000, 108000000, 41700000],
+    [134800000, 108000000, 73100000],
+    [78400000, 108000000, 12600000],
+    [22500000, 108000000, 84700000],
+    [7900000, 108000000, 81900000],
+    [32000000, 108000000, 50400000],
+    [171400000, 108000000, 102600000],
+    [26400000, 108000000, 22900000],
+    [10800000, 108000000, 15800000],
+    [166500000, 108000000, 60400000],
+    [49600000, 108000000, 23100000],
+    [181300000, 108000000, 86500000],
+    [120000000, 108000000, 32600000],
+    [166100000, 108000000, 81800000],
+    [13500000, 108000000, 22900000],
+    [42400000, 108000000, 101600000],
+    [170800000, 108000000, 79100000],
     [162600000, 108000000, 68200000],
     [44200000, 108000000, 89500000],
 ];
@@ -254,7 +278,52 @@ const INSERTED: [[i32; 3]; 10] = [
     [172932530, 106000230, 35850134],
 ];
 
-// A load of 25 has a parent of leaves that is too wide: 7 of them.
+const OF_FOUR_AXES: [[i32; 4]; 40] = [
+    [37, 53, 29, 61],
+    [74, 3, 27, 55],
+    [10, 56, 25, 49],
+    [47, 6, 23, 43],
+    [84, 59, 21, 37],
+    [20, 9, 19, 31],
+    [57, 62, 17, 25],
+    [94, 12, 15, 19],
+    [30, 65, 13, 13],
+    [67, 15, 11, 7],
+    [3, 68, 9, 1],
+    [40, 18, 7, 62],
+    [77, 71, 5, 56],
+    [13, 21, 3, 50],
+    [50, 74, 1, 44],
+    [87, 24, 30, 38],
+    [23, 77, 28, 32],
+    [60, 27, 26, 26],
+    [97, 80, 24, 20],
+    [33, 30, 22, 14],
+    [70, 83, 20, 8],
+    [6, 33, 18, 2],
+    [43, 86, 16, 63],
+    [80, 36, 14, 57],
+    [16, 89, 12, 51],
+    [53, 39, 10, 45],
+    [90, 92, 8, 39],
+    [26, 42, 6, 33],
+    [63, 95, 4, 27],
+    [100, 45, 2, 21],
+    [36, 98, 0, 15],
+    [73, 48, 29, 9],
+    [9, 101, 27, 3],
+    [46, 51, 25, 64],
+    [83, 1, 23, 58],
+    [19, 54, 21, 52],
+    [56, 4, 19, 46],
+    [93, 57, 17, 40],
+    [29, 7, 15, 34],
+    [66, 60, 13, 28],
+];
+
+const EQUAL: [[i32; 2]; 300] = [[0, 1]; 300];
+
+// Points, and equal points. A load of 25 has a parent of leaves that is too wide: 7 of them.
 #[test]
 fn loads_of_0_to_300_points_are_loaded_and_take_insertions(rt: HostRuntime) -> Result<(), Fail> {
     for count in 0..301 {
@@ -265,19 +334,23 @@ fn loads_of_0_to_300_points_are_loaded_and_take_insertions(rt: HostRuntime) -> R
         };
         let more = points(rt.alloc(), taken)?;
         assert!(rt; loads_well::<[i32; 2], DefaultParams>(rt.alloc(), &flat, 6, &more));
+        assert!(rt; loads_well::<[i32; 2], DefaultParams>(rt.alloc(), &EQUAL[..count], 6, &more));
     }
     Ok(())
 }
 
 #[test]
 fn loads_of_many_sizes_are_loaded(rt: HostRuntime) -> Result<(), Fail> {
-    for &count in &[5, 17, 63, 64, 65, 257, 693, 1024, 1537] {
+    for &count in &[5, 17, 63, 64, 65, 257, 693, 1024, 1537, 3000] {
         let flat = points(rt.alloc(), count)?;
         let deep = deep_points(rt.alloc(), count)?;
         assert!(rt; loads_well::<[i32; 2], Small>(rt.alloc(), &flat, 4, &[]));
         assert!(rt; loads_well::<[i32; 3], DefaultParams>(rt.alloc(), &deep, 8, &[]));
     }
     assert!(rt; loads_well::<[i32; 3], DefaultParams>(rt.alloc(), &LOADED, 8, &INSERTED));
+    for &count in &[7, 28, 35] {
+        assert!(rt; loads_well::<_, DefaultParams>(rt.alloc(), &OF_FOUR_AXES[..count], 16, &[]));
+    }
     Ok(())
 }
 

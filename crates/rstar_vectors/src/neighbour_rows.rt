@@ -359,14 +359,14 @@ fn lines_come_by_their_own_distances(rt: HostRuntime) {
     assert!(rt; come_at(rt.alloc(), &LINES, [9, 0], &[0, 25], &[]));
 }
 
-// Two plots that touch, both seen from a corner of the one and popped at the other's side, the other first.
+// Two fences that touch, both seen from a corner of the one and popped at the other's side, the other first.
 #[test]
 fn plots_come_by_their_own_distances(rt: HostRuntime) {
-    let plots = [
+    let fences = [
         GeomWithData::new(Rectangle::from_corners([0i64, 0], [2, 2]), 7u64),
         GeomWithData::new(Rectangle::from_corners([2, 2], [4, 4]), 8),
     ];
-    assert!(rt; numbered_come_and_go(rt.alloc(), &plots, [0, 0], &[0, 8], [9, 9], &[50, 98]));
+    assert!(rt; numbered_come_and_go(rt.alloc(), &fences, [0, 0], &[0, 8], [9, 9], &[50, 98]));
 }
 
 // ---- beside a plain scan

@@ -19,7 +19,6 @@ use rstar_base::aabb::AABB;
 use rstar_base::envelope::Envelope;
 use rstar_base::object::{Distance, PointDistance, PointOf, RTreeObject};
 use rstar_base::point::{Point, RTreeNum};
-use rstar_base::primitives::Line;
 use std::alloc::{AllocError, Global};
 
 /// A place.
@@ -46,22 +45,6 @@ pub(crate) fn in_order<'a, T: PointDistance>(
         all.push(item)?;
     }
     Ok((all, neighbors.opened()))
-}
-
-/// All lines, the nearest to a place first, and how many parents are opened for them.
-fn lines_in_order<'a>(
-    alloc: Global,
-    tree: &'a RTree<Line<At>>,
-    place: At,
-) -> Result<(Vec<&'a Line<At>>, usize), AllocError>
-    requires { IsWholeTree ⟦<AABB<[i64; 2]> as Envelope>⟧.boxes ⟦<Line<[i64; 2]> as RTreeObject>⟧.object
-        ⟦<DefaultParams as RTreeParams>⟧.MAX_SIZE tree.now }
-    ensures all { IfOk result (λ r. IsPermutation (elements_in tree.now) (map (λ t. t.now) r.0.items)) }
-    ensures order { IfOk result (λ r. AreInOrder (λ t. ⟦<Line<[i64; 2]> as PointDistance>⟧.distances.distance_2 t
-        (table 2 (⟦<[i64; 2] as Point>⟧.coord place))) (map (λ t. t.now) r.0.items)) }
-    ensures opened { IfOk result (λ r. r.1 ≡ min (parents_of (root_of tree.now)) usize.MAX) }
-{
-    in_order(alloc, tree, place)
 }
 
 /// All that an iterator over results gives, by a `for`, up to its end or its first refusal.
@@ -136,4 +119,42 @@ pub(crate) fn all_below<'a, T: PointDistance>(
         (elements_in tree.now) d (map (λ t. t.now) x.0.items))) }
 {
     nearest_neighbors_with_distance_2(tree.root(), place)
+}
+
+#[cfg(test)]
+mod tests {
+    use super::*;
+    use crate::scenarios::inserted;
+
+    /// Whether these are the elements that are lent, in this order.
+    fn are_lent<T: PartialEq>(lent: &Result<Vec<&T>, AllocError>, wanted: &[T]) -> bool {
+        match lent {
+            Ok(all) => {
+                let mut are_so = all.len() == wanted.len();
+                for (one, other) in all.iter().zip(wanted) {
+                    are_so = are_so && **one == *other;
+                }
+                are_so
+            }
+            Err(_) => false,
+        }
+    }
+
+    #[test]
+    fn loops_give_the_nearest_points_first(rt: HostRuntime) {
+        const PLACES: [At; 3] = [[5, 5], [0, 0], [2, 2]];
+        let tree = inserted::<At, DefaultParams>(rt.alloc(), &PLACES);
+        assert!(rt;
+            are_lent(
+                &nearest_points(rt.alloc(), &tree, [0, 1], 2),
+                &[[0, 0], [2, 2]]
+            )
+        );
+        assert!(rt;
+            are_lent(
+                &points_in_order(rt.alloc(), &tree, [6, 6]),
+                &[[5, 5], [2, 2], [0, 0]]
+            )
+        );
+    }
 }

@@ -10,18 +10,16 @@ ghost use Rattle.rstar.specs.Trees.{root_of, elements_in, IsWholeTree};
 ghost use Rattle.rstar.specs.Visits.{IsOneOf};
 ghost use Rattle.rstar_vectors.specs.Callers.{IsRenumbered};
 
+use crate::fences::Fence;
 use rstar::algorithm::selection_functions::{SelectEqualsFunction, SelectionFunction};
 use rstar::iterators::SelectionIterator;
 use rstar::object::{Distance, PointOf};
 use rstar::point::Point;
-use rstar::primitives::{GeomWithData, Rectangle};
+use rstar::primitives::GeomWithData;
 use rstar::{
     AABB, DefaultParams, Envelope, EqualEnvelopes, PointDistance, RTree, RTreeObject, RTreeParams,
 };
 use std::alloc::{AllocError, Global};
-
-/// A rectangle with a number.
-pub type Plot = GeomWithData<Rectangle<[i64; 2]>, u64>;
 
 /// Elements, and how many parents were opened for them.
 pub type Walked<'a, T> = (Vec<&'a T>, usize);
@@ -257,29 +255,29 @@ where
     )
 }
 
-/// The same of plots.
+/// The same of fences.
 pub fn plots_found<'a>(
     alloc: Global,
-    tree: &'a RTree<Plot>,
+    tree: &'a RTree<Fence>,
     area: AABB<[i64; 2]>,
     point: [i64; 2],
-    wanted: &Plot,
-) -> Found<'a, Plot>
-    requires { IsWholeTree ⟦<AABB<[i64; 2]> as Envelope>⟧.boxes ⟦<Plot as RTreeObject>⟧.object
+    wanted: &Fence,
+) -> Found<'a, Fence>
+    requires { IsWholeTree ⟦<AABB<[i64; 2]> as Envelope>⟧.boxes ⟦<Fence as RTreeObject>⟧.object
         ⟦<DefaultParams as RTreeParams>⟧.MAX_SIZE tree.now }
     ensures touched { IfOk result.0 (λ r. map (λ t. t.now) r.0.items ≡ filter
-        (λ t. boxes_intersect area (⟦<Plot as RTreeObject>⟧.object.box_of t)) (elements_in tree.now)) }
+        (λ t. boxes_intersect area (⟦<Fence as RTreeObject>⟧.object.box_of t)) (elements_in tree.now)) }
     ensures touched_opened { IfOk result.0 (λ r. r.1 ≡ min (reach_of (λ e. boxes_intersect area e) (root_of tree.now)) usize.MAX) }
     ensures here { IfOk result.1 (λ r. map (λ t. t.now) r.0.items ≡ filter
-        (λ t. ⟦<Plot as PointDistance>⟧.distances.contains_point t (table 2 (⟦<[i64; 2] as Point>⟧.coord point)))
+        (λ t. ⟦<Fence as PointDistance>⟧.distances.contains_point t (table 2 (⟦<[i64; 2] as Point>⟧.coord point)))
         (elements_in tree.now)) }
     ensures here_opened { IfOk result.1 (λ r. r.1 ≡ min (reach_of (λ e. box_contains_point e (table 2 (⟦<[i64; 2] as Point>⟧.coord point))) (root_of tree.now)) usize.MAX) }
     ensures equal { IfOk result.2 (λ r. map (λ t. t.now) r.0.items ≡ filter
-        (λ t. ⟦<Plot as PartialEq>⟧.eq t wanted.now) (elements_in tree.now)) }
-    ensures equal_opened { IfOk result.2 (λ r. r.1 ≡ min (reach_of (λ e. contains_box e (⟦<Plot as RTreeObject>⟧.object.box_of wanted.now)) (root_of tree.now)) usize.MAX) }
-    ensures one { IsOneOf (filter (λ t. ⟦<Plot as PointDistance>⟧.distances.contains_point t
+        (λ t. ⟦<Fence as PartialEq>⟧.eq t wanted.now) (elements_in tree.now)) }
+    ensures equal_opened { IfOk result.2 (λ r. r.1 ≡ min (reach_of (λ e. contains_box e (⟦<Fence as RTreeObject>⟧.object.box_of wanted.now)) (root_of tree.now)) usize.MAX) }
+    ensures one { IsOneOf (filter (λ t. ⟦<Fence as PointDistance>⟧.distances.contains_point t
         (table 2 (⟦<[i64; 2] as Point>⟧.coord point))) (elements_in tree.now)) result.3.0 }
-    ensures other { IsOneOf (filter (λ t. ⟦<Plot as PointDistance>⟧.distances.contains_point t
+    ensures other { IsOneOf (filter (λ t. ⟦<Fence as PointDistance>⟧.distances.contains_point t
         (table 2 (⟦<[i64; 2] as Point>⟧.coord point))) (elements_in tree.now)) result.3.1 }
 {
     found(alloc, tree, area, point, wanted)
@@ -337,16 +335,16 @@ pub fn renumber_int<R: PointDistance>(
     }
 }
 
-/// Writes a number into a plot that contains a point, and whether there is one.
-pub fn renumber_plot(tree: &mut RTree<Plot>, point: [i64; 2], number: u64) -> bool
-    requires { IsWholeTree ⟦<AABB<[i64; 2]> as Envelope>⟧.boxes ⟦<Plot as RTreeObject>⟧.object
+/// Writes a number into a fence that contains a point, and whether there is one.
+pub fn renumber_fence(tree: &mut RTree<Fence>, point: [i64; 2], number: u64) -> bool
+    requires { IsWholeTree ⟦<AABB<[i64; 2]> as Envelope>⟧.boxes ⟦<Fence as RTreeObject>⟧.object
         ⟦<DefaultParams as RTreeParams>⟧.MAX_SIZE tree.old }
-    ensures found { result ≡ list_any (λ t. ⟦<Plot as PointDistance>⟧.distances.contains_point t
+    ensures found { result ≡ list_any (λ t. ⟦<Fence as PointDistance>⟧.distances.contains_point t
         (table 2 (⟦<[i64; 2] as Point>⟧.coord point))) (elements_in tree.old) }
-    ensures written { IsTrue result → IsRenumbered (λ t. ⟦<Plot as PointDistance>⟧.distances.contains_point t
+    ensures written { IsTrue result → IsRenumbered (λ t. ⟦<Fence as PointDistance>⟧.distances.contains_point t
         (table 2 (⟦<[i64; 2] as Point>⟧.coord point))) number tree.old tree.new }
     ensures unchanged { IsTrue (not result) → tree.new ≡ tree.old }
-    ensures whole { IsWholeTree ⟦<AABB<[i64; 2]> as Envelope>⟧.boxes ⟦<Plot as RTreeObject>⟧.object
+    ensures whole { IsWholeTree ⟦<AABB<[i64; 2]> as Envelope>⟧.boxes ⟦<Fence as RTreeObject>⟧.object
         ⟦<DefaultParams as RTreeParams>⟧.MAX_SIZE tree.new }
 {
     renumber(tree, point, number)
@@ -356,6 +354,7 @@ pub fn renumber_plot(tree: &mut RTree<Plot>, point: [i64; 2], number: u64) -> bo
 mod tests {
     use super::*;
     use crate::scenarios::inserted;
+    use rstar::primitives::Rectangle;
 
     /// Whether an element that contains a point carries a number, by both look-ups.
     fn carries<R: PointDistance>(
@@ -429,21 +428,21 @@ mod tests {
             & carries(&tree, other, two)
     }
 
-    /// So many plots, ten in a row and ten apart, each so wide and so high, numbered from a number on.
-    fn plots(alloc: Global, count: u8, side: u8, first: u8) -> Result<Vec<Plot>, AllocError> {
+    /// So many fences, ten in a row and ten apart, each so wide and so high, numbered from a number on.
+    fn fences(alloc: Global, count: u8, side: u8, first: u8) -> Result<Vec<Fence>, AllocError> {
         let mut all = Vec::new(alloc);
         for place in 0..count {
             let (x, y) = ((place % 10) as i64 * 10, (place / 10) as i64 * 10);
             let square = Rectangle::from_corners([x, y], [x + side as i64, y + side as i64]);
-            all.push(Plot::new(square, first as u64 + place as u64))?;
+            all.push(Fence::new(square, first as u64 + place as u64))?;
         }
         Ok(all)
     }
 
-    // How many plots, their side, and the first one's number; a point where it is written, one where it is read, the
-    // number there before, and whether a plot contains the first point: inside it, its border included, and outside.
+    // How many fences, their side, and the first one's number; a point where it is written, one where it is read, the
+    // number there before, and whether a fence contains the first point: inside it, its border included, and outside.
     #[test]
-    fn a_number_is_written_where_a_plot_contains_the_point(rt: HostRuntime) {
+    fn a_number_is_written_where_a_fence_contains_the_point(rt: HostRuntime) {
         const ROWS: [((u8, u8, u8), [i64; 2], [i64; 2], u64, bool); 4] = [
             ((1, 2, 7), [1, 1], [1, 1], 7, true),
             ((1, 2, 7), [3, 3], [1, 1], 7, false),
@@ -451,8 +450,8 @@ mod tests {
             ((100, 9, 0), [57, 31], [50, 39], 35, true),
         ];
         for &((count, side, first), point, other, number, is_inside) in &ROWS {
-            let is_so = match &plots(rt.alloc(), count, side, first) {
-                Ok(plots) => writes(rt.alloc(), plots, point, other, number, is_inside),
+            let is_so = match &fences(rt.alloc(), count, side, first) {
+                Ok(fences) => writes(rt.alloc(), fences, point, other, number, is_inside),
                 Err(_) => false,
             };
             assert!(rt; is_so);

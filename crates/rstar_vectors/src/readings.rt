@@ -8,7 +8,7 @@ ghost use Rattle.rstar.specs.Points.{table};
 ghost use Rattle.rstar.specs.Trees.{elements_in, IsWholeTree};
 ghost use Rattle.rstar.specs.Visits.{IsFirst};
 
-use crate::payloads::Plot;
+use crate::fences::Fence;
 use rstar::algorithm::selection_functions::SelectAtPointFunction;
 use rstar::iterators::select_nodes;
 use rstar::node::ParentNode;
@@ -72,19 +72,19 @@ where
     (inside, touched, here)
 }
 
-/// The same of plots.
+/// The same of fences.
 fn plots_come_upon(
-    tree: &RTree<Plot>,
+    tree: &RTree<Fence>,
     area: AABB<At>,
     point: At,
-) -> (Option<&Plot>, Option<&Plot>, Option<&Plot>)
-    requires { IsWholeTree ⟦<AABB<[i64; 2]> as Envelope>⟧.boxes ⟦<Plot as RTreeObject>⟧.object
+) -> (Option<&Fence>, Option<&Fence>, Option<&Fence>)
+    requires { IsWholeTree ⟦<AABB<[i64; 2]> as Envelope>⟧.boxes ⟦<Fence as RTreeObject>⟧.object
         ⟦<DefaultParams as RTreeParams>⟧.MAX_SIZE tree.now }
-    ensures inside { IsFirst (filter (λ t. contains_box area (⟦<Plot as RTreeObject>⟧.object.box_of t))
+    ensures inside { IsFirst (filter (λ t. contains_box area (⟦<Fence as RTreeObject>⟧.object.box_of t))
         (elements_in tree.now)) result.0 }
-    ensures touching { IsFirst (filter (λ t. boxes_intersect area (⟦<Plot as RTreeObject>⟧.object.box_of t))
+    ensures touching { IsFirst (filter (λ t. boxes_intersect area (⟦<Fence as RTreeObject>⟧.object.box_of t))
         (elements_in tree.now)) result.1 }
-    ensures here { IsFirst (filter (λ t. ⟦<Plot as PointDistance>⟧.distances.contains_point t
+    ensures here { IsFirst (filter (λ t. ⟦<Fence as PointDistance>⟧.distances.contains_point t
         (table 2 (⟦<[i64; 2] as Point>⟧.coord point))) (elements_in tree.now)) result.2 }
 {
     come_upon(tree, area, point)

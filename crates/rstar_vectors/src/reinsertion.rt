@@ -17,6 +17,7 @@ pub(crate) fn all_go_in<T: RTreeObject + Copy, Params: RTreeParams>(
     most: usize,
 ) -> bool
     requires { IsWholeTree T.Envelope.boxes T.object Params.MAX_SIZE tree.old }
+    ensures { IsWholeTree T.Envelope.boxes T.object Params.MAX_SIZE tree.new }
 {
     for element in elements {
         let count = tree.size().saturating_add(1);

@@ -7,9 +7,10 @@ ghost use Rattle.rstar.specs.Drains.{drained, IsDraining};
 ghost use Rattle.rstar.specs.Removals.{IsWithout};
 ghost use Rattle.rstar.specs.Trees.{elements_in, IsWholeTree};
 
-use crate::loads::are_same;
-use crate::node_sizes::Wide;
-use crate::scenarios::{ALONG_A_LINE, inserted, loaded, points, stands};
+use crate::loads::{are_same, deep_points, gather};
+use crate::node_sizes::{Emptying, Wide};
+use crate::reinsertion::all_go_in;
+use crate::scenarios::{ALONG_A_LINE, inserted, levels_of, loaded, points, stands};
 use crate::selections::LeftOnly;
 use rstar::algorithm::selection_functions::{
     SelectAllFunc, SelectInEnvelopeFuncIntersecting, SelectionFunction,
@@ -201,6 +202,52 @@ fn all_leave<T: EqualEnvelopes + Copy, Params: RTreeParams>(
     tree.size() == 0
 }
 
+/// Whether an element leaves a tree, once, by `==`, or at a place that no other contains, and one that is given goes in.
+fn gives_way<T: EqualEnvelopes + PointDistance + Copy, Params: RTreeParams>(
+    tree: &mut RTree<T, Params>,
+    element: &T,
+    place: Option<&PointOf<T>>,
+    other: Option<&T>,
+) -> bool
+where
+    PointOf<T>: Copy,
+    requires { IsWholeTree T.Envelope.boxes T.object Params.MAX_SIZE tree.old }
+    ensures { IsWholeTree T.Envelope.boxes T.object Params.MAX_SIZE tree.new }
+{
+    let taken = match place {
+        Some(at) => tree.remove_at_point(*at),
+        None => tree.remove(element),
+    };
+    if taken != Some(*element) || tree.contains(element) || tree.remove(element).is_some() {
+        return false;
+    }
+    match other {
+        Some(more) => !more.envelope().is_empty() && tree.insert(*more).is_ok(),
+        None => true,
+    }
+}
+
+/// Whether the elements of a load leave one by one, at these places where there are any, each for one of the others, so
+/// long as there are any; and the others then are there, and leave.
+fn all_give_way<T: EqualEnvelopes + PointDistance + Copy, Params: RTreeParams>(
+    alloc: Global,
+    elements: &[T],
+    places: &[PointOf<T>],
+    others: &[T],
+) -> bool
+where
+    PointOf<T>: Copy,
+    requires { 2 ≤ T.Envelope.Point.DIMENSIONS }
+{
+    let mut tree = loaded::<T, Params>(alloc, elements);
+    for k in 0..elements.len() {
+        if !gives_way(&mut tree, &elements[k], places.get(k), others.get(k)) {
+            return false;
+        }
+    }
+    tree.size() == others.len() && stands(&tree) && all_leave(&mut tree, others, 1, true)
+}
+
 /// Whether a tree has no element to drain near a point.
 fn has_none_near<T: PointDistance>(
     tree: &mut RTree<T>,
@@ -251,18 +298,72 @@ fn dropped_stands<T: EqualEnvelopes + Copy>(
         && tree.size().saturating_add(calls) == elements.len()
 }
 
-/// Whether a tree stands, without what was given, after a drain of so many calls was forgotten.
-fn forgotten_stands<T: RTreeObject + Copy>(alloc: Global, elements: &[T], calls: usize) -> bool {
-    let mut tree = inserted::<T, DefaultParams>(alloc, elements);
-    let came = match tree.drain() {
-        Ok(mut drain) => {
-            let came = call(&mut drain, calls);
-            forget(drain);
-            came
+/// Calls a drain so many times, or until it ends, puts what it gives behind a list, and gives how many elements came.
+#[tactic(auto, unfolding(rstar::specs::Drains::IsDraining))]
+fn put_next<T: RTreeObject, R: SelectionFunction<T>, Params: RTreeParams>(
+    drain: &mut DrainIterator<'_, T, R, Params>,
+    most: usize,
+    given: &mut Vec<T>,
+) -> usize
+    requires { IsDraining T.Envelope.boxes T.object Params.MAX_SIZE R.accepts R.selects drain.old }
+    ensures whole { IsWholeTree T.Envelope.boxes T.object Params.MAX_SIZE (drained drain.new) }
+    ensures same { drain.new.tree.ghost_name ≡ drain.old.tree.ghost_name }
+{
+    for call in 0..most {
+        match drain.next() {
+            Some(element) => {
+                if given.push(element).is_err() {
+                    return call;
+                }
+            }
+            None => return call,
         }
-        Err(_) => return false,
-    };
-    came == calls && tree.size().saturating_add(calls) == elements.len() && stands(&tree)
+    }
+    most
+}
+
+/// Drains so many elements into a list, and drops the drain.
+fn dropped_after<T: RTreeObject>(tree: &mut RTree<T>, calls: usize, given: &mut Vec<T>) -> bool
+    requires { IsWholeTree T.Envelope.boxes T.object ⟦<DefaultParams as RTreeParams>⟧.MAX_SIZE tree.old }
+    ensures { IsWholeTree T.Envelope.boxes T.object ⟦<DefaultParams as RTreeParams>⟧.MAX_SIZE tree.new }
+{
+    match tree.drain() {
+        Ok(mut drain) => put_next(&mut drain, calls, given) == calls,
+        Err(_) => false,
+    }
+}
+
+/// Drains so many elements into a list, and forgets the drain: no clause says what the tree is then.
+fn forgotten_after<T: RTreeObject>(tree: &mut RTree<T>, calls: usize, given: &mut Vec<T>) -> bool
+    requires { IsWholeTree T.Envelope.boxes T.object ⟦<DefaultParams as RTreeParams>⟧.MAX_SIZE tree.old }
+{
+    match tree.drain() {
+        Ok(mut drain) => {
+            let came = put_next(&mut drain, calls, given);
+            forget(drain);
+            came == calls
+        }
+        Err(_) => false,
+    }
+}
+
+/// Whether a tree stands after a drain that is dropped after so many calls, and one that is forgotten after so many, and
+/// what was given and what is left are these elements.
+fn are_given_or_left<T: RTreeObject + Ord + Copy>(
+    alloc: Global,
+    elements: &[T],
+    dropped: usize,
+    forgotten: usize,
+) -> bool {
+    let mut tree = inserted::<T, DefaultParams>(alloc, elements);
+    let mut all = Vec::new(alloc);
+    dropped_after(&mut tree, dropped, &mut all)
+        && forgotten_after(&mut tree, forgotten, &mut all)
+        && all.len() == dropped.saturating_add(forgotten)
+        && tree.size().saturating_add(all.len()) == elements.len()
+        && stands(&tree)
+        && gather(tree.root().children(), levels_of(tree.root()), &mut all).is_ok()
+        && are_same(alloc, &mut all, elements)
 }
 
 /// How many of these elements meet an envelope and are there.
@@ -321,6 +422,33 @@ fn drained_in_parts<T: EqualEnvelopes + Copy, Params: RTreeParams>(
     }
 }
 
+/// Drains twice `most` elements of a load of these, then the others, puts all in again, and drains at most `part` of those
+/// that meet an envelope; gives how many are there then, and none where the tree does not stand after each.
+fn drained_and_filled_again<T: EqualEnvelopes + Copy>(
+    alloc: Global,
+    elements: &[T],
+    most: usize,
+    area: &T::Envelope,
+    part: usize,
+) -> Option<usize>
+    requires { 2 ≤ T.Envelope.Point.DIMENSIONS }
+{
+    let count = elements.len();
+    let mut tree = loaded::<T, DefaultParams>(alloc, elements);
+    let meeting = SelectInEnvelopeFuncIntersecting::new(area.merged(area));
+    if drain_and_stand(&mut tree, SelectAllFunc, most) == Some(most)
+        && drain_and_stand(&mut tree, SelectAllFunc, most) == Some(most)
+        && drain_and_stand(&mut tree, SelectAllFunc, count)
+            == count.checked_sub(most.saturating_mul(2))
+        && all_go_in(&mut tree, elements, 1, usize::MAX)
+        && drain_and_stand(&mut tree, meeting, part) == Some(part)
+    {
+        Some(left_in(&tree, elements, area))
+    } else {
+        None
+    }
+}
+
 /// Whether a drain takes at most so many out, and leaves so many of those that meet an envelope.
 fn drains_at_most<T: EqualEnvelopes + Copy, R: SelectionFunction<T>>(
     alloc: Global,
@@ -353,6 +481,15 @@ fn gives_all<T: RTreeObject + Ord + Copy>(alloc: Global, elements: &[T]) -> bool
         Ok(all) => are_same(alloc, all, elements),
         Err(_) => false,
     }
+}
+
+/// The rectangles of which such lines are the diagonals.
+fn rectangles(alloc: Global, count: usize) -> Result<Vec<Rectangle<[i32; 2]>>, AllocError> {
+    let mut rectangles = Vec::new(alloc);
+    for edge in &edges(alloc, count)? {
+        rectangles.push(Rectangle::from_corners(edge.from, edge.to))?;
+    }
+    Ok(rectangles)
 }
 
 /// So many points, a short line from each of them on.
@@ -395,24 +532,58 @@ fn an_emptied_tree_is_drained(rt: HostRuntime) {
     assert!(rt; leave_to_the_end(rt.alloc(), &[[1i64, 2, 3]], 0, true, [0, 0, 0], 10));
 }
 
-// rstar's test `test_remove`, on other lines: each leaves once.
+// Each leaves a load once, by `==` or at its place, and others come.
 #[test]
-fn lines_leave_once(rt: HostRuntime) -> Result<(), Fail> {
-    let lines = edges(rt.alloc(), 300)?;
-    assert!(rt; leave_to_the_end(rt.alloc(), &lines, 0, true, [0, 0], 10));
+fn loaded_points_give_way_to_others(rt: HostRuntime) -> Result<(), Fail> {
+    let all = points(rt.alloc(), 1000)?;
+    let (some, others) = all.split_at(all.len() / 2);
+    assert!(rt; all_give_way::<_, DefaultParams>(rt.alloc(), &all, &all, &[]));
+    assert!(rt; all_give_way::<_, DefaultParams>(rt.alloc(), some, some, others));
+    // Two elements, where a node may have one child.
+    assert!(rt; all_give_way::<_, Emptying>(rt.alloc(), &[[0, 0], [1, 1]], &[], &[]));
     Ok(())
 }
 
-// For each number of calls: a drain that is dropped after them, one that is forgotten, and an insertion.
+#[test]
+fn loaded_lines_leave_once(rt: HostRuntime) -> Result<(), Fail> {
+    let lines = edges(rt.alloc(), 1000)?;
+    assert!(rt; all_give_way::<_, DefaultParams>(rt.alloc(), &lines, &[], &[]));
+    Ok(())
+}
+
+#[test]
+fn loaded_rectangles_give_way_to_others(rt: HostRuntime) -> Result<(), Fail> {
+    for &count in &[25, 27, 97, 111, 385, 447, 500] {
+        let all = rectangles(rt.alloc(), 2 * count)?;
+        let (some, others) = all.split_at(all.len() / 2);
+        assert!(rt; all_give_way::<_, DefaultParams>(rt.alloc(), some, &[], others));
+    }
+    Ok(())
+}
+
+#[test]
+fn loaded_points_of_three_dimensions_give_way(rt: HostRuntime) -> Result<(), Fail> {
+    for &count in &[388, 400, 444] {
+        let all = deep_points(rt.alloc(), 2 * count)?;
+        let (some, others) = all.split_at(all.len() / 2);
+        assert!(rt; all_give_way::<_, DefaultParams>(rt.alloc(), some, &[], others));
+    }
+    Ok(())
+}
+
+// For each number of calls: a drain that is dropped after them, with an insertion, or with one that is made and forgotten;
+// and one that is forgotten after them.
 #[test]
 fn drains_that_are_given_up(rt: HostRuntime) {
     for calls in 0..8usize {
         assert!(rt;
             dropped_stands(rt.alloc(), &ALONG_A_LINE, calls, [5, 5])
-                && forgotten_stands(rt.alloc(), &ALONG_A_LINE, calls),
+                && are_given_or_left(rt.alloc(), &ALONG_A_LINE, calls, 0)
+                && are_given_or_left(rt.alloc(), &ALONG_A_LINE, 0, calls),
             "{calls}"
         );
     }
+    assert!(rt; are_given_or_left(rt.alloc(), &ALONG_A_LINE[..5], 2, 0));
 }
 
 // A node of 90 leaves, and four of 75: a drain keeps the merge of those that it has not come to.
@@ -445,6 +616,8 @@ fn drains_end_where_none_is_left(rt: HostRuntime) -> Result<(), Fail> {
     let all = points(rt.alloc(), 300)?;
     let asked = drained_in_parts::<_, DefaultParams>(rt.alloc(), &all, false, 0, &area, 40);
     assert!(rt; asked == Some(89));
+    let many = points(rt.alloc(), 1000)?;
+    assert!(rt; drained_and_filled_again(rt.alloc(), &many, 250, &area, 80) == Some(213));
     Ok(())
 }
 

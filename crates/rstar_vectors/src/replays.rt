@@ -5,12 +5,12 @@ ghost use Rattle.std.specs.List.{AllByRecursion};
 ghost use Rattle.rstar.specs.declared.replay.Reply.TheVariants.{TooMany};
 ghost use Rattle.rstar.specs.Clones.{ClonesEqual};
 ghost use Rattle.rstar.specs.Heights.{height_of, spare_lists};
-ghost use Rattle.rstar.specs.Steps.{questions_of, IsFit, IsInsertion, IsRefusal, Step, Run};
+ghost use Rattle.rstar.specs.Steps.{IsFit, IsInsertion, IsRefusal, Step, Run};
 ghost use Rattle.rstar.specs.Trees.{root_of, size_of, elements_in, IsUnchanged, IsWholeTree};
 
 use crate::counted::Place;
 use crate::neighbour_rows::take;
-use rstar::replay::{Command, Query, Reply, all_fit, is_fit, replay, step};
+use rstar::replay::{Command, Query, Reply, Scanned, all_fit, is_fit, replay, step};
 use rstar::{
     AABB, Counted, DefaultParams, Envelope, EqualEnvelopes, Point, PointDistance, RTree,
     RTreeObject, RTreeParams,
@@ -26,12 +26,8 @@ type At = [i64; 2];
 fn step_points(tree: &mut RTree<At>, command: Command<At>) -> Reply<At>
     requires whole { IsWholeTree ⟦<AABB<[i64; 2]> as Envelope>⟧.boxes ⟦<[i64; 2] as RTreeObject>⟧.object
         ⟦<DefaultParams as RTreeParams>⟧.MAX_SIZE tree.old }
-    requires fit { IsFit (questions_of ⟦<AABB<[i64; 2]> as Envelope>⟧.boxes ⟦<[i64; 2] as RTreeObject>⟧.object
-        ⟦<[i64; 2] as PointDistance>⟧.distances 2 ⟦<[i64; 2] as Point>⟧.coord (λ s. s) ⟦<[i64; 2] as PartialEq>⟧.eq)
-        2 command }
-    ensures step { Step (questions_of ⟦<AABB<[i64; 2]> as Envelope>⟧.boxes ⟦<[i64; 2] as RTreeObject>⟧.object
-        ⟦<[i64; 2] as PointDistance>⟧.distances 2 ⟦<[i64; 2] as Point>⟧.coord (λ s. s) ⟦<[i64; 2] as PartialEq>⟧.eq)
-        (elements_in tree.old) command result (elements_in tree.new) }
+    requires fit { IsFit ⟦<[i64; 2] as Scanned>⟧.questions 2 command }
+    ensures step { Step ⟦<[i64; 2] as Scanned>⟧.questions (elements_in tree.old) command result (elements_in tree.new) }
     ensures whole { IsWholeTree ⟦<AABB<[i64; 2]> as Envelope>⟧.boxes ⟦<[i64; 2] as RTreeObject>⟧.object
         ⟦<DefaultParams as RTreeParams>⟧.MAX_SIZE tree.new }
     ensures refused { IsRefusal result → IsUnchanged tree.old tree.new }
@@ -49,13 +45,8 @@ fn replay_places(
 ) -> Result<Vec<Reply<Place<At>>>, AllocError>
     requires whole { IsWholeTree ⟦<Counted<[i64; 2]> as Envelope>⟧.boxes ⟦<Place<[i64; 2]> as RTreeObject>⟧.object
         ⟦<DefaultParams as RTreeParams>⟧.MAX_SIZE tree.old }
-    requires fit { AllByRecursion (IsFit (questions_of ⟦<Counted<[i64; 2]> as Envelope>⟧.boxes
-        ⟦<Place<[i64; 2]> as RTreeObject>⟧.object ⟦<Place<[i64; 2]> as PointDistance>⟧.distances 2
-        ⟦<[i64; 2] as Point>⟧.coord (λ s. s) ⟦<Place<[i64; 2]> as PartialEq>⟧.eq) 2) commands.items }
-    ensures run { IfOk result (λ replies. Run (questions_of ⟦<Counted<[i64; 2]> as Envelope>⟧.boxes
-        ⟦<Place<[i64; 2]> as RTreeObject>⟧.object ⟦<Place<[i64; 2]> as PointDistance>⟧.distances 2
-        ⟦<[i64; 2] as Point>⟧.coord (λ s. s) ⟦<Place<[i64; 2]> as PartialEq>⟧.eq)
-        (elements_in tree.old) commands.items replies.items (elements_in tree.new)) }
+    requires fit { AllByRecursion (IsFit ⟦<Place<[i64; 2]> as Scanned>⟧.questions 2) commands.items }
+    ensures run { IfOk result (λ replies. Run ⟦<Place<[i64; 2]> as Scanned>⟧.questions (elements_in tree.old) commands.items replies.items (elements_in tree.new)) }
     ensures none_run { OnErr result (tree.new ≡ tree.old) }
     ensures whole { IsWholeTree ⟦<Counted<[i64; 2]> as Envelope>⟧.boxes ⟦<Place<[i64; 2]> as RTreeObject>⟧.object
         ⟦<DefaultParams as RTreeParams>⟧.MAX_SIZE tree.new }

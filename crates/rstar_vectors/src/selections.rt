@@ -8,9 +8,7 @@ ghost use Rattle.rstar.specs.Trees.{elements_in, IsWholeTree};
 
 use crate::payloads::{Walked, all_of, either_at, here, inside, near, touched, walked};
 use crate::scenarios::{ALONG_A_LINE, inserted, points, stands};
-use rstar::algorithm::selection_functions::{
-    SelectAllFunc, SelectInEnvelopeFunction, SelectionFunction,
-};
+use rstar::algorithm::selection_functions::SelectionFunction;
 use rstar::object::{Distance, PointDistance, PointOf, RTreeObject};
 use rstar::point::{Point, RTreeNum};
 use rstar::primitives::Rectangle;
@@ -53,16 +51,28 @@ fn chosen<'a, T: RTreeObject, Func: SelectionFunction<T>>(
     Ok(all)
 }
 
-/// The same of what lies between two corners, and of all elements.
+/// Whether a walk gave so many elements, with so many parents opened.
+fn counts<T: RTreeObject>(
+    walked: &Result<Walked<'_, T>, AllocError>,
+    counts: (usize, usize),
+) -> bool {
+    match walked {
+        Ok((all, opened)) => (all.len(), *opened) == counts,
+        Err(_) => false,
+    }
+}
+
+/// Whether walks give so many elements in an envelope, by `locate_in_envelope`, and so many of all, by `iter`, each with
+/// the parents opened.
 fn select_so<T: RTreeObject + Copy>(
     alloc: Global,
     elements: &[T],
     area: T::Envelope,
-    inside: (usize, usize),
+    in_area: (usize, usize),
     all: (usize, usize),
 ) -> bool {
-    selects(alloc, elements, SelectInEnvelopeFunction::new(area), inside)
-        && selects(alloc, elements, SelectAllFunc, all)
+    let tree = inserted::<T, DefaultParams>(alloc, elements);
+    counts(&inside(alloc, &tree, area), in_area) && counts(&all_of(alloc, &tree), all)
 }
 
 /// Points, two corners, how many points are between them, of all the points there are, each with the parents opened.

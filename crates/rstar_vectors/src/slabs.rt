@@ -89,6 +89,31 @@ fn slabs_have_their_sizes_and_come_from_the_greatest_on(rt: HostRuntime) {
     }
 }
 
+/// Whether slabs come until all elements came, or, where memory for one is refused, none comes after it.
+fn come_to_an_end<T: RTreeObject>(elements: Vec<T>, clusters: usize, axis: usize) -> bool
+    requires clusters { 0 < clusters }
+    requires axis { axis < T.Envelope.Point.DIMENSIONS }
+{
+    let count = elements.len();
+    let mut came = 0usize;
+    let mut slabs = ClusterGroupIterator::new(elements, clusters, axis);
+    for _ in 0..count {
+        match &slabs.next() {
+            Some(Ok(slab)) => came = came.saturating_add(slab.len()),
+            Some(Err(_)) => return came < count && slabs.next().is_none(),
+            None => return came == count,
+        }
+    }
+    came == count && slabs.next().is_none()
+}
+
+/// Nine points in three slabs; `rt try --test --fail-alloc N` refuses the Nth allocation.
+#[test]
+fn a_refused_slab_ends_the_slabs(rt: HostRuntime) -> Result<(), Fail> {
+    assert!(rt; come_to_an_end(down_a_line(rt.alloc(), 9)?, 3, 0));
+    Ok(())
+}
+
 #[test]
 fn cluster_numbers_are_whole_roots(rt: HostRuntime) {
     const ROWS: [(usize, usize); 6] = [

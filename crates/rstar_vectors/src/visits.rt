@@ -52,6 +52,17 @@ fn clear_below<R: RTreeObject>(root: &mut ParentNode<GeomWithData<R, u64>>, area
     );
 }
 
+/// The same of fences, below such a root.
+fn clear_fences_below(root: &mut ParentNode<Fence>, area: AABB<[i64; 2]>)
+    requires { IsWhole ⟦<AABB<[i64; 2]> as Envelope>⟧.boxes ⟦<Fence as RTreeObject>⟧.object root.old }
+    ensures cleared { elements_of root.new
+        ≡ map (λ fence. if boxes_intersect area (⟦<Fence as RTreeObject>⟧.object.box_of fence)
+        then (fence.0, 0) else fence) (elements_of root.old) }
+    ensures whole { IsWhole ⟦<AABB<[i64; 2]> as Envelope>⟧.boxes ⟦<Fence as RTreeObject>⟧.object root.new }
+{
+    clear_below(root, area);
+}
+
 /// The same of fences that a box touches.
 pub fn clear_fences(tree: &mut RTree<Fence>, area: AABB<[i64; 2]>)
     requires whole { IsWholeTree ⟦<AABB<[i64; 2]> as Envelope>⟧.boxes ⟦<Fence as RTreeObject>⟧.object
@@ -70,22 +81,24 @@ pub fn clear_fences(tree: &mut RTree<Fence>, area: AABB<[i64; 2]>)
 mod tests {
     use super::*;
     use crate::scenarios::inserted;
+    use rstar::algorithm::bulk_load::{bulk_load_sequential, none_empty};
     use rstar::algorithm::selection_functions::SelectAllFunc;
+    use rstar::iterators::select_nodes;
     use rstar::object::{PointDistance, PointOf};
     use rstar::primitives::Rectangle;
     use std::alloc::Global;
+    use std::test::Fail;
 
     /// An element with a number.
     type Numbered<R> = GeomWithData<R, u64>;
 
-    /// The sum of the numbers of a tree's elements, held at the greatest `u64`.
-    fn sum<R: RTreeObject>(tree: &RTree<Numbered<R>>) -> u64
-        requires { IsWholeTree R.Envelope.boxes ⟦<Numbered<R> as RTreeObject>⟧.object ⟦<DefaultParams as RTreeParams>⟧.MAX_SIZE tree.now }
-    {
+    /// The sum of the numbers of the elements below a root, held at the greatest `u64`.
+    fn sum<R: RTreeObject>(root: &ParentNode<Numbered<R>>) -> u64 {
         let mut sum = 0u64;
-        let _end: ControlFlow<()> = tree.locate_with_selection_function_int(
-            SelectAllFunc,
-            |one: &Numbered<R>| {
+        let _end: ControlFlow<()> = select_nodes(
+            root,
+            &SelectAllFunc,
+            &mut |one: &Numbered<R>| {
                 sum = sum.saturating_add(one.data);
                 ControlFlow::Continue(())
             },
@@ -116,23 +129,51 @@ mod tests {
                 }
             },
         );
-        let first = sum(&tree);
+        let first = sum(tree.root());
         let add_one = |one: &mut Numbered<R>| {
             one.data = one.data.wrapping_add(1);
             ControlFlow::<()>::Continue(())
         };
         tree.locate_in_envelope_int_mut(area, add_one);
-        let second = sum(&tree);
+        let second = sum(tree.root());
         tree.locate_all_at_point_int_mut(point, add_one);
-        let third = sum(&tree);
+        let third = sum(tree.root());
         clear(&mut tree, cleared);
         (
             answer.break_value().unwrap_or(0),
             first,
             second,
             third,
-            sum(&tree),
+            sum(tree.root()),
         )
+    }
+
+    /// The sums of the numbers of these fences before and after those are cleared, below the root of a load, that a box
+    /// touches; none where the load is refused.
+    fn cleared_below(fences: Vec<Fence>, area: AABB<[i64; 2]>) -> Option<(u64, u64)> {
+        if fences.is_empty() || !none_empty(&fences) {
+            return None;
+        }
+        match &mut bulk_load_sequential::<Fence, DefaultParams>(fences) {
+            Ok(root) => {
+                let before = sum(&*root);
+                clear_fences_below(root, area);
+                Some((before, sum(&*root)))
+            }
+            Err(_) => None,
+        }
+    }
+
+    // Ten fences on a line, numbered from 1; a box that touches the first three.
+    #[test]
+    fn fences_below_a_root_are_cleared(rt: HostRuntime) -> Result<(), Fail> {
+        let mut fences = Vec::new(rt.alloc());
+        for number in 1..11u64 {
+            let at = 10 * number as i64;
+            fences.push(Fence::new(Rectangle::from_corners([at, 0], [at + 5, 5]), number))?;
+        }
+        assert!(rt; cleared_below(fences, AABB::from_corners([0, 0], [30, 3])) == Some((55, 49)));
+        Ok(())
     }
 
     // The numbers 1, 2 and 3 in one place, inside a box, each changed, or one until a break; and two fences. A box that

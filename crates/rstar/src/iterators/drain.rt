@@ -3,7 +3,7 @@
 ghost use Rattle.std.specs.Prelude.{◌≡◌, None};
 ghost use Rattle.std.specs.Iterator.{item_count};
 ghost use Rattle.rstar.specs.Taking.{Removes};
-ghost use Rattle.rstar.specs.Drains.{elements_left, IsDraining, TakesNext};
+ghost use Rattle.rstar.specs.Drains.{left_in_tree, IsDraining, TakesNext};
 ghost use Rattle.rstar.specs.Trees.{IsWholeTree};
 
 use crate::algorithm::removal::Rest;
@@ -97,7 +97,7 @@ impl<'a, T: RTreeObject, R: SelectionFunction<T>, Params: RTreeParams> Iterator
     ghost next_gives = { λ s r t. TakesNext T.Envelope.boxes T.object Params.MAX_SIZE R.accepts R.selects s r t
         × (t.tree.ghost_name ≡ s.tree.ghost_name) };
 
-    ghost remaining = { item_count elements_left };
+    ghost remaining = { item_count left_in_tree };
 
     #[tactic(auto, unfolding(crate::specs::Drains::IsDraining))]
     fn next(&mut self) -> Option<T> {

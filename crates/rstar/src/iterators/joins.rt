@@ -7,7 +7,7 @@ ghost use Rattle.rstar.specs.Heights.{levels_below};
 ghost use Rattle.rstar.specs.Nodes.{children_of, node_box, IsWhole};
 ghost use Rattle.rstar.specs.Lists.{product};
 ghost use Rattle.rstar.specs.Meets.{opened_to, both_leaves, pairs_from_roots};
-ghost use Rattle.rstar.specs.JoinWalks.{marked, with_marks, rows_beside, IsFirstPair, IsSingle, HasItsPaths, IsPairStep};
+ghost use Rattle.rstar.specs.JoinWalks.{marked_items, with_marks, rows_beside, IsFirstPair, IsSingle, HasItsPaths, IsPairStep};
 ghost use Rattle.rstar.specs.Joins.{SeenLaws, meets_by, pairs_opened, pairs_to_come, IsJoinMade, IsJoining, GivesPair};
 
 use crate::node::{ParentNode, RTreeNode};
@@ -163,7 +163,7 @@ fn marks_of<T: RTreeObject, U: InEnvelope<T::Envelope>>(
     lefts: &[RTreeNode<T>],
     rights: &[RTreeNode<U>],
 ) -> u64
-    ensures { length lefts.now * length rights.now ≤ 64 → marked result (product lefts.now rights.now)
+    ensures { length lefts.now * length rights.now ≤ 64 → marked_items result (product lefts.now rights.now)
         ≡ filter (λ p. meets_by T.Envelope.boxes U.seen (node_box T.object.box_of p.0) (node_box U.object.box_of p.1))
         (product lefts.now rights.now) }
 {
@@ -183,7 +183,7 @@ fn first_marked<'a, L, R>(
     marks: u64,
 ) -> Option<(&'a [L], &'a [R], u64)>
     ensures some { IfSome result (λ r. IsFirstPair lefts.now rights.now marks r.0.now r.1.now r.2) }
-    ensures none { IfNone result (marked marks (product lefts.now rights.now) ≡ []) }
+    ensures none { IfNone result (marked_items marks (product lefts.now rights.now) ≡ []) }
 {
     if marks == 0 {
         return None;

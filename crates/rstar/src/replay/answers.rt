@@ -8,10 +8,10 @@ ghost use Rattle.rstar.specs.declared.replay.Command.TheVariants.{Ask, Contains,
 ghost use Rattle.rstar.specs.Clones.{ClonesEqual};
 ghost use Rattle.rstar.specs.Joins.{join};
 ghost use Rattle.rstar.specs.Lists.{NoneEmpty};
-ghost use Rattle.rstar.specs.Steps.{questions_of, selects, IsNearestWith, AreFirst, Step};
+ghost use Rattle.rstar.specs.Steps.{selects, IsNearestWith, AreFirst, Step};
 ghost use Rattle.rstar.specs.Trees.{elements_in, IsWholeTree};
 
-use crate::replay::{Query, Reply};
+use crate::replay::{Query, Reply, Scanned};
 use crate::rtree::RTree;
 use rstar_base::algorithm::selection_functions::{
     SelectAllFunc, SelectAtPointFunction, SelectInEnvelopeFuncIntersecting,
@@ -31,9 +31,7 @@ pub(super) fn ask<T: PointDistance + EqualEnvelopes + Clone, Params: RTreeParams
 ) -> Reply<T>
     requires whole { IsWholeTree T.Envelope.boxes T.object Params.MAX_SIZE tree.now }
     requires clones { ClonesEqual T.is_clone }
-    ensures { Step (questions_of T.Envelope.boxes T.object T.distances T.Envelope.Point.DIMENSIONS
-        T.Envelope.Point.coord T.Envelope.Point.Scalar.value T.eq)
-        (elements_in tree.now) (Ask query) result (elements_in tree.now) }
+    ensures { Step ⟦<T as Scanned>⟧.questions (elements_in tree.now) (Ask query) result (elements_in tree.now) }
 {
     match ask_query(tree, query) {
         Ok(found) => Reply::Elements(found),
@@ -48,8 +46,7 @@ fn ask_query<T: PointDistance + EqualEnvelopes + Clone, Params: RTreeParams>(
 ) -> Result<Vec<T>, AllocError>
     requires whole { IsWholeTree T.Envelope.boxes T.object Params.MAX_SIZE tree.now }
     requires clones { ClonesEqual T.is_clone }
-    ensures { IfOk result (λ found. found.items ≡ filter (selects (questions_of T.Envelope.boxes T.object T.distances
-        T.Envelope.Point.DIMENSIONS T.Envelope.Point.coord T.Envelope.Point.Scalar.value T.eq) query)
+    ensures { IfOk result (λ found. found.items ≡ filter (selects ⟦<T as Scanned>⟧.questions query)
         (elements_in tree.now)) }
 {
     match query {
@@ -88,9 +85,7 @@ pub(super) fn contains<T: PointDistance + EqualEnvelopes, Params: RTreeParams>(
     t: &T,
 ) -> Reply<T>
     requires { IsWholeTree T.Envelope.boxes T.object Params.MAX_SIZE tree.now }
-    ensures { Step (questions_of T.Envelope.boxes T.object T.distances T.Envelope.Point.DIMENSIONS
-        T.Envelope.Point.coord T.Envelope.Point.Scalar.value T.eq)
-        (elements_in tree.now) (Contains t.now) result (elements_in tree.now) }
+    ensures { Step ⟦<T as Scanned>⟧.questions (elements_in tree.now) (Contains t.now) result (elements_in tree.now) }
 {
     Reply::Has(tree.contains(t))
 }
@@ -103,9 +98,7 @@ pub(super) fn nearest<T: PointDistance + EqualEnvelopes + Clone, Params: RTreePa
 ) -> Reply<T>
     requires whole { IsWholeTree T.Envelope.boxes T.object Params.MAX_SIZE tree.now }
     requires clones { ClonesEqual T.is_clone }
-    ensures { Step (questions_of T.Envelope.boxes T.object T.distances T.Envelope.Point.DIMENSIONS
-        T.Envelope.Point.coord T.Envelope.Point.Scalar.value T.eq)
-        (elements_in tree.now) (Nearest point) result (elements_in tree.now) }
+    ensures { Step ⟦<T as Scanned>⟧.questions (elements_in tree.now) (Nearest point) result (elements_in tree.now) }
 {
     match nearest_clone(tree, point) {
         Ok(found) => Reply::Nearest(found),
@@ -140,9 +133,7 @@ pub(super) fn neighbours<T: PointDistance + EqualEnvelopes + Clone, Params: RTre
 ) -> Reply<T>
     requires whole { IsWholeTree T.Envelope.boxes T.object Params.MAX_SIZE tree.now }
     requires clones { ClonesEqual T.is_clone }
-    ensures { Step (questions_of T.Envelope.boxes T.object T.distances T.Envelope.Point.DIMENSIONS
-        T.Envelope.Point.coord T.Envelope.Point.Scalar.value T.eq)
-        (elements_in tree.now) (Neighbours point most) result (elements_in tree.now) }
+    ensures { Step ⟦<T as Scanned>⟧.questions (elements_in tree.now) (Neighbours point most) result (elements_in tree.now) }
 {
     match first_clones(tree, &point, most) {
         Ok(found) => Reply::Neighbours(found),
@@ -181,9 +172,7 @@ pub(super) fn join<T: PointDistance + EqualEnvelopes + Clone, Params: RTreeParam
     requires clones { ClonesEqual T.is_clone }
     requires dimensions { 2 ≤ T.Envelope.Point.DIMENSIONS }
     requires elements { NoneEmpty T.Envelope.boxes.is_empty T.object.box_of list.items }
-    ensures { Step (questions_of T.Envelope.boxes T.object T.distances T.Envelope.Point.DIMENSIONS
-        T.Envelope.Point.coord T.Envelope.Point.Scalar.value T.eq)
-        (elements_in tree.now) (Join list) result (elements_in tree.now) }
+    ensures { Step ⟦<T as Scanned>⟧.questions (elements_in tree.now) (Join list) result (elements_in tree.now) }
 {
     match pairs_with(tree, list) {
         Ok(pairs) => Reply::Pairs(pairs),

@@ -6,15 +6,15 @@ ghost use Rattle.std.specs.List.Sorted.{IsPermutation};
 ghost use Rattle.rstar_base.specs.Selections.{IsLawful};
 ghost use Rattle.rstar.specs.declared.replay.Command.TheVariants.{Load, Insert, Remove, RemoveAtPoint, PopNearest, Drain};
 ghost use Rattle.rstar.specs.declared.replay.Reply.TheVariants.{TooMany};
-ghost use Rattle.rstar.specs.Drains.{drained, drain_question, elements_left, IsDraining};
+ghost use Rattle.rstar.specs.Drains.{drained, drain_question, left_in_tree, IsDraining};
 ghost use Rattle.rstar.specs.Heights.{height_of, spare_lists};
 ghost use Rattle.rstar.specs.Lists.{NoneSelected, NoneEmpty};
-ghost use Rattle.rstar.specs.Steps.{questions_of, selects, IsRefusal, TakesSome, Step};
+ghost use Rattle.rstar.specs.Steps.{selects, IsRefusal, TakesSome, Step};
 ghost use Rattle.rstar.specs.Trees.{root_of, size_of, elements_in, IsUnchanged, IsWholeTree};
 
 use crate::iterators::DrainIterator;
 use crate::params::InsertCause;
-use crate::replay::{Query, Reply};
+use crate::replay::{Query, Reply, Scanned};
 use crate::rtree::RTree;
 use rstar_base::algorithm::selection_functions::{
     SelectAllFunc, SelectAtPointFunction, SelectInEnvelopeFuncIntersecting,
@@ -35,9 +35,7 @@ pub(super) fn load<T: PointDistance + EqualEnvelopes, Params: RTreeParams>(
     requires whole { IsWholeTree T.Envelope.boxes T.object Params.MAX_SIZE tree.old }
     requires dimensions { 2 ≤ T.Envelope.Point.DIMENSIONS }
     requires elements { NoneEmpty T.Envelope.boxes.is_empty T.object.box_of list.items }
-    ensures step { Step (questions_of T.Envelope.boxes T.object T.distances T.Envelope.Point.DIMENSIONS
-        T.Envelope.Point.coord T.Envelope.Point.Scalar.value T.eq)
-        (elements_in tree.old) (Load list) result (elements_in tree.new) }
+    ensures step { Step ⟦<T as Scanned>⟧.questions (elements_in tree.old) (Load list) result (elements_in tree.new) }
     ensures whole { IsWholeTree T.Envelope.boxes T.object Params.MAX_SIZE tree.new }
     ensures refused { IsRefusal result → tree.new ≡ tree.old }
 {
@@ -58,9 +56,7 @@ pub(super) fn insert<T: PointDistance + EqualEnvelopes, Params: RTreeParams>(
 ) -> Reply<T>
     requires whole { IsWholeTree T.Envelope.boxes T.object Params.MAX_SIZE tree.old }
     requires element { T.Envelope.boxes.is_empty (T.object.box_of t) ≡ false }
-    ensures step { Step (questions_of T.Envelope.boxes T.object T.distances T.Envelope.Point.DIMENSIONS
-        T.Envelope.Point.coord T.Envelope.Point.Scalar.value T.eq)
-        (elements_in tree.old) (Insert t) result (elements_in tree.new) }
+    ensures step { Step ⟦<T as Scanned>⟧.questions (elements_in tree.old) (Insert t) result (elements_in tree.new) }
     ensures whole { IsWholeTree T.Envelope.boxes T.object Params.MAX_SIZE tree.new }
     ensures refused { IsRefusal result → IsUnchanged tree.old tree.new }
     ensures too_many { (result ≡ TooMany) ↔ ((size_of tree.old ≡ usize.MAX)
@@ -81,9 +77,7 @@ pub(super) fn remove<T: PointDistance + EqualEnvelopes, Params: RTreeParams>(
     t: &T,
 ) -> Reply<T>
     requires whole { IsWholeTree T.Envelope.boxes T.object Params.MAX_SIZE tree.old }
-    ensures step { Step (questions_of T.Envelope.boxes T.object T.distances T.Envelope.Point.DIMENSIONS
-        T.Envelope.Point.coord T.Envelope.Point.Scalar.value T.eq)
-        (elements_in tree.old) (Remove t.now) result (elements_in tree.new) }
+    ensures step { Step ⟦<T as Scanned>⟧.questions (elements_in tree.old) (Remove t.now) result (elements_in tree.new) }
     ensures whole { IsWholeTree T.Envelope.boxes T.object Params.MAX_SIZE tree.new }
     ensures refused { IsRefusal result → tree.new ≡ tree.old }
 {
@@ -96,9 +90,7 @@ pub(super) fn remove_at_point<T: PointDistance + EqualEnvelopes, Params: RTreePa
     point: PointOf<T>,
 ) -> Reply<T>
     requires whole { IsWholeTree T.Envelope.boxes T.object Params.MAX_SIZE tree.old }
-    ensures step { Step (questions_of T.Envelope.boxes T.object T.distances T.Envelope.Point.DIMENSIONS
-        T.Envelope.Point.coord T.Envelope.Point.Scalar.value T.eq)
-        (elements_in tree.old) (RemoveAtPoint point) result (elements_in tree.new) }
+    ensures step { Step ⟦<T as Scanned>⟧.questions (elements_in tree.old) (RemoveAtPoint point) result (elements_in tree.new) }
     ensures whole { IsWholeTree T.Envelope.boxes T.object Params.MAX_SIZE tree.new }
     ensures refused { IsRefusal result → tree.new ≡ tree.old }
 {
@@ -112,9 +104,7 @@ pub(super) fn pop_nearest<T: PointDistance + EqualEnvelopes, Params: RTreeParams
     point: PointOf<T>,
 ) -> Reply<T>
     requires whole { IsWholeTree T.Envelope.boxes T.object Params.MAX_SIZE tree.old }
-    ensures step { Step (questions_of T.Envelope.boxes T.object T.distances T.Envelope.Point.DIMENSIONS
-        T.Envelope.Point.coord T.Envelope.Point.Scalar.value T.eq)
-        (elements_in tree.old) (PopNearest point) result (elements_in tree.new) }
+    ensures step { Step ⟦<T as Scanned>⟧.questions (elements_in tree.old) (PopNearest point) result (elements_in tree.new) }
     ensures whole { IsWholeTree T.Envelope.boxes T.object Params.MAX_SIZE tree.new }
     ensures refused { IsRefusal result → tree.new ≡ tree.old }
 {
@@ -132,9 +122,7 @@ pub(super) fn drain<T: PointDistance + EqualEnvelopes, Params: RTreeParams>(
     most: usize,
 ) -> Reply<T>
     requires whole { IsWholeTree T.Envelope.boxes T.object Params.MAX_SIZE tree.old }
-    ensures step { Step (questions_of T.Envelope.boxes T.object T.distances T.Envelope.Point.DIMENSIONS
-        T.Envelope.Point.coord T.Envelope.Point.Scalar.value T.eq)
-        (elements_in tree.old) (Drain query most) result (elements_in tree.new) }
+    ensures step { Step ⟦<T as Scanned>⟧.questions (elements_in tree.old) (Drain query most) result (elements_in tree.new) }
     ensures whole { IsWholeTree T.Envelope.boxes T.object Params.MAX_SIZE tree.new }
     ensures refused { IsRefusal result → tree.new ≡ tree.old }
 {
@@ -151,8 +139,7 @@ fn drain_query<T: PointDistance + EqualEnvelopes, Params: RTreeParams>(
     most: usize,
 ) -> Result<Vec<T>, AllocError>
     requires whole { IsWholeTree T.Envelope.boxes T.object Params.MAX_SIZE tree.old }
-    ensures taken { IfOk result (λ taken. TakesSome (selects (questions_of T.Envelope.boxes T.object T.distances
-        T.Envelope.Point.DIMENSIONS T.Envelope.Point.coord T.Envelope.Point.Scalar.value T.eq) query) most
+    ensures taken { IfOk result (λ taken. TakesSome (selects ⟦<T as Scanned>⟧.questions query) most
         (elements_in tree.old) taken.items (elements_in tree.new)) }
     ensures refused { OnErr result (tree.new ≡ tree.old) }
     ensures whole { IsWholeTree T.Envelope.boxes T.object Params.MAX_SIZE tree.new }
@@ -206,11 +193,11 @@ fn take_up_to<T: RTreeObject, R: SelectionFunction<T>, Params: RTreeParams>(
     requires room { most ≤ vec_capacity taken.old }
     ensures same { drain.new.tree.ghost_name ≡ drain.old.tree.ghost_name }
     ensures whole { IsWholeTree T.Envelope.boxes T.object Params.MAX_SIZE (drained drain.new) }
-    ensures bag { IsPermutation (elements_left drain.old) (taken.new.items ++ elements_left drain.new) }
+    ensures bag { IsPermutation (left_in_tree drain.old) (taken.new.items ++ left_in_tree drain.new) }
     ensures selected { AllByRecursion (λ t. R.selects (drain_question drain.old) t ≡ true) taken.new.items }
     ensures few { length taken.new.items ≤ most }
     ensures ended { length taken.new.items < most
-        → NoneSelected (R.selects (drain_question drain.old)) (elements_left drain.new) }
+        → NoneSelected (R.selects (drain_question drain.old)) (left_in_tree drain.new) }
 {
     for _turn in 0..most {
         let Some(t) = drain.next() else {

@@ -3,10 +3,10 @@
 ghost use Rattle.std.specs.Prelude.{◌↔◌, ◌≤◌, IsTrue};
 ghost use Rattle.std.specs.List.{AllByRecursion};
 ghost use Rattle.rstar.specs.Lists.{NoneEmpty};
-ghost use Rattle.rstar.specs.Steps.{questions_of, IsFit};
+ghost use Rattle.rstar.specs.Steps.{IsFit};
 
 use crate::algorithm::bulk_load::none_empty;
-use crate::replay::Command;
+use crate::replay::{Command, Scanned};
 use rstar_base::envelope::Envelope;
 use rstar_base::object::{EqualEnvelopes, PointDistance, PointOf, RTreeObject};
 use rstar_base::point::{Point, RTreeNum};
@@ -14,8 +14,7 @@ use rstar_base::point::{Point, RTreeNum};
 /// Whether `step` may be asked to run a command: no element that it brings has an empty envelope, and what it loads has
 /// two dimensions. It looks at each element that the command brings.
 pub fn is_fit<T: PointDistance + EqualEnvelopes>(command: &Command<T>) -> bool
-    ensures { IsTrue result ↔ IsFit (questions_of T.Envelope.boxes T.object T.distances T.Envelope.Point.DIMENSIONS
-        T.Envelope.Point.coord T.Envelope.Point.Scalar.value T.eq) T.Envelope.Point.DIMENSIONS command.now }
+    ensures { IsTrue result ↔ IsFit ⟦<T as Scanned>⟧.questions T.Envelope.Point.DIMENSIONS command.now }
 {
     match command {
         Command::Load(list) => is_loadable(list),
@@ -42,9 +41,7 @@ fn is_loadable<T: RTreeObject>(elements: &[T]) -> bool
 
 /// Whether `replay` may be asked to run commands: each is fit.
 pub fn all_fit<T: PointDistance + EqualEnvelopes>(commands: &[Command<T>]) -> bool
-    ensures { IsTrue result ↔ AllByRecursion (IsFit (questions_of T.Envelope.boxes T.object T.distances
-        T.Envelope.Point.DIMENSIONS T.Envelope.Point.coord T.Envelope.Point.Scalar.value T.eq)
-        T.Envelope.Point.DIMENSIONS) commands.now }
+    ensures { IsTrue result ↔ AllByRecursion (IsFit ⟦<T as Scanned>⟧.questions T.Envelope.Point.DIMENSIONS) commands.now }
 {
     for command in commands {
         if !is_fit(command) {

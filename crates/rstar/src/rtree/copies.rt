@@ -4,7 +4,9 @@ ghost use Rattle.std.specs.Prelude.{ℕ, IfOk};
 ghost use Rattle.std.specs.List.{AllByRecursion, AllZip};
 ghost use Rattle.rstar.specs.Clones.{ClonesEqual, IsNodeClone, IsParentClone};
 ghost use Rattle.rstar.specs.Nodes.{children_of};
-ghost use Rattle.rstar.specs.Trees.{elements_in, IsUnchanged, IsWholeTree};
+ghost use Rattle.rstar.specs.Loaded.{IsLoaded};
+ghost use Rattle.rstar.specs.Shapes.{IsSized};
+ghost use Rattle.rstar.specs.Trees.{root_of, elements_in, IsUnchanged, IsWholeTree};
 ghost use Rattle.rstar.specs.Walks.{IsLevel};
 
 use crate::algorithm::bulk_load::parts::make_room;
@@ -13,12 +15,13 @@ use crate::rtree::RTree;
 use rstar_base::envelope::{Envelope, copied_envelope};
 use rstar_base::object::RTreeObject;
 use rstar_base::params::RTreeParams;
+use rstar_base::point::Point;
 use std::alloc::AllocError;
 use std::marker::PhantomData;
 
 impl<T: RTreeObject + Clone, Params: RTreeParams> RTree<T, Params> {
     /// A tree of the clones of the elements, in nodes as these are. Where each clone of an element equals it, the
-    /// tree shows the same.
+    /// tree shows the same: it has the node sizes of this one, and is loaded where this one is.
     ///
     /// It is refused where the allocator refuses a list, or a clone of an element. It costs a clone of each element.
     #[tactic(auto, unfolding(crate::specs::Trees::IsWholeTree))]
@@ -28,6 +31,12 @@ impl<T: RTreeObject + Clone, Params: RTreeParams> RTree<T, Params> {
         ensures same { ClonesEqual T.is_clone → IfOk result (IsUnchanged self.now) }
         ensures whole { ClonesEqual T.is_clone
             → IfOk result (IsWholeTree T.Envelope.boxes T.object Params.MAX_SIZE) }
+        ensures sized { ClonesEqual T.is_clone → IsSized Params.MIN_SIZE Params.MAX_SIZE (root_of self.now)
+            → IfOk result (λ tree. IsSized Params.MIN_SIZE Params.MAX_SIZE (root_of tree)) }
+        ensures loaded { ClonesEqual T.is_clone
+            → IsLoaded T.Envelope.boxes T.object Params.MAX_SIZE T.Envelope.Point.DIMENSIONS (root_of self.now)
+            → IfOk result (λ tree. IsLoaded T.Envelope.boxes T.object Params.MAX_SIZE T.Envelope.Point.DIMENSIONS
+            (root_of tree)) }
     {
         let root = cloned_parent::<T, Params>(&self.root)?;
         Ok(RTree {

@@ -2,7 +2,7 @@
 
 ghost use Rattle.std.specs.Prelude.{◌≡◌, Bool, true, pos, int_le};
 ghost use Rattle.rstar_base.specs.Points.{table};
-ghost use Rattle.rstar_base.specs.Selections.{IsLawful};
+ghost use Rattle.rstar_base.specs.Selections.{IsLawful, SelectsBy};
 
 use crate::envelope::Envelope;
 use crate::object::{Distance, EqualEnvelopes, PointDistance, PointOf, RTreeObject};
@@ -61,13 +61,10 @@ pub struct SelectInEnvelopeFunction<T: RTreeObject> {
 impl<T: RTreeObject> SelectInEnvelopeFunction<T> {
     /// Selects what the envelope contains, and opens the parents that it intersects.
     pub fn new(envelope: T::Envelope) -> Self
-        ensures accepts { ⟦<SelectInEnvelopeFunction<T> as SelectionFunction<T>>⟧.accepts result
-            ≡ (λ e. T.Envelope.boxes.intersects envelope e) }
-        ensures selects { ⟦<SelectInEnvelopeFunction<T> as SelectionFunction<T>>⟧.selects result
-            ≡ (λ t. T.Envelope.boxes.contains envelope (T.object.box_of t)) }
-        ensures lawful { IsLawful T.Envelope.boxes T.object
-            (⟦<SelectInEnvelopeFunction<T> as SelectionFunction<T>>⟧.accepts result)
-            (⟦<SelectInEnvelopeFunction<T> as SelectionFunction<T>>⟧.selects result) }
+        ensures { SelectsBy T.Envelope.boxes T.object (⟦<SelectInEnvelopeFunction<T> as SelectionFunction<T>>⟧.accepts result)
+            (⟦<SelectInEnvelopeFunction<T> as SelectionFunction<T>>⟧.selects result)
+            (λ e. T.Envelope.boxes.intersects envelope e)
+            (λ t. T.Envelope.boxes.contains envelope (T.object.box_of t)) }
     {
         let _known = envelope.is_empty();
         SelectInEnvelopeFunction { envelope }
@@ -97,13 +94,10 @@ pub struct SelectInEnvelopeFuncIntersecting<T: RTreeObject> {
 impl<T: RTreeObject> SelectInEnvelopeFuncIntersecting<T> {
     /// Selects what the envelope intersects, and opens the parents that it intersects.
     pub fn new(envelope: T::Envelope) -> Self
-        ensures accepts { ⟦<SelectInEnvelopeFuncIntersecting<T> as SelectionFunction<T>>⟧.accepts result
-            ≡ (λ e. T.Envelope.boxes.intersects envelope e) }
-        ensures selects { ⟦<SelectInEnvelopeFuncIntersecting<T> as SelectionFunction<T>>⟧.selects result
-            ≡ (λ t. T.Envelope.boxes.intersects envelope (T.object.box_of t)) }
-        ensures lawful { IsLawful T.Envelope.boxes T.object
-            (⟦<SelectInEnvelopeFuncIntersecting<T> as SelectionFunction<T>>⟧.accepts result)
-            (⟦<SelectInEnvelopeFuncIntersecting<T> as SelectionFunction<T>>⟧.selects result) }
+        ensures { SelectsBy T.Envelope.boxes T.object (⟦<SelectInEnvelopeFuncIntersecting<T> as SelectionFunction<T>>⟧.accepts result)
+            (⟦<SelectInEnvelopeFuncIntersecting<T> as SelectionFunction<T>>⟧.selects result)
+            (λ e. T.Envelope.boxes.intersects envelope e)
+            (λ t. T.Envelope.boxes.intersects envelope (T.object.box_of t)) }
     {
         let _known = envelope.is_empty();
         SelectInEnvelopeFuncIntersecting { envelope }
@@ -134,14 +128,11 @@ impl<T: PointDistance> SelectAtPointFunction<T> {
     /// Selects what contains the point, by `contains_point`, and opens the parents whose envelopes
     /// contain it.
     pub fn new(point: PointOf<T>) -> Self
-        ensures accepts { ⟦<SelectAtPointFunction<T> as SelectionFunction<T>>⟧.accepts result
-            ≡ (λ e. T.Envelope.boxes.contains_point e
-            (table T.Envelope.Point.DIMENSIONS (T.Envelope.Point.coord point))) }
-        ensures selects { ⟦<SelectAtPointFunction<T> as SelectionFunction<T>>⟧.selects result
-            ≡ (λ t. T.distances.contains_point t (table T.Envelope.Point.DIMENSIONS (T.Envelope.Point.coord point))) }
-        ensures lawful { IsLawful T.Envelope.boxes T.object
-            (⟦<SelectAtPointFunction<T> as SelectionFunction<T>>⟧.accepts result)
-            (⟦<SelectAtPointFunction<T> as SelectionFunction<T>>⟧.selects result) }
+        ensures { SelectsBy T.Envelope.boxes T.object (⟦<SelectAtPointFunction<T> as SelectionFunction<T>>⟧.accepts result)
+            (⟦<SelectAtPointFunction<T> as SelectionFunction<T>>⟧.selects result)
+            (λ e. T.Envelope.boxes.contains_point e
+            (table T.Envelope.Point.DIMENSIONS (T.Envelope.Point.coord point)))
+            (λ t. T.distances.contains_point t (table T.Envelope.Point.DIMENSIONS (T.Envelope.Point.coord point))) }
     {
         // Does nothing but tell that the point's coordinates are in their range.
         known(&point);
@@ -176,17 +167,14 @@ impl<T: PointDistance> SelectWithinDistanceFunction<T> {
     /// Selects what is at most `squared_max_distance` away from the point, and opens the parents
     /// whose envelopes are. The distance is squared.
     pub fn new(circle_origin: PointOf<T>, squared_max_distance: Distance<T>) -> Self
-        ensures accepts { ⟦<SelectWithinDistanceFunction<T> as SelectionFunction<T>>⟧.accepts result
-            ≡ (λ e. int_le (pos (T.Envelope.boxes.distance_2 e
+        ensures { SelectsBy T.Envelope.boxes T.object (⟦<SelectWithinDistanceFunction<T> as SelectionFunction<T>>⟧.accepts result)
+            (⟦<SelectWithinDistanceFunction<T> as SelectionFunction<T>>⟧.selects result)
+            (λ e. int_le (pos (T.Envelope.boxes.distance_2 e
+            (table T.Envelope.Point.DIMENSIONS (T.Envelope.Point.coord circle_origin))))
+            (T.Envelope.Point.Scalar.value squared_max_distance))
+            (λ t. int_le (pos (T.distances.distance_2 t
             (table T.Envelope.Point.DIMENSIONS (T.Envelope.Point.coord circle_origin))))
             (T.Envelope.Point.Scalar.value squared_max_distance)) }
-        ensures selects { ⟦<SelectWithinDistanceFunction<T> as SelectionFunction<T>>⟧.selects result
-            ≡ (λ t. int_le (pos (T.distances.distance_2 t
-            (table T.Envelope.Point.DIMENSIONS (T.Envelope.Point.coord circle_origin))))
-            (T.Envelope.Point.Scalar.value squared_max_distance)) }
-        ensures lawful { IsLawful T.Envelope.boxes T.object
-            (⟦<SelectWithinDistanceFunction<T> as SelectionFunction<T>>⟧.accepts result)
-            (⟦<SelectWithinDistanceFunction<T> as SelectionFunction<T>>⟧.selects result) }
     {
         // Does nothing but tell that the point's coordinates are in their range.
         known(&circle_origin);
@@ -228,13 +216,10 @@ impl<'a, T: EqualEnvelopes> SelectEqualsFunction<'a, T> {
     /// Selects what equals the element, by `==`, and opens the parents whose envelopes contain its
     /// envelope: those of equal elements are equal.
     pub fn new(object_to_remove: &'a T) -> Self
-        ensures accepts { ⟦<SelectEqualsFunction<'a, T> as SelectionFunction<T>>⟧.accepts result
-            ≡ (λ e. T.Envelope.boxes.contains e (T.object.box_of object_to_remove.now)) }
-        ensures selects { ⟦<SelectEqualsFunction<'a, T> as SelectionFunction<T>>⟧.selects result
-            ≡ (λ t. T.eq t object_to_remove.now) }
-        ensures lawful { IsLawful T.Envelope.boxes T.object
-            (⟦<SelectEqualsFunction<'a, T> as SelectionFunction<T>>⟧.accepts result)
-            (⟦<SelectEqualsFunction<'a, T> as SelectionFunction<T>>⟧.selects result) }
+        ensures { SelectsBy T.Envelope.boxes T.object (⟦<SelectEqualsFunction<'a, T> as SelectionFunction<T>>⟧.accepts result)
+            (⟦<SelectEqualsFunction<'a, T> as SelectionFunction<T>>⟧.selects result)
+            (λ e. T.Envelope.boxes.contains e (T.object.box_of object_to_remove.now))
+            (λ t. T.eq t object_to_remove.now) }
     {
         let _known = object_to_remove.envelope();
         SelectEqualsFunction { object_to_remove }

@@ -7,7 +7,7 @@ ghost use Rattle.rstar_base.specs.Hulls.{hull};
 ghost use Rattle.rstar.specs.declared.node.RTreeNode.{Parent};
 ghost use Rattle.rstar.specs.Nodes.{node_box, all_elements, all_parents, parents_of};
 ghost use Rattle.rstar.specs.Shapes.{AreSized, IsSizedTree};
-ghost use Rattle.rstar.specs.Kept.{HasRoom, IsRoomy, IsSpare, IsKept, IsFit, AreKept, IsKeptTree, IsSizedAfter, second_children, as_node};
+ghost use Rattle.rstar.specs.Kept.{HasRoom, IsRoomy, IsSpare, IsKept, HasMergedBox, AreKept, IsKeptTree, IsSizedAfter, second_children, as_node};
 
 use crate::algorithm::rstar::choose::choose_subtree;
 use crate::algorithm::rstar::split::split_in_place;
@@ -36,8 +36,8 @@ fn add_child<T: RTreeObject, Params: RTreeParams>(
         (node.new.children.items ++ second_children result) }
 
     // Each part has room, and the merge of its children's envelopes.
-    ensures first { IsFit T.Envelope.boxes T.object Params.MAX_SIZE widest node.new }
-    ensures second { IfSome result (IsFit T.Envelope.boxes T.object Params.MAX_SIZE widest) }
+    ensures first { HasMergedBox T.Envelope.boxes T.object Params.MAX_SIZE widest node.new }
+    ensures second { IfSome result (HasMergedBox T.Envelope.boxes T.object Params.MAX_SIZE widest) }
 
     // Only an overflow is cut, and each part then has at least the least number.
     ensures whole { IfNone result (vec_len node.new.children ≡ vec_len node.old.children + 1) }

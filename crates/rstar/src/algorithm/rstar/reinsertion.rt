@@ -9,7 +9,7 @@ ghost use Rattle.rstar.specs.declared.node.RTreeNode.{Leaf};
 ghost use Rattle.rstar.specs.Heights.{spare_lists};
 ghost use Rattle.rstar.specs.Nodes.{node_box, all_elements, all_parents, parents_of};
 ghost use Rattle.rstar.specs.Shapes.{AreSized, IsSizedTree};
-ghost use Rattle.rstar.specs.Kept.{IsRoomy, IsSpare, IsKept, IsFit, AreKept, IsKeptTree, IsSizedAfter};
+ghost use Rattle.rstar.specs.Kept.{IsRoomy, IsSpare, IsKept, HasMergedBox, AreKept, IsKeptTree, IsSizedAfter};
 
 use crate::algorithm::rstar::choose::choose_subtree;
 use crate::algorithm::rstar::insertion::insert_at_root;
@@ -74,7 +74,7 @@ fn add_leaf<T: RTreeObject, Params: RTreeParams>(
     requires spare { IsSpare widest handed.old }
     ensures same { IsPermutation (node.old.children.items ++ Leaf t ∷ [])
         (node.new.children.items ++ handed.new.items) }
-    ensures fit { IsFit T.Envelope.boxes T.object Params.MAX_SIZE widest node.new }
+    ensures fit { HasMergedBox T.Envelope.boxes T.object Params.MAX_SIZE widest node.new }
     ensures count { vec_len handed.new ≤ Params.REINSERTION_COUNT }
     ensures least { Params.MIN_SIZE ≤ vec_len node.old.children → Params.MIN_SIZE ≤ vec_len node.new.children }
     ensures most { vec_len node.old.children ≤ Params.MAX_SIZE → vec_len node.new.children ≤ Params.MAX_SIZE }

@@ -2,7 +2,7 @@ use Rattle.std.proofs.Common.{◌∙◌, ◌≡◌, ◌<◌, ◌/◌, ◌%◌, a
 use Rattle.std.proofs.lemmas.Bool.Decides.{nat_tests}
 use Rattle.std.proofs.lemmas.Nat.{div-add-mod'}
 use lib.Count.{count_trailing_zeros}
-use Rattle.rstar.specs.JoinWalks.{marked}
+use Rattle.rstar.specs.JoinWalks.{marked_items}
 use Rattle.rstar.specs.Lists.{product}
 use Rattle.rstar.proofs.PairRows.{product-none}
 use Rattle.rstar.proofs.Walks.{no-items}
@@ -12,12 +12,12 @@ use Rattle.rstar.proofs.iterators.joins.first_marked.Goals as goal
 pub returns-then-marks-eq0-clause-none : goal.returns-then-marks-eq0-clause-none
 returns-then-marks-eq0-clause-none g c =
     let none : c.args.marks ≡ 0 = grind (arith, nat_tests, c.if-marks-eq0.true) in
-    ap (λ m. marked m (product c.args.lefts.now c.args.rights.now)) none ∙ marked-zero (product c.args.lefts.now c.args.rights.now)
+    ap (λ m. marked_items m (product c.args.lefts.now c.args.rights.now)) none ∙ marked-zero (product c.args.lefts.now c.args.rights.now)
 
 pub returns-then-is_empty-clause-none : goal.returns-then-is_empty-clause-none
 returns-then-is_empty-clause-none g c =
     let empty = no-items c.args.rights.now _ _ c.is_empty.ensures c.if-is_empty.true refl in
-    ap (λ l. marked c.args.marks (product c.args.lefts.now l)) empty ∙ ap (marked c.args.marks) (product-none c.args.lefts.now)
+    ap (λ l. marked_items c.args.marks (product c.args.lefts.now l)) empty ∙ ap (marked_items c.args.marks) (product-none c.args.lefts.now)
 
 pub returns-then-lefts-row-clause-none : goal.returns-then-lefts-row-clause-none
 returns-then-lefts-row-clause-none g c =

@@ -2,6 +2,7 @@ use Rattle.std.proofs.Common.{refl}
 use Rattle.rstar.specs.Trees.{IsWholeTree}
 use Rattle.rstar.proofs.Insertion.{trees_map}
 use Rattle.rstar.proofs.Clones.{all_cloned, tree_cloned_whole}
+use Rattle.rstar.proofs.Alike.{root-sized, root-loaded}
 use Rattle.rstar.proofs.rtree.RTree.clone.Goals as goal
 
 pub returns-clause-clones : goal.returns-clause-clones
@@ -15,3 +16,9 @@ returns-clause-same g c = λ equal. (tree_cloned_whole _ equal g.T.Envelope.Enve
 
 pub returns-clause-whole : goal.returns-clause-whole
 returns-clause-whole g c = λ equal. (tree_cloned_whole _ equal g.T.Envelope.Envelope.boxes g.T.RTreeObject.object _ _ _ c.requires c.in_ok-root.ensures refl refl refl c.new.ensures.items).1
+
+pub returns-clause-sized : goal.returns-clause-sized
+returns-clause-sized g c = λ equal sized. root-sized _ _ _ _ (returns-clause-same g c equal).shown sized
+
+pub returns-clause-loaded : goal.returns-clause-loaded
+returns-clause-loaded g c = λ equal loaded. root-loaded _ _ _ _ _ _ (returns-clause-same g c equal).shown loaded

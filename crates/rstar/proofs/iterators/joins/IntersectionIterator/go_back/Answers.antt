@@ -1,5 +1,5 @@
 use Rattle.std.proofs.Common.{◌∷◌, ◌++◌, [], ◌∙◌, ap, sym, refl, arith, subst, append-nil, ◌≡◌, ◌+◌}
-use Rattle.rstar.specs.JoinWalks.{in_hand, frames_of, IsCounted, pairs_from_frames, opens_from_frames}
+use Rattle.rstar.specs.JoinWalks.{in_hand, frames_of, CountsPairs, pairs_from_frames, opens_from_frames}
 use Rattle.rstar.specs.Joins.{meets_by}
 use Rattle.rstar.proofs.PairWalks.{frames-along, move-drop, move-pairs, move-nearer, move-frames, move-count}
 use Rattle.rstar.proofs.iterators.joins.IntersectionIterator.go_back.Goals as goal
@@ -19,7 +19,7 @@ returns-in_default g c =
     record {
       joining = record {
         frames = frames-along meets left_box right_box _ _ (ap (λ n. n + 1) (sym room)) _ _ same c.requires.paths.frames;
-        count = subst (λ f. IsCounted meets left_box right_box self.left.now self.right.now f self.opened) same c.requires.paths.count;
+        count = subst (λ f. CountsPairs meets left_box right_box self.left.now self.right.now f self.opened) same c.requires.paths.count;
       };
       left = refl;
       right = refl;

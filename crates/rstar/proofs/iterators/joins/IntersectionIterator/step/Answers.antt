@@ -1,7 +1,7 @@
 use Rattle.std.proofs.Common.{◌≡◌, ◌<◌, ◌∙◌, ◌*◌, ◌≤◌, ap, sym, refl, arith, subst, length, min, filter}
 use Rattle.std.proofs.lemmas.Bool.Decides.{nat_tests}
 use Rattle.rstar.specs.Lists.{product}
-use Rattle.rstar.specs.JoinWalks.{marked, in_hand, frames_of, rows_beside, IsFirstPair}
+use Rattle.rstar.specs.JoinWalks.{marked_items, in_hand, frames_of, rows_beside, IsFirstPair}
 use Rattle.rstar.specs.Joins.{meets_by}
 use Rattle.rstar.proofs.Walks.{no-items}
 use Rattle.rstar.proofs.PairWalks.{parts-are, block-fits, block-some, last-frame, meets_pair, move-row, move-ask, move-pairs, move-nearer, move-frames, move-count}
@@ -23,7 +23,7 @@ returns-then-is_empty-2 g c =
     let above = self.path.items in
     let k = rows_beside self.rights.now in
     let parts = parts-are k self.lefts.now c.split_at.result.0.now c.split_at.result.1.now c.split_at.ensures.by_index.0 (c.split_at.ensures.front_len ∙ c.min-rows.ensures ∙ ap (min (length self.lefts.now)) c.rows_beside.ensures) in
-    let none = ap (λ b. marked self.marks (product b self.asked.now)) (sym parts.0) ∙ c.in_default.ensures.none in
+    let none = ap (λ b. marked_items self.marks (product b self.asked.now)) (sym parts.0) ∙ c.in_default.ensures.none in
     let some : 0 < length self.lefts.now = grind (arith, nat_tests, c.is_empty.ensures, c.if-is_empty.false) in
     let over = no-items self.later.now _ _ c.is_empty-2.ensures c.if-is_empty-2.true refl in
     let move = move-row meets left_box right_box self.lefts c.split_at.result.1 self.asked self.later self.rights self.marks parts.1 some none over in
@@ -49,13 +49,13 @@ returns g c =
     let k = rows_beside self.rights.now in
     let chunk = c.split_at-2.result.0 in
     let parts = parts-are k self.lefts.now c.split_at.result.0.now c.split_at.result.1.now c.split_at.ensures.by_index.0 (c.split_at.ensures.front_len ∙ c.min-rows.ensures ∙ ap (min (length self.lefts.now)) c.rows_beside.ensures) in
-    let none = ap (λ b. marked self.marks (product b self.asked.now)) (sym parts.0) ∙ c.in_default.ensures.none in
+    let none = ap (λ b. marked_items self.marks (product b self.asked.now)) (sym parts.0) ∙ c.in_default.ensures.none in
     let frame = last-frame meets left_box right_box self.path.capacity above (in_hand self) c.requires.frames in
     let fits = block-fits self.rights.now self.later.now chunk.now c.split_at-2.result.1.now self.lefts.now frame.1.no_more c.split_at-2.ensures.by_index.0 (c.split_at-2.ensures.front_len ∙ c.min.ensures) in
     let lefts : 0 < length self.lefts.now = grind (arith, nat_tests, c.is_empty.ensures, c.if-is_empty.false) in
     let some : 0 < length chunk.now = grind (arith, nat_tests, c.is_empty-2.ensures, c.if-is_empty-2.false, c.min.ensures, c.split_at-2.ensures.front_len) in
     let few = subst (λ b. length b * length chunk.now ≤ 64) (sym parts.0) fits.0 in
-    let made = subst (λ b. marked c.marks_of-self.result (product b chunk.now) ≡ filter (meets_pair meets left_box right_box) (product b chunk.now)) parts.0 (c.marks_of-self.ensures few) in
+    let made = subst (λ b. marked_items c.marks_of-self.result (product b chunk.now) ≡ filter (meets_pair meets left_box right_box) (product b chunk.now)) parts.0 (c.marks_of-self.ensures few) in
     let move = move-ask meets left_box right_box self.lefts self.asked self.later chunk c.split_at-2.result.1 self.rights self.marks c.marks_of-self.result none c.split_at-2.ensures.by_index.0 some
     (block-some self.rights.now self.lefts.now lefts) fits.1 made in
     record {

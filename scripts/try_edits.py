@@ -1,0 +1,228 @@
+#!/usr/bin/env python3
+"""Tries the wrong bodies of crates/NAME/edits/: a check must refuse each one. scripts/try_edits.sh says how it is called.
+
+An edit has the form of the gate's: a line `file: PATH`, then pairs of lines `old: TEXT` and `new: TEXT`. Each crate is
+proved first, over what earlier checks kept in its out/. What a check costs is to read that work, and one wrong body leaves
+the other functions as they are. So edits of different functions are tried together, each batch over its own copy, and the
+check must say of each edited function that it is not proved; an edit of which a batch says nothing is tried alone. There
+are as many copies as there are processors, or JOBS. The status is 1 where an edit was not refused.
+"""
+
+import concurrent.futures
+import os
+import queue
+import re
+import shutil
+import subprocess
+import sys
+import tempfile
+from pathlib import Path
+
+ROOT = Path(__file__).resolve().parent.parent
+JOBS = int(os.environ.get("JOBS") or os.cpu_count() or 1)
+BATCH = 10
+
+FUNCTION = re.compile(r"^\s*(?:pub(?:\([^)]*\))?\s+)?(?:const\s+)?fn\s+(\w+)", re.M)
+TOLD = re.compile(r"^(?:note: )?(?P<path>\S+?):(?P<line>\d+):\d+:")
+# What a proof file says of a name that the edit took away, and what is said of a text that does not read.
+NAMES = re.compile(r"^(\./)?proofs/.*(has no field|is not in scope|has no `|was not admitted)")
+UNREAD = re.compile(
+    r"^\S+ error: [^`]|is not in scope|has no field|is no name|operand is missing|expected the end|cannot continue"
+)
+
+
+class Edit:
+    """One wrong body: where its replacements stand, and the function whose body they change, if there is one."""
+
+    def __init__(self, path):
+        self.name = path.stem
+        self.changes = []
+        file, old = "", None
+        for line in path.read_text().splitlines():
+            if line.startswith("file: "):
+                file = line[len("file: ") :]
+            elif line.startswith("old: "):
+                old = line[len("old: ") :]
+            elif line.startswith("new:") and old is not None:
+                self.changes.append((file, old, line[len("new:") :].removeprefix(" ")))
+
+    def apply(self, crate):
+        """Makes the replacements; gives what hinders them."""
+        for file, old, new in self.changes:
+            text = (crate / file).read_text()
+            if text.count(old) != 1:
+                return f"in {file} does not stand once: {old}"
+            (crate / file).write_text(text.replace(old, new))
+        return None
+
+    def function(self, crate):
+        """The file and the function that all replacements stand in; None where they stand in more than one."""
+        found = set()
+        for file, old, _ in self.changes:
+            text = (crate / file).read_text()
+            at = text.find(old)
+            heads = [head for head in FUNCTION.finditer(text) if head.start() < at + len(old)]
+            if at < 0 or not heads or heads[-1].end() > at:
+                return None
+            found.add((file, heads[-1].group(1)))
+        return found.pop() if len(found) == 1 else None
+
+
+def modules(file):
+    """The modules of a source file, as a check names them."""
+    return [part for part in Path(file).with_suffix("").parts[1:] if part not in ("lib", "main", "mod")]
+
+
+def is_within(parts, names):
+    """Whether the names stand among the parts, in this order."""
+    rest = iter(parts)
+    return all(name in rest for name in names)
+
+
+def check(crate):
+    """Checks a copy of a crate, and gives the status and what the check says."""
+    done = subprocess.run(
+        ["rt", "check", "--jobs", "1"], cwd=crate, stdout=subprocess.PIPE, stderr=subprocess.STDOUT, text=True
+    )
+    return done.returncode, done.stdout.splitlines()
+
+
+def verdict(status, said, told):
+    """A word for what a check makes of an edit, and why: `told` is what it says of the edit's function."""
+    errors = [line for line in told if re.match(r"^(\./)?(src|specs)/\S+ error: ", line)]
+    if status == 0:
+        return "NOT REFUSED"
+    if not any(line.startswith("logic=not-proved") for line in said):
+        return "NOT TRIED: " + next((line for line in said if "error" in line), said[-1] if said else "no word")
+    if any(UNREAD.search(re.sub(r"`[^`]*`", "", line)) for line in errors):
+        return "NOT TRIED: it does not read: " + errors[0]
+    if told and all(NAMES.match(line) for line in told):
+        return "BY NAMES ALONE: " + told[0]
+    return "refused: " + next((line for line in told if not NAMES.match(line)), said[-1])
+
+
+def told_lines(said):
+    return [line for line in said if TOLD.match(line) and (": error" in line or line.startswith("note: "))]
+
+
+def told_of(function, crate, said):
+    """What a check says of one function: by the folder of its proofs, and by the lines of its body."""
+    file, name = function
+    text = (crate / file).read_text()
+    starts = [(text.count("\n", 0, head.start(1)) + 1, head.group(1)) for head in FUNCTION.finditer(text)]
+    own = []
+    for line in told_lines(said):
+        at = TOLD.match(line)
+        path, number = at["path"].removeprefix("./"), int(at["line"])
+        if path.startswith("proofs/"):
+            parts = [part.removeprefix("+") for part in Path(path).parts[1:]]
+            if is_within(parts, modules(file) + [name]):
+                own.append(line)
+        elif path == file:
+            before = [head for start, head in starts if start <= number]
+            if before and before[-1] == name:
+                own.append(line)
+    return own
+
+
+def try_batch(edits, home, copy):
+    """Tries edits of different functions together, and gives a verdict for each; None where it must be tried alone."""
+    shutil.rmtree(copy / "src")
+    shutil.copytree(home / "src", copy / "src")
+    for edit in edits:
+        hindered = edit.apply(copy)
+        if hindered:
+            return {edit.name: "NOT TRIED: " + hindered} if len(edits) == 1 else {e.name: None for e in edits}
+    status, said = check(copy)
+    if len(edits) == 1:
+        return {edits[0].name: verdict(status, said, told_lines(said))}
+    verdicts = {}
+    refused = [line.split(": not proved")[0].split("::") for line in said if line.endswith(": not proved")]
+    for edit in edits:
+        file, name = edit.place
+        if any(parts[-1] == name and is_within(parts, modules(file)) for parts in refused):
+            told = told_of(edit.place, copy, said)
+            word = verdict(status, said, told)
+            verdicts[edit.name] = word if told and word.startswith("refused") else None
+        else:
+            verdicts[edit.name] = None
+    return verdicts
+
+
+def batches_of(edits, home):
+    """The edits in batches: no two of one function, nor of one file and name, in a batch."""
+    batches = []
+    for edit in edits:
+        edit.place = edit.function(home)
+        if edit.place is None:
+            batches.append([edit])
+            continue
+        for batch in batches:
+            if batch[0].place and len(batch) < BATCH and all(other.place != edit.place for other in batch):
+                batch.append(edit)
+                break
+        else:
+            batches.append([edit])
+    return batches
+
+
+def copy_for(name, room):
+    """A copy of the repository to check one crate in: sources, built libraries, and what checks of the crate kept."""
+    room.mkdir()
+    shutil.copy(ROOT / "crates.txt", room)
+    for crate in (ROOT / "crates").iterdir():
+        for part in ("src", "specs", "proofs", "out/rlib"):
+            if (crate / part).exists():
+                shutil.copytree(crate / part, room / "crates" / crate.name / part, symlinks=True)
+    shutil.copytree(ROOT / "crates" / name / "out/incremental", room / "crates" / name / "out/incremental")
+    return room / "crates" / name
+
+
+def try_crate(name, rooms):
+    """Tries all edits of a crate, prints a line for each, and gives the lines."""
+    home = ROOT / "crates" / name
+    edits = [Edit(path) for path in sorted((home / "edits").glob("*.edit"))]
+    if not edits:
+        return []
+    status, said = subprocess.getstatusoutput(f"cd '{home}' && rt check")
+    if status != 0:
+        sys.exit(f"{name} itself is not proved: " + next((l for l in said.splitlines() if "error" in l), said[-200:]))
+    batches = batches_of(edits, home)
+    copies = queue.Queue()
+    for number in range(min(JOBS, len(batches))):
+        copies.put(copy_for(name, rooms / f"{name}-{number}"))
+    lines = []
+
+    def run(batch):
+        copy = copies.get()
+        try:
+            verdicts = try_batch(batch, home, copy)
+            for edit in batch:
+                word = verdicts[edit.name] or try_batch([edit], home, copy)[edit.name]
+                lines.append(f"{name}/{edit.name}: {word[:200]}")
+                print(lines[-1], flush=True)
+        finally:
+            copies.put(copy)
+
+    with concurrent.futures.ThreadPoolExecutor(JOBS) as pool:
+        for done in [pool.submit(run, batch) for batch in batches]:
+            done.result()
+    return lines
+
+
+def main():
+    names = sys.argv[1:] or re.findall(r"^([a-z0-9_]+):", (ROOT / "crates.txt").read_text(), re.M)
+    lines = []
+    with tempfile.TemporaryDirectory() as room:
+        for name in names:
+            lines += try_crate(name, Path(room))
+    words = ("NOT REFUSED", "NOT TRIED", "BY NAMES ALONE")
+    for word in words:
+        for line in [line for line in lines if f": {word}" in line]:
+            print("--", line)
+    counts = [sum(f": {word}" in line for line in lines) for word in ("refused",) + words]
+    print("{} refused, {} not refused, {} not tried, {} by names alone".format(*counts))
+    sys.exit(1 if counts[1] else 0)
+
+
+main()
