@@ -308,11 +308,12 @@ fn on_a_line(alloc: Global, count: i32) -> Result<Vec<[i32; 2]>, AllocError> {
     Ok(points)
 }
 
-/// The points `[0, 0]`, `[0, -1]`, .., so many of them: inserted in turn, they leave nodes of two behind.
-fn down_an_axis(alloc: Global, count: i32) -> Result<Vec<[i32; 2]>, AllocError> {
+/// The points `[0, 0]`, `[-1, -1]`, .., so many of them. Inserted in turn, they leave small nodes behind.
+fn down_a_diagonal(alloc: Global, count: i32) -> Result<Vec<[i32; 2]>, AllocError> {
     let mut points = Vec::new(alloc);
     for i in 0..count {
-        points.push([0, 0i32.wrapping_sub(i)])?;
+        let down = 0i32.wrapping_sub(i);
+        points.push([down, down])?;
     }
     Ok(points)
 }
@@ -348,10 +349,11 @@ fn loads_of_points_meet(rt: HostRuntime) -> Result<(), Fail> {
     Ok(())
 }
 
+// Thirteen levels of parents below the root.
 #[test]
 fn a_deep_tree_meets_itself(rt: HostRuntime) -> Result<(), Fail> {
-    let line = down_an_axis(rt.alloc(), 65000)?;
-    assert!(rt; meets_itself_at_depth(rt.alloc(), &line, 14));
+    let line = down_a_diagonal(rt.alloc(), 600000)?;
+    assert!(rt; meets_itself_at_depth(rt.alloc(), &line, 13));
     Ok(())
 }
 
