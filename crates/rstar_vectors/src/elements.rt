@@ -6,10 +6,13 @@ ghost use Rattle.std.specs.Prelude.{◌≤◌};
 ghost use Rattle.rstar_base.specs.Elements.{carried_objects};
 
 use crate::scenarios::is_so_far;
+use rstar::RTree;
+use rstar::algorithm::bulk_load::none_empty;
 use rstar_base::aabb::AABB;
 use rstar_base::envelope::Envelope;
 use rstar_base::object::{
-    Distance, PointDistance, PointOf, RTreeObject, partition_envelopes, sort_envelopes,
+    Distance, EqualEnvelopes, PointDistance, PointOf, RTreeObject, partition_envelopes,
+    sort_envelopes,
 };
 use rstar_base::point::Point;
 use rstar_base::primitives::{
@@ -18,6 +21,7 @@ use rstar_base::primitives::{
 use std::alloc::Global;
 use std::cell::Cell;
 use std::rc::Rc;
+use std::test::Fail;
 
 /// The ends of a line and its squared length, a point, the line's nearest point, and the squared distance.
 type LineRow<P> = (P, P, <P as Point>::Scalar, P, P, <P as Point>::Scalar);
@@ -238,4 +242,31 @@ fn is_asked_once<P: Point + Copy>(at: P) -> bool {
 #[test]
 fn a_cached_envelope_is_asked_for_once(rt: HostRuntime) {
     assert!(rt; is_asked_once([1i64, 2]));
+}
+
+/// Whether a load of these elements contains such an element.
+fn load_contains<T: EqualEnvelopes>(elements: Vec<T>, element: &T) -> bool
+    requires { 2 ≤ T.Envelope.Point.DIMENSIONS }
+{
+    if !none_empty(&elements) {
+        return false;
+    }
+    match &RTree::<T>::bulk_load(elements) {
+        Ok(tree) => tree.contains(element),
+        Err(_) => false,
+    }
+}
+
+// rstar's tests `container_in_rtree`, of a line with a number and of one with its envelope beside it.
+#[test]
+fn loads_contain_what_holds_a_line(rt: HostRuntime) -> Result<(), Fail> {
+    let one = Line::new([0i64, 0], [1, 1]);
+    let other = Line::new([0, 0], [-1, 1]);
+    let numbered = [GeomWithData::new(one, 7u64), GeomWithData::new(other, 7)];
+    let first = GeomWithData::new(one, 7);
+    assert!(rt; load_contains(Vec::from_array(rt.alloc(), numbered)?, &first));
+    let cached = [CachedEnvelope::new(one), CachedEnvelope::new(other)];
+    let first = CachedEnvelope::new(one);
+    assert!(rt; load_contains(Vec::from_array(rt.alloc(), cached)?, &first));
+    Ok(())
 }

@@ -527,8 +527,11 @@ fn removals_of_all_in_several_orders(rt: HostRuntime) -> Result<(), Fail> {
     Ok(())
 }
 
+// A tree that was never filled, and one that is emptied.
 #[test]
 fn an_emptied_tree_is_drained(rt: HostRuntime) {
+    let none: [[i64; 3]; 0] = [];
+    assert!(rt; leave_to_the_end(rt.alloc(), &none, 0, true, [0, 0, 0], 10));
     assert!(rt; leave_to_the_end(rt.alloc(), &[[1i64, 2, 3]], 0, true, [0, 0, 0], 10));
 }
 
