@@ -422,8 +422,9 @@ fn drained_in_parts<T: EqualEnvelopes + Copy, Params: RTreeParams>(
     }
 }
 
-/// Drains twice `most` elements of a load of these, then the others, puts all in again, and drains at most `part` of those
-/// that meet an envelope; gives how many are there then, and none where the tree does not stand after each.
+/// Drains twice `most` elements of a load of these, then the others, puts all in again, and drains those that meet an
+/// envelope, at most `part` of them and then the rest; gives how many that rest is, and none where the tree does not stand
+/// after each.
 fn drained_and_filled_again<T: EqualEnvelopes + Copy>(
     alloc: Global,
     elements: &[T],
@@ -435,18 +436,23 @@ fn drained_and_filled_again<T: EqualEnvelopes + Copy>(
 {
     let count = elements.len();
     let mut tree = loaded::<T, DefaultParams>(alloc, elements);
-    let meeting = SelectInEnvelopeFuncIntersecting::new(area.merged(area));
+    let first = SelectInEnvelopeFuncIntersecting::new(area.merged(area));
+    let second = SelectInEnvelopeFuncIntersecting::new(area.merged(area));
     if drain_and_stand(&mut tree, SelectAllFunc, most) == Some(most)
         && drain_and_stand(&mut tree, SelectAllFunc, most) == Some(most)
         && drain_and_stand(&mut tree, SelectAllFunc, count)
             == count.checked_sub(most.saturating_mul(2))
         && all_go_in(&mut tree, elements, 1, usize::MAX)
-        && drain_and_stand(&mut tree, meeting, part) == Some(part)
+        && left_in(&tree, elements, tree.root().envelope()) == count
+        && drain_and_stand(&mut tree, first, part) == Some(part)
     {
-        Some(left_in(&tree, elements, area))
-    } else {
-        None
+        let rest = left_in(&tree, elements, area);
+        let came = drain_and_stand(&mut tree, second, count);
+        if came == Some(rest) && left_in(&tree, elements, area) == 0 {
+            return came;
+        }
     }
+    None
 }
 
 /// Whether a drain takes at most so many out, and leaves so many of those that meet an envelope.
@@ -619,6 +625,7 @@ fn drains_end_where_none_is_left(rt: HostRuntime) -> Result<(), Fail> {
     let all = points(rt.alloc(), 300)?;
     let asked = drained_in_parts::<_, DefaultParams>(rt.alloc(), &all, false, 0, &area, 40);
     assert!(rt; asked == Some(89));
+    // rstar's test `test_drain_iterator`, but that no drain is forgotten.
     let many = points(rt.alloc(), 1000)?;
     assert!(rt; drained_and_filled_again(rt.alloc(), &many, 250, &area, 80) == Some(213));
     Ok(())
