@@ -1,6 +1,5 @@
 -- What lies left of a limit is found by the lower bounds of boxes.
-use Rattle.std.proofs.Common.{◌≡◌, ℕ, ℤ, pos, Bool, true, false, List, [], ◌∷◌, length, slice_index_or, int_lt, arith}
-use Rattle.std.specs.Int.{int_min}
+use Rattle.std.proofs.Common.{◌≡◌, ℤ, pos, true, List, [], ◌∷◌, length, slice_index_or, int_lt, arith}
 use Rattle.std.proofs.lemmas.Int.{ints}
 use Rattle.rstar_base.specs.Boxes.{merge_boxes}
 

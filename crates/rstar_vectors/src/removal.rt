@@ -383,6 +383,23 @@ fn left_in<T: EqualEnvelopes, Params: RTreeParams>(
     count
 }
 
+/// Drains at most so many of the elements that meet an envelope, and gives how many came; none where the tree does not
+/// stand without them.
+fn drain_area_and_stand<T: RTreeObject, Params: RTreeParams>(
+    tree: &mut RTree<T, Params>,
+    area: &T::Envelope,
+    most: usize,
+) -> Option<usize>
+    requires { IsWholeTree T.Envelope.boxes T.object Params.MAX_SIZE tree.old }
+    ensures { IsWholeTree T.Envelope.boxes T.object Params.MAX_SIZE tree.new }
+{
+    drain_and_stand(
+        tree,
+        SelectInEnvelopeFuncIntersecting::new(area.merged(area)),
+        most,
+    )
+}
+
 /// Drains at most `most` elements of a tree of these, loaded or inserted, and then those that meet an envelope, in two
 /// parts, `part` and the rest; gives how many these were, and none where the tree does not stand after each drain,
 /// without what came and no other.
@@ -408,12 +425,10 @@ fn drained_in_parts<T: EqualEnvelopes + Copy, Params: RTreeParams>(
         return None;
     }
     let asked = left_in(&tree, elements, area);
-    let first = SelectInEnvelopeFuncIntersecting::new(area.merged(area));
-    let second = SelectInEnvelopeFuncIntersecting::new(area.merged(area));
     let rest = asked.saturating_sub(part);
-    if drain_and_stand(&mut tree, first, part) == Some(part.min(asked))
+    if drain_area_and_stand(&mut tree, area, part) == Some(part.min(asked))
         && left_in(&tree, elements, area) == rest
-        && drain_and_stand(&mut tree, second, count) == Some(rest)
+        && drain_area_and_stand(&mut tree, area, count) == Some(rest)
         && left_in(&tree, elements, area) == 0
     {
         Some(asked)
@@ -436,18 +451,16 @@ fn drained_and_filled_again<T: EqualEnvelopes + Copy>(
 {
     let count = elements.len();
     let mut tree = loaded::<T, DefaultParams>(alloc, elements);
-    let first = SelectInEnvelopeFuncIntersecting::new(area.merged(area));
-    let second = SelectInEnvelopeFuncIntersecting::new(area.merged(area));
     if drain_and_stand(&mut tree, SelectAllFunc, most) == Some(most)
         && drain_and_stand(&mut tree, SelectAllFunc, most) == Some(most)
         && drain_and_stand(&mut tree, SelectAllFunc, count)
             == count.checked_sub(most.saturating_mul(2))
         && all_go_in(&mut tree, elements, 1, usize::MAX)
         && left_in(&tree, elements, tree.root().envelope()) == count
-        && drain_and_stand(&mut tree, first, part) == Some(part)
+        && drain_area_and_stand(&mut tree, area, part) == Some(part)
     {
         let rest = left_in(&tree, elements, area);
-        let came = drain_and_stand(&mut tree, second, count);
+        let came = drain_area_and_stand(&mut tree, area, count);
         if came == Some(rest) && left_in(&tree, elements, area) == 0 {
             return came;
         }

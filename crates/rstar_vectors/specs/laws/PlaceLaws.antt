@@ -1,6 +1,6 @@
 -- A place counts once, and equal places have equal envelopes.
 use Rattle.std.specs.Prelude.{◌≡◌, ◌&&◌, ℕ, ℤ, Bool, true, false, IsTrue, List, nat_eq, int_le}
-use Rattle.std.proofs.Common.{refl, ap, arith}
+use Rattle.std.proofs.Common.{ap, arith}
 use Rattle.std.proofs.lemmas.Int.{ints}
 use Rattle.rstar_base.specs.Points.{table}
 use Rattle.rstar_base.specs.Boxes.{between_corners, is_empty_box}

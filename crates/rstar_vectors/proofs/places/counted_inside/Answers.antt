@@ -1,4 +1,4 @@
-use Rattle.std.proofs.Common.{◌≡◌, ◌∙◌, ap, sym, min, length}
+use Rattle.std.proofs.Common.{◌∙◌, ap, sym, min, length}
 use Rattle.std.proofs.lemmas.List.{length-map}
 use Rattle.rstar.proofs.Chains.{selection_end}
 use Rattle.rstar_base.specs.Counts.{usize_max}
