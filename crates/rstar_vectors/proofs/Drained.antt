@@ -1,4 +1,5 @@
--- What a loop over any iterator has taken, and how many pairs of nodes a join has opened when all is taken.
+-- What a loop over any iterator has taken, and how many parents a selection, or pairs of nodes a join, has opened when all
+-- is taken.
 use Rattle.std.proofs.Common.{◌≡◌, ◌∙◌, List, ◌++◌, ◌∷◌, [], map, min, Bool, Option, Some, None, Result, Ok, refl, sym, ap, ap₂, subst}
 use Rattle.std.specs.Borrow.{Bor}
 use Rattle.std.specs.Iterator.{Yields, YieldsThen}
@@ -6,6 +7,9 @@ use Rattle.std.proofs.lemmas.List.{map-append}
 use Rattle.rstar.specs.declared.iterators.joins.IntersectionIterator.{IntersectionIterator}
 use Rattle.rstar.specs.declared.node.ParentNode.{ParentNode}
 use Rattle.rstar.specs.Joins.{pairs_opened, meet_by, GivesPair}
+use Rattle.rstar.specs.declared.iterators.SelectionIterator.{SelectionIterator}
+use Rattle.rstar.specs.Selections.{opened_by, reach_by, GivesNext}
+use Rattle.rstar.specs.Nodes.{reach_of}
 use Rattle.rstar.specs.Meets.{meet_of_roots}
 use Rattle.rstar_base.specs.Counts.{usize_max}
 
@@ -38,3 +42,14 @@ module _ {T E P S X U F Q R Y : Type 0} (meets : E → F → Bool) (left_box : T
       let step = y.1.1 in
       all-opened xs y.1.0 end (y.0, y.1.2, y.2)
       ∙ ap₂ (λ (l : ParentNode T E P S X) (r : ParentNode U F Q R Y). min (meet_of_roots meets left_box right_box l r) usize_max) step.left step.right
+
+module _ {T F E P S X : Type 0} (accepts : F → E → Bool) (selects : F → T → Bool) where
+  -- all that the question reaches were opened then
+  pub all-reached : (xs : List (Bor T)) (it end : SelectionIterator T F E P S X)
+      → YieldsThen (GivesNext accepts selects) it xs None end
+      → opened_by end ≡ min (reach_by accepts it) usize_max
+  all-reached [] it end y = y.2.ended ∙ ap (λ (i : SelectionIterator T F E P S X). min (reach_by accepts i) usize_max) (sym y.1)
+  all-reached (x ∷ xs) it end y =
+      let step = y.1.1 in
+      all-reached xs y.1.0 end (y.0, y.1.2, y.2)
+      ∙ ap₂ (λ (q : F) (r : ParentNode T E P S X). min (reach_of (accepts q) r) usize_max) step.question step.root

@@ -2,5 +2,4 @@ pub mod Callers
 pub mod Drained
 pub mod FirstSeen
 pub mod Fits
-pub mod GivenSoFar
 pub mod LeftHalf

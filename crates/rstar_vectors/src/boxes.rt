@@ -69,14 +69,11 @@ fn measures_of_the_widest_scalar(rt: HostRuntime) {
     assert!(rt; has_measures(&([low, low], [high, high], high, high, [0, 0], low)));
 }
 
-/// Whether the box between two corners is that between two others, the lower and the upper one.
+/// Whether the box between two corners is that between two others, the lower and the upper one, and the box of the lower
+/// corner is that from it to itself.
 fn has_corners<P: Point + Copy>(one: P, other: P, lower: P, upper: P) -> bool {
     AABB::from_corners(one, other) == boxed(lower, upper)
-}
-
-/// Whether the box of a point is that from it to itself.
-fn is_point<P: Point + Copy>(point: P) -> bool {
-    AABB::from_point(point) == boxed(point, point)
+        && AABB::from_point(lower) == boxed(lower, lower)
 }
 
 #[test]
@@ -84,12 +81,11 @@ fn corners_come_in_any_order(rt: HostRuntime) {
     let answers = [
         has_corners([2i8, -3], [0, 4], [0, -3], [2, 4]),
         has_corners([0i8, 2], [1, 1], [0, 1], [1, 2]),
+        has_corners([2i8, -3], [2, -3], [2, -3], [2, -3]),
+        has_corners([0i8, 2], [0, 2], [0, 2], [0, 2]),
         has_corners([127i8, -128], [127, -128], [127, -128], [127, -128]),
-        is_point([2i8, -3]),
-        is_point([0i8, 2]),
-        is_point([127i8, -128]),
     ];
-    assert!(rt; answers == [true; 6]);
+    assert!(rt; answers == [true; 5]);
 }
 
 /// Whether the box round a center is that between two corners, with the distance and with its negative.

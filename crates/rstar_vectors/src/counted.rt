@@ -10,7 +10,7 @@ ghost use Rattle.rstar_vectors.specs.laws.PlaceLaws.{place_equal};
 ghost use Rattle.rstar.specs.Trees.{elements_in, IsWholeTree};
 
 use crate::removal::drain_and_stand;
-use crate::scenarios::{inserted, loaded};
+use crate::scenarios::{goes_in, inserted, loaded};
 use rstar::algorithm::selection_functions::SelectAllFunc;
 use rstar::node::RTreeNode;
 use rstar::{
@@ -131,10 +131,7 @@ fn count_in<T: Counts + Copy>(tree: &mut RTree<T>, elements: &[T]) -> bool
 {
     for element in elements {
         let all = tree.size().saturating_add(1);
-        if element.envelope().is_empty()
-            || tree.insert(*element).is_err()
-            || !counts_all(tree, all)
-        {
+        if !goes_in(tree, *element) || !counts_all(tree, all) {
             return false;
         }
     }
@@ -157,12 +154,13 @@ fn count_out<T: Counts>(tree: &mut RTree<T>, elements: &[T]) -> bool
 
 /// Drains at most so many elements again and again, and tells whether so many are left each time, and all parents count
 /// what lies below them.
-fn count_drained<T: Counts>(tree: &mut RTree<T>, most: usize, left: &[usize]) -> bool
+fn count_drained<T: Counts>(alloc: Global, tree: &mut RTree<T>, most: usize, left: &[usize]) -> bool
     requires { IsWholeTree T.Envelope.boxes T.object ⟦<DefaultParams as RTreeParams>⟧.MAX_SIZE tree.old }
     ensures { IsWholeTree T.Envelope.boxes T.object ⟦<DefaultParams as RTreeParams>⟧.MAX_SIZE tree.new }
 {
+    let given = &mut Vec::new(alloc);
     for all in left {
-        if drain_and_stand(tree, SelectAllFunc, most).is_none() || !counts_all(tree, *all) {
+        if drain_and_stand(tree, SelectAllFunc, most, given).is_none() || !counts_all(tree, *all) {
             return false;
         }
     }
@@ -184,7 +182,7 @@ fn count_always<T: Counts + Copy>(
     counts_all(&tree, first.len())
         && count_in(&mut tree, others)
         && count_out(&mut tree, removed)
-        && count_drained(&mut tree, 300, left)
+        && count_drained(alloc, &mut tree, 300, left)
 }
 
 /// The places with the numbers from one up to another, without that, on a line that wraps around in both coordinates.

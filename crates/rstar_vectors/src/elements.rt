@@ -21,7 +21,6 @@ use rstar_base::primitives::{
 use std::alloc::Global;
 use std::cell::Cell;
 use std::rc::Rc;
-use std::test::Fail;
 
 /// The ends of a line and its squared length, a point, the line's nearest point, and the squared distance.
 type LineRow<P> = (P, P, <P as Point>::Scalar, P, P, <P as Point>::Scalar);
@@ -244,29 +243,41 @@ fn a_cached_envelope_is_asked_for_once(rt: HostRuntime) {
     assert!(rt; is_asked_once([1i64, 2]));
 }
 
-/// Whether a load of these elements contains such an element.
-fn load_contains<T: EqualEnvelopes>(elements: Vec<T>, element: &T) -> bool
+/// Whether a load of two elements contains such a one.
+fn load_contains<T: EqualEnvelopes>(alloc: Global, one: T, other: T, wanted: &T) -> bool
     requires { 2 ≤ T.Envelope.Point.DIMENSIONS }
 {
-    if !none_empty(&elements) {
+    let mut elements = Vec::new(alloc);
+    if elements.push(one).is_err() || elements.push(other).is_err() || !none_empty(&elements) {
         return false;
     }
     match &RTree::<T>::bulk_load(elements) {
-        Ok(tree) => tree.contains(element),
+        Ok(tree) => tree.contains(wanted),
         Err(_) => false,
     }
 }
 
+/// Whether loads of two lines, each with a number, and each with its envelope beside it, contain the first.
+fn loads_contain_the_first<P: Point + Copy>(alloc: Global, one: Line<P>, other: Line<P>) -> bool
+    requires { 2 ≤ P.DIMENSIONS }
+{
+    load_contains(
+        alloc,
+        GeomWithData::new(one, 7u64),
+        GeomWithData::new(other, 7),
+        &GeomWithData::new(one, 7),
+    ) && load_contains(
+        alloc,
+        CachedEnvelope::new(one),
+        CachedEnvelope::new(other),
+        &CachedEnvelope::new(one),
+    )
+}
+
 // rstar's tests `container_in_rtree`, of a line with a number and of one with its envelope beside it.
 #[test]
-fn loads_contain_what_holds_a_line(rt: HostRuntime) -> Result<(), Fail> {
+fn loads_contain_what_holds_a_line(rt: HostRuntime) {
     let one = Line::new([0i64, 0], [1, 1]);
     let other = Line::new([0, 0], [-1, 1]);
-    let numbered = [GeomWithData::new(one, 7u64), GeomWithData::new(other, 7)];
-    let first = GeomWithData::new(one, 7);
-    assert!(rt; load_contains(Vec::from_array(rt.alloc(), numbered)?, &first));
-    let cached = [CachedEnvelope::new(one), CachedEnvelope::new(other)];
-    let first = CachedEnvelope::new(one);
-    assert!(rt; load_contains(Vec::from_array(rt.alloc(), cached)?, &first));
-    Ok(())
+    assert!(rt; loads_contain_the_first(rt.alloc(), one, other));
 }

@@ -4,6 +4,7 @@ ghost use Rattle.std.specs.Prelude.{◌≡◌, ◌≤◌, false};
 ghost use Rattle.rstar.specs.Trees.{IsWholeTree};
 
 use crate::node_sizes::Huge;
+use crate::reinsertion::all_stand;
 use crate::scenarios::{ALONG_A_LINE, inserted, stands, stands_within};
 use rstar::algorithm::rstar::{RStarInsertionStrategy, split_children};
 use rstar::node::{RTreeNode, envelope_for_children};
@@ -154,7 +155,7 @@ fn insertions_shape_the_tree(rt: HostRuntime) {
 }
 
 /// Inserts an element; where memory is refused, looks that nothing has changed, and asks once more.
-fn goes_in_again<T: EqualEnvelopes + Copy, Params: RTreeParams>(
+pub(crate) fn goes_in_again<T: EqualEnvelopes + Copy, Params: RTreeParams>(
     tree: &mut RTree<T, Params>,
     element: T,
 ) -> bool
@@ -175,20 +176,6 @@ fn goes_in_again<T: EqualEnvelopes + Copy, Params: RTreeParams>(
     }
 }
 
-/// Whether all elements go into a tree, where one that is refused is asked for once more.
-fn all_go_in_again<T: EqualEnvelopes + Copy, Params: RTreeParams>(
-    alloc: Global,
-    elements: &[T],
-) -> bool {
-    let mut tree: RTree<T, Params> = RTree::default(alloc);
-    for element in elements {
-        if element.envelope().is_empty() || !goes_in_again(&mut tree, *element) {
-            return false;
-        }
-    }
-    tree.size() == elements.len() && stands(&tree)
-}
-
 /// Ten insertions; `rt try --test --fail-alloc N` refuses the Nth allocation.
 #[test]
 fn a_refused_insertion_loses_nothing(rt: HostRuntime) {
@@ -204,7 +191,7 @@ fn a_refused_insertion_loses_nothing(rt: HostRuntime) {
         [8, 2],
         [9, 1],
     ];
-    assert!(rt; all_go_in_again::<[i32; 2], DefaultParams>(rt.alloc(), &points));
+    assert!(rt; all_stand::<[i32; 2], DefaultParams>(rt.alloc(), &points));
 }
 
 /// Whether an insertion that would need more lists than there can be is refused, and gives the element back.

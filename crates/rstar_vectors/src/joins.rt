@@ -2,8 +2,7 @@
 //!
 //! What is done to trees is generic, and a test gives it elements.
 
-ghost use Rattle.std.specs.Prelude.{◌≡◌, ◌≤◌, min, map, None, IfOk};
-ghost use Rattle.std.specs.Iterator.{IsFinite, YieldsThen};
+ghost use Rattle.std.specs.Prelude.{◌≡◌, ◌≤◌, min, map, IfOk};
 ghost use Rattle.std.specs.List.Sorted.{IsPermutation};
 ghost use Rattle.rstar.specs.Boxes.{boxes_intersect};
 ghost use Rattle.rstar.specs.Joins.{meets_by, join, meet_by, pairs_to_come, IsJoining};
@@ -12,33 +11,15 @@ ghost use Rattle.rstar.specs.Trees.{root_of, elements_in, IsWholeTree};
 
 use crate::fences::Fence;
 use crate::node_sizes::Splitting;
-use crate::scenarios::{ALONG_A_LINE, inserted, levels_of, loaded};
+use crate::scenarios::{ALONG_A_LINE, drained, in_steps, inserted, levels_of, loaded};
 use rstar::iterators::{InEnvelope, IntersectionIterator};
 use rstar::primitives::{GeomWithData, Rectangle};
 use rstar::{AABB, DefaultParams, Envelope, Point, RTree, RTreeObject, RTreeParams};
 use std::alloc::{AllocError, Global};
 use std::test::Fail;
 
-/// Two corners.
-type Corners = ([i32; 2], [i32; 2]);
-
 /// A rectangle with a number.
-type Numbered = GeomWithData<Rectangle<[i32; 2]>, u64>;
-
-/// All that an iterator gives, up to its end.
-fn drained<I: Iterator>(alloc: Global, items: &mut I) -> Result<Vec<I::Item>, AllocError>
-where
-    I::Item: Drop,
-    requires can { I.can_next items.old }
-    requires ends { IsFinite (I.remaining items.old) }
-    ensures { IfOk result (λ all. YieldsThen I.next_gives items.old all.items None items.new) }
-{
-    let mut all = Vec::new(alloc);
-    while let Some(item) = items.next() {
-        all.push(item)?;
-    }
-    Ok(all)
-}
+type Numbered<P> = GeomWithData<Rectangle<P>, u64>;
 
 /// Pairs of elements, and how many pairs of nodes were opened for them.
 pub type Paired<'a, T, U> = (Vec<(&'a T, &'a U)>, usize);
@@ -161,7 +142,10 @@ fn meet<
 }
 
 /// Rectangles between these corners, with a number each.
-fn numbered(alloc: Global, corners: &[Corners]) -> Result<Vec<Numbered>, AllocError> {
+fn numbered<P: Point + Copy>(
+    alloc: Global,
+    corners: &[(P, P)],
+) -> Result<Vec<Numbered<P>>, AllocError> {
     let mut all = Vec::new(alloc);
     for (one, other) in corners {
         let number = all.len() as u64;
@@ -169,6 +153,30 @@ fn numbered(alloc: Global, corners: &[Corners]) -> Result<Vec<Numbered>, AllocEr
     }
     Ok(all)
 }
+
+/// The corners of the rectangles of two trees, and the counts of pairs and of pairs of nodes opened: of these trees, and
+/// of the first with one of points.
+type Meeting<'a, P> = (&'a [(P, P)], &'a [(P, P)], [(usize, usize); 2]);
+
+/// Whether each row of a table is so with these points, and the points with themselves.
+fn all_meet<P: Point + Copy>(
+    alloc: Global,
+    rows: &[Meeting<'_, P>],
+    points: &[P],
+    own: (usize, usize),
+) -> bool {
+    for (lefts, rights, counts) in rows {
+        let lefts = numbered(alloc, lefts);
+        let rights = numbered(alloc, rights);
+        if !meet(alloc, &lefts, &rights, points, counts, own) {
+            return false;
+        }
+    }
+    true
+}
+
+/// Two corners.
+type Corners = ([i32; 2], [i32; 2]);
 
 const SQUARE: Corners = ([0, 0], [2, 2]);
 
@@ -183,12 +191,11 @@ const DIAGONAL: [Corners; 7] = [
     ([103, 103], [104, 104]),
 ];
 
-/// The corners of the rectangles of two trees, and the counts of pairs and of pairs of nodes opened: of these trees, and
-/// of the first with one of points.
-type Meeting = (&'static [Corners], &'static [Corners], [(usize, usize); 2]);
+/// Rows of meetings.
+type Meetings = &'static [Meeting<'static, [i32; 2]>];
 
 // With points along a line: trees of one height, and of two, and empty ones on either side.
-const AT_A_LINE: [Meeting; 7] = [
+const AT_A_LINE: [Meeting<'static, [i32; 2]>; 7] = [
     (&[SQUARE, SQUARE], &[([2, 2], [4, 4])], [(2, 1), (6, 3)]),
     (&[([2, 2], [4, 4])], &[SQUARE, SQUARE], [(2, 1), (0, 0)]),
     (&[SQUARE], &[([3, 3], [4, 4])], [(0, 0), (3, 2)]),
@@ -201,28 +208,16 @@ const AT_A_LINE: [Meeting; 7] = [
 // With four points, of which two lie in one place.
 const NEAR: [[i32; 2]; 4] = [[0, 0], [2, 2], [2, 2], [5, 5]];
 
-const AT_FOUR: [Meeting; 2] = [
+const AT_FOUR: [Meeting<'static, [i32; 2]>; 2] = [
     (&[SQUARE], &[SQUARE], [(1, 1), (3, 1)]),
     (&[SQUARE, ([2, 2], [4, 4])], &[], [(0, 0), (5, 1)]),
 ];
 
 // With no points.
-const AT_NONE: [Meeting; 1] = [(&[SQUARE], &[SQUARE], [(1, 1), (0, 0)])];
-
-/// Whether each row of a table is so with these points, and the points with themselves.
-fn all_meet(alloc: Global, rows: &[Meeting], points: &[[i32; 2]], own: (usize, usize)) -> bool {
-    for (lefts, rights, counts) in rows {
-        let lefts = numbered(alloc, lefts);
-        let rights = numbered(alloc, rights);
-        if !meet(alloc, &lefts, &rights, points, counts, own) {
-            return false;
-        }
-    }
-    true
-}
+const AT_NONE: [Meeting<'static, [i32; 2]>; 1] = [(&[SQUARE], &[SQUARE], [(1, 1), (0, 0)])];
 
 // Tables of meetings, each with its points and the counts of these with themselves.
-const TABLES: [(&'static [Meeting], &'static [[i32; 2]], (usize, usize)); 3] = [
+const TABLES: [(Meetings, &'static [[i32; 2]], (usize, usize)); 3] = [
     (&AT_A_LINE, &ALONG_A_LINE, (7, 3)),
     (&AT_FOUR, &NEAR, (6, 1)),
     (&AT_NONE, &[], (0, 0)),
@@ -299,60 +294,27 @@ fn meets_itself_at_depth<T: RTreeObject + Copy>(
     }
 }
 
-/// The points `[i, 0]` for each number below a count.
-fn on_a_line(alloc: Global, count: i32) -> Result<Vec<[i32; 2]>, AllocError> {
-    let mut points = Vec::new(alloc);
-    for i in 0..count {
-        points.push([i, 0])?;
-    }
-    Ok(points)
-}
-
-/// The points `[0, 0]`, `[-1, -1]`, .., so many of them. Inserted in turn, they leave small nodes behind.
-fn down_a_diagonal(alloc: Global, count: i32) -> Result<Vec<[i32; 2]>, AllocError> {
-    let mut points = Vec::new(alloc);
-    for i in 0..count {
-        let down = 0i32.wrapping_sub(i);
-        points.push([down, down])?;
-    }
-    Ok(points)
-}
-
-/// Points, no two of them in one place, and none in the place of one of the other parity.
-fn apart(alloc: Global, count: usize, is_odd: bool) -> Result<Vec<[i32; 2]>, AllocError> {
-    let odd = if is_odd { 1 } else { 0 };
-    let mut points = Vec::new(alloc);
-    for i in 0..count {
-        let near = i % 10000;
-        points.push([
-            (2 * ((37 * near) % 101)) as i32 + odd,
-            ((53 * near) % 103) as i32,
-        ])?;
-    }
-    Ok(points)
-}
-
-// Loads of unequal height; and rstar's `test_trivial_intersections`: how many points of a parity, and how many of the
-// other, which meet themselves alone.
+// Loads of unequal height; and rstar's `test_trivial_intersections`: so many points that lie between so many others, and
+// meet themselves alone.
 #[test]
 fn loads_of_points_meet(rt: HostRuntime) -> Result<(), Fail> {
     const TWICE: [[i32; 2]; 2] = [[5, 0], [5, 0]];
-    const ROWS: [(usize, bool, usize); 2] = [(1000, false, 2000), (2000, true, 1000)];
-    let line = on_a_line(rt.alloc(), 28)?;
+    const ROWS: [(usize, usize); 2] = [(1000, 2000), (2000, 1000)];
+    let line = in_steps(rt.alloc(), 28, [0, 0], [1, 0])?;
     assert!(rt; met_by_loads(rt.alloc(), &line, &TWICE, 2, 28));
     assert!(rt; met_by_loads(rt.alloc(), &TWICE, &line, 2, 4));
-    for &(count, is_odd, others) in &ROWS {
-        let all = apart(rt.alloc(), count, is_odd)?;
-        let rest = apart(rt.alloc(), others, !is_odd)?;
+    for &(count, others) in &ROWS {
+        let all = in_steps(rt.alloc(), count, [0, 0], [2, 5])?;
+        let rest = in_steps(rt.alloc(), others, [1, 2], [2, 5])?;
         assert!(rt; met_by_loads(rt.alloc(), &all, &rest, 0, count));
     }
     Ok(())
 }
 
-// Thirteen levels of parents below the root.
+// Points that leave small nodes behind, inserted in turn: thirteen levels of parents below the root.
 #[test]
 fn a_deep_tree_meets_itself(rt: HostRuntime) -> Result<(), Fail> {
-    let line = down_a_diagonal(rt.alloc(), 600000)?;
+    let line = in_steps(rt.alloc(), 600000, [0, 0], [-1, -1])?;
     assert!(rt; meets_itself_at_depth(rt.alloc(), &line, 13));
     Ok(())
 }

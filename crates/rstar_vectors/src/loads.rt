@@ -6,7 +6,7 @@ ghost use Rattle.rstar.specs.Trees.{IsWholeTree};
 
 use crate::node_sizes::Small;
 use crate::reinsertion::all_go_in;
-use crate::scenarios::{levels_of, load_of, loaded, points, stands};
+use crate::scenarios::{goes_in, levels_of, load_of, loaded, points, stands};
 use rstar::algorithm::bulk_load::{bulk_load_sequential, none_empty};
 use rstar::node::{ParentNode, RTreeNode};
 use rstar::object::PointOf;
@@ -15,7 +15,7 @@ use rstar::primitives::Rectangle;
 use rstar::rtree::RTree;
 use rstar_base::aabb::AABB;
 use rstar_base::envelope::Envelope;
-use rstar_base::object::{PointDistance, RTreeObject};
+use rstar_base::object::{EqualEnvelopes, PointDistance, RTreeObject};
 use rstar_base::point::Point;
 use std::alloc::{AllocError, Global};
 use std::fmt::Debug;
@@ -188,7 +188,7 @@ fn has_all<T: RTreeObject + Copy + Ord>(
 
 /// Whether a load of these elements has them all, and is loaded; and whether it takes more of them, one after another,
 /// and stands after each.
-fn loads_well<T: RTreeObject + Copy + Ord, Params: RTreeParams>(
+fn loads_well<T: EqualEnvelopes + Copy + Ord, Params: RTreeParams>(
     alloc: Global,
     elements: &[T],
     most: usize,
@@ -514,8 +514,7 @@ fn stays_alone<T: RTreeObject + Copy + Debug>(
     match &shown(alloc, tree.root()) {
         Ok(text) => copy.size() == count
             && shows(alloc, copy.root(), text)
-            && !element.envelope().is_empty()
-            && copy.insert(element).is_ok()
+            && goes_in(copy, element)
             && tree.size() == count
             && count < copy.size()
             && shows(alloc, tree.root(), text),

@@ -258,22 +258,6 @@ where
         && calls_find_all(alloc, tree, place, distances, least)
 }
 
-/// The same of a tree of these elements.
-fn come_at<T: PointDistance + Copy>(
-    alloc: Global,
-    elements: &[T],
-    place: PointOf<T>,
-    distances: &[Distance<T>],
-    opened: &[usize],
-) -> bool
-where
-    PointOf<T>: Copy,
-    requires narrow { IsNarrow T.Envelope.Point.row }
-{
-    let tree = inserted::<T, DefaultParams>(alloc, elements);
-    answers(alloc, &tree, place, distances, opened)
-}
-
 /// Takes one element that equals this one out of a list, and whether there is one.
 pub(crate) fn take<T: PartialEq + Copy>(list: &mut Vec<T>, element: &T) -> bool {
     for place in 0..list.len() {
@@ -309,68 +293,6 @@ where
     rest.is_empty() && tree.size() == 0 && matches!(tree.pop_nearest_neighbor(place), Ok(None))
 }
 
-/// The same of a loaded tree of these elements.
-fn popped_at<T: PointDistance + PartialEq + Copy>(
-    alloc: Global,
-    elements: &[T],
-    place: PointOf<T>,
-    distances: &[Distance<T>],
-) -> bool
-where
-    PointOf<T>: Copy,
-    requires dimensions { 2 ≤ T.Envelope.Point.DIMENSIONS }
-{
-    let mut tree = loaded::<T, DefaultParams>(alloc, elements);
-    match &mut Vec::from_slice(alloc, elements) {
-        Ok(rest) => pops(&mut tree, rest, place, distances),
-        Err(_) => false,
-    }
-}
-
-/// Whether elements with numbers come at a place, and are popped at another, at these squared distances.
-fn numbered_come_and_go<R: PointDistance + PartialEq + Copy>(
-    alloc: Global,
-    elements: &[GeomWithData<R, u64>],
-    place: PointOf<R>,
-    distances: &[Distance<R>],
-    other: PointOf<R>,
-    popped: &[Distance<R>],
-) -> bool
-where
-    PointOf<R>: Copy,
-    requires narrow { IsNarrow R.Envelope.Point.row }
-    requires dimensions { 2 ≤ R.Envelope.Point.DIMENSIONS }
-{
-    come_at(alloc, elements, place, distances, &[]) && popped_at(alloc, elements, other, popped)
-}
-
-#[test]
-fn lines_come_by_their_own_distances(rt: HostRuntime) {
-    const LINES: [Line<[i64; 2]>; 2] = [
-        Line {
-            from: [0, 0],
-            to: [10, 0],
-        },
-        Line {
-            from: [9, 5],
-            to: [9, 6],
-        },
-    ];
-    assert!(rt; come_at(rt.alloc(), &LINES, [9, 0], &[0, 25], &[]));
-}
-
-// Two fences that touch, both seen from a corner of the one and popped at the other's side, the other first.
-#[test]
-fn plots_come_by_their_own_distances(rt: HostRuntime) {
-    let fences = [
-        GeomWithData::new(Rectangle::from_corners([0i64, 0], [2, 2]), 7u64),
-        GeomWithData::new(Rectangle::from_corners([2, 2], [4, 4]), 8),
-    ];
-    assert!(rt; numbered_come_and_go(rt.alloc(), &fences, [0, 0], &[0, 8], [9, 9], &[50, 98]));
-}
-
-// ---- beside a plain scan
-
 /// The squared distances of some elements from a place, the least first.
 fn scanned<T: PointDistance>(
     alloc: Global,
@@ -385,29 +307,36 @@ fn scanned<T: PointDistance>(
     Ok(all)
 }
 
-/// Whether a tree of some elements answers at a place as a scan of them does.
-fn answers_as_a_scan<T: PointDistance>(
+/// Whether all neighbours of a place in a load of these elements lie at these squared distances, by each call, and are
+/// then given up in that order.
+fn load_comes_and_goes<T: PointDistance + PartialEq + Copy>(
     alloc: Global,
-    tree: &RTree<T>,
     elements: &[T],
     place: PointOf<T>,
+    distances: &[Distance<T>],
 ) -> bool
 where
     PointOf<T>: Copy,
     requires narrow { IsNarrow T.Envelope.Point.row }
-    requires whole { IsWholeTree T.Envelope.boxes T.object ⟦<DefaultParams as RTreeParams>⟧.MAX_SIZE tree.now }
+    requires dimensions { 2 ≤ T.Envelope.Point.DIMENSIONS }
 {
-    match &scanned(alloc, elements, &place) {
-        Ok(wanted) => answers(alloc, tree, place, wanted, &[]),
+    let mut load = loaded::<T, DefaultParams>(alloc, elements);
+    match &mut elements.to_vec(alloc) {
+        Ok(rest) => answers(alloc, &load, place, distances, &[])
+            && pops(&mut load, rest, place, distances),
         Err(_) => false,
     }
 }
 
-/// The same of a tree of these elements, and of a load of them, at each of some places.
-fn answer_as_a_scan<T: PointDistance + Copy>(
+/// Whether a tree of these elements, and a load of them, answer at a place as a scan of them does, whose squared distances
+/// begin with these, with so many parents of the tree opened after each, as far as these numbers go; and the load then
+/// gives its elements up in that order.
+fn come_and_go<T: PointDistance + PartialEq + Copy>(
     alloc: Global,
     elements: &[T],
-    places: &[PointOf<T>],
+    place: PointOf<T>,
+    first: &[Distance<T>],
+    opened: &[usize],
 ) -> bool
 where
     PointOf<T>: Copy,
@@ -415,16 +344,41 @@ where
     requires dimensions { 2 ≤ T.Envelope.Point.DIMENSIONS }
 {
     let tree = inserted::<T, DefaultParams>(alloc, elements);
-    let load = loaded::<T, DefaultParams>(alloc, elements);
-    for place in places {
-        if !answers_as_a_scan(alloc, &tree, elements, *place)
-            || !answers_as_a_scan(alloc, &load, elements, *place)
-        {
-            return false;
-        }
+    match &scanned(alloc, elements, &place) {
+        Ok(wanted) => wanted.starts_with(first)
+            && answers(alloc, &tree, place, wanted, opened)
+            && load_comes_and_goes(alloc, elements, place, wanted),
+        Err(_) => false,
     }
-    true
 }
+
+#[test]
+fn lines_come_by_their_own_distances(rt: HostRuntime) {
+    const LINES: [Line<[i64; 2]>; 2] = [
+        Line {
+            from: [0, 0],
+            to: [10, 0],
+        },
+        Line {
+            from: [9, 5],
+            to: [9, 6],
+        },
+    ];
+    assert!(rt; come_and_go(rt.alloc(), &LINES, [9, 0], &[0, 25], &[]));
+}
+
+// Two fences that touch, both seen from a corner of the one and from the other's side, the other first.
+#[test]
+fn plots_come_by_their_own_distances(rt: HostRuntime) {
+    let fences = [
+        GeomWithData::new(Rectangle::from_corners([0i64, 0], [2, 2]), 7u64),
+        GeomWithData::new(Rectangle::from_corners([2, 2], [4, 4]), 8),
+    ];
+    assert!(rt; come_and_go(rt.alloc(), &fences, [0, 0], &[0, 8], &[]));
+    assert!(rt; come_and_go(rt.alloc(), &fences, [9, 9], &[50, 98], &[]));
+}
+
+// ---- beside a plain scan
 
 /// Places on, beside and far from the points.
 const PLACES: [At; 8] = [
@@ -438,37 +392,20 @@ const PLACES: [At; 8] = [
     [50, 0],
 ];
 
-// rstar's tests of neighbours in empty trees, then lists of one point, of two, and of three of which two are as near; and
-// its tests `test_nearest_neighbor`, `test_nearest_neighbors`, `test_nearest_neighbor_iterator` and its sibling with
-// distances, on a thousand other points.
-#[test]
-fn neighbours_come_as_by_a_scan(rt: HostRuntime) -> Result<(), Fail> {
-    let thousand = points(rt.alloc(), 1000)?;
-    let lists: [&[At]; 6] = [
-        &[],
-        &[[0, 0]],
-        &[[0, 0], [0, 1]],
-        &[[1, 0], [-1, 0], [0, 2]],
-        &ALONG_A_LINE,
-        &thousand,
-    ];
-    for list in lists {
-        assert!(rt; answer_as_a_scan(rt.alloc(), list, &PLACES));
-    }
-    Ok(())
-}
-
 /// Points, a place, the squared distances of its neighbours, and how many parents are opened after each.
 type Row<'a> = (&'a [At], At, &'a [i32], &'a [usize]);
 
-// None in an empty tree; of two points each is the nearest on its own side; and seven points, of which four lie under a
-// parent that is far, and waits.
+// None in an empty tree; of two points each is the nearest on its own side; of three two are as near; and seven points,
+// of which four lie under a parent that is far, and waits. At each place: rstar's tests of neighbours in empty trees, and
+// its tests `test_nearest_neighbor`, `test_nearest_neighbors`, `test_nearest_neighbor_iterator` and its sibling with
+// distances, on a thousand other points; then all are popped, the nearest first, each once, and then none.
 #[test]
-fn all_neighbours_are_given(rt: HostRuntime) {
-    const ROWS: [Row<'static>; 6] = [
+fn neighbours_come_and_go_as_by_a_scan(rt: HostRuntime) -> Result<(), Fail> {
+    const ROWS: [Row<'static>; 7] = [
         (&[], [0, 213], &[], &[]),
         (&[[0, 0], [0, 1]], [-1, 0], &[1, 2], &[1, 1]),
         (&[[0, 0], [0, 1]], [0, 2], &[1, 4], &[1, 1]),
+        (&[[0, 0], [0, 1]], [0, 0], &[0, 1], &[1, 1]),
         (&[[1, 0], [-1, 0], [0, 2]], [0, 0], &[1, 1, 4], &[1, 1, 1]),
         (
             &ALONG_A_LINE,
@@ -484,40 +421,21 @@ fn all_neighbours_are_given(rt: HostRuntime) {
         ),
     ];
     for &(list, place, distances, opened) in &ROWS {
-        assert!(rt; come_at(rt.alloc(), list, place, distances, opened));
+        assert!(rt; come_and_go(rt.alloc(), list, place, distances, opened));
     }
-}
-
-/// Whether a loaded tree gives its elements up in the order of a scan from a place, whose distances begin with these.
-fn popped_as_a_scan<T: PointDistance + PartialEq + Copy>(
-    alloc: Global,
-    elements: &[T],
-    place: PointOf<T>,
-    first: &[Distance<T>],
-) -> bool
-where
-    PointOf<T>: Copy,
-    requires dimensions { 2 ≤ T.Envelope.Point.DIMENSIONS }
-{
-    match &scanned(alloc, elements, &place) {
-        Ok(distances) => {
-            distances.starts_with(first) && popped_at(alloc, elements, place, distances)
-        }
-        Err(_) => false,
-    }
-}
-
-// The nearest first, each once, and then none: of an empty tree, of two points, and of a thousand.
-#[test]
-fn the_nearest_are_popped_first(rt: HostRuntime) -> Result<(), Fail> {
     let thousand = points(rt.alloc(), 1000)?;
-    let rows: [(&[At], At, &[i32]); 3] = [
-        (&[], [0, 213], &[]),
-        (&[[0, 0], [0, 1]], [0, 0], &[0, 1]),
-        (&thousand, [50, 51], &[]),
+    let lists: [&[At]; 6] = [
+        &[],
+        &[[0, 0]],
+        &[[0, 0], [0, 1]],
+        &[[1, 0], [-1, 0], [0, 2]],
+        &ALONG_A_LINE,
+        &thousand,
     ];
-    for &(list, place, distances) in &rows {
-        assert!(rt; popped_as_a_scan(rt.alloc(), list, place, distances));
+    for list in lists {
+        for &place in &PLACES {
+            assert!(rt; come_and_go(rt.alloc(), list, place, &[], &[]));
+        }
     }
     Ok(())
 }

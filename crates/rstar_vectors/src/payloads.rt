@@ -11,6 +11,7 @@ ghost use Rattle.rstar.specs.Visits.{IsOneOf};
 ghost use Rattle.rstar_vectors.specs.Callers.{IsRenumbered};
 
 use crate::fences::Fence;
+use crate::scenarios::drained;
 use rstar::algorithm::selection_functions::{SelectEqualsFunction, SelectionFunction};
 use rstar::iterators::SelectionIterator;
 use rstar::object::{Distance, PointOf};
@@ -33,14 +34,10 @@ pub fn walked<'a, T: RTreeObject, Func: SelectionFunction<T>>(
     ensures given { IfOk result (λ r. map (λ t. t.now) r.0.items ≡ to_come Func.accepts Func.selects walk.entry) }
     ensures opened { IfOk result (λ r. r.1 ≡ min (reach_by Func.accepts walk.entry) usize.MAX) }
 {
-    let mut all = Vec::new(alloc);
-    while let Some(element) = walk.next() {
-        match all.push(element) {
-            Ok(()) => {}
-            Err(_) => return Err(AllocError),
-        }
+    match drained(alloc, &mut walk) {
+        Ok(all) => Ok((all, walk.opened())),
+        Err(refused) => Err(refused),
     }
-    Ok((all, walk.opened()))
 }
 
 /// All elements, by `iter`.

@@ -37,58 +37,14 @@ fn half_sums_at_ends<S: RTreeNum>(low: S, high: S, minus_one: S) -> bool {
         && (low.half_sum(high), minus_one.half_sum(zero)) == (zero, zero)
 }
 
-/// What every scalar type answers at its ends: the least, the greatest, and -1.
-fn ends<S: RTreeNum>(low: S, high: S, minus_one: S) -> bool {
-    sums_at_ends(low, high, minus_one)
-        && products_at_ends(low, high, minus_one)
-        && half_sums_at_ends(low, high, minus_one)
-}
-
-#[test]
-fn scalars_at_their_ends(rt: HostRuntime) {
-    let answers = [
-        ends(i8::MIN, i8::MAX, -1),
-        ends(i16::MIN, i16::MAX, -1),
-        ends(i32::MIN, i32::MAX, -1),
-        ends(i64::MIN, i64::MAX, -1),
-        ends(i128::MIN, i128::MAX, -1),
-        ends(isize::MIN, isize::MAX, -1),
-    ];
-    assert!(rt; answers == [true; 6]);
-}
-
-/// Whether two scalars have half of their sum, by rows.
-fn half_sums<S: RTreeNum>(rows: &[(S, S, S)]) -> bool {
-    for (a, b, half) in rows {
+/// Whether two scalars have half of their sum, and two their product, held between the ends, by rows.
+fn answers<S: RTreeNum>(halves: &[(S, S, S)], products: &[(S, S, S)]) -> bool {
+    for (a, b, half) in halves {
         if a.half_sum(*b) != *half {
             return false;
         }
     }
-    true
-}
-
-#[test]
-fn half_sums_round_toward_zero(rt: HostRuntime) {
-    let answers = [
-        half_sums(&[(-3i8, 0, -1), (127, 127, 127), (-128, -127, -127)]),
-        half_sums(&[(-3i16, 0, -1)]),
-        half_sums(&[(-3i32, 0, -1)]),
-        half_sums(&[(-3i64, 0, -1)]),
-        half_sums(&[(-3isize, 0, -1)]),
-        half_sums(&[
-            (-3i128, 0, -1),
-            (3, -4, 0),
-            (4, -3, 0),
-            (-3, -4, -3),
-            (3, 4, 3),
-        ]),
-    ];
-    assert!(rt; answers == [true; 6]);
-}
-
-/// Whether two scalars have a product, held between the ends, by rows.
-fn products<S: RTreeNum>(rows: &[(S, S, S)]) -> bool {
-    for (a, b, product) in rows {
+    for (a, b, product) in products {
         if a.clamped_mul(*b) != *product {
             return false;
         }
@@ -96,26 +52,77 @@ fn products<S: RTreeNum>(rows: &[(S, S, S)]) -> bool {
     true
 }
 
+/// What every scalar type answers at its ends: the least, the greatest, and -1; and by rows of half sums, which are rounded
+/// toward zero, and of products.
+fn is_held<S: RTreeNum>(
+    low: S,
+    high: S,
+    minus_one: S,
+    halves: &[(S, S, S)],
+    products: &[(S, S, S)],
+) -> bool {
+    sums_at_ends(low, high, minus_one)
+        && products_at_ends(low, high, minus_one)
+        && half_sums_at_ends(low, high, minus_one)
+        && answers(halves, products)
+}
+
 #[test]
-fn products_about_the_ends(rt: HostRuntime) {
+fn scalars_are_held_at_their_ends(rt: HostRuntime) {
     let answers = [
-        products(&[
-            (11i8, 11, 121),
-            (12, 12, 127),
-            (-16, 8, -128),
-            (-11, 12, -128),
-        ]),
-        products(&[(181i16, 181, 32761), (182, 182, 32767)]),
-        products(&[(46340i32, 46340, 2147395600), (46341, 46341, 2147483647)]),
-        products(&[
-            (2147483647i64, 2147483647, 4611686014132420609),
-            (2147483648, 2147483648, 4611686018427387904),
-            (-2147483648, 2147483647, -4611686016279904256),
-            (3037000499, 3037000499, 9223372030926249001),
-            (3037000500, 3037000500, 9223372036854775807),
-        ]),
-        products(&[(3037000500isize, -3037000500, -9223372036854775808)]),
-        products(&[(9223372036854775808i128, 4, 36893488147419103232)]),
+        is_held(
+            i8::MIN,
+            i8::MAX,
+            -1,
+            &[(-3, 0, -1), (127, 127, 127), (-128, -127, -127)],
+            &[
+                (11, 11, 121),
+                (12, 12, 127),
+                (-16, 8, -128),
+                (-11, 12, -128),
+            ],
+        ),
+        is_held(
+            i16::MIN,
+            i16::MAX,
+            -1,
+            &[(-3, 0, -1)],
+            &[(181, 181, 32761), (182, 182, 32767)],
+        ),
+        is_held(
+            i32::MIN,
+            i32::MAX,
+            -1,
+            &[(-3, 0, -1)],
+            &[(46340, 46340, 2147395600), (46341, 46341, 2147483647)],
+        ),
+        is_held(
+            i64::MIN,
+            i64::MAX,
+            -1,
+            &[(-3, 0, -1)],
+            &[
+                (2147483647, 2147483647, 4611686014132420609),
+                (2147483648, 2147483648, 4611686018427387904),
+                (-2147483648, 2147483647, -4611686016279904256),
+                (3037000499, 3037000499, 9223372030926249001),
+                (3037000500, 3037000500, 9223372036854775807),
+            ],
+        ),
+        is_held(
+            isize::MIN,
+            isize::MAX,
+            -1,
+            &[(-3, 0, -1)],
+            &[(3037000500, -3037000500, -9223372036854775808)],
+        ),
+        is_held(
+            i128::MIN,
+            i128::MAX,
+            -1,
+            &[(-3, 0, -1), (3, -4, 0), (4, -3, 0), (-3, -4, -3), (3, 4, 3)],
+            &[(9223372036854775808, 4, 36893488147419103232)],
+        ),
     ];
     assert!(rt; answers == [true; 6]);
 }
@@ -138,15 +145,19 @@ fn reads<P: Point>(point: &P, coordinates: &[P::Scalar], axis: usize) -> bool {
     true
 }
 
-/// Whether a point has these coordinates, and 0 and else the same once 0 is written on an axis, where there is one.
-fn reads_and_writes<P: Point>(mut point: P, coordinates: &[P::Scalar], axis: usize) -> bool {
+/// Whether a point has these coordinates, and 0 and else the same once 0 is written on an axis, where there is one; and is
+/// then another point exactly where that coordinate was not 0.
+fn reads_and_writes<P: Point + Copy>(point: P, coordinates: &[P::Scalar], axis: usize) -> bool {
     if P::DIMENSIONS != coordinates.len() || !reads(&point, coordinates, P::DIMENSIONS) {
         return false;
     }
+    let mut written = point;
+    let mut is_other = false;
     if axis < P::DIMENSIONS {
-        *point.nth_mut(axis) = P::Scalar::zero();
+        is_other = point.nth(axis) != P::Scalar::zero();
+        *written.nth_mut(axis) = P::Scalar::zero();
     }
-    reads(&point, coordinates, axis)
+    reads(&written, coordinates, axis) && (written != point) == is_other && point == point
 }
 
 #[test]
@@ -197,29 +208,6 @@ fn arrays_and_named_coordinates(rt: HostRuntime) {
         reads_and_writes([7i64, -3, 5], &[7, -3, 5], 1),
         reads_and_writes(second, &[1, 2], 1),
         reads_and_writes(third, &[1, 2, 3], 2),
-    ];
-    assert!(rt; answers == [true; 6]);
-}
-
-// Whether two points are equal, by the bound.
-fn same<P: Point>(p: &P, q: &P) -> bool {
-    p == q
-}
-
-#[test]
-fn points_are_equal_where_all_coordinates_are(rt: HostRuntime) {
-    let third = Point3 {
-        x: 1i64,
-        y: 2,
-        z: 3,
-    };
-    let answers = [
-        same(&[1i64, 2, 3], &[1, 2, 3]),
-        same(&(1i64, 2, 3), &(1, 2, 3)),
-        same(&third, &Point3 { x: 1, y: 2, z: 3 }),
-        !same(&[1i64, 2, 3], &[1, 2, 4]),
-        !same(&(1i64, 2, 3), &(0, 2, 3)),
-        !same(&third, &Point3 { x: 1, y: 5, z: 3 }),
     ];
     assert!(rt; answers == [true; 6]);
 }

@@ -2,15 +2,16 @@
 
 ghost use Rattle.rstar.specs.Trees.{IsWholeTree};
 
+use crate::insertion::goes_in_again;
 use crate::node_sizes::{Emptying, Large, Small, Splitting};
 use crate::scenarios::{points, stands_within};
-use rstar::{DefaultParams, Envelope, RTree, RTreeObject, RTreeParams};
+use rstar::{DefaultParams, Envelope, EqualEnvelopes, RTree, RTreeObject, RTreeParams};
 use std::alloc::Global;
 use std::test::Fail;
 
-/// Whether elements go into a tree, one after another, and it stands after each with one more, where each parent has from
-/// `least` to `most` children.
-pub(crate) fn all_go_in<T: RTreeObject + Copy, Params: RTreeParams>(
+/// Whether elements go into a tree, one after another, where one that is refused is asked for once more, and it stands
+/// after each with one more, where each parent has from `least` to `most` children.
+pub(crate) fn all_go_in<T: EqualEnvelopes + Copy, Params: RTreeParams>(
     tree: &mut RTree<T, Params>,
     elements: &[T],
     least: usize,
@@ -22,7 +23,7 @@ pub(crate) fn all_go_in<T: RTreeObject + Copy, Params: RTreeParams>(
     for element in elements {
         let count = tree.size().saturating_add(1);
         if element.envelope().is_empty()
-            || tree.insert(*element).is_err()
+            || !goes_in_again(tree, *element)
             || tree.size() != count
             || !stands_within(tree, least, most)
         {
@@ -33,13 +34,16 @@ pub(crate) fn all_go_in<T: RTreeObject + Copy, Params: RTreeParams>(
 }
 
 /// The same of an empty tree, where the node sizes bound the children.
-fn all_stand<T: RTreeObject + Copy, Params: RTreeParams>(alloc: Global, elements: &[T]) -> bool {
+pub(crate) fn all_stand<T: EqualEnvelopes + Copy, Params: RTreeParams>(
+    alloc: Global,
+    elements: &[T],
+) -> bool {
     let mut tree: RTree<T, Params> = RTree::default(alloc);
     all_go_in(&mut tree, elements, Params::MIN_SIZE, Params::MAX_SIZE)
 }
 
 /// Whether trees of all these node sizes stand after each insertion.
-fn all_stand_at_each_size<T: RTreeObject + Copy>(alloc: Global, elements: &[T]) -> bool {
+fn all_stand_at_each_size<T: EqualEnvelopes + Copy>(alloc: Global, elements: &[T]) -> bool {
     all_stand::<T, DefaultParams>(alloc, elements)
         && all_stand::<T, Splitting>(alloc, elements)
         && all_stand::<T, Small>(alloc, elements)

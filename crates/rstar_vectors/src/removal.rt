@@ -10,7 +10,7 @@ ghost use Rattle.rstar.specs.Trees.{elements_in, IsWholeTree};
 use crate::loads::{are_same, deep_points, gather};
 use crate::node_sizes::{Emptying, Wide};
 use crate::reinsertion::all_go_in;
-use crate::scenarios::{ALONG_A_LINE, inserted, levels_of, loaded, points, stands};
+use crate::scenarios::{ALONG_A_LINE, goes_in, inserted, levels_of, loaded, points, stands};
 use crate::selections::LeftOnly;
 use rstar::algorithm::selection_functions::{
     SelectAllFunc, SelectInEnvelopeFuncIntersecting, SelectionFunction,
@@ -27,20 +27,25 @@ use std::test::Fail;
 
 type Edge = Line<[i32; 2]>;
 
-/// Calls a drain so many times, or until it ends, and gives how many elements came.
+/// Calls a drain so many times, or until it ends, puts what it gives behind a list, and gives how many elements came.
 #[tactic(auto, unfolding(rstar::specs::Drains::IsDraining))]
 fn call<T: RTreeObject, R: SelectionFunction<T>, Params: RTreeParams>(
     drain: &mut DrainIterator<'_, T, R, Params>,
     most: usize,
+    given: &mut Vec<T>,
 ) -> usize
     requires { IsDraining T.Envelope.boxes T.object Params.MAX_SIZE R.accepts R.selects drain.old }
-    ensures draining { IsDraining T.Envelope.boxes T.object Params.MAX_SIZE R.accepts R.selects drain.new }
     ensures whole { IsWholeTree T.Envelope.boxes T.object Params.MAX_SIZE (drained drain.new) }
     ensures same { drain.new.tree.ghost_name ≡ drain.old.tree.ghost_name }
 {
     for call in 0..most {
-        if drain.next().is_none() {
-            return call;
+        match drain.next() {
+            Some(element) => {
+                if given.push(element).is_err() {
+                    return call;
+                }
+            }
+            None => return call,
         }
     }
     most
@@ -70,7 +75,8 @@ fn two_out_one_in<T: RTreeObject>(
 {
     match tree.drain_in_envelope_intersecting(area) {
         Ok(mut drain) => {
-            let _came = call(&mut drain, 2);
+            let _one = drain.next();
+            let _other = drain.next();
         }
         Err(refused) => return Err(refused),
     }
@@ -129,18 +135,20 @@ fn stands_with_one_in<T: PointDistance + Copy>(
         && stands_with(&mut tree, left, first, other)
 }
 
-/// Drains at most so many elements, and gives how many came; none where the tree does not stand without them.
+/// Drains at most so many elements, puts them behind a list, and gives how many came; none where the tree does not stand
+/// without them.
 pub(crate) fn drain_and_stand<T: RTreeObject, R: SelectionFunction<T>, Params: RTreeParams>(
     tree: &mut RTree<T, Params>,
     func: R,
     most: usize,
+    given: &mut Vec<T>,
 ) -> Option<usize>
     requires { IsWholeTree T.Envelope.boxes T.object Params.MAX_SIZE tree.old }
     ensures { IsWholeTree T.Envelope.boxes T.object Params.MAX_SIZE tree.new }
 {
     let before = tree.size();
     let came = match tree.drain_with_selection_function(func) {
-        Ok(mut drain) => call(&mut drain, most),
+        Ok(mut drain) => call(&mut drain, most, given),
         Err(_) => return None,
     };
     if tree.size().saturating_add(came) == before && stands(tree) {
@@ -222,7 +230,7 @@ where
         return false;
     }
     match other {
-        Some(more) => !more.envelope().is_empty() && tree.insert(*more).is_ok(),
+        Some(more) => goes_in(tree, *more),
         None => true,
     }
 }
@@ -288,49 +296,13 @@ fn dropped_stands<T: EqualEnvelopes + Copy>(
     one: T,
 ) -> bool {
     let mut tree = inserted::<T, DefaultParams>(alloc, elements);
-    drain_and_stand(&mut tree, SelectAllFunc, calls) == Some(calls)
-        && !one.envelope().is_empty()
-        && tree.insert(one).is_ok()
+    drain_and_stand(&mut tree, SelectAllFunc, calls, &mut Vec::new(alloc)) == Some(calls)
+        && goes_in(&mut tree, one)
         && tree.size().saturating_add(calls) == elements.len().saturating_add(1)
         && stands(&tree)
         && tree.contains(&one)
         && matches!(one_out(&mut tree), Ok(Some(_)))
         && tree.size().saturating_add(calls) == elements.len()
-}
-
-/// Calls a drain so many times, or until it ends, puts what it gives behind a list, and gives how many elements came.
-#[tactic(auto, unfolding(rstar::specs::Drains::IsDraining))]
-fn put_next<T: RTreeObject, R: SelectionFunction<T>, Params: RTreeParams>(
-    drain: &mut DrainIterator<'_, T, R, Params>,
-    most: usize,
-    given: &mut Vec<T>,
-) -> usize
-    requires { IsDraining T.Envelope.boxes T.object Params.MAX_SIZE R.accepts R.selects drain.old }
-    ensures whole { IsWholeTree T.Envelope.boxes T.object Params.MAX_SIZE (drained drain.new) }
-    ensures same { drain.new.tree.ghost_name ≡ drain.old.tree.ghost_name }
-{
-    for call in 0..most {
-        match drain.next() {
-            Some(element) => {
-                if given.push(element).is_err() {
-                    return call;
-                }
-            }
-            None => return call,
-        }
-    }
-    most
-}
-
-/// Drains so many elements into a list, and drops the drain.
-fn dropped_after<T: RTreeObject>(tree: &mut RTree<T>, calls: usize, given: &mut Vec<T>) -> bool
-    requires { IsWholeTree T.Envelope.boxes T.object ⟦<DefaultParams as RTreeParams>⟧.MAX_SIZE tree.old }
-    ensures { IsWholeTree T.Envelope.boxes T.object ⟦<DefaultParams as RTreeParams>⟧.MAX_SIZE tree.new }
-{
-    match tree.drain() {
-        Ok(mut drain) => put_next(&mut drain, calls, given) == calls,
-        Err(_) => false,
-    }
 }
 
 /// Drains so many elements into a list, and forgets the drain: no clause says what the tree is then.
@@ -339,7 +311,7 @@ fn forgotten_after<T: RTreeObject>(tree: &mut RTree<T>, calls: usize, given: &mu
 {
     match tree.drain() {
         Ok(mut drain) => {
-            let came = put_next(&mut drain, calls, given);
+            let came = call(&mut drain, calls, given);
             forget(drain);
             came == calls
         }
@@ -357,7 +329,7 @@ fn are_given_or_left<T: RTreeObject + Ord + Copy>(
 ) -> bool {
     let mut tree = inserted::<T, DefaultParams>(alloc, elements);
     let mut all = Vec::new(alloc);
-    dropped_after(&mut tree, dropped, &mut all)
+    drain_and_stand(&mut tree, SelectAllFunc, dropped, &mut all) == Some(dropped)
         && forgotten_after(&mut tree, forgotten, &mut all)
         && all.len() == dropped.saturating_add(forgotten)
         && tree.size().saturating_add(all.len()) == elements.len()
@@ -383,12 +355,12 @@ fn left_in<T: EqualEnvelopes, Params: RTreeParams>(
     count
 }
 
-/// Drains at most so many of the elements that meet an envelope, and gives how many came; none where the tree does not
-/// stand without them.
+/// The same of the elements that meet an envelope.
 fn drain_area_and_stand<T: RTreeObject, Params: RTreeParams>(
     tree: &mut RTree<T, Params>,
     area: &T::Envelope,
     most: usize,
+    given: &mut Vec<T>,
 ) -> Option<usize>
     requires { IsWholeTree T.Envelope.boxes T.object Params.MAX_SIZE tree.old }
     ensures { IsWholeTree T.Envelope.boxes T.object Params.MAX_SIZE tree.new }
@@ -397,6 +369,7 @@ fn drain_area_and_stand<T: RTreeObject, Params: RTreeParams>(
         tree,
         SelectInEnvelopeFuncIntersecting::new(area.merged(area)),
         most,
+        given,
     )
 }
 
@@ -419,16 +392,17 @@ fn drained_in_parts<T: EqualEnvelopes + Copy, Params: RTreeParams>(
     } else {
         inserted::<T, Params>(alloc, elements)
     };
+    let given = &mut Vec::new(alloc);
     if tree.size() != count
-        || drain_and_stand(&mut tree, SelectAllFunc, most) != Some(most.min(count))
+        || drain_and_stand(&mut tree, SelectAllFunc, most, given) != Some(most.min(count))
     {
         return None;
     }
     let asked = left_in(&tree, elements, area);
     let rest = asked.saturating_sub(part);
-    if drain_area_and_stand(&mut tree, area, part) == Some(part.min(asked))
+    if drain_area_and_stand(&mut tree, area, part, given) == Some(part.min(asked))
         && left_in(&tree, elements, area) == rest
-        && drain_area_and_stand(&mut tree, area, count) == Some(rest)
+        && drain_area_and_stand(&mut tree, area, count, given) == Some(rest)
         && left_in(&tree, elements, area) == 0
     {
         Some(asked)
@@ -451,16 +425,17 @@ fn drained_and_filled_again<T: EqualEnvelopes + Copy>(
 {
     let count = elements.len();
     let mut tree = loaded::<T, DefaultParams>(alloc, elements);
-    if drain_and_stand(&mut tree, SelectAllFunc, most) == Some(most)
-        && drain_and_stand(&mut tree, SelectAllFunc, most) == Some(most)
-        && drain_and_stand(&mut tree, SelectAllFunc, count)
+    let given = &mut Vec::new(alloc);
+    if drain_and_stand(&mut tree, SelectAllFunc, most, given) == Some(most)
+        && drain_and_stand(&mut tree, SelectAllFunc, most, given) == Some(most)
+        && drain_and_stand(&mut tree, SelectAllFunc, count, given)
             == count.checked_sub(most.saturating_mul(2))
         && all_go_in(&mut tree, elements, 1, usize::MAX)
         && left_in(&tree, elements, tree.root().envelope()) == count
-        && drain_area_and_stand(&mut tree, area, part) == Some(part)
+        && drain_area_and_stand(&mut tree, area, part, given) == Some(part)
     {
         let rest = left_in(&tree, elements, area);
-        let came = drain_area_and_stand(&mut tree, area, count);
+        let came = drain_area_and_stand(&mut tree, area, count, given);
         if came == Some(rest) && left_in(&tree, elements, area) == 0 {
             return came;
         }
@@ -478,7 +453,12 @@ fn drains_at_most<T: EqualEnvelopes + Copy, R: SelectionFunction<T>>(
     left: usize,
 ) -> bool {
     let mut tree = inserted::<T, DefaultParams>(alloc, elements);
-    match drain_and_stand(&mut tree, func, elements.len().saturating_add(2)) {
+    match drain_and_stand(
+        &mut tree,
+        func,
+        elements.len().saturating_add(2),
+        &mut Vec::new(alloc),
+    ) {
         Some(came) => came <= most && left_in(&tree, elements, kept) == left,
         None => false,
     }
@@ -530,10 +510,10 @@ fn edges(alloc: Global, count: usize) -> Result<Vec<Edge>, AllocError> {
     Ok(edges)
 }
 
-// Each point leaves once, and equal ones one by one.
+// Each point leaves once, and equal ones one by one. A tree that was never filled is drained, and one that is emptied.
 #[test]
 fn removals_of_all_in_several_orders(rt: HostRuntime) -> Result<(), Fail> {
-    for count in 1..301 {
+    for count in 0..301 {
         let all = points(rt.alloc(), count)?;
         for order in 0..3 {
             assert!(rt;
@@ -544,14 +524,6 @@ fn removals_of_all_in_several_orders(rt: HostRuntime) -> Result<(), Fail> {
     }
     assert!(rt; leave_to_the_end(rt.alloc(), &[[0, 2], [0, 2]], 0, false, [0, 0], 10));
     Ok(())
-}
-
-// A tree that was never filled, and one that is emptied.
-#[test]
-fn an_emptied_tree_is_drained(rt: HostRuntime) {
-    let none: [[i64; 3]; 0] = [];
-    assert!(rt; leave_to_the_end(rt.alloc(), &none, 0, true, [0, 0, 0], 10));
-    assert!(rt; leave_to_the_end(rt.alloc(), &[[1i64, 2, 3]], 0, true, [0, 0, 0], 10));
 }
 
 // Each leaves a load once, by `==` or at its place, and others come.

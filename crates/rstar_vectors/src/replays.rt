@@ -91,7 +91,7 @@ enum Kind {
 }
 
 /// A command over points, in numbers.
-#[derive(Clone, Copy)]
+#[derive(Drop)]
 struct Draw {
     kind: Kind,
     /// Which query.
@@ -243,8 +243,12 @@ fn selected(alloc: Global, list: &[At], draw: &Draw) -> Result<Vec<At>, AllocErr
 
 /// Whether no point of a list is nearer to a place than a squared distance.
 fn none_is_nearer(list: &[At], place: &At, distance: i64) -> bool {
-    list.iter()
-        .all(|point| distance <= squared_distance(point, place))
+    for point in list {
+        if squared_distance(point, place) < distance {
+            return false;
+        }
+    }
+    true
 }
 
 fn is_done(alloc: Global, list: &mut Vec<At>, draw: &Draw) -> Result<bool, AllocError> {
@@ -368,12 +372,13 @@ fn drawn(alloc: Global, count: usize) -> Result<Vec<Draw>, AllocError> {
     let mut all = Vec::new(alloc);
     for _ in 0..count {
         let draw = numbers.draw();
-        all.push(draw)?;
-        all.push(Draw {
+        let all_points = Draw {
             kind: Kind::Ask,
             query: 0,
             ..draw
-        })?;
+        };
+        all.push(draw)?;
+        all.push(all_points)?;
     }
     Ok(all)
 }

@@ -4,7 +4,8 @@
 //! steps at a concrete type are dear. What may be refused and holds a list, a walk or a tree is matched and lent, where
 //! one would write `?`: docs/DECISIONS.md has what each form costs.
 
-ghost use Rattle.std.specs.Prelude.{◌≤◌, IfOk};
+ghost use Rattle.std.specs.Prelude.{◌≤◌, None, IfOk};
+ghost use Rattle.std.specs.Iterator.{IsFinite, YieldsThen};
 ghost use Rattle.rstar.specs.Trees.{IsWholeTree};
 
 use num_traits::One;
@@ -36,6 +37,38 @@ pub(crate) fn points(alloc: Global, count: usize) -> Result<Vec<[i32; 2]>, Alloc
     Ok(points)
 }
 
+/// So many points, the first one and each a step from the one before it.
+pub(crate) fn in_steps(
+    alloc: Global,
+    count: usize,
+    first: [i32; 2],
+    step: [i32; 2],
+) -> Result<Vec<[i32; 2]>, AllocError> {
+    let mut points = Vec::new(alloc);
+    let [mut x, mut y] = first;
+    for _ in 0..count {
+        points.push([x, y])?;
+        x = x.wrapping_add(step[0]);
+        y = y.wrapping_add(step[1]);
+    }
+    Ok(points)
+}
+
+/// All that an iterator gives, up to its end.
+pub(crate) fn drained<I: Iterator>(alloc: Global, items: &mut I) -> Result<Vec<I::Item>, AllocError>
+where
+    I::Item: Drop,
+    requires can { I.can_next items.old }
+    requires ends { IsFinite (I.remaining items.old) }
+    ensures { IfOk result (λ all. YieldsThen I.next_gives items.old all.items None items.new) }
+{
+    let mut all = Vec::new(alloc);
+    while let Some(item) = items.next() {
+        all.push(item)?;
+    }
+    Ok(all)
+}
+
 /// Whether an element lies at this squared distance from a point, and within no lesser one, and contains the point as told.
 pub(crate) fn is_so_far<T: PointDistance>(
     element: &T,
@@ -50,6 +83,17 @@ pub(crate) fn is_so_far<T: PointDistance>(
         && element.distance_2_if_less_or_equal(point, distance) == Some(distance)
 }
 
+/// Inserts an element, and whether it went in: not where its envelope is empty, or it is refused.
+pub(crate) fn goes_in<T: RTreeObject, Params: RTreeParams>(
+    tree: &mut RTree<T, Params>,
+    element: T,
+) -> bool
+    requires { IsWholeTree T.Envelope.boxes T.object Params.MAX_SIZE tree.old }
+    ensures { IsWholeTree T.Envelope.boxes T.object Params.MAX_SIZE tree.new }
+{
+    !element.envelope().is_empty() && tree.insert(element).is_ok()
+}
+
 /// A tree of these elements, inserted in this order; an empty one where one is refused, or has an empty envelope.
 pub(crate) fn inserted<T: RTreeObject + Copy, Params: RTreeParams>(
     alloc: Global,
@@ -59,7 +103,7 @@ pub(crate) fn inserted<T: RTreeObject + Copy, Params: RTreeParams>(
 {
     let mut tree = RTree::default(alloc);
     for element in elements {
-        if element.envelope().is_empty() || tree.insert(*element).is_err() {
+        if !goes_in(&mut tree, *element) {
             return RTree::default(alloc);
         }
     }

@@ -451,47 +451,6 @@ fn found_points<P: Point + Copy>(
     found(alloc, elements, area, point, limit)
 }
 
-#[test]
-fn selections_of_one_rectangle(rt: HostRuntime) {
-    let one = [Rectangle::from_corners([0i32, 0], [2, 2])];
-    let middle = AABB::from_point([1, 1]);
-    const ROWS: [([i32; 2], i32, usize, usize); 5] = [
-        ([1, 1], 0, 1, 1),
-        ([4, 2], 3, 0, 0),
-        ([4, 2], 4, 0, 1),
-        ([2, 2], 0, 1, 1),
-        ([3, 3], 0, 0, 0),
-    ];
-    for &(point, limit, at, near) in &ROWS {
-        let counts = found_rectangles(rt.alloc(), &one, middle, point, limit);
-        assert!(rt; counts == Some([1, 0, 1, at, near]));
-    }
-}
-
-// Three rectangles of which the third intersects the first two, a box, how many it contains, and how many it
-// intersects; its lower corner, and how many contain that.
-#[test]
-fn rectangles_about_a_rectangle(rt: HostRuntime) {
-    let three = [
-        Rectangle::from_corners([0i32, 0], [40, 100]),
-        Rectangle::from_corners([60, 0], [100, 100]),
-        Rectangle::from_corners([25, 0], [75, 100]),
-    ];
-    const ROWS: [([i32; 2], [i32; 2], usize, usize, usize); 6] = [
-        ([0, 0], [40, 100], 1, 2, 1),
-        ([60, 0], [100, 100], 1, 2, 2),
-        ([25, 0], [75, 100], 1, 3, 2),
-        ([50, 7], [50, 9], 0, 1, 1),
-        ([100, 100], [101, 101], 0, 1, 1),
-        ([101, 0], [101, 1], 0, 0, 0),
-    ];
-    for &(lower, upper, inside, touching, at) in &ROWS {
-        let area = AABB::from_corners(lower, upper);
-        let counts = found_rectangles(rt.alloc(), &three, area, lower, 0);
-        assert!(rt; counts == Some([3, inside, touching, at, at]));
-    }
-}
-
 // Taken literally, the empty box intersects the full range, and lies in it.
 #[test]
 fn the_empty_box_and_the_full_range(rt: HostRuntime) {
@@ -501,7 +460,8 @@ fn the_empty_box_and_the_full_range(rt: HostRuntime) {
 }
 
 // rstar's tests `test_iteration`, `test_locate_in_envelope` and `test_locate_within_distance`, on other points: two
-// corners, of which the first two hold all, and a point and a squared distance.
+// corners, of which the first two hold all, and a point and a squared distance; and its test
+// `test_locate_within_distance_on_empty_tree`.
 #[test]
 fn a_thousand_points_are_found_as_by_a_scan(rt: HostRuntime) -> Result<(), Fail> {
     const ROWS: [([i32; 2], [i32; 2], [i32; 2], i32); 4] = [
@@ -514,6 +474,7 @@ fn a_thousand_points_are_found_as_by_a_scan(rt: HostRuntime) -> Result<(), Fail>
     for &(one, other, origin, limit) in &ROWS {
         let area = AABB::from_corners(one, other);
         assert!(rt; found_points(rt.alloc(), &all, area, origin, limit).is_some());
+        assert!(rt; found_points(rt.alloc(), &[], area, origin, limit) == Some([0; 5]));
     }
     Ok(())
 }
@@ -529,23 +490,49 @@ fn rectangles(alloc: Global, points: &[[i32; 2]]) -> Result<Vec<Rectangle<[i32; 
     Ok(all)
 }
 
-// rstar's test `test_locate_all`, on other rectangles: how many of a list contain a point.
+// A point and a squared distance, and how many of one rectangle contain it, and lie so near.
+const ABOUT_ONE: [([i32; 2], i32, usize, usize); 5] = [
+    ([1, 1], 0, 1, 1),
+    ([4, 2], 3, 0, 0),
+    ([4, 2], 4, 0, 1),
+    ([2, 2], 0, 1, 1),
+    ([3, 3], 0, 0, 0),
+];
+
+// A box, how many of three rectangles, of which the third intersects the first two, it contains, and how many it
+// intersects; and how many contain its lower corner.
+const ABOUT_THREE: [([i32; 2], [i32; 2], usize, usize, usize); 6] = [
+    ([0, 0], [40, 100], 1, 2, 1),
+    ([60, 0], [100, 100], 1, 2, 2),
+    ([25, 0], [75, 100], 1, 3, 2),
+    ([50, 7], [50, 9], 0, 1, 1),
+    ([100, 100], [101, 101], 0, 1, 1),
+    ([101, 0], [101, 1], 0, 0, 0),
+];
+
+// One rectangle, three, and rstar's test `test_locate_all`, on a thousand others.
 #[test]
-fn rectangles_at_a_point_are_found_as_by_a_scan(rt: HostRuntime) -> Result<(), Fail> {
+fn rectangles_are_found_as_by_a_scan(rt: HostRuntime) -> Result<(), Fail> {
     const PLACES: [[i32; 2]; 6] = [[0, 0], [50, 50], [7, 93], [100, 102], [105, -5], [200, 0]];
+    let one = [Rectangle::from_corners([0, 0], [2, 2])];
+    for &(point, limit, at, near) in &ABOUT_ONE {
+        let counts = found_rectangles(rt.alloc(), &one, AABB::from_point([1, 1]), point, limit);
+        assert!(rt; counts == Some([1, 0, 1, at, near]));
+    }
+    let three = [
+        Rectangle::from_corners([0, 0], [40, 100]),
+        Rectangle::from_corners([60, 0], [100, 100]),
+        Rectangle::from_corners([25, 0], [75, 100]),
+    ];
+    for &(lower, upper, inside, touching, at) in &ABOUT_THREE {
+        let area = AABB::from_corners(lower, upper);
+        let counts = found_rectangles(rt.alloc(), &three, area, lower, 0);
+        assert!(rt; counts == Some([3, inside, touching, at, at]));
+    }
     let all = rectangles(rt.alloc(), &points(rt.alloc(), 1000)?)?;
     for &point in &PLACES {
         let counts = found_rectangles(rt.alloc(), &all, AABB::from_point(point), point, 9);
         assert!(rt; counts.is_some());
     }
     Ok(())
-}
-
-// rstar's test `test_locate_within_distance_on_empty_tree`.
-#[test]
-fn nothing_is_near_in_an_empty_tree(rt: HostRuntime) {
-    let none: [[i64; 3]; 0] = [];
-    let area = AABB::from_point([0, 0, 0]);
-    let counts = found_points(rt.alloc(), &none, area, [0, 0, 0], 10);
-    assert!(rt; counts == Some([0; 5]));
 }

@@ -2,6 +2,7 @@
 
 ghost use Rattle.std.specs.Prelude.{◌<◌};
 
+use crate::scenarios::in_steps;
 use num_traits::Zero;
 use rstar_base::clusters::{ClusterGroupIterator, calculate_number_of_clusters_on_axis};
 use rstar_base::envelope::Envelope;
@@ -10,15 +11,6 @@ use rstar_base::params::DefaultParams;
 use rstar_base::point::least;
 use std::alloc::{AllocError, Global};
 use std::test::Fail;
-
-// The points [0, 0], [-1, -1], ..
-fn down_a_line(alloc: Global, count: u16) -> Result<Vec<[i32; 2]>, AllocError> {
-    let mut points = Vec::new(alloc);
-    for i in 0..count {
-        points.push([-i32::from(i), -i32::from(i)])?;
-    }
-    Ok(points)
-}
 
 /// Whether there is a slab, and it has this length, and this least key on an axis, or 0 if that is less.
 fn is_slab<T: RTreeObject>(
@@ -57,19 +49,26 @@ fn are_cut<T: RTreeObject>(
     are_so && slabs.next().is_none() && slabs.cluster_dimension() == axis
 }
 
-/// Whether so many points down a line are cut along an axis into slabs of these lengths and least coordinates.
-fn cuts(alloc: Global, count: u16, clusters: usize, axis: usize, wanted: &[(usize, i32)]) -> bool {
+/// Whether so many of the points [0, 0], [-1, -1], .. are cut along an axis into slabs of these lengths and least
+/// coordinates.
+fn cuts(
+    alloc: Global,
+    count: usize,
+    clusters: usize,
+    axis: usize,
+    wanted: &[(usize, i32)],
+) -> bool {
     if clusters == 0 || 2 <= axis {
         return false;
     }
-    match down_a_line(alloc, count) {
+    match in_steps(alloc, count, [0, 0], [-1, -1]) {
         Ok(points) => are_cut(points, clusters, axis, wanted),
         Err(_) => false,
     }
 }
 
 // How many points, the number of slabs, the axis, and the lengths and least coordinates.
-const CUTS: [(u16, usize, usize, &'static [(usize, i32)]); 5] = [
+const CUTS: [(usize, usize, usize, &'static [(usize, i32)]); 5] = [
     (
         374,
         5,
@@ -110,7 +109,8 @@ fn come_to_an_end<T: RTreeObject>(elements: Vec<T>, clusters: usize, axis: usize
 /// Nine points in three slabs; `rt try --test --fail-alloc N` refuses the Nth allocation.
 #[test]
 fn a_refused_slab_ends_the_slabs(rt: HostRuntime) -> Result<(), Fail> {
-    assert!(rt; come_to_an_end(down_a_line(rt.alloc(), 9)?, 3, 0));
+    let nine = in_steps(rt.alloc(), 9, [0, 0], [-1, -1])?;
+    assert!(rt; come_to_an_end(nine, 3, 0));
     Ok(())
 }
 

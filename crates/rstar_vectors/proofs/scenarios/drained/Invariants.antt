@@ -1,5 +1,5 @@
 use Rattle.std.specs.Iterator.{size, IsFinite, Yields}
-use Rattle.rstar_vectors.proofs.joins.drained.Given as goal
+use Rattle.rstar_vectors.proofs.scenarios.drained.Given as goal
 
 abbrev pub invariant-loop-item : goal.invariant-loop-item
 invariant-loop-item g l = record {

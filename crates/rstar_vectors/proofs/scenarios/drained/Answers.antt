@@ -1,5 +1,5 @@
 use Rattle.rstar_vectors.proofs.Drained.{none-yielded, one-more-yielded}
-use Rattle.rstar_vectors.proofs.joins.drained.Goals as goal
+use Rattle.rstar_vectors.proofs.scenarios.drained.Goals as goal
 
 pub loop-item-init : goal.loop-item-init
 loop-item-init g c = record {
