@@ -26,9 +26,9 @@ FUNCTION = re.compile(r"^\s*(?:pub(?:\([^)]*\))?\s+)?(?:const\s+)?fn\s+(\w+)", r
 TOLD = re.compile(r"^(?:note: )?(?P<path>\S+?):(?P<line>\d+):\d+:")
 # What a proof file says of a name that the edit took away, and what is said of a text that does not read.
 NAMES = re.compile(r"^(\./)?proofs/.*(has no field|is not in scope|has no `|was not admitted)")
-UNREAD = re.compile(
-    r"^\S+ error: [^`]|is not in scope|has no field|is no name|operand is missing|expected the end|cannot continue"
-)
+UNREAD = re.compile(r"is not in scope|has no field|is no name|operand is missing|expected the end|cannot continue")
+# An error whose first word is no goal's name.
+NO_GOAL = re.compile(r"^\S+ error: [^`]")
 
 
 class Edit:
@@ -94,7 +94,7 @@ def verdict(status, said, told):
         return "NOT REFUSED"
     if not any(line.startswith("logic=not-proved") for line in said):
         return "NOT TRIED: " + next((line for line in said if "error" in line), said[-1] if said else "no word")
-    if any(UNREAD.search(re.sub(r"`[^`]*`", "", line)) for line in errors):
+    if any(NO_GOAL.match(line) or UNREAD.search(re.sub(r"`[^`]*`", "", line)) for line in errors):
         return "NOT TRIED: it does not read: " + errors[0]
     if told and all(NAMES.match(line) for line in told):
         return "BY NAMES ALONE: " + told[0]

@@ -55,18 +55,14 @@ fn has_measures<P: Point + Copy>(row: &MeasureRow<P>) -> bool {
 // The full range and the empty box, whose measures are held at the greatest scalar and at 0, and a box between.
 #[test]
 fn measures_and_centers(rt: HostRuntime) {
+    let (low, high) = (i128::MIN, i128::MAX);
     let answers = [
         has_measures(&([-128i8, -128], [127, 127], 127, 127, [0, 0], -128)),
         has_measures(&([127i8, 127], [-128, -128], 0, 0, [0, 0], 127)),
         has_measures(&([0i8, -3], [2, 4], 14, 9, [1, 0], -3)),
+        has_measures(&([low, low], [high, high], high, high, [0, 0], low)),
     ];
-    assert!(rt; answers == [true; 3]);
-}
-
-#[test]
-fn measures_of_the_widest_scalar(rt: HostRuntime) {
-    let (low, high) = (i128::MIN, i128::MAX);
-    assert!(rt; has_measures(&([low, low], [high, high], high, high, [0, 0], low)));
+    assert!(rt; answers == [true; 4]);
 }
 
 /// Whether the box between two corners is that between two others, the lower and the upper one, and the box of the lower
@@ -76,18 +72,6 @@ fn has_corners<P: Point + Copy>(one: P, other: P, lower: P, upper: P) -> bool {
         && AABB::from_point(lower) == boxed(lower, lower)
 }
 
-#[test]
-fn corners_come_in_any_order(rt: HostRuntime) {
-    let answers = [
-        has_corners([2i8, -3], [0, 4], [0, -3], [2, 4]),
-        has_corners([0i8, 2], [1, 1], [0, 1], [1, 2]),
-        has_corners([2i8, -3], [2, -3], [2, -3], [2, -3]),
-        has_corners([0i8, 2], [0, 2], [0, 2], [0, 2]),
-        has_corners([127i8, -128], [127, -128], [127, -128], [127, -128]),
-    ];
-    assert!(rt; answers == [true; 5]);
-}
-
 /// Whether the box round a center is that between two corners, with the distance and with its negative.
 fn is_round<P: Point + Copy>(center: P, distance: P::Scalar, lower: P, upper: P) -> bool {
     let wanted = boxed(lower, upper);
@@ -95,9 +79,18 @@ fn is_round<P: Point + Copy>(center: P, distance: P::Scalar, lower: P, upper: P)
     AABB::from_center(center, distance) == wanted && AABB::from_center(center, below) == wanted
 }
 
+// Corners come in any order; a box round a center is held in the range.
 #[test]
-fn boxes_round_a_center_are_held_in_the_range(rt: HostRuntime) {
-    assert!(rt; is_round([100i8, 0], 50, [50, -50], [127, 50]));
+fn boxes_of_corners_and_of_centers(rt: HostRuntime) {
+    let answers = [
+        has_corners([2i8, -3], [0, 4], [0, -3], [2, 4]),
+        has_corners([0i8, 2], [1, 1], [0, 1], [1, 2]),
+        has_corners([2i8, -3], [2, -3], [2, -3], [2, -3]),
+        has_corners([0i8, 2], [0, 2], [0, 2], [0, 2]),
+        has_corners([127i8, -128], [127, -128], [127, -128], [127, -128]),
+        is_round([100i8, 0], 50, [50, -50], [127, 50]),
+    ];
+    assert!(rt; answers == [true; 6]);
 }
 
 /// A box, a point, the nearest point of the box, its squared distance, and the box's min-max distance.
@@ -271,24 +264,21 @@ fn rise<V: Ord + Copy>(low: V, wide: V, high: V) -> bool {
     low < wide && wide < high && low != wide && high.max(low) == high
 }
 
-// Whether a box has two corners in order; boxes by their corners, by their lower ones first.
-#[test]
-fn boxes_are_ordered_by_their_corners(rt: HostRuntime) {
-    assert!(rt; upright(&[0i64, -3], &[2, 4]));
-    assert!(rt; !upright(&[0i64, 5], &[2, 4]));
-    let low = AABB::from_corners([0i64, 5], [1, 6]);
-    let wide = AABB::from_corners([0, 5], [9, 6]);
-    assert!(rt; rise(low, wide, AABB::from_corners([1, 0], [1, 1])));
-}
-
 fn hashed<T: Hash>(item: &T) -> u64 {
     let mut state = DefaultHasher::new();
     item.hash(&mut state);
     state.finish()
 }
 
+// Whether a box has two corners in order; boxes by their corners, by their lower ones first; equal ones hash alike, and
+// show their corners.
 #[test]
-fn equal_boxes_hash_alike_and_show_their_corners(rt: HostRuntime) {
+fn boxes_are_ordered_hashed_and_shown_by_their_corners(rt: HostRuntime) {
+    assert!(rt; upright(&[0i64, -3], &[2, 4]));
+    assert!(rt; !upright(&[0i64, 5], &[2, 4]));
+    let low = AABB::from_corners([0i64, 5], [1, 6]);
+    let wide = AABB::from_corners([0, 5], [9, 6]);
+    assert!(rt; rise(low, wide, AABB::from_corners([1, 0], [1, 1])));
     let one = AABB::from_corners([0i64, 2], [1, 1]);
     assert!(rt; hashed(&one) == hashed(&AABB::from_corners([0i64, 1], [1, 2])));
     assert!(rt; shows(rt.alloc(), &one, "AABB { lower: [0, 1], upper: [1, 2] }"));

@@ -43,7 +43,8 @@ fn lines_are_so_far<P: Point + Copy>(rows: &[LineRow<P>]) -> bool {
     true
 }
 
-// The upright line is that of rstar's test `edge_distance`, twice as large.
+// The upright line is that of rstar's test `edge_distance`, twice as large. Where its numbers do not fit, a line has its
+// ends alone.
 #[test]
 fn lines_and_points(rt: HostRuntime) {
     assert!(rt;
@@ -60,10 +61,6 @@ fn lines_and_points(rt: HostRuntime) {
             ([0, 0], [2, 2], 8, [20, 24], [2, 2], 808),
         ])
     );
-}
-
-#[test]
-fn where_its_numbers_do_not_fit_a_line_has_its_ends_alone(rt: HostRuntime) {
     assert!(rt;
         lines_are_so_far(&[
             ([-100i8, 0], [100, 0], 127, [0, 5], [-100, 0], 127),

@@ -69,10 +69,10 @@ fn all_go(alloc: Global, steps: &[Step]) -> bool {
     true
 }
 
-// Eight of forty numbers lie in the list, and leave first; a greater and a lesser one come in between.
 #[test]
 fn the_greatest_leaves_first(rt: HostRuntime) {
-    let steps = [
+    // Eight of forty numbers lie in the list, and leave first; a greater and a lesser one come in between.
+    let first = [
         Step::Push(1, 41),
         Step::Pop(40, 33),
         Step::Push(0, 1),
@@ -81,26 +81,18 @@ fn the_greatest_leaves_first(rt: HostRuntime) {
         Step::Pop(32, 0),
         Step::End,
     ];
-    assert!(rt; all_go(rt.alloc(), &steps));
-}
-
-// Twenty of forty numbers left: twelve more find their places inline, which takes no memory.
-#[test]
-fn a_heap_that_was_long_takes_twelve_more(rt: HostRuntime) {
-    let steps = [
+    assert!(rt; all_go(rt.alloc(), &first));
+    // Twenty of forty numbers left: twelve more find their places inline, which takes no memory.
+    let twelve_more = [
         Step::Push(1, 41),
         Step::Pop(40, 21),
         Step::Push(100, 112),
         Step::Pop(111, 100),
         Step::Pop(20, 1),
     ];
-    assert!(rt; all_go(rt.alloc(), &steps));
-}
-
-// An emptied heap that was long is extended too; with few items held that takes no memory.
-#[test]
-fn an_extended_heap_gives_all(rt: HostRuntime) {
-    let steps = [
+    assert!(rt; all_go(rt.alloc(), &twelve_more));
+    // An emptied heap that was long is extended too; with few items held that takes no memory.
+    let extended = [
         Step::Extend(1, 41),
         Step::Pop(40, 1),
         Step::End,
@@ -108,5 +100,5 @@ fn an_extended_heap_gives_all(rt: HostRuntime) {
         Step::Extend(7, 7),
         Step::Pop(32, 1),
     ];
-    assert!(rt; all_go(rt.alloc(), &steps));
+    assert!(rt; all_go(rt.alloc(), &extended));
 }

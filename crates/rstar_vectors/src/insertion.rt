@@ -136,7 +136,8 @@ fn is_shaped<T: RTreeObject + Copy>(
 /// How many children a node has, and the corners of its envelope.
 type Outline = (usize, [i32; 2], [i32; 2]);
 
-// Points, inserted in turn, and for both children of the root: how many children, and the envelope.
+// Points, inserted in turn, and for both children of the root: how many children, and the envelope. Points without axes
+// are split too.
 #[test]
 fn insertions_shape_the_tree(rt: HostRuntime) {
     const ROWS: [(&'static [[i32; 2]], Outline, Outline); 4] = [
@@ -152,6 +153,9 @@ fn insertions_shape_the_tree(rt: HostRuntime) {
         let high = (other.0, AABB::from_corners(other.1, other.2));
         assert!(rt; is_shaped(rt.alloc(), points, &low, &high), "{points:?}");
     }
+    let ten: [[i32; 0]; 10] = [[]; 10];
+    let nowhere = AABB::from_point([]);
+    assert!(rt; is_shaped(rt.alloc(), &ten, &(4, nowhere), &(6, nowhere)));
 }
 
 /// Inserts an element; where memory is refused, looks that nothing has changed, and asks once more.
@@ -176,24 +180,6 @@ pub(crate) fn goes_in_again<T: EqualEnvelopes + Copy, Params: RTreeParams>(
     }
 }
 
-/// Ten insertions; `rt try --test --fail-alloc N` refuses the Nth allocation.
-#[test]
-fn a_refused_insertion_loses_nothing(rt: HostRuntime) {
-    let points = [
-        [0, 0],
-        [1, 9],
-        [2, 8],
-        [3, 7],
-        [4, 6],
-        [5, 5],
-        [6, 4],
-        [7, 3],
-        [8, 2],
-        [9, 1],
-    ];
-    assert!(rt; all_stand::<[i32; 2], DefaultParams>(rt.alloc(), &points));
-}
-
 /// Whether an insertion that would need more lists than there can be is refused, and gives the element back.
 fn is_one_too_many<T: EqualEnvelopes + Copy>(alloc: Global, element: T) -> bool
     requires { 2 ≤ T.Envelope.Point.DIMENSIONS }
@@ -209,14 +195,21 @@ fn is_one_too_many<T: EqualEnvelopes + Copy>(alloc: Global, element: T) -> bool
     refused && tree.size() == 0 && tree.root().children().is_empty()
 }
 
+/// Ten insertions; `rt try --test --fail-alloc N` refuses the Nth allocation. And one that would need too many lists.
 #[test]
-fn too_many_lists_are_refused_first(rt: HostRuntime) {
+fn a_refused_insertion_loses_nothing(rt: HostRuntime) {
+    let points = [
+        [0, 0],
+        [1, 9],
+        [2, 8],
+        [3, 7],
+        [4, 6],
+        [5, 5],
+        [6, 4],
+        [7, 3],
+        [8, 2],
+        [9, 1],
+    ];
+    assert!(rt; all_stand::<[i32; 2], DefaultParams>(rt.alloc(), &points));
     assert!(rt; is_one_too_many(rt.alloc(), [0, 0]));
-}
-
-#[test]
-fn points_without_axes_split_too(rt: HostRuntime) {
-    let ten: [[i32; 0]; 10] = [[]; 10];
-    let nowhere = AABB::from_point([]);
-    assert!(rt; is_shaped(rt.alloc(), &ten, &(4, nowhere), &(6, nowhere)));
 }

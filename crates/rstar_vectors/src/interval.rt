@@ -189,6 +189,7 @@ mod tests {
         }
     }
 
+    // The empty stretch is the unit of merges.
     #[test]
     fn stretches_merge_with_their_levels(rt: HostRuntime) {
         let low = Stretch::new(4, 1, 7);
@@ -203,10 +204,6 @@ mod tests {
                 && low.intersection_area(&both) == 3
                 && both.axis_key(0) == 1
         );
-    }
-
-    #[test]
-    fn the_empty_stretch_is_the_unit(rt: HostRuntime) {
         let empty = Stretch::new_empty();
         let mut all = copied_envelope(&empty);
         all.merge(&Stretch::new(i64::MIN, i64::MAX, 1));

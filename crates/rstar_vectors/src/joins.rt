@@ -16,7 +16,6 @@ use rstar::iterators::{InEnvelope, IntersectionIterator};
 use rstar::primitives::{GeomWithData, Rectangle};
 use rstar::{AABB, DefaultParams, Envelope, Point, RTree, RTreeObject, RTreeParams};
 use std::alloc::{AllocError, Global};
-use std::test::Fail;
 
 /// A rectangle with a number.
 type Numbered<P> = GeomWithData<Rectangle<P>, u64>;
@@ -127,31 +126,27 @@ fn meet<
     U: InEnvelope<<T as RTreeObject>::Envelope> + Copy,
 >(
     alloc: Global,
-    lefts: &Result<Vec<T>, AllocError>,
-    rights: &Result<Vec<T>, AllocError>,
+    lefts: &[T],
+    rights: &[T],
     points: &[U],
     counts: &[(usize, usize); 2],
     own: (usize, usize),
 ) -> bool {
-    match (lefts, rights) {
-        (Ok(lefts), Ok(rights)) => meet_alike(alloc, lefts, rights, counts[0])
-            && meet_both_ways(alloc, lefts, points, counts[1])
-            && meet_alike(alloc, points, points, own),
-        _ => false,
-    }
+    meet_alike(alloc, lefts, rights, counts[0])
+        && meet_both_ways(alloc, lefts, points, counts[1])
+        && meet_alike(alloc, points, points, own)
 }
 
 /// Rectangles between these corners, with a number each.
-fn numbered<P: Point + Copy>(
-    alloc: Global,
-    corners: &[(P, P)],
-) -> Result<Vec<Numbered<P>>, AllocError> {
+fn numbered<P: Point + Copy>(alloc: Global, corners: &[(P, P)]) -> Vec<Numbered<P>> {
     let mut all = Vec::new(alloc);
     for (one, other) in corners {
         let number = all.len() as u64;
-        all.push(Numbered::new(Rectangle::from_corners(*one, *other), number))?;
+        let _refused = all
+            .push(Numbered::new(Rectangle::from_corners(*one, *other), number))
+            .is_err();
     }
-    Ok(all)
+    all
 }
 
 /// The corners of the rectangles of two trees, and the counts of pairs and of pairs of nodes opened: of these trees, and
@@ -297,53 +292,45 @@ fn meets_itself_at_depth<T: RTreeObject + Copy>(
 // Loads of unequal height; and rstar's `test_trivial_intersections`: so many points that lie between so many others, and
 // meet themselves alone.
 #[test]
-fn loads_of_points_meet(rt: HostRuntime) -> Result<(), Fail> {
+fn loads_of_points_meet(rt: HostRuntime) {
     const TWICE: [[i32; 2]; 2] = [[5, 0], [5, 0]];
     const ROWS: [(usize, usize); 2] = [(1000, 2000), (2000, 1000)];
-    let line = in_steps(rt.alloc(), 28, [0, 0], [1, 0])?;
+    let line = in_steps(rt.alloc(), 28, [0, 0], [1, 0]);
     assert!(rt; met_by_loads(rt.alloc(), &line, &TWICE, 2, 28));
     assert!(rt; met_by_loads(rt.alloc(), &TWICE, &line, 2, 4));
     for &(count, others) in &ROWS {
-        let all = in_steps(rt.alloc(), count, [0, 0], [2, 5])?;
-        let rest = in_steps(rt.alloc(), others, [1, 2], [2, 5])?;
+        let all = in_steps(rt.alloc(), count, [0, 0], [2, 5]);
+        let rest = in_steps(rt.alloc(), others, [1, 2], [2, 5]);
         assert!(rt; met_by_loads(rt.alloc(), &all, &rest, 0, count));
     }
-    Ok(())
 }
 
 // Points that leave small nodes behind, inserted in turn: thirteen levels of parents below the root.
 #[test]
-fn a_deep_tree_meets_itself(rt: HostRuntime) -> Result<(), Fail> {
-    let line = in_steps(rt.alloc(), 600000, [0, 0], [-1, -1])?;
+fn a_deep_tree_meets_itself(rt: HostRuntime) {
+    let line = in_steps(rt.alloc(), 600000, [0, 0], [-1, -1]);
     assert!(rt; meets_itself_at_depth(rt.alloc(), &line, 13));
-    Ok(())
 }
 
 /// So many rectangles, spread by two factors.
-fn spread(
-    alloc: Global,
-    count: u64,
-    across: u64,
-    along: u64,
-) -> Result<Vec<Rectangle<[i64; 2]>>, AllocError> {
+fn spread(alloc: Global, count: u64, across: u64, along: u64) -> Vec<Rectangle<[i64; 2]>> {
     let mut all = Vec::new(alloc);
     for number in 0..count {
         let x = (number.wrapping_mul(across) % 101) as i64;
         let y = (number.wrapping_mul(along) % 103) as i64;
         let upper = [x + (number % 11) as i64, y + (number % 13) as i64];
-        all.push(Rectangle::from_corners([x, y], upper))?;
+        let _refused = all.push(Rectangle::from_corners([x, y], upper)).is_err();
     }
-    Ok(all)
+    all
 }
 
 // rstar's `test_intersection_between_trees`: loads of 100 and of 42 rectangles; and some that split more.
 #[test]
-fn joins_give_what_a_scan_gives(rt: HostRuntime) -> Result<(), Fail> {
+fn joins_give_what_a_scan_gives(rt: HostRuntime) {
     const ROWS: [(u64, u64); 4] = [(100, 42), (42, 100), (3, 500), (300, 300)];
     for &(left, right) in &ROWS {
-        let lefts = spread(rt.alloc(), left, 37, 53)?;
-        let rights = spread(rt.alloc(), right, 59, 31)?;
+        let lefts = spread(rt.alloc(), left, 37, 53);
+        let rights = spread(rt.alloc(), right, 59, 31);
         assert!(rt; met_as_scanned(rt.alloc(), &lefts, &rights));
     }
-    Ok(())
 }

@@ -19,7 +19,6 @@ use rstar_base::object::{EqualEnvelopes, PointDistance, RTreeObject};
 use rstar_base::point::Point;
 use std::alloc::{AllocError, Global};
 use std::fmt::Debug;
-use std::test::Fail;
 
 // ---- what a root shows
 
@@ -209,17 +208,19 @@ fn loads_well<T: EqualEnvelopes + Copy + Ord, Params: RTreeParams>(
 }
 
 /// Points as `points` gives them, with a third coordinate.
-pub(crate) fn deep_points(alloc: Global, count: usize) -> Result<Vec<[i32; 3]>, AllocError> {
+pub(crate) fn deep_points(alloc: Global, count: usize) -> Vec<[i32; 3]> {
     let mut points = Vec::new(alloc);
     for i in 0..count {
         let near = i % 1000;
-        points.push([
-            ((37 * near) % 101) as i32,
-            ((53 * near) % 103) as i32,
-            ((29 * near) % 31) as i32,
-        ])?;
+        let _refused = points
+            .push([
+                ((37 * near) % 101) as i32,
+                ((53 * near) % 103) as i32,
+                ((29 * near) % 31) as i32,
+            ])
+            .is_err();
     }
-    Ok(points)
+    points
 }
 
 const LOADED: [[i32; 3]; 40] = [
@@ -323,27 +324,23 @@ const OF_FOUR_AXES: [[i32; 4]; 40] = [
 
 const EQUAL: [[i32; 2]; 300] = [[0, 1]; 300];
 
-// Points, and equal points. A load of 25 has a parent of leaves that is too wide: 7 of them.
+// Points, and equal points. A load of 25 has a parent of leaves that is too wide: 7 of them. Then other node sizes, and
+// points of three and of four axes.
 #[test]
-fn loads_of_0_to_300_points_are_loaded_and_take_insertions(rt: HostRuntime) -> Result<(), Fail> {
+fn loads_of_many_sizes_are_loaded_and_take_insertions(rt: HostRuntime) {
     for count in 0..301 {
-        let flat = points(rt.alloc(), count)?;
+        let flat = points(rt.alloc(), count);
         let taken = match count {
             0 | 25 | 28 | 37 | 300 => 40,
             _ => 0,
         };
-        let more = points(rt.alloc(), taken)?;
+        let more = points(rt.alloc(), taken);
         assert!(rt; loads_well::<[i32; 2], DefaultParams>(rt.alloc(), &flat, 6, &more));
         assert!(rt; loads_well::<[i32; 2], DefaultParams>(rt.alloc(), &EQUAL[..count], 6, &more));
     }
-    Ok(())
-}
-
-#[test]
-fn loads_of_many_sizes_are_loaded(rt: HostRuntime) -> Result<(), Fail> {
     for &count in &[5, 17, 63, 64, 65, 257, 693, 1024, 1537, 3000] {
-        let flat = points(rt.alloc(), count)?;
-        let deep = deep_points(rt.alloc(), count)?;
+        let flat = points(rt.alloc(), count);
+        let deep = deep_points(rt.alloc(), count);
         assert!(rt; loads_well::<[i32; 2], Small>(rt.alloc(), &flat, 4, &[]));
         assert!(rt; loads_well::<[i32; 3], DefaultParams>(rt.alloc(), &deep, 8, &[]));
     }
@@ -351,7 +348,6 @@ fn loads_of_many_sizes_are_loaded(rt: HostRuntime) -> Result<(), Fail> {
     for &count in &[7, 28, 35] {
         assert!(rt; loads_well::<_, DefaultParams>(rt.alloc(), &OF_FOUR_AXES[..count], 16, &[]));
     }
-    Ok(())
 }
 
 /// Whether each child of a root has its elements in such parts.
@@ -435,37 +431,6 @@ fn may_be_asked_again<T: RTreeObject + Copy>(
     load_is_in_parts(alloc, elements, parts) || load_is_in_parts(alloc, elements, parts)
 }
 
-/// How many points, and their parts. `rt try --test --fail-alloc N` refuses the Nth allocation: what was refused is asked
-/// once more.
-#[test]
-fn loads_and_clones_have_their_parts_and_may_be_asked_again(rt: HostRuntime) -> Result<(), Fail> {
-    const ROWS: [(usize, Parts<'static>); 8] = [
-        (0, (0, &[], &[])),
-        (6, (0, &[], &[])),
-        (7, (1, &[1, 2, 2, 2], &[])),
-        (25, (1, &[6, 6, 6, 7], &[])),
-        (26, (1, &[6, 6, 7, 7], &[])),
-        (28, (2, &[7, 7, 7, 7], &[1, 2, 2, 2])),
-        (36, (2, &[9, 9, 9, 9], &[])),
-        (37, (2, &[9, 9, 9, 10], &[])),
-    ];
-    for (count, parts) in &ROWS {
-        let flat = match points(rt.alloc(), *count) {
-            Ok(flat) => flat,
-            Err(_) => points(rt.alloc(), *count)?,
-        };
-        assert!(rt; may_be_asked_again(rt.alloc(), &flat, parts));
-    }
-    Ok(())
-}
-
-#[test]
-fn a_load_in_three_dimensions_has_its_parts(rt: HostRuntime) -> Result<(), Fail> {
-    let deep = deep_points(rt.alloc(), 7)?;
-    assert!(rt; may_be_asked_again(rt.alloc(), &deep, &(1, &[1; 7], &[])));
-    Ok(())
-}
-
 /// Whether the root of a load, made by itself, has so many elements below each child; no elements make no root.
 fn root_has_parts<T: RTreeObject + Copy>(alloc: Global, elements: Vec<T>, parts: &[usize]) -> bool
     requires { 2 ≤ T.Envelope.Point.DIMENSIONS }
@@ -479,11 +444,30 @@ fn root_has_parts<T: RTreeObject + Copy>(alloc: Global, elements: Vec<T>, parts:
     }
 }
 
+/// How many points, and their parts; of seven with three axes, too, and of a root alone. `rt try --test --fail-alloc N`
+/// refuses the Nth allocation: what was refused is asked once more.
 #[test]
-fn a_root_alone_is_loaded(rt: HostRuntime) -> Result<(), Fail> {
-    let flat = points(rt.alloc(), 25)?;
-    assert!(rt; root_has_parts(rt.alloc(), flat, &[6, 6, 6, 7]));
-    Ok(())
+fn loads_and_clones_have_their_parts_and_may_be_asked_again(rt: HostRuntime) {
+    const ROWS: [(usize, Parts<'static>); 8] = [
+        (0, (0, &[], &[])),
+        (6, (0, &[], &[])),
+        (7, (1, &[1, 2, 2, 2], &[])),
+        (25, (1, &[6, 6, 6, 7], &[])),
+        (26, (1, &[6, 6, 7, 7], &[])),
+        (28, (2, &[7, 7, 7, 7], &[1, 2, 2, 2])),
+        (36, (2, &[9, 9, 9, 9], &[])),
+        (37, (2, &[9, 9, 9, 10], &[])),
+    ];
+    for (count, parts) in &ROWS {
+        let mut flat = points(rt.alloc(), *count);
+        if flat.len() < *count {
+            flat = points(rt.alloc(), *count);
+        }
+        assert!(rt; may_be_asked_again(rt.alloc(), &flat, parts));
+    }
+    let deep = deep_points(rt.alloc(), 7);
+    assert!(rt; may_be_asked_again(rt.alloc(), &deep, &(1, &[1; 7], &[])));
+    assert!(rt; root_has_parts(rt.alloc(), points(rt.alloc(), 25), &[6, 6, 6, 7]));
 }
 
 // ---- clones and texts
@@ -551,7 +535,7 @@ fn loads_cloned_alone<T: RTreeObject + Copy + Debug>(
 
 // Points in one place, with the text of their load; and points of several counts.
 #[test]
-fn loads_show_their_elements_and_clones_the_same(rt: HostRuntime) -> Result<(), Fail> {
+fn loads_show_their_elements_and_clones_the_same(rt: HostRuntime) {
     const ROWS: [(&'static [[i32; 2]], &'static str); 3] = [
         (&[[0, 1]; 2], "RTree { size: 2, items: {[0, 1], [0, 1]} }"),
         (&[], "RTree { size: 0, items: {} }"),
@@ -564,10 +548,9 @@ fn loads_show_their_elements_and_clones_the_same(rt: HostRuntime) -> Result<(), 
         assert!(rt; loads_cloned_alone(rt.alloc(), same, [7, 7], text));
     }
     for &count in &[0, 1, 7, 25, 37, 300] {
-        let flat = points(rt.alloc(), count)?;
+        let flat = points(rt.alloc(), count);
         assert!(rt; loads_cloned_alone(rt.alloc(), &flat, [7, 7], ""));
     }
-    Ok(())
 }
 
 // ---- callers
@@ -594,13 +577,6 @@ pub fn found_and_count<T: PointDistance>(
     (found, tree.size())
 }
 
-#[test]
-fn callers_load_query_and_insert(rt: HostRuntime) -> Result<(), Fail> {
-    let tree = points_loaded(rt.alloc(), [7, 8])?;
-    assert!(rt; found_and_count(tree, [5, 5], [1, 1]) == (true, 4));
-    Ok(())
-}
-
 /// Whether that is so of a load of these elements; not where one more has an empty envelope.
 fn found_in_load<T: PointDistance + Copy>(
     alloc: Global,
@@ -618,7 +594,12 @@ fn found_in_load<T: PointDistance + Copy>(
 }
 
 #[test]
-fn rectangles_are_loaded_queried_and_inserted(rt: HostRuntime) {
+fn callers_load_query_and_insert(rt: HostRuntime) {
+    let is_so = match points_loaded(rt.alloc(), [7, 8]) {
+        Ok(tree) => found_and_count(tree, [5, 5], [1, 1]) == (true, 4),
+        Err(_) => false,
+    };
+    assert!(rt; is_so);
     let near = Rectangle::from_corners([0i64, 0], [2, 2]);
     let far = Rectangle::from_corners([5, 5], [9, 9]);
     let more = Rectangle::from_corners([9, 9], [5, 5]);

@@ -9,6 +9,7 @@ ghost use Rattle.rstar.specs.Neighbors.{with_distances, IsSearching};
 ghost use Rattle.rstar.specs.Trees.{IsWholeTree};
 ghost use Rattle.rstar_vectors.specs.Fits.{iterator_row, alone_row};
 
+use crate::fences::Fence;
 use crate::neighbours::{all_below, in_order, one_below};
 use crate::scenarios::{ALONG_A_LINE, inserted, loaded, points};
 use rstar::algorithm::nearest_neighbor::{
@@ -16,11 +17,10 @@ use rstar::algorithm::nearest_neighbor::{
 };
 use rstar::object::{Distance, PointDistance, PointOf, RTreeObject};
 use rstar::point::Point;
-use rstar::primitives::{GeomWithData, Line, Rectangle};
+use rstar::primitives::{Line, Rectangle};
 use rstar::{AABB, DefaultParams, Envelope, RTree, RTreeParams};
 use std::alloc::{AllocError, Global};
 use std::cell::Cell;
-use std::test::Fail;
 
 type At = [i32; 2];
 
@@ -352,27 +352,24 @@ where
     }
 }
 
-#[test]
-fn lines_come_by_their_own_distances(rt: HostRuntime) {
-    const LINES: [Line<[i64; 2]>; 2] = [
-        Line {
-            from: [0, 0],
-            to: [10, 0],
-        },
-        Line {
-            from: [9, 5],
-            to: [9, 6],
-        },
-    ];
-    assert!(rt; come_and_go(rt.alloc(), &LINES, [9, 0], &[0, 25], &[]));
-}
+const LINES: [Line<[i64; 2]>; 2] = [
+    Line {
+        from: [0, 0],
+        to: [10, 0],
+    },
+    Line {
+        from: [9, 5],
+        to: [9, 6],
+    },
+];
 
-// Two fences that touch, both seen from a corner of the one and from the other's side, the other first.
+// Two lines; and two fences that touch, both seen from a corner of the one and from the other's side, the other first.
 #[test]
-fn plots_come_by_their_own_distances(rt: HostRuntime) {
+fn lines_and_fences_come_by_their_own_distances(rt: HostRuntime) {
+    assert!(rt; come_and_go(rt.alloc(), &LINES, [9, 0], &[0, 25], &[]));
     let fences = [
-        GeomWithData::new(Rectangle::from_corners([0i64, 0], [2, 2]), 7u64),
-        GeomWithData::new(Rectangle::from_corners([2, 2], [4, 4]), 8),
+        Fence::new(Rectangle::from_corners([0, 0], [2, 2]), 7),
+        Fence::new(Rectangle::from_corners([2, 2], [4, 4]), 8),
     ];
     assert!(rt; come_and_go(rt.alloc(), &fences, [0, 0], &[0, 8], &[]));
     assert!(rt; come_and_go(rt.alloc(), &fences, [9, 9], &[50, 98], &[]));
@@ -400,7 +397,7 @@ type Row<'a> = (&'a [At], At, &'a [i32], &'a [usize]);
 // its tests `test_nearest_neighbor`, `test_nearest_neighbors`, `test_nearest_neighbor_iterator` and its sibling with
 // distances, on a thousand other points; then all are popped, the nearest first, each once, and then none.
 #[test]
-fn neighbours_come_and_go_as_by_a_scan(rt: HostRuntime) -> Result<(), Fail> {
+fn neighbours_come_and_go_as_by_a_scan(rt: HostRuntime) {
     const ROWS: [Row<'static>; 7] = [
         (&[], [0, 213], &[], &[]),
         (&[[0, 0], [0, 1]], [-1, 0], &[1, 2], &[1, 1]),
@@ -423,7 +420,7 @@ fn neighbours_come_and_go_as_by_a_scan(rt: HostRuntime) -> Result<(), Fail> {
     for &(list, place, distances, opened) in &ROWS {
         assert!(rt; come_and_go(rt.alloc(), list, place, distances, opened));
     }
-    let thousand = points(rt.alloc(), 1000)?;
+    let thousand = points(rt.alloc(), 1000);
     let lists: [&[At]; 6] = [
         &[],
         &[[0, 0]],
@@ -437,7 +434,6 @@ fn neighbours_come_and_go_as_by_a_scan(rt: HostRuntime) -> Result<(), Fail> {
             assert!(rt; come_and_go(rt.alloc(), list, place, &[], &[]));
         }
     }
-    Ok(())
 }
 
 // rstar's test `test_min_max_dist_2_issue_40_regression` with the decimals cut to four and taken as whole numbers.
@@ -554,15 +550,17 @@ fn noted<'a, T: Copy>(
     first_far: usize,
     near: &'a Cell<u32>,
     far: &'a Cell<u32>,
-) -> Result<Vec<Noting<'a, T>>, AllocError> {
+) -> Vec<Noting<'a, T>> {
     let mut list = Vec::new(alloc);
     for k in 0..elements.len() {
-        list.push(Noting {
-            inner: elements[k],
-            asked: if k < first_far { near } else { far },
-        })?;
+        let _refused = list
+            .push(Noting {
+                inner: elements[k],
+                asked: if k < first_far { near } else { far },
+            })
+            .is_err();
     }
-    Ok(list)
+    list
 }
 
 /// The same of a tree of elements, of which the first so many lie near and the others far.
@@ -579,10 +577,8 @@ where
 {
     let near = Cell::new(0u32);
     let far = Cell::new(0u32);
-    match &noted(alloc, elements, first_far, &near, &far) {
-        Ok(list) => asked_so(alloc, list, place, &near, &far, rows),
-        Err(_) => false,
-    }
+    let list = noted(alloc, elements, first_far, &near, &far);
+    asked_so(alloc, &list, place, &near, &far, rows)
 }
 
 // The seven points, three on the left and four on the right: what was asked is not asked again, and none of the four is

@@ -350,8 +350,7 @@ pub fn renumber_fence(tree: &mut RTree<Fence>, point: [i64; 2], number: u64) -> 
 #[cfg(test)]
 mod tests {
     use super::*;
-    use crate::scenarios::inserted;
-    use rstar::primitives::Rectangle;
+    use crate::scenarios::{fences, inserted};
 
     /// Whether an element that contains a point carries a number, by both look-ups.
     fn carries<R: PointDistance>(
@@ -425,17 +424,6 @@ mod tests {
             & carries(&tree, other, two)
     }
 
-    /// So many fences, ten in a row and ten apart, each so wide and so high, numbered from a number on.
-    fn fences(alloc: Global, count: u8, side: u8, first: u8) -> Result<Vec<Fence>, AllocError> {
-        let mut all = Vec::new(alloc);
-        for place in 0..count {
-            let (x, y) = ((place % 10) as i64 * 10, (place / 10) as i64 * 10);
-            let square = Rectangle::from_corners([x, y], [x + side as i64, y + side as i64]);
-            all.push(Fence::new(square, first as u64 + place as u64))?;
-        }
-        Ok(all)
-    }
-
     // How many fences, their side, and the first one's number; a point where it is written, one where it is read, the
     // number there before, and whether a fence contains the first point: inside it, its border included, and outside.
     #[test]
@@ -447,11 +435,8 @@ mod tests {
             ((100, 9, 0), [57, 31], [50, 39], 35, true),
         ];
         for &((count, side, first), point, other, number, is_inside) in &ROWS {
-            let is_so = match &fences(rt.alloc(), count, side, first) {
-                Ok(fences) => writes(rt.alloc(), fences, point, other, number, is_inside),
-                Err(_) => false,
-            };
-            assert!(rt; is_so);
+            let fences = fences(rt.alloc(), count, side, first);
+            assert!(rt; writes(rt.alloc(), &fences, point, other, number, is_inside));
         }
     }
 }

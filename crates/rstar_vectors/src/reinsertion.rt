@@ -7,7 +7,6 @@ use crate::node_sizes::{Emptying, Large, Small, Splitting};
 use crate::scenarios::{points, stands_within};
 use rstar::{DefaultParams, Envelope, EqualEnvelopes, RTree, RTreeObject, RTreeParams};
 use std::alloc::Global;
-use std::test::Fail;
 
 /// Whether elements go into a tree, one after another, where one that is refused is asked for once more, and it stands
 /// after each with one more, where each parent has from `least` to `most` children.
@@ -52,8 +51,7 @@ fn all_stand_at_each_size<T: EqualEnvelopes + Copy>(alloc: Global, elements: &[T
 }
 
 #[test]
-fn a_thousand_insertions_leave_whole_and_sized_trees(rt: HostRuntime) -> Result<(), Fail> {
-    let all = points(rt.alloc(), 1000)?;
+fn a_thousand_insertions_leave_whole_and_sized_trees(rt: HostRuntime) {
+    let all = points(rt.alloc(), 1000);
     assert!(rt; all_stand_at_each_size(rt.alloc(), &all));
-    Ok(())
 }

@@ -23,7 +23,6 @@ use rstar::{
 };
 use std::alloc::{AllocError, Global};
 use std::mem::forget;
-use std::test::Fail;
 
 type Edge = Line<[i32; 2]>;
 
@@ -373,9 +372,32 @@ fn drain_area_and_stand<T: RTreeObject, Params: RTreeParams>(
     )
 }
 
-/// Drains at most `most` elements of a tree of these, loaded or inserted, and then those that meet an envelope, in two
-/// parts, `part` and the rest; gives how many these were, and none where the tree does not stand after each drain,
-/// without what came and no other.
+/// Drains those of some elements that meet an envelope, in two parts, `part` and the rest; gives how many these were, and
+/// none where the tree does not stand after each drain, without what came and no other.
+fn drain_in_parts<T: EqualEnvelopes, Params: RTreeParams>(
+    tree: &mut RTree<T, Params>,
+    elements: &[T],
+    area: &T::Envelope,
+    part: usize,
+    given: &mut Vec<T>,
+) -> Option<usize>
+    requires { IsWholeTree T.Envelope.boxes T.object Params.MAX_SIZE tree.old }
+{
+    let asked = left_in(&*tree, elements, area);
+    let rest = asked.saturating_sub(part);
+    if drain_area_and_stand(tree, area, part, given) == Some(part.min(asked))
+        && left_in(&*tree, elements, area) == rest
+        && drain_area_and_stand(tree, area, elements.len(), given) == Some(rest)
+        && left_in(&*tree, elements, area) == 0
+    {
+        Some(asked)
+    } else {
+        None
+    }
+}
+
+/// Drains at most `most` elements of a tree of these, loaded or inserted, and then those that meet an envelope, in parts,
+/// and gives how many these were.
 fn drained_in_parts<T: EqualEnvelopes + Copy, Params: RTreeParams>(
     alloc: Global,
     elements: &[T],
@@ -386,34 +408,24 @@ fn drained_in_parts<T: EqualEnvelopes + Copy, Params: RTreeParams>(
 ) -> Option<usize>
     requires { 2 ≤ T.Envelope.Point.DIMENSIONS }
 {
-    let count = elements.len();
     let mut tree = if is_loaded {
         loaded::<T, Params>(alloc, elements)
     } else {
         inserted::<T, Params>(alloc, elements)
     };
     let given = &mut Vec::new(alloc);
-    if tree.size() != count
-        || drain_and_stand(&mut tree, SelectAllFunc, most, given) != Some(most.min(count))
+    if tree.size() == elements.len()
+        && drain_and_stand(&mut tree, SelectAllFunc, most, given)
+            == Some(most.min(elements.len()))
     {
-        return None;
-    }
-    let asked = left_in(&tree, elements, area);
-    let rest = asked.saturating_sub(part);
-    if drain_area_and_stand(&mut tree, area, part, given) == Some(part.min(asked))
-        && left_in(&tree, elements, area) == rest
-        && drain_area_and_stand(&mut tree, area, count, given) == Some(rest)
-        && left_in(&tree, elements, area) == 0
-    {
-        Some(asked)
+        drain_in_parts(&mut tree, elements, area, part, given)
     } else {
         None
     }
 }
 
 /// Drains twice `most` elements of a load of these, then the others, puts all in again, and drains those that meet an
-/// envelope, at most `part` of them and then the rest; gives how many that rest is, and none where the tree does not stand
-/// after each.
+/// envelope, in parts; gives how many these were, and none where the tree does not stand after each.
 fn drained_and_filled_again<T: EqualEnvelopes + Copy>(
     alloc: Global,
     elements: &[T],
@@ -423,24 +435,18 @@ fn drained_and_filled_again<T: EqualEnvelopes + Copy>(
 ) -> Option<usize>
     requires { 2 ≤ T.Envelope.Point.DIMENSIONS }
 {
-    let count = elements.len();
     let mut tree = loaded::<T, DefaultParams>(alloc, elements);
     let given = &mut Vec::new(alloc);
     if drain_and_stand(&mut tree, SelectAllFunc, most, given) == Some(most)
         && drain_and_stand(&mut tree, SelectAllFunc, most, given) == Some(most)
-        && drain_and_stand(&mut tree, SelectAllFunc, count, given)
-            == count.checked_sub(most.saturating_mul(2))
+        && drain_and_stand(&mut tree, SelectAllFunc, usize::MAX, given).is_some()
+        && given.len() == elements.len()
         && all_go_in(&mut tree, elements, 1, usize::MAX)
-        && left_in(&tree, elements, tree.root().envelope()) == count
-        && drain_area_and_stand(&mut tree, area, part, given) == Some(part)
     {
-        let rest = left_in(&tree, elements, area);
-        let came = drain_area_and_stand(&mut tree, area, count, given);
-        if came == Some(rest) && left_in(&tree, elements, area) == 0 {
-            return came;
-        }
+        drain_in_parts(&mut tree, elements, area, part, given)
+    } else {
+        None
     }
-    None
 }
 
 /// Whether a drain takes at most so many out, and leaves so many of those that meet an envelope.
@@ -483,38 +489,42 @@ fn gives_all<T: RTreeObject + Ord + Copy>(alloc: Global, elements: &[T]) -> bool
 }
 
 /// The rectangles of which such lines are the diagonals.
-fn rectangles(alloc: Global, count: usize) -> Result<Vec<Rectangle<[i32; 2]>>, AllocError> {
+fn rectangles(alloc: Global, count: usize) -> Vec<Rectangle<[i32; 2]>> {
     let mut rectangles = Vec::new(alloc);
-    for edge in &edges(alloc, count)? {
-        rectangles.push(Rectangle::from_corners(edge.from, edge.to))?;
+    for edge in &edges(alloc, count) {
+        let _refused = rectangles
+            .push(Rectangle::from_corners(edge.from, edge.to))
+            .is_err();
     }
-    Ok(rectangles)
+    rectangles
 }
 
 /// So many points, a short line from each of them on.
-fn edges(alloc: Global, count: usize) -> Result<Vec<Edge>, AllocError> {
+fn edges(alloc: Global, count: usize) -> Vec<Edge> {
     let mut edges = Vec::new(alloc);
-    let points = points(alloc, count)?;
+    let points = points(alloc, count);
     for i in 0..points.len() {
         let [x, y] = points[i];
-        edges.push(Line::new(
-            [x, y],
-            [
-                x.wrapping_add(((29 * (i % 300)) % 11) as i32)
-                    .wrapping_sub(5),
-                y.wrapping_add(((31 * (i % 300)) % 13) as i32)
-                    .wrapping_sub(6),
-            ],
-        ))?;
+        let _refused = edges
+            .push(Line::new(
+                [x, y],
+                [
+                    x.wrapping_add(((29 * (i % 300)) % 11) as i32)
+                        .wrapping_sub(5),
+                    y.wrapping_add(((31 * (i % 300)) % 13) as i32)
+                        .wrapping_sub(6),
+                ],
+            ))
+            .is_err();
     }
-    Ok(edges)
+    edges
 }
 
 // Each point leaves once, and equal ones one by one. A tree that was never filled is drained, and one that is emptied.
 #[test]
-fn removals_of_all_in_several_orders(rt: HostRuntime) -> Result<(), Fail> {
+fn removals_of_all_in_several_orders(rt: HostRuntime) {
     for count in 0..301 {
-        let all = points(rt.alloc(), count)?;
+        let all = points(rt.alloc(), count);
         for order in 0..3 {
             assert!(rt;
                 leave_to_the_end(rt.alloc(), &all, order, true, [0, 0], 10),
@@ -523,50 +533,33 @@ fn removals_of_all_in_several_orders(rt: HostRuntime) -> Result<(), Fail> {
         }
     }
     assert!(rt; leave_to_the_end(rt.alloc(), &[[0, 2], [0, 2]], 0, false, [0, 0], 10));
-    Ok(())
 }
 
-// Each leaves a load once, by `==` or at its place, and others come.
+// Points leave a load once, by `==` or at their places, and others come; and lines, rectangles and points of three axes.
 #[test]
-fn loaded_points_give_way_to_others(rt: HostRuntime) -> Result<(), Fail> {
-    let all = points(rt.alloc(), 1000)?;
+fn elements_of_loads_give_way_to_others(rt: HostRuntime) {
+    let all = points(rt.alloc(), 1000);
     let (some, others) = all.split_at(all.len() / 2);
     assert!(rt; all_give_way::<_, DefaultParams>(rt.alloc(), &all, &all, &[]));
     assert!(rt; all_give_way::<_, DefaultParams>(rt.alloc(), some, some, others));
     // Two elements, where a node may have one child.
     assert!(rt; all_give_way::<_, Emptying>(rt.alloc(), &[[0, 0], [1, 1]], &[], &[]));
-    Ok(())
-}
-
-#[test]
-fn loaded_lines_leave_once(rt: HostRuntime) -> Result<(), Fail> {
-    let lines = edges(rt.alloc(), 1000)?;
+    let lines = edges(rt.alloc(), 1000);
     assert!(rt; all_give_way::<_, DefaultParams>(rt.alloc(), &lines, &[], &[]));
-    Ok(())
-}
-
-#[test]
-fn loaded_rectangles_give_way_to_others(rt: HostRuntime) -> Result<(), Fail> {
     for &count in &[25, 27, 97, 111, 385, 447, 500] {
-        let all = rectangles(rt.alloc(), 2 * count)?;
+        let all = rectangles(rt.alloc(), 2 * count);
         let (some, others) = all.split_at(all.len() / 2);
         assert!(rt; all_give_way::<_, DefaultParams>(rt.alloc(), some, &[], others));
     }
-    Ok(())
-}
-
-#[test]
-fn loaded_points_of_three_dimensions_give_way(rt: HostRuntime) -> Result<(), Fail> {
     for &count in &[388, 400, 444] {
-        let all = deep_points(rt.alloc(), 2 * count)?;
+        let all = deep_points(rt.alloc(), 2 * count);
         let (some, others) = all.split_at(all.len() / 2);
         assert!(rt; all_give_way::<_, DefaultParams>(rt.alloc(), some, &[], others));
     }
-    Ok(())
 }
 
 // For each number of calls: a drain that is dropped after them, with an insertion, or with one that is made and forgotten;
-// and one that is forgotten after them.
+// and one that is forgotten after them. And a drain by a function that is not lawful.
 #[test]
 fn drains_that_are_given_up(rt: HostRuntime) {
     for calls in 0..8usize {
@@ -578,16 +571,19 @@ fn drains_that_are_given_up(rt: HostRuntime) {
         );
     }
     assert!(rt; are_given_or_left(rt.alloc(), &ALONG_A_LINE[..5], 2, 0));
+    let far = AABB::from_corners([100, 0], [103, 0]);
+    assert!(rt; drains_at_most(rt.alloc(), &ALONG_A_LINE, LeftOnly, 3, &far, 4));
 }
 
-// A node of 90 leaves, and four of 75: a drain keeps the merge of those that it has not come to.
+// A node of 90 leaves, and four of 75: a drain keeps the merge of those that it has not come to. Then narrow nodes, and
+// rstar's test `test_drain_iterator`, but that no drain is forgotten.
 #[test]
-fn wide_nodes_are_drained(rt: HostRuntime) -> Result<(), Fail> {
+fn drains_end_where_none_is_left(rt: HostRuntime) {
     const COUNTS: [usize; 2] = [90, 300];
     const MOST: [usize; 13] = [0, 1, 9, 10, 57, 58, 59, 60, 75, 80, 90, 299, 300];
     let half = AABB::from_corners([0, 0], [50, 102]);
     for &count in &COUNTS {
-        let all = points(rt.alloc(), count)?;
+        let all = points(rt.alloc(), count);
         for &most in &MOST {
             assert!(rt;
                 drained_in_parts::<_, Wide>(rt.alloc(), &all, true, most, &half, most).is_some(),
@@ -595,25 +591,12 @@ fn wide_nodes_are_drained(rt: HostRuntime) -> Result<(), Fail> {
             );
         }
     }
-    Ok(())
-}
-
-#[test]
-fn an_unlawful_drain_gives_what_it_reaches(rt: HostRuntime) {
-    let far = AABB::from_corners([100, 0], [103, 0]);
-    assert!(rt; drains_at_most(rt.alloc(), &ALONG_A_LINE, LeftOnly, 3, &far, 4));
-}
-
-#[test]
-fn drains_end_where_none_is_left(rt: HostRuntime) -> Result<(), Fail> {
     let area = AABB::from_corners([20, 20], [70, 80]);
-    let all = points(rt.alloc(), 300)?;
+    let all = points(rt.alloc(), 300);
     let asked = drained_in_parts::<_, DefaultParams>(rt.alloc(), &all, false, 0, &area, 40);
     assert!(rt; asked == Some(89));
-    // rstar's test `test_drain_iterator`, but that no drain is forgotten.
-    let many = points(rt.alloc(), 1000)?;
-    assert!(rt; drained_and_filled_again(rt.alloc(), &many, 250, &area, 80) == Some(213));
-    Ok(())
+    let many = points(rt.alloc(), 1000);
+    assert!(rt; drained_and_filled_again(rt.alloc(), &many, 250, &area, 80) == Some(293));
 }
 
 #[test]
@@ -622,10 +605,6 @@ fn callers_drain_and_insert_again(rt: HostRuntime) {
     let all = AABB::from_corners([0, 0], [2, 2]);
     let mut tree = inserted::<[i64; 2], DefaultParams>(rt.alloc(), &THREE);
     assert!(rt; two_points_stand_with_one_in(&mut tree, all));
-}
-
-#[test]
-fn callers_drain_boxes_and_insert_again(rt: HostRuntime) {
     let two = [
         Rectangle::from_corners([0i64, 0], [1, 1]),
         Rectangle::from_corners([5, 5], [6, 6]),
@@ -636,10 +615,9 @@ fn callers_drain_boxes_and_insert_again(rt: HostRuntime) {
 }
 
 #[test]
-fn a_tree_is_taken_apart(rt: HostRuntime) -> Result<(), Fail> {
+fn a_tree_is_taken_apart(rt: HostRuntime) {
     const COUNTS: [usize; 5] = [0, 1, 3, 7, 60];
     for &count in &COUNTS {
-        assert!(rt; gives_all(rt.alloc(), &points(rt.alloc(), count)?));
+        assert!(rt; gives_all(rt.alloc(), &points(rt.alloc(), count)));
     }
-    Ok(())
 }

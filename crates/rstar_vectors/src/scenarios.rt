@@ -8,11 +8,13 @@ ghost use Rattle.std.specs.Prelude.{◌≤◌, None, IfOk};
 ghost use Rattle.std.specs.Iterator.{IsFinite, YieldsThen};
 ghost use Rattle.rstar.specs.Trees.{IsWholeTree};
 
+use crate::fences::Fence;
 use num_traits::One;
 use rstar::algorithm::bulk_load::none_empty;
 use rstar::node::{ParentNode, RTreeNode};
 use rstar::object::{Distance, PointOf};
 use rstar::point::RTreeNum;
+use rstar::primitives::Rectangle;
 use rstar::{Envelope, Point, PointDistance, RTree, RTreeObject, RTreeParams};
 use std::alloc::{AllocError, Global};
 
@@ -27,14 +29,17 @@ pub(crate) const ALONG_A_LINE: [[i32; 2]; 7] = [
     [103, 0],
 ];
 
-/// Points, each on a line that wraps around in both coordinates: a thousand of them differ.
-pub(crate) fn points(alloc: Global, count: usize) -> Result<Vec<[i32; 2]>, AllocError> {
+/// Points, each on a line that wraps around in both coordinates: a thousand of them differ. Where memory is refused there
+/// are fewer, as in every list that is made for a test.
+pub(crate) fn points(alloc: Global, count: usize) -> Vec<[i32; 2]> {
     let mut points = Vec::new(alloc);
     for i in 0..count {
         let near = i % 1000;
-        points.push([((37 * near) % 101) as i32, ((53 * near) % 103) as i32])?;
+        let _refused = points
+            .push([((37 * near) % 101) as i32, ((53 * near) % 103) as i32])
+            .is_err();
     }
-    Ok(points)
+    points
 }
 
 /// So many points, the first one and each a step from the one before it.
@@ -43,15 +48,15 @@ pub(crate) fn in_steps(
     count: usize,
     first: [i32; 2],
     step: [i32; 2],
-) -> Result<Vec<[i32; 2]>, AllocError> {
+) -> Vec<[i32; 2]> {
     let mut points = Vec::new(alloc);
     let [mut x, mut y] = first;
     for _ in 0..count {
-        points.push([x, y])?;
+        let _refused = points.push([x, y]).is_err();
         x = x.wrapping_add(step[0]);
         y = y.wrapping_add(step[1]);
     }
-    Ok(points)
+    points
 }
 
 /// All that an iterator gives, up to its end.
@@ -67,6 +72,19 @@ where
         all.push(item)?;
     }
     Ok(all)
+}
+
+/// So many fences, ten in a row and ten apart, each so wide and so high, numbered from a number on.
+pub(crate) fn fences(alloc: Global, count: u8, side: u8, first: u8) -> Vec<Fence> {
+    let mut all = Vec::new(alloc);
+    for place in 0..count {
+        let (x, y) = ((place % 10) as i64 * 10, (place / 10) as i64 * 10);
+        let square = Rectangle::from_corners([x, y], [x + side as i64, y + side as i64]);
+        let _refused = all
+            .push(Fence::new(square, first as u64 + place as u64))
+            .is_err();
+    }
+    all
 }
 
 /// Whether an element lies at this squared distance from a point, and within no lesser one, and contains the point as told.

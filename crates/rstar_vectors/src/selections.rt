@@ -16,7 +16,6 @@ use rstar::{AABB, DefaultParams, Envelope, RTree, RTreeParams};
 use std::alloc::{AllocError, Global};
 use std::cell::Cell;
 use std::ops::ControlFlow;
-use std::test::Fail;
 
 /// Whether a function selects so many elements of a tree, and opens so many parents for them, where the tree stands.
 fn selects<T: RTreeObject + Copy, Func: SelectionFunction<T>>(
@@ -463,31 +462,30 @@ fn the_empty_box_and_the_full_range(rt: HostRuntime) {
 // corners, of which the first two hold all, and a point and a squared distance; and its test
 // `test_locate_within_distance_on_empty_tree`.
 #[test]
-fn a_thousand_points_are_found_as_by_a_scan(rt: HostRuntime) -> Result<(), Fail> {
+fn a_thousand_points_are_found_as_by_a_scan(rt: HostRuntime) {
     const ROWS: [([i32; 2], [i32; 2], [i32; 2], i32); 4] = [
         ([0, 0], [100, 102], [20, 60], 900),
         ([50, 50], [100, 100], [0, 0], 0),
         ([0, 0], [9, 102], [50, 50], 10000),
         ([7, 7], [7, 7], [7, 7], 1),
     ];
-    let all = points(rt.alloc(), 1000)?;
+    let all = points(rt.alloc(), 1000);
     for &(one, other, origin, limit) in &ROWS {
         let area = AABB::from_corners(one, other);
         assert!(rt; found_points(rt.alloc(), &all, area, origin, limit).is_some());
         assert!(rt; found_points(rt.alloc(), &[], area, origin, limit) == Some([0; 5]));
     }
-    Ok(())
 }
 
 /// A rectangle at each of some points.
-fn rectangles(alloc: Global, points: &[[i32; 2]]) -> Result<Vec<Rectangle<[i32; 2]>>, AllocError> {
+fn rectangles(alloc: Global, points: &[[i32; 2]]) -> Vec<Rectangle<[i32; 2]>> {
     let mut all = Vec::new(alloc);
     for point in points {
         let [x, y] = *point;
         let other = [y.clamped_add(5), x.clamped_sub(5)];
-        all.push(Rectangle::from_corners(*point, other))?;
+        let _refused = all.push(Rectangle::from_corners(*point, other)).is_err();
     }
-    Ok(all)
+    all
 }
 
 // A point and a squared distance, and how many of one rectangle contain it, and lie so near.
@@ -512,7 +510,7 @@ const ABOUT_THREE: [([i32; 2], [i32; 2], usize, usize, usize); 6] = [
 
 // One rectangle, three, and rstar's test `test_locate_all`, on a thousand others.
 #[test]
-fn rectangles_are_found_as_by_a_scan(rt: HostRuntime) -> Result<(), Fail> {
+fn rectangles_are_found_as_by_a_scan(rt: HostRuntime) {
     const PLACES: [[i32; 2]; 6] = [[0, 0], [50, 50], [7, 93], [100, 102], [105, -5], [200, 0]];
     let one = [Rectangle::from_corners([0, 0], [2, 2])];
     for &(point, limit, at, near) in &ABOUT_ONE {
@@ -529,10 +527,9 @@ fn rectangles_are_found_as_by_a_scan(rt: HostRuntime) -> Result<(), Fail> {
         let counts = found_rectangles(rt.alloc(), &three, area, lower, 0);
         assert!(rt; counts == Some([3, inside, touching, at, at]));
     }
-    let all = rectangles(rt.alloc(), &points(rt.alloc(), 1000)?)?;
+    let all = rectangles(rt.alloc(), &points(rt.alloc(), 1000));
     for &point in &PLACES {
         let counts = found_rectangles(rt.alloc(), &all, AABB::from_point(point), point, 9);
         assert!(rt; counts.is_some());
     }
-    Ok(())
 }

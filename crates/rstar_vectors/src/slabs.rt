@@ -10,7 +10,6 @@ use rstar_base::object::{Distance, RTreeObject, partition_envelopes};
 use rstar_base::params::DefaultParams;
 use rstar_base::point::least;
 use std::alloc::{AllocError, Global};
-use std::test::Fail;
 
 /// Whether there is a slab, and it has this length, and this least key on an axis, or 0 if that is less.
 fn is_slab<T: RTreeObject>(
@@ -61,10 +60,8 @@ fn cuts(
     if clusters == 0 || 2 <= axis {
         return false;
     }
-    match in_steps(alloc, count, [0, 0], [-1, -1]) {
-        Ok(points) => are_cut(points, clusters, axis, wanted),
-        Err(_) => false,
-    }
+    let points = in_steps(alloc, count, [0, 0], [-1, -1]);
+    are_cut(points, clusters, axis, wanted)
 }
 
 // How many points, the number of slabs, the axis, and the lengths and least coordinates.
@@ -108,10 +105,9 @@ fn come_to_an_end<T: RTreeObject>(elements: Vec<T>, clusters: usize, axis: usize
 
 /// Nine points in three slabs; `rt try --test --fail-alloc N` refuses the Nth allocation.
 #[test]
-fn a_refused_slab_ends_the_slabs(rt: HostRuntime) -> Result<(), Fail> {
-    let nine = in_steps(rt.alloc(), 9, [0, 0], [-1, -1])?;
+fn a_refused_slab_ends_the_slabs(rt: HostRuntime) {
+    let nine = in_steps(rt.alloc(), 9, [0, 0], [-1, -1]);
     assert!(rt; come_to_an_end(nine, 3, 0));
-    Ok(())
 }
 
 #[test]
@@ -165,22 +161,17 @@ fn splits(count: usize, keys: u16, k: usize) -> bool {
     count <= points.len() && are_split(&mut points[..count], k)
 }
 
+// How many points, and how many different keys they have; and a thousand equal points, which are the same after it.
 #[test]
 fn a_partition_splits_equal_keys_too(rt: HostRuntime) {
-    // How many points, and how many different keys they have.
     for &(count, keys) in &[(1usize, 1u16), (2, 1), (3, 2), (40, 3), (41, 7), (64, 64)] {
         for k in 0..count {
             assert!(rt; splits(count, keys, k));
         }
     }
-}
-
-#[test]
-fn a_partition_keeps_equal_points(rt: HostRuntime) -> Result<(), Fail> {
-    let mut equal = vec![in rt.alloc(); [5i32, 5]; 1000]?;
+    let mut equal = in_steps(rt.alloc(), 1000, [5, 5], [0, 0]);
     assert!(rt; equal.len() == 1000 && are_split(&mut equal, 3));
     for point in &equal {
         assert!(rt; point[0] == 5 && point[1] == 5);
     }
-    Ok(())
 }

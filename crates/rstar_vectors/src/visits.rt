@@ -80,14 +80,13 @@ pub fn clear_fences(tree: &mut RTree<Fence>, area: AABB<[i64; 2]>)
 #[cfg(test)]
 mod tests {
     use super::*;
-    use crate::scenarios::inserted;
+    use crate::scenarios::{fences, inserted};
     use rstar::algorithm::bulk_load::{bulk_load_sequential, none_empty};
     use rstar::algorithm::selection_functions::SelectAllFunc;
     use rstar::iterators::select_nodes;
     use rstar::object::{PointDistance, PointOf};
     use rstar::primitives::Rectangle;
     use std::alloc::Global;
-    use std::test::Fail;
 
     /// An element with a number.
     type Numbered<R> = GeomWithData<R, u64>;
@@ -164,16 +163,11 @@ mod tests {
         }
     }
 
-    // Ten fences on a line, numbered from 1; a box that touches the first three.
+    // Ten fences in a row, numbered from 1; a box that touches the first three.
     #[test]
-    fn fences_below_a_root_are_cleared(rt: HostRuntime) -> Result<(), Fail> {
-        let mut fences = Vec::new(rt.alloc());
-        for number in 1..11u64 {
-            let at = 10 * number as i64;
-            fences.push(Fence::new(Rectangle::from_corners([at, 0], [at + 5, 5]), number))?;
-        }
-        assert!(rt; cleared_below(fences, AABB::from_corners([0, 0], [30, 3])) == Some((55, 49)));
-        Ok(())
+    fn fences_below_a_root_are_cleared(rt: HostRuntime) {
+        let area = AABB::from_corners([0, 0], [20, 3]);
+        assert!(rt; cleared_below(fences(rt.alloc(), 10, 5, 1), area) == Some((55, 49)));
     }
 
     // The numbers 1, 2 and 3 in one place, inside a box, each changed, or one until a break; and two fences. A box that
