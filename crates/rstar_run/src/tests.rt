@@ -5,7 +5,8 @@ ghost use Rattle.std.specs.Prelude.{Some};
 ghost use Rattle.rstar_run.specs.Runs.{Ran};
 
 use super::program::run;
-use std::alloc::Global;
+use memchr::memchr;
+use std::alloc::{AllocError, Global};
 use std::cell::Cell;
 use std::io;
 use std::io::{Cursor, Error, ErrorKind, Read, Write};
@@ -335,19 +336,33 @@ fn stops_at_a_bad_line(rt: HostRuntime) {
     }
 }
 
-/// Gives its bytes and then fails.
+/// Gives at most so many of its bytes at a read, and none beyond the end of a line; then it is at its end, or fails. It
+/// counts the bytes that it gave.
 #[derive(Drop)]
-struct Failing<'a> {
+struct Feed<'a> {
     bytes: &'a [u8],
-    kind: ErrorKind,
+    most: usize,
+    fails: Option<ErrorKind>,
+    given: &'a Cell<usize>,
 }
 
-impl Read for Failing<'_> {
+impl Read for Feed<'_> {
     fn read(&mut self, buf: &mut [u8]) -> io::Result<usize> {
         if self.bytes.is_empty() {
-            return Err(Error::from(self.kind));
+            return match self.fails {
+                Some(kind) => Err(Error::from(kind)),
+                None => Ok(0),
+            };
         }
-        self.bytes.read(buf)
+        let end = match memchr(b'\n', self.bytes) {
+            Some(at) => at + 1,
+            None => self.bytes.len(),
+        };
+        let mut piece = &self.bytes[..end.min(self.most)];
+        let count = piece.read(buf)?;
+        self.given.set(self.given.get().saturating_add(count));
+        self.bytes = self.bytes.get(count..).unwrap_or(&[]);
+        Ok(count)
     }
 }
 
@@ -358,12 +373,6 @@ fn stops_at_a_failed_read(rt: HostRuntime) {
             b"".as_slice(),
             ErrorKind::PermissionDenied,
             "error: input\n",
-            4,
-        ),
-        (
-            b"size\nsize\n",
-            ErrorKind::PermissionDenied,
-            "0\n0\nerror: input\n",
             4,
         ),
         // The part of a line before the failure is no line.
@@ -377,12 +386,79 @@ fn stops_at_a_failed_read(rt: HostRuntime) {
         (b"size\n", ErrorKind::OutOfMemory, "0\nerror: input\n", 4),
     ] {
         let mut taken = Cursor::new([0u8; 256]);
-        assert_eq!(rt;
-            run(rt.alloc(), Failing { bytes, kind }, &mut taken),
-            status
-        );
+        let given = Cell::new(0);
+        let input = Feed {
+            bytes,
+            most: usize::MAX,
+            fails: Some(kind),
+            given: &given,
+        };
+        assert_eq!(rt; run(rt.alloc(), input, &mut taken), status);
         expect_written(&rt, &taken, want, bytes);
     }
+}
+
+/// Lines, each with its answer.
+const LINES: [(&'static [u8], &'static str); 11] = [
+    (b"insert 7 0 0 2 2\n", "ok\n"),
+    (b"insert 8 2 2 4 4\n", "ok\n"),
+    (b"hit 2 2 2 2\n", "7 8\n"),
+    (b"in 0 0 2 2\n", "7\n"),
+    (b"at 5 5\n", "-\n"),
+    (b"near 0 0 5\n", "0 8\n"),
+    (b"size\n", "2\n"),
+    (b"drain hit 3 3 9 9 5\n", "8\n"),
+    (b"pop 9 9\n", "7\n"),
+    (b"pop 9 9\n", "-\n"),
+    (b"size\n", "0\n"),
+];
+
+/// The first so many lines, and of the next one its first bytes.
+fn first_lines(alloc: Global, count: usize, bytes: usize) -> Result<Vec<u8>, AllocError> {
+    let mut input = Vec::new(alloc);
+    for k in 0..LINES.len() {
+        let line = LINES[k].0;
+        if k < count {
+            input.extend_from_slice(line)?;
+        } else if k == count {
+            input.extend_from_slice(&line[..bytes.min(line.len())])?;
+        }
+    }
+    Ok(input)
+}
+
+/// What is printed of the first so many lines, and an end.
+fn first_answers(alloc: Global, count: usize, end: &str) -> Result<String, AllocError> {
+    let mut want = String::new(alloc);
+    for k in 0..LINES.len() {
+        if k < count {
+            want.push_str(LINES[k].1)?;
+        }
+    }
+    want.push_str(end)?;
+    Ok(want)
+}
+
+// A reader that fails after k whole lines, given whole or byte by byte: the answers to these, and no part of a line runs.
+#[test]
+fn a_read_that_fails_leaves_the_answers_so_far(rt: HostRuntime) -> Result<(), Fail> {
+    for count in 0..LINES.len() + 1 {
+        for most in [1, usize::MAX] {
+            let bytes = first_lines(rt.alloc(), count, 3)?;
+            let want = first_answers(rt.alloc(), count, "error: input\n")?;
+            let given = Cell::new(0);
+            let input = Feed {
+                bytes: &bytes,
+                most,
+                fails: Some(ErrorKind::ConnectionReset),
+                given: &given,
+            };
+            let mut taken = Cursor::new([0u8; 256]);
+            assert_eq!(rt; run(rt.alloc(), input, &mut taken), 4);
+            expect_written(&rt, &taken, &want, &bytes);
+        }
+    }
+    Ok(())
 }
 
 /// Takes this many writes and then fails. It counts the calls, and what was written at the last flush.
@@ -467,29 +543,34 @@ fn flushes_before_it_waits(rt: HostRuntime) {
     );
 }
 
+// A writer that fails at its n-th call: the answers before it, and no line is read after the one that it was to answer.
 #[test]
-fn stops_at_a_failed_write(rt: HostRuntime) {
-    let pieces: [(&[u8], u64); 3] = [(b"size\n", 0), (b"size\n", 2), (b"bad\n", 4)];
-    for good in 0..4 {
-        let calls = Cell::new(0);
-        let shown = Cell::new(0);
-        let reads = Cell::new(0);
-        let input = Typist {
-            pieces: &pieces,
-            next: 0,
-            shown: &shown,
-            reads: &reads,
-        };
-        let mut output = Terminal {
-            good,
-            calls: &calls,
-            shown: &shown,
-            taken: Cursor::new([0; 256]),
-        };
-        let status = run(rt.alloc(), input, &mut output);
-        // No line runs after the failure, and nothing is written again.
-        assert_eq!(rt; status, if good < 3 { 4 } else { 2 });
-        assert_eq!(rt; calls.get(), if good < 3 { good + 1 } else { 3 });
-        assert_eq!(rt; reads.get(), if good < 3 { good + 1 } else { 3 });
+fn stops_at_a_failed_write(rt: HostRuntime) -> Result<(), Fail> {
+    let bytes = first_lines(rt.alloc(), LINES.len(), 0)?;
+    for good in 0..LINES.len() + 1 {
+        for most in [1, usize::MAX] {
+            let want = first_answers(rt.alloc(), good, "")?;
+            let (calls, shown, given) = (Cell::new(0), Cell::new(0), Cell::new(0));
+            let input = Feed {
+                bytes: &bytes,
+                most,
+                fails: None,
+                given: &given,
+            };
+            let mut output = Terminal {
+                good,
+                calls: &calls,
+                shown: &shown,
+                taken: Cursor::new([0; 256]),
+            };
+            let status = run(rt.alloc(), input, &mut output);
+            expect_written(&rt, &output.taken, &want, &bytes);
+            let is_cut = good < LINES.len();
+            assert_eq!(rt; status, if is_cut { 4 } else { 0 });
+            assert_eq!(rt; calls.get(), if is_cut { good + 1 } else { good });
+            let read = first_lines(rt.alloc(), good + 1, 0)?;
+            assert_eq!(rt; given.get(), read.len());
+        }
     }
+    Ok(())
 }
