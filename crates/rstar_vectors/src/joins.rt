@@ -17,8 +17,11 @@ use rstar::primitives::{GeomWithData, Rectangle};
 use rstar::{AABB, DefaultParams, Envelope, Point, RTree, RTreeObject, RTreeParams};
 use std::alloc::{AllocError, Global};
 
+/// Two corners.
+type Corners = ([i32; 2], [i32; 2]);
+
 /// A rectangle with a number.
-type Numbered<P> = GeomWithData<Rectangle<P>, u64>;
+type Numbered = GeomWithData<Rectangle<[i32; 2]>, u64>;
 
 /// Pairs of elements, and how many pairs of nodes were opened for them.
 pub type Paired<'a, T, U> = (Vec<(&'a T, &'a U)>, usize);
@@ -138,7 +141,7 @@ fn meet<
 }
 
 /// Rectangles between these corners, with a number each.
-fn numbered<P: Point + Copy>(alloc: Global, corners: &[(P, P)]) -> Vec<Numbered<P>> {
+fn numbered(alloc: Global, corners: &[Corners]) -> Vec<Numbered> {
     let mut all = Vec::new(alloc);
     for (one, other) in corners {
         let number = all.len() as u64;
@@ -151,15 +154,10 @@ fn numbered<P: Point + Copy>(alloc: Global, corners: &[(P, P)]) -> Vec<Numbered<
 
 /// The corners of the rectangles of two trees, and the counts of pairs and of pairs of nodes opened: of these trees, and
 /// of the first with one of points.
-type Meeting<'a, P> = (&'a [(P, P)], &'a [(P, P)], [(usize, usize); 2]);
+type Meeting = (&'static [Corners], &'static [Corners], [(usize, usize); 2]);
 
 /// Whether each row of a table is so with these points, and the points with themselves.
-fn all_meet<P: Point + Copy>(
-    alloc: Global,
-    rows: &[Meeting<'_, P>],
-    points: &[P],
-    own: (usize, usize),
-) -> bool {
+fn all_meet(alloc: Global, rows: &[Meeting], points: &[[i32; 2]], own: (usize, usize)) -> bool {
     for (lefts, rights, counts) in rows {
         let lefts = numbered(alloc, lefts);
         let rights = numbered(alloc, rights);
@@ -169,9 +167,6 @@ fn all_meet<P: Point + Copy>(
     }
     true
 }
-
-/// Two corners.
-type Corners = ([i32; 2], [i32; 2]);
 
 const SQUARE: Corners = ([0, 0], [2, 2]);
 
@@ -186,11 +181,8 @@ const DIAGONAL: [Corners; 7] = [
     ([103, 103], [104, 104]),
 ];
 
-/// Rows of meetings.
-type Meetings = &'static [Meeting<'static, [i32; 2]>];
-
 // With points along a line: trees of one height, and of two, and empty ones on either side.
-const AT_A_LINE: [Meeting<'static, [i32; 2]>; 7] = [
+const AT_A_LINE: [Meeting; 7] = [
     (&[SQUARE, SQUARE], &[([2, 2], [4, 4])], [(2, 1), (6, 3)]),
     (&[([2, 2], [4, 4])], &[SQUARE, SQUARE], [(2, 1), (0, 0)]),
     (&[SQUARE], &[([3, 3], [4, 4])], [(0, 0), (3, 2)]),
@@ -203,16 +195,16 @@ const AT_A_LINE: [Meeting<'static, [i32; 2]>; 7] = [
 // With four points, of which two lie in one place.
 const NEAR: [[i32; 2]; 4] = [[0, 0], [2, 2], [2, 2], [5, 5]];
 
-const AT_FOUR: [Meeting<'static, [i32; 2]>; 2] = [
+const AT_FOUR: [Meeting; 2] = [
     (&[SQUARE], &[SQUARE], [(1, 1), (3, 1)]),
     (&[SQUARE, ([2, 2], [4, 4])], &[], [(0, 0), (5, 1)]),
 ];
 
 // With no points.
-const AT_NONE: [Meeting<'static, [i32; 2]>; 1] = [(&[SQUARE], &[SQUARE], [(1, 1), (0, 0)])];
+const AT_NONE: [Meeting; 1] = [(&[SQUARE], &[SQUARE], [(1, 1), (0, 0)])];
 
 // Tables of meetings, each with its points and the counts of these with themselves.
-const TABLES: [(Meetings, &'static [[i32; 2]], (usize, usize)); 3] = [
+const TABLES: [(&'static [Meeting], &'static [[i32; 2]], (usize, usize)); 3] = [
     (&AT_A_LINE, &ALONG_A_LINE, (7, 3)),
     (&AT_FOUR, &NEAR, (6, 1)),
     (&AT_NONE, &[], (0, 0)),
