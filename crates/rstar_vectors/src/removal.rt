@@ -442,6 +442,7 @@ fn drained_and_filled_again<T: EqualEnvelopes + Copy>(
         && drain_and_stand(&mut tree, SelectAllFunc, usize::MAX, given).is_some()
         && given.len() == elements.len()
         && all_go_in(&mut tree, elements, 1, usize::MAX)
+        && left_in(&tree, elements, tree.root().envelope()) == elements.len()
     {
         drain_in_parts(&mut tree, elements, area, part, given)
     } else {
