@@ -15,3 +15,5 @@ mod places;
 pub mod point;
 pub mod primitives;
 mod segments;
+#[cfg(test)]
+mod tests;

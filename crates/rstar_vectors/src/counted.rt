@@ -9,10 +9,11 @@ ghost use Rattle.rstar_base.specs.laws.PointElementLaws.{point_distance_laws};
 ghost use Rattle.rstar_vectors.specs.laws.PlaceLaws.{place_equal};
 ghost use Rattle.rstar.specs.Trees.{elements_in, IsWholeTree};
 
-use crate::removal::drain_and_stand;
-use crate::scenarios::{goes_in, inserted, loaded};
+use crate::reinsertion::all_go_in;
+use crate::removal::{all_leave, drain_and_stand};
+use crate::scenarios::{inserted, loaded, stands};
 use rstar::algorithm::selection_functions::SelectAllFunc;
-use rstar::node::RTreeNode;
+use rstar::object::PointOf;
 use rstar::{
     AABB, Counted, DefaultParams, Envelope, EqualEnvelopes, Point, PointDistance, RTree,
     RTreeObject, RTreeParams,
@@ -80,108 +81,39 @@ pub fn count_at_root<P: Point>(tree: &RTree<Place<P>>) -> usize
     tree.root().envelope().count()
 }
 
-/// Elements whose envelopes count.
-trait Counts: EqualEnvelopes {
-    /// How often an envelope counts.
-    fn count(envelope: &Self::Envelope) -> usize;
-}
-
-impl<P: Point> Counts for Place<P> {
-    fn count(envelope: &Counted<P>) -> usize {
-        envelope.count()
-    }
-}
-
-/// How many elements lie below some nodes, at most `levels` levels of parents down: none where a parent counts another
-/// number.
-fn count_below<T: Counts>(nodes: &[RTreeNode<T>], levels: usize) -> Option<usize> {
-    let mut count = 0usize;
-    for node in nodes {
-        let own = match node {
-            RTreeNode::Leaf(_) => 1,
-            RTreeNode::Parent(parent) => {
-                if levels == 0 {
-                    return None;
-                }
-                let below = count_below(parent.children(), levels - 1)?;
-                if T::count(parent.envelope()) != below {
-                    return None;
-                }
-                below
-            }
-        };
-        count = count.saturating_add(own);
-    }
-    Some(count)
-}
-
-/// Whether the root counts so many elements, and each parent those below it.
-fn counts_all<T: Counts>(tree: &RTree<T>, all: usize) -> bool {
-    let root = tree.root();
-    T::count(root.envelope()) == all
-        && tree.size() == all
-        && count_below(root.children(), 64) == Some(all)
-}
-
-/// Inserts elements, and tells whether all parents count what lies below them after each.
-fn count_in<T: Counts + Copy>(tree: &mut RTree<T>, elements: &[T]) -> bool
-    requires { IsWholeTree T.Envelope.boxes T.object ⟦<DefaultParams as RTreeParams>⟧.MAX_SIZE tree.old }
-    ensures { IsWholeTree T.Envelope.boxes T.object ⟦<DefaultParams as RTreeParams>⟧.MAX_SIZE tree.new }
-{
-    for element in elements {
-        let all = tree.size().saturating_add(1);
-        if !goes_in(tree, *element) || !counts_all(tree, all) {
-            return false;
-        }
-    }
-    true
-}
-
-/// Removes elements, and tells whether each was there, and all parents count what lies below them after each.
-fn count_out<T: Counts>(tree: &mut RTree<T>, elements: &[T]) -> bool
-    requires { IsWholeTree T.Envelope.boxes T.object ⟦<DefaultParams as RTreeParams>⟧.MAX_SIZE tree.old }
-    ensures { IsWholeTree T.Envelope.boxes T.object ⟦<DefaultParams as RTreeParams>⟧.MAX_SIZE tree.new }
-{
-    for element in elements {
-        let all = tree.size().saturating_sub(1);
-        if tree.remove(element).is_none() || !counts_all(tree, all) {
-            return false;
-        }
-    }
-    true
-}
-
-/// Drains at most so many elements again and again, and tells whether so many are left each time, and all parents count
-/// what lies below them.
-fn count_drained<T: Counts>(alloc: Global, tree: &mut RTree<T>, most: usize, left: &[usize]) -> bool
-    requires { IsWholeTree T.Envelope.boxes T.object ⟦<DefaultParams as RTreeParams>⟧.MAX_SIZE tree.old }
-    ensures { IsWholeTree T.Envelope.boxes T.object ⟦<DefaultParams as RTreeParams>⟧.MAX_SIZE tree.new }
-{
-    let given = &mut Vec::new(alloc);
-    for all in left {
-        if drain_and_stand(tree, SelectAllFunc, most, given).is_none() || !counts_all(tree, *all) {
-            return false;
-        }
-    }
-    true
-}
-
-/// Whether all parents of a loaded tree count what lies below them, and so after each insertion, each removal and each
-/// drain of at most 300, after which so many are left.
-fn count_always<T: Counts + Copy>(
+/// Whether a load of elements stands, and so after each insertion, each removal and each drain of at most 300, after which so
+/// many are left. Where envelopes count, each parent then counts those below it, each once.
+fn stands_always<T: EqualEnvelopes + PointDistance + Copy>(
     alloc: Global,
     first: &[T],
     others: &[T],
     removed: &[T],
     left: &[usize],
 ) -> bool
+where
+    PointOf<T>: Copy,
     requires { 2 ≤ T.Envelope.Point.DIMENSIONS }
 {
-    let mut tree = loaded(alloc, first);
-    counts_all(&tree, first.len())
-        && count_in(&mut tree, others)
-        && count_out(&mut tree, removed)
-        && count_drained(alloc, &mut tree, 300, left)
+    let mut tree = loaded::<T, DefaultParams>(alloc, first);
+    tree.size() == first.len()
+        && stands(&tree)
+        && all_go_in(&mut tree, others, 1, usize::MAX)
+        && all_leave(&mut tree, removed, 0, true)
+        && is_drained(alloc, &mut tree, left)
+}
+
+/// Whether a tree stands after each drain of at most 300, with so many left.
+fn is_drained<T: RTreeObject>(alloc: Global, tree: &mut RTree<T>, left: &[usize]) -> bool
+    requires { IsWholeTree T.Envelope.boxes T.object ⟦<DefaultParams as RTreeParams>⟧.MAX_SIZE tree.old }
+    ensures { IsWholeTree T.Envelope.boxes T.object ⟦<DefaultParams as RTreeParams>⟧.MAX_SIZE tree.new }
+{
+    let given = &mut Vec::new(alloc);
+    for all in left {
+        if drain_and_stand(tree, SelectAllFunc, 300, given).is_none() || tree.size() != *all {
+            return false;
+        }
+    }
+    true
 }
 
 /// The places with the numbers from one up to another, without that, on a line that wraps around in both coordinates.
@@ -248,5 +180,5 @@ fn every_element_is_merged_once(rt: HostRuntime) {
     let removed = places(rt.alloc(), 0, 1000);
     let tree = inserted(rt.alloc(), &removed);
     assert!(rt; count_at_root(&tree) == 1000);
-    assert!(rt; count_always(rt.alloc(), &first, &others, &removed, &[700, 400, 100, 0]));
+    assert!(rt; stands_always(rt.alloc(), &first, &others, &removed, &[700, 400, 100, 0]));
 }

@@ -55,7 +55,7 @@ impl<P: Point> EqualEnvelopes for Doors<P> {
 #[cfg(test)]
 mod tests {
     use super::*;
-    use crate::scenarios::is_so_far;
+    use crate::scenarios::lies_at;
 
     // A point, its squared distance from the nearer door, and whether a door is there. The third lies inside the
     // envelope, and at neither door.
@@ -72,7 +72,7 @@ mod tests {
             back: [10, 4],
         };
         for &(point, distance, is_there) in &ROWS {
-            assert!(rt; is_so_far(&shop, &point, distance, is_there));
+            assert!(rt; lies_at(&shop, &point, distance, distance - 1, is_there));
         }
     }
 }

@@ -1,11 +1,10 @@
 //! A tree inside a struct of a user's own, which keeps it whole: the example of README.md. It names `rstar` alone.
 
-ghost use Rattle.std.specs.Prelude.{◌≡◌, ◌+◌, [], length, OnOk, OnErr};
-ghost use Rattle.rstar.specs.Boxes.{contains_box};
+ghost use Rattle.std.specs.Prelude.{◌≡◌, ◌+◌, [], false, length, OnOk, OnErr};
 ghost use Rattle.rstar.specs.Trees.{elements_in, IsWholeTree};
 
 use rstar::primitives::{GeomWithData, Rectangle};
-use rstar::{AABB, DefaultParams, Envelope, InsertError, Point, RTree, RTreeObject, RTreeParams};
+use rstar::{AABB, DefaultParams, Envelope, InsertError, RTree, RTreeObject, RTreeParams};
 use std::alloc::{AllocError, Global};
 use std::marker::Model;
 
@@ -51,7 +50,7 @@ impl Fences {
         ensures added { OnOk result (length self.new ≡ length self.old + 1) }
         ensures unchanged { OnErr result (self.new ≡ self.old) }
     {
-        insert_between(&mut self.tree, number, one, other)
+        insert_numbered(&mut self.tree, Rectangle::from_corners(one, other), number)
     }
 
     /// How many fences there are.
@@ -73,23 +72,22 @@ impl Fences {
 }
 
 // That a whole tree's size counts its elements is inside the word, which is unfolded here.
-/// One rectangle more in a tree, between two corners.
+/// One element more in a tree, with its number.
 #[tactic(auto, unfolding(rstar::specs::Trees::IsWholeTree))]
-fn insert_between<P: Point>(
-    tree: &mut RTree<GeomWithData<Rectangle<P>, u64>>,
+fn insert_numbered<R: RTreeObject>(
+    tree: &mut RTree<GeomWithData<R, u64>>,
+    geom: R,
     number: u64,
-    one: P,
-    other: P,
-) -> Result<(), InsertError<GeomWithData<Rectangle<P>, u64>>>
-    requires { IsWholeTree ⟦<AABB<P> as Envelope>⟧.boxes ⟦<GeomWithData<Rectangle<P>, u64> as RTreeObject>⟧.object
+) -> Result<(), InsertError<GeomWithData<R, u64>>>
+    requires whole { IsWholeTree R.Envelope.boxes ⟦<GeomWithData<R, u64> as RTreeObject>⟧.object
         ⟦<DefaultParams as RTreeParams>⟧.MAX_SIZE tree.old }
-    ensures whole { IsWholeTree ⟦<AABB<P> as Envelope>⟧.boxes ⟦<GeomWithData<Rectangle<P>, u64> as RTreeObject>⟧.object
+    requires element { R.Envelope.boxes.is_empty (R.object.box_of geom) ≡ false }
+    ensures whole { IsWholeTree R.Envelope.boxes ⟦<GeomWithData<R, u64> as RTreeObject>⟧.object
         ⟦<DefaultParams as RTreeParams>⟧.MAX_SIZE tree.new }
     ensures added { OnOk result (length (elements_in tree.new) ≡ length (elements_in tree.old) + 1) }
     ensures unchanged { OnErr result (elements_in tree.new ≡ elements_in tree.old) }
 {
-    let rectangle = Rectangle::from_corners(one, other);
-    tree.insert(GeomWithData::new(rectangle, number))
+    tree.insert(GeomWithData::new(geom, number))
 }
 
 /// How many elements of a tree lie in an envelope, and the sum of their numbers, held at the greatest `u64`.
@@ -111,14 +109,6 @@ fn count_and_sum<R: RTreeObject>(
         sum = sum.saturating_add(element.data);
     }
     Ok((count, sum))
-}
-
-/// Whether a fence lies in a box, its edges included.
-pub fn lies_in<P: Point>(fence: &GeomWithData<Rectangle<P>, u64>, area: &AABB<P>) -> bool
-    ensures { result
-        ≡ contains_box area.now (⟦<GeomWithData<Rectangle<P>, u64> as RTreeObject>⟧.object.box_of fence.now) }
-{
-    area.contains_envelope(&fence.envelope())
 }
 
 #[cfg(test)]
@@ -161,15 +151,6 @@ mod tests {
         for &(list, one, other, count, sum) in &ROWS {
             let area = AABB::from_corners(one, other);
             assert!(rt; add_up(rt.alloc(), list, area, count, sum));
-        }
-    }
-
-    #[test]
-    fn a_fence_lies_in_a_box(rt: HostRuntime) {
-        let fence = Fence::new(Rectangle::from_corners([0, 0], [2, 2]), 7);
-        for &(other, is_inside) in &[([2, 2], true), ([2, 1], false)] {
-            let area = AABB::from_corners([0, 0], other);
-            assert!(rt; lies_in(&fence, &area) == is_inside);
         }
     }
 }

@@ -48,15 +48,11 @@ const NINE: [[i32; 2]; 9] = [
     [5, 2],
 ];
 
-/// Whether node sizes serve points of this type.
-fn serve<P: Point, Params: RTreeParams>() -> bool {
-    verify_parameters::<P, Params>()
-}
-
 #[test]
 fn two_dimensions_are_wanted(rt: HostRuntime) {
-    assert!(rt; !serve::<[i32; 1], DefaultParams>());
-    assert!(rt; serve::<[i32; 2], DefaultParams>() && serve::<[i32; 2], Huge>());
+    assert!(rt; !verify_parameters::<[i32; 1], DefaultParams>());
+    assert!(rt; verify_parameters::<[i32; 2], DefaultParams>());
+    assert!(rt; verify_parameters::<[i32; 2], Huge>());
 }
 
 /// These elements as leaves.

@@ -5,14 +5,14 @@
 ghost use Rattle.std.specs.Prelude.{◌≡◌, ◌≤◌, min, map, IfOk};
 ghost use Rattle.std.specs.List.Sorted.{IsPermutation};
 ghost use Rattle.rstar.specs.Boxes.{boxes_intersect};
-ghost use Rattle.rstar.specs.Joins.{meets_by, join, meet_by, pairs_to_come, IsJoining};
+ghost use Rattle.rstar.specs.Joins.{meets_by, join};
 ghost use Rattle.rstar.specs.Meets.{meet_of_roots};
 ghost use Rattle.rstar.specs.Trees.{root_of, elements_in, IsWholeTree};
 
 use crate::fences::Fence;
 use crate::node_sizes::Splitting;
 use crate::scenarios::{ALONG_A_LINE, drained, in_steps, inserted, levels_of, loaded};
-use rstar::iterators::{InEnvelope, IntersectionIterator};
+use rstar::iterators::InEnvelope;
 use rstar::primitives::{GeomWithData, Rectangle};
 use rstar::{AABB, DefaultParams, Envelope, Point, RTree, RTreeObject, RTreeParams};
 use std::alloc::{AllocError, Global};
@@ -26,31 +26,15 @@ type Numbered = GeomWithData<Rectangle<[i32; 2]>, u64>;
 /// Pairs of elements, and how many pairs of nodes were opened for them.
 pub type Paired<'a, T, U> = (Vec<(&'a T, &'a U)>, usize);
 
-/// What a join gives, and how many pairs of nodes it has opened at its end.
-fn paired<'a, T: RTreeObject, U: InEnvelope<T::Envelope>>(
+/// The pairs of elements of two trees that meet: those that a scan of all pairs finds, in some order; and how many pairs of
+/// nodes were opened for them.
+pub(crate) fn joined<'a, T: RTreeObject, U: InEnvelope<T::Envelope>, Params: RTreeParams>(
     alloc: Global,
-    mut pairs: IntersectionIterator<'a, T, U>,
+    left: &'a RTree<T, Params>,
+    right: &'a RTree<U, Params>,
 ) -> Result<Paired<'a, T, U>, AllocError>
-    requires { IsJoining (meets_by T.Envelope.boxes U.seen) T.object.box_of U.object.box_of pairs }
-    ensures given { IfOk result (λ r. map (λ p. (p.0.now, p.1.now)) r.0.items
-        ≡ pairs_to_come (meets_by T.Envelope.boxes U.seen) T.object.box_of U.object.box_of pairs.entry) }
-    ensures opened { IfOk result (λ r. r.1
-        ≡ min (meet_by (meets_by T.Envelope.boxes U.seen) T.object.box_of U.object.box_of pairs.entry) usize.MAX) }
-{
-    match drained(alloc, &mut pairs) {
-        Ok(all) => Ok((all, pairs.opened())),
-        Err(refused) => Err(refused),
-    }
-}
-
-/// The pairs of elements of two trees that meet: those that a scan of all pairs finds, in some order.
-fn joined<'a, T: RTreeObject, U: InEnvelope<T::Envelope>>(
-    alloc: Global,
-    left: &'a RTree<T>,
-    right: &'a RTree<U>,
-) -> Result<Paired<'a, T, U>, AllocError>
-    requires left { IsWholeTree T.Envelope.boxes T.object ⟦<DefaultParams as RTreeParams>⟧.MAX_SIZE left.now }
-    requires right { IsWholeTree U.Envelope.boxes U.object ⟦<DefaultParams as RTreeParams>⟧.MAX_SIZE right.now }
+    requires left { IsWholeTree T.Envelope.boxes T.object Params.MAX_SIZE left.now }
+    requires right { IsWholeTree U.Envelope.boxes U.object Params.MAX_SIZE right.now }
     ensures all { IfOk result (λ r. IsPermutation (map (λ p. (p.0.now, p.1.now)) r.0.items)
         (join (meets_by T.Envelope.boxes U.seen) T.object.box_of U.object.box_of
         (elements_in left.now) (elements_in right.now))) }
@@ -58,7 +42,10 @@ fn joined<'a, T: RTreeObject, U: InEnvelope<T::Envelope>>(
         T.object.box_of U.object.box_of (root_of left.now) (root_of right.now)) usize.MAX) }
 {
     match left.intersection_candidates_with_other_tree(right) {
-        Ok(pairs) => paired(alloc, pairs),
+        Ok(mut pairs) => match drained(alloc, &mut pairs) {
+            Ok(all) => Ok((all, pairs.opened())),
+            Err(refused) => Err(refused),
+        },
         Err(refused) => Err(refused),
     }
 }
@@ -100,30 +87,31 @@ fn joins_so<T: RTreeObject, U: InEnvelope<T::Envelope>>(
     }
 }
 
-/// Whether a join of two trees of these elements counts so, and that of the second with the first.
-fn meet_both_ways<
-    T: InEnvelope<<U as RTreeObject>::Envelope> + Copy,
-    U: InEnvelope<<T as RTreeObject>::Envelope> + Copy,
->(alloc: Global, lefts: &[T], rights: &[U], counts: (usize, usize)) -> bool {
+/// Whether a join of two trees of these elements counts so.
+fn meets<T: RTreeObject + Copy, U: InEnvelope<T::Envelope> + Copy>(
+    alloc: Global,
+    lefts: &[T],
+    rights: &[U],
+    counts: (usize, usize),
+) -> bool {
     let left = inserted(alloc, lefts);
     let right = inserted(alloc, rights);
     left.size() == lefts.len()
         && right.size() == rights.len()
         && joins_so(alloc, &left, &right, counts.0, Some(counts.1))
-        && joins_so(alloc, &right, &left, counts.0, Some(counts.1))
 }
 
-/// The same of elements of one type.
+/// Whether elements of one type meet others so, and these them.
 fn meet_alike<T: RTreeObject + Copy>(
     alloc: Global,
     lefts: &[T],
     rights: &[T],
     counts: (usize, usize),
 ) -> bool {
-    meet_both_ways(alloc, lefts, rights, counts)
+    meets(alloc, lefts, rights, counts) && meets(alloc, rights, lefts, counts)
 }
 
-/// Whether elements meet others so, those points so, and the points themselves so.
+/// Whether elements meet others so, those points so, each in either order, and the points themselves so.
 fn meet<
     T: InEnvelope<<U as RTreeObject>::Envelope> + Copy,
     U: InEnvelope<<T as RTreeObject>::Envelope> + Copy,
@@ -136,7 +124,8 @@ fn meet<
     own: (usize, usize),
 ) -> bool {
     meet_alike(alloc, lefts, rights, counts[0])
-        && meet_both_ways(alloc, lefts, points, counts[1])
+        && meets(alloc, lefts, points, counts[1])
+        && meets(alloc, points, lefts, counts[1])
         && meet_alike(alloc, points, points, own)
 }
 
@@ -241,7 +230,7 @@ fn met_as_scanned<T: RTreeObject + PartialEq + Copy>(
 ) -> bool
     requires { 2 ≤ T.Envelope.Point.DIMENSIONS }
 {
-    let left = loaded(alloc, lefts);
+    let left = loaded::<T, DefaultParams>(alloc, lefts);
     let right = loaded(alloc, rights);
     match &joined(alloc, &left, &right) {
         Ok((pairs, _)) => are_scanned(pairs, lefts, rights),
@@ -272,11 +261,8 @@ fn meets_itself_at_depth<T: RTreeObject + Copy>(
     levels: usize,
 ) -> bool {
     let tree = inserted::<T, Splitting>(alloc, elements);
-    match tree.intersection_candidates_with_other_tree(&tree) {
-        Ok(join) => match &paired(alloc, join) {
-            Ok((pairs, _)) => levels <= levels_of(tree.root()) && pairs.len() == elements.len(),
-            Err(_) => false,
-        },
+    match &joined(alloc, &tree, &tree) {
+        Ok((pairs, _)) => levels <= levels_of(tree.root()) && pairs.len() == elements.len(),
         Err(_) => false,
     }
 }

@@ -2,19 +2,11 @@
 #![tactic(auto)]
 
 #[cfg(test)]
-mod boxes;
-#[cfg(test)]
 mod counted;
 #[cfg(test)]
 mod doors;
 #[cfg(test)]
-mod elements;
-#[cfg(test)]
 mod fences;
-#[cfg(test)]
-mod generic;
-#[cfg(test)]
-mod heaps;
 #[cfg(test)]
 mod insertion;
 #[cfg(test)]
@@ -34,8 +26,6 @@ mod payloads;
 #[cfg(test)]
 mod places;
 #[cfg(test)]
-mod points;
-#[cfg(test)]
 mod readings;
 #[cfg(test)]
 mod reinsertion;
@@ -47,7 +37,5 @@ mod replays;
 mod scenarios;
 #[cfg(test)]
 mod selections;
-#[cfg(test)]
-mod slabs;
 #[cfg(test)]
 mod visits;

@@ -11,7 +11,7 @@ use rstar::algorithm::bulk_load::{bulk_load_sequential, none_empty};
 use rstar::node::{ParentNode, RTreeNode};
 use rstar::object::PointOf;
 use rstar::params::{DefaultParams, RTreeParams};
-use rstar::primitives::Rectangle;
+use rstar::primitives::{CachedEnvelope, GeomWithData, Line, Rectangle};
 use rstar::rtree::RTree;
 use rstar_base::aabb::AABB;
 use rstar_base::envelope::Envelope;
@@ -473,7 +473,7 @@ fn loads_and_clones_have_their_parts_and_may_be_asked_again(rt: HostRuntime) {
 // ---- clones and texts
 
 /// What a value shows.
-fn shown<V: Debug>(alloc: Global, value: &V) -> Result<String, AllocError> {
+pub(crate) fn shown<V: Debug>(alloc: Global, value: &V) -> Result<String, AllocError> {
     format!(in alloc; "{value:?}")
 }
 
@@ -595,13 +595,49 @@ fn found_in_load<T: PointDistance + Copy>(
 
 #[test]
 fn callers_load_query_and_insert(rt: HostRuntime) {
-    let is_so = match points_loaded(rt.alloc(), [7, 8]) {
-        Ok(tree) => found_and_count(tree, [5, 5], [1, 1]) == (true, 4),
-        Err(_) => false,
-    };
-    assert!(rt; is_so);
+    const THREE: [[i64; 2]; 3] = [[0, 0], [5, 5], [7, 8]];
+    assert!(rt; found_in_load(rt.alloc(), &THREE, [5, 5], [1, 1], (true, 4)));
     let near = Rectangle::from_corners([0i64, 0], [2, 2]);
     let far = Rectangle::from_corners([5, 5], [9, 9]);
     let more = Rectangle::from_corners([9, 9], [5, 5]);
     assert!(rt; found_in_load(rt.alloc(), &[near, far], [1, 1], more, (true, 3)));
+}
+
+/// Whether a load of two elements contains such a one.
+fn load_contains<T: EqualEnvelopes>(alloc: Global, one: T, other: T, wanted: &T) -> bool
+    requires { 2 ≤ T.Envelope.Point.DIMENSIONS }
+{
+    let mut elements = Vec::new(alloc);
+    if elements.push(one).is_err() || elements.push(other).is_err() || !none_empty(&elements) {
+        return false;
+    }
+    match &RTree::<T>::bulk_load(elements) {
+        Ok(tree) => tree.contains(wanted),
+        Err(_) => false,
+    }
+}
+
+/// Whether loads of two lines, each with a number, and each with its envelope beside it, contain the first.
+fn loads_contain_the_first<P: Point + Copy>(alloc: Global, one: Line<P>, other: Line<P>) -> bool
+    requires { 2 ≤ P.DIMENSIONS }
+{
+    load_contains(
+        alloc,
+        GeomWithData::new(one, 7u64),
+        GeomWithData::new(other, 7),
+        &GeomWithData::new(one, 7),
+    ) && load_contains(
+        alloc,
+        CachedEnvelope::new(one),
+        CachedEnvelope::new(other),
+        &CachedEnvelope::new(one),
+    )
+}
+
+// rstar's tests `container_in_rtree`, of a line with a number and of one with its envelope beside it.
+#[test]
+fn loads_contain_what_holds_a_line(rt: HostRuntime) {
+    let one = Line::new([0i64, 0], [1, 1]);
+    let other = Line::new([0, 0], [-1, 1]);
+    assert!(rt; loads_contain_the_first(rt.alloc(), one, other));
 }

@@ -232,7 +232,7 @@ where
 
 /// Whether all neighbours of a place lie at these squared distances, by each call that leaves the tree, with so many
 /// parents opened after each, as far as these numbers go.
-fn answers<T: PointDistance>(
+pub(crate) fn answers<T: PointDistance>(
     alloc: Global,
     tree: &RTree<T>,
     place: PointOf<T>,
@@ -331,7 +331,7 @@ where
 /// Whether a tree of these elements, and a load of them, answer at a place as a scan of them does, whose squared distances
 /// begin with these, with so many parents of the tree opened after each, as far as these numbers go; and the load then
 /// gives its elements up in that order.
-fn come_and_go<T: PointDistance + PartialEq + Copy>(
+pub(crate) fn come_and_go<T: PointDistance + PartialEq + Copy>(
     alloc: Global,
     elements: &[T],
     place: PointOf<T>,

@@ -2,7 +2,7 @@
 
 ghost use Rattle.std.specs.Prelude.{◌≡◌, min, map, filter, true, pos, int_le, IfOk, IsTrue, not};
 ghost use Rattle.std.specs.List.{list_any};
-ghost use Rattle.rstar.specs.Boxes.{contains_box, boxes_intersect, box_contains_point};
+ghost use Rattle.rstar.specs.Boxes.{contains_box, boxes_intersect};
 ghost use Rattle.rstar.specs.Nodes.{reach_of};
 ghost use Rattle.rstar.specs.Points.{table};
 ghost use Rattle.rstar.specs.Selections.{to_come, reach_by, IsWalking};
@@ -208,78 +208,6 @@ pub fn either_at<T: PointDistance>(
     (tree.locate_at_point(one), tree.locate_at_point_int(other))
 }
 
-/// What an envelope touches, what contains a point, what equals an element, and an element at the point by each of the two
-/// look-ups.
-pub type Found<'a, T> = (
-    Result<Walked<'a, T>, AllocError>,
-    Result<Walked<'a, T>, AllocError>,
-    Result<Walked<'a, T>, AllocError>,
-    (Option<&'a T>, Option<&'a T>),
-);
-
-/// The elements that an envelope touches, those that contain a point, those that equal one, and one at the point.
-fn found<'a, T: EqualEnvelopes + PointDistance>(
-    alloc: Global,
-    tree: &'a RTree<T>,
-    area: T::Envelope,
-    point: PointOf<T>,
-    wanted: &T,
-) -> Found<'a, T>
-where
-    PointOf<T>: Copy,
-    requires { IsWholeTree T.Envelope.boxes T.object ⟦<DefaultParams as RTreeParams>⟧.MAX_SIZE tree.now }
-    ensures touched { IfOk result.0 (λ r. map (λ t. t.now) r.0.items ≡ filter
-        (λ t. T.Envelope.boxes.intersects area (T.object.box_of t)) (elements_in tree.now)) }
-    ensures touched_opened { IfOk result.0 (λ r. r.1 ≡ min (reach_of (λ e. T.Envelope.boxes.intersects area e) (root_of tree.now)) usize.MAX) }
-    ensures here { IfOk result.1 (λ r. map (λ t. t.now) r.0.items ≡ filter
-        (λ t. T.distances.contains_point t (table T.Envelope.Point.DIMENSIONS (T.Envelope.Point.coord point)))
-        (elements_in tree.now)) }
-    ensures here_opened { IfOk result.1 (λ r. r.1 ≡ min (reach_of (λ e. T.Envelope.boxes.contains_point e
-        (table T.Envelope.Point.DIMENSIONS (T.Envelope.Point.coord point))) (root_of tree.now)) usize.MAX) }
-    ensures equal { IfOk result.2 (λ r. map (λ t. t.now) r.0.items ≡ filter
-        (λ t. T.eq t wanted.now) (elements_in tree.now)) }
-    ensures equal_opened { IfOk result.2 (λ r. r.1 ≡ min (reach_of (λ e. T.Envelope.boxes.contains e (T.object.box_of wanted.now)) (root_of tree.now)) usize.MAX) }
-    ensures one { IsOneOf (filter (λ t. T.distances.contains_point t
-        (table T.Envelope.Point.DIMENSIONS (T.Envelope.Point.coord point))) (elements_in tree.now)) result.3.0 }
-    ensures other { IsOneOf (filter (λ t. T.distances.contains_point t
-        (table T.Envelope.Point.DIMENSIONS (T.Envelope.Point.coord point))) (elements_in tree.now)) result.3.1 }
-{
-    (
-        touched(alloc, tree, area),
-        here(alloc, tree, point),
-        equal(alloc, tree, wanted),
-        either_at(tree, point, point),
-    )
-}
-
-/// The same of fences.
-pub fn plots_found<'a>(
-    alloc: Global,
-    tree: &'a RTree<Fence>,
-    area: AABB<[i64; 2]>,
-    point: [i64; 2],
-    wanted: &Fence,
-) -> Found<'a, Fence>
-    requires { IsWholeTree ⟦<AABB<[i64; 2]> as Envelope>⟧.boxes ⟦<Fence as RTreeObject>⟧.object
-        ⟦<DefaultParams as RTreeParams>⟧.MAX_SIZE tree.now }
-    ensures touched { IfOk result.0 (λ r. map (λ t. t.now) r.0.items ≡ filter
-        (λ t. boxes_intersect area (⟦<Fence as RTreeObject>⟧.object.box_of t)) (elements_in tree.now)) }
-    ensures touched_opened { IfOk result.0 (λ r. r.1 ≡ min (reach_of (λ e. boxes_intersect area e) (root_of tree.now)) usize.MAX) }
-    ensures here { IfOk result.1 (λ r. map (λ t. t.now) r.0.items ≡ filter
-        (λ t. ⟦<Fence as PointDistance>⟧.distances.contains_point t (table 2 (⟦<[i64; 2] as Point>⟧.coord point)))
-        (elements_in tree.now)) }
-    ensures here_opened { IfOk result.1 (λ r. r.1 ≡ min (reach_of (λ e. box_contains_point e (table 2 (⟦<[i64; 2] as Point>⟧.coord point))) (root_of tree.now)) usize.MAX) }
-    ensures equal { IfOk result.2 (λ r. map (λ t. t.now) r.0.items ≡ filter
-        (λ t. ⟦<Fence as PartialEq>⟧.eq t wanted.now) (elements_in tree.now)) }
-    ensures equal_opened { IfOk result.2 (λ r. r.1 ≡ min (reach_of (λ e. contains_box e (⟦<Fence as RTreeObject>⟧.object.box_of wanted.now)) (root_of tree.now)) usize.MAX) }
-    ensures one { IsOneOf (filter (λ t. ⟦<Fence as PointDistance>⟧.distances.contains_point t
-        (table 2 (⟦<[i64; 2] as Point>⟧.coord point))) (elements_in tree.now)) result.3.0 }
-    ensures other { IsOneOf (filter (λ t. ⟦<Fence as PointDistance>⟧.distances.contains_point t
-        (table 2 (⟦<[i64; 2] as Point>⟧.coord point))) (elements_in tree.now)) result.3.1 }
-{
-    found(alloc, tree, area, point, wanted)
-}
-
 /// Writes a number into an element that contains a point, and whether there is one.
 pub fn renumber<R: PointDistance>(
     tree: &mut RTree<GeomWithData<R, u64>>,
@@ -369,19 +297,8 @@ mod tests {
         }
     }
 
-    /// How many elements of a list are among some.
-    fn common<T: PartialEq>(elements: &[T], found: &[&T]) -> usize {
-        let mut count = 0usize;
-        for element in elements {
-            if (&*found).contains(&element) {
-                count = count.saturating_add(1);
-            }
-        }
-        count
-    }
-
-    /// Whether a walk gives as many elements as a list has, and so many of that list.
-    fn gives_of<T: RTreeObject + PartialEq>(
+    /// Whether a tree has as many elements as a list, and so many of the list's are there, by a walk for each.
+    fn gives_of<T: EqualEnvelopes>(
         alloc: Global,
         tree: &RTree<T>,
         elements: &[T],
@@ -389,15 +306,19 @@ mod tests {
     ) -> bool
         requires { IsWholeTree T.Envelope.boxes T.object ⟦<DefaultParams as RTreeParams>⟧.MAX_SIZE tree.now }
     {
-        match &all_of(alloc, tree) {
-            Ok((found, _)) => (found.len() == elements.len()) & (common(elements, found) == count),
-            Err(_) => false,
+        let mut there = 0usize;
+        for element in elements {
+            match &equal(alloc, tree, element) {
+                Ok((same, _)) => there = there.saturating_add(usize::from(!same.is_empty())),
+                Err(_) => return false,
+            }
         }
+        tree.size() == elements.len() && there == count
     }
 
     /// Whether writes at a point, by both look-ups in turn, change one element of a tree, where one contains that point,
     /// and none where none does. What is written is read at another point, where an element carries a number at first.
-    fn writes<R: PointDistance + PartialEq + Copy>(
+    fn writes<R: PointDistance + EqualEnvelopes + Copy>(
         alloc: Global,
         elements: &[GeomWithData<R, u64>],
         point: PointOf<R>,

@@ -2,13 +2,11 @@
 
 ghost use Rattle.std.specs.Prelude.{◌≡◌, filter};
 ghost use Rattle.std.specs.declared.ops.ControlFlow.TheVariants.{Break};
-ghost use Rattle.rstar.specs.Boxes.{contains_box, boxes_intersect};
 ghost use Rattle.rstar.specs.Nodes.{elements_of, IsWhole};
 ghost use Rattle.rstar.specs.Points.{table};
 ghost use Rattle.rstar.specs.Trees.{elements_in, IsWholeTree};
 ghost use Rattle.rstar.specs.Visits.{IsFirst};
 
-use crate::fences::Fence;
 use rstar::algorithm::selection_functions::SelectAtPointFunction;
 use rstar::iterators::select_nodes;
 use rstar::node::ParentNode;
@@ -70,24 +68,6 @@ where
         .break_value();
     let here = tree.locate_all_at_point_int(point, at_once).break_value();
     (inside, touched, here)
-}
-
-/// The same of fences.
-fn plots_come_upon(
-    tree: &RTree<Fence>,
-    area: AABB<At>,
-    point: At,
-) -> (Option<&Fence>, Option<&Fence>, Option<&Fence>)
-    requires { IsWholeTree ⟦<AABB<[i64; 2]> as Envelope>⟧.boxes ⟦<Fence as RTreeObject>⟧.object
-        ⟦<DefaultParams as RTreeParams>⟧.MAX_SIZE tree.now }
-    ensures inside { IsFirst (filter (λ t. contains_box area (⟦<Fence as RTreeObject>⟧.object.box_of t))
-        (elements_in tree.now)) result.0 }
-    ensures touching { IsFirst (filter (λ t. boxes_intersect area (⟦<Fence as RTreeObject>⟧.object.box_of t))
-        (elements_in tree.now)) result.1 }
-    ensures here { IsFirst (filter (λ t. ⟦<Fence as PointDistance>⟧.distances.contains_point t
-        (table 2 (⟦<[i64; 2] as Point>⟧.coord point))) (elements_in tree.now)) result.2 }
-{
-    come_upon(tree, area, point)
 }
 
 /// The first point that a selection function selects.

@@ -13,7 +13,8 @@ use crate::reinsertion::all_go_in;
 use crate::scenarios::{ALONG_A_LINE, goes_in, inserted, levels_of, loaded, points, stands};
 use crate::selections::LeftOnly;
 use rstar::algorithm::selection_functions::{
-    SelectAllFunc, SelectInEnvelopeFuncIntersecting, SelectionFunction,
+    SelectAllFunc, SelectInEnvelopeFuncIntersecting, SelectWithinDistanceFunction,
+    SelectionFunction,
 };
 use rstar::iterators::DrainIterator;
 use rstar::object::{Distance, PointOf};
@@ -83,7 +84,7 @@ fn two_out_one_in<T: RTreeObject>(
 }
 
 /// The same of points: a caller with no proof file.
-fn two_points_out_one_in(
+pub fn two_points_out_one_in(
     tree: &mut RTree<[i64; 2]>,
     area: AABB<[i64; 2]>,
 ) -> Result<bool, AllocError>
@@ -110,15 +111,7 @@ fn stands_with<T: PointDistance>(
         && tree.remove_at_point(other).is_some()
 }
 
-/// Whether a tree of points stands so, with two of them, after such a drain and an insertion.
-fn two_points_stand_with_one_in(tree: &mut RTree<[i64; 2]>, area: AABB<[i64; 2]>) -> bool
-    requires { IsWholeTree ⟦<AABB<[i64; 2]> as Envelope>⟧.boxes ⟦<[i64; 2] as RTreeObject>⟧.object
-        ⟦<DefaultParams as RTreeParams>⟧.MAX_SIZE tree.old }
-{
-    matches!(two_points_out_one_in(tree, area), Ok(true)) && stands_with(tree, 2, [9, 9], [7, 8])
-}
-
-/// The same of a tree of these elements.
+/// Whether a tree of these elements stands so after such a drain and an insertion.
 fn stands_with_one_in<T: PointDistance + Copy>(
     alloc: Global,
     elements: &[T],
@@ -157,23 +150,29 @@ pub(crate) fn drain_and_stand<T: RTreeObject, R: SelectionFunction<T>, Params: R
     }
 }
 
-/// Whether an element that is there leaves, and the tree stands with one less; the last of its kind is then gone.
-fn leaves<T: EqualEnvelopes + Copy, Params: RTreeParams>(
+/// Whether an element that is there leaves, by `==`, or at a place that no other contains, and the tree has one less; the
+/// last of its kind is then gone.
+fn leaves<T: EqualEnvelopes + PointDistance + Copy, Params: RTreeParams>(
     tree: &mut RTree<T, Params>,
     element: &T,
+    place: Option<PointOf<T>>,
     is_last: bool,
 ) -> bool
+where
+    PointOf<T>: Copy,
     requires { IsWholeTree T.Envelope.boxes T.object Params.MAX_SIZE tree.old }
     ensures { IsWholeTree T.Envelope.boxes T.object Params.MAX_SIZE tree.new }
 {
     let before = tree.size();
-    if !tree.contains(element) || tree.remove(element) != Some(*element) {
-        return false;
-    }
-    if is_last && (tree.contains(element) || tree.remove(element).is_some()) {
-        return false;
-    }
-    tree.size().saturating_add(1) == before && stands(tree)
+    let is_there = tree.contains(element);
+    let taken = match place {
+        Some(at) => tree.remove_at_point(at),
+        None => tree.remove(element),
+    };
+    is_there
+        && taken == Some(*element)
+        && tree.size().saturating_add(1) == before
+        && !(is_last && (tree.contains(element) || tree.remove(element).is_some()))
 }
 
 /// The place that comes `k`-th in an order of `count` places.
@@ -190,48 +189,25 @@ fn place(order: usize, k: usize, count: usize) -> usize
 
 /// Whether elements leave a tree in such an order, which stands with one less after each; and each is then gone, at
 /// once where they are distinct, and else when none is left.
-fn all_leave<T: EqualEnvelopes + Copy, Params: RTreeParams>(
+pub(crate) fn all_leave<T: EqualEnvelopes + PointDistance + Copy, Params: RTreeParams>(
     tree: &mut RTree<T, Params>,
     elements: &[T],
     order: usize,
     distinct: bool,
-) -> bool
-    requires { IsWholeTree T.Envelope.boxes T.object Params.MAX_SIZE tree.old }
-    ensures { IsWholeTree T.Envelope.boxes T.object Params.MAX_SIZE tree.new }
-{
-    let count = elements.len();
-    for k in 0..count {
-        let is_last = distinct || k + 1 == count;
-        if !leaves(tree, &elements[place(order, k, count)], is_last) {
-            return false;
-        }
-    }
-    tree.size() == 0
-}
-
-/// Whether an element leaves a tree, once, by `==`, or at a place that no other contains, and one that is given goes in.
-fn gives_way<T: EqualEnvelopes + PointDistance + Copy, Params: RTreeParams>(
-    tree: &mut RTree<T, Params>,
-    element: &T,
-    place: Option<&PointOf<T>>,
-    other: Option<&T>,
 ) -> bool
 where
     PointOf<T>: Copy,
     requires { IsWholeTree T.Envelope.boxes T.object Params.MAX_SIZE tree.old }
     ensures { IsWholeTree T.Envelope.boxes T.object Params.MAX_SIZE tree.new }
 {
-    let taken = match place {
-        Some(at) => tree.remove_at_point(*at),
-        None => tree.remove(element),
-    };
-    if taken != Some(*element) || tree.contains(element) || tree.remove(element).is_some() {
-        return false;
+    let count = elements.len();
+    for k in 0..count {
+        let is_last = distinct || k + 1 == count;
+        if !leaves(tree, &elements[place(order, k, count)], None, is_last) || !stands(&*tree) {
+            return false;
+        }
     }
-    match other {
-        Some(more) => goes_in(tree, *more),
-        None => true,
-    }
+    true
 }
 
 /// Whether the elements of a load leave one by one, at these places where there are any, each for one of the others, so
@@ -248,43 +224,43 @@ where
 {
     let mut tree = loaded::<T, Params>(alloc, elements);
     for k in 0..elements.len() {
-        if !gives_way(&mut tree, &elements[k], places.get(k), others.get(k)) {
+        if !leaves(&mut tree, &elements[k], places.get(k).copied(), true) {
             return false;
         }
+        if let Some(other) = others.get(k) {
+            if !goes_in(&mut tree, *other) {
+                return false;
+            }
+        }
     }
-    tree.size() == others.len() && stands(&tree) && all_leave(&mut tree, others, 1, true)
-}
-
-/// Whether a tree has no element to drain near a point.
-fn has_none_near<T: PointDistance>(
-    tree: &mut RTree<T>,
-    point: PointOf<T>,
-    limit: Distance<T>,
-) -> bool
-    requires { IsWholeTree T.Envelope.boxes T.object ⟦<DefaultParams as RTreeParams>⟧.MAX_SIZE tree.old }
-    ensures { IsWholeTree T.Envelope.boxes T.object ⟦<DefaultParams as RTreeParams>⟧.MAX_SIZE tree.new }
-{
-    match tree.drain_within_distance(point, limit) {
-        Ok(mut drain) => drain.next().is_none(),
-        Err(_) => false,
-    }
+    tree.size() == others.len()
+        && stands(&tree)
+        && all_leave(&mut tree, others, 1, true)
+        && tree.size() == 0
 }
 
 /// Whether the elements of a tree leave in such an order, to the end, and the tree then stands, with none to drain near
 /// a point.
-fn leave_to_the_end<T: EqualEnvelopes + PointDistance + Copy>(
+pub(crate) fn leave_to_the_end<T: EqualEnvelopes + PointDistance + Copy>(
     alloc: Global,
     elements: &[T],
     order: usize,
     distinct: bool,
     point: PointOf<T>,
     limit: Distance<T>,
-) -> bool {
+) -> bool
+where
+    PointOf<T>: Copy,
+{
     let mut tree = inserted::<T, DefaultParams>(alloc, elements);
     all_leave(&mut tree, elements, order, distinct)
-        && has_none_near(&mut tree, point, limit)
         && tree.size() == 0
-        && stands(&tree)
+        && drain_and_stand(
+            &mut tree,
+            SelectWithinDistanceFunction::new(point, limit),
+            1,
+            &mut Vec::new(alloc),
+        ) == Some(0)
 }
 
 /// Whether a tree stands after so many calls of a drain that is dropped, takes one element more, and gives one up.
@@ -604,8 +580,7 @@ fn drains_end_where_none_is_left(rt: HostRuntime) {
 fn callers_drain_and_insert_again(rt: HostRuntime) {
     const THREE: [[i64; 2]; 3] = [[0, 0], [1, 1], [2, 2]];
     let all = AABB::from_corners([0, 0], [2, 2]);
-    let mut tree = inserted::<[i64; 2], DefaultParams>(rt.alloc(), &THREE);
-    assert!(rt; two_points_stand_with_one_in(&mut tree, all));
+    assert!(rt; stands_with_one_in(rt.alloc(), &THREE, all, [7, 8], 2, [9, 9], [7, 8]));
     let two = [
         Rectangle::from_corners([0i64, 0], [1, 1]),
         Rectangle::from_corners([5, 5], [6, 6]),

@@ -45,7 +45,8 @@ fn replay_places(
     requires whole { IsWholeTree ⟦<Counted<[i64; 2]> as Envelope>⟧.boxes ⟦<Place<[i64; 2]> as RTreeObject>⟧.object
         ⟦<DefaultParams as RTreeParams>⟧.MAX_SIZE tree.old }
     requires fit { AllByRecursion (IsFit ⟦<Place<[i64; 2]> as Scanned>⟧.questions 2) commands.items }
-    ensures run { IfOk result (λ replies. Run ⟦<Place<[i64; 2]> as Scanned>⟧.questions (elements_in tree.old) commands.items replies.items (elements_in tree.new)) }
+    ensures run { IfOk result (λ replies. Run ⟦<Place<[i64; 2]> as Scanned>⟧.questions
+        (elements_in tree.old) commands.items replies.items (elements_in tree.new)) }
     ensures none_run { OnErr result (tree.new ≡ tree.old) }
     ensures whole { IsWholeTree ⟦<Counted<[i64; 2]> as Envelope>⟧.boxes ⟦<Place<[i64; 2]> as RTreeObject>⟧.object
         ⟦<DefaultParams as RTreeParams>⟧.MAX_SIZE tree.new }
@@ -466,7 +467,10 @@ fn draws_of(alloc: Global, rows: &[Row]) -> Vec<Draw> {
 }
 
 /// Whether replies give as many elements as rows say.
-fn are_given(rows: &[Row], replies: &[Reply<At>]) -> bool {
+fn are_given(rows: &[Row], replies: &Result<Vec<Reply<At>>, AllocError>) -> bool {
+    let Ok(replies) = replies else {
+        return false;
+    };
     let mut right = replies.len() == rows.len();
     for (row, reply) in rows.iter().zip(replies.iter()) {
         right = given(reply) == Some(row.3) && right;
@@ -476,13 +480,13 @@ fn are_given(rows: &[Row], replies: &[Reply<At>]) -> bool {
 
 /// Whether the commands of some rows, run by one `replay`, give as many elements as the rows say, and run one by one
 /// are answered as over a list.
-fn go(alloc: Global, rows: &[Row]) -> Result<bool, AllocError> {
+fn go(alloc: Global, rows: &[Row]) -> bool {
     let draws = draws_of(alloc, rows);
-    let right = match &replies(alloc, commands_of(alloc, &draws)?) {
-        Ok(replies) => are_given(rows, replies),
+    match commands_of(alloc, &draws) {
+        Ok(commands) => are_given(rows, &replies(alloc, commands))
+            && matches!(are_alike(alloc, &draws), Ok(true)),
         Err(_) => false,
-    };
-    Ok(right && are_alike(alloc, &draws)?)
+    }
 }
 
 // A point that came twice is joined twice, and leaves twice; five that were loaded are drained, two and then the others.
@@ -505,6 +509,6 @@ fn rows_of_commands(rt: HostRuntime) {
         (Kind::Drain, [0, 0], 9, 3),
         (Kind::Nearest, [0, 0], 0, 0),
     ];
-    assert!(rt; matches!(go(rt.alloc(), &TWICE), Ok(true)));
-    assert!(rt; matches!(go(rt.alloc(), &FIVE), Ok(true)));
+    assert!(rt; go(rt.alloc(), &TWICE));
+    assert!(rt; go(rt.alloc(), &FIVE));
 }

@@ -9,7 +9,6 @@ ghost use Rattle.std.specs.Iterator.{IsFinite, YieldsThen};
 ghost use Rattle.rstar.specs.Trees.{IsWholeTree};
 
 use crate::fences::Fence;
-use num_traits::One;
 use rstar::algorithm::bulk_load::none_empty;
 use rstar::node::{ParentNode, RTreeNode};
 use rstar::object::{Distance, PointOf};
@@ -87,18 +86,19 @@ pub(crate) fn fences(alloc: Global, count: u8, side: u8, first: u8) -> Vec<Fence
     all
 }
 
-/// Whether an element lies at this squared distance from a point, and within no lesser one, and contains the point as told.
-pub(crate) fn is_so_far<T: PointDistance>(
+/// Whether an element lies at this squared distance from a point, and not within a lesser one, and contains the point as
+/// told.
+pub(crate) fn lies_at<T: PointDistance>(
     element: &T,
     point: &PointOf<T>,
     distance: Distance<T>,
+    lesser: Distance<T>,
     contained: bool,
 ) -> bool {
-    let below = distance.clamped_sub(Distance::<T>::one());
-    element.contains_point(point) == contained
-        && element.distance_2(point) == distance
-        && element.distance_2_if_less_or_equal(point, below).is_none()
+    element.distance_2(point) == distance
         && element.distance_2_if_less_or_equal(point, distance) == Some(distance)
+        && element.distance_2_if_less_or_equal(point, lesser).is_none()
+        && element.contains_point(point) == contained
 }
 
 /// Inserts an element, and whether it went in: not where its envelope is empty, or it is refused.

@@ -53,10 +53,10 @@ fn chosen<'a, T: RTreeObject, Func: SelectionFunction<T>>(
 /// Whether a walk gave so many elements, with so many parents opened.
 fn counts<T: RTreeObject>(
     walked: &Result<Walked<'_, T>, AllocError>,
-    counts: (usize, usize),
+    wanted: (usize, usize),
 ) -> bool {
     match walked {
-        Ok((all, opened)) => (all.len(), *opened) == counts,
+        Ok((all, opened)) => (all.len(), *opened) == wanted,
         Err(_) => false,
     }
 }
@@ -405,7 +405,7 @@ where
 
 /// How many elements a tree of some has, how many of them an envelope contains, how many it intersects, how many contain
 /// a point, and how many lie within a squared distance of it; none where the tree answers otherwise than a scan.
-fn found<T: PointDistance + PartialEq + Copy>(
+pub(crate) fn found<T: PointDistance + PartialEq + Copy>(
     alloc: Global,
     elements: &[T],
     area: T::Envelope,
@@ -428,33 +428,11 @@ where
     }
 }
 
-/// The same of rectangles.
-fn found_rectangles<P: Point + Copy>(
-    alloc: Global,
-    elements: &[Rectangle<P>],
-    area: AABB<P>,
-    point: P,
-    limit: P::Scalar,
-) -> Option<[usize; 5]> {
-    found(alloc, elements, area, point, limit)
-}
-
-/// The same of points.
-fn found_points<P: Point + Copy>(
-    alloc: Global,
-    elements: &[P],
-    area: AABB<P>,
-    point: P,
-    limit: P::Scalar,
-) -> Option<[usize; 5]> {
-    found(alloc, elements, area, point, limit)
-}
-
 // Taken literally, the empty box intersects the full range, and lies in it.
 #[test]
 fn the_empty_box_and_the_full_range(rt: HostRuntime) {
     let full = [Rectangle::from_corners([-128i8, -128], [127, 127])];
-    let counts = found_rectangles(rt.alloc(), &full, AABB::new_empty(), [0, 0], 0);
+    let counts = found(rt.alloc(), &full, AABB::new_empty(), [0, 0], 0);
     assert!(rt; counts == Some([1, 0, 1, 1, 1]));
 }
 
@@ -472,8 +450,8 @@ fn a_thousand_points_are_found_as_by_a_scan(rt: HostRuntime) {
     let all = points(rt.alloc(), 1000);
     for &(one, other, origin, limit) in &ROWS {
         let area = AABB::from_corners(one, other);
-        assert!(rt; found_points(rt.alloc(), &all, area, origin, limit).is_some());
-        assert!(rt; found_points(rt.alloc(), &[], area, origin, limit) == Some([0; 5]));
+        assert!(rt; found(rt.alloc(), &all, area, origin, limit).is_some());
+        assert!(rt; found::<[i32; 2]>(rt.alloc(), &[], area, origin, limit) == Some([0; 5]));
     }
 }
 
@@ -514,7 +492,7 @@ fn rectangles_are_found_as_by_a_scan(rt: HostRuntime) {
     const PLACES: [[i32; 2]; 6] = [[0, 0], [50, 50], [7, 93], [100, 102], [105, -5], [200, 0]];
     let one = [Rectangle::from_corners([0, 0], [2, 2])];
     for &(point, limit, at, near) in &ABOUT_ONE {
-        let counts = found_rectangles(rt.alloc(), &one, AABB::from_point([1, 1]), point, limit);
+        let counts = found(rt.alloc(), &one, AABB::from_point([1, 1]), point, limit);
         assert!(rt; counts == Some([1, 0, 1, at, near]));
     }
     let three = [
@@ -524,12 +502,12 @@ fn rectangles_are_found_as_by_a_scan(rt: HostRuntime) {
     ];
     for &(lower, upper, inside, touching, at) in &ABOUT_THREE {
         let area = AABB::from_corners(lower, upper);
-        let counts = found_rectangles(rt.alloc(), &three, area, lower, 0);
+        let counts = found(rt.alloc(), &three, area, lower, 0);
         assert!(rt; counts == Some([3, inside, touching, at, at]));
     }
     let all = rectangles(rt.alloc(), &points(rt.alloc(), 1000));
     for &point in &PLACES {
-        let counts = found_rectangles(rt.alloc(), &all, AABB::from_point(point), point, 9);
+        let counts = found(rt.alloc(), &all, AABB::from_point(point), point, 9);
         assert!(rt; counts.is_some());
     }
 }

@@ -1,6 +1,6 @@
 //! Visits that write: elements with payloads, each written in its place.
 
-ghost use Rattle.std.specs.Prelude.{◌≡◌, if◌then◌else◌, map};
+ghost use Rattle.std.specs.Prelude.{◌≡◌, ◌≤◌, if◌then◌else◌, map};
 ghost use Rattle.rstar.specs.Boxes.{boxes_intersect};
 ghost use Rattle.rstar.specs.Nodes.{elements_of, IsWhole};
 ghost use Rattle.rstar.specs.Trees.{elements_in, HasSameOutline, IsWholeTree};
@@ -53,7 +53,7 @@ fn clear_below<R: RTreeObject>(root: &mut ParentNode<GeomWithData<R, u64>>, area
 }
 
 /// The same of fences, below such a root.
-fn clear_fences_below(root: &mut ParentNode<Fence>, area: AABB<[i64; 2]>)
+pub fn clear_fences_below(root: &mut ParentNode<Fence>, area: AABB<[i64; 2]>)
     requires { IsWhole ⟦<AABB<[i64; 2]> as Envelope>⟧.boxes ⟦<Fence as RTreeObject>⟧.object root.old }
     ensures cleared { elements_of root.new
         ≡ map (λ fence. if boxes_intersect area (⟦<Fence as RTreeObject>⟧.object.box_of fence)
@@ -61,20 +61,6 @@ fn clear_fences_below(root: &mut ParentNode<Fence>, area: AABB<[i64; 2]>)
     ensures whole { IsWhole ⟦<AABB<[i64; 2]> as Envelope>⟧.boxes ⟦<Fence as RTreeObject>⟧.object root.new }
 {
     clear_below(root, area);
-}
-
-/// The same of fences that a box touches.
-pub fn clear_fences(tree: &mut RTree<Fence>, area: AABB<[i64; 2]>)
-    requires whole { IsWholeTree ⟦<AABB<[i64; 2]> as Envelope>⟧.boxes ⟦<Fence as RTreeObject>⟧.object
-        ⟦<DefaultParams as RTreeParams>⟧.MAX_SIZE tree.old }
-    ensures cleared { elements_in tree.new
-        ≡ map (λ fence. if boxes_intersect area (⟦<Fence as RTreeObject>⟧.object.box_of fence)
-        then (fence.0, 0) else fence) (elements_in tree.old) }
-    ensures outline { HasSameOutline tree.old tree.new }
-    ensures whole { IsWholeTree ⟦<AABB<[i64; 2]> as Envelope>⟧.boxes ⟦<Fence as RTreeObject>⟧.object
-        ⟦<DefaultParams as RTreeParams>⟧.MAX_SIZE tree.new }
-{
-    clear(tree, area);
 }
 
 #[cfg(test)]
@@ -147,16 +133,21 @@ mod tests {
         )
     }
 
-    /// The sums of the numbers of these fences before and after those are cleared, below the root of a load, that a box
-    /// touches; none where the load is refused.
-    fn cleared_below(fences: Vec<Fence>, area: AABB<[i64; 2]>) -> Option<(u64, u64)> {
-        if fences.is_empty() || !none_empty(&fences) {
+    /// The sums of the numbers of these elements before and after those are cleared, below the root of a load, that an
+    /// envelope touches; none where the load is refused.
+    fn cleared_below<R: RTreeObject>(
+        elements: Vec<Numbered<R>>,
+        area: R::Envelope,
+    ) -> Option<(u64, u64)>
+        requires { 2 ≤ R.Envelope.Point.DIMENSIONS }
+    {
+        if elements.is_empty() || !none_empty(&elements) {
             return None;
         }
-        match &mut bulk_load_sequential::<Fence, DefaultParams>(fences) {
+        match &mut bulk_load_sequential::<Numbered<R>, DefaultParams>(elements) {
             Ok(root) => {
                 let before = sum(&*root);
-                clear_fences_below(root, area);
+                clear_below(root, area);
                 Some((before, sum(&*root)))
             }
             Err(_) => None,

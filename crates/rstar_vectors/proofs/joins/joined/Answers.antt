@@ -1,11 +1,13 @@
-use Rattle.std.proofs.Common.{◌∙◌, ap, min}
-use Rattle.std.proofs.lemmas.Result.{IfOk-weaker}
+use Rattle.std.proofs.Common.{◌∙◌, ap, min, refl}
 use Rattle.rstar_base.specs.Counts.{usize_max}
+use Rattle.rstar.proofs.Chains.{pairs_end}
 use Rattle.rstar_vectors.proofs.Callers.{met, listed}
+use Rattle.rstar_vectors.proofs.Drained.{all-opened}
 use Rattle.rstar_vectors.proofs.joins.joined.Goals as goal
 
-pub returns-in-Ok-clause-all : goal.returns-in-Ok-clause-all
-returns-in-Ok-clause-all g c = IfOk-weaker c.paired.result _ _ (λ r given. listed given c.in-Ok.ensures.all) c.paired.ensures.given
+pub returns-in-Ok-drained-clause-all : goal.returns-in-Ok-drained-clause-all
+returns-in-Ok-drained-clause-all g c = let run = c.in-Ok-drained.ensures in listed (pairs_end _ _ refl _ _ run.1 _ run.2) c.in-Ok.ensures.all
 
-pub returns-in-Ok-clause-opened : goal.returns-in-Ok-clause-opened
-returns-in-Ok-clause-opened g c = IfOk-weaker c.paired.result _ _ (λ r opened. opened ∙ ap (λ n. min n usize_max) (met c.in-Ok.ensures.made)) c.paired.ensures.opened
+pub returns-in-Ok-drained-clause-opened : goal.returns-in-Ok-drained-clause-opened
+returns-in-Ok-drained-clause-opened g c =
+    c.opened.ensures ∙ all-opened _ _ _ _ _ _ c.in-Ok-drained.ensures ∙ ap (λ n. min n usize_max) (met c.in-Ok.ensures.made)

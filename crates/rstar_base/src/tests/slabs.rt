@@ -2,13 +2,12 @@
 
 ghost use Rattle.std.specs.Prelude.{◌<◌};
 
-use crate::scenarios::in_steps;
+use crate::clusters::{ClusterGroupIterator, calculate_number_of_clusters_on_axis};
+use crate::envelope::Envelope;
+use crate::object::{Distance, RTreeObject, partition_envelopes};
+use crate::params::DefaultParams;
+use crate::point::least;
 use num_traits::Zero;
-use rstar_base::clusters::{ClusterGroupIterator, calculate_number_of_clusters_on_axis};
-use rstar_base::envelope::Envelope;
-use rstar_base::object::{Distance, RTreeObject, partition_envelopes};
-use rstar_base::params::DefaultParams;
-use rstar_base::point::least;
 use std::alloc::{AllocError, Global};
 
 /// Whether there is a slab, and it has this length, and this least key on an axis, or 0 if that is less.
@@ -48,6 +47,17 @@ fn are_cut<T: RTreeObject>(
     are_so && slabs.next().is_none() && slabs.cluster_dimension() == axis
 }
 
+/// So many of the points [0, 0], [-1, -1], ..
+fn falling(alloc: Global, count: usize) -> Vec<[i32; 2]> {
+    let mut points = Vec::new(alloc);
+    let mut at = 0i32;
+    for _ in 0..count {
+        let _refused = points.push([at, at]).is_err();
+        at = at.wrapping_sub(1);
+    }
+    points
+}
+
 /// Whether so many of the points [0, 0], [-1, -1], .. are cut along an axis into slabs of these lengths and least
 /// coordinates.
 fn cuts(
@@ -60,8 +70,7 @@ fn cuts(
     if clusters == 0 || 2 <= axis {
         return false;
     }
-    let points = in_steps(alloc, count, [0, 0], [-1, -1]);
-    are_cut(points, clusters, axis, wanted)
+    are_cut(falling(alloc, count), clusters, axis, wanted)
 }
 
 // How many points, the number of slabs, the axis, and the lengths and least coordinates.
@@ -106,8 +115,7 @@ fn come_to_an_end<T: RTreeObject>(elements: Vec<T>, clusters: usize, axis: usize
 /// Nine points in three slabs; `rt try --test --fail-alloc N` refuses the Nth allocation.
 #[test]
 fn a_refused_slab_ends_the_slabs(rt: HostRuntime) {
-    let nine = in_steps(rt.alloc(), 9, [0, 0], [-1, -1]);
-    assert!(rt; come_to_an_end(nine, 3, 0));
+    assert!(rt; come_to_an_end(falling(rt.alloc(), 9), 3, 0));
 }
 
 #[test]
@@ -169,8 +177,8 @@ fn a_partition_splits_equal_keys_too(rt: HostRuntime) {
             assert!(rt; splits(count, keys, k));
         }
     }
-    let mut equal = in_steps(rt.alloc(), 1000, [5, 5], [0, 0]);
-    assert!(rt; equal.len() == 1000 && are_split(&mut equal, 3));
+    let mut equal = [[5i32, 5]; 1000];
+    assert!(rt; are_split(&mut equal, 3));
     for point in &equal {
         assert!(rt; point[0] == 5 && point[1] == 5);
     }

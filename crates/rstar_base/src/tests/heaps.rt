@@ -3,7 +3,7 @@
 ghost use Rattle.std.specs.Ordering.{int_cmp};
 ghost use Rattle.rstar_base.specs.SmallHeaps.{IsOrdered};
 
-use rstar_base::heap::SmallHeap;
+use crate::heap::SmallHeap;
 use std::alloc::Global;
 
 /// What is done to a heap.

@@ -1,26 +1,33 @@
 //! Elements: what each answers on given numbers.
-//!
-//! What is asked is generic over the points, a test gives rows: the same steps at a concrete type are dear to prove.
 
 ghost use Rattle.std.specs.Prelude.{◌≤◌};
 ghost use Rattle.rstar_base.specs.Elements.{carried_objects};
 
-use crate::scenarios::is_so_far;
-use rstar::RTree;
-use rstar::algorithm::bulk_load::none_empty;
-use rstar_base::aabb::AABB;
-use rstar_base::envelope::Envelope;
-use rstar_base::object::{
-    Distance, EqualEnvelopes, PointDistance, PointOf, RTreeObject, partition_envelopes,
-    sort_envelopes,
+use crate::aabb::AABB;
+use crate::envelope::Envelope;
+use crate::object::{
+    Distance, PointDistance, PointOf, RTreeObject, partition_envelopes, sort_envelopes,
 };
-use rstar_base::point::Point;
-use rstar_base::primitives::{
-    CachedEnvelope, GeomWithData, Line, ObjectRef, PointWithData, Rectangle,
-};
+use crate::point::{Point, RTreeNum};
+use crate::primitives::{CachedEnvelope, GeomWithData, Line, ObjectRef, PointWithData, Rectangle};
+use num_traits::One;
 use std::alloc::Global;
 use std::cell::Cell;
 use std::rc::Rc;
+
+/// Whether an element lies at this squared distance from a point, and within no lesser one, and contains the point as told.
+fn is_so_far<T: PointDistance>(
+    element: &T,
+    point: &PointOf<T>,
+    distance: Distance<T>,
+    contained: bool,
+) -> bool {
+    let below = distance.clamped_sub(Distance::<T>::one());
+    element.contains_point(point) == contained
+        && element.distance_2(point) == distance
+        && element.distance_2_if_less_or_equal(point, below).is_none()
+        && element.distance_2_if_less_or_equal(point, distance) == Some(distance)
+}
 
 /// The ends of a line and its squared length, a point, the line's nearest point, and the squared distance.
 type LineRow<P> = (P, P, <P as Point>::Scalar, P, P, <P as Point>::Scalar);
@@ -238,43 +245,4 @@ fn is_asked_once<P: Point + Copy>(at: P) -> bool {
 #[test]
 fn a_cached_envelope_is_asked_for_once(rt: HostRuntime) {
     assert!(rt; is_asked_once([1i64, 2]));
-}
-
-/// Whether a load of two elements contains such a one.
-fn load_contains<T: EqualEnvelopes>(alloc: Global, one: T, other: T, wanted: &T) -> bool
-    requires { 2 ≤ T.Envelope.Point.DIMENSIONS }
-{
-    let mut elements = Vec::new(alloc);
-    if elements.push(one).is_err() || elements.push(other).is_err() || !none_empty(&elements) {
-        return false;
-    }
-    match &RTree::<T>::bulk_load(elements) {
-        Ok(tree) => tree.contains(wanted),
-        Err(_) => false,
-    }
-}
-
-/// Whether loads of two lines, each with a number, and each with its envelope beside it, contain the first.
-fn loads_contain_the_first<P: Point + Copy>(alloc: Global, one: Line<P>, other: Line<P>) -> bool
-    requires { 2 ≤ P.DIMENSIONS }
-{
-    load_contains(
-        alloc,
-        GeomWithData::new(one, 7u64),
-        GeomWithData::new(other, 7),
-        &GeomWithData::new(one, 7),
-    ) && load_contains(
-        alloc,
-        CachedEnvelope::new(one),
-        CachedEnvelope::new(other),
-        &CachedEnvelope::new(one),
-    )
-}
-
-// rstar's tests `container_in_rtree`, of a line with a number and of one with its envelope beside it.
-#[test]
-fn loads_contain_what_holds_a_line(rt: HostRuntime) {
-    let one = Line::new([0i64, 0], [1, 1]);
-    let other = Line::new([0, 0], [-1, 1]);
-    assert!(rt; loads_contain_the_first(rt.alloc(), one, other));
 }

@@ -1,8 +1,8 @@
 //! Scalars and points: each type at its ends, each shape of point through its bound.
 
+use crate::mint::{Point2, Point3};
+use crate::point::{Point, RTreeNum};
 use num_traits::Zero;
-use rstar_base::mint::{Point2, Point3};
-use rstar_base::point::{Point, RTreeNum};
 
 /// Sums and differences of a scalar type's ends, the least and the greatest.
 fn sums_at_ends<S: RTreeNum>(low: S, high: S, minus_one: S) -> bool {
