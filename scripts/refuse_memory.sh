@@ -1,45 +1,87 @@
 #!/usr/bin/env bash
-# Refuses each allocation of a long run in turn, as the proved program makes them: the answers so far, then
-# `error: memory` and status 3. It builds the program, and puts a shim before the C library's allocations.
+# Refuses each allocation in turn, one a run, by a shim before the C library's allocations:
+#
+# - of the tests that expect refusals (crates/rstar_vectors/src/refusals.rt), those between two marks, which are lists of a
+#   size that nothing else asks for: each test passes whatever is refused;
+# - of the program over examples/levels.txt, all of them: the answers so far, then `error: memory` and status 3.
+#
+# Both are built first, as proved. The last line has the figures.
 set -euo pipefail
 top=$(cd "$(dirname "$0")/.." && pwd)
-input=$top/examples/levels.txt
 work=$(mktemp -d)
 trap 'rm -rf "$work"' EXIT
 cat >"$work/refuse.c" <<'C'
 #define _GNU_SOURCE
 #include <dlfcn.h>
 #include <errno.h>
+#include <fcntl.h>
 #include <stdlib.h>
-static long left = -1;
-static int refused(void) {
+#include <unistd.h>
+/* REFUSE is the number of the allocation to refuse; with MARK those after a list of so many bytes count, up to the next. */
+static long left = -1, mark, counts;
+static int refused(size_t n) {
   if (left < 0) {
-    const char *n = getenv("REFUSE");
-    left = n ? atol(n) : 0;
+    const char *number = getenv("REFUSE"), *marked = getenv("MARK");
+    left = number ? atol(number) : 0;
+    mark = marked ? atol(marked) : 0;
+    counts = !mark;
   }
-  return left > 0 && --left == 0;
+  if (mark && n == (size_t)mark) {
+    counts = !counts;
+    return 0;
+  }
+  if (!counts || left == 0 || --left > 0) return 0;
+  const char *said = getenv("SAID");
+  if (said) close(open(said, O_CREAT | O_WRONLY, 0600));
+  return 1;
 }
 #define NEXT(name) static typeof(&name) next; if (!next) next = dlsym(RTLD_NEXT, #name)
-void *malloc(size_t n) { NEXT(malloc); return refused() ? 0 : next(n); }
-void *realloc(void *p, size_t n) { NEXT(realloc); return refused() ? 0 : next(p, n); }
-void *aligned_alloc(size_t a, size_t n) { NEXT(aligned_alloc); return refused() ? 0 : next(a, n); }
-int posix_memalign(void **p, size_t a, size_t n) { NEXT(posix_memalign); return refused() ? ENOMEM : next(p, a, n); }
+void *malloc(size_t n) { NEXT(malloc); return refused(n) ? 0 : next(n); }
+void *realloc(void *p, size_t n) { NEXT(realloc); return refused(n) ? 0 : next(p, n); }
+void *aligned_alloc(size_t a, size_t n) { NEXT(aligned_alloc); return refused(n) ? 0 : next(a, n); }
+int posix_memalign(void **p, size_t a, size_t n) { NEXT(posix_memalign); return refused(n) ? ENOMEM : next(p, a, n); }
 C
 cc -O2 -shared -fPIC -o "$work/refuse.so" "$work/refuse.c" -ldl
+
+# Runs a command with its n-th allocation refused; tells by $work/said whether one was.
+refuse() {
+  rm -f "$work/said"
+  SAID=$work/said REFUSE=$1 LD_PRELOAD=$work/refuse.so "${@:2}"
+}
+
+cd "$top/crates/rstar_vectors"
+rt test >"$work/tests" 2>&1 || { cat "$work/tests" >&2; exit 1; }
+calls=0
+refusals=0
+for name in $(out/rstar_vectors_tests --list | sed -n 's/^\(refusals::[a-z_]*\).*/\1/p'); do
+  for ((n = 1; ; n++)); do
+    if ! MARK=10007 refuse "$n" out/rstar_vectors_tests "$name" >"$work/told" 2>&1; then
+      echo "$name: allocation $n" >&2
+      cat "$work/told" >&2
+      exit 1
+    fi
+    calls=$((calls + 1))
+    [[ -e $work/said ]] || break
+    refusals=$((refusals + 1))
+  done
+done
+[[ $refusals -gt 0 ]] || { echo 'no allocation of a test was refused' >&2; exit 1; }
+
 cd "$top/crates/rstar_run"
+input=$top/examples/levels.txt
 rt run <"$input" 2>/dev/null >"$work/whole"
 for ((n = 1; n <= 10000; n++)); do
   status=0
-  REFUSE=$n LD_PRELOAD=$work/refuse.so out/rstar_run <"$input" >"$work/said" || status=$?
-  if [[ $status == 0 ]] && cmp -s "$work/said" "$work/whole"; then
-    echo "refused $((n - 1)) allocations, one a run"
+  refuse "$n" out/rstar_run <"$input" >"$work/told" || status=$?
+  if [[ ! -e $work/said && $status == 0 ]] && cmp -s "$work/told" "$work/whole"; then
+    echo "tests: $calls runs, $refusals refusals; the program: $n runs, $((n - 1)) refusals; all as they should be"
     exit 0
   fi
   # The answers to some lines, and the end.
-  lines=$(($(wc -l <"$work/said") - 1))
+  lines=$(($(wc -l <"$work/told") - 1))
   { head -n "$lines" "$work/whole" && echo 'error: memory'; } >"$work/want"
-  if [[ $status != 3 ]] || ! cmp -s "$work/said" "$work/want"; then
-    echo "allocation $n: status $status" >&2
+  if [[ $status != 3 ]] || ! cmp -s "$work/told" "$work/want"; then
+    echo "the program: allocation $n: status $status" >&2
     exit 1
   fi
 done

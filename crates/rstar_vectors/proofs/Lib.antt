@@ -1,5 +1,6 @@
 pub mod Callers
 pub mod Drained
+pub mod Faces
 pub mod FirstSeen
 pub mod Fits
 pub mod LeftHalf

@@ -1,5 +1,6 @@
 pub mod Stretches
 pub mod laws
 pub mod Doors
+pub mod Frames
 pub mod Callers
 pub mod Fits

@@ -80,7 +80,7 @@ fn squared_gap<S: RTreeNum>(from: S, to: S, at: S) -> S
 }
 
 /// The square of the distance to the nearer end, held at the greatest scalar.
-fn squared_nearer_end<S: RTreeNum>(from: S, to: S, at: S) -> S
+pub(crate) fn squared_nearer_end<S: RTreeNum>(from: S, to: S, at: S) -> S
     ensures { S.value result
         ≡ pos (held_square (unsigned_abs S.high) (nearer_end (S.value from) (S.value to) (S.value at))) }
 {

@@ -6,7 +6,11 @@ mod counted;
 #[cfg(test)]
 mod doors;
 #[cfg(test)]
+mod extremes;
+#[cfg(test)]
 mod fences;
+#[cfg(test)]
+mod frames;
 #[cfg(test)]
 mod insertion;
 #[cfg(test)]
@@ -27,6 +31,8 @@ mod payloads;
 mod places;
 #[cfg(test)]
 mod readings;
+#[cfg(test)]
+mod refusals;
 #[cfg(test)]
 mod reinsertion;
 #[cfg(test)]

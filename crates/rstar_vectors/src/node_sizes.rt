@@ -118,6 +118,35 @@ impl RTreeParams for Large {
     ghost reinsertion_leaves = { Prim.omega arith };
 }
 
+/// Nodes of ten to forty.
+pub(crate) struct Tens;
+
+impl RTreeParams for Tens {
+    ghost use Rattle.std.proofs.Common.{arith};
+
+    ghost MIN_SIZE = { 10 };
+
+    ghost MAX_SIZE = { 40 };
+
+    ghost REINSERTION_COUNT = { 5 };
+
+    const MIN_SIZE: usize = 10;
+
+    const MAX_SIZE: usize = 40;
+
+    const REINSERTION_COUNT: usize = 5;
+
+    ghost max_at_least_four = { Prim.omega arith };
+
+    ghost max_fits = { Prim.omega arith };
+
+    ghost min_positive = { Prim.omega arith };
+
+    ghost min_at_most_half = { Prim.omega arith };
+
+    ghost reinsertion_leaves = { Prim.omega arith };
+}
+
 /// Wide nodes.
 pub(crate) struct Wide;
 

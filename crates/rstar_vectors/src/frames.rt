@@ -1,0 +1,117 @@
+//! An element type of a user's own: the outline of a box.
+
+ghost use Rattle.std.specs.Prelude.{◌≡◌, pos};
+ghost use Rattle.rstar_base.specs.Boxes.{merge_boxes};
+ghost use Rattle.rstar_base.specs.Points.{table};
+ghost use Rattle.rstar_vectors.specs.Doors.{corner, doors_objects};
+ghost use Rattle.rstar_vectors.specs.Frames.{nearest_face, frame_distances};
+ghost use Rattle.rstar_vectors.specs.laws.DoorsLaws.{doors_object_law};
+ghost use Rattle.rstar_vectors.specs.laws.FrameLaws.{frame_laws};
+
+use crate::interval::squared_nearer_end;
+use num_traits::{Bounded, Zero};
+use rstar_base::aabb::AABB;
+use rstar_base::envelope::Envelope;
+use rstar_base::object::{PointDistance, RTreeObject, contains_by_distance};
+use rstar_base::point::{Point, least};
+
+/// The outline of the box between two opposite corners. It is as far from a point inside as its nearest face, and as far as
+/// the box from a point outside.
+#[derive(Clone, Copy, Debug, PartialEq, Drop)]
+pub struct Frame<P> {
+    /// The one corner.
+    pub one: P,
+    /// The corner opposite to it.
+    pub other: P,
+}
+
+/// The squared distance from a point inside a box to the nearest face, held at the greatest scalar; 0 with no axis.
+fn nearest_face<P: Point>(one: &P, other: &P, point: &P) -> P::Scalar
+    ensures { P.Scalar.value result ≡ pos (nearest_face P.Scalar.high
+        (merge_boxes (corner P.DIMENSIONS (P.coord one.now)) (corner P.DIMENSIONS (P.coord other.now)))
+        (table P.DIMENSIONS (P.coord point.now))) }
+{
+    let mut nearest = P::Scalar::max_value();
+    for axis in 0..P::DIMENSIONS {
+        let face = squared_nearer_end(one.nth(axis), other.nth(axis), point.nth(axis));
+        nearest = least(nearest, face);
+    }
+    if P::DIMENSIONS == 0 {
+        P::Scalar::zero()
+    } else {
+        nearest
+    }
+}
+
+impl<P: Point> RTreeObject for Frame<P> {
+    type Envelope = AABB<P>;
+
+    ghost object = { doors_objects P.Scalar.low P.Scalar.high P.DIMENSIONS (λ f. P.coord f.one)
+        (λ f. P.coord f.other) };
+
+    fn envelope(&self) -> AABB<P> {
+        self.one.envelope().merged(&self.other.envelope())
+    }
+
+    ghost object_law = { doors_object_law P.Scalar.low P.Scalar.high P.DIMENSIONS (λ f. P.coord f.one)
+        (λ f. P.coord f.other) };
+}
+
+impl<P: Point> PointDistance for Frame<P> {
+    ghost distances = { frame_distances P.Scalar.high P.DIMENSIONS (λ f. P.coord f.one) (λ f. P.coord f.other) };
+
+    fn distance_2(&self, point: &P) -> P::Scalar {
+        let envelope = self.envelope();
+        if envelope.contains_point(point) {
+            nearest_face(&self.one, &self.other, point)
+        } else {
+            envelope.distance_2(point)
+        }
+    }
+
+    fn contains_point(&self, point: &P) -> bool {
+        self.envelope().contains_point(point) && contains_by_distance(self.distance_2(point))
+    }
+
+    ghost distance_laws = { frame_laws P.Scalar.low P.Scalar.high P.DIMENSIONS (λ f. P.coord f.one)
+        (λ f. P.coord f.other) };
+}
+
+#[cfg(test)]
+mod tests {
+    use super::*;
+    use crate::neighbour_rows::come_and_go;
+    use crate::scenarios::lies_at;
+
+    const WIDE: Frame<[i32; 2]> = Frame {
+        one: [0, 10],
+        other: [10, 0],
+    };
+
+    // A point, its squared distance from the outline, and whether it lies on it: inside, nearest to a face or in the middle,
+    // on a face and at a corner, and outside.
+    #[test]
+    fn the_nearest_face_counts(rt: HostRuntime) {
+        const ROWS: [([i32; 2], i32, bool); 6] = [
+            ([5, 5], 25, false),
+            ([2, 7], 4, false),
+            ([10, 5], 0, true),
+            ([0, 10], 0, true),
+            ([12, 5], 4, false),
+            ([-3, 14], 25, false),
+        ];
+        for &(point, distance, is_on) in &ROWS {
+            assert!(rt; lies_at(&WIDE, &point, distance, distance - 1, is_on));
+        }
+    }
+
+    // The inner frame is nearer to a point between both than the outer one, whose box contains it.
+    #[test]
+    fn an_inner_frame_comes_first(rt: HostRuntime) {
+        let inner = Frame {
+            one: [4, 8],
+            other: [6, 9],
+        };
+        assert!(rt; come_and_go(rt.alloc(), &[WIDE, inner], [5, 5], &[9, 25], &[]));
+    }
+}

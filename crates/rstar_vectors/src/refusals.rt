@@ -1,0 +1,427 @@
+//! Calls that may be refused. Where one is, the tree is as it was, and the call, made once more, answers as it does where
+//! nothing is refused; with memory there each answers at once. `scripts/refuse_memory.sh` refuses each allocation between two
+//! marks, one a run.
+
+ghost use Rattle.std.specs.Prelude.{◌≡◌, ◌≤◌, false};
+ghost use Rattle.rstar_base.specs.Sizes.{IsNarrow};
+ghost use Rattle.rstar.specs.Neighbors.{with_distances, IsSearching};
+ghost use Rattle.rstar.specs.Trees.{IsWholeTree};
+
+use crate::joins::joined;
+use crate::loads::{shown, shows};
+use crate::neighbour_rows::fits;
+use crate::neighbours::in_order;
+use crate::node_sizes::Tens;
+use crate::payloads::{Walked, all_of, here, inside, near, touched};
+use crate::scenarios::{inserted, load_of, loaded, points, stands};
+use rstar::algorithm::nearest_neighbor::NearestNeighborIterator;
+use rstar::algorithm::selection_functions::SelectAllFunc;
+use rstar::object::{Distance, PointOf};
+use rstar::{
+    AABB, DefaultParams, Envelope, EqualEnvelopes, InsertCause, Point, PointDistance, RTree,
+    RTreeObject, RTreeParams,
+};
+use std::alloc::{AllocError, Global};
+use std::fmt::Debug;
+
+/// How many bytes a mark asks for. The script counts the allocations after one such, up to the next.
+const MARK: usize = 10007;
+
+/// Asks for a list that nothing but a mark asks for, and whether it was had.
+fn is_marked(alloc: Global) -> bool {
+    match &Vec::<u8>::with_capacity(alloc, MARK) {
+        Ok(list) => MARK <= list.capacity(),
+        Err(_) => false,
+    }
+}
+
+/// An envelope, a point, and a squared distance.
+type Asked<T> = (<T as RTreeObject>::Envelope, PointOf<T>, Distance<T>);
+
+/// What the first five questions give: all elements, those in an envelope, those that it touches, those that contain a
+/// point, and those within a distance of it.
+fn selected<'a, T: PointDistance>(
+    alloc: Global,
+    tree: &'a RTree<T>,
+    question: usize,
+    asked: &Asked<T>,
+) -> Result<Walked<'a, T>, AllocError>
+where
+    T::Envelope: Copy,
+    PointOf<T>: Copy,
+    requires { IsWholeTree T.Envelope.boxes T.object ⟦<DefaultParams as RTreeParams>⟧.MAX_SIZE tree.now }
+{
+    match question {
+        0 => all_of(alloc, tree),
+        1 => inside(alloc, tree, asked.0),
+        2 => touched(alloc, tree, asked.0),
+        3 => here(alloc, tree, asked.1),
+        _ => near(alloc, tree, asked.1, asked.2),
+    }
+}
+
+/// How many elements a question gives, none where it is refused: those five, all pairs of a join of the tree with itself,
+/// the elements of a clone, whether there is a nearest neighbour, all the nearest, all that are lent nearest first, and all
+/// that an iterator gives.
+fn counted<T: PointDistance + Copy>(
+    alloc: Global,
+    tree: &RTree<T>,
+    question: usize,
+    asked: &Asked<T>,
+) -> Option<usize>
+where
+    T::Envelope: Copy,
+    PointOf<T>: Copy,
+    requires narrow { IsNarrow T.Envelope.Point.row }
+    requires whole { IsWholeTree T.Envelope.boxes T.object ⟦<DefaultParams as RTreeParams>⟧.MAX_SIZE tree.now }
+{
+    match question {
+        5 => match &joined(alloc, tree, tree) {
+            Ok((pairs, _)) => Some(pairs.len()),
+            Err(_) => None,
+        },
+        6 => match &tree.clone() {
+            Ok(copy) => Some(copy.size()),
+            Err(_) => None,
+        },
+        7 => match tree.nearest_neighbor(asked.1) {
+            Ok(found) => Some(usize::from(found.is_some())),
+            Err(_) => None,
+        },
+        8 => match &tree.nearest_neighbors(&asked.1) {
+            Ok(all) => Some(all.len()),
+            Err(_) => None,
+        },
+        9 => match &tree.first_neighbors(&asked.1, usize::MAX) {
+            Ok(all) => Some(all.len()),
+            Err(_) => None,
+        },
+        10 => match &in_order(alloc, tree, asked.1) {
+            Ok((all, _)) => Some(all.len()),
+            Err(_) => None,
+        },
+        _ => match &selected(alloc, tree, question, asked) {
+            Ok((all, _)) => Some(all.len()),
+            Err(_) => None,
+        },
+    }
+}
+
+/// Whether a question gives so many, at once or, where it was refused and the tree shows the same, once more.
+fn is_answered<T: PointDistance + Copy + Debug>(
+    alloc: Global,
+    tree: &RTree<T>,
+    question: usize,
+    asked: &Asked<T>,
+    wanted: usize,
+) -> bool
+where
+    T::Envelope: Copy,
+    PointOf<T>: Copy,
+    requires narrow { IsNarrow T.Envelope.Point.row }
+    requires whole { IsWholeTree T.Envelope.boxes T.object ⟦<DefaultParams as RTreeParams>⟧.MAX_SIZE tree.now }
+{
+    let before = &shown(alloc, tree.root());
+    let count = tree.size();
+    let is_begun = is_marked(alloc);
+    let first = counted(alloc, tree, question, asked);
+    let is_ended = is_marked(alloc);
+    is_begun
+        && is_ended
+        && (first == Some(wanted)
+            || first.is_none()
+                && tree.size() == count
+                && shows_again(alloc, tree, before)
+                && counted(alloc, tree, question, asked) == Some(wanted))
+}
+
+/// Whether a tree shows the text that was noted of it.
+fn shows_again<T: RTreeObject + Debug, Params: RTreeParams>(
+    alloc: Global,
+    tree: &RTree<T, Params>,
+    noted: &Result<String, AllocError>,
+) -> bool {
+    match noted {
+        Ok(text) => shows(alloc, tree.root(), text.as_str()),
+        Err(_) => false,
+    }
+}
+
+/// Whether each question to a load of these elements gives as many as told, once more where it is refused.
+fn are_answered<T: PointDistance + Copy + Debug>(
+    alloc: Global,
+    elements: &[T],
+    asked: &Asked<T>,
+    counts: &[usize],
+) -> bool
+where
+    T::Envelope: Copy,
+    PointOf<T>: Copy,
+    requires narrow { IsNarrow T.Envelope.Point.row }
+    requires dimensions { 2 ≤ T.Envelope.Point.DIMENSIONS }
+{
+    let tree = loaded::<T, DefaultParams>(alloc, elements);
+    for question in 0..counts.len() {
+        if !is_answered(alloc, &tree, question, asked, counts[question]) {
+            return false;
+        }
+    }
+    tree.size() == elements.len()
+}
+
+// Of 28 points, in two levels of parents below the root: all, those in a box, those that it touches, those at a point, those
+// within a distance, the pairs of the tree with itself, a clone, the nearest, all the nearest, and all in order, twice.
+#[test]
+fn questions_that_are_refused(rt: HostRuntime) {
+    let asked = (AABB::from_corners([0, 0], [50, 50]), [0, 0], 2500);
+    let counts = [28, 7, 7, 1, 7, 28, 28, 1, 1, 28, 28];
+    assert!(rt; are_answered(rt.alloc(), &points(rt.alloc(), 28), &asked, &counts));
+}
+
+/// Whether an element goes into a tree, at once or, where it was refused for want of memory, was handed back and the tree
+/// shows the same, once more; and the tree then stands with one more.
+fn goes_in<T: EqualEnvelopes + Copy + Debug>(alloc: Global, tree: &mut RTree<T>, element: T) -> bool
+    requires whole { IsWholeTree T.Envelope.boxes T.object ⟦<DefaultParams as RTreeParams>⟧.MAX_SIZE tree.old }
+    requires element { T.Envelope.boxes.is_empty (T.object.box_of element) ≡ false }
+    ensures { IsWholeTree T.Envelope.boxes T.object ⟦<DefaultParams as RTreeParams>⟧.MAX_SIZE tree.new }
+{
+    let before = &shown(alloc, tree.root());
+    let count = tree.size();
+    let is_begun = is_marked(alloc);
+    let first = tree.insert(element);
+    let is_ended = is_marked(alloc);
+    let is_in = match first {
+        Ok(()) => true,
+        Err(refused) => {
+            let is_same = refused.cause == InsertCause::NoMemory
+                && refused.element == element
+                && tree.size() == count
+                && shows_again(alloc, &*tree, before);
+            tree.insert(refused.element).is_ok() && is_same
+        }
+    };
+    is_begun && is_ended && is_in && tree.size() == count.saturating_add(1) && stands(&*tree)
+}
+
+/// Whether these elements go into a tree so, one after another.
+fn all_go_in<T: EqualEnvelopes + Copy + Debug>(alloc: Global, elements: &[T]) -> bool {
+    let mut tree: RTree<T> = RTree::default(alloc);
+    for element in elements {
+        if element.envelope().is_empty() || !goes_in(alloc, &mut tree, *element) {
+            return false;
+        }
+    }
+    true
+}
+
+/// Whether a load of these elements stands and has as many, at once or once more.
+fn is_loaded<T: RTreeObject + Copy>(alloc: Global, elements: &[T]) -> bool
+    requires { 2 ≤ T.Envelope.Point.DIMENSIONS }
+{
+    let is_begun = is_marked(alloc);
+    let first = &load_of::<T, DefaultParams>(alloc, elements);
+    let is_ended = is_marked(alloc);
+    is_begun
+        && is_ended
+        && match first {
+            Ok(tree) => tree.size() == elements.len() && stands(tree),
+            Err(_) => {
+                let tree = loaded::<T, DefaultParams>(alloc, elements);
+                tree.size() == elements.len() && stands(&tree)
+            }
+        }
+}
+
+// The seven points on a line in two groups, 22 that reinsert and split more, and loads of 25 and of 28.
+#[test]
+fn insertions_and_loads_that_are_refused(rt: HostRuntime) {
+    for &count in &[7, 22] {
+        assert!(rt; all_go_in(rt.alloc(), &points(rt.alloc(), count)));
+    }
+    for &count in &[25, 28] {
+        assert!(rt; is_loaded(rt.alloc(), &points(rt.alloc(), count)));
+    }
+}
+
+/// Whether a drain is made: of all, of those in an envelope, of those that it touches, of those near a point, and of all by
+/// a function.
+fn is_made<T: PointDistance>(
+    tree: &mut RTree<T>,
+    drain: usize,
+    area: T::Envelope,
+    point: PointOf<T>,
+    limit: Distance<T>,
+) -> bool
+    requires { IsWholeTree T.Envelope.boxes T.object ⟦<DefaultParams as RTreeParams>⟧.MAX_SIZE tree.old }
+    ensures { IsWholeTree T.Envelope.boxes T.object ⟦<DefaultParams as RTreeParams>⟧.MAX_SIZE tree.new }
+{
+    match drain {
+        0 => tree.drain().is_ok(),
+        1 => tree.drain_in_envelope(area).is_ok(),
+        2 => tree.drain_in_envelope_intersecting(area).is_ok(),
+        3 => tree.drain_within_distance(point, limit).is_ok(),
+        _ => tree.drain_with_selection_function(SelectAllFunc).is_ok(),
+    }
+}
+
+/// Whether a drain is made, at once or once more, and leaves the tree where no `next` was asked for, made or refused.
+fn is_made_again<T: PointDistance + Debug>(
+    alloc: Global,
+    tree: &mut RTree<T>,
+    drain: usize,
+    asked: &Asked<T>,
+) -> bool
+where
+    T::Envelope: Copy,
+    PointOf<T>: Copy,
+    requires { IsWholeTree T.Envelope.boxes T.object ⟦<DefaultParams as RTreeParams>⟧.MAX_SIZE tree.old }
+    ensures { IsWholeTree T.Envelope.boxes T.object ⟦<DefaultParams as RTreeParams>⟧.MAX_SIZE tree.new }
+{
+    let before = &shown(alloc, tree.root());
+    let count = tree.size();
+    let is_begun = is_marked(alloc);
+    let is_first = is_made(tree, drain, asked.0, asked.1, asked.2);
+    let is_ended = is_marked(alloc);
+    is_begun
+        && is_ended
+        && tree.size() == count
+        && shows_again(alloc, &*tree, before)
+        && (is_first || is_made(tree, drain, asked.0, asked.1, asked.2))
+}
+
+/// Whether a nearest neighbour is popped, at once or, where it was refused and the tree shows the same, once more.
+fn is_popped<T: PointDistance + Debug>(
+    alloc: Global,
+    tree: &mut RTree<T>,
+    place: PointOf<T>,
+) -> bool
+where
+    PointOf<T>: Copy,
+    requires { IsWholeTree T.Envelope.boxes T.object ⟦<DefaultParams as RTreeParams>⟧.MAX_SIZE tree.old }
+    ensures { IsWholeTree T.Envelope.boxes T.object ⟦<DefaultParams as RTreeParams>⟧.MAX_SIZE tree.new }
+{
+    let before = &shown(alloc, tree.root());
+    let count = tree.size();
+    let is_begun = is_marked(alloc);
+    let first = tree.pop_nearest_neighbor(place);
+    let is_ended = is_marked(alloc);
+    let is_out = match first {
+        Ok(found) => found.is_some(),
+        Err(_) => {
+            let is_same = tree.size() == count && shows_again(alloc, &*tree, before);
+            matches!(tree.pop_nearest_neighbor(place), Ok(Some(_))) && is_same
+        }
+    };
+    is_begun && is_ended && is_out && tree.size().saturating_add(1) == count
+}
+
+/// Whether a tree is taken apart into so many elements, at once or, where it was refused and is handed back as it was, once
+/// more.
+fn is_taken_apart<T: RTreeObject + Debug>(alloc: Global, tree: RTree<T>, count: usize) -> bool
+    requires { IsWholeTree T.Envelope.boxes T.object ⟦<DefaultParams as RTreeParams>⟧.MAX_SIZE tree }
+{
+    let before = &shown(alloc, tree.root());
+    let is_begun = is_marked(alloc);
+    let first = tree.into_iter();
+    let is_ended = is_marked(alloc);
+    let all = match first {
+        Ok(all) => all,
+        Err(back) => {
+            if back.size() != count || !shows_again(alloc, &back, before) {
+                return false;
+            }
+            match back.into_iter() {
+                Ok(all) => all,
+                Err(_) => return false,
+            }
+        }
+    };
+    let list: Result<Vec<T>, AllocError> = all.collect(alloc);
+    is_begun
+        && is_ended
+        && match &list {
+            Ok(list) => list.len() == count,
+            Err(_) => false,
+        }
+}
+
+/// Whether a load of these elements makes each drain, pops one, and is taken apart, once more where that is refused.
+fn change<T: PointDistance + Copy + Debug>(alloc: Global, elements: &[T], asked: &Asked<T>) -> bool
+where
+    T::Envelope: Copy,
+    PointOf<T>: Copy,
+    requires { 2 ≤ T.Envelope.Point.DIMENSIONS }
+{
+    let mut tree = loaded::<T, DefaultParams>(alloc, elements);
+    for drain in 0..5usize {
+        if !is_made_again(alloc, &mut tree, drain, asked) {
+            return false;
+        }
+    }
+    is_popped(alloc, &mut tree, asked.1)
+        && stands(&tree)
+        && is_taken_apart(alloc, tree, elements.len().saturating_sub(1))
+}
+
+// The same 28 points.
+#[test]
+fn changes_that_are_refused(rt: HostRuntime) {
+    let asked = (AABB::from_corners([0, 0], [50, 50]), [0, 0], 2500);
+    assert!(rt; change(rt.alloc(), &points(rt.alloc(), 28), &asked));
+}
+
+/// How many neighbours come before none does, or before one that is refused, and whether one is.
+fn come<T: PointDistance>(
+    neighbors: &mut NearestNeighborIterator<'_, T>,
+    most: usize,
+) -> (usize, bool)
+    requires { IsSearching T.Envelope.boxes T.object T.distances T.Envelope.Point.DIMENSIONS
+        T.Envelope.Point.coord T.Envelope.Point.Scalar.cmp T.Envelope.Point.Scalar.value
+        (with_distances neighbors.old) }
+    ensures { IsSearching T.Envelope.boxes T.object T.distances T.Envelope.Point.DIMENSIONS
+        T.Envelope.Point.coord T.Envelope.Point.Scalar.cmp T.Envelope.Point.Scalar.value
+        (with_distances neighbors.new) }
+{
+    for turn in 0..most {
+        let item = neighbors.next();
+        if !matches!(item, Some(Ok(_))) {
+            return (turn, item.is_some());
+        }
+    }
+    (most, false)
+}
+
+/// Whether an iterator over neighbours in a load of these elements gives all, or is refused once and then gives none for
+/// good, and the tree gives all to another one.
+fn end_once<T: PointDistance + Copy, Params: RTreeParams>(
+    alloc: Global,
+    elements: &[T],
+    place: PointOf<T>,
+) -> bool
+where
+    PointOf<T>: Copy,
+    requires narrow { IsNarrow T.Envelope.Point.row }
+    requires dimensions { 2 ≤ T.Envelope.Point.DIMENSIONS }
+{
+    fits::<PointOf<T>>();
+    let tree = loaded::<T, Params>(alloc, elements);
+    let count = elements.len();
+    let is_begun = is_marked(alloc);
+    let mut neighbors = tree.nearest_neighbor_iter(place);
+    let (came, is_refused) = come(&mut neighbors, usize::MAX);
+    let is_over = neighbors.next().is_none() && neighbors.next().is_none();
+    let is_ended = is_marked(alloc);
+    let mut others = tree.nearest_neighbor_iter(place);
+    is_begun
+        && is_ended
+        && is_over
+        && (is_refused || came == count)
+        && come(&mut others, usize::MAX) == (count, false)
+        && tree.size() == count
+}
+
+// Forty points in one node of up to forty, where the first growth of an iterator is that of its heap.
+#[test]
+fn an_iterator_is_refused_once(rt: HostRuntime) {
+    assert!(rt; end_once::<_, Tens>(rt.alloc(), &points(rt.alloc(), 40), [0, 0]));
+}
