@@ -116,6 +116,20 @@ fn is_drained<T: RTreeObject>(alloc: Global, tree: &mut RTree<T>, left: &[usize]
     true
 }
 
+/// Whether the root of a tree of places counts each once, and trees of places stand always.
+fn are_counted<P: Point + Copy>(
+    alloc: Global,
+    first: &[Place<P>],
+    others: &[Place<P>],
+    removed: &[Place<P>],
+    left: &[usize],
+) -> bool
+    requires { 2 ≤ P.DIMENSIONS }
+{
+    count_at_root(&inserted(alloc, removed)) == removed.len()
+        && stands_always(alloc, first, others, removed, left)
+}
+
 /// The places with the numbers from one up to another, without that, on a line that wraps around in both coordinates.
 fn places(alloc: Global, from: usize, end: usize) -> Vec<Place<[i64; 2]>> {
     let mut places = Vec::new(alloc);
@@ -178,7 +192,6 @@ fn every_element_is_merged_once(rt: HostRuntime) {
     let first = places(rt.alloc(), 0, 500);
     let others = places(rt.alloc(), 500, 2000);
     let removed = places(rt.alloc(), 0, 1000);
-    let tree = inserted(rt.alloc(), &removed);
-    assert!(rt; count_at_root(&tree) == 1000);
-    assert!(rt; stands_always(rt.alloc(), &first, &others, &removed, &[700, 400, 100, 0]));
+    assert!(rt; removed.len() == 1000);
+    assert!(rt; are_counted(rt.alloc(), &first, &others, &removed, &[700, 400, 100, 0]));
 }

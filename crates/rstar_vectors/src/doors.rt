@@ -10,7 +10,7 @@ use rstar_base::point::{Point, least};
 
 /// A place with two doors. It is as far away as its nearer door, and contains the points at which
 /// a door is.
-#[derive(Clone, Debug, PartialEq, Drop)]
+#[derive(PartialEq, Drop)]
 pub struct Doors<P> {
     /// The one door.
     pub front: P,

@@ -9,7 +9,7 @@ use crate::removal::leave_to_the_end;
 use crate::scenarios::{in_steps, inserted};
 use crate::selections::found;
 use rstar::object::{Distance, PointOf};
-use rstar::{AABB, DefaultParams, Point, PointDistance};
+use rstar::{AABB, DefaultParams, EqualEnvelopes, Point, PointDistance};
 use std::alloc::Global;
 
 /// All points of two axes whose coordinates are among the least scalar, -1, 0 and the greatest.
@@ -139,15 +139,32 @@ fn all_scalars_at_their_ends(rt: HostRuntime) {
     );
 }
 
+/// Whether a tree of equal elements stands after each insertion, all of them come and go from a place, the first ones at
+/// these squared distances, and leave.
+fn stand_and_leave<T: EqualEnvelopes + PointDistance + Copy>(
+    alloc: Global,
+    same: &[T],
+    place: PointOf<T>,
+    first: &[Distance<T>],
+    limit: Distance<T>,
+) -> bool
+where
+    PointOf<T>: Copy,
+    requires narrow { IsNarrow T.Envelope.Point.row }
+    requires dimensions { 2 ≤ T.Envelope.Point.DIMENSIONS }
+{
+    all_stand::<T, DefaultParams>(alloc, same)
+        && come_and_go(alloc, same, place, first, &[])
+        && leave_to_the_end(alloc, same, 0, false, place, limit)
+}
+
 // Five thousand points in one place: the tree stands, with its nodes' sizes, after each insertion; all of them are
 // nearest to a place, and leave it; and each is taken out by `==`, after which the tree stands, until one more is not there.
 #[test]
 fn thousands_of_equal_points(rt: HostRuntime) {
     let same = in_steps(rt.alloc(), 5000, [3, 3], [0, 0]);
     assert!(rt; same.len() == 5000);
-    assert!(rt; all_stand::<[i32; 2], DefaultParams>(rt.alloc(), &same));
-    assert!(rt; come_and_go(rt.alloc(), &same, [0, 0], &[18], &[]));
-    assert!(rt; leave_to_the_end(rt.alloc(), &same, 0, false, [0, 0], 18));
+    assert!(rt; stand_and_leave(rt.alloc(), &same, [0, 0], &[18], 18));
 }
 
 /// Whether all neighbours of a place in a tree of these elements, of any number of axes, lie at these squared distances, by

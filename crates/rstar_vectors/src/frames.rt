@@ -17,7 +17,7 @@ use rstar_base::point::{Point, least};
 
 /// The outline of the box between two opposite corners. It is as far from a point inside as its nearest face, and as far as
 /// the box from a point outside.
-#[derive(Clone, Copy, Debug, PartialEq, Drop)]
+#[derive(Clone, Copy, PartialEq, Drop)]
 pub struct Frame<P> {
     /// The one corner.
     pub one: P,

@@ -253,41 +253,45 @@ fn met_by_loads<T: RTreeObject + Copy>(
     joins_so(alloc, &left, &right, pairs, None) && joins_so(alloc, &left, &left, own, None)
 }
 
-/// Whether a tree of these elements, in nodes of two to four, has so many levels of parents below its root, or more, and a
+/// Whether a tree of these elements has so many levels of parents below its root, or more, and a
 /// join of it with itself gives as many pairs as there are elements.
-fn meets_itself_at_depth<T: RTreeObject + Copy>(
+fn meets_itself_at_depth<T: RTreeObject + Copy, Params: RTreeParams>(
     alloc: Global,
     elements: &[T],
     levels: usize,
 ) -> bool {
-    let tree = inserted::<T, Splitting>(alloc, elements);
+    let tree = inserted::<T, Params>(alloc, elements);
     match &joined(alloc, &tree, &tree) {
         Ok((pairs, _)) => levels <= levels_of(tree.root()) && pairs.len() == elements.len(),
         Err(_) => false,
     }
 }
 
+/// How many points, the first of them, and the step from each to the next.
+type Steps = (usize, [i32; 2], [i32; 2]);
+
 // Loads of unequal height; and rstar's `test_trivial_intersections`: so many points that lie between so many others, and
 // meet themselves alone.
 #[test]
 fn loads_of_points_meet(rt: HostRuntime) {
-    const TWICE: [[i32; 2]; 2] = [[5, 0], [5, 0]];
-    const ROWS: [(usize, usize); 2] = [(1000, 2000), (2000, 1000)];
-    let line = in_steps(rt.alloc(), 28, [0, 0], [1, 0]);
-    assert!(rt; met_by_loads(rt.alloc(), &line, &TWICE, 2, 28));
-    assert!(rt; met_by_loads(rt.alloc(), &TWICE, &line, 2, 4));
-    for &(count, others) in &ROWS {
-        let all = in_steps(rt.alloc(), count, [0, 0], [2, 5]);
-        let rest = in_steps(rt.alloc(), others, [1, 2], [2, 5]);
-        assert!(rt; met_by_loads(rt.alloc(), &all, &rest, 0, count));
+    const ROWS: [(Steps, Steps, usize, usize); 4] = [
+        ((28, [0, 0], [1, 0]), (2, [5, 0], [0, 0]), 2, 28),
+        ((2, [5, 0], [0, 0]), (28, [0, 0], [1, 0]), 2, 4),
+        ((1000, [0, 0], [2, 5]), (2000, [1, 2], [2, 5]), 0, 1000),
+        ((2000, [0, 0], [2, 5]), (1000, [1, 2], [2, 5]), 0, 2000),
+    ];
+    for &(one, other, pairs, own) in &ROWS {
+        let all = in_steps(rt.alloc(), one.0, one.1, one.2);
+        let rest = in_steps(rt.alloc(), other.0, other.1, other.2);
+        assert!(rt; met_by_loads(rt.alloc(), &all, &rest, pairs, own));
     }
 }
 
-// Points that leave small nodes behind, inserted in turn: thirteen levels of parents below the root.
+// Points that leave small nodes behind, of two to four, inserted in turn: thirteen levels of parents below the root.
 #[test]
 fn a_deep_tree_meets_itself(rt: HostRuntime) {
     let line = in_steps(rt.alloc(), 600000, [0, 0], [-1, -1]);
-    assert!(rt; meets_itself_at_depth(rt.alloc(), &line, 13));
+    assert!(rt; meets_itself_at_depth::<_, Splitting>(rt.alloc(), &line, 13));
 }
 
 /// So many rectangles, spread by two factors.

@@ -324,24 +324,37 @@ const OF_FOUR_AXES: [[i32; 4]; 40] = [
 
 const EQUAL: [[i32; 2]; 300] = [[0, 1]; 300];
 
-// Points, and equal points. A load of 25 has a parent of leaves that is too wide: 7 of them. Then other node sizes, and
-// points of three and of four axes.
+/// Whether loads of elements of two axes, and of equal ones, are as they should be, in nodes of either size.
+fn load_well<T: EqualEnvelopes + Copy + Ord>(
+    alloc: Global,
+    elements: &[T],
+    same: &[T],
+    more: &[T],
+) -> bool
+    requires { 2 ≤ T.Envelope.Point.DIMENSIONS }
+{
+    loads_well::<T, DefaultParams>(alloc, elements, 6, more)
+        && loads_well::<T, DefaultParams>(alloc, same, 6, more)
+        && loads_well::<T, Small>(alloc, elements, 4, &[])
+}
+
+// From none to 300 and some larger counts, of points and equal points; a load of 25 has a parent of leaves that is too
+// wide: 7 of them. Then points of three and of four axes.
 #[test]
 fn loads_of_many_sizes_are_loaded_and_take_insertions(rt: HostRuntime) {
-    for count in 0..301 {
-        let flat = points(rt.alloc(), count);
-        let taken = match count {
-            0 | 25 | 28 | 37 | 300 => 40,
-            _ => 0,
+    for turn in 0..305usize {
+        let (count, taken) = match turn {
+            0 | 25 | 28 | 37 | 300 => (turn, 40),
+            301 => (693, 0),
+            302 => (1024, 0),
+            303 => (1537, 0),
+            304 => (3000, 0),
+            _ => (turn, 0),
         };
-        let more = points(rt.alloc(), taken);
-        assert!(rt; loads_well::<[i32; 2], DefaultParams>(rt.alloc(), &flat, 6, &more));
-        assert!(rt; loads_well::<[i32; 2], DefaultParams>(rt.alloc(), &EQUAL[..count], 6, &more));
-    }
-    for &count in &[5, 17, 63, 64, 65, 257, 693, 1024, 1537, 3000] {
         let flat = points(rt.alloc(), count);
+        let more = points(rt.alloc(), taken);
+        assert!(rt; load_well(rt.alloc(), &flat, &EQUAL[..count.min(300)], &more));
         let deep = deep_points(rt.alloc(), count);
-        assert!(rt; loads_well::<[i32; 2], Small>(rt.alloc(), &flat, 4, &[]));
         assert!(rt; loads_well::<[i32; 3], DefaultParams>(rt.alloc(), &deep, 8, &[]));
     }
     assert!(rt; loads_well::<[i32; 3], DefaultParams>(rt.alloc(), &LOADED, 8, &INSERTED));
@@ -533,23 +546,32 @@ fn loads_cloned_alone<T: RTreeObject + Copy + Debug>(
         && clones_alone(alloc, &tree, more)
 }
 
-// Points in one place, with the text of their load; and points of several counts.
+// Points in one place, with the text of their load; and so many points, where no text is given.
 #[test]
 fn loads_show_their_elements_and_clones_the_same(rt: HostRuntime) {
-    const ROWS: [(&'static [[i32; 2]], &'static str); 3] = [
-        (&[[0, 1]; 2], "RTree { size: 2, items: {[0, 1], [0, 1]} }"),
-        (&[], "RTree { size: 0, items: {} }"),
+    const ROWS: [(&'static [[i32; 2]], &'static str, usize); 9] = [
+        (
+            &[[0, 1]; 2],
+            "RTree { size: 2, items: {[0, 1], [0, 1]} }",
+            0,
+        ),
+        (&[], "RTree { size: 0, items: {} }", 0),
         (
             &[[0, 1]; 9],
             "RTree { size: 9, items: {[0, 1], [0, 1], [0, 1], [0, 1], [0, 1], [0, 1], [0, 1], [0, 1], [0, 1]} }",
+            0,
         ),
+        (&[], "", 0),
+        (&[], "", 1),
+        (&[], "", 7),
+        (&[], "", 25),
+        (&[], "", 37),
+        (&[], "", 300),
     ];
-    for &(same, text) in &ROWS {
-        assert!(rt; loads_cloned_alone(rt.alloc(), same, [7, 7], text));
-    }
-    for &count in &[0, 1, 7, 25, 37, 300] {
+    for &(same, text, count) in &ROWS {
         let flat = points(rt.alloc(), count);
-        assert!(rt; loads_cloned_alone(rt.alloc(), &flat, [7, 7], ""));
+        let list = if text.is_empty() { &flat } else { same };
+        assert!(rt; loads_cloned_alone(rt.alloc(), list, [7, 7], text));
     }
 }
 
@@ -617,9 +639,9 @@ fn load_contains<T: EqualEnvelopes>(alloc: Global, one: T, other: T, wanted: &T)
     }
 }
 
-/// Whether loads of two lines, each with a number, and each with its envelope beside it, contain the first.
-fn loads_contain_the_first<P: Point + Copy>(alloc: Global, one: Line<P>, other: Line<P>) -> bool
-    requires { 2 ≤ P.DIMENSIONS }
+/// Whether loads of two elements, each with a number, and each with its envelope beside it, contain the first.
+fn loads_contain_the_first<R: EqualEnvelopes + Copy>(alloc: Global, one: R, other: R) -> bool
+    requires { 2 ≤ R.Envelope.Point.DIMENSIONS }
 {
     load_contains(
         alloc,

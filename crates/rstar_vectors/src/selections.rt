@@ -450,8 +450,9 @@ fn a_thousand_points_are_found_as_by_a_scan(rt: HostRuntime) {
     let all = points(rt.alloc(), 1000);
     for &(one, other, origin, limit) in &ROWS {
         let area = AABB::from_corners(one, other);
-        assert!(rt; found(rt.alloc(), &all, area, origin, limit).is_some());
-        assert!(rt; found::<[i32; 2]>(rt.alloc(), &[], area, origin, limit) == Some([0; 5]));
+        for &list in &[&[], all.as_slice()] {
+            assert!(rt; found(rt.alloc(), list, area, origin, limit).is_some());
+        }
     }
 }
 
@@ -466,48 +467,58 @@ fn rectangles(alloc: Global, points: &[[i32; 2]]) -> Vec<Rectangle<[i32; 2]>> {
     all
 }
 
-// A point and a squared distance, and how many of one rectangle contain it, and lie so near.
-const ABOUT_ONE: [([i32; 2], i32, usize, usize); 5] = [
-    ([1, 1], 0, 1, 1),
-    ([4, 2], 3, 0, 0),
-    ([4, 2], 4, 0, 1),
-    ([2, 2], 0, 1, 1),
-    ([3, 3], 0, 0, 0),
+/// One rectangle, three, or a thousand; two corners of a box, a point and a squared distance; and where there are few, how
+/// many of the rectangles the box contains and intersects, how many contain the point, and how many lie so near.
+type About = (usize, [i32; 2], [i32; 2], [i32; 2], i32, [usize; 4]);
+
+// The third of three rectangles intersects the first two.
+const ABOUT_RECTANGLES: [About; 17] = [
+    (1, [1, 1], [1, 1], [1, 1], 0, [0, 1, 1, 1]),
+    (1, [1, 1], [1, 1], [4, 2], 3, [0, 1, 0, 0]),
+    (1, [1, 1], [1, 1], [4, 2], 4, [0, 1, 0, 1]),
+    (1, [1, 1], [1, 1], [2, 2], 0, [0, 1, 1, 1]),
+    (1, [1, 1], [1, 1], [3, 3], 0, [0, 1, 0, 0]),
+    (3, [0, 0], [40, 100], [0, 0], 0, [1, 2, 1, 1]),
+    (3, [60, 0], [100, 100], [60, 0], 0, [1, 2, 2, 2]),
+    (3, [25, 0], [75, 100], [25, 0], 0, [1, 3, 2, 2]),
+    (3, [50, 7], [50, 9], [50, 7], 0, [0, 1, 1, 1]),
+    (3, [100, 100], [101, 101], [100, 100], 0, [0, 1, 1, 1]),
+    (3, [101, 0], [101, 1], [101, 0], 0, [0; 4]),
+    (1000, [0, 0], [0, 0], [0, 0], 9, [0; 4]),
+    (1000, [50, 50], [50, 50], [50, 50], 9, [0; 4]),
+    (1000, [7, 93], [7, 93], [7, 93], 9, [0; 4]),
+    (1000, [100, 102], [100, 102], [100, 102], 9, [0; 4]),
+    (1000, [105, -5], [105, -5], [105, -5], 9, [0; 4]),
+    (1000, [200, 0], [200, 0], [200, 0], 9, [0; 4]),
 ];
 
-// A box, how many of three rectangles, of which the third intersects the first two, it contains, and how many it
-// intersects; and how many contain its lower corner.
-const ABOUT_THREE: [([i32; 2], [i32; 2], usize, usize, usize); 6] = [
-    ([0, 0], [40, 100], 1, 2, 1),
-    ([60, 0], [100, 100], 1, 2, 2),
-    ([25, 0], [75, 100], 1, 3, 2),
-    ([50, 7], [50, 9], 0, 1, 1),
-    ([100, 100], [101, 101], 0, 1, 1),
-    ([101, 0], [101, 1], 0, 0, 0),
-];
+/// Whether counts of five questions are those of the last four, where these are told.
+fn are_told(counts: Option<[usize; 5]>, count: usize, told: [usize; 4]) -> bool {
+    let [inside, touching, at, near] = told;
+    match counts {
+        Some(own) => count == 1000 || own == [count, inside, touching, at, near],
+        None => false,
+    }
+}
 
 // One rectangle, three, and rstar's test `test_locate_all`, on a thousand others.
 #[test]
 fn rectangles_are_found_as_by_a_scan(rt: HostRuntime) {
-    const PLACES: [[i32; 2]; 6] = [[0, 0], [50, 50], [7, 93], [100, 102], [105, -5], [200, 0]];
     let one = [Rectangle::from_corners([0, 0], [2, 2])];
-    for &(point, limit, at, near) in &ABOUT_ONE {
-        let counts = found(rt.alloc(), &one, AABB::from_point([1, 1]), point, limit);
-        assert!(rt; counts == Some([1, 0, 1, at, near]));
-    }
     let three = [
         Rectangle::from_corners([0, 0], [40, 100]),
         Rectangle::from_corners([60, 0], [100, 100]),
         Rectangle::from_corners([25, 0], [75, 100]),
     ];
-    for &(lower, upper, inside, touching, at) in &ABOUT_THREE {
-        let area = AABB::from_corners(lower, upper);
-        let counts = found(rt.alloc(), &three, area, lower, 0);
-        assert!(rt; counts == Some([3, inside, touching, at, at]));
-    }
     let all = rectangles(rt.alloc(), &points(rt.alloc(), 1000));
-    for &point in &PLACES {
-        let counts = found(rt.alloc(), &all, AABB::from_point(point), point, 9);
-        assert!(rt; counts.is_some());
+    for &(count, lower, upper, point, limit, told) in &ABOUT_RECTANGLES {
+        let list: &[Rectangle<[i32; 2]>] = match count {
+            1 => &one,
+            3 => &three,
+            _ => &all,
+        };
+        let area = AABB::from_corners(lower, upper);
+        let counts = found(rt.alloc(), list, area, point, limit);
+        assert!(rt; are_told(counts, count, told));
     }
 }

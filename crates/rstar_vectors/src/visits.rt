@@ -101,7 +101,7 @@ mod tests {
         area: R::Envelope,
         point: PointOf<R>,
         cleared: R::Envelope,
-    ) -> (u64, u64, u64, u64, u64) {
+    ) -> (u64, [u64; 4]) {
         let mut tree = inserted::<Numbered<R>, DefaultParams>(alloc, elements);
         let answer = tree.locate_with_selection_function_int_mut(
             SelectAllFunc,
@@ -126,10 +126,7 @@ mod tests {
         clear(&mut tree, cleared);
         (
             answer.break_value().unwrap_or(0),
-            first,
-            second,
-            third,
-            sum(tree.root()),
+            [first, second, third, sum(tree.root())],
         )
     }
 
@@ -161,6 +158,13 @@ mod tests {
         assert!(rt; cleared_below(fences(rt.alloc(), 10, 5, 1), area) == Some((55, 49)));
     }
 
+    /// A box over points.
+    type Area = AABB<[i64; 2]>;
+
+    /// Fences; whether a visit breaks; the box of the visits, and the one by which fences are cleared; the least and the
+    /// greatest number that the visit breaks with, and the four sums.
+    type Row<'a> = (&'a [Fence], bool, Area, Area, (u64, u64), [u64; 4]);
+
     // The numbers 1, 2 and 3 in one place, inside a box, each changed, or one until a break; and two fences. A box that
     // contains none of them, and touches the first, a point inside that, and the point at its corner, where it is cleared,
     // as by that box.
@@ -177,13 +181,15 @@ mod tests {
         let area = AABB::from_corners([0, 0], [1, 1]);
         let corner = AABB::from_corners([2, 2], [2, 2]);
         let wide = AABB::from_corners([0, 0], [2, 2]);
-        let sums = visited(rt.alloc(), &three, false, wide, [1, 1], corner);
-        assert!(rt; sums == (0, 36, 39, 42, 0));
-        let sums = visited(rt.alloc(), &three, true, area, [1, 1], corner);
-        assert!(rt; matches!(sums, (11 | 12 | 13, 16, 16, 19, 0)));
-        let sums = visited(rt.alloc(), &two, false, area, [1, 1], corner);
-        assert!(rt; sums == (0, 32, 32, 33, 15));
-        let sums = visited(rt.alloc(), &two, false, area, [1, 1], area);
-        assert!(rt; sums == (0, 32, 32, 33, 15));
+        let rows: [Row<'_>; 4] = [
+            (&three, false, wide, corner, (0, 0), [36, 39, 42, 0]),
+            (&three, true, area, corner, (11, 13), [16, 16, 19, 0]),
+            (&two, false, area, corner, (0, 0), [32, 32, 33, 15]),
+            (&two, false, area, area, (0, 0), [32, 32, 33, 15]),
+        ];
+        for &(list, breaks, area, cleared, (least, most), sums) in &rows {
+            let (number, own) = visited(rt.alloc(), list, breaks, area, [1, 1], cleared);
+            assert!(rt; least <= number && number <= most && own == sums);
+        }
     }
 }
