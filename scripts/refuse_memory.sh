@@ -1,8 +1,8 @@
 #!/usr/bin/env bash
 # Refuses each allocation in turn, one a run, by a shim before the C library's allocations:
 #
-# - of the tests that expect refusals (crates/rstar_vectors/src/refusals.rt), those between two marks, which are lists of a
-#   size that nothing else asks for: each test passes whatever is refused;
+# - of the tests that expect refusals (crates/rstar_vectors/src/refusals.rt, and one run of lines in the program's tests), those
+#   between two marks, which are lists of a size that nothing else asks for: each test passes whatever is refused;
 # - of the program over examples/levels.txt, all of them: the answers so far, then `error: memory` and status 3.
 #
 # Both are built first, as proved. The last line has the figures.
@@ -49,22 +49,28 @@ refuse() {
   SAID=$work/said REFUSE=$1 LD_PRELOAD=$work/refuse.so "${@:2}"
 }
 
-cd "$top/crates/rstar_vectors"
-rt test >"$work/tests" 2>&1 || { cat "$work/tests" >&2; exit 1; }
 calls=0
 refusals=0
-for name in $(out/rstar_vectors_tests --list | sed -n 's/^\(refusals::[a-z_]*\).*/\1/p'); do
-  for ((n = 1; ; n++)); do
-    if ! MARK=10007 refuse "$n" out/rstar_vectors_tests "$name" >"$work/told" 2>&1; then
-      echo "$name: allocation $n" >&2
-      cat "$work/told" >&2
-      exit 1
-    fi
-    calls=$((calls + 1))
-    [[ -e $work/said ]] || break
-    refusals=$((refusals + 1))
+# Runs those tests of a crate whose names fit a pattern, until no allocation between two marks is left to refuse.
+try_tests() {
+  cd "$top/crates/$1"
+  rt test >"$work/tests" 2>&1 || { cat "$work/tests" >&2; exit 1; }
+  local name n
+  for name in $("out/$1_tests" --list | sed -n "s/^\($2\).*/\1/p"); do
+    for ((n = 1; ; n++)); do
+      if ! MARK=10007 refuse "$n" "out/$1_tests" "$name" >"$work/told" 2>&1; then
+        echo "$name: allocation $n" >&2
+        cat "$work/told" >&2
+        exit 1
+      fi
+      calls=$((calls + 1))
+      [[ -e $work/said ]] || break
+      refusals=$((refusals + 1))
+    done
   done
-done
+}
+try_tests rstar_vectors 'refusals::[a-z_]*'
+try_tests rstar_run 'tests::a_refused_line_is_the_last'
 [[ $refusals -gt 0 ]] || { echo 'no allocation of a test was refused' >&2; exit 1; }
 
 cd "$top/crates/rstar_run"

@@ -462,6 +462,34 @@ fn a_read_that_fails_leaves_the_answers_so_far(rt: HostRuntime) -> Result<(), Fa
     Ok(())
 }
 
+/// Asks for a list of a size that nothing else asks for: `scripts/refuse_memory.sh` counts the allocations after one such, up
+/// to the next.
+fn mark(alloc: Global) {
+    let _list = Vec::<u8>::with_capacity(alloc, 10007).is_ok();
+}
+
+// All lines but the bad one, from a slice and into a fixed array, which take no memory. Where memory is refused, what is
+// printed are the answers to some of the first lines, and why there are no more.
+#[test]
+fn a_refused_line_is_the_last(rt: HostRuntime) -> Result<(), Fail> {
+    let lines = LINES.len() - 1;
+    let input = first_lines(rt.alloc(), lines, 0)?;
+    let mut taken = Cursor::new([0u8; 256]);
+    mark(rt.alloc());
+    let status = run(rt.alloc(), input.as_slice(), &mut taken);
+    mark(rt.alloc());
+    let length = usize::try_from(taken.position()).unwrap_or(0);
+    let written = taken.get_ref().get(..length).unwrap_or(&[]);
+    let mut is_so = false;
+    for count in 0..lines {
+        let want = first_answers(rt.alloc(), count, "error: memory\n")?;
+        is_so = is_so || status == 3 && written == want.as_bytes();
+    }
+    let want = first_answers(rt.alloc(), lines, "")?;
+    assert!(rt; is_so || status == 0 && written == want.as_bytes());
+    Ok(())
+}
+
 /// Takes this many writes and then fails. It counts the calls, and what was written at the last flush.
 #[derive(Drop)]
 struct Terminal<'a> {
