@@ -459,3 +459,19 @@ module _ {T E : Type 0} {IsPoint : List ℤ → Type 0} {v : Boxes E} {o : Objec
         tight = made ∙ merged_is_hull laws ok h q.children.items (whole_of_kept laws ok m w h q.children.items below);
         roomy = record { narrow = omega arith; room = (omega arith, omega arith) };
       }
+
+  -- so is one whose envelope stayed, where the merge of its children's is what it was
+  pub kept_still : (h : ℕ) (p q : ParentNode T E P S X) → IsKept v o m w p → AreKept v o m w h p.children.items → AreKept v o m w h q.children.items
+      → length q.children.items ≤ length p.children.items → vec_len q.children ≡ length q.children.items → vec_len p.children ≡ length p.children.items
+      → vec_capacity q.children ≡ vec_capacity p.children → q.envelope ≡ p.envelope
+      → hull v (node_box o.box_of) q.children.items ≡ hull v (node_box o.box_of) p.children.items → IsKept v o m w q
+  kept_still h p q kept before below short ql pl same stayed hulls =
+      kept_anew h p q kept below short ql pl same
+      (stayed ∙ kept.tight ∙ sym (merged_is_hull laws ok h p.children.items (whole_of_kept laws ok m w h p.children.items before)) ∙ sym hulls)
+
+-- a merge with another item of the same envelope in the place of one
+pub hull_set : {A E : Type 0} (v : Boxes E) (f : A → E) (xs : List A) (i : ℕ) (n n' : A) → i < length xs → n ≡ get_or xs i n → f n' ≡ f n
+    → hull v f (set xs i n') ≡ hull v f xs
+hull_set v f [] i n n' within here same = absurd (omega (arith, within))
+hull_set v f (x ∷ xs) zero n n' within here same = ap (λ b. v.merge b (hull v f xs)) (same ∙ ap f here)
+hull_set v f (x ∷ xs) (suc i) n n' within here same = ap (v.merge (f x)) (hull_set v f xs i n n' (omega (arith, within)) here same)

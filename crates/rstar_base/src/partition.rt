@@ -117,9 +117,41 @@ fn split_around<T: RTreeObject>(axis: usize, list: &mut [T], pivot: Distance<T>)
     (0, same)
 }
 
+/// The end of a run from a place on: of elements that belong first, or of such that belong behind them.
+fn run_end<T: RTreeObject>(
+    axis: usize,
+    list: &[T],
+    from: usize,
+    pivot: Distance<T>,
+    with_same: bool,
+    first: bool,
+) -> usize
+    requires axis { axis < T.Envelope.Point.DIMENSIONS }
+    requires from { from ≤ length list.now }
+    ensures order { from ≤ result }
+    ensures within { result ≤ length list.now }
+    ensures at_most { first ≡ true → (i : ℕ) (d : T) → from ≤ i → i < result
+        → T.Envelope.boxes.axis_key (T.object.box_of (slice_index_or list.now i d)) axis
+        ≤ℤ T.Envelope.Point.Scalar.value pivot }
+    ensures at_least { first ≡ false → (i : ℕ) (d : T) → from ≤ i → i < result
+        → T.Envelope.Point.Scalar.value pivot
+        ≤ℤ T.Envelope.boxes.axis_key (T.object.box_of (slice_index_or list.now i d)) axis }
+{
+    let mut at = from;
+    while at < list.len() {
+        let stands_first = is_first(key_at(axis, list, at), pivot, with_same);
+        if stands_first != first {
+            return at;
+        }
+        at += 1;
+    }
+    at
+}
+
 /// Puts the elements of smaller keys than the pivot first, with those of its key or without them, and counts them.
 ///
-/// Each element is swapped, wherever it belongs, so that no jump hangs on a key.
+/// Those that stand where they belong, first and then behind, are passed over: where all keys are the same nothing moves.
+/// Each element from there on is swapped, wherever it belongs, so that no jump hangs on a key.
 fn gather<T: RTreeObject>(axis: usize, list: &mut [T], pivot: Distance<T>, with_same: bool) -> usize
     requires { axis < T.Envelope.Point.DIMENSIONS }
     ensures same { IsPermutation list.old list.new }
@@ -127,8 +159,8 @@ fn gather<T: RTreeObject>(axis: usize, list: &mut [T], pivot: Distance<T>, with_
     ensures around { IsAround (λ t. T.Envelope.boxes.axis_key (T.object.box_of t) axis)
         (T.Envelope.Point.Scalar.value pivot) result result list.new }
 {
-    let mut less = 0;
-    let mut at = 0;
+    let mut less = run_end(axis, &*list, 0, pivot, with_same, true);
+    let mut at = run_end(axis, &*list, less, pivot, with_same, false);
     while at < list.len() {
         let first = is_first(key_at(axis, list, at), pivot, with_same);
         list.swap(less, at);

@@ -15,8 +15,8 @@ use crate::scenarios::{inserted, loaded, stands};
 use rstar::algorithm::selection_functions::SelectAllFunc;
 use rstar::object::PointOf;
 use rstar::{
-    AABB, Counted, DefaultParams, Envelope, EqualEnvelopes, Point, PointDistance, RTree,
-    RTreeObject, RTreeParams,
+    Counted, DefaultParams, Envelope, EqualEnvelopes, Point, PointDistance, RTree, RTreeObject,
+    RTreeParams,
 };
 use std::alloc::Global;
 
@@ -116,20 +116,6 @@ fn is_drained<T: RTreeObject>(alloc: Global, tree: &mut RTree<T>, left: &[usize]
     true
 }
 
-/// Whether the root of a tree of places counts each once, and trees of places stand always.
-fn are_counted<P: Point + Copy>(
-    alloc: Global,
-    first: &[Place<P>],
-    others: &[Place<P>],
-    removed: &[Place<P>],
-    left: &[usize],
-) -> bool
-    requires { 2 ≤ P.DIMENSIONS }
-{
-    count_at_root(&inserted(alloc, removed)) == removed.len()
-        && stands_always(alloc, first, others, removed, left)
-}
-
 /// The places with the numbers from one up to another, without that, on a line that wraps around in both coordinates.
 fn places(alloc: Global, from: usize, end: usize) -> Vec<Place<[i64; 2]>> {
     let mut places = Vec::new(alloc);
@@ -145,46 +131,6 @@ fn places(alloc: Global, from: usize, end: usize) -> Vec<Place<[i64; 2]>> {
     places
 }
 
-/// Whether what is counted has this box and this count, and is empty where that is 0.
-fn has_count<P: Point>(counted: &Counted<P>, aabb: &AABB<P>, count: usize) -> bool {
-    *counted.aabb() == *aabb && counted.count() == count && counted.is_empty() == (count == 0)
-}
-
-/// Whether an envelope merged with itself is itself or not, as told, and nothing merged with it is it; and what nothing
-/// was merged into is empty, and equals it or not, as told.
-fn merges_alike<E: Envelope>(one: &E, twice: bool, nothing: bool) -> bool {
-    let empty = E::new_empty();
-    (one.merged(one) == *one) == twice
-        && (empty == *one) == nothing
-        && empty.merged(one) == *one
-        && empty.is_empty()
-}
-
-/// Whether a box that is counted counts so often, alone and merged with itself; what nothing was merged into equals it
-/// where this is 0.
-fn merges<P: Point>(one: &Counted<P>, aabb: &AABB<P>, count: usize, twice: usize) -> bool {
-    has_count(one, aabb, count)
-        && has_count(&one.merged(one), aabb, twice)
-        && merges_alike(one, count == twice, count == 0)
-}
-
-// What is counted, merged with itself: the count before and after. A box with no axis is not empty, and counts; the
-// count of nothing is 0.
-#[test]
-fn merges_add_counts(rt: HostRuntime) {
-    let rows: [(AABB<[i64; 2]>, usize, usize); 3] = [
-        (AABB::from_point([1, 2]), 1, 2),
-        (AABB::from_corners([0, 0], [2, 2]), 1, 2),
-        (AABB::new_empty(), 0, 0),
-    ];
-    for &(aabb, count, twice) in &rows {
-        assert!(rt; merges(&Counted::new(aabb), &aabb, count, twice));
-    }
-    let none: [i64; 0] = [];
-    let one = AABB::from_point(none);
-    assert!(rt; merges(&Counted::new(one), &one, 1, 2));
-}
-
 // rstar's `test_envelopes_merge_every_element_once`, and drains after it: a load of 500, 1,500 insertions, which
 // reinsert, and 1,000 removals.
 #[test]
@@ -192,6 +138,7 @@ fn every_element_is_merged_once(rt: HostRuntime) {
     let first = places(rt.alloc(), 0, 500);
     let others = places(rt.alloc(), 500, 2000);
     let removed = places(rt.alloc(), 0, 1000);
-    assert!(rt; removed.len() == 1000);
-    assert!(rt; are_counted(rt.alloc(), &first, &others, &removed, &[700, 400, 100, 0]));
+    let tree = inserted::<_, DefaultParams>(rt.alloc(), &removed);
+    assert!(rt; count_at_root(&tree) == 1000);
+    assert!(rt; stands_always(rt.alloc(), &first, &others, &removed, &[700, 400, 100, 0]));
 }

@@ -253,8 +253,8 @@ fn met_by_loads<T: RTreeObject + Copy>(
     joins_so(alloc, &left, &right, pairs, None) && joins_so(alloc, &left, &left, own, None)
 }
 
-/// Whether a tree of these elements has so many levels of parents below its root, or more, and a
-/// join of it with itself gives as many pairs as there are elements.
+/// Whether a tree of these elements has so many levels of parents below its root, or more, and a join of it with itself gives
+/// as many pairs as there are elements.
 fn meets_itself_at_depth<T: RTreeObject + Copy, Params: RTreeParams>(
     alloc: Global,
     elements: &[T],

@@ -325,7 +325,7 @@ const OF_FOUR_AXES: [[i32; 4]; 40] = [
 const EQUAL: [[i32; 2]; 300] = [[0, 1]; 300];
 
 /// Whether loads of elements of two axes, and of equal ones, are as they should be, in nodes of either size.
-fn load_well<T: EqualEnvelopes + Copy + Ord>(
+fn loads_well_at_both_sizes<T: EqualEnvelopes + Copy + Ord>(
     alloc: Global,
     elements: &[T],
     same: &[T],
@@ -353,7 +353,7 @@ fn loads_of_many_sizes_are_loaded_and_take_insertions(rt: HostRuntime) {
         };
         let flat = points(rt.alloc(), count);
         let more = points(rt.alloc(), taken);
-        assert!(rt; load_well(rt.alloc(), &flat, &EQUAL[..count.min(300)], &more));
+        assert!(rt; loads_well_at_both_sizes(rt.alloc(), &flat, &EQUAL[..count.min(300)], &more));
         let deep = deep_points(rt.alloc(), count);
         assert!(rt; loads_well::<[i32; 3], DefaultParams>(rt.alloc(), &deep, 8, &[]));
     }

@@ -18,7 +18,7 @@ use rstar::algorithm::nearest_neighbor::{
 use rstar::object::{Distance, PointDistance, PointOf, RTreeObject};
 use rstar::point::Point;
 use rstar::primitives::{Line, Rectangle};
-use rstar::{AABB, DefaultParams, Envelope, RTree, RTreeParams};
+use rstar::{DefaultParams, Envelope, RTree, RTreeParams};
 use std::alloc::{AllocError, Global};
 use std::cell::Cell;
 
@@ -433,15 +433,6 @@ fn neighbours_come_and_go_as_by_a_scan(rt: HostRuntime) {
             assert!(rt; come_and_go(rt.alloc(), list, place, &[], &[]));
         }
     }
-}
-
-// rstar's test `test_min_max_dist_2_issue_40_regression` with the decimals cut to four and taken as whole numbers.
-#[test]
-fn a_min_max_distance_is_that_of_a_corner(rt: HostRuntime) {
-    let place = [6950i64, 2207, 8186];
-    let boxed = AABB::from_corners([7018, 2121, 8120], [7297, 2302, 8194]);
-    let corner = [7018, 2302, 8120].distance_2(&place);
-    assert!(rt; boxed.min_max_dist_2(&place) == 18005 && corner == 18005);
 }
 
 // ---- who is asked

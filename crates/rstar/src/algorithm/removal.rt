@@ -2,7 +2,7 @@
 //!
 //! What is not done for each element stays out of line (`#[inline(never)]`), so that the steps along the path are short.
 
-ghost use Rattle.std.specs.Prelude.{◌≡◌, ℕ, ◌-◌, ◌<◌, ◌≤◌, true, None, IfNone, length, replicate};
+ghost use Rattle.std.specs.Prelude.{◌≡◌, ℕ, ◌-◌, ◌<◌, ◌≤◌, true, false, None, IfNone, length, replicate};
 ghost use Rattle.std.specs.Prelude.{vec_len, vec_capacity, slice_index_or};
 ghost use Rattle.std.specs.List.{remove};
 ghost use Rattle.rstar_base.specs.Hulls.{hull};
@@ -28,7 +28,8 @@ pub struct Rest<E> {
     count: usize,
 }
 
-/// Takes out the next selected element below a parent, from a place on, and makes its envelope anew.
+/// Takes out the next selected element below a parent, from a place on, and makes its envelope anew where one of its
+/// children's changed; `changed` then tells whether its own did.
 ///
 /// Children are looked at from the last to the first, so that a drain of everything shifts none. The place is the
 /// number of children passed over, those to the right, a number for each level. Where there are fewer numbers the
@@ -38,6 +39,7 @@ pub(crate) fn take_below<T: RTreeObject, R: SelectionFunction<T>>(
     node: &mut ParentNode<T>,
     path: &mut [usize],
     rest: &mut Option<Rest<T::Envelope>>,
+    changed: &mut bool,
     func: &R,
 ) -> Option<T>
     ensures takes { Takes T.Envelope.boxes T.object (R.accepts func.now) (R.selects func.now)
@@ -47,12 +49,26 @@ pub(crate) fn take_below<T: RTreeObject, R: SelectionFunction<T>>(
         → IsRestAt T.Envelope.boxes T.object rest.old path.old node.old.children.items
         → IsKept T.Envelope.boxes T.object m w node.new }
     ensures same { IfNone result (node.new ≡ node.old) }
+    ensures unchanged { changed.new ≡ false → node.new.envelope ≡ node.old.envelope }
 {
-    let taken = take_among(&mut node.children, path, rest, func);
-    if taken.is_some() {
-        node.envelope = merge_along(&node.children, path, rest);
+    let taken = take_among(&mut node.children, path, rest, changed, func);
+    if taken.is_some() && *changed {
+        let merged = merge_along(&node.children, path, rest);
+        *changed = are_apart(&merged, &node.envelope);
+        node.envelope = merged;
     }
     taken
+}
+
+/// Whether two envelopes are not the same, by `==`.
+#[inline(always)]
+fn are_apart<E: Envelope>(one: &E, other: &E) -> bool
+    ensures { result ≡ false → one.now ≡ other.now }
+{
+    // Each call attests its envelope, so that `==` is equality, and costs nothing where no one asks for its answer.
+    let _one = one.is_empty();
+    let _other = other.is_empty();
+    *one != *other
 }
 
 /// The merge of the envelopes of these nodes, by what is kept at the place.
@@ -127,31 +143,37 @@ fn front_of<T: RTreeObject>(
     }
 }
 
-/// Takes out the next selected element of these nodes, and drops a parent that lost its last child.
+/// Takes out the next selected element of these nodes, and drops a parent that lost its last child; `changed` tells whether
+/// one of them went, or changed its envelope.
 #[cycle(take)]
 fn take_among<T: RTreeObject, R: SelectionFunction<T>>(
     children: &mut Vec<RTreeNode<T>>,
     path: &mut [usize],
     rest: &mut Option<Rest<T::Envelope>>,
+    changed: &mut bool,
     func: &R,
 ) -> Option<T>
     ensures takes { Takes T.Envelope.boxes T.object (R.accepts func.now) (R.selects func.now)
         children.old.items path.old rest.old result children.new.items path.new rest.new }
     ensures capacity { vec_capacity children.new ≡ vec_capacity children.old }
     ensures same { IfNone result (children.new ≡ children.old) }
+    ensures unchanged { changed.new ≡ false → hull T.Envelope.boxes (node_box T.object.box_of) children.new.items
+        ≡ hull T.Envelope.boxes (node_box T.object.box_of) children.old.items }
 {
     for passed in first_number(path)..children.len() {
         let i = children.len() - 1 - passed;
         if is_selected_leaf(&children[i], func) {
             let taken = take_leaf(children, i);
             set_first(path, passed);
+            *changed = true;
             return Some(taken);
         }
-        let taken = take_inside(&mut children[i], path, rest, func);
+        let taken = take_inside(&mut children[i], path, rest, changed, func);
         if taken.is_some() {
             if is_childless(&children[i]) {
                 drop_child(children, i);
                 clear_lower(path, rest);
+                *changed = true;
             }
             set_first(path, passed);
             return taken;
@@ -168,17 +190,20 @@ fn take_inside<T: RTreeObject, R: SelectionFunction<T>>(
     child: &mut RTreeNode<T>,
     path: &mut [usize],
     rest: &mut Option<Rest<T::Envelope>>,
+    changed: &mut bool,
     func: &R,
 ) -> Option<T>
-    ensures { TakesInside T.Envelope.boxes T.object (R.accepts func.now) (R.selects func.now)
+    ensures takes { TakesInside T.Envelope.boxes T.object (R.accepts func.now) (R.selects func.now)
         child.old (lower_numbers path.old) rest.old result child.new (lower_numbers path.new) rest.new }
+    ensures unchanged { changed.new ≡ false
+        → node_box T.object.box_of child.new ≡ node_box T.object.box_of child.old }
 {
     match child {
         RTreeNode::Leaf(_) => None,
         RTreeNode::Parent(parent) => {
             if func.should_unpack_parent(&parent.envelope) {
                 let lower = path.len().min(1);
-                take_below(parent, &mut path[lower..], rest, func)
+                take_below(parent, &mut path[lower..], rest, changed, func)
             } else {
                 None
             }

@@ -56,7 +56,7 @@ impl<T: RTreeObject, Params: RTreeParams> RTree<T, Params> {
         if self.root.children.is_empty() || !func.should_unpack_parent(&self.root.envelope) {
             return None;
         }
-        let taken = take_below(&mut self.root, path, rest, func);
+        let taken = take_below(&mut self.root, path, rest, &mut false, func);
         if taken.is_some() {
             self.size -= 1;
             if self.root.children.is_empty() {

@@ -1,7 +1,8 @@
 //! Boxes: what each call answers on given corners.
 
 use crate::aabb::{AABB, upright};
-use crate::envelope::Envelope;
+use crate::envelope::{Counted, Envelope};
+use crate::object::PointDistance;
 use crate::point::{Point, RTreeNum};
 use num_traits::Zero;
 use std::alloc::{AllocError, Global};
@@ -292,4 +293,53 @@ fn boxes_are_ordered_hashed_and_shown_by_their_corners(rt: HostRuntime) {
     let one = AABB::from_corners([0i64, 2], [1, 1]);
     assert!(rt; hashed(&one) == hashed(&AABB::from_corners([0i64, 1], [1, 2])));
     assert!(rt; is_shown(rt.alloc(), &one, "AABB { lower: [0, 1], upper: [1, 2] }"));
+}
+
+/// Whether what is counted has this box and this count, and is empty where that is 0.
+fn has_count<P: Point>(counted: &Counted<P>, aabb: &AABB<P>, count: usize) -> bool {
+    *counted.aabb() == *aabb && counted.count() == count && counted.is_empty() == (count == 0)
+}
+
+/// Whether an envelope merged with itself is itself or not, as told, and nothing merged with it is it; and what nothing
+/// was merged into is empty, and equals it or not, as told.
+fn merges_alike<E: Envelope>(one: &E, twice: bool, nothing: bool) -> bool {
+    let empty = E::new_empty();
+    (one.merged(one) == *one) == twice
+        && (empty == *one) == nothing
+        && empty.merged(one) == *one
+        && empty.is_empty()
+}
+
+/// Whether a box that is counted counts so often, alone and merged with itself; what nothing was merged into equals it
+/// where this is 0.
+fn merges<P: Point>(one: &Counted<P>, aabb: &AABB<P>, count: usize, twice: usize) -> bool {
+    has_count(one, aabb, count)
+        && has_count(&one.merged(one), aabb, twice)
+        && merges_alike(one, count == twice, count == 0)
+}
+
+// What is counted, merged with itself: the count before and after. A box with no axis is not empty, and counts; the
+// count of nothing is 0.
+#[test]
+fn merges_add_counts(rt: HostRuntime) {
+    let rows: [(AABB<[i64; 2]>, usize, usize); 3] = [
+        (AABB::from_point([1, 2]), 1, 2),
+        (AABB::from_corners([0, 0], [2, 2]), 1, 2),
+        (AABB::new_empty(), 0, 0),
+    ];
+    for &(aabb, count, twice) in &rows {
+        assert!(rt; merges(&Counted::new(aabb), &aabb, count, twice));
+    }
+    let none: [i64; 0] = [];
+    let one = AABB::from_point(none);
+    assert!(rt; merges(&Counted::new(one), &one, 1, 2));
+}
+
+// rstar's test `test_min_max_dist_2_issue_40_regression` with the decimals cut to four and taken as whole numbers.
+#[test]
+fn a_min_max_distance_is_that_of_a_corner(rt: HostRuntime) {
+    let place = [6950i64, 2207, 8186];
+    let boxed = AABB::from_corners([7018, 2121, 8120], [7297, 2302, 8194]);
+    let corner = [7018, 2302, 8120].distance_2(&place);
+    assert!(rt; boxed.min_max_dist_2(&place) == 18005 && corner == 18005);
 }

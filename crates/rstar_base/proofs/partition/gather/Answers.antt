@@ -1,8 +1,19 @@
-use Rattle.std.proofs.Common.{◌≤ℤ◌, arith, subst}
-use Rattle.std.proofs.lemmas.List.Sorted.{IsPermutation-trans}
+use Rattle.std.proofs.Common.{◌≤ℤ◌, arith, refl, subst}
+use Rattle.std.proofs.lemmas.List.Sorted.{IsPermutation-refl, IsPermutation-trans}
 use Rattle.rstar_base.proofs.Around.{placed_first, placed_behind}
 use Rattle.rstar_base.proofs.partition.gather.Goals.{then-first, else-first}
 use Rattle.rstar_base.proofs.partition.gather.Goals as goal
+
+pub loop-at-init : goal.loop-at-init
+loop-at-init g c = record {
+  same = IsPermutation-refl _;
+  around = record {
+    order = c.run_end-at.ensures.order;
+    within = c.run_end-at.ensures.within;
+    at_most = λ i d p. c.run_end-less.ensures.at_most refl i d (omega arith) p;
+    at_least = λ i d q p. c.run_end-at.ensures.at_least refl i d q p;
+  };
+}
 
 pub loop-at-preserved : goal.loop-at-preserved
 loop-at-preserved g c =

@@ -1,11 +1,14 @@
-use Rattle.std.proofs.Common.{◌≡◌, ◌∙◌, ◌<◌, sym, refl, arith, ap, length, suc, ◌+◌, ◌-◌, get_or, get_or-set_same, Vec, ℕ, ◌≤◌, vec_len, vec_capacity}
+use Rattle.std.proofs.Common.{true, false, ◌≡◌, ◌∙◌, ◌<◌, sym, refl, arith, ap, length, suc, ◌+◌, ◌-◌, get_or, get_or-set_same, Vec, ℕ, ◌≤◌, vec_len, vec_capacity}
 use Rattle.rstar.specs.declared.node.RTreeNode.{Leaf}
 use Rattle.rstar.specs.declared.node.RTreeNode.TheVariants.{outs-Leaf, outs-Parent}
 use Rattle.rstar.specs.Taking.{selects_in, is_selected_leaf, is_childless, lower_numbers}
 use Rattle.rstar.proofs.Parts.{same_read, same_item, lower_lent, lower_left}
-use Rattle.rstar.proofs.Scans.{begins, gives_leaf, gives_inside, gives_last, passes_any, finishes, some_one, entered, not_entered, kept_anew, none_gives, along}
+use Rattle.rstar.proofs.Scans.{begins, gives_leaf, gives_inside, gives_last, passes_any, finishes, some_one, entered, not_entered, kept_anew, kept_still, hull_set, none_gives, along}
+use Rattle.rstar_base.specs.Hulls.{hull}
+use Rattle.rstar.specs.Nodes.{node_box}
+use Rattle.rstar.proofs.Rows.{node_box-Parent}
 use Rattle.rstar.proofs.algorithm.removal.+take.Goals as goal
-use Rattle.rstar.proofs.algorithm.removal.+take.Goals.{take_among-then-is_childless, take_among-else-is_childless}
+use Rattle.rstar.proofs.algorithm.removal.+take.Goals.{take_among-then-is_childless, take_among-else-is_childless, take_below-else-is_some-via-then-is_some+else-changed, take_below-else-is_some-via-else-is_some}
 
 -- ---- the place of a child, by lemmas that read no more than they need
 
@@ -24,6 +27,10 @@ next_is n len end passed v w e f h l k = omega arith
 one_of : (i p n : ℕ) → n ≡ suc (i + p) → i < n
 one_of i p n e = omega arith
 
+-- where a change was told, none was not
+told_none : {P : Type 0} → true ≡ false → P
+told_none told = cc
+
 pub take_among-loop-passed-init : goal.take_among-loop-passed-init
 take_among-loop-passed-init g t c = record {
   scanned = begins g.T.Envelope.Envelope.boxes g.T.RTreeObject.object (g.R.SelectionFunction.accepts c.args.func.now) (g.R.SelectionFunction.selects c.args.func.now) c.args.children.now.items c.args.path.now c.args.rest.now c.first_number-passed.result c.first_number-passed.ensures;
@@ -40,12 +47,12 @@ take_among-returns-then-is_some-clause-takes g t c =
     elim c.if-is_childless.branch [
       | take_among-then-is_childless w ↦
           rw (c.set_first-then-is_some.ensures, w.path-is, w.rest-is, w.children-is, w.drop_child.ensures.items)
-          (gives_last g.T.Envelope.Envelope.boxes g.T.RTreeObject.object (g.R.SelectionFunction.accepts c.args.func.now) (g.R.SelectionFunction.selects c.args.func.now) c.args.children.now.items c.args.path.now c.args.rest.now c.loop-passed.children.items c.loop-passed.path c.loop-passed.rest c.loop-passed.passed c.loop-passed.invariant.scanned i next c.index_mut.result.now c.take_inside-taken.new.child c.take_inside-taken.new.path c.take_inside-taken.new.rest c.take_inside-taken.result c.index_mut.ensures.value c.take_inside-taken.ensures c.take_inside-taken.auto.path
+          (gives_last g.T.Envelope.Envelope.boxes g.T.RTreeObject.object (g.R.SelectionFunction.accepts c.args.func.now) (g.R.SelectionFunction.selects c.args.func.now) c.args.children.now.items c.args.path.now c.args.rest.now c.loop-passed.children.items c.loop-passed.path c.loop-passed.rest c.loop-passed.passed c.loop-passed.invariant.scanned i next c.index_mut.result.now c.take_inside-taken.new.child c.take_inside-taken.new.path c.take_inside-taken.new.rest c.take_inside-taken.result c.index_mut.ensures.value c.take_inside-taken.ensures.takes c.take_inside-taken.auto.path
           (sym c.is_some.ensures ∙ c.if-is_some.true) (sym (ap is_childless written) ∙ sym c.is_childless.ensures ∙ w.if-is_childless.true) w.clear_lower.new.path w.clear_lower.new.rest (length (lower_numbers c.take_inside-taken.new.path)) w.clear_lower.ensures.numbers
           w.clear_lower.auto.path w.clear_lower.ensures.still w.clear_lower.ensures.none)
       | take_among-else-is_childless w ↦
           rw (c.set_first-then-is_some.ensures, w.path-is, w.rest-is, w.children-is)
-          (gives_inside g.T.Envelope.Envelope.boxes g.T.RTreeObject.object (g.R.SelectionFunction.accepts c.args.func.now) (g.R.SelectionFunction.selects c.args.func.now) c.args.children.now.items c.args.path.now c.args.rest.now c.loop-passed.children.items c.loop-passed.path c.loop-passed.rest c.loop-passed.passed c.loop-passed.invariant.scanned i next c.index_mut.result.now c.take_inside-taken.new.child c.take_inside-taken.new.path c.take_inside-taken.new.rest c.take_inside-taken.result c.index_mut.ensures.value c.take_inside-taken.ensures c.take_inside-taken.auto.path
+          (gives_inside g.T.Envelope.Envelope.boxes g.T.RTreeObject.object (g.R.SelectionFunction.accepts c.args.func.now) (g.R.SelectionFunction.selects c.args.func.now) c.args.children.now.items c.args.path.now c.args.rest.now c.loop-passed.children.items c.loop-passed.path c.loop-passed.rest c.loop-passed.passed c.loop-passed.invariant.scanned i next c.index_mut.result.now c.take_inside-taken.new.child c.take_inside-taken.new.path c.take_inside-taken.new.rest c.take_inside-taken.result c.index_mut.ensures.value c.take_inside-taken.ensures.takes c.take_inside-taken.auto.path
           (sym c.is_some.ensures ∙ c.if-is_some.true)
           (sym (ap is_childless written) ∙ sym c.is_childless.ensures ∙ w.if-is_childless.false))
     ]
@@ -56,28 +63,28 @@ take_among-loop-passed-preserved g t c =
     let next : length c.loop-passed.children.items ≡ suc (i + c.loop-passed.passed) = next_is (length c.loop-passed.children.items) c.len.result c.len-passed-end.result c.loop-passed.passed (vec_len c.loop-passed.children) (vec_len c.args.children.now) c.len.ensures (ap vec_len c.loop-passed.invariant.same) c.len-passed-end.ensures c.loop-passed-test.true c.loop-passed.children.ok.0 in
     let within : i < length c.loop-passed.children.items = one_of i c.loop-passed.passed (length c.loop-passed.children.items) next in
     let here = same_read c.loop-passed.children.items i c.index.result.now c.index_mut.result.now within c.index.ensures c.index_mut.ensures.value in
-    let unchanged = same_item c.loop-passed.children i c.take_inside-taken.new.child _ (none_gives c.take_inside-taken.result (sym c.is_some.ensures ∙ c.if-is_some.false) c.take_inside-taken.ensures.kept ∙ c.index_mut.ensures.value) ∙ c.loop-passed.invariant.same in
+    let unchanged = same_item c.loop-passed.children i c.take_inside-taken.new.child _ (none_gives c.take_inside-taken.result (sym c.is_some.ensures ∙ c.if-is_some.false) c.take_inside-taken.ensures.takes.kept ∙ c.index_mut.ensures.value) ∙ c.loop-passed.invariant.same in
     record {
       scanned = passes_any g.T.Envelope.Envelope.boxes g.T.RTreeObject.object (g.R.SelectionFunction.accepts c.args.func.now) (g.R.SelectionFunction.selects c.args.func.now) c.args.children.now.items c.args.path.now c.args.rest.now c.loop-passed.children.items c.loop-passed.path c.loop-passed.rest c.loop-passed.passed c.loop-passed.invariant.scanned i next c.index_mut.result.now c.take_inside-taken.new.child c.take_inside-taken.new.path c.take_inside-taken.new.rest c.take_inside-taken.result (sym c.is_some.ensures ∙ c.if-is_some.false) c.index_mut.ensures.value
-          c.take_inside-taken.ensures c.take_inside-taken.auto.path
+          c.take_inside-taken.ensures.takes c.take_inside-taken.auto.path
           (sym (ap (is_selected_leaf (g.R.SelectionFunction.selects c.args.func.now)) here) ∙ sym c.is_selected_leaf.ensures ∙ c.if-is_selected_leaf.false) c.clear_lower-in-loop-passed.new.path c.clear_lower-in-loop-passed.new.rest (length (lower_numbers c.take_inside-taken.new.path))
           c.clear_lower-in-loop-passed.ensures.numbers c.clear_lower-in-loop-passed.auto.path c.clear_lower-in-loop-passed.ensures.still c.clear_lower-in-loop-passed.ensures.none;
       unvisited = λ k d. ap (λ (v : Vec _ _). get_or v.items k d) unchanged;
       same = unchanged;
     }
 
-pub take_inside-returns-then-should_unpack_parent :
-    goal.take_inside-returns-then-should_unpack_parent
-take_inside-returns-then-should_unpack_parent g t c =
+pub take_inside-returns-then-should_unpack_parent-clause-takes :
+    goal.take_inside-returns-then-should_unpack_parent-clause-takes
+take_inside-returns-then-should_unpack_parent-clause-takes g t c =
     let takes = rw (c.in-Parent.parent-is, lower_lent c.args.path.now c.min-lower.result c.min-lower.ensures) at c.take_below.ensures.takes in
     let kept = rw (c.in-Parent.parent-is, lower_lent c.args.path.now c.min-lower.result c.min-lower.ensures) at c.take_below.ensures.kept in
     let same = rw c.in-Parent.parent-is at c.take_below.ensures.same in
     let len = c.take_below.auto.path in
     rw (c.in-Parent.is, outs-Parent c.in-Parent.parent, lower_left c.args.path.now c.take_below.new.path c.min-lower.result c.min-lower.ensures len) (entered g.T.Envelope.Envelope.boxes g.T.RTreeObject.object (g.R.SelectionFunction.accepts c.args.func.now) (g.R.SelectionFunction.selects c.args.func.now) c.in-Parent.parent c.take_below.new.node (lower_numbers c.args.path.now) c.take_below.new.path c.args.rest.now c.take_below.new.rest c.take_below.result takes kept same)
 
-pub take_inside-returns-else-should_unpack_parent :
-    goal.take_inside-returns-else-should_unpack_parent
-take_inside-returns-else-should_unpack_parent g t c =
+pub take_inside-returns-else-should_unpack_parent-clause-takes :
+    goal.take_inside-returns-else-should_unpack_parent-clause-takes
+take_inside-returns-else-should_unpack_parent-clause-takes g t c =
     let refused = rw c.in-Parent.parent-is at c.should_unpack_parent.ensures in
     rw (c.in-Parent.is, outs-Parent c.in-Parent.parent)
     (not_entered g.T.Envelope.Envelope.boxes g.T.RTreeObject.object (g.R.SelectionFunction.accepts c.args.func.now) (g.R.SelectionFunction.selects c.args.func.now) g.met.T.Envelope.Envelope.envelope_laws g.met.T.RTreeObject.object_law c.in-Parent.parent (lower_numbers c.args.path.now) c.args.rest.now (sym refused ∙ c.if-should_unpack_parent.false))
@@ -94,6 +101,7 @@ take_among-returns-then-is_selected_leaf g t c = record {
       (sym (ap (selects_in (g.R.SelectionFunction.selects c.args.func.now)) (outs-Leaf _)) ∙ chosen ∙ sym c.is_selected_leaf.ensures ∙ c.if-is_selected_leaf.true));
   capacity = c.take_leaf-taken.ensures.capacity ∙ ap vec_capacity c.loop-passed.invariant.same;
   same = tt;
+  unchanged = λ told. told_none told;
 }
 
 pub take_among-returns : goal.take_among-returns
@@ -102,18 +110,48 @@ take_among-returns g t c = record {
       (finishes g.T.Envelope.Envelope.boxes g.T.RTreeObject.object (g.R.SelectionFunction.accepts c.args.func.now) (g.R.SelectionFunction.selects c.args.func.now) c.args.children.now.items c.args.path.now c.args.rest.now c.loop-passed.children.items c.loop-passed.path c.loop-passed.rest c.loop-passed.passed c.loop-passed.invariant.scanned (omega (arith, c.args.children.now.ok.0, ap length c.loop-passed.invariant.scanned.same)) c.len-2.result (c.len-2.ensures ∙ c.loop-passed.children.ok.0));
   capacity = ap vec_capacity c.loop-passed.invariant.same;
   same = c.loop-passed.invariant.same;
+  unchanged = λ told. ap (λ (v : Vec _ _). hull g.T.Envelope.Envelope.boxes (node_box g.T.RTreeObject.object.box_of) v.items) c.loop-passed.invariant.same;
 }
 
-pub take_below-returns-then-is_some : goal.take_below-returns-then-is_some
-take_below-returns-then-is_some g t c = record {
-  takes = along g.T.Envelope.Envelope.boxes g.T.RTreeObject.object (g.R.SelectionFunction.accepts c.args.func.now) (g.R.SelectionFunction.selects c.args.func.now) c.args.node.now.children.items c.take_among-taken.new.children.items c.args.path.now c.take_among-taken.new.path c.args.rest.now c.take_among-taken.new.rest c.merge_along.new.rest c.take_among-taken.result
-      c.take_among-taken.ensures.takes c.take_among-taken.auto.path (rw c.deref.ensures.value at c.merge_along.ensures.rests) c.merge_along.ensures.still;
-  kept = λ m w h kept below at.
-      let takes = c.take_among-taken.ensures.takes in
-      let made = (rw c.deref.ensures.value at c.merge_along.ensures.merged) (takes.rests m w h below at) in
-      kept_anew g.met.T.Envelope.Envelope.envelope_laws g.met.T.RTreeObject.object_law m w h c.args.node.now _ kept (takes.whole m w h below at) takes.shorter c.take_among-taken.new.children.ok.0 c.args.node.now.children.ok.0 c.take_among-taken.ensures.capacity made;
-  same = some_one _ c.take_among-taken.result (sym c.is_some.ensures ∙ c.if-is_some.true);
-}
+pub take_below-returns-then-changed-clause-takes : goal.take_below-returns-then-changed-clause-takes
+take_below-returns-then-changed-clause-takes g t c =
+    along g.T.Envelope.Envelope.boxes g.T.RTreeObject.object (g.R.SelectionFunction.accepts c.args.func.now) (g.R.SelectionFunction.selects c.args.func.now) c.args.node.now.children.items c.take_among-taken.new.children.items c.args.path.now c.take_among-taken.new.path c.args.rest.now c.take_among-taken.new.rest c.merge_along-merged.new.rest c.take_among-taken.result
+    c.take_among-taken.ensures.takes c.take_among-taken.auto.path (rw c.deref.ensures.value at c.merge_along-merged.ensures.rests) c.merge_along-merged.ensures.still
+
+pub take_below-returns-then-changed-clause-kept : goal.take_below-returns-then-changed-clause-kept
+take_below-returns-then-changed-clause-kept g t c m w h kept below at =
+    let takes = c.take_among-taken.ensures.takes in
+    let made = (rw c.deref.ensures.value at c.merge_along-merged.ensures.merged) (takes.rests m w h below at) in
+    kept_anew g.met.T.Envelope.Envelope.envelope_laws g.met.T.RTreeObject.object_law m w h c.args.node.now _ kept (takes.whole m w h below at) takes.shorter c.take_among-taken.new.children.ok.0 c.args.node.now.children.ok.0 c.take_among-taken.ensures.capacity made
+
+pub take_below-returns-else-is_some-clause-kept : goal.take_below-returns-else-is_some-clause-kept
+take_below-returns-else-is_some-clause-kept g t c m w h kept below at =
+    let takes = c.take_among-taken.ensures.takes in
+    let box = node_box g.T.RTreeObject.object.box_of in
+    let hulls : hull g.T.Envelope.Envelope.boxes box c.take_among-taken.new.children.items ≡ hull g.T.Envelope.Envelope.boxes box c.args.node.now.children.items = elim c.else-is_some.branch [
+      | take_below-else-is_some-via-then-is_some+else-changed w ↦ c.take_among-taken.ensures.unchanged w.if-changed.false
+      | take_below-else-is_some-via-else-is_some w ↦ ap (λ (v : Vec _ _). hull g.T.Envelope.Envelope.boxes box v.items) (none_gives c.take_among-taken.result (sym c.is_some.ensures ∙ w.if-is_some.false) c.take_among-taken.ensures.same)
+    ] in
+    kept_still g.met.T.Envelope.Envelope.envelope_laws g.met.T.RTreeObject.object_law m w h c.args.node.now _ kept below (takes.whole m w h below at) takes.shorter c.take_among-taken.new.children.ok.0 c.args.node.now.children.ok.0 c.take_among-taken.ensures.capacity refl hulls
+
+pub take_inside-returns-then-should_unpack_parent-clause-unchanged :
+    goal.take_inside-returns-then-should_unpack_parent-clause-unchanged
+take_inside-returns-then-should_unpack_parent-clause-unchanged g t c =
+    let unchanged = rw c.in-Parent.parent-is at c.take_below.ensures.unchanged in
+    let box = g.T.RTreeObject.object.box_of in
+    rw (c.in-Parent.is, outs-Parent c.in-Parent.parent) (λ told. node_box-Parent box c.take_below.new.node ∙ unchanged told ∙ sym (node_box-Parent box c.in-Parent.parent))
+
+pub take_among-returns-then-is_some-clause-unchanged : goal.take_among-returns-then-is_some-clause-unchanged
+take_among-returns-then-is_some-clause-unchanged g t c =
+    let i = c.len.result - 1 - c.loop-passed.passed in
+    let next : length c.loop-passed.children.items ≡ suc (i + c.loop-passed.passed) = next_is (length c.loop-passed.children.items) c.len.result c.len-passed-end.result c.loop-passed.passed (vec_len c.loop-passed.children) (vec_len c.args.children.now) c.len.ensures (ap vec_len c.loop-passed.invariant.same) c.len-passed-end.ensures c.loop-passed-test.true c.loop-passed.children.ok.0 in
+    let within : i < length c.loop-passed.children.items = one_of i c.loop-passed.passed (length c.loop-passed.children.items) next in
+    elim c.if-is_childless.branch [
+      | take_among-then-is_childless w ↦ rw w.changed-is (λ told. told_none told)
+      | take_among-else-is_childless w ↦ rw (w.changed-is, w.children-is) (λ told.
+          hull_set g.T.Envelope.Envelope.boxes (node_box g.T.RTreeObject.object.box_of) c.loop-passed.children.items i c.index_mut.result.now c.take_inside-taken.new.child within c.index_mut.ensures.value (c.take_inside-taken.ensures.unchanged told)
+          ∙ ap (λ (v : Vec _ _). hull g.T.Envelope.Envelope.boxes (node_box g.T.RTreeObject.object.box_of) v.items) c.loop-passed.invariant.same)
+    ]
 
 pub take_among-overflow_sub-i : goal.take_among-overflow_sub-i
 take_among-overflow_sub-i g t c = some_left c.len.result c.len-passed-end.result c.loop-passed.passed (vec_len c.loop-passed.children) (vec_len c.args.children.now) c.len.ensures (ap vec_len c.loop-passed.invariant.same) c.len-passed-end.ensures c.loop-passed-test.true
