@@ -54,7 +54,7 @@ pub(crate) fn take_below<T: RTreeObject, R: SelectionFunction<T>>(
     let taken = take_among(&mut node.children, path, rest, changed, func);
     if taken.is_some() && *changed {
         let merged = merge_along(&node.children, path, rest);
-        *changed = are_apart(&merged, &node.envelope);
+        *changed = differ(&merged, &node.envelope);
         node.envelope = merged;
     }
     taken
@@ -62,7 +62,7 @@ pub(crate) fn take_below<T: RTreeObject, R: SelectionFunction<T>>(
 
 /// Whether two envelopes are not the same, by `==`.
 #[inline(always)]
-fn are_apart<E: Envelope>(one: &E, other: &E) -> bool
+fn differ<E: Envelope>(one: &E, other: &E) -> bool
     ensures { result ≡ false → one.now ≡ other.now }
 {
     // Each call attests its envelope, so that `==` is equality, and costs nothing where no one asks for its answer.
