@@ -297,6 +297,42 @@ fn dropped_stands<T: EqualEnvelopes + Copy>(
         && tree.size().saturating_add(calls) == elements.len()
 }
 
+/// Takes out one element inside an envelope, and one near a point, each by a drain that is dropped after its first `next`;
+/// and whether there was one of each.
+fn one_inside_one_near<T: PointDistance>(
+    tree: &mut RTree<T>,
+    area: T::Envelope,
+    point: PointOf<T>,
+    limit: Distance<T>,
+) -> bool
+    requires { IsWholeTree T.Envelope.boxes T.object ⟦<DefaultParams as RTreeParams>⟧.MAX_SIZE tree.old }
+    ensures { IsWholeTree T.Envelope.boxes T.object ⟦<DefaultParams as RTreeParams>⟧.MAX_SIZE tree.new }
+{
+    let is_inside = match tree.drain_in_envelope(area) {
+        Ok(mut drain) => drain.next().is_some(),
+        Err(_) => false,
+    };
+    let is_near = match tree.drain_within_distance(point, limit) {
+        Ok(mut drain) => drain.next().is_some(),
+        Err(_) => false,
+    };
+    is_inside && is_near
+}
+
+/// Whether a tree of these elements stands without those two.
+fn stands_without_two<T: PointDistance + Copy>(
+    alloc: Global,
+    elements: &[T],
+    area: T::Envelope,
+    point: PointOf<T>,
+    limit: Distance<T>,
+) -> bool {
+    let mut tree = inserted::<T, DefaultParams>(alloc, elements);
+    one_inside_one_near(&mut tree, area, point, limit)
+        && tree.size().saturating_add(2) == elements.len()
+        && stands(&tree)
+}
+
 /// Drains so many elements into a list, and forgets the drain: no clause says what the tree is then.
 fn forgotten_after<T: RTreeObject>(tree: &mut RTree<T>, calls: usize, given: &mut Vec<T>) -> bool
     requires { IsWholeTree T.Envelope.boxes T.object ⟦<DefaultParams as RTreeParams>⟧.MAX_SIZE tree.old }
@@ -564,7 +600,8 @@ fn elements_of_loads_give_way_to_others(rt: HostRuntime) {
 }
 
 // For each number of calls: a drain that is dropped after them, with an insertion, or with one that is made and forgotten;
-// and one that is forgotten after them. And a drain by a function that is not lawful.
+// and one that is forgotten after them. And a drain by a function that is not lawful, and one element by each of the drains
+// of what lies in a box and of what is near.
 #[test]
 fn drains_that_are_given_up(rt: HostRuntime) {
     for calls in 0..8usize {
@@ -572,6 +609,7 @@ fn drains_that_are_given_up(rt: HostRuntime) {
     }
     let far = AABB::from_corners([100, 0], [103, 0]);
     assert!(rt; drains_at_most(rt.alloc(), &ALONG_A_LINE, LeftOnly, 3, &far, 4));
+    assert!(rt; stands_without_two(rt.alloc(), &ALONG_A_LINE, far, [0, 0], 4));
 }
 
 // A node of 90 leaves, and four of 75: a drain keeps the merge of those that it has not come to. Then narrow nodes, and
