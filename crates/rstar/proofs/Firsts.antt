@@ -1,40 +1,72 @@
--- The first elements in the order of their distances, as the first of all elements in such an order; with their clones.
-use Rattle.std.proofs.Common.{◌≡◌, ℕ, ℤ, pos, ◌+◌, ◌<◌, ◌≤◌, Bool, true, false, List, [], ◌∷◌, ◌++◌, refl, ap, sym, ◌∙◌, subst, arith, length, map, take, get_or, append-nil}
+-- The first elements in an order, as the first of all elements in such an order; with their clones.
+use Rattle.std.proofs.Common.{◌≡◌, ℕ, ℤ, pos, ◌+◌, ◌<◌, ◌≤◌, ◌⊎◌, inl, inr, Bool, true, false, List, [], ◌∷◌, ◌++◌, Option, Some, None, refl, ap, sym, ◌∙◌, subst, arith, length, map, take, get_or, slice_get, append-nil}
 use Rattle.std.specs.Borrow.{Bor}
+use Rattle.std.specs.Cmp.{IsTotalOrder}
 use Rattle.std.specs.List.{AllByRecursion}
 use Rattle.std.specs.List.Sorted.{IsPermutation}
+use Rattle.std.specs.Ordering.{is_lt, nat_cmp}
+use Rattle.std.specs.declared.cmp.Ordering.{Ordering}
 use lib.Dec.{leb}
+use Rattle.std.proofs.HeapSift as sifts
 use Rattle.std.proofs.lemmas.Bool.{leb-true, leb-false}
+use Rattle.std.proofs.lemmas.Cmp.{nat_cmp_total, on_total, then_total}
 use Rattle.std.proofs.lemmas.List.{map-append, take_all, take_more, take-append-le}
-use Rattle.std.proofs.lemmas.List.Sorted.{IsPermutation-refl, IsPermutation-trans, IsPermutation-cons, IsPermutation-middle, IsPermutation-append_right, length_permutation}
+use Rattle.std.proofs.lemmas.List.Sorted.{IsPermutation-refl, IsPermutation-sym, IsPermutation-trans, IsPermutation-cons, IsPermutation-middle, IsPermutation-append_right, Contains-permutation, length_permutation}
 use Rattle.rstar_base.proofs.Lists.{all-append, all_along, all_map}
-use Rattle.rstar.specs.Lists.{AreInOrder, AreNearestOf}
-use Rattle.rstar.specs.Steps.{AreFirst}
+use Rattle.rstar.specs.Lists.{AreOrdered, IsLeast, AreFirst, AreFirstOf, IsNoFarther, IsNotLater, by_distance}
+use Rattle.rstar.specs.Steps.{AreFirstWith}
 
--- ---- every list can be put in such an order
+-- ---- every list can be put in an order that ranks any two
+
+-- of any two, one may stand before the other, and what stands before a second stands before a third behind that
+pub record Ranks {T : Type 0} (before : T → T → Type 0) : Type 0 where
+  pub any_two : (t u : T) → before t u ⊎ before u t
+  pub chain : (t u v : T) → before t u → before u v → before t v
 
 module _ {T : Type 0} (distance : T → ℕ) where
-  order-append : (ts us : List T) → AreInOrder distance ts → AreInOrder distance us → AllByRecursion (λ t. AllByRecursion (λ u. distance t ≤ distance u) us) ts → AreInOrder distance (ts ++ us)
-  order-append [] us h k near = k
-  order-append (t ∷ ts) us h k near = (all-append (λ u. distance t ≤ distance u) ts us h.0 near.0, order-append ts us h.1 k near.1)
-
-  -- one element put into a list in order
-  placed : (t : T) (us : List T) → AreInOrder distance us → (vs : List T) × IsPermutation (t ∷ us) vs × AreInOrder distance vs
-  placed t [] h = (t ∷ [], IsPermutation-refl _, (tt, tt))
-  placed t (u ∷ us) h = by_test (placed t us h.1) (leb (distance t) (distance u)) refl
+  pub distance_ranks : Ranks (IsNoFarther distance)
+  distance_ranks = record {
+    any_two = λ t u. by_test t u (leb (distance t) (distance u)) refl;
+    chain = λ t u v h k. omega (arith, h, k);
+  }
     where
-      by_test : (vs : List T) × IsPermutation (t ∷ us) vs × AreInOrder distance vs → (b : Bool) → leb (distance t) (distance u) ≡ b → (vs : List T) × IsPermutation (t ∷ u ∷ us) vs × AreInOrder distance vs
-      by_test rest true e =
-          let le = leb-true (distance t) (distance u) e in
-          (t ∷ u ∷ us, IsPermutation-refl _, ((le, all_map (λ v. distance u ≤ distance v) (λ v. distance t ≤ distance v) (λ v k. omega (arith, le, k)) us h.0), h))
-      by_test rest false e =
-          let le = leb-false (distance t) (distance u) e in (
-            u ∷ rest.0,
-            IsPermutation-trans _ _ _ (IsPermutation-middle (t ∷ []) u us) (IsPermutation-cons u (t ∷ us) rest.0 rest.1),
-            (all_along (λ v. distance u ≤ distance v) (t ∷ us) rest.0 rest.1 (omega (arith, le), h.0), rest.2),
-          )
+      by_test : (t u : T) (b : Bool) → leb (distance t) (distance u) ≡ b → IsNoFarther distance t u ⊎ IsNoFarther distance u t
+      by_test t u true e = inl (leb-true (distance t) (distance u) e)
+      by_test t u false e = let le = leb-false (distance t) (distance u) e in inr (omega (arith, le))
 
-  ordered : (ts : List T) → (us : List T) × IsPermutation ts us × AreInOrder distance us
+  module _ {compare : T → T → Ordering} (total : IsTotalOrder compare) where
+    stated_total : IsTotalOrder (by_distance distance compare)
+    stated_total = then_total (on_total distance nat_cmp_total) total
+
+    pub stated_ranks : Ranks (IsNotLater distance compare)
+    stated_ranks = record {
+      any_two = λ t u. by_test t u (is_lt (by_distance distance compare u t)) refl;
+      chain = λ t u v h k. (sifts.ranks stated_total).chain v u t k h;
+    }
+      where
+        by_test : (t u : T) (b : Bool) → is_lt (by_distance distance compare u t) ≡ b → IsNotLater distance compare t u ⊎ IsNotLater distance compare u t
+        by_test t u true e = inr ((sifts.ranks stated_total).one_way u t e)
+        by_test t u false e = inl e
+
+order-append : {T : Type 0} (before : T → T → Type 0) (ts us : List T) → AreOrdered before ts → AreOrdered before us → AllByRecursion (λ t. AllByRecursion (before t) us) ts → AreOrdered before (ts ++ us)
+order-append before [] us h k least = k
+order-append before (t ∷ ts) us h k least = (all-append (before t) ts us h.0 least.0, order-append before ts us h.1 k least.1)
+
+module _ {T : Type 0} (before : T → T → Type 0) (ranks : Ranks before) where
+  -- one element put into a list in order
+  placed : (t : T) (us : List T) → AreOrdered before us → (vs : List T) × IsPermutation (t ∷ us) vs × AreOrdered before vs
+  placed t [] h = (t ∷ [], IsPermutation-refl _, (tt, tt))
+  placed t (u ∷ us) h = by_test (placed t us h.1) (ranks.any_two t u)
+    where
+      by_test : (vs : List T) × IsPermutation (t ∷ us) vs × AreOrdered before vs → before t u ⊎ before u t → (vs : List T) × IsPermutation (t ∷ u ∷ us) vs × AreOrdered before vs
+      by_test rest (inl first) = (t ∷ u ∷ us, IsPermutation-refl _, ((first, all_map (before u) (before t) (λ v k. ranks.chain t u v first k) us h.0), h))
+      by_test rest (inr first) = (
+        u ∷ rest.0,
+        IsPermutation-trans _ _ _ (IsPermutation-middle (t ∷ []) u us) (IsPermutation-cons u (t ∷ us) rest.0 rest.1),
+        (all_along (before u) (t ∷ us) rest.0 rest.1 (first, h.0), rest.2),
+      )
+
+  ordered : (ts : List T) → (us : List T) × IsPermutation ts us × AreOrdered before us
   ordered [] = ([], IsPermutation-refl [], tt)
   ordered (t ∷ ts) =
       let rest = ordered ts in
@@ -47,26 +79,26 @@ nil-from : {T : Type 0} (l : List T) → length l ≡ 0 → l ≡ []
 nil-from [] e = refl
 nil-from (x ∷ xs) e = cc
 
-module _ {T S : Type 0} (distance : T → ℕ) (value : S → ℤ) (k : ℕ) (all : List T) (ns : List (T × S)) where
-  first-taken : (ts others : List T) → length ts ≤ k → (length ts < k → others ≡ []) → (b : Bool) → leb k (length ts) ≡ b → ts ≡ take k (ts ++ others)
-  first-taken ts others few enough true e =
-      let le = leb-true k (length ts) e in
-      sym (take-append-le k ts others (omega (arith, le)) ∙ take_all k ts (omega (arith, few)))
-  first-taken ts others few enough false e =
-      let less = leb-false k (length ts) e in
-      sym (ap (λ l. take k (ts ++ l)) (enough (omega (arith, less))) ∙ ap (take k) (append-nil ts) ∙ take_all k ts (omega (arith, few)))
+first-taken : {T : Type 0} (k : ℕ) (ts others : List T) → length ts ≤ k → (length ts < k → others ≡ []) → (b : Bool) → leb k (length ts) ≡ b → ts ≡ take k (ts ++ others)
+first-taken k ts others few enough true e =
+    let le = leb-true k (length ts) e in
+    sym (take-append-le k ts others (omega (arith, le)) ∙ take_all k ts (omega (arith, few)))
+first-taken k ts others few enough false e =
+    let less = leb-false k (length ts) e in
+    sym (ap (λ l. take k (ts ++ l)) (enough (omega (arith, less))) ∙ ap (take k) (append-nil ts) ∙ take_all k ts (omega (arith, few)))
 
-  first-of : AreNearestOf distance all k (map (λ n. n.0) ns) → AllByRecursion (λ n. value n.1 ≡ pos (distance n.0)) ns → AreFirst distance value k all ns
-  first-of nearest at =
-      let rest = ordered distance nearest.left in
+module _ {T S : Type 0} (before : T → T → Type 0) (ranks : Ranks before) (distance : T → ℕ) (value : S → ℤ) (all : List T) where
+  first-of : (k : ℕ) (ns : List (T × S)) → AreFirstOf before all k (map (λ n. n.0) ns) → AllByRecursion (λ n. value n.1 ≡ pos (distance n.0)) ns → AreFirstWith before distance value k all ns
+  first-of k ns first at =
+      let rest = ordered before ranks first.left in
       let ts = map (λ (n : T × S). n.0) ns in
-      let none : length ts < k → rest.0 ≡ [] = λ less. nil-from rest.0 (length_permutation _ _ rest.1 ∙ ap length (nearest.enough less)) in
+      let none : length ts < k → rest.0 ≡ [] = λ less. nil-from rest.0 (length_permutation _ _ rest.1 ∙ ap length (first.enough less)) in
       record {
         order = ts ++ rest.0;
-        bag = IsPermutation-trans _ _ _ nearest.first.bag (IsPermutation-append_right ts nearest.left rest.0 rest.1);
-        rising = order-append distance ts rest.0 nearest.first.order rest.2
-            (all_map _ _ (λ t. all_along (λ u. distance t ≤ distance u) nearest.left rest.0 rest.1) ts nearest.first.least);
-        first = first-taken ts rest.0 nearest.few none (leb k (length ts)) refl;
+        bag = IsPermutation-trans _ _ _ first.first.bag (IsPermutation-append_right ts first.left rest.0 rest.1);
+        rising = order-append before ts rest.0 first.first.order rest.2
+            (all_map _ _ (λ t. all_along (before t) first.left rest.0 rest.1) ts first.first.least);
+        first = first-taken k ts rest.0 first.few none (leb k (length ts)) refl;
         distances = at;
       }
 
@@ -90,16 +122,43 @@ module _ {T S : Type 0} where
   pub clones-whole : (found items : List (Bor T × S)) (k : ℕ) (clones : List (T × S)) → items ≡ found → length items ≤ k → clones ≡ map lent (take k found) → clones ≡ map lent found
   clones-whole found items k clones same ended is = let all : length found ≤ k = rw same at ended in is ∙ ap (map lent) (take_all k found all)
 
-  pub first-clones : (distance : T → ℕ) (value : S → ℤ) (k : ℕ) (all : List T) (found : List (Bor T × S)) (clones : List (T × S)) → clones ≡ map lent found
-      → AreNearestOf distance all k (map (λ n. n.0.now) found) → AllByRecursion (λ n. value n.1 ≡ pos (distance n.0.now)) found → AreFirst distance value k all clones
-  first-clones distance value k all found clones is nearest at =
-      subst (AreFirst distance value k all) (sym is)
-      (first-of distance value k all (map lent found) (subst (AreNearestOf distance all k) (sym (elements-lent found)) nearest) (distances-lent found at))
-    where
-      elements-lent : (ns : List (Bor T × S)) → map (λ (n : T × S). n.0) (map lent ns) ≡ map (λ (n : Bor T × S). n.0.now) ns
-      elements-lent [] = refl
-      elements-lent (n ∷ ns) = ap (λ (l : List T). n.0.now ∷ l) (elements-lent ns)
+  elements-lent : (ns : List (Bor T × S)) → map (λ (n : T × S). n.0) (map lent ns) ≡ map (λ (n : Bor T × S). n.0.now) ns
+  elements-lent [] = refl
+  elements-lent (n ∷ ns) = ap (λ (l : List T). n.0.now ∷ l) (elements-lent ns)
 
-      distances-lent : (ns : List (Bor T × S)) → AllByRecursion (λ n. value n.1 ≡ pos (distance n.0.now)) ns → AllByRecursion (λ (n : T × S). value n.1 ≡ pos (distance n.0)) (map lent ns)
-      distances-lent [] h = tt
-      distances-lent (n ∷ ns) h = (h.0, distances-lent ns h.1)
+  distances-lent : (distance : T → ℕ) (value : S → ℤ) (ns : List (Bor T × S)) → AllByRecursion (λ n. value n.1 ≡ pos (distance n.0.now)) ns → AllByRecursion (λ (n : T × S). value n.1 ≡ pos (distance n.0)) (map lent ns)
+  distances-lent distance value [] h = tt
+  distances-lent distance value (n ∷ ns) h = (h.0, distances-lent distance value ns h.1)
+
+-- ---- what is lent, as the first of all
+
+module _ {T S : Type 0} (before : T → T → Type 0) (ranks : Ranks before) (distance : T → ℕ) (value : S → ℤ) (all : List T) where
+  pub first-clones : (k : ℕ) (found : List (Bor T × S)) (clones : List (T × S)) → clones ≡ map lent found
+      → AreFirstOf before all k (map (λ n. n.0.now) found) → AllByRecursion (λ n. value n.1 ≡ pos (distance n.0.now)) found → AreFirstWith before distance value k all clones
+  first-clones k found clones is first at =
+      subst (AreFirstWith before distance value k all) (sym is)
+      (first-of before ranks distance value all k (map lent found) (subst (AreFirstOf before all k) (sym (elements-lent found)) first) (distances-lent distance value found at))
+
+  itself : (t : T) → before t t
+  itself t = elim (ranks.any_two t t) [ inl h ↦ h | inr h ↦ h ]
+
+  -- the first of those that are lent is the first of all
+  pub first-one : (k : ℕ) (found : List (Bor T × S)) (n : Bor T × S) → AreFirstOf before all k (map (λ n. n.0.now) found) → AllByRecursion (λ n. value n.1 ≡ pos (distance n.0.now)) found
+      → Some n ≡ slice_get found 0 → IsLeast before all n.0.now × (value n.1 ≡ pos (distance n.0.now))
+  first-one k [] n first at is = cc
+  first-one k (m ∷ ms) n first at is =
+      let same : Some n ≡ Some m = is in
+      let one : n ≡ m = cc in
+      let others = map (λ (o : Bor T × S). o.0.now) ms in
+      let bag = IsPermutation-sym _ _ first.first.bag in
+      let head : IsLeast before all m.0.now = record {
+        member = Contains-permutation ((m.0.now ∷ others) ++ first.left) all m.0.now bag (0, omega arith, refl);
+        least = all_along (before m.0.now) ((m.0.now ∷ others) ++ first.left) all bag
+            (all-append (before m.0.now) (m.0.now ∷ others) first.left (itself m.0.now, first.first.order.0) first.first.least.0);
+      } in
+      subst (λ (o : Bor T × S). IsLeast before all o.0.now × (value o.1 ≡ pos (distance o.0.now))) (sym one) (head, at.0)
+
+-- where none is lent though one was asked for, there is none
+pub first-none : {T S : Type 0} (before : T → T → Type 0) (all : List T) (k : ℕ) (found : List (Bor T × S)) → 0 < k → AreFirstOf before all k (map (λ n. n.0.now) found) → None ≡ slice_get found 0 → all ≡ []
+first-none before all k [] some first is = nil-from all (sym (length_permutation _ _ first.first.bag) ∙ ap length (first.enough some))
+first-none before all k (n ∷ ns) some first is = let no : None ≡ Some n = is in cc

@@ -21,6 +21,9 @@ pub mod Marks
 pub mod Writing
 pub mod Parts
 pub mod Scans
+pub mod Earliest
+pub mod TakenAt
+pub mod Gathered
 pub mod Removed
 pub mod DrainSteps
 pub mod Giving
@@ -29,10 +32,13 @@ pub mod Searches
 pub mod Turns
 pub mod Openings
 pub mod Progress
+pub mod ByOrder
 pub mod Pruning
 pub mod Ties
 pub mod InOrder
+pub mod OneOrder
 pub mod Popped
+pub mod PoppedByOrder
 pub mod Room
 pub mod Fits
 pub mod PairRows
@@ -43,3 +49,4 @@ pub mod Meets
 pub mod Joined
 pub mod Replays
 pub mod Firsts
+pub mod StepsByOrder

@@ -1,5 +1,5 @@
 -- Each call that gives something leaves fewer.
-use Rattle.std.proofs.Common.{◌≡◌, ℕ, ℤ, ◌+◌, ◌<◌, ◌≤◌, List, [], ◌∷◌, length, refl, ap, sym, ◌∙◌, subst, arith, Option, Some, None, Result, Ok, Err, IfSome, IfNone, IfOk, IfErr, OnSome, OnErr}
+use Rattle.std.proofs.Common.{◌≡◌, ℕ, ℤ, ◌+◌, ◌-◌, ◌<◌, ◌≤◌, min, List, [], ◌∷◌, length, refl, ap, sym, ◌∙◌, subst, arith, Option, Some, None, Result, Ok, Err, IfSome, IfNone, IfOk, IfErr, OnSome, OnErr}
 use Rattle.std.specs.Borrow.{Bor}
 use Rattle.std.specs.Iterator.{size}
 use Rattle.std.proofs.lemmas.List.Sorted.{length_permutation}
@@ -7,28 +7,30 @@ use Rattle.rstar_base.specs.Envelopes.{Boxes}
 use Rattle.std.specs.declared.cmp.Ordering.{Ordering}
 use Rattle.rstar_base.specs.Elements.{Objects, Distances}
 use Rattle.rstar_base.specs.SmallHeaps.{Held, items_of}
-use Rattle.rstar.specs.declared.node.RTreeNode.{Parent}
+use Rattle.rstar.specs.declared.node.RTreeNode.{RTreeNode, Parent}
 use Rattle.rstar.specs.declared.node.ParentNode.{ParentNode}
 use Rattle.rstar.specs.declared.algorithm.nearest_neighbor.search.Stage.{Stage}
 use Rattle.rstar.specs.declared.algorithm.nearest_neighbor.search.Stage.TheVariants.{Fresh, Running, Ended}
-use Rattle.rstar.specs.Nodes.{all_elements, all_far, far_of, parents_of}
-use Rattle.rstar.specs.Neighbors.{IsNeighbor}
+use Rattle.rstar.specs.Nodes.{all_elements, all_parents, all_far, far_of, parents_of}
+use Rattle.rstar_base.specs.Counts.{usize_max}
+use Rattle.rstar_base.specs.Points.{table}
+use Rattle.rstar.specs.Neighbors.{Search, IsNeighbor, HasBegun, GivesNeighbor, shown}
 use Rattle.rstar.specs.Searches.{NodeSearch, Item, waiting_nodes, waiting_at, calls_at, waiting_of, held_by, calls_left, IsUnrefused, CountsOpenings, IsRunning, IsReady, IsReadyAt}
 use Rattle.rstar.proofs.Searches.{fresh-counted, all-far-fewer}
 
-module _ {T E P S X : Type 0} where
-  many_at : (stage : Stage) (root : ParentNode T E P S X) (ws : List (Item T E P S X)) → IsUnrefused stage → calls_at stage root ws ≡ length (all_elements (waiting_at stage root ws)) + 1
+module _ {T E P S X O : Type 0} where
+  many_at : (stage : Stage) (root : ParentNode T E P S X) (ws : List (Item T E P S X O)) → IsUnrefused stage → calls_at stage root ws ≡ length (all_elements (waiting_at stage root ws)) + 1
   many_at Fresh root ws h = refl
   many_at Running root ws h = refl
   many_at Ended root ws h = absurd h
 
-  many : (s : NodeSearch T E P S X) → IsUnrefused s.stage → size (calls_left s) ≡ length (all_elements (waiting_of s)) + 1
+  many : (s : NodeSearch T E P S X O) → IsUnrefused s.stage → size (calls_left s) ≡ length (all_elements (waiting_of s)) + 1
   many s = many_at s.stage s.root.now (held_by s)
 
-  none_at : (stage : Stage) (root : ParentNode T E P S X) (ws : List (Item T E P S X)) → stage ≡ Ended → calls_at stage root ws ≡ 0
+  none_at : (stage : Stage) (root : ParentNode T E P S X) (ws : List (Item T E P S X O)) → stage ≡ Ended → calls_at stage root ws ≡ 0
   none_at stage root ws e = ap (λ v. calls_at v root ws) e
 
-  module _ (v : Boxes E) (d : Distances T) (p : List ℤ) (s t : NodeSearch T E P S X) where
+  module _ (v : Boxes E) (d : Distances T) (p : List ℤ) (s t : NodeSearch T E P S X O) where
     -- a neighbour more
     pub given-fewer : (x : T) → IsNeighbor v d p s.root.now (waiting_of s) (waiting_of t) x → t.stage ≡ Running → IsUnrefused s.stage → size (calls_left t) < size (calls_left s)
     given-fewer x gives on going =
@@ -45,21 +47,21 @@ module _ {T E P S X : Type 0} where
         omega (arith, before, after)
 
 -- until a refusal, the parents opened are those that do not wait
-counted-at : {T E P S X : Type 0} (v : Boxes E) (d : Distances T) (p : List ℤ) (compare : S → S → Ordering) (value : S → ℤ) (o : Objects T E) (stage : Stage) (root : ParentNode T E P S X) (heap : Held (Item T E P S X)) (opened : ℕ)
-    → IsReadyAt v d p compare value o stage root heap opened → IsUnrefused stage → CountsOpenings root (waiting_at stage root (items_of heap)) opened
-counted-at v d p compare value o Fresh root heap opened ready going = subst (CountsOpenings root (Parent root ∷ [])) (sym ready.2) (fresh-counted root)
-counted-at v d p compare value o Running root heap opened ready going = ready.counted
-counted-at v d p compare value o Ended root heap opened ready going = absurd going
+counted-at : {T E P S X O : Type 0} (v : Boxes E) (d : Distances T) (p : List ℤ) (compare : S → S → Ordering) (ties : RTreeNode T E P S X → RTreeNode T E P S X → Ordering) (value : S → ℤ) (o : Objects T E) (stage : Stage) (root : ParentNode T E P S X) (heap : Held (Item T E P S X O)) (opened : ℕ)
+    → IsReadyAt v d p compare ties value o stage root heap opened → IsUnrefused stage → CountsOpenings root (waiting_at stage root (items_of heap)) opened
+counted-at v d p compare ties value o Fresh root heap opened ready going = subst (CountsOpenings root (Parent root ∷ [])) (sym ready.2) (fresh-counted root)
+counted-at v d p compare ties value o Running root heap opened ready going = ready.counted
+counted-at v d p compare ties value o Ended root heap opened ready going = absurd going
 
-pub counted : {T E P S X : Type 0} (v : Boxes E) (d : Distances T) (p : List ℤ) (compare : S → S → Ordering) (value : S → ℤ) (o : Objects T E) (s : NodeSearch T E P S X) → IsReady v d p compare value o s → IsUnrefused s.stage
+pub counted : {T E P S X O : Type 0} (v : Boxes E) (d : Distances T) (p : List ℤ) (compare : S → S → Ordering) (ties : RTreeNode T E P S X → RTreeNode T E P S X → Ordering) (value : S → ℤ) (o : Objects T E) (s : NodeSearch T E P S X O) → IsReady v d p compare ties value o s → IsUnrefused s.stage
     → CountsOpenings s.root.now (waiting_of s) s.opened
-counted v d p compare value o s ready going = counted-at v d p compare value o s.stage s.root.now s.heap s.opened ready going
+counted v d p compare ties value o s ready going = counted-at v d p compare ties value o s.stage s.root.now s.heap s.opened ready going
 
 -- the parents opened, and those farther than what was given, are no more than there are
-module _ {T E P S X : Type 0} (v : Boxes E) (d : Distances T) (p : List ℤ) (compare : S → S → Ordering) (value : S → ℤ) (o : Objects T E) (s t : NodeSearch T E P S X)
-    (ready : IsReady v d p compare value o t) (same : t.root.now ≡ s.root.now) where
-  running : t.stage ≡ Running → IsRunning v d p compare value o t.root.now t.heap t.opened
-  running on = subst (λ stage. IsReadyAt v d p compare value o stage t.root.now t.heap t.opened) on ready
+module _ {T E P S X O : Type 0} (v : Boxes E) (d : Distances T) (p : List ℤ) (compare : S → S → Ordering) (ties : RTreeNode T E P S X → RTreeNode T E P S X → Ordering) (value : S → ℤ) (o : Objects T E) (s t : NodeSearch T E P S X O)
+    (ready : IsReady v d p compare ties value o t) (same : t.root.now ≡ s.root.now) where
+  running : t.stage ≡ Running → IsRunning v d p compare ties value o t.root.now t.heap t.opened
+  running on = subst (λ stage. IsReadyAt v d p compare ties value o stage t.root.now t.heap t.opened) on ready
 
   pub given-cost : (x : T) → IsNeighbor v d p s.root.now (waiting_of s) (waiting_of t) x → t.stage ≡ Running
       → t.opened + far_of (λ e. v.distance_2 e p) (d.distance_2 x p) t.root.now ≤ parents_of t.root.now
@@ -95,11 +97,107 @@ ends stage (Some (Ok x)) h = tt
 ends stage (Some (Err x)) h = λ going. subst IsUnrefused h going
 
 -- what a call gives leaves fewer
-pub fewer-left : {T E P S X Z : Type 0} (v : Boxes E) (d : Distances T) (p : List ℤ) (s t : NodeSearch T E P S X) (r : Option (Result (Bor T × S) Z)) → IfSome r (λ x. IfOk x (λ y. IsNeighbor v d p s.root.now (waiting_of s) (waiting_of t) y.0.now))
+pub fewer-left : {T E P S X O Z : Type 0} (v : Boxes E) (d : Distances T) (p : List ℤ) (s t : NodeSearch T E P S X O) (r : Option (Result (Bor T × S) Z)) → IfSome r (λ x. IfOk x (λ y. IsNeighbor v d p s.root.now (waiting_of s) (waiting_of t) y.0.now))
     → IfSome r (λ x. IfOk x (λ _. t.stage ≡ Running)) → IfSome r (λ x. IfErr x (λ _. t.stage ≡ Ended)) → IfSome r (λ _. IsUnrefused s.stage) → OnSome r (size (calls_left t) < size (calls_left s))
 fewer-left v d p s t None gives on refused going = tt
 fewer-left v d p s t (Some (Ok y)) gives on refused going = given-fewer v d p s t y.0.now gives on going
 fewer-left v d p s t (Some (Err z)) gives on refused going = refused-fewer v d p s t refused going
+
+-- a search that was made has begun
+pub has-begun : {T E P S X O : Type 0} (s : NodeSearch T E P S X O) (root : ParentNode T E P S X) (point : P) → s.root.now ≡ root → s.stage ≡ Fresh → s.opened ≡ 0 → HasBegun root point (shown s point)
+has-begun {T} {E} {P} {S} {X} s root point same fresh none = record {
+  root = same;
+  point = refl;
+  waiting = ap (λ stage. waiting_at stage s.root.now (held_by s)) fresh ∙ ap (λ (q : ParentNode T E P S X). Parent q ∷ []) same;
+  opened = none;
+  going_on = subst IsUnrefused (sym fresh) tt;
+}
+
+-- what a call of a search gives, as what it shows
+module _ {T E P S X O A Z : Type 0} (v : Boxes E) (d : Distances T) (axes : ℕ) (coord : P → ℕ → ℤ) (compare : S → S → Ordering) (ties : RTreeNode T E P S X → RTreeNode T E P S X → Ordering) (value : S → ℤ) (o : Objects T E)
+    (s t : NodeSearch T E P S X O) (point : P) (element : A → T) (r : Option (Result A Z)) where
+  pub gives-neighbor : t.root ≡ s.root → IsReady v d (table axes (coord point)) compare ties value o t → IfSome r (λ x. IfOk x (λ y. IsNeighbor v d (table axes (coord point)) s.root.now (waiting_of s) (waiting_of t) (element y)))
+      → IfNone r (IsUnrefused s.stage → all_elements (waiting_of s) ≡ []) → IfNone r (IsUnrefused s.stage → waiting_of t ≡ []) → IfNone r (IsUnrefused s.stage → t.stage ≡ Running)
+      → IfSome r (λ x. IfErr x (λ _. 0 < all_parents (waiting_of s))) → IfSome r (λ x. IfOk x (λ _. t.stage ≡ Running)) → IfSome r (λ x. IfErr x (λ _. t.stage ≡ Ended)) → IfSome r (λ _. IsUnrefused s.stage)
+      → ((IsUnrefused s.stage → ⊥) → IsUnrefused t.stage → ⊥) → GivesNeighbor v d axes coord element (shown s point) r (shown t point)
+  gives-neighbor same ready gives none over stays refused on last once ended =
+      let root : t.root.now ≡ s.root.now = ap (λ b. b.now) same in
+      let count = counted v d (table axes (coord point)) compare ties value o t ready in
+      record {
+        root = root;
+        point = refl;
+        gives = gives;
+        cost = cost v d (table axes (coord point)) compare ties value o s t ready root element r gives on;
+        none = none;
+        over = over;
+        goes_on_at_end = goes_on_at_end s.stage t.stage r stays;
+        refused = refused;
+        goes_on = goes_on t.stage r on;
+        ends = ends t.stage r last;
+        once = once;
+        stays_ended = ended;
+        opened = λ going. subst (λ (q : ParentNode T E P S X). t.opened ≡ min (parents_of q - all_parents (waiting_of t)) usize_max) root (count going).counts;
+        fewer = λ going. subst (λ (q : ParentNode T E P S X). all_parents (waiting_of t) ≤ parents_of q) root (count going).fewer;
+      }
+
+-- the same of an iterator that gives the elements alone
+module _ {T E P S X Z : Type 0} (v : Boxes E) (d : Distances T) (axes : ℕ) (coord : P → ℕ → ℤ) (old new : Search T E P S X) where
+  abbrev Gives : {A : Type 0} → (A → T) → Option (Result A Z) → Type 0
+  Gives element r = GivesNeighbor v d axes coord element old r new
+
+  pub given-ok : (y : Bor T × S) → Gives (λ x. x.0.now) (Some (Ok y)) → Gives (λ x. x.now) (Some (Ok y.0))
+  given-ok y told = record {
+    root = told.root;
+    point = told.point;
+    gives = told.gives;
+    cost = told.cost;
+    none = tt;
+    over = tt;
+    goes_on_at_end = tt;
+    refused = tt;
+    goes_on = told.goes_on;
+    ends = tt;
+    once = told.once;
+    stays_ended = told.stays_ended;
+    opened = told.opened;
+    fewer = told.fewer;
+  }
+
+  pub given-err : (z : Z) → Gives {A = Bor T × S} (λ x. x.0.now) (Some (Err z)) → Gives {A = Bor T} (λ x. x.now) (Some (Err z))
+  given-err z told = record {
+    root = told.root;
+    point = told.point;
+    gives = tt;
+    cost = tt;
+    none = tt;
+    over = tt;
+    goes_on_at_end = tt;
+    refused = told.refused;
+    goes_on = tt;
+    ends = told.ends;
+    once = told.once;
+    stays_ended = told.stays_ended;
+    opened = told.opened;
+    fewer = told.fewer;
+  }
+
+  pub given-none : Gives {A = Bor T × S} (λ x. x.0.now) None → Gives {A = Bor T} (λ x. x.now) None
+  given-none told = record {
+    root = told.root;
+    point = told.point;
+    gives = tt;
+    cost = tt;
+    none = told.none;
+    over = told.over;
+    goes_on_at_end = told.goes_on_at_end;
+    refused = tt;
+    goes_on = tt;
+    ends = tt;
+    once = tt;
+    stays_ended = told.stays_ended;
+    opened = told.opened;
+    fewer = told.fewer;
+  }
 
 pub on-some : {A : Type 0} (P Q R : Type 0) (r : Option A) → P → Q → OnSome r R → OnSome r (P × Q × R)
 on-some P Q R None p q r = tt

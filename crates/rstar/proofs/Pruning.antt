@@ -44,9 +44,9 @@ lesser x y r a b h k e = e ∙ ap (λ w. int_min w y) h ∙ ap (λ w. int_min (p
 
 -- ---- items of the heap
 
-module _ {T E P S X : Type 0} (w : Item T E P S X) (ws us : List (Item T E P S X)) (put : IsPermutation (w ∷ ws) us) where
+module _ {T E P S X O : Type 0} (w : Item T E P S X O) (ws us : List (Item T E P S X O)) (put : IsPermutation (w ∷ ws) us) where
   nodes : IsPermutation (w.node.now ∷ waiting_nodes ws) (waiting_nodes us)
-  nodes = IsPermutation-map (λ (v : Item T E P S X). v.node.now) (w ∷ ws) us put
+  nodes = IsPermutation-map (λ (v : Item T E P S X O). v.node.now) (w ∷ ws) us put
 
   -- one more node waits
   pub pushed-nodes : (rest : List (RTreeNode T E P S X)) → IsPermutation (w.node.now ∷ (waiting_nodes ws ++ rest)) (waiting_nodes us ++ rest)
@@ -186,9 +186,9 @@ module _ {T E : Type 0} {IsPoint : List ℤ → Type 0} {v : Boxes E} {o : Objec
               absurd (h.within (subst (λ (l : List T). AllByRecursion (λ t. h.limit < d.distance_2 t p) (l ++ all_elements ns)) (sym (elements-Leaf T E P S X t)) (omega arith, over (λ t. d.distance_2 t p) h.limit (d.distance_2 t p) (all_elements ns) (omega arith) waiting)))
 
 -- before a child is asked, no element was cut
-pub pruned-start : {T E P S X : Type 0} (v : Boxes E) (o : Objects T E) (d : Distances T) (p : List ℤ) (value : S → ℤ) (root : ParentNode T E P S X) (ws : List (Item T E P S X)) → ws ≡ [] → IsWhole v o root
+pub pruned-start : {T E P S X O : Type 0} (v : Boxes E) (o : Objects T E) (d : Distances T) (p : List ℤ) (value : S → ℤ) (root : ParentNode T E P S X) (ws : List (Item T E P S X O)) → ws ≡ [] → IsWhole v o root
     → IsPruned v o d p value (elements_of root) (waiting_nodes ws ++ children_of root) None
-pruned-start {T} {E} {P} {S} {X} v o d p value root ws none whole = subst (λ (l : List (Item T E P S X)). IsPruned v o d p value (elements_of root) (waiting_nodes l ++ children_of root) None) (sym none) record {
+pruned-start {T} {E} {P} {S} {X} {O} v o d p value root ws none whole = subst (λ (l : List (Item T E P S X O)). IsPruned v o d p value (elements_of root) (waiting_nodes l ++ children_of root) None) (sym none) record {
   parts = all_map _ _ (λ n w. (whole.height, w)) (children_of root) whole.below;
   cut = [];
   bag = subst (IsPermutation (elements_of root)) (sym (append-nil (elements_of root))) (IsPermutation-refl (elements_of root));

@@ -65,6 +65,38 @@ module _ {T D E P S X : Type 0} where
   same_tree tree root None e = ap (λ (p : ParentNode T E P S X). record { root = p; size = tree.size; levels = tree.levels; widest = tree.widest; spares = tree.spares; params = tree.params }) e
   same_tree tree root (Some x) e = tt
 
+module _ {T E : Type 0} {IsPoint : List ℤ → Type 0} {v : Boxes E} {o : Objects T E} (laws : EnvelopeLaws IsPoint v) (ok : ObjectLaws v o) (max : ℕ) {D P S X : Type 0} where
+  -- the root of a whole tree with children, and what is below it, are kept
+  pub kept_of : (tree : RTree T D E P S X) → IsWholeTree v o max tree → children_of (root_of tree) ≢ []
+      → (h : ℕ) × IsKept v o max tree.widest (root_of tree) × AreKept v o max tree.widest h (children_of (root_of tree))
+  unfolding IsWholeTree
+  kept_of tree whole some =
+      let h = whole.root_whole.height in (
+        h,
+        record { tight = whole.root_whole.tight; roomy = record { narrow = whole.narrow; room = whole.root_room some } },
+        all_kept v o max tree.widest h (tree_kept v o max tree.widest h) (children_of (root_of tree)) whole.root_whole.below whole.rooms,
+      )
+
+  -- where they still are, the tree is whole
+  pub whole_still : (old new : RTree T D E P S X) → IsWholeTree v o max old → children_of (root_of old) ≢ [] → (h : ℕ) → AreKept v o max old.widest h (children_of (root_of old))
+      → IsKept v o max old.widest (root_of new) → AreKept v o max old.widest h (children_of (root_of new))
+      → new.widest ≡ old.widest → new.spares.items ≡ old.spares.items → new.size ≡ length (elements_in new)
+      → (children_of (root_of new) ≡ [] → new.levels ≡ 0) → (children_of (root_of new) ≢ [] → new.levels ≡ old.levels)
+      → IsWholeTree v o max new
+  unfolding IsWholeTree
+  whole_still old new whole some h below root' below' same_widest same_spares counted none_left some_left = record {
+    root_whole = record { height = h; tight = root'.tight; below = whole_of_kept laws ok max old.widest h (children_of (root_of new)) below' };
+    counted = counted;
+    leveled = levels_left v o max old.widest h (children_of (root_of old)) (children_of (root_of new)) old.levels new.levels whole.leveled some below below' none_left some_left;
+    low = low_left v o (children_of (root_of new)) old.levels new.levels whole.low none_left some_left;
+    wide = rw same_widest whole.wide;
+    wide_fits = rw same_widest whole.wide_fits;
+    narrow = rw same_widest root'.roomy.narrow;
+    root_room = λ _. root'.roomy.room;
+    rooms = rw same_widest (rooms_of v o max old.widest h (children_of (root_of new)) below');
+    spares = rw (same_widest, same_spares) whole.spares;
+  }
+
 module _ {T E : Type 0} {IsPoint : List ℤ → Type 0} {v : Boxes E} {o : Objects T E} (laws : EnvelopeLaws IsPoint v) (ok : ObjectLaws v o) (max : ℕ)
     (accepts : E → Bool) (selects : T → Bool) {D P S X : Type 0} where
   -- a removal below a root with children
@@ -75,29 +107,13 @@ module _ {T E : Type 0} {IsPoint : List ℤ → Type 0} {v : Boxes E} {o : Objec
       → new.widest ≡ old.widest → new.spares.items ≡ old.spares.items → new.size ≡ length (elements_in new)
       → (children_of (root_of new) ≡ [] → new.levels ≡ 0) → (children_of (root_of new) ≢ [] → new.levels ≡ old.levels)
       → Removes v o max accepts selects old path rest r new path' rest'
-  unfolding IsWholeTree
   removes old new path path' rest rest' r whole some takes kept same same_widest same_spares counted none_left some_left =
-      let h = whole.root_whole.height in
-      let root : IsKept v o max old.widest (root_of old) = record { tight = whole.root_whole.tight; roomy = record { narrow = whole.narrow; room = whole.root_room some } } in
-      let below = all_kept v o max old.widest h (tree_kept v o max old.widest h) (children_of (root_of old)) whole.root_whole.below whole.rooms in
+      let before = kept_of laws ok max old whole some in
+      let h = before.0 in
+      let below = before.2 in
       record {
-        whole = λ at.
-            let root' : IsKept v o max old.widest (root_of new) = kept max old.widest h root below at in
-            let below' : AreKept v o max old.widest h (children_of (root_of new)) = takes.whole max old.widest h below at in
-            let leveled : new.levels ≡ levels_below (children_of (root_of new)) =
-            levels_left v o max old.widest h (children_of (root_of old)) (children_of (root_of new)) old.levels new.levels whole.leveled some below below' none_left some_left in
-            record {
-              root_whole = record { height = h; tight = root'.tight; below = whole_of_kept laws ok max old.widest h (children_of (root_of new)) below' };
-              counted = counted;
-              leveled = leveled;
-              low = low_left v o (children_of (root_of new)) old.levels new.levels whole.low none_left some_left;
-              wide = rw same_widest whole.wide;
-              wide_fits = rw same_widest whole.wide_fits;
-              narrow = rw same_widest root'.roomy.narrow;
-              root_room = λ _. root'.roomy.room;
-              rooms = rw same_widest (rooms_of v o max old.widest h (children_of (root_of new)) below');
-              spares = rw (same_widest, same_spares) whole.spares;
-            };
+        whole = λ at. whole_still laws ok max old new whole some h below (kept max old.widest h before.1 below at) (takes.whole max old.widest h below at)
+            same_widest same_spares counted none_left some_left;
         rests = λ at. takes.rests max old.widest h below at;
         taken = takes.taken;
         selected = takes.selected;

@@ -3,10 +3,11 @@ use Rattle.std.proofs.Common.{◌≡◌, ℕ, ◌+◌, ◌<◌, ◌≤◌, min, 
 use Rattle.std.specs.Prelude.{◌↔◌}
 use lib.Dec.{leb}
 use Rattle.std.proofs.lemmas.Bool.{leb-true, leb-false}
+use Rattle.std.proofs.lemmas.Grind.{common_steps}
 use Rattle.std.specs.List.{AllByRecursion}
 use Rattle.std.specs.List.Sorted.{IsPermutation}
 use Rattle.std.proofs.lemmas.List.Elements.{filter-append}
-use Rattle.std.proofs.lemmas.List.Sorted.{IsPermutation-refl, IsPermutation-trans, IsPermutation-map, IsPermutation-append, IsPermutation-append_right, length_permutation}
+use Rattle.std.proofs.lemmas.List.Sorted.{IsPermutation-refl, IsPermutation-map, IsPermutation-append, length_permutation}
 use Rattle.rstar_base.proofs.Along.{IsPermutation-same}
 use Rattle.rstar.specs.declared.replay.Command.{Command}
 use Rattle.rstar.specs.declared.replay.Command.TheVariants as command
@@ -14,11 +15,10 @@ use Rattle.rstar.specs.declared.replay.Reply.{Reply}
 use Rattle.rstar.specs.declared.replay.Reply.TheVariants as reply
 use Rattle.rstar.specs.declared.rtree.RTree.{RTree}
 use Rattle.rstar.specs.Joins.{join}
-use Rattle.rstar.specs.Lists.{product, IsNearest, NoneSelected}
-use Rattle.rstar.specs.Removals.{IsTakenOut}
-use Rattle.rstar.specs.Steps.{Questions, TakesOne, TakesNearest, TakesSome, Step, Run, IsInsertion}
+use Rattle.rstar.specs.Gathering.{Gathers}
+use Rattle.rstar.specs.Lists.{product, IsLeast, NoneSelected}
+use Rattle.rstar.specs.Steps.{Questions, TakesOne, TakesFirst, TakesSome, Step, RunBy, IsInsertion}
 use Rattle.rstar.specs.Trees.{IsUnchanged}
-use Rattle.rstar.proofs.Removed.{bag_without}
 use Rattle.rstar.proofs.Ties.{filter-along}
 
 -- ---- bags
@@ -34,16 +34,10 @@ module _ {T R : Type 0} (elements : R → List T) (old new : R) where
   takes_one test None bag passes none kept = (none, IsPermutation-same (elements old) (elements new) (sym (ap elements kept)))
   takes_one test (Some x) bag passes none kept = (passes, bag)
 
-  pub takes_nearest : (distance : T → ℕ) (r : Option T) → IfSome r (λ x. IsPermutation (elements old) (x ∷ elements new)) → IfSome r (IsNearest distance (elements old))
-      → IfNone r (elements old ≡ []) → IfNone r (new ≡ old) → TakesNearest distance (elements old) r (elements new)
-  takes_nearest distance None bag near none kept = (none, IsPermutation-same (elements old) (elements new) (sym (ap elements kept)))
-  takes_nearest distance (Some x) bag near none kept = (near, bag)
-
--- one more is taken out
-pub taken_more : {T : Type 0} (start taken left rest : List T) (t : T) → IsPermutation start (taken ++ left) → IsTakenOut left t rest → IsPermutation start ((taken ++ t ∷ []) ++ rest)
-taken_more start taken left rest t bag out =
-    subst (IsPermutation start) (sym (append_assoc taken (t ∷ []) rest))
-    (IsPermutation-trans _ _ _ bag (IsPermutation-append_right taken left (t ∷ rest) (bag_without left rest (Some t) out)))
+  pub takes_first : (before : T → T → Type 0) (r : Option T) → IfSome r (λ x. IsPermutation (elements old) (x ∷ elements new)) → IfSome r (IsLeast before (elements old))
+      → IfNone r (elements old ≡ []) → IfNone r (new ≡ old) → TakesFirst before (elements old) r (elements new)
+  takes_first before None bag first none kept = (none, IsPermutation-same (elements old) (elements new) (sym (ap elements kept)))
+  takes_first before (Some x) bag first none kept = (first, bag)
 
 module _ {T : Type 0} (test : T → Bool) where
   filter_every : (ts : List T) → AllByRecursion (λ t. test t ≡ true) ts → filter test ts ≡ ts
@@ -91,14 +85,17 @@ module _ {T : Type 0} (test : T → Bool) where
           let more = leb-false (length taken + 1) (min n (length old)) e in
           let a = few in let b = all_in in let d = whole in let f = filter_shorter new in omega (arith, more, a, b, d, f)
 
--- the same of a drain, by the names of its caller
-pub drained_some : {T : Type 0} (test asked : T → Bool) (most room size : ℕ) (old start taken left items : List T) → asked ≡ test → start ≡ old → room ≡ min most size → size ≡ length old
-    → IsPermutation start (taken ++ left) → AllByRecursion (λ t. asked t ≡ true) taken → length taken ≤ room → (length taken < room → NoneSelected asked left) → items ≡ taken → TakesSome test most old items left
-drained_some {T} test asked most room size old start taken left items is from is_room is_size bag all few ended same =
+-- the same of what went to an empty list with room for all of a shorter one, by the names of its caller
+pub gathered_some : {T : Type 0} (test : T → Bool) (most room size : ℕ) (old held new held' items : List T) → held ≡ [] → room ≡ min most size → size ≡ length old
+    → Gathers test room old held new held' → (length held' < room → NoneSelected test new) → items ≡ held' → TakesSome test most old items new
+gathered_some test most room size old held new held' items none is_room is_size moved ended same =
     let wide : room ≡ min most (length old) = is_room ∙ ap (min most) is_size in
-    subst (λ l. TakesSome test most old l left) (sym same)
-    (takes_some test most old taken left (subst (λ l. IsPermutation l (taken ++ left)) from bag) (subst (λ (f : T → Bool). AllByRecursion (λ t. f t ≡ true) taken) is all)
-    (subst (λ n. length taken ≤ n) wide few) (subst (λ n. length taken < n → NoneSelected test left) wide (subst (λ (f : T → Bool). length taken < room → NoneSelected f left) is ended)))
+    let all : held' ≡ moved.more = moved.held_more ∙ ap (λ l. l ++ moved.more) none in
+    let nothing = ap length none in
+    subst (λ l. TakesSome test most old l new) (sym (same ∙ all))
+    (takes_some test most old moved.more new moved.bag moved.selected
+    (subst (λ n. length moved.more ≤ n) wide (subst (λ l. length l ≤ room) all (moved.few (omega (arith, nothing)))))
+    (subst (λ n. length moved.more < n → NoneSelected test new) wide (subst (λ l. length l < room → NoneSelected test new) all ended)))
 
 -- ---- pairs
 
@@ -124,23 +121,40 @@ module _ {T E P S X : Type 0} (q : Questions T E P S) where
     λ both. (inserted both.0).1 both.1,
   )
 
+-- ---- runs
+
+none_left : {A : Type 0} (xs ys all : List A) → xs ++ ys ≡ all → length ys ≡ 0 → xs ≡ all
+none_left xs ys all are none = grind (arith, common_steps)
+
+module _ {T C R : Type 0} (step : List T → C → R → List T → Type 0) where
   -- whatever follows, the run goes on to it from here
-  abbrev pub RunsTo : List T → List (Command T E P S X) → List (Reply T E P S X) → List T → Type 0
-  RunsTo old cs rs mid = (more : List (Command T E P S X)) (answers : List (Reply T E P S X)) (last : List T) → Run q mid more answers last → Run q old (cs ++ more) (rs ++ answers) last
+  abbrev pub RunsTo : List T → List C → List R → List T → Type 0
+  RunsTo old cs rs mid = (more : List C) (answers : List R) (last : List T) → RunBy step mid more answers last → RunBy step old (cs ++ more) (rs ++ answers) last
 
   -- one step more
-  pub run_more : (old mid new : List T) (cs : List (Command T E P S X)) (rs : List (Reply T E P S X)) (c : Command T E P S X) (r : Reply T E P S X)
-      → RunsTo old cs rs mid → Step q mid c r new → RunsTo old (cs ++ c ∷ []) (rs ++ r ∷ []) new
-  run_more old mid new cs rs c r runs step = λ more answers last run.
-      subst (λ (ds : List (Command T E P S X)). Run q old ds ((rs ++ r ∷ []) ++ answers) last) (sym (append_assoc cs (c ∷ []) more))
-      (subst (λ (ss : List (Reply T E P S X)). Run q old (cs ++ c ∷ more) ss last) (sym (append_assoc rs (r ∷ []) answers))
-      (runs (c ∷ more) (r ∷ answers) last (new, step, run)))
+  pub run_more : (old mid new : List T) (cs : List C) (rs : List R) (c : C) (r : R) → RunsTo old cs rs mid → step mid c r new → RunsTo old (cs ++ c ∷ []) (rs ++ r ∷ []) new
+  run_more old mid new cs rs c r runs one = λ more answers last run.
+      subst (λ (ds : List C). RunBy step old ds ((rs ++ r ∷ []) ++ answers) last) (sym (append_assoc cs (c ∷ []) more))
+      (subst (λ (ss : List R). RunBy step old (cs ++ c ∷ more) ss last) (sym (append_assoc rs (r ∷ []) answers))
+      (runs (c ∷ more) (r ∷ answers) last (new, one, run)))
 
   -- at the end
-  pub run_done : (old new : List T) (cs : List (Command T E P S X)) (rs : List (Reply T E P S X)) → RunsTo old cs rs new → Run q old cs rs new
+  run_done : (old new : List T) (cs : List C) (rs : List R) → RunsTo old cs rs new → RunBy step old cs rs new
   run_done old new cs rs runs =
-      subst (λ (ds : List (Command T E P S X)). Run q old ds rs new) (append-nil cs)
-      (subst (λ (ss : List (Reply T E P S X)). Run q old (cs ++ []) ss new) (append-nil rs) (runs [] [] new (IsPermutation-refl new)))
+      subst (λ (ds : List C). RunBy step old ds rs new) (append-nil cs)
+      (subst (λ (ss : List R). RunBy step old (cs ++ []) ss new) (append-nil rs) (runs [] [] new (IsPermutation-refl new)))
+
+  -- the same where commands come from a list of which none is left
+  pub run_whole : (old new : List T) (cs rest all : List C) (rs : List R) → cs ++ rest ≡ all → length rest ≡ 0 → RunsTo old cs rs new → RunBy step old all rs new
+  run_whole old new cs rest all rs are none runs = subst (λ (ds : List C). RunBy step old ds rs new) (none_left cs rest all are none) (run_done old new cs rs runs)
+
+  -- a run by such steps is one by steps of another kind, where each of them is one
+  pub run-weaker : (other : List T → C → R → List T → Type 0) → ((old : List T) (c : C) (r : R) (new : List T) → step old c r new → other old c r new)
+      → (old : List T) (cs : List C) (rs : List R) (new : List T) → RunBy step old cs rs new → RunBy other old cs rs new
+  run-weaker other each old [] [] new run = run
+  run-weaker other each old (c ∷ cs) (r ∷ rs) new run = (run.0, each old c r run.0 run.1, run-weaker other each run.0 cs rs new run.2)
+  run-weaker other each old [] (r ∷ rs) new run = run
+  run-weaker other each old (c ∷ cs) [] new run = run
 
 -- ---- trees
 

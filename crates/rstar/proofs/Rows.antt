@@ -1,5 +1,5 @@
 -- What a definition over a tree says of a leaf, and of a parent by the list of its children.
-use Rattle.std.proofs.Common.{◌≡◌, ℕ, ◌+◌, Bool, List, [], ◌∷◌, ◌++◌, map, flat_map, sum_by, if◌then◌else◌, nat_lt, refl, ap, sym, ◌∙◌, subst}
+use Rattle.std.proofs.Common.{Some, None, ◌≡◌, ℕ, ◌+◌, Bool, List, [], ◌∷◌, ◌++◌, map, flat_map, sum_by, if◌then◌else◌, nat_lt, refl, ap, sym, ◌∙◌, subst}
 use Rattle.std.proofs.lemmas.List.Sums.{sum_by-cons}
 use Rattle.rstar.specs.declared.node.RTreeNode.{RTreeNode, Leaf, Parent, Row_of-RTreeNode, end_of-RTreeNode, more_of-RTreeNode, items-the_row-RTreeNode, items_hidden-the_row-RTreeNode-0, out-RTreeNode, roll-RTreeNode, roll-out-RTreeNode}
 use Rattle.rstar.specs.declared.node.RTreeNode.TheVariants.{outs-Parent, outs-Leaf, rolls-Parent, rolls-Leaf}
@@ -8,7 +8,7 @@ use Rattle.rstar.specs.declared.node.RTreeNode.TheBlock.{hidden-the_row-RTreeNod
 use Rattle.rstar.specs.declared.node.ParentNode.{ParentNode}
 use Rattle.rstar.specs.Walks.{steps}
 use Rattle.rstar.specs.Shown.{row_of, shown, leaf as shown_leaf, parent as shown_parent}
-use Rattle.rstar.specs.Nodes.{Layer, children_of, fold_tree, fold_row, joined, total, elements, parents, far, reach, given, all_reach, all_given, all_elements, all_parents, all_far, node_box, node_distance, IsLeafOf, IsParentOf, IsLeafLayer, IsParentLayer}
+use Rattle.rstar.specs.Nodes.{Layer, leaf_element, children_of, fold_tree, fold_row, joined, total, elements, parents, far, reach, given, all_reach, all_given, all_elements, all_parents, all_far, node_box, node_distance, IsLeafOf, IsParentOf, IsLeafLayer, IsParentLayer}
 
 pub joined-map : {A B : Type 0} (f : A → List B) (xs : List A) → joined (map f xs) ≡ flat_map f xs
 joined-map f [] = refl
@@ -43,6 +43,10 @@ module _ {T E P S X : Type 0} where
   pub far-Parent : (dist : E → ℕ) (d : ℕ) (p : ParentNode T E P S X) → far dist d (Parent p) ≡ (if nat_lt d (dist p.envelope) then 1 else 0) + all_far dist d p.children.items
   unfolding far
   far-Parent dist d p = fold_tree-Parent _ _ p ∙ ap (λ n. (if nat_lt d (dist p.envelope) then 1 else 0) + n) (total-map (far dist d) p.children.items)
+
+  pub leaf_element-Parent : (p : ParentNode T E P S X) → leaf_element (Parent p) ≡ None
+  unfolding leaf_element
+  leaf_element-Parent p = fold_tree-Parent _ _ p
 
   pub given-Parent : (accepts : E → Bool) (selects : T → Bool) (p : ParentNode T E P S X) → given accepts selects (Parent p) ≡ (if accepts p.envelope then all_given accepts selects (children_of p) else [])
   unfolding given
@@ -118,6 +122,10 @@ module _ (T E P S X : Type 0) where
   pub node_distance-Leaf : (dist : E → ℕ) (element_dist : T → ℕ) (t : T) → node_distance {P = P} {S = S} {X = X} dist element_dist (Leaf t) ≡ element_dist t
   unfolding node_distance fold_tree
   node_distance-Leaf dist element_dist t = refl
+
+  pub leaf_element-Leaf : (t : T) → leaf_element {E = E} {P = P} {S = S} {X = X} (Leaf t) ≡ Some t
+  unfolding leaf_element fold_tree
+  leaf_element-Leaf t = refl
 
   pub IsLeafOf-Leaf : (Q : T → Type 0) (t : T) → Q t → IsLeafOf {E = E} {P = P} {S = S} {X = X} Q (Leaf t)
   unfolding IsLeafOf

@@ -58,7 +58,7 @@ some_one P None some = cc
 some_one P (Some x) some = tt
 
 -- where a filter keeps nothing, nothing is selected
-filter_none : {T : Type 0} (selects : T → Bool) (ts : List T) → filter selects ts ≡ [] → NoneSelected selects ts
+pub filter_none : {T : Type 0} (selects : T → Bool) (ts : List T) → filter selects ts ≡ [] → NoneSelected selects ts
 filter_none selects [] e = tt
 filter_none {T} selects (t ∷ ts) e = by_test (selects t) refl e (filter_none selects ts) where
   by_test : (b : Bool) → selects t ≡ b → (if b then t ∷ filter selects ts else filter selects ts) ≡ [] → (filter selects ts ≡ [] → NoneSelected selects ts) → NoneSelected selects (t ∷ ts)
@@ -99,7 +99,7 @@ module _ {T E P S X : Type 0} where
   children_parent : (p : ParentNode T E P S X) → node_children (Parent p) ≡ p.children.items
   children_parent p = ap children_in (outs-Parent p)
 
-  children_leaf : (n : RTreeNode T E P S X) (t : T) → n ≡ Leaf t → node_children n ≡ []
+  pub children_leaf : (n : RTreeNode T E P S X) (t : T) → n ≡ Leaf t → node_children n ≡ []
   children_leaf n t e = ap node_children e ∙ ap children_in (outs-Leaf t)
 
   childless_parent : (p : ParentNode T E P S X) → is_childless (Parent p) ≡ is_nil p.children.items
@@ -113,11 +113,11 @@ module _ {T E P S X : Type 0} where
     leaf_no_parent : (h : ℕ) (n : RTreeNode T E P S X) (t : T) → n ≡ Leaf t → IsKeptNode v o m w (suc h) n → ⊥
     leaf_no_parent h n t e k = no_parent _ t (subst (IsKeptNode v o m w (suc h)) e k)
 
-    below_then : (A : Type 0) (h : ℕ) (p : ParentNode T E P S X) → IsKeptNode v o m w h (Parent p) → ((h : ℕ) → IsKept v o m w p → AreKept v o m w h p.children.items → A) → A
+    pub below_then : (A : Type 0) (h : ℕ) (p : ParentNode T E P S X) → IsKeptNode v o m w h (Parent p) → ((h : ℕ) → IsKept v o m w p → AreKept v o m w h p.children.items → A) → A
     below_then A zero p k f = absurd (no_leaf _ p k)
     below_then A (suc h) p k f = let a = parent_of _ p k in f h a.0.0 a.1
 
-    whole_again : (h : ℕ) (p q : ParentNode T E P S X) → ((h : ℕ) → IsKept v o m w p → AreKept v o m w h p.children.items → IsKept v o m w q × AreKept v o m w h q.children.items)
+    pub whole_again : (h : ℕ) (p q : ParentNode T E P S X) → ((h : ℕ) → IsKept v o m w p → AreKept v o m w h p.children.items → IsKept v o m w q × AreKept v o m w h q.children.items)
         → IsKeptNode v o m w h (Parent p) → is_childless (Parent q) ≡ false → IsKeptNode v o m w h (Parent q)
     whole_again zero p q f k has = absurd (no_leaf _ p k)
     whole_again (suc h) p q f k has =

@@ -1,8 +1,8 @@
 -- What the steps of a search keep.
-use Rattle.std.proofs.Common.{◌≡◌, ℕ, ◌+◌, ◌≤◌, min, ℤ, pos, ◌<ℤ◌, Bool, true, false, List, [], ◌∷◌, ◌++◌, refl, ap, sym, ◌∙◌, subst, arith, if◌then◌else◌, nat_lt, append_assoc}
+use Rattle.std.proofs.Common.{Less, Equal, Greater, ◌≡◌, ℕ, ◌+◌, ◌≤◌, min, ℤ, pos, ◌<ℤ◌, Bool, true, false, List, [], ◌∷◌, ◌++◌, refl, ap, sym, ◌∙◌, subst, arith, if◌then◌else◌, nat_lt, append_assoc}
 use Rattle.std.specs.List.{AllByRecursion, Contains}
 use Rattle.std.specs.List.Sorted.{IsPermutation}
-use Rattle.std.specs.Ordering.{is_lt, int_cmp}
+use Rattle.std.specs.Ordering.{is_lt, int_cmp, ordering_then}
 use Rattle.std.specs.declared.cmp.Ordering.{Ordering}
 use Rattle.std.proofs.lemmas.List.Sorted.{IsPermutation-trans, IsPermutation-to_front, IsPermutation-sym, IsPermutation-cons, IsPermutation-map, IsPermutation-append_comm, sum_by-IsPermutation, sum_by_popped, Contains-permutation}
 use Rattle.std.proofs.lemmas.List.Elements.{All-from_recursion, All-contains}
@@ -19,24 +19,24 @@ use Rattle.rstar.specs.declared.node.RTreeNode.{RTreeNode, Leaf, Parent, Parent'
 use Rattle.rstar.specs.declared.node.ParentNode.{ParentNode}
 use Rattle.rstar.specs.Nodes.{fold_tree, fold_row, total, elements, parents, far, all_elements, all_parents, all_far, far_of, IsTight, AreWhole, children_of, envelope_of}
 use Rattle.rstar_base.specs.Counts.{usize_max}
-use Rattle.rstar.specs.Searches.{Item, waiting_nodes, distance_of, AreWholeNodes, CountsOpenings, IsFarKept}
+use Rattle.rstar.specs.Searches.{Item, nearest_on_top, waiting_nodes, distance_of, AreWholeNodes, CountsOpenings, IsFarKept}
 use Rattle.rstar.proofs.Nearness.{IsMeasured, IsPart, lower, above-node, above-Parent, parts}
 use Rattle.rstar.proofs.Rows.{elements-Parent, parents-Parent, far-Parent, elements-Leaf, far-Leaf, node_distance-Leaf, node_distance-Parent}
 
-module _ {T E P S X : Type 0} where
+module _ {T E P S X O : Type 0} where
   -- one more item, at its distance
-  pub at-push : (v : Boxes E) (d : Distances T) (p : List ℤ) (value : S → ℤ) (w : Item T E P S X) (ws us : List (Item T E P S X)) → IsPermutation (w ∷ ws) us → value w.distance ≡ pos (distance_of v d p w.node.now)
-      → AllByRecursion (λ (w : Item T E P S X). value w.distance ≡ pos (distance_of v d p w.node.now)) ws → AllByRecursion (λ (w : Item T E P S X). value w.distance ≡ pos (distance_of v d p w.node.now)) us
-  at-push v d p value w ws us put e h = all_along (λ (w : Item T E P S X). value w.distance ≡ pos (distance_of v d p w.node.now)) (w ∷ ws) us put (e, h)
+  pub at-push : (v : Boxes E) (d : Distances T) (p : List ℤ) (value : S → ℤ) (w : Item T E P S X O) (ws us : List (Item T E P S X O)) → IsPermutation (w ∷ ws) us → value w.distance ≡ pos (distance_of v d p w.node.now)
+      → AllByRecursion (λ (w : Item T E P S X O). value w.distance ≡ pos (distance_of v d p w.node.now)) ws → AllByRecursion (λ (w : Item T E P S X O). value w.distance ≡ pos (distance_of v d p w.node.now)) us
+  at-push v d p value w ws us put e h = all_along (λ (w : Item T E P S X O). value w.distance ≡ pos (distance_of v d p w.node.now)) (w ∷ ws) us put (e, h)
 
-  pub added-push : (old xs : List (RTreeNode T E P S X)) (w : Item T E P S X) (ws us : List (Item T E P S X)) → IsPermutation (old ++ xs) (waiting_nodes ws) → IsPermutation (w ∷ ws) us → IsPermutation (old ++ (xs ++ w.node.now ∷ [])) (waiting_nodes us)
+  pub added-push : (old xs : List (RTreeNode T E P S X)) (w : Item T E P S X O) (ws us : List (Item T E P S X O)) → IsPermutation (old ++ xs) (waiting_nodes ws) → IsPermutation (w ∷ ws) us → IsPermutation (old ++ (xs ++ w.node.now ∷ [])) (waiting_nodes us)
   added-push old xs w ws us h put =
       let front = IsPermutation-to_front (old ++ xs) w.node.now in
-      let step = IsPermutation-map (λ (v : Item T E P S X). v.node.now) (w ∷ ws) us put in
+      let step = IsPermutation-map (λ (v : Item T E P S X O). v.node.now) (w ∷ ws) us put in
       let all = IsPermutation-trans _ _ _ front (IsPermutation-trans _ _ _ (IsPermutation-cons w.node.now _ _ h) step) in
       subst (λ l. IsPermutation l (waiting_nodes us)) (append_assoc old xs (w.node.now ∷ [])) all
 
-parents-Leaf : (T E P S X : Type 0) (t : T) → parents {E = E} {P = P} {S = S} {X = X} (Leaf t) ≡ 0
+pub parents-Leaf : (T E P S X : Type 0) (t : T) → parents {E = E} {P = P} {S = S} {X = X} (Leaf t) ≡ 0
 unfolding parents fold_tree
 parents-Leaf T E P S X t = refl
 
@@ -53,16 +53,41 @@ not-counted a b h = go (nat_lt a b) refl
 not-above : (a b : ℕ) → is_lt (int_cmp (pos a) (pos b)) ≡ false → b ≤ a
 not-above a b h = by_ranked (pos a <ℤ pos b) (pos a ≡ pos b) (pos b <ℤ pos a) (int_cmp (pos a) (pos b)) (int_ranked (pos a) (pos b) (int_cmp (pos a) (pos b)) refl) (λ e p. let no = sym h ∙ ap is_lt e in cc) (λ e p. omega (arith, ints)) (λ e p. omega (arith, ints))
 
--- the greatest of a heap is the nearest
-pub least-nodes : {T E P S X : Type 0} (v : Boxes E) (d : Distances T) (p : List ℤ) (value : S → ℤ) (compare : S → S → Ordering) (order : (a b : S) → compare a b ≡ int_cmp (value a) (value b))
-    (w : Item T E P S X) (us : List (Item T E P S X)) → value w.distance ≡ pos (distance_of v d p w.node.now) → AllByRecursion (λ (w : Item T E P S X). value w.distance ≡ pos (distance_of v d p w.node.now)) us
-    → AllByRecursion (λ (y : Item T E P S X). is_lt (compare y.distance w.distance) ≡ false) us → AllByRecursion (λ c. distance_of v d p w.node.now ≤ distance_of v d p c) (waiting_nodes us)
-least-nodes v d p value compare order w [] e h k = tt
-least-nodes v d p value compare order w (u ∷ us) e h k = (
-  not-above (distance_of v d p u.node.now) (distance_of v d p w.node.now)
-      (sym (ap is_lt (order u.distance w.distance ∙ ap (λ z. int_cmp z (value w.distance)) h.0 ∙ ap (int_cmp (pos (distance_of v d p u.node.now))) e)) ∙ k.0),
-  least-nodes v d p value compare order w us e h.1 k.1,
-)
+then-first : (a b : Ordering) → is_lt (ordering_then a b) ≡ false → is_lt a ≡ false
+then-first Less b e = cc
+then-first Equal b e = refl
+then-first Greater b e = refl
+
+then-second : (a b : Ordering) → a ≡ Equal → is_lt (ordering_then a b) ≡ false → is_lt b ≡ false
+then-second a b same e = sym (ap (λ o. is_lt (ordering_then o b)) same) ∙ e
+
+same-cmp : (a b : ℕ) → a ≡ b → int_cmp (pos a) (pos b) ≡ Equal
+same-cmp a b e = by_ranked (pos a <ℤ pos b) (pos a ≡ pos b) (pos b <ℤ pos a) (int_cmp (pos a) (pos b)) (int_ranked (pos a) (pos b) (int_cmp (pos a) (pos b)) refl)
+    (λ is less. absurd (omega (arith, ints))) (λ is _. is) (λ is more. absurd (omega (arith, ints)))
+
+module _ {T E P S X O : Type 0} (v : Boxes E) (d : Distances T) (p : List ℤ) (value : S → ℤ) (compare : S → S → Ordering) (ties : RTreeNode T E P S X → RTreeNode T E P S X → Ordering) (order : (a b : S) → compare a b ≡ int_cmp (value a) (value b)) where
+  cmp-as : (w u : Item T E P S X O) → value w.distance ≡ pos (distance_of v d p w.node.now) → value u.distance ≡ pos (distance_of v d p u.node.now)
+      → compare u.distance w.distance ≡ int_cmp (pos (distance_of v d p u.node.now)) (pos (distance_of v d p w.node.now))
+  cmp-as w u e h = order u.distance w.distance ∙ ap (λ z. int_cmp z (value w.distance)) h ∙ ap (int_cmp (pos (distance_of v d p u.node.now))) e
+
+  -- the greatest of a heap is the nearest
+  pub least-nodes : (w : Item T E P S X O) (us : List (Item T E P S X O)) → value w.distance ≡ pos (distance_of v d p w.node.now) → AllByRecursion (λ (w : Item T E P S X O). value w.distance ≡ pos (distance_of v d p w.node.now)) us
+      → AllByRecursion (λ (y : Item T E P S X O). is_lt (nearest_on_top compare ties w y) ≡ false) us → AllByRecursion (λ c. distance_of v d p w.node.now ≤ distance_of v d p c) (waiting_nodes us)
+  least-nodes w [] e h k = tt
+  least-nodes w (u ∷ us) e h k = (
+    not-above (distance_of v d p u.node.now) (distance_of v d p w.node.now) (sym (ap is_lt (cmp-as w u e h.0)) ∙ then-first (compare u.distance w.distance) (ties u.node.now w.node.now) k.0),
+    least-nodes w us e h.1 k.1,
+  )
+
+  -- and no other at its distance comes before it
+  pub first-nodes : (w : Item T E P S X O) (us : List (Item T E P S X O)) → value w.distance ≡ pos (distance_of v d p w.node.now) → AllByRecursion (λ (w : Item T E P S X O). value w.distance ≡ pos (distance_of v d p w.node.now)) us
+      → AllByRecursion (λ (y : Item T E P S X O). is_lt (nearest_on_top compare ties w y) ≡ false) us
+      → AllByRecursion (λ c. distance_of v d p c ≡ distance_of v d p w.node.now → is_lt (ties c w.node.now) ≡ false) (waiting_nodes us)
+  first-nodes w [] e h k = tt
+  first-nodes w (u ∷ us) e h k = (
+    λ same. then-second (compare u.distance w.distance) (ties u.node.now w.node.now) (cmp-as w u e h.0 ∙ same-cmp _ _ same) k.0,
+    first-nodes w us e h.1 k.1,
+  )
 
 one-more : (b : Bool) (x y : ℕ) → x ≤ y → (if b then 1 else 0) + x ≤ 1 + y
 one-more true x y le = omega (arith, le)

@@ -1,8 +1,8 @@
 -- What a turn of a search keeps, over the items of its heap.
-use Rattle.std.proofs.Common.{◌≡◌, ℕ, ◌+◌, ◌<◌, ◌≤◌, min, ℤ, pos, false, List, ◌∷◌, ◌++◌, ap, sym, ◌∙◌, subst, All, arith, Option, Some}
+use Rattle.std.proofs.Common.{◌≡◌, ℕ, ◌+◌, ◌<◌, ◌≤◌, min, ℤ, pos, false, List, [], ◌∷◌, ◌++◌, ap, sym, ◌∙◌, subst, All, arith, Option, Some}
 use Rattle.std.specs.List.{AllByRecursion}
 use Rattle.std.specs.List.Sorted.{IsPermutation}
-use Rattle.std.specs.Ordering.{is_lt, int_cmp, on, flip_args}
+use Rattle.std.specs.Ordering.{is_lt, int_cmp}
 use Rattle.std.specs.declared.cmp.Ordering.{Ordering}
 use Rattle.std.proofs.lemmas.List.Sorted.{IsPermutation-trans, IsPermutation-map, sum_by_popped}
 use Rattle.std.proofs.lemmas.List.Elements.{recursion_from_All}
@@ -15,26 +15,30 @@ use Rattle.rstar.specs.declared.node.ParentNode.{ParentNode}
 use Rattle.rstar.specs.Nodes.{all_elements, all_parents, parents, children_of}
 use Rattle.rstar_base.specs.Counts.{usize_max}
 use Rattle.rstar.specs.Neighbors.{IsNeighbor}
-use Rattle.rstar.specs.Searches.{Item, waiting_nodes, distance_of, AreWholeNodes, AreWaiting, CountsOpenings, IsFarKept, IsRunning}
+use Rattle.rstar.specs.Searches.{Item, nearest_on_top, ComesFirst, waiting_nodes, distance_of, AreWholeNodes, AreWaiting, CountsOpenings, IsFarKept, IsRunning}
 use Rattle.rstar.proofs.Rows.{node_distance-Leaf, parents-Parent}
 use Rattle.rstar.proofs.Nearness.{IsMeasured, IsPart, part-Parent}
-use Rattle.rstar.proofs.Searches.{least-nodes, parts-parent, fewer-parents, same-elements, counted-parent, far-parent, bag-given, least-given, far-given, counted-leaf, far-rest}
+use Rattle.rstar.proofs.Searches.{least-nodes, first-nodes, parts-parent, fewer-parents, same-elements, counted-parent, far-parent, bag-given, least-given, far-given, counted-leaf, far-rest}
 
 -- the item that a heap gives
-module _ {T E P S X : Type 0} (v : Boxes E) (d : Distances T) (p : List ℤ) (value : S → ℤ) (compare : S → S → Ordering) (ws us : Held (Item T E P S X)) (w : Item T E P S X)
-    (waiting : AreWaiting v d p compare value ws) (ordered : IsOrdered (flip_args (on (λ (w : Item T E P S X). w.distance) compare)) us) (popped : IsPermutation (items_of ws) (w ∷ items_of us)) where
-  all-at : AllByRecursion (λ (w : Item T E P S X). value w.distance ≡ pos (distance_of v d p w.node.now)) (w ∷ items_of us)
-  all-at = all_along (λ (w : Item T E P S X). value w.distance ≡ pos (distance_of v d p w.node.now)) (items_of ws) (w ∷ items_of us) popped waiting.at
+module _ {T E P S X O : Type 0} (v : Boxes E) (d : Distances T) (p : List ℤ) (value : S → ℤ) (compare : S → S → Ordering) (ties : RTreeNode T E P S X → RTreeNode T E P S X → Ordering) (ws us : Held (Item T E P S X O)) (w : Item T E P S X O)
+    (waiting : AreWaiting v d p compare ties value ws) (ordered : IsOrdered (nearest_on_top compare ties) us) (popped : IsPermutation (items_of ws) (w ∷ items_of us)) where
+  all-at : AllByRecursion (λ (w : Item T E P S X O). value w.distance ≡ pos (distance_of v d p w.node.now)) (w ∷ items_of us)
+  all-at = all_along (λ (w : Item T E P S X O). value w.distance ≡ pos (distance_of v d p w.node.now)) (items_of ws) (w ∷ items_of us) popped waiting.at
 
-  pub rest-waiting : AreWaiting v d p compare value us
+  pub rest-waiting : AreWaiting v d p compare ties value us
   rest-waiting = record { ordered = ordered; at = all-at.1 }
 
   pub popped-nodes : IsPermutation (waiting_nodes (items_of ws)) (w.node.now ∷ waiting_nodes (items_of us))
-  popped-nodes = IsPermutation-map (λ (v : Item T E P S X). v.node.now) (items_of ws) (w ∷ items_of us) popped
+  popped-nodes = IsPermutation-map (λ (v : Item T E P S X O). v.node.now) (items_of ws) (w ∷ items_of us) popped
 
-  pub popped-least : (order : (a b : S) → compare a b ≡ int_cmp (value a) (value b)) (greatest : All (λ (y : Item T E P S X). is_lt (compare y.distance w.distance) ≡ false) (items_of us))
+  pub popped-least : (order : (a b : S) → compare a b ≡ int_cmp (value a) (value b)) (greatest : All (λ (y : Item T E P S X O). is_lt (nearest_on_top compare ties w y) ≡ false) (items_of us))
       → AllByRecursion (λ c. distance_of v d p w.node.now ≤ distance_of v d p c) (waiting_nodes (items_of us))
-  popped-least order greatest = least-nodes v d p value compare order w (items_of us) all-at.0 all-at.1 (recursion_from_All _ (items_of us) greatest)
+  popped-least order greatest = least-nodes v d p value compare ties order w (items_of us) all-at.0 all-at.1 (recursion_from_All _ (items_of us) greatest)
+
+  pub popped-first : (order : (a b : S) → compare a b ≡ int_cmp (value a) (value b)) (greatest : All (λ (y : Item T E P S X O). is_lt (nearest_on_top compare ties w y) ≡ false) (items_of us))
+      → AllByRecursion (λ c. distance_of v d p c ≡ distance_of v d p w.node.now → is_lt (ties c w.node.now) ≡ false) (waiting_nodes (items_of us))
+  popped-first order greatest = first-nodes v d p value compare ties order w (items_of us) all-at.0 all-at.1 (recursion_from_All _ (items_of us) greatest)
 
   pub leaf-at : (t : T) → w.node.now ≡ Leaf t → value w.distance ≡ pos (d.distance_2 t p)
   leaf-at t is = all-at.0 ∙ ap (λ (n : RTreeNode T E P S X). pos (distance_of v d p n)) is ∙ ap pos (node_distance-Leaf T E P S X (λ e. v.distance_2 e p) (λ t. d.distance_2 t p) t)
@@ -44,11 +48,11 @@ module _ {T E P S X : Type 0} (v : Boxes E) (d : Distances T) (p : List ℤ) (va
     pub nodes-as : IsPermutation (waiting_nodes (items_of ws)) (n ∷ waiting_nodes (items_of us))
     nodes-as = subst (λ m. IsPermutation (waiting_nodes (items_of ws)) (m ∷ waiting_nodes (items_of us))) is popped-nodes
 
-    pub least-as : (order : (a b : S) → compare a b ≡ int_cmp (value a) (value b)) (greatest : All (λ (y : Item T E P S X). is_lt (compare y.distance w.distance) ≡ false) (items_of us))
+    pub least-as : (order : (a b : S) → compare a b ≡ int_cmp (value a) (value b)) (greatest : All (λ (y : Item T E P S X O). is_lt (nearest_on_top compare ties w y) ≡ false) (items_of us))
         → AllByRecursion (λ c. distance_of v d p n ≤ distance_of v d p c) (waiting_nodes (items_of us))
     least-as order greatest = subst (λ (m : RTreeNode T E P S X). AllByRecursion (λ c. distance_of v d p m ≤ distance_of v d p c) (waiting_nodes (items_of us))) is (popped-least order greatest)
 
-  pub leaf-least : (t : T) → w.node.now ≡ Leaf t → (order : (a b : S) → compare a b ≡ int_cmp (value a) (value b)) (greatest : All (λ (y : Item T E P S X). is_lt (compare y.distance w.distance) ≡ false) (items_of us))
+  pub leaf-least : (t : T) → w.node.now ≡ Leaf t → (order : (a b : S) → compare a b ≡ int_cmp (value a) (value b)) (greatest : All (λ (y : Item T E P S X O). is_lt (nearest_on_top compare ties w y) ≡ false) (items_of us))
       → AllByRecursion (λ c. d.distance_2 t p ≤ distance_of v d p c) (waiting_nodes (items_of us))
   leaf-least t is order greatest =
       subst (λ m. AllByRecursion (λ c. m ≤ distance_of v d p c) (waiting_nodes (items_of us))) (node_distance-Leaf T E P S X (λ e. v.distance_2 e p) (λ t. d.distance_2 t p) t) (least-as (Leaf t) is order greatest)
@@ -60,11 +64,11 @@ module _ {T E P S X : Type 0} (v : Boxes E) (d : Distances T) (p : List ℤ) (va
       omega arith
 
 -- a turn of a search that is on its way
-module _ {T E : Type 0} {IsPoint : List ℤ → Type 0} {v : Boxes E} {o : Objects T E} {d : Distances T} {p : List ℤ} (law : IsMeasured IsPoint v o d p) {P S X : Type 0}
-    (value : S → ℤ) (compare : S → S → Ordering) (order : (a b : S) → compare a b ≡ int_cmp (value a) (value b)) (root : ParentNode T E P S X)
-    (ws us : Held (Item T E P S X)) (w : Item T E P S X) (opened : ℕ) (running : IsRunning v d p compare value o root ws opened)
-    (ordered : IsOrdered (flip_args (on (λ (w : Item T E P S X). w.distance) compare)) us)
-    (popped : IsPermutation (items_of ws) (w ∷ items_of us)) (greatest : All (λ (y : Item T E P S X). is_lt (compare y.distance w.distance) ≡ false) (items_of us)) where
+module _ {T E : Type 0} {IsPoint : List ℤ → Type 0} {v : Boxes E} {o : Objects T E} {d : Distances T} {p : List ℤ} (law : IsMeasured IsPoint v o d p) {P S X O : Type 0}
+    (value : S → ℤ) (compare : S → S → Ordering) (ties : RTreeNode T E P S X → RTreeNode T E P S X → Ordering) (order : (a b : S) → compare a b ≡ int_cmp (value a) (value b)) (root : ParentNode T E P S X)
+    (ws us : Held (Item T E P S X O)) (w : Item T E P S X O) (opened : ℕ) (running : IsRunning v d p compare ties value o root ws opened)
+    (ordered : IsOrdered (nearest_on_top compare ties) us)
+    (popped : IsPermutation (items_of ws) (w ∷ items_of us)) (greatest : All (λ (y : Item T E P S X O). is_lt (nearest_on_top compare ties w y) ≡ false) (items_of us)) where
   abbrev near : RTreeNode T E P S X → ℕ
   near = distance_of v d p
 
@@ -75,19 +79,19 @@ module _ {T E : Type 0} {IsPoint : List ℤ → Type 0} {v : Boxes E} {o : Objec
   rest = waiting_nodes (items_of us)
 
   all-parts : AreWholeNodes v o (w.node.now ∷ rest)
-  all-parts = all_along (IsPart law) old (w.node.now ∷ rest) (popped-nodes v d p value compare ws us w running.waiting ordered popped) running.parts
+  all-parts = all_along (IsPart law) old (w.node.now ∷ rest) (popped-nodes v d p value compare ties ws us w running.waiting ordered popped) running.parts
 
   -- the item was a leaf
   module _ (t : T) (is : w.node.now ≡ Leaf t) where
     nodes-leaf : IsPermutation old (Leaf t ∷ rest)
-    nodes-leaf = nodes-as v d p value compare ws us w running.waiting ordered popped (Leaf t) is
+    nodes-leaf = nodes-as v d p value compare ties ws us w running.waiting ordered popped (Leaf t) is
 
     least-leaf : AllByRecursion (λ c. near (Leaf t) ≤ near c) rest
-    least-leaf = least-as v d p value compare ws us w running.waiting ordered popped (Leaf t) is order greatest
+    least-leaf = least-as v d p value compare ties ws us w running.waiting ordered popped (Leaf t) is order greatest
 
-    pub leaf-running : IsRunning v d p compare value o root us opened
+    pub leaf-running : IsRunning v d p compare ties value o root us opened
     leaf-running = record {
-      waiting = rest-waiting v d p value compare ws us w running.waiting ordered popped;
+      waiting = rest-waiting v d p value compare ties ws us w running.waiting ordered popped;
       parts = all-parts.1;
       counted = counted-leaf law root old rest t nodes-leaf opened running.counted;
       still_far = far-rest law root old rest t nodes-leaf least-leaf running.still_far;
@@ -100,22 +104,31 @@ module _ {T E : Type 0} {IsPoint : List ℤ → Type 0} {v : Boxes E} {o : Objec
       still_far = far-given law root old rest t nodes-leaf running.still_far;
     }
 
+    pub leaf-first : ComesFirst v d p ties rest t
+    leaf-first =
+        let all = subst (λ (m : RTreeNode T E P S X). AllByRecursion (λ c. near c ≡ near m → is_lt (ties c m) ≡ false) rest) is (popped-first v d p value compare ties ws us w running.waiting ordered popped order greatest) in
+        subst (λ m. AllByRecursion (λ c. (m ≤ near c) × (near c ≡ m → is_lt (ties c (Leaf t)) ≡ false)) rest) (node_distance-Leaf T E P S X (λ e. v.distance_2 e p) (λ t. d.distance_2 t p) t) (both (λ c. near (Leaf t) ≤ near c) (λ c. near c ≡ near (Leaf t) → is_lt (ties c (Leaf t)) ≡ false) rest least-leaf all)
+      where
+        both : (A B : RTreeNode T E P S X → Type 0) (ns : List (RTreeNode T E P S X)) → AllByRecursion A ns → AllByRecursion B ns → AllByRecursion (λ n. A n × B n) ns
+        both A B [] h k = tt
+        both A B (n ∷ ns) h k = ((h.0, k.0), both A B ns h.1 k.1)
+
   -- the item was a parent, whose children come into the heap
   module _ (q : ParentNode T E P S X) (is : w.node.now ≡ Parent q) where
     nodes-parent : IsPermutation old (Parent q ∷ rest)
-    nodes-parent = nodes-as v d p value compare ws us w running.waiting ordered popped (Parent q) is
+    nodes-parent = nodes-as v d p value compare ties ws us w running.waiting ordered popped (Parent q) is
 
     least-parent : AllByRecursion (λ c. near (Parent q) ≤ near c) rest
-    least-parent = least-as v d p value compare ws us w running.waiting ordered popped (Parent q) is order greatest
+    least-parent = least-as v d p value compare ties ws us w running.waiting ordered popped (Parent q) is order greatest
 
     part : IsPart law (Parent q)
     part = subst (IsPart law) is all-parts.0
 
     pub parent-waits : 0 < all_parents old
-    parent-waits = let all = parents-popped v d p value compare ws us w running.waiting ordered popped q is in omega arith
+    parent-waits = let all = parents-popped v d p value compare ties ws us w running.waiting ordered popped q is in omega arith
 
-    module _ (vs : Held (Item T E P S X)) (put : IsPermutation (rest ++ children_of q) (waiting_nodes (items_of vs))) where
-      pub parent-running : AreWaiting v d p compare value vs → (more : ℕ) → more ≡ min (opened + 1) usize_max → IsRunning v d p compare value o root vs more
+    module _ (vs : Held (Item T E P S X O)) (put : IsPermutation (rest ++ children_of q) (waiting_nodes (items_of vs))) where
+      pub parent-running : AreWaiting v d p compare ties value vs → (more : ℕ) → more ≡ min (opened + 1) usize_max → IsRunning v d p compare ties value o root vs more
       parent-running waiting more is_more =
           let i = part-Parent law q part in
           record {
@@ -132,14 +145,14 @@ module _ {T E : Type 0} {IsPoint : List ℤ → Type 0} {v : Boxes E} {o : Objec
       parent-same before same = IsPermutation-trans _ _ _ same (same-elements law root old rest q _ nodes-parent put)
 
 -- a heap of the same items
-pub same-running : {T E P S X : Type 0} (v : Boxes E) (d : Distances T) (p : List ℤ) (value : S → ℤ) (compare : S → S → Ordering) (o : Objects T E) (root : ParentNode T E P S X)
-    (ws us : Held (Item T E P S X)) (opened : ℕ) → items_of ws ≡ items_of us → IsOrdered (flip_args (on (λ (w : Item T E P S X). w.distance) compare)) us
-    → IsRunning v d p compare value o root ws opened → IsRunning v d p compare value o root us opened
-same-running {T} {E} {P} {S} {X} v d p value compare o root ws us opened e ordered running = record {
-  waiting = record { ordered = ordered; at = subst (AllByRecursion (λ (w : Item T E P S X). value w.distance ≡ pos (distance_of v d p w.node.now))) e running.waiting.at };
-  parts = subst (λ (l : List (Item T E P S X)). AreWholeNodes v o (waiting_nodes l)) e running.parts;
-  counted = subst (λ (l : List (Item T E P S X)). CountsOpenings root (waiting_nodes l) opened) e running.counted;
-  still_far = subst (λ (l : List (Item T E P S X)). IsFarKept v d p root (waiting_nodes l)) e running.still_far;
+pub same-running : {T E P S X O : Type 0} (v : Boxes E) (d : Distances T) (p : List ℤ) (value : S → ℤ) (compare : S → S → Ordering) (ties : RTreeNode T E P S X → RTreeNode T E P S X → Ordering) (o : Objects T E) (root : ParentNode T E P S X)
+    (ws us : Held (Item T E P S X O)) (opened : ℕ) → items_of ws ≡ items_of us → IsOrdered (nearest_on_top compare ties) us
+    → IsRunning v d p compare ties value o root ws opened → IsRunning v d p compare ties value o root us opened
+same-running {T} {E} {P} {S} {X} {O} v d p value compare ties o root ws us opened e ordered running = record {
+  waiting = record { ordered = ordered; at = subst (AllByRecursion (λ (w : Item T E P S X O). value w.distance ≡ pos (distance_of v d p w.node.now))) e running.waiting.at };
+  parts = subst (λ (l : List (Item T E P S X O)). AreWholeNodes v o (waiting_nodes l)) e running.parts;
+  counted = subst (λ (l : List (Item T E P S X O)). CountsOpenings root (waiting_nodes l) opened) e running.counted;
+  still_far = subst (λ (l : List (Item T E P S X O)). IsFarKept v d p root (waiting_nodes l)) e running.still_far;
 }
 
 -- scalars compare as the numbers that they mean

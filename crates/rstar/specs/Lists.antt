@@ -2,6 +2,9 @@
 use Rattle.std.specs.Prelude.{◌≡◌, ℕ, ◌<◌, ◌≤◌, ◌==◌, Bool, false, List, [], ◌∷◌, ◌++◌, length, map, filter, ⊤, All}
 use Rattle.std.specs.List.{AllByRecursion, Contains}
 use Rattle.std.specs.List.Sorted.{IsPermutation}
+use Rattle.std.specs.Ordering.{on, then_cmp, nat_cmp, is_lt}
+use Rattle.std.specs.declared.cmp.Ordering.{Ordering}
+use Rattle.std.specs.declared.cmp.Ordering.TheVariants.{Equal}
 
 -- each item of the first list with each of the second
 abbrev pub product : {A B : Type 0} → List A → List B → List (A × B)
@@ -16,12 +19,41 @@ NoneSelected selects ts = AllByRecursion (λ t. selects t ≡ false) ts
 abbrev pub NoneEmpty : {T E : Type 0} → (E → Bool) → (T → E) → List T → Type 0
 NoneEmpty is_empty box_of ts = All (λ t. is_empty (box_of t) ≡ false) ts
 
+-- ---- the first of a list, in an order: `before t u` says that t may stand before u
+
+module _ {T : Type 0} (before : T → T → Type 0) where
+  -- each may stand before all that stand behind it
+  abbrev pub AreOrdered : List T → Type 0
+  AreOrdered [] = ⊤
+  AreOrdered (t ∷ ts) = AllByRecursion (before t) ts × AreOrdered ts
+
+  -- an element that may stand before each
+  pub record IsLeast (all : List T) (t : T) : Type 0 where
+    pub member : Contains all t
+    pub least : AllByRecursion (before t) all
+
+  -- the first of all elements, in that order, and those that are left, each of which each of the first may stand before
+  pub record AreFirst (all first left : List T) : Type 0 where
+    pub bag : IsPermutation all (first ++ left)
+    pub order : AreOrdered first
+    pub least : AllByRecursion (λ t. AllByRecursion (before t) left) first
+
+  -- the first of all elements, in that order: so many, or all
+  pub record AreFirstOf (all : List T) (most : ℕ) (given : List T) : Type 0 where
+    pub left : List T
+    pub first : AreFirst all given left
+    pub few : length given ≤ most
+    pub enough : length given < most → left ≡ []
+
 -- ---- the nearest of a list
 
+-- t is no farther than u
+abbrev pub IsNoFarther : {T : Type 0} → (T → ℕ) → T → T → Type 0
+IsNoFarther distance t u = distance t ≤ distance u
+
 -- an element than which none is nearer
-pub record IsNearest {T : Type 0} (distance : T → ℕ) (all : List T) (t : T) : Type 0 where
-  pub member : Contains all t
-  pub least : AllByRecursion (λ u. distance t ≤ distance u) all
+abbrev pub IsNearest : {T : Type 0} → (T → ℕ) → List T → T → Type 0
+IsNearest distance all t = IsLeast (IsNoFarther distance) all t
 
 -- all elements at a distance than which none is nearer; there is one where there is any element
 pub record AreNearest {T : Type 0} (distance : T → ℕ) (all : List T) (d : ℕ) (ts : List T) : Type 0 where
@@ -37,18 +69,28 @@ pub record AreSomeNearest {T : Type 0} (distance : T → ℕ) (all : List T) (d 
 
 -- elements whose distances never fall
 abbrev pub AreInOrder : {T : Type 0} → (T → ℕ) → List T → Type 0
-AreInOrder distance [] = ⊤
-AreInOrder distance (t ∷ ts) = AllByRecursion (λ u. distance t ≤ distance u) ts × AreInOrder distance ts
+AreInOrder distance ts = AreOrdered (IsNoFarther distance) ts
 
 -- the first of all elements, in the order of their distances; none of those that are left is nearer
-pub record AreNearestFirst {T : Type 0} (distance : T → ℕ) (all first left : List T) : Type 0 where
-  pub bag : IsPermutation all (first ++ left)
-  pub order : AreInOrder distance first
-  pub least : AllByRecursion (λ t. AllByRecursion (λ u. distance t ≤ distance u) left) first
+abbrev pub AreNearestFirst : {T : Type 0} → (T → ℕ) → List T → List T → List T → Type 0
+AreNearestFirst distance all first left = AreFirst (IsNoFarther distance) all first left
 
 -- the nearest of all elements, in the order of their distances: so many, or all
-pub record AreNearestOf {T : Type 0} (distance : T → ℕ) (all : List T) (most : ℕ) (nearest : List T) : Type 0 where
-  pub left : List T
-  pub first : AreNearestFirst distance all nearest left
-  pub few : length nearest ≤ most
-  pub enough : length nearest < most → left ≡ []
+abbrev pub AreNearestOf : {T : Type 0} → (T → ℕ) → List T → ℕ → List T → Type 0
+AreNearestOf distance all most nearest = AreFirstOf (IsNoFarther distance) all most nearest
+
+-- ---- the stated order: by distance, and at equal distance by the elements' own order, `compare`
+
+abbrev pub by_distance : {T : Type 0} → (T → ℕ) → (T → T → Ordering) → T → T → Ordering
+by_distance distance compare = then_cmp (on distance nat_cmp) compare
+
+-- u does not come before t
+abbrev pub IsNotLater : {T : Type 0} → (T → ℕ) → (T → T → Ordering) → T → T → Type 0
+IsNotLater distance compare t u = is_lt (by_distance distance compare u t) ≡ false
+
+-- one list, up to elements that compare equal
+abbrev pub AreAlike : {T : Type 0} → (T → T → Ordering) → List T → List T → Type 0
+AreAlike compare [] [] = ⊤
+AreAlike compare (t ∷ ts) (u ∷ us) = (compare t u ≡ Equal) × AreAlike compare ts us
+AreAlike compare [] (u ∷ us) = ⊥
+AreAlike compare (t ∷ ts) [] = ⊥

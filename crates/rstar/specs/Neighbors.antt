@@ -17,7 +17,7 @@ use Rattle.rstar.specs.declared.algorithm.nearest_neighbor.NeighborsWithDistance
 use Rattle.rstar.specs.declared.algorithm.nearest_neighbor.Neighbors.{Neighbors}
 use Rattle.rstar.specs.Nodes.{all_elements, all_parents, all_far, parents_of, far_of}
 use Rattle.rstar_base.specs.Counts.{usize_max}
-use Rattle.rstar.specs.Searches.{IsUnrefused, waiting_of, calls_left, IsReady}
+use Rattle.rstar.specs.Searches.{NodeSearch, any_first, IsUnrefused, waiting_of, calls_left, IsReady}
 
 -- the two iterators over the nodes of a tree
 abbrev pub NearestNeighborDistance2Iterator : (T E P S X : Type 0) → Type 0
@@ -46,19 +46,23 @@ module _ {T E P S X : Type 0} where
   abbrev pub IsGoingOn : Search T E P S X → Type 0
   IsGoingOn s = IsUnrefused s.stage
 
-  -- what an iterator shows
-  abbrev pub search_of : NearestNeighborDistance2Iterator T E P S X → Search T E P S X
-  search_of it = record {
-    root = it.search.root.now;
-    point = it.point;
-    waiting = waiting_of it.search;
-    opened = it.search.opened;
-    stage = it.search.stage;
+  -- what a search at a point shows, in whichever order it breaks ties
+  abbrev pub shown : {O : Type 0} → NodeSearch T E P S X O → P → Search T E P S X
+  shown s point = record {
+    root = s.root.now;
+    point = point;
+    waiting = waiting_of s;
+    opened = s.opened;
+    stage = s.stage;
   }
 
-  -- the iterator with distances inside one that gives the elements alone
+  -- what an iterator shows
+  abbrev pub search_of : NearestNeighborDistance2Iterator T E P S X → Search T E P S X
+  search_of it = shown it.search it.point
+
+  -- one that gives the elements alone, as the iterator with distances
   abbrev pub with_distances : NearestNeighborIterator T E P S X → NearestNeighborDistance2Iterator T E P S X
-  with_distances it = it.with_distances
+  with_distances it = record { search = it.search; point = it.point }
 
   -- how many calls of `next` may give something
   abbrev pub neighbors_left : NearestNeighborDistance2Iterator T E P S X → Count
@@ -67,7 +71,8 @@ module _ {T E P S X : Type 0} where
   -- what it keeps, so that `next` may be called
   unfoldable pub IsSearching : Boxes E → Objects T E → Distances T → ℕ → (P → ℕ → ℤ) → (S → S → Ordering) → (S → ℤ)
       → NearestNeighborDistance2Iterator T E P S X → Type 0
-  IsSearching v o d axes coord compare value it = IsReady v d (table axes (coord it.point)) compare value o it.search
+  IsSearching v o d axes coord compare value it =
+      IsReady v d (table axes (coord it.point)) compare any_first value o it.search
 
 -- a search that has begun: over this root and this point, with the root waiting, and nothing opened
 pub record HasBegun {T E P S X : Type 0} (over : ParentNode T E P S X) (at : P) (s : Search T E P S X) : Type 0 where

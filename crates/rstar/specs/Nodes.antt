@@ -1,6 +1,6 @@
 -- What a node holds, and when it is whole.
 -- T is the element's type, E its envelope's, P its point's, S its scalar's, X what a scalar's text is refused with.
-use Rattle.std.specs.Prelude.{◌≡◌, ◌≢◌, ℕ, zero, suc, ◌+◌, Bool, true, false, List, [], ◌∷◌, ◌++◌, map, sum_by, if◌then◌else◌, nat_lt}
+use Rattle.std.specs.Prelude.{Option, Some, None, ◌≡◌, ◌≢◌, ℕ, zero, suc, ◌+◌, Bool, true, false, List, [], ◌∷◌, ◌++◌, map, sum_by, if◌then◌else◌, nat_lt}
 use Rattle.std.specs.List.{AllByRecursion, flat_map}
 use Rattle.rstar_base.specs.Envelopes.{Boxes}
 use Rattle.rstar_base.specs.Elements.{Objects}
@@ -74,6 +74,10 @@ reach accepts n = fold_tree (λ t. 0) (λ e below. if accepts e then 1 + total b
 unfoldable pub given : {T E P S X : Type 0} → (E → Bool) → (T → Bool) → RTreeNode T E P S X → List T
 given accepts selects n = fold_tree (λ t. if selects t then t ∷ [] else [])
     (λ e below. if accepts e then joined below else []) n
+
+-- the element that a leaf is
+unfoldable pub leaf_element : {T E P S X : Type 0} → RTreeNode T E P S X → Option T
+leaf_element n = fold_tree (λ t. Some t) (λ e below. None) n
 
 -- whether the node is a leaf
 unfoldable pub is_leaf_node : {T E P S X : Type 0} → RTreeNode T E P S X → Bool

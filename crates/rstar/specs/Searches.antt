@@ -1,29 +1,54 @@
 -- The inside of a search for neighbours: the nodes that wait, and what they keep.
 -- T is the element's type, E its envelope's, P its point's, S its scalar's, X what a scalar's text is refused with.
-use Rattle.std.specs.Prelude.{◌≡◌, ℕ, ◌+◌, ◌-◌, ◌≤◌, min, ℤ, pos, List, [], ◌∷◌, map, length, ⊤}
+use Rattle.std.specs.Prelude.{◌≡◌, ℕ, ◌+◌, ◌-◌, ◌≤◌, min, ℤ, pos, List, [], ◌∷◌, map, length, false, ⊤}
 use Rattle.std.specs.Borrow.{Bor}
 use Rattle.std.specs.Iterator.{Count, at_most}
 use Rattle.std.specs.List.{AllByRecursion, Contains}
-use Rattle.std.specs.Ordering.{on, flip_args}
+use Rattle.std.specs.Option.{option_cmp}
+use Rattle.std.specs.Ordering.{on, flip_args, then_cmp, nat_cmp, is_lt}
 use Rattle.std.specs.declared.cmp.Ordering.{Ordering}
 use Rattle.rstar_base.specs.Envelopes.{Boxes}
 use Rattle.rstar_base.specs.Elements.{Objects, Distances}
 use Rattle.rstar_base.specs.SmallHeaps.{Held, items_of, IsOrdered}
-use Rattle.rstar.specs.declared.node.RTreeNode.{RTreeNode, Parent}
+use Rattle.rstar.specs.declared.node.RTreeNode.{RTreeNode, Leaf, Parent}
 use Rattle.rstar.specs.declared.node.ParentNode.{ParentNode}
-use Rattle.rstar.specs.declared.algorithm.nearest_neighbor.search.Waiting.{Waiting}
+use Rattle.rstar.specs.declared.algorithm.nearest_neighbor.waiting.Waiting.{Waiting}
 use Rattle.rstar.specs.declared.algorithm.nearest_neighbor.search.Stage.{Stage}
 use Rattle.rstar.specs.declared.algorithm.nearest_neighbor.search.Stage.TheVariants.{Fresh, Running, Ended}
 use Rattle.rstar.specs.declared.algorithm.nearest_neighbor.search.NeighborSearch.{NeighborSearch}
-use Rattle.rstar.specs.Nodes.{node_distance, all_elements, all_parents, all_far, parents_of, far_of, IsTree, IsInner, IsElement, IsWhole}
+use Rattle.rstar.specs.Nodes.{leaf_element, node_distance, elements, all_elements, all_parents, all_far, parents_of, far_of, IsTree, IsInner, IsElement, IsWhole}
 use Rattle.rstar_base.specs.Counts.{usize_max}
 
--- an item of a search's heap: a node that is lent, at its distance
-abbrev pub Item : (T E P S X : Type 0) → Type 0
-Item T E P S X = Waiting (Bor (RTreeNode T E P S X)) S
+-- ---- which of two nodes at equal distance comes first: the lesser
+
+-- either
+abbrev pub any_first : {N : Type 0} → N → N → Ordering
+any_first = on (λ _. 0) nat_cmp
+
+-- a parent before an element, and elements by their order
+abbrev pub parents_first : {T E P S X : Type 0} → (T → T → Ordering)
+    → RTreeNode T E P S X → RTreeNode T E P S X → Ordering
+parents_first before = on leaf_element (option_cmp before)
+
+-- ties between nodes go by an order of elements: what comes not before a leaf has no element that comes before the leaf's
+abbrev pub TiesBy : {T E P S X : Type 0} → (RTreeNode T E P S X → RTreeNode T E P S X → Ordering) → (T → T → Ordering)
+    → Type 0
+TiesBy {T} {E} {P} {S} {X} ties compare = (n : RTreeNode T E P S X) (t : T) → is_lt (ties n (Leaf t)) ≡ false
+    → AllByRecursion (λ u. is_lt (compare u t) ≡ false) (elements n)
+
+-- the nearer of two that wait is the greater, and at equal distance the one that comes first
+abbrev pub nearest_on_top : {N S O : Type 0} → (S → S → Ordering) → (N → N → Ordering)
+    → Waiting (Bor N) S O → Waiting (Bor N) S O → Ordering
+nearest_on_top compare ties = flip_args (then_cmp (on (λ w. w.distance) compare) (on (λ w. w.node.now) ties))
+
+-- ---- the nodes that wait
+
+-- an item of a search's heap: a node that is lent, at its distance. O is the type that says how ties are broken.
+abbrev pub Item : (T E P S X O : Type 0) → Type 0
+Item T E P S X O = Waiting (Bor (RTreeNode T E P S X)) S O
 
 -- the nodes that wait in a heap
-abbrev pub waiting_nodes : {T E P S X : Type 0} → List (Item T E P S X) → List (RTreeNode T E P S X)
+abbrev pub waiting_nodes : {T E P S X O : Type 0} → List (Item T E P S X O) → List (RTreeNode T E P S X)
 waiting_nodes ws = map (λ w. w.node.now) ws
 
 -- whole nodes, of any heights
@@ -45,31 +70,31 @@ IsUnrefused Running = ⊤
 IsUnrefused Ended = ⊥
 
 -- the nodes that wait: the root until it is opened, and then what the heap's items lend
-abbrev pub waiting_at : {T E P S X : Type 0} → Stage → ParentNode T E P S X → List (Item T E P S X)
+abbrev pub waiting_at : {T E P S X O : Type 0} → Stage → ParentNode T E P S X → List (Item T E P S X O)
     → List (RTreeNode T E P S X)
 waiting_at Fresh root ws = Parent root ∷ []
 waiting_at Running root ws = waiting_nodes ws
 waiting_at Ended root ws = waiting_nodes ws
 
 -- how many calls may give something: each element and a refusal
-abbrev pub calls_at : {T E P S X : Type 0} → Stage → ParentNode T E P S X → List (Item T E P S X) → ℕ
+abbrev pub calls_at : {T E P S X O : Type 0} → Stage → ParentNode T E P S X → List (Item T E P S X O) → ℕ
 calls_at Fresh root ws = length (all_elements (Parent root ∷ [])) + 1
 calls_at Running root ws = length (all_elements (waiting_nodes ws)) + 1
 calls_at Ended root ws = 0
 
 -- a search over the nodes of a tree
-abbrev pub NodeSearch : (T E P S X : Type 0) → Type 0
-NodeSearch T E P S X = NeighborSearch (ParentNode T E P S X) (RTreeNode T E P S X) S
+abbrev pub NodeSearch : (T E P S X O : Type 0) → Type 0
+NodeSearch T E P S X O = NeighborSearch (ParentNode T E P S X) (RTreeNode T E P S X) S O
 
-module _ {T E P S X : Type 0} where
+module _ {T E P S X O : Type 0} where
   -- the items in the heap of a search
-  abbrev pub held_by : NodeSearch T E P S X → List (Item T E P S X)
+  abbrev pub held_by : NodeSearch T E P S X O → List (Item T E P S X O)
   held_by s = items_of s.heap
 
-  abbrev pub waiting_of : NodeSearch T E P S X → List (RTreeNode T E P S X)
+  abbrev pub waiting_of : NodeSearch T E P S X O → List (RTreeNode T E P S X)
   waiting_of s = waiting_at s.stage s.root.now (held_by s)
 
-  abbrev pub calls_left : NodeSearch T E P S X → Count
+  abbrev pub calls_left : NodeSearch T E P S X O → Count
   calls_left s = at_most (calls_at s.stage s.root.now (held_by s))
 
 -- ---- what a search keeps, at the point with the coordinates p; scalars compare by `compare` and mean `value`
@@ -84,14 +109,20 @@ module _ {T E P S X : Type 0} (v : Boxes E) (d : Distances T) (p : List ℤ) whe
   IsFarKept root waiting = (n : RTreeNode T E P S X) (far : ℕ) → Contains waiting n → distance_of n ≤ far
       → all_far (λ e. v.distance_2 e p) far waiting ≡ far_of (λ e. v.distance_2 e p) far root
 
-  module _ (compare : S → S → Ordering) (value : S → ℤ) where
+  -- no node that waits is nearer than an element, and none at its distance comes before its leaf
+  abbrev pub ComesFirst : (RTreeNode T E P S X → RTreeNode T E P S X → Ordering) → List (RTreeNode T E P S X) → T → Type 0
+  ComesFirst ties waiting t = AllByRecursion (λ n. (d.distance_2 t p ≤ distance_of n)
+      × (distance_of n ≡ d.distance_2 t p → is_lt (ties n (Leaf t)) ≡ false)) waiting
+
+  module _ {O : Type 0} (compare : S → S → Ordering) (ties : RTreeNode T E P S X → RTreeNode T E P S X → Ordering)
+      (value : S → ℤ) where
     -- each waits at its own distance, and the heap is in order
-    pub record AreWaiting (heap : Held (Item T E P S X)) : Type 0 where
-      pub ordered : IsOrdered (flip_args (on (λ w. w.distance) compare)) heap
+    pub record AreWaiting (heap : Held (Item T E P S X O)) : Type 0 where
+      pub ordered : IsOrdered (nearest_on_top compare ties) heap
       pub at : AllByRecursion (λ w. value w.distance ≡ pos (distance_of w.node.now)) (items_of heap)
 
     -- a search on its way: these items wait of the root, of which so many parents were opened, nearest first
-    pub record IsRunning (o : Objects T E) (root : ParentNode T E P S X) (heap : Held (Item T E P S X)) (opened : ℕ)
+    pub record IsRunning (o : Objects T E) (root : ParentNode T E P S X) (heap : Held (Item T E P S X O)) (opened : ℕ)
         : Type 0 where
       pub waiting : AreWaiting heap
       pub parts : AreWholeNodes v o (waiting_nodes (items_of heap))
@@ -99,11 +130,11 @@ module _ {T E P S X : Type 0} (v : Boxes E) (d : Distances T) (p : List ℤ) whe
       pub still_far : IsFarKept root (waiting_nodes (items_of heap))
 
     -- what holds between two calls, until a refusal
-    abbrev pub IsReadyAt : Objects T E → Stage → ParentNode T E P S X → Held (Item T E P S X) → ℕ → Type 0
+    abbrev pub IsReadyAt : Objects T E → Stage → ParentNode T E P S X → Held (Item T E P S X O) → ℕ → Type 0
     IsReadyAt o Fresh root heap opened =
         IsWhole v o root × (items_of heap ≡ []) × (opened ≡ 0) × AreWaiting heap
     IsReadyAt o Running root heap opened = IsRunning o root heap opened
     IsReadyAt o Ended root heap opened = ⊤
 
-    abbrev pub IsReady : Objects T E → NodeSearch T E P S X → Type 0
+    abbrev pub IsReady : Objects T E → NodeSearch T E P S X O → Type 0
     IsReady o s = IsReadyAt o s.stage s.root.now s.heap s.opened

@@ -13,7 +13,7 @@ use Rattle.rstar.specs.declared.replay.Command.{Command}
 use Rattle.rstar.specs.declared.replay.Command.TheVariants as command
 use Rattle.rstar.specs.declared.replay.Reply.{Reply}
 use Rattle.rstar.specs.declared.replay.Reply.TheVariants as reply
-use Rattle.rstar.specs.Lists.{product, NoneSelected, NoneEmpty, IsNearest, AreInOrder}
+use Rattle.rstar.specs.Lists.{product, NoneSelected, NoneEmpty, AreOrdered, IsLeast, IsNoFarther}
 
 -- what a scan asks of elements, envelopes, points and scalars; distances are squared
 pub record Questions (T E P S : Type 0) : Type 0 where
@@ -47,10 +47,10 @@ abbrev pub TakesOne : {T : Type 0} → (T → Bool) → List T → Option T → 
 TakesOne test old None new = NoneSelected test old × IsPermutation old new
 TakesOne test old (Some x) new = (test x ≡ true) × IsPermutation old (x ∷ new)
 
--- one element than which none is nearer is taken out; none only where there is none
-abbrev pub TakesNearest : {T : Type 0} → (T → ℕ) → List T → Option T → List T → Type 0
-TakesNearest distance old None new = (old ≡ []) × IsPermutation old new
-TakesNearest distance old (Some x) new = IsNearest distance old x × IsPermutation old (x ∷ new)
+-- one element that no other has to stand before is taken out; none only where there is none
+abbrev pub TakesFirst : {T : Type 0} → (T → T → Type 0) → List T → Option T → List T → Type 0
+TakesFirst before old None new = (old ≡ []) × IsPermutation old new
+TakesFirst before old (Some x) new = IsLeast before old x × IsPermutation old (x ∷ new)
 
 -- n elements that pass the test are taken out, or all of them where there are fewer
 pub record TakesSome {T : Type 0} (test : T → Bool) (n : ℕ) (old taken new : List T) : Type 0 where
@@ -58,22 +58,40 @@ pub record TakesSome {T : Type 0} (test : T → Bool) (n : ℕ) (old taken new :
   pub selected : AllByRecursion (λ x. test x ≡ true) taken
   pub count : length taken ≡ min n (length (filter test old))
 
--- an element than which none is nearer, with its distance; none only where there is none
-abbrev pub IsNearestWith : {T S : Type 0} → (T → ℕ) → (S → ℤ) → List T → Option (T × S) → Type 0
-IsNearestWith distance value ts None = ts ≡ []
-IsNearestWith distance value ts (Some n) = IsNearest distance ts n.0 × (value n.1 ≡ pos (distance n.0))
+-- an element that no other has to stand before, with its distance; none only where there is none
+abbrev pub IsFirstWith : {T S : Type 0} → (T → T → Type 0) → (T → ℕ) → (S → ℤ) → List T → Option (T × S) → Type 0
+IsFirstWith before distance value ts None = ts ≡ []
+IsFirstWith before distance value ts (Some n) = IsLeast before ts n.0 × (value n.1 ≡ pos (distance n.0))
 
--- the first k of the elements, or all where there are fewer, in an order in which their distances never fall; each with
+-- the first k of the elements, or all where there are fewer, in an order that puts each where it may stand; each with
 -- its distance
-pub record AreFirst {T S : Type 0} (distance : T → ℕ) (value : S → ℤ) (k : ℕ) (ts : List T) (ns : List (T × S))
-    : Type 0 where
+pub record AreFirstWith {T S : Type 0} (before : T → T → Type 0) (distance : T → ℕ) (value : S → ℤ) (k : ℕ)
+    (ts : List T) (ns : List (T × S)) : Type 0 where
   pub order : List T
   pub bag : IsPermutation ts order
-  pub rising : AreInOrder distance order
+  pub rising : AreOrdered before order
   pub first : map (λ n. n.0) ns ≡ take k order
   pub distances : AllByRecursion (λ n. value n.1 ≡ pos (distance n.0)) ns
 
+-- by distance alone: an element than which none is nearer, and an order in which distances never fall
+abbrev pub TakesNearest : {T : Type 0} → (T → ℕ) → List T → Option T → List T → Type 0
+TakesNearest distance old found new = TakesFirst (IsNoFarther distance) old found new
+
+abbrev pub IsNearestWith : {T S : Type 0} → (T → ℕ) → (S → ℤ) → List T → Option (T × S) → Type 0
+IsNearestWith distance value ts found = IsFirstWith (IsNoFarther distance) distance value ts found
+
+abbrev pub AreNearestWith : {T S : Type 0} → (T → ℕ) → (S → ℤ) → ℕ → List T → List (T × S) → Type 0
+AreNearestWith distance value k ts ns = AreFirstWith (IsNoFarther distance) distance value k ts ns
+
 -- ---- commands and replies
+
+-- commands may be given these replies in turn, by what one step may do: from the old list, one step after another, to the
+-- new list
+abbrev pub RunBy : {T C R : Type 0} → (List T → C → R → List T → Type 0) → List T → List C → List R → List T → Type 0
+RunBy step old [] [] new = IsPermutation old new
+RunBy {T} step old (c ∷ cs) (r ∷ rs) new = (mid : List T) × step old c r mid × RunBy step mid cs rs new
+RunBy step old [] (r ∷ rs) new = ⊥
+RunBy step old (c ∷ cs) [] new = ⊥
 
 module _ {T E P S X : Type 0} (q : Questions T E P S) where
   -- whether a query selects an element
@@ -99,7 +117,7 @@ module _ {T E P S X : Type 0} (q : Questions T E P S) where
   Step old (command.Nearest p) (reply.Nearest found) new =
       IsNearestWith (λ x. q.distance_2 x p) q.value old found × IsPermutation old new
   Step old (command.Neighbours p k) (reply.Neighbours ns) new =
-      AreFirst (λ x. q.distance_2 x p) q.value k old ns.items × IsPermutation old new
+      AreNearestWith (λ x. q.distance_2 x p) q.value k old ns.items × IsPermutation old new
   Step old (command.Join list) (reply.Pairs ps) new =
       IsPermutation (filter (λ pair. q.intersects (q.box_of pair.0) (q.box_of pair.1)) (product old list.items)) ps.items
       × IsPermutation old new
@@ -118,10 +136,7 @@ module _ {T E P S X : Type 0} (q : Questions T E P S) where
 
   -- the commands may be given these replies in turn: from the old list, one step after another, to the new list
   abbrev pub Run : List T → List (Command T E P S X) → List (Reply T E P S X) → List T → Type 0
-  Run old [] [] new = IsPermutation old new
-  Run old (c ∷ cs) (r ∷ rs) new = (mid : List T) × Step old c r mid × Run mid cs rs new
-  Run old [] (r ∷ rs) new = ⊥
-  Run old (c ∷ cs) [] new = ⊥
+  Run = RunBy Step
 
   -- what is asked of a command: no element that it brings has an empty envelope, and loads have two dimensions
   abbrev pub IsFit : ℕ → Command T E P S X → Type 0

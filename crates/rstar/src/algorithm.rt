@@ -1,6 +1,7 @@
 //! The algorithms of the tree.
 
 pub mod bulk_load;
+pub(crate) mod gathering;
 pub mod nearest_neighbor;
 pub(crate) mod removal;
 pub mod rstar;

@@ -6,14 +6,17 @@ ghost use Rattle.rstar.specs.declared.replay.Reply.TheVariants.{TooMany};
 ghost use Rattle.rstar.specs.Clones.{ClonesEqual};
 ghost use Rattle.rstar.specs.Heights.{height_of, spare_lists};
 ghost use Rattle.rstar.specs.Steps.{Questions, questions_of, IsFit, IsInsertion, IsRefusal, Step, Run};
+ghost use Rattle.rstar.specs.StepsByOrder.{StepByOrder, RunByOrder};
 ghost use Rattle.rstar.specs.Trees.{root_of, size_of, elements_in, IsUnchanged, IsWholeTree};
 
 mod answers;
+mod by_order;
 mod changes;
 mod fits;
 
 use crate::rtree::RTree;
 use answers::{ask, contains, join, nearest, neighbours};
+use by_order::{first, first_ones, pop_first};
 use changes::{drain, insert, load, pop_nearest, remove, remove_at_point};
 pub use fits::{all_fit, is_fit};
 use rstar_base::envelope::Envelope;
@@ -151,6 +154,58 @@ pub fn replay<T: PointDistance + EqualEnvelopes + Clone, Params: RTreeParams>(
     let mut replies = Vec::with_capacity(*commands.allocator(), commands.len())?;
     for command in commands {
         replies.push_reserved(step(tree, command));
+    }
+    Ok(replies)
+}
+
+/// Runs one command as `step` does, with neighbours in one stated order, by distance and at equal distance by the
+/// elements' own order: see `StepByOrder`. Distances are squared.
+///
+/// `PopNearest` takes the first element in that order out, `Nearest` answers with the first and `Neighbours` with the
+/// first so many, so that elements which the order tells apart leave one reply alone. Every other command is run by
+/// `step`. What is asked of a command, its refusals and its cost are those of `step`; a reply by order is one that `step`
+/// may give.
+pub fn step_by_order<T: PointDistance + EqualEnvelopes + Clone + Ord, Params: RTreeParams>(
+    tree: &mut RTree<T, Params>,
+    command: Command<T>,
+) -> Reply<T>
+    requires whole { IsWholeTree T.Envelope.boxes T.object Params.MAX_SIZE tree.old }
+    requires clones { ClonesEqual T.is_clone }
+    requires fit { IsFit ⟦<T as Scanned>⟧.questions T.Envelope.Point.DIMENSIONS command }
+    ensures step { StepByOrder ⟦<T as Scanned>⟧.questions T.cmp (elements_in tree.old) command result (elements_in tree.new) }
+    ensures first_reading { Step ⟦<T as Scanned>⟧.questions (elements_in tree.old) command result (elements_in tree.new) }
+    ensures whole { IsWholeTree T.Envelope.boxes T.object Params.MAX_SIZE tree.new }
+    ensures refused { IsRefusal result → IsUnchanged tree.old tree.new }
+    ensures too_many { (result ≡ TooMany) ↔ (IsInsertion command × ((size_of tree.old ≡ usize.MAX)
+        ⊎ (usize.MAX < spare_lists Params.REINSERTION_COUNT (height_of (root_of tree.old))))) }
+{
+    match command {
+        Command::PopNearest(point) => pop_first(tree, point),
+        Command::Nearest(point) => first(tree, point),
+        Command::Neighbours(point, most) => first_ones(tree, point, most),
+        other => step(tree, other),
+    }
+}
+
+/// Runs commands in order, each as `step_by_order` does, and gives their replies: see `RunByOrder`. They are replies
+/// that `replay` may give.
+///
+/// It reserves the list of replies first. An error means that the allocator refused it, and that no command was run.
+pub fn replay_by_order<T: PointDistance + EqualEnvelopes + Clone + Ord, Params: RTreeParams>(
+    tree: &mut RTree<T, Params>,
+    commands: Vec<Command<T>>,
+) -> Result<Vec<Reply<T>>, AllocError>
+    requires whole { IsWholeTree T.Envelope.boxes T.object Params.MAX_SIZE tree.old }
+    requires clones { ClonesEqual T.is_clone }
+    requires fit { AllByRecursion (IsFit ⟦<T as Scanned>⟧.questions T.Envelope.Point.DIMENSIONS) commands.items }
+    ensures run { IfOk result (λ replies. RunByOrder ⟦<T as Scanned>⟧.questions T.cmp (elements_in tree.old) commands.items replies.items (elements_in tree.new)) }
+    ensures first_reading { IfOk result (λ replies. Run ⟦<T as Scanned>⟧.questions (elements_in tree.old) commands.items replies.items (elements_in tree.new)) }
+    ensures none_run { OnErr result (tree.new ≡ tree.old) }
+    ensures whole { IsWholeTree T.Envelope.boxes T.object Params.MAX_SIZE tree.new }
+{
+    let mut replies = Vec::with_capacity(*commands.allocator(), commands.len())?;
+    for command in commands {
+        replies.push_reserved(step_by_order(tree, command));
     }
     Ok(replies)
 }

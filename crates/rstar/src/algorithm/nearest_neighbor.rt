@@ -6,12 +6,15 @@ ghost use Rattle.rstar.specs.Nodes.{elements_of, envelope_of, IsWhole};
 ghost use Rattle.rstar.specs.Lists.{IsNearest, AreSomeNearest};
 ghost use Rattle.rstar.specs.Neighbors.{with_distances, search_of, neighbors_left, IsSearching, HasBegun, GivesElement, GivesWithDistance};
 
+mod by_order;
 mod firsts;
 mod pruned;
 mod search;
 mod ties;
+mod waiting;
 
 use crate::node::{ParentNode, RTreeNode};
+pub use by_order::{NearestNeighborByOrderIterator, NeighborsByOrder};
 pub(crate) use firsts::first_nearest;
 pub(crate) use pruned::one_nearest;
 use rstar_base::envelope::Envelope;
@@ -21,6 +24,7 @@ use rstar_base::point::{Point, RTreeNum};
 use search::NeighborSearch;
 use std::alloc::AllocError;
 pub(crate) use ties::all_nearest;
+pub(crate) use waiting::{AnyFirst, ParentsFirst};
 
 /// The elements of a tree with their squared distances to a point, the nearest first, and then `None`.
 ///
@@ -39,7 +43,7 @@ pub type NearestNeighborDistance2Iterator<'a, T> = NeighborsWithDistance<
 /// What a `NearestNeighborDistance2Iterator` is, by the types that it holds: a root's, a node's, a scalar's, a point's.
 #[derive(Drop)]
 pub struct NeighborsWithDistance<'a, R, N, S, P> {
-    search: NeighborSearch<'a, R, N, S>,
+    search: NeighborSearch<'a, R, N, S, AnyFirst>,
     point: P,
 }
 
@@ -104,10 +108,12 @@ pub type NearestNeighborIterator<'a, T> = Neighbors<
     PointOf<T>,
 >;
 
-/// What a `NearestNeighborIterator` is, by the types that it holds.
+/// What a `NearestNeighborIterator` is, by the types that it holds. (It has what `NeighborsWithDistance` has, and not one of
+/// those: how much room that takes would have to be shown again wherever one is made, asked or dropped.)
 #[derive(Drop)]
 pub struct Neighbors<'a, R, N, S, P> {
-    with_distances: NeighborsWithDistance<'a, R, N, S, P>,
+    search: NeighborSearch<'a, R, N, S, AnyFirst>,
+    point: P,
 }
 
 impl<'a, T: PointDistance> Neighbors<'a, ParentNode<T>, RTreeNode<T>, Distance<T>, PointOf<T>> {
@@ -119,7 +125,8 @@ impl<'a, T: PointDistance> Neighbors<'a, ParentNode<T>, RTreeNode<T>, Distance<T
             T.Envelope.Point.coord T.Envelope.Point.Scalar.cmp T.Envelope.Point.Scalar.value (with_distances result) }
     {
         Neighbors {
-            with_distances: NeighborsWithDistance::new(root, point),
+            search: NeighborSearch::new(root),
+            point,
         }
     }
 
@@ -128,7 +135,7 @@ impl<'a, T: PointDistance> Neighbors<'a, ParentNode<T>, RTreeNode<T>, Distance<T
     pub fn opened(&self) -> usize
         ensures { result ≡ (search_of (with_distances self.now)).opened }
     {
-        self.with_distances.search.opened
+        self.search.opened
     }
 }
 
@@ -144,8 +151,9 @@ impl<'a, T: PointDistance> Iterator
 
     ghost remaining = { λ it. neighbors_left (with_distances it) };
 
+    #[tactic(auto, unfolding(crate::specs::Neighbors::IsSearching))]
     fn next(&mut self) -> Option<Self::Item> {
-        match self.with_distances.next() {
+        match self.search.next_neighbor(&self.point) {
             None => None,
             Some(found) => match found {
                 Ok((t, _distance)) => Some(Ok(t)),

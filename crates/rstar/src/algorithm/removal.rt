@@ -13,6 +13,8 @@ ghost use Rattle.rstar.specs.Taking.{IsMerged, IsRest, IsRestAt, Takes, TakesIns
 ghost use Rattle.rstar.specs.Taking.{with_first, first_number, lower_numbers};
 ghost use Rattle.rstar.specs.Taking.{is_selected_leaf, is_a_leaf, is_childless};
 
+pub(crate) mod earliest;
+
 use crate::node::{ParentNode, RTreeNode, envelope_for_children};
 use rstar_base::algorithm::selection_functions::SelectionFunction;
 use rstar_base::envelope::Envelope;
@@ -212,7 +214,10 @@ fn take_inside<T: RTreeObject, R: SelectionFunction<T>>(
 }
 
 /// Whether the node is a leaf that is selected.
-fn is_selected_leaf<T: RTreeObject, R: SelectionFunction<T>>(node: &RTreeNode<T>, func: &R) -> bool
+pub(super) fn is_selected_leaf<T: RTreeObject, R: SelectionFunction<T>>(
+    node: &RTreeNode<T>,
+    func: &R,
+) -> bool
     ensures { result ≡ is_selected_leaf (R.selects func.now) node.now }
 {
     match node {
@@ -222,7 +227,7 @@ fn is_selected_leaf<T: RTreeObject, R: SelectionFunction<T>>(node: &RTreeNode<T>
 }
 
 /// Whether the node is a parent without children.
-fn is_childless<T: RTreeObject>(node: &RTreeNode<T>) -> bool
+pub(super) fn is_childless<T: RTreeObject>(node: &RTreeNode<T>) -> bool
     ensures { result ≡ is_childless node.now }
 {
     match node {
@@ -239,7 +244,15 @@ fn take_leaf<T: RTreeObject>(children: &mut Vec<RTreeNode<T>>, index: usize) -> 
     ensures items { children.new.items ≡ remove children.old.items index }
     ensures capacity { vec_capacity children.new ≡ vec_capacity children.old }
 {
-    match children.remove(index) {
+    element_of(children.remove(index))
+}
+
+/// The element of a leaf.
+pub(super) fn element_of<T: RTreeObject>(leaf: RTreeNode<T>) -> T
+    requires { is_a_leaf leaf ≡ true }
+    ensures { Leaf result ≡ leaf }
+{
+    match leaf {
         RTreeNode::Leaf(t) => t,
         RTreeNode::Parent(_) => unreachable!(),
     }

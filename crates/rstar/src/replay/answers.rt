@@ -1,6 +1,6 @@
 //! Commands that leave a tree.
 
-ghost use Rattle.std.specs.Prelude.{◌≡◌, ◌≤◌, filter, IfOk};
+ghost use Rattle.std.specs.Prelude.{◌≡◌, ◌≤◌, filter, map, IfOk};
 ghost use Rattle.std.specs.List.Sorted.{IsPermutation};
 ghost use Rattle.rstar_base.specs.Points.{table};
 ghost use Rattle.rstar_base.specs.Selections.{IsLawful};
@@ -8,7 +8,7 @@ ghost use Rattle.rstar.specs.declared.replay.Command.TheVariants.{Ask, Contains,
 ghost use Rattle.rstar.specs.Clones.{ClonesEqual};
 ghost use Rattle.rstar.specs.Joins.{join};
 ghost use Rattle.rstar.specs.Lists.{NoneEmpty};
-ghost use Rattle.rstar.specs.Steps.{selects, IsNearestWith, AreFirst, Step};
+ghost use Rattle.rstar.specs.Steps.{selects, IsNearestWith, AreNearestWith, Step};
 ghost use Rattle.rstar.specs.Trees.{elements_in, IsWholeTree};
 
 use crate::replay::{Query, Reply, Scanned};
@@ -149,12 +149,21 @@ fn first_clones<T: PointDistance + Clone, Params: RTreeParams>(
 ) -> Result<Vec<(T, Distance<T>)>, AllocError>
     requires whole { IsWholeTree T.Envelope.boxes T.object Params.MAX_SIZE tree.now }
     requires clones { ClonesEqual T.is_clone }
-    ensures { IfOk result (λ found. AreFirst (λ t. T.distances.distance_2 t
+    ensures { IfOk result (λ found. AreNearestWith (λ t. T.distances.distance_2 t
         (table T.Envelope.Point.DIMENSIONS (T.Envelope.Point.coord point.now))) T.Envelope.Point.Scalar.value most
         (elements_in tree.now) found.items) }
 {
-    let lent = tree.first_neighbors(point, most)?;
-    let mut found = Vec::with_capacity(*tree.root().children.allocator(), lent.len())?;
+    clones_of_lent(&tree.first_neighbors(point, most)?)
+}
+
+/// The clones of elements that are lent, each with its distance.
+pub(super) fn clones_of_lent<T: PointDistance + Clone>(
+    lent: &Vec<(&T, Distance<T>)>,
+) -> Result<Vec<(T, Distance<T>)>, AllocError>
+    requires { ClonesEqual T.is_clone }
+    ensures { IfOk result (λ found. found.items ≡ map (λ n. (n.0.now, n.1)) lent.now.items) }
+{
+    let mut found = Vec::with_capacity(*lent.allocator(), lent.len())?;
     for place in 0..lent.len() {
         let near = &lent[place];
         found.push((near.0.clone()?, near.1))?;

@@ -1,18 +1,14 @@
 //! Commands that change a tree.
 
-ghost use Rattle.std.specs.Prelude.{◌≡◌, ◌<◌, ◌≤◌, ◌↔◌, ◌⊎◌, ◌++◌, [], true, false, length, IfOk, OnErr, vec_capacity};
-ghost use Rattle.std.specs.List.{AllByRecursion};
-ghost use Rattle.std.specs.List.Sorted.{IsPermutation};
+ghost use Rattle.std.specs.Prelude.{◌≡◌, ◌<◌, ◌≤◌, ◌↔◌, ◌⊎◌, false, IfOk, OnErr};
 ghost use Rattle.rstar_base.specs.Selections.{IsLawful};
 ghost use Rattle.rstar.specs.declared.replay.Command.TheVariants.{Load, Insert, Remove, RemoveAtPoint, PopNearest, Drain};
 ghost use Rattle.rstar.specs.declared.replay.Reply.TheVariants.{TooMany};
-ghost use Rattle.rstar.specs.Drains.{drained, drain_question, left_in_tree, IsDraining};
 ghost use Rattle.rstar.specs.Heights.{height_of, spare_lists};
-ghost use Rattle.rstar.specs.Lists.{NoneSelected, NoneEmpty};
+ghost use Rattle.rstar.specs.Lists.{NoneEmpty};
 ghost use Rattle.rstar.specs.Steps.{selects, IsRefusal, TakesSome, Step};
 ghost use Rattle.rstar.specs.Trees.{root_of, size_of, elements_in, IsUnchanged, IsWholeTree};
 
-use crate::iterators::DrainIterator;
 use crate::params::InsertCause;
 use crate::replay::{Query, Reply, Scanned};
 use crate::rtree::RTree;
@@ -173,36 +169,7 @@ fn drain_some<T: RTreeObject, R: SelectionFunction<T>, Params: RTreeParams>(
 {
     let room = most.min(tree.size());
     let mut taken = Vec::with_capacity(*tree.root().children.allocator(), room)?;
-    let mut drain = tree.drain_with_selection_function(func)?;
-    take_up_to(&mut drain, room, &mut taken);
+    tree.gather(&func, room, &mut taken);
     taken.shrink_to_fit();
     Ok(taken)
-}
-
-/// Takes so many elements into a list that has room, or all that are selected.
-#[tactic(auto, unfolding(crate::specs::Drains::IsDraining))]
-fn take_up_to<T: RTreeObject, R: SelectionFunction<T>, Params: RTreeParams>(
-    drain: &mut DrainIterator<'_, T, R, Params>,
-    most: usize,
-    taken: &mut Vec<T>,
-)
-    requires draining { IsDraining T.Envelope.boxes T.object Params.MAX_SIZE R.accepts R.selects drain.old }
-    requires lawful { IsLawful T.Envelope.boxes T.object
-        (R.accepts (drain_question drain.old)) (R.selects (drain_question drain.old)) }
-    requires none { taken.old.items ≡ [] }
-    requires room { most ≤ vec_capacity taken.old }
-    ensures same { drain.new.tree.ghost_name ≡ drain.old.tree.ghost_name }
-    ensures whole { IsWholeTree T.Envelope.boxes T.object Params.MAX_SIZE (drained drain.new) }
-    ensures bag { IsPermutation (left_in_tree drain.old) (taken.new.items ++ left_in_tree drain.new) }
-    ensures selected { AllByRecursion (λ t. R.selects (drain_question drain.old) t ≡ true) taken.new.items }
-    ensures few { length taken.new.items ≤ most }
-    ensures ended { length taken.new.items < most
-        → NoneSelected (R.selects (drain_question drain.old)) (left_in_tree drain.new) }
-{
-    for _turn in 0..most {
-        let Some(t) = drain.next() else {
-            return;
-        };
-        taken.push_reserved(t);
-    }
 }

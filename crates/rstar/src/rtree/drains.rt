@@ -1,13 +1,17 @@
 //! Drains, and a tree taken apart.
 
-ghost use Rattle.std.specs.Prelude.{◌≡◌, true, pos, int_le, IfOk, IfErr};
+ghost use Rattle.std.specs.Prelude.{◌≡◌, ◌<◌, ◌≤◌, true, pos, int_le, length, vec_capacity, IfOk, IfErr};
 ghost use Rattle.std.specs.Borrow.{sem};
 ghost use Rattle.std.specs.List.Sorted.{IsPermutation};
 ghost use Rattle.rstar_base.specs.Points.{table};
+ghost use Rattle.rstar_base.specs.Selections.{IsLawful};
 ghost use Rattle.rstar.specs.Drains.{drained, drain_question, DrainsBy, IsDraining, LeavesRefused};
+ghost use Rattle.rstar.specs.Gathering.{Gathers};
 ghost use Rattle.rstar.specs.IntoIters.{left_to_give, IsGiving};
+ghost use Rattle.rstar.specs.Lists.{NoneSelected};
 ghost use Rattle.rstar.specs.Trees.{elements_in, IsWholeTree};
 
+use crate::algorithm::gathering::gather_below;
 use crate::iterators::{DrainIterator, IntoIter};
 use crate::rtree::RTree;
 use rstar_base::algorithm::selection_functions::{
@@ -108,6 +112,36 @@ impl<T: RTreeObject, Params: RTreeParams> RTree<T, Params> {
         let alloc = *self.root.children.allocator();
         let path = vec![in alloc; 0; self.levels.saturating_add(1)]?;
         Ok(DrainIterator::new(self, func, path))
+    }
+}
+
+impl<T: RTreeObject, Params: RTreeParams> RTree<T, Params> {
+    /// Moves elements that a function selects to the end of a list, until the list holds `most` of them or none is
+    /// left. A function that is not lawful may miss some.
+    ///
+    /// It is one pass over the parents that the function accepts, and takes no memory.
+    pub(crate) fn gather<R: SelectionFunction<T>>(
+        &mut self,
+        func: &R,
+        most: usize,
+        taken: &mut Vec<T>,
+    )
+        requires whole { IsWholeTree T.Envelope.boxes T.object Params.MAX_SIZE self.old }
+        requires room { most ≤ vec_capacity taken.old }
+        ensures moved { Gathers (R.selects func.now) most (elements_in self.old) taken.old.items (elements_in self.new) taken.new.items }
+        ensures ended { IsLawful T.Envelope.boxes T.object (R.accepts func.now) (R.selects func.now)
+            → length taken.new.items < most → NoneSelected (R.selects func.now) (elements_in self.new) }
+        ensures whole { IsWholeTree T.Envelope.boxes T.object Params.MAX_SIZE self.new }
+    {
+        if self.root.children.is_empty() || !func.should_unpack_parent(&self.root.envelope) {
+            return;
+        }
+        let before = taken.len();
+        gather_below(&mut self.root, func, most, taken);
+        self.size -= taken.len() - before;
+        if self.root.children.is_empty() {
+            self.levels = 0;
+        }
     }
 }
 

@@ -4,13 +4,16 @@ ghost use Rattle.std.specs.Prelude.{◌≡◌, ◌+◌, ◌≤◌, ℕ, [], ◌�
 ghost use Rattle.std.specs.List.{AllByRecursion};
 ghost use Rattle.std.specs.List.Sorted.{IsPermutation};
 ghost use Rattle.rstar_base.specs.Points.{table};
+ghost use Rattle.rstar.specs.ByOrder.{search_by_order, IsSearchingByOrder};
 ghost use Rattle.rstar.specs.Lists.{IsNearest, AreNearest, AreSomeNearest, AreNearestOf};
+ghost use Rattle.rstar.specs.Lists.{IsLeast, IsNotLater, AreFirstOf};
 ghost use Rattle.rstar.specs.Neighbors.{with_distances, search_of, IsSearching, HasBegun};
 ghost use Rattle.rstar.specs.Nodes.{envelope_of};
 ghost use Rattle.rstar.specs.Trees.{root_of, size_of, elements_in, IsWholeTree};
 
 use crate::algorithm::nearest_neighbor::{
-    NearestNeighborDistance2Iterator, NearestNeighborIterator, Neighbors, NeighborsWithDistance,
+    AnyFirst, NearestNeighborByOrderIterator, NearestNeighborDistance2Iterator,
+    NearestNeighborIterator, Neighbors, NeighborsByOrder, NeighborsWithDistance, ParentsFirst,
     all_nearest, first_nearest, nearest_neighbor_with_distance_2, one_nearest,
 };
 use crate::rtree::RTree;
@@ -195,6 +198,82 @@ impl<T: PointDistance, Params: RTreeParams> RTree<T, Params> {
             ≡ pos (T.distances.distance_2 n.0.now
             (table T.Envelope.Point.DIMENSIONS (T.Envelope.Point.coord point.now)))) found.items) }
     {
-        first_nearest(&self.root, point, most, most.min(self.size))
+        first_nearest::<T, AnyFirst>(&self.root, point, most, most.min(self.size))
+    }
+}
+
+impl<T: PointDistance + Ord, Params: RTreeParams> RTree<T, Params> {
+    /// All elements with their squared distances in one stated order: the nearest to a point first, and at equal
+    /// distance the least by their own order. It is one order, up to elements that compare equal.
+    ///
+    /// Making it takes no memory and opens nothing; `next` may be refused.
+    #[tactic(auto, unfolding(crate::specs::Trees::IsWholeTree))]
+    pub fn nearest_neighbor_iter_by_order(
+        &self,
+        point: PointOf<T>,
+    ) -> NearestNeighborByOrderIterator<'_, T>
+        requires { IsWholeTree T.Envelope.boxes T.object Params.MAX_SIZE self.now }
+        ensures begun { HasBegun (root_of self.now) point (search_by_order result) }
+        ensures searching { IsSearchingByOrder T.Envelope.boxes T.object T.distances T.cmp T.Envelope.Point.DIMENSIONS
+            T.Envelope.Point.coord T.Envelope.Point.Scalar.cmp T.Envelope.Point.Scalar.value result }
+    {
+        NeighborsByOrder::new(&self.root, point)
+    }
+
+    /// So many elements with their squared distances, the first in the stated order of
+    /// `nearest_neighbor_iter_by_order`; all where there are fewer.
+    ///
+    /// It costs what that iterator costs for as many. Its list takes memory once, for no more elements than the tree
+    /// has, however many are asked for. It is refused where the allocator refuses the list or what waits.
+    #[tactic(auto, unfolding(crate::specs::Trees::IsWholeTree))]
+    pub fn first_neighbors_by_order(
+        &self,
+        point: &PointOf<T>,
+        most: usize,
+    ) -> Result<Vec<(&T, Distance<T>)>, AllocError>
+        requires { IsWholeTree T.Envelope.boxes T.object Params.MAX_SIZE self.now }
+        ensures first { IfOk result (λ found. AreFirstOf (IsNotLater (λ t. T.distances.distance_2 t
+            (table T.Envelope.Point.DIMENSIONS (T.Envelope.Point.coord point.now))) T.cmp) (elements_in self.now) most
+            (map (λ n. n.0.now) found.items)) }
+        ensures distances { IfOk result (λ found. AllByRecursion (λ n. T.Envelope.Point.Scalar.value n.1
+            ≡ pos (T.distances.distance_2 n.0.now
+            (table T.Envelope.Point.DIMENSIONS (T.Envelope.Point.coord point.now)))) found.items) }
+    {
+        first_nearest::<T, ParentsFirst>(&self.root, point, most, most.min(self.size))
+    }
+}
+
+impl<T: PointDistance + Ord, Params: RTreeParams> RTree<T, Params> {
+    /// Takes the element out that comes first in the stated order, by squared distance to a point and at equal distance
+    /// by `Ord`, and gives it; `None`, with the tree as it was, exactly where the tree is empty. Of several that compare
+    /// as equal it takes one.
+    ///
+    /// It finds the least distance as `nearest_neighbor` does. That search takes memory where more than 32 nodes wait,
+    /// and is refused where the allocator refuses that; the tree is then left. The taking takes none: it goes down one
+    /// path, at each level of which it reads once the parents below that are within the least distance.
+    #[tactic(auto, unfolding(crate::specs::Trees::IsWholeTree))]
+    pub fn pop_nearest_neighbor_by_order(
+        &mut self,
+        point: PointOf<T>,
+    ) -> Result<Option<T>, AllocError>
+        requires { IsWholeTree T.Envelope.boxes T.object Params.MAX_SIZE self.old }
+        ensures taken { IfOk result (λ r. IfSome r (λ t. IsPermutation (elements_in self.old)
+            (t ∷ elements_in self.new))) }
+        ensures counted { IfOk result (λ r. IfSome r (λ _. size_of self.old ≡ size_of self.new + 1)) }
+        ensures first { IfOk result (λ r. IfSome r (λ t. IsLeast (IsNotLater (λ t. T.distances.distance_2 t
+            (table T.Envelope.Point.DIMENSIONS (T.Envelope.Point.coord point))) T.cmp) (elements_in self.old) t)) }
+        ensures none { IfOk result (λ r. IfNone r (elements_in self.old ≡ [])) }
+        ensures kept { IfOk result (λ r. IfNone r (self.new ≡ self.old)) }
+        ensures refused { OnErr result (self.new ≡ self.old) }
+        ensures whole { IsWholeTree T.Envelope.boxes T.object Params.MAX_SIZE self.new }
+    {
+        match one_nearest(&self.root, &point)? {
+            Some(found) => {
+                let distance_2 = found.1;
+                let func = SelectWithinDistanceFunction::new(point, distance_2);
+                Ok(self.take_earliest(&func))
+            }
+            None => Ok(None),
+        }
     }
 }

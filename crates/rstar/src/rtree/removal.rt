@@ -1,14 +1,17 @@
 //! Removals.
 
-ghost use Rattle.std.specs.Prelude.{◌≡◌, ◌∷◌, ◌+◌, true, false, IfSome, IfNone};
+ghost use Rattle.std.specs.Prelude.{◌≡◌, [], ◌∷◌, ◌+◌, true, false, None, IfSome, IfNone};
 ghost use Rattle.std.specs.List.{list_any};
 ghost use Rattle.std.specs.List.Sorted.{IsPermutation};
 ghost use Rattle.rstar_base.specs.Points.{table};
 ghost use Rattle.rstar_base.specs.Selections.{IsLawful};
+ghost use Rattle.rstar.specs.Earliest.{earliest};
 ghost use Rattle.rstar.specs.Lists.{NoneSelected};
+ghost use Rattle.rstar.specs.Nodes.{given_of};
 ghost use Rattle.rstar.specs.Taking.{Removes};
-ghost use Rattle.rstar.specs.Trees.{size_of, elements_in, IsWholeTree};
+ghost use Rattle.rstar.specs.Trees.{root_of, size_of, elements_in, IsWholeTree};
 
+use crate::algorithm::removal::earliest::take_earliest;
 use crate::algorithm::removal::{Rest, take_below};
 use crate::rtree::RTree;
 use rstar_base::algorithm::selection_functions::{
@@ -24,7 +27,8 @@ impl<T: RTreeObject, Params: RTreeParams> RTree<T, Params> {
     /// none. A function that is not lawful may miss some.
     ///
     /// It opens the parents that the function accepts until it finds an element. The envelopes above it are made anew
-    /// from the children, and a parent that lost its last child is dropped; nodes are never merged. It takes no memory.
+    /// from the children, as far up as one changes, and a parent that lost its last child is dropped; nodes are never
+    /// merged. It takes no memory.
     pub fn remove_with_selection_function<R: SelectionFunction<T>>(&mut self, func: R) -> Option<T>
         requires { IsWholeTree T.Envelope.boxes T.object Params.MAX_SIZE self.old }
         ensures taken { IfSome result (λ x. IsPermutation (elements_in self.old) (x ∷ elements_in self.new)) }
@@ -57,6 +61,32 @@ impl<T: RTreeObject, Params: RTreeParams> RTree<T, Params> {
             return None;
         }
         let taken = take_below(&mut self.root, path, rest, &mut false, func);
+        if taken.is_some() {
+            self.size -= 1;
+            if self.root.children.is_empty() {
+                self.levels = 0;
+            }
+        }
+        taken
+    }
+}
+
+impl<T: RTreeObject + Ord, Params: RTreeParams> RTree<T, Params> {
+    /// Takes the earliest, by `Ord`, of the elements that a walk gives out, where there is one.
+    ///
+    /// It takes no memory. At each level it reads once what the function accepts below one node.
+    #[tactic(auto, unfolding(crate::specs::Trees::IsWholeTree))]
+    pub(crate) fn take_earliest<R: SelectionFunction<T>>(&mut self, func: &R) -> Option<T>
+        requires { IsWholeTree T.Envelope.boxes T.object Params.MAX_SIZE self.old }
+        ensures removes { Removes T.Envelope.boxes T.object Params.MAX_SIZE (R.accepts func.now) (R.selects func.now)
+            self.old [] None result self.new [] None }
+        ensures first { result ≡ earliest T.cmp
+            (given_of (R.accepts func.now) (R.selects func.now) (root_of self.old)) }
+    {
+        if self.root.children.is_empty() || !func.should_unpack_parent(&self.root.envelope) {
+            return None;
+        }
+        let taken = take_earliest(&mut self.root, &mut false, func);
         if taken.is_some() {
             self.size -= 1;
             if self.root.children.is_empty() {

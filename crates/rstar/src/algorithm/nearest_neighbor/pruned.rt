@@ -2,22 +2,23 @@
 
 ghost use Rattle.std.specs.Prelude.{◌≡◌, ◌≤◌, ◌+◌, ◌++◌, [], ◌∷◌, List, pos, OnOk, IfOk, IfSome, IfNone, MatchOption};
 ghost use Rattle.std.specs.Int.{int_min};
-ghost use Rattle.std.specs.Ordering.{on, flip_args};
 ghost use Rattle.rstar_base.specs.Points.{table, IsPoint};
 ghost use Rattle.rstar_base.specs.SmallHeaps.{items_of, IsOrdered};
 ghost use Rattle.rstar.specs.declared.node.RTreeNode.{RTreeNode};
 ghost use Rattle.rstar.specs.Lists.{IsNearest};
 ghost use Rattle.rstar.specs.Nodes.{all_parents, elements_of, envelope_of, parents, node_box, IsWhole};
 ghost use Rattle.rstar.specs.Pruned.{IsAbove, IsPruned};
-ghost use Rattle.rstar.specs.Searches.{waiting_nodes, distance_of, AreWaiting};
+ghost use Rattle.rstar.specs.Searches.{any_first, nearest_on_top, waiting_nodes, distance_of, AreWaiting};
 
-use crate::algorithm::nearest_neighbor::search::{Heap, Waiting, distance_to, fits};
+use crate::algorithm::nearest_neighbor::search::{Heap, distance_to, fits};
+use crate::algorithm::nearest_neighbor::waiting::{AnyFirst, Waiting};
 use crate::node::{ParentNode, RTreeNode};
 use rstar_base::envelope::Envelope;
 use rstar_base::heap::SmallHeap;
 use rstar_base::object::{Distance, PointDistance, PointOf, RTreeObject, up_to};
 use rstar_base::point::{Point, RTreeNum, known, least};
 use std::alloc::AllocError;
+use std::marker::PhantomData;
 
 /// An element of least squared distance to a point, with that distance; `None` exactly where there is no element.
 pub(crate) fn one_nearest<'a, T: PointDistance>(
@@ -43,7 +44,7 @@ pub(crate) fn one_nearest<'a, T: PointDistance>(
     // Does nothing but tell that the point's coordinates are in their range.
     known(point);
     fits::<Distance<T>>();
-    let mut heap: Heap<'a, T> = SmallHeap::new(*root.children.allocator());
+    let mut heap: Heap<'a, T, AnyFirst> = SmallHeap::new(*root.children.allocator());
     let mut bound = open_within(&mut heap, &root.children, point, None)?;
     while let Some(current) = heap.pop() {
         match current.node {
@@ -103,20 +104,20 @@ fn lowered<S: RTreeNum>(bound: Option<S>, reach: S) -> S
 
 /// Lets a node wait that does not lie above the bound, and gives the bound that it leaves.
 fn offer<'a, T: PointDistance>(
-    heap: &mut Heap<'a, T>,
+    heap: &mut Heap<'a, T, AnyFirst>,
     node: &'a RTreeNode<T>,
     point: &PointOf<T>,
     bound: Option<Distance<T>>,
 ) -> Result<Option<Distance<T>>, AllocError>
     requires point { IsPoint T.Envelope.Point.Scalar.low T.Envelope.Point.Scalar.high T.Envelope.Point.DIMENSIONS
         (table T.Envelope.Point.DIMENSIONS (T.Envelope.Point.coord point.now)) }
-    requires ordered { IsOrdered (flip_args (on (λ w. w.distance) T.Envelope.Point.Scalar.cmp)) heap.old }
-    ensures ordered { IsOrdered (flip_args (on (λ w. w.distance) T.Envelope.Point.Scalar.cmp)) heap.new }
+    requires ordered { IsOrdered (nearest_on_top T.Envelope.Point.Scalar.cmp any_first) heap.old }
+    ensures ordered { IsOrdered (nearest_on_top T.Envelope.Point.Scalar.cmp any_first) heap.new }
     ensures waiting { AreWaiting T.Envelope.boxes T.distances
-        (table T.Envelope.Point.DIMENSIONS (T.Envelope.Point.coord point.now)) T.Envelope.Point.Scalar.cmp
+        (table T.Envelope.Point.DIMENSIONS (T.Envelope.Point.coord point.now)) T.Envelope.Point.Scalar.cmp any_first
         T.Envelope.Point.Scalar.value heap.old
         → AreWaiting T.Envelope.boxes T.distances
-        (table T.Envelope.Point.DIMENSIONS (T.Envelope.Point.coord point.now)) T.Envelope.Point.Scalar.cmp
+        (table T.Envelope.Point.DIMENSIONS (T.Envelope.Point.coord point.now)) T.Envelope.Point.Scalar.cmp any_first
         T.Envelope.Point.Scalar.value heap.new }
     ensures fewer { OnOk result (all_parents (waiting_nodes (items_of heap.new))
         ≤ all_parents (waiting_nodes (items_of heap.old)) + parents node.now) }
@@ -134,7 +135,11 @@ fn offer<'a, T: PointDistance>(
         return Ok(bound);
     };
     let reach = reach_of(node, point);
-    if let Err(_refused) = heap.push(Waiting { node, distance }) {
+    if let Err(_refused) = heap.push(Waiting {
+        node,
+        distance,
+        ties: PhantomData,
+    }) {
         return Err(AllocError);
     }
     Ok(Some(lowered(bound, reach)))
@@ -142,19 +147,19 @@ fn offer<'a, T: PointDistance>(
 
 /// Lets the nodes wait that do not lie above the bound, and gives the bound that they leave.
 fn open_within<'a, T: PointDistance>(
-    heap: &mut Heap<'a, T>,
+    heap: &mut Heap<'a, T, AnyFirst>,
     children: &'a [RTreeNode<T>],
     point: &PointOf<T>,
     bound: Option<Distance<T>>,
 ) -> Result<Option<Distance<T>>, AllocError>
     requires point { IsPoint T.Envelope.Point.Scalar.low T.Envelope.Point.Scalar.high T.Envelope.Point.DIMENSIONS
         (table T.Envelope.Point.DIMENSIONS (T.Envelope.Point.coord point.now)) }
-    requires ordered { IsOrdered (flip_args (on (λ w. w.distance) T.Envelope.Point.Scalar.cmp)) heap.old }
+    requires ordered { IsOrdered (nearest_on_top T.Envelope.Point.Scalar.cmp any_first) heap.old }
     ensures waiting { AreWaiting T.Envelope.boxes T.distances
-        (table T.Envelope.Point.DIMENSIONS (T.Envelope.Point.coord point.now)) T.Envelope.Point.Scalar.cmp
+        (table T.Envelope.Point.DIMENSIONS (T.Envelope.Point.coord point.now)) T.Envelope.Point.Scalar.cmp any_first
         T.Envelope.Point.Scalar.value heap.old
         → AreWaiting T.Envelope.boxes T.distances
-        (table T.Envelope.Point.DIMENSIONS (T.Envelope.Point.coord point.now)) T.Envelope.Point.Scalar.cmp
+        (table T.Envelope.Point.DIMENSIONS (T.Envelope.Point.coord point.now)) T.Envelope.Point.Scalar.cmp any_first
         T.Envelope.Point.Scalar.value heap.new }
     ensures fewer { OnOk result (all_parents (waiting_nodes (items_of heap.new))
         ≤ all_parents (waiting_nodes (items_of heap.old)) + all_parents children.now) }

@@ -1,9 +1,5 @@
 //! A search for neighbours: the nodes that wait in a heap, the nearest first.
 
-ghost use Rattle.std.proofs.Common.{rules};
-ghost use Rattle.std.specs.Cmp.{partial_order_from_own_ties};
-ghost use Rattle.std.specs.Cmp.Rules.{comparing};
-ghost use Rattle.std.specs.Ordering.{on, flip_args, as_partial_cmp};
 ghost use Rattle.std.specs.Prelude.{◌≡◌, ◌<◌, ◌≤◌, ◌∷◌, ◌++◌, [], pos, OnOk, OnErr, IfOk, IfErr, IfSome, IfNone};
 ghost use Rattle.std.specs.List.Sorted.{IsPermutation};
 ghost use Rattle.std.specs.Mem.{FitsInMemory};
@@ -14,63 +10,19 @@ ghost use Rattle.rstar.specs.declared.node.RTreeNode.{Parent};
 ghost use Rattle.rstar.specs.declared.algorithm.nearest_neighbor.search.Stage.TheVariants.{Fresh, Running, Ended};
 ghost use Rattle.rstar.specs.Nodes.{all_elements, all_parents, IsWhole};
 ghost use Rattle.rstar.specs.Neighbors.{IsNeighbor};
-ghost use Rattle.rstar.specs.Searches.{waiting_nodes, distance_of, AreWaiting, IsRunning, IsReady, IsReadyAt, IsUnrefused, held_by, waiting_of};
+ghost use Rattle.rstar.specs.Searches.{nearest_on_top, waiting_nodes, distance_of, ComesFirst, AreWaiting, IsRunning, IsReady, IsReadyAt, IsUnrefused, held_by, waiting_of};
 
+use crate::algorithm::nearest_neighbor::waiting::{TieOrder, Waiting};
 use crate::node::{ParentNode, RTreeNode};
 use rstar_base::envelope::Envelope;
 use rstar_base::heap::SmallHeap;
 use rstar_base::object::{Distance, PointDistance, PointOf, RTreeObject};
 use rstar_base::point::{Point, RTreeNum, known};
 use std::alloc::AllocError;
-use std::cmp::Ordering;
-
-/// A node and the distance at which it waits. The nearer of two is the greater, so that a heap gives it first.
-#[derive(Drop)]
-pub(crate) struct Waiting<N, S> {
-    pub(crate) node: N,
-    pub(crate) distance: S,
-}
-
-impl<N, S: Ord> PartialEq for Waiting<N, S> {
-    ghost eq = { on (λ w. w.distance) S.eq };
-
-    ghost laws = { Prim.search (comparing, rules) };
-
-    fn eq(&self, other: &Self) -> bool {
-        self.distance == other.distance
-    }
-}
-
-impl<N, S: Ord> Eq for Waiting<N, S> {
-    ghost laws = { Prim.search (comparing, rules) };
-}
-
-impl<N, S: Ord> Ord for Waiting<N, S> {
-    ghost cmp = { flip_args (on (λ w. w.distance) S.cmp) };
-
-    ghost total = { Prim.search (comparing, rules) };
-
-    ghost matches_partial_cmp = { Prim.search (comparing, rules) };
-
-    ghost matches_eq = { Prim.search (comparing, rules) };
-
-    fn cmp(&self, other: &Self) -> Ordering {
-        other.distance.cmp(&self.distance)
-    }
-}
-
-impl<N, S: Ord> PartialOrd for Waiting<N, S> {
-    ghost partial_cmp = { as_partial_cmp (flip_args (on (λ w. w.distance) S.cmp)) };
-
-    ghost laws = { partial_order_from_own_ties (Prim.search (comparing, rules)) (Prim.search (comparing, rules)) };
-
-    fn partial_cmp(&self, other: &Self) -> Option<Ordering> {
-        Some(self.cmp(other))
-    }
-}
+use std::marker::PhantomData;
 
 /// The nodes that wait, the nearest on top.
-pub(crate) type Heap<'a, T> = SmallHeap<Waiting<&'a RTreeNode<T>, Distance<T>>>;
+pub(crate) type Heap<'a, T, O> = SmallHeap<Waiting<&'a RTreeNode<T>, Distance<T>, O>>;
 
 /// Does nothing but tell that a search which is held by value fits in memory.
 pub(crate) fn fits<S: RTreeNum>()
@@ -80,6 +32,7 @@ pub(crate) fn fits<S: RTreeNum>()
 
 /// The distance at which a node waits: an element's own, and a parent's envelope's.
 #[tactic(auto, unfolding(crate::specs::Nodes::node_distance, crate::specs::Nodes::fold_tree))]
+#[inline(always)]
 pub(crate) fn distance_to<T: PointDistance>(node: &RTreeNode<T>, point: &PointOf<T>) -> Distance<T>
     ensures { T.Envelope.Point.Scalar.value result ≡ pos (distance_of T.Envelope.boxes T.distances
         (table T.Envelope.Point.DIMENSIONS (T.Envelope.Point.coord point.now)) node.now) }
@@ -105,25 +58,37 @@ enum Stage {
 /// and a generic function may hold it. Its parameters are the types that it holds, a root's, a node's and a scalar's:
 /// so the check can follow its drop where an iterator over it is passed to a function that takes any iterator.
 #[derive(Drop)]
-pub(crate) struct NeighborSearch<'a, R, N, S> {
+pub(crate) struct NeighborSearch<'a, R, N, S, O> {
     root: &'a R,
-    heap: SmallHeap<Waiting<&'a N, S>>,
+    heap: SmallHeap<Waiting<&'a N, S, O>>,
     /// How many parents were opened, held at the greatest `usize`.
     pub(crate) opened: usize,
     stage: Stage,
 }
 
 /// A search over the nodes of a tree.
-pub(crate) type NodeSearch<'a, T> = NeighborSearch<'a, ParentNode<T>, RTreeNode<T>, Distance<T>>;
+pub(crate) type NodeSearch<'a, T, O> = NeighborSearch<
+    'a,
+    ParentNode<T>,
+    RTreeNode<T>,
+    Distance<T>,
+    O,
+>;
 
-impl<'a, T: PointDistance> NeighborSearch<'a, ParentNode<T>, RTreeNode<T>, Distance<T>> {
+impl<'a, T: PointDistance, O: TieOrder<RTreeNode<T>>> NeighborSearch<
+    'a,
+    ParentNode<T>,
+    RTreeNode<T>,
+    Distance<T>,
+    O,
+> {
     /// A search in which the root waits. It takes no memory.
     pub(crate) fn new(root: &'a ParentNode<T>) -> Self
         requires { IsWhole T.Envelope.boxes T.object root.now }
         ensures root { result.root ≡ root.entry }
         ensures stage { result.stage ≡ Fresh }
         ensures opened { result.opened ≡ 0 }
-        ensures ready { (p : _) → IsReady T.Envelope.boxes T.distances p T.Envelope.Point.Scalar.cmp
+        ensures ready { (p : _) → IsReady T.Envelope.boxes T.distances p T.Envelope.Point.Scalar.cmp O.order
             T.Envelope.Point.Scalar.value T.object result }
     {
         NeighborSearch {
@@ -140,17 +105,20 @@ impl<'a, T: PointDistance> NeighborSearch<'a, ParentNode<T>, RTreeNode<T>, Dista
         point: &PointOf<T>,
     ) -> Option<Result<(&'a T, Distance<T>), AllocError>>
         requires { IsReady T.Envelope.boxes T.distances
-            (table T.Envelope.Point.DIMENSIONS (T.Envelope.Point.coord point.now)) T.Envelope.Point.Scalar.cmp
+            (table T.Envelope.Point.DIMENSIONS (T.Envelope.Point.coord point.now)) T.Envelope.Point.Scalar.cmp O.order
             T.Envelope.Point.Scalar.value T.object self.old }
         ensures root { self.new.root ≡ self.old.root }
         ensures ready { IsReady T.Envelope.boxes T.distances
-            (table T.Envelope.Point.DIMENSIONS (T.Envelope.Point.coord point.now)) T.Envelope.Point.Scalar.cmp
+            (table T.Envelope.Point.DIMENSIONS (T.Envelope.Point.coord point.now)) T.Envelope.Point.Scalar.cmp O.order
             T.Envelope.Point.Scalar.value T.object self.new }
         ensures gives { IfSome result (λ r. IfOk r (λ x. IsNeighbor T.Envelope.boxes T.distances
             (table T.Envelope.Point.DIMENSIONS (T.Envelope.Point.coord point.now)) self.old.root.now
             (waiting_of self.old) (waiting_of self.new) x.0.now)) }
         ensures distance { IfSome result (λ r. IfOk r (λ x. T.Envelope.Point.Scalar.value x.1 ≡ pos
             (T.distances.distance_2 x.0.now (table T.Envelope.Point.DIMENSIONS (T.Envelope.Point.coord point.now))))) }
+        ensures first { IfSome result (λ r. IfOk r (λ x. ComesFirst T.Envelope.boxes T.distances
+            (table T.Envelope.Point.DIMENSIONS (T.Envelope.Point.coord point.now)) O.order (waiting_of self.new)
+            x.0.now)) }
         ensures none { IfNone result (IsUnrefused self.old.stage → all_elements (waiting_of self.old) ≡ []) }
         ensures over { IfNone result (IsUnrefused self.old.stage → waiting_of self.new ≡ []) }
         ensures stays { IfNone result (IsUnrefused self.old.stage → self.new.stage ≡ Running) }
@@ -181,12 +149,12 @@ impl<'a, T: PointDistance> NeighborSearch<'a, ParentNode<T>, RTreeNode<T>, Dista
     fn begin(&mut self, point: &PointOf<T>) -> Result<(), AllocError>
         requires unrefused { IsUnrefused self.old.stage }
         requires ready { IsReady T.Envelope.boxes T.distances
-            (table T.Envelope.Point.DIMENSIONS (T.Envelope.Point.coord point.now)) T.Envelope.Point.Scalar.cmp
+            (table T.Envelope.Point.DIMENSIONS (T.Envelope.Point.coord point.now)) T.Envelope.Point.Scalar.cmp O.order
             T.Envelope.Point.Scalar.value T.object self.old }
         ensures root { self.new.root ≡ self.old.root }
         ensures stage { OnOk result (self.new.stage ≡ Running) }
         ensures running { OnOk result (IsRunning T.Envelope.boxes T.distances
-            (table T.Envelope.Point.DIMENSIONS (T.Envelope.Point.coord point.now)) T.Envelope.Point.Scalar.cmp
+            (table T.Envelope.Point.DIMENSIONS (T.Envelope.Point.coord point.now)) T.Envelope.Point.Scalar.cmp O.order
             T.Envelope.Point.Scalar.value T.object self.new.root.now self.new.heap self.new.opened) }
         ensures bag { OnOk result (IsPermutation (all_elements (waiting_of self.old))
             (all_elements (waiting_nodes (held_by self.new)))) }
@@ -208,11 +176,11 @@ impl<'a, T: PointDistance> NeighborSearch<'a, ParentNode<T>, RTreeNode<T>, Dista
     /// Opens the root.
     fn open_root(&mut self, point: &PointOf<T>) -> Result<(), AllocError>
         requires { IsReadyAt T.Envelope.boxes T.distances
-            (table T.Envelope.Point.DIMENSIONS (T.Envelope.Point.coord point.now)) T.Envelope.Point.Scalar.cmp
+            (table T.Envelope.Point.DIMENSIONS (T.Envelope.Point.coord point.now)) T.Envelope.Point.Scalar.cmp O.order
             T.Envelope.Point.Scalar.value T.object Fresh self.old.root.now self.old.heap self.old.opened }
         ensures root { self.new.root ≡ self.old.root }
         ensures running { OnOk result (IsRunning T.Envelope.boxes T.distances
-            (table T.Envelope.Point.DIMENSIONS (T.Envelope.Point.coord point.now)) T.Envelope.Point.Scalar.cmp
+            (table T.Envelope.Point.DIMENSIONS (T.Envelope.Point.coord point.now)) T.Envelope.Point.Scalar.cmp O.order
             T.Envelope.Point.Scalar.value T.object self.new.root.now self.new.heap self.new.opened) }
         ensures bag { OnOk result (IsPermutation (all_elements (Parent self.old.root.now ∷ []))
             (all_elements (waiting_nodes (held_by self.new)))) }
@@ -230,18 +198,21 @@ impl<'a, T: PointDistance> NeighborSearch<'a, ParentNode<T>, RTreeNode<T>, Dista
     /// Opens the nearest waiting parents until an element is nearest.
     fn advance(&mut self, point: &PointOf<T>) -> Result<Option<(&'a T, Distance<T>)>, AllocError>
         requires { IsRunning T.Envelope.boxes T.distances
-            (table T.Envelope.Point.DIMENSIONS (T.Envelope.Point.coord point.now)) T.Envelope.Point.Scalar.cmp
+            (table T.Envelope.Point.DIMENSIONS (T.Envelope.Point.coord point.now)) T.Envelope.Point.Scalar.cmp O.order
             T.Envelope.Point.Scalar.value T.object self.old.root.now self.old.heap self.old.opened }
         ensures root { self.new.root ≡ self.old.root }
         ensures stage { self.new.stage ≡ self.old.stage }
         ensures running { OnOk result (IsRunning T.Envelope.boxes T.distances
-            (table T.Envelope.Point.DIMENSIONS (T.Envelope.Point.coord point.now)) T.Envelope.Point.Scalar.cmp
+            (table T.Envelope.Point.DIMENSIONS (T.Envelope.Point.coord point.now)) T.Envelope.Point.Scalar.cmp O.order
             T.Envelope.Point.Scalar.value T.object self.old.root.now self.new.heap self.new.opened) }
         ensures gives { IfOk result (λ r. IfSome r (λ x. IsNeighbor T.Envelope.boxes T.distances
             (table T.Envelope.Point.DIMENSIONS (T.Envelope.Point.coord point.now)) self.old.root.now
             (waiting_nodes (held_by self.old)) (waiting_nodes (held_by self.new)) x.0.now)) }
         ensures distance { IfOk result (λ r. IfSome r (λ x. T.Envelope.Point.Scalar.value x.1 ≡ pos
             (T.distances.distance_2 x.0.now (table T.Envelope.Point.DIMENSIONS (T.Envelope.Point.coord point.now))))) }
+        ensures first { IfOk result (λ r. IfSome r (λ x. ComesFirst T.Envelope.boxes T.distances
+            (table T.Envelope.Point.DIMENSIONS (T.Envelope.Point.coord point.now)) O.order
+            (waiting_nodes (held_by self.new)) x.0.now)) }
         ensures none { IfOk result (λ r. IfNone r (all_elements (waiting_nodes (held_by self.old)) ≡ [])) }
         ensures over { IfOk result (λ r. IfNone r (waiting_nodes (held_by self.new) ≡ [])) }
         ensures refused { OnErr result (0 < all_parents (waiting_nodes (held_by self.old))) }
@@ -265,22 +236,26 @@ impl<'a, T: PointDistance> NeighborSearch<'a, ParentNode<T>, RTreeNode<T>, Dista
         children: &'a [RTreeNode<T>],
         point: &PointOf<T>,
     ) -> Result<(), AllocError>
-        requires { IsOrdered (flip_args (on (λ w. w.distance) T.Envelope.Point.Scalar.cmp)) self.old.heap }
+        requires { IsOrdered (nearest_on_top T.Envelope.Point.Scalar.cmp O.order) self.old.heap }
         ensures root { self.new.root ≡ self.old.root }
         ensures opened { self.new.opened ≡ self.old.opened }
         ensures stage { self.new.stage ≡ self.old.stage }
         ensures waiting { AreWaiting T.Envelope.boxes T.distances
-            (table T.Envelope.Point.DIMENSIONS (T.Envelope.Point.coord point.now)) T.Envelope.Point.Scalar.cmp
+            (table T.Envelope.Point.DIMENSIONS (T.Envelope.Point.coord point.now)) T.Envelope.Point.Scalar.cmp O.order
             T.Envelope.Point.Scalar.value self.old.heap
             → AreWaiting T.Envelope.boxes T.distances
-            (table T.Envelope.Point.DIMENSIONS (T.Envelope.Point.coord point.now)) T.Envelope.Point.Scalar.cmp
+            (table T.Envelope.Point.DIMENSIONS (T.Envelope.Point.coord point.now)) T.Envelope.Point.Scalar.cmp O.order
             T.Envelope.Point.Scalar.value self.new.heap }
         ensures added { OnOk result (IsPermutation (waiting_nodes (held_by self.old) ++ children.now)
             (waiting_nodes (held_by self.new))) }
     {
         for node in children {
             let distance = distance_to(node, point);
-            if let Err(_refused) = self.heap.push(Waiting { node, distance }) {
+            if let Err(_refused) = self.heap.push(Waiting {
+                node,
+                distance,
+                ties: PhantomData,
+            }) {
                 return Err(AllocError);
             }
         }

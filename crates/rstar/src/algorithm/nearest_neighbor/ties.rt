@@ -4,10 +4,11 @@ ghost use Rattle.std.specs.Prelude.{◌≡◌, ℕ, List, [], pos, map, IfOk, If
 ghost use Rattle.rstar_base.specs.Points.{table};
 ghost use Rattle.rstar.specs.Lists.{AreSomeNearest};
 ghost use Rattle.rstar.specs.Nodes.{all_elements, elements_of, IsWhole};
-ghost use Rattle.rstar.specs.Searches.{waiting_of, IsReady, IsUnrefused};
+ghost use Rattle.rstar.specs.Searches.{any_first, waiting_of, IsReady, IsUnrefused};
 ghost use Rattle.rstar.specs.Ties.{IsTied};
 
 use crate::algorithm::nearest_neighbor::search::{NeighborSearch, NodeSearch, fits};
+use crate::algorithm::nearest_neighbor::waiting::AnyFirst;
 use crate::node::ParentNode;
 use rstar_base::envelope::Envelope;
 use rstar_base::object::{Distance, PointDistance, PointOf, RTreeObject};
@@ -29,7 +30,7 @@ pub(crate) fn all_nearest<'a, T: PointDistance>(
         (map (λ t. t.now) x.0.items))) }
 {
     fits::<Distance<T>>();
-    let mut search = NeighborSearch::new(root);
+    let mut search: NodeSearch<'_, T, AnyFirst> = NeighborSearch::new(root);
     let Some(found) = search.next_neighbor(point) else {
         return Ok(None);
     };
@@ -42,13 +43,13 @@ pub(crate) fn all_nearest<'a, T: PointDistance>(
 
 /// Takes the elements at a distance that is the least of those that wait, or less than it.
 fn take_ties<'a, T: PointDistance>(
-    search: &mut NodeSearch<'a, T>,
+    search: &mut NodeSearch<'a, T, AnyFirst>,
     point: &PointOf<T>,
     least: Distance<T>,
     all: &mut Vec<&'a T>,
 ) -> Result<(), AllocError>
     requires ready { IsReady T.Envelope.boxes T.distances
-        (table T.Envelope.Point.DIMENSIONS (T.Envelope.Point.coord point.now)) T.Envelope.Point.Scalar.cmp
+        (table T.Envelope.Point.DIMENSIONS (T.Envelope.Point.coord point.now)) T.Envelope.Point.Scalar.cmp any_first
         T.Envelope.Point.Scalar.value T.object search.old }
     requires unrefused { IsUnrefused search.old.stage }
     ensures { OnOk result ((whole : List T) (d : ℕ) → T.Envelope.Point.Scalar.value least ≡ pos d

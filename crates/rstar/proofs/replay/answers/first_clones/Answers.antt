@@ -1,16 +1,18 @@
-use Rattle.std.proofs.Common.{◌<◌, ◌≤◌, length, refl, arith}
-use Rattle.rstar.proofs.Firsts.{clone-more, clones-whole, first-clones}
+use Rattle.std.proofs.Common.{◌≡◌, ℕ, map}
+use Rattle.std.proofs.lemmas.Result.{IfOk-weaker}
+use Rattle.rstar_base.specs.Points.{table}
+use Rattle.rstar.specs.Lists.{IsNoFarther}
+use Rattle.rstar.specs.Steps.{AreFirstWith}
+use Rattle.rstar.specs.Trees.{elements_in}
+use Rattle.rstar.proofs.Firsts.{lent, distance_ranks, first-clones}
 use Rattle.rstar.proofs.replay.answers.first_clones.Goals as goal
-
-pub loop-place-preserved : goal.loop-place-preserved
-loop-place-preserved g c =
-    let lent = c.in_ok-lent.lent in
-    let below : c.loop-place.place < length lent.items = omega (arith, c.loop-place-test.true, c.len-place-end.ensures, lent.ok.0) in
-    clone-more lent.items lent.items c.loop-place.place _ _ _ _ refl below c.index-near.ensures
-    (c.requires.clones _ _ c.in_ok-clone.ensures.cases) c.loop-place.invariant c.in_ok-push.ensures.items
 
 pub returns : goal.returns
 returns g c =
-    let lent = c.in_ok-lent.lent in
-    let ended : length lent.items ≤ c.loop-place.place = omega (arith, c.loop-place-test.false, c.len-place-end.ensures, lent.ok.0) in
-    first-clones _ _ _ _ lent.items c.loop-place.found.items (clones-whole lent.items lent.items c.loop-place.place _ refl ended c.loop-place.invariant) c.in_ok-lent.ensures.first c.in_ok-lent.ensures.distances
+    let given = c.in_ok-first_neighbors in
+    let distance : g.row.T.Denot → ℕ = λ t. g.T.PointDistance.distances.distance_2 t (table g.T.Envelope.Point.Point.DIMENSIONS (g.T.Envelope.Point.Point.coord c.args.point.now)) in
+    let value = g.T.Envelope.Point.Scalar.Number.value in
+    let before = IsNoFarther distance in
+    IfOk-weaker c.clones_of_lent.result (λ found. found.items ≡ map lent given.field-0.items) (λ found. AreFirstWith before distance value c.args.most (elements_in c.args.tree.now) found.items)
+    (λ found is. first-clones before (distance_ranks distance) distance value (elements_in c.args.tree.now) c.args.most given.field-0.items found.items is given.ensures.first given.ensures.distances)
+    c.clones_of_lent.ensures

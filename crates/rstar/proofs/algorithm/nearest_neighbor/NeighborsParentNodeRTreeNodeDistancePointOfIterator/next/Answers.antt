@@ -1,70 +1,51 @@
+use Rattle.std.proofs.Common.{Some, None}
+use Rattle.rstar_base.specs.Points.{table}
+use Rattle.rstar.specs.Neighbors.{IsSearching, shown}
+use Rattle.rstar.specs.Searches.{any_first}
+use Rattle.rstar.proofs.Progress as progress
 use Rattle.rstar.proofs.algorithm.nearest_neighbor.NeighborsParentNodeRTreeNodeDistancePointOfIterator.next.Goals as goal
 
 pub returns-in-Ok-clause-steps : goal.returns-in-Ok-clause-steps
+unfolding IsSearching
 returns-in-Ok-clause-steps g c =
-    let steps = rw c.in-Ok.is at c.in-Some.ensures.steps in
-    let told = steps.0 in (
-      record {
-        root = told.root;
-        point = told.point;
-        gives = told.gives;
-        cost = told.cost;
-        none = tt;
-        over = tt;
-        goes_on_at_end = tt;
-        refused = tt;
-        goes_on = told.goes_on;
-        ends = tt;
-        once = told.once;
-        stays_ended = told.stays_ended;
-        opened = told.opened;
-        fewer = told.fewer;
-      },
-      steps.2,
-    )
+    let old = c.args.self.now in
+    let new = c.next_neighbor.new.self in
+    let told = c.in-Some.ensures in
+    let all = progress.gives-neighbor g.T.Envelope.Envelope.boxes g.T.PointDistance.distances g.T.Envelope.Point.Point.DIMENSIONS g.T.Envelope.Point.Point.coord g.T.Envelope.Point.Scalar.Ord.cmp any_first g.T.Envelope.Point.Scalar.Number.value g.T.RTreeObject.object
+    old.search new old.point (λ x. x.0.now) (Some c.in-Some.found) told.root told.ready told.gives told.none told.over told.stays told.refused told.goes_on told.ends told.once told.ended in
+    (progress.given-ok g.T.Envelope.Envelope.boxes g.T.PointDistance.distances g.T.Envelope.Point.Point.DIMENSIONS g.T.Envelope.Point.Point.coord (shown old.search old.point) (shown new old.point) (c.in-Ok.t, c.in-Ok._distance) (rw c.in-Ok.is at all), told.ready)
 
 pub returns-in-Err-clause-steps : goal.returns-in-Err-clause-steps
+unfolding IsSearching
 returns-in-Err-clause-steps g c =
-    let steps = rw c.in-Err.is at c.in-Some.ensures.steps in
-    let told = steps.0 in (
-      record {
-        root = told.root;
-        point = told.point;
-        gives = tt;
-        cost = tt;
-        none = tt;
-        over = tt;
-        goes_on_at_end = tt;
-        refused = told.refused;
-        goes_on = tt;
-        ends = told.ends;
-        once = told.once;
-        stays_ended = told.stays_ended;
-        opened = told.opened;
-        fewer = told.fewer;
-      },
-      steps.2,
-    )
+    let old = c.args.self.now in
+    let new = c.next_neighbor.new.self in
+    let told = c.in-Some.ensures in
+    let all = progress.gives-neighbor g.T.Envelope.Envelope.boxes g.T.PointDistance.distances g.T.Envelope.Point.Point.DIMENSIONS g.T.Envelope.Point.Point.coord g.T.Envelope.Point.Scalar.Ord.cmp any_first g.T.Envelope.Point.Scalar.Number.value g.T.RTreeObject.object
+    old.search new old.point (λ x. x.0.now) (Some c.in-Some.found) told.root told.ready told.gives told.none told.over told.stays told.refused told.goes_on told.ends told.once told.ended in
+    (progress.given-err g.T.Envelope.Envelope.boxes g.T.PointDistance.distances g.T.Envelope.Point.Point.DIMENSIONS g.T.Envelope.Point.Point.coord (shown old.search old.point) (shown new old.point) c.in-Err.refused (rw c.in-Err.is at all), told.ready)
 
 pub returns-in-None-clause-steps : goal.returns-in-None-clause-steps
+unfolding IsSearching
 returns-in-None-clause-steps g c =
-    let steps = c.in-None.ensures.steps in
-    let told = steps.0 in (
-      record {
-        root = told.root;
-        point = told.point;
-        gives = tt;
-        cost = tt;
-        none = told.none;
-        over = told.over;
-        goes_on_at_end = told.goes_on_at_end;
-        refused = tt;
-        goes_on = tt;
-        ends = tt;
-        once = tt;
-        stays_ended = told.stays_ended;
-        opened = told.opened;
-        fewer = told.fewer;
-      },
-      steps.2,
-    )
+    let old = c.args.self.now in
+    let new = c.next_neighbor.new.self in
+    let told = c.in-None.ensures in
+    let all = progress.gives-neighbor g.T.Envelope.Envelope.boxes g.T.PointDistance.distances g.T.Envelope.Point.Point.DIMENSIONS g.T.Envelope.Point.Point.coord g.T.Envelope.Point.Scalar.Ord.cmp any_first g.T.Envelope.Point.Scalar.Number.value g.T.RTreeObject.object
+    old.search new old.point (λ x. x.0.now) (None) told.root told.ready told.gives told.none told.over told.stays told.refused told.goes_on told.ends told.once told.ended in
+    (progress.given-none g.T.Envelope.Envelope.boxes g.T.PointDistance.distances g.T.Envelope.Point.Point.DIMENSIONS g.T.Envelope.Point.Point.coord (shown old.search old.point) (shown new old.point) all, told.ready)
+
+pub returns-in-Ok-clause-goes : goal.returns-in-Ok-clause-goes
+unfolding IsSearching
+returns-in-Ok-clause-goes g c =
+    let told = c.in-Some.ensures in
+    let fewer = progress.given-fewer g.T.Envelope.Envelope.boxes g.T.PointDistance.distances (table g.T.Envelope.Point.Point.DIMENSIONS (g.T.Envelope.Point.Point.coord c.args.self.now.point)) c.args.self.now.search c.next_neighbor.new.self c.in-Ok.t.now
+    (rw c.in-Ok.is at told.gives) (rw c.in-Ok.is at told.goes_on) told.once in
+    record { on = λ _. (told.ready, tt, fewer); keeps = told.ready; rests = λ _. tt }
+
+pub returns-in-Err-clause-goes : goal.returns-in-Err-clause-goes
+unfolding IsSearching
+returns-in-Err-clause-goes g c =
+    let told = c.in-Some.ensures in
+    let fewer = progress.refused-fewer g.T.Envelope.Envelope.boxes g.T.PointDistance.distances (table g.T.Envelope.Point.Point.DIMENSIONS (g.T.Envelope.Point.Point.coord c.args.self.now.point)) c.args.self.now.search c.next_neighbor.new.self (rw c.in-Err.is at told.ends) told.once in
+    record { on = λ _. (told.ready, tt, fewer); keeps = told.ready; rests = λ _. tt }

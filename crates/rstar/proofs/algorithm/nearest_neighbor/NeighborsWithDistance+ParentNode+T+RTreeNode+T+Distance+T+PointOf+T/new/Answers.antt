@@ -1,15 +1,10 @@
-use Rattle.std.proofs.Common.{refl, ap}
+use Rattle.std.proofs.Common.{ap}
 use Rattle.rstar.specs.Neighbors.{IsSearching}
+use Rattle.rstar.proofs.Progress.{has-begun}
 use Rattle.rstar.proofs.algorithm.nearest_neighbor.NeighborsWithDistance+ParentNode+T+RTreeNode+T+Distance+T+PointOf+T.new.Goals as goal
 
 pub returns-clause-begun : goal.returns-clause-begun
-returns-clause-begun g c = record {
-  root = ap (λ r. r.now) c.new.ensures.root;
-  point = refl;
-  waiting = rw c.new.ensures.stage (rw c.new.ensures.root refl);
-  opened = c.new.ensures.opened;
-  going_on = rw c.new.ensures.stage tt;
-}
+returns-clause-begun g c = has-begun c.new.result c.args.root.now c.args.point (ap (λ r. r.now) c.new.ensures.root) c.new.ensures.stage c.new.ensures.opened
 
 pub returns-clause-searching : goal.returns-clause-searching
 unfolding IsSearching

@@ -1,13 +1,25 @@
 use Rattle.std.proofs.Common.{◌≡◌, ◌∷◌, [], ap, sym, subst, ◌∙◌, arith, length, map, pos}
 use Rattle.std.specs.List.{AllByRecursion}
 use Rattle.std.proofs.lemmas.List.{map-append, length-map, length-append}
-use Rattle.rstar_base.specs.Points.{table}
+use Rattle.rstar_base.specs.Points.{table, IsPoint}
 use Rattle.rstar_base.proofs.Lists.{all-append}
-use Rattle.rstar.specs.Lists.{AreNearestFirst}
+use Rattle.rstar.specs.Lists.{IsNotLater, AreFirst}
 use Rattle.rstar.specs.Nodes.{all_elements}
 use Rattle.rstar.specs.Searches.{waiting_of, IsUnrefused}
+use Rattle.rstar.proofs.ByOrder.{all-later, whole-waiting}
 use Rattle.rstar.proofs.InOrder.{none-first, more-first}
+use Rattle.rstar.proofs.Nearness.{IsMeasured}
+use Rattle.rstar.proofs.algorithm.nearest_neighbor.firsts.take_first.Given.{Over}
 use Rattle.rstar.proofs.algorithm.nearest_neighbor.firsts.take_first.Goals as goal
+
+measured : (g : Over) (p : _) → IsPoint g.T.Envelope.Point.Scalar.Bounded.low g.T.Envelope.Point.Scalar.Bounded.high g.T.Envelope.Point.Point.DIMENSIONS p
+    → IsMeasured (IsPoint g.T.Envelope.Point.Scalar.Bounded.low g.T.Envelope.Point.Scalar.Bounded.high g.T.Envelope.Point.Point.DIMENSIONS) g.T.Envelope.Envelope.boxes g.T.RTreeObject.object g.T.PointDistance.distances p
+measured g p is = record {
+  laws = g.met.T.Envelope.Envelope.envelope_laws;
+  ok = g.met.T.RTreeObject.object_law;
+  near = g.met.T.PointDistance.distance_laws;
+  point = is;
+}
 
 pub loop-turn-init : goal.loop-turn-init
 loop-turn-init g c =
@@ -17,7 +29,7 @@ loop-turn-init g c =
     record {
       ready = c.requires.ready p;
       unrefused = subst IsUnrefused (sym c.requires.fresh) tt;
-      first = subst (λ l. AreNearestFirst (λ t. g.T.PointDistance.distances.distance_2 t p) all (map (λ n. n.0.now) l) all) (sym none) (none-first _ all);
+      first = λ order by. subst (λ l. AreFirst (IsNotLater (λ t. g.T.PointDistance.distances.distance_2 t p) order) all (map (λ n. n.0.now) l) all) (sym none) (none-first _ all);
       distances = subst (AllByRecursion (λ n. g.T.Envelope.Point.Scalar.Number.value n.1 ≡ pos (g.T.PointDistance.distances.distance_2 n.0.now p))) (sym none) tt;
       count = ap length none;
     }
@@ -35,21 +47,24 @@ loop-turn-preserved g c =
     record {
       ready = c.next_neighbor.ensures.ready;
       unrefused = subst IsUnrefused (sym on) tt;
-      first = subst (λ l. AreNearestFirst (λ t. g.T.PointDistance.distances.distance_2 t p) all l (all_elements (waiting_of c.next_neighbor.new.self)))
+      first = λ order by. subst (λ l. AreFirst (IsNotLater (λ t. g.T.PointDistance.distances.distance_2 t p) order) all l (all_elements (waiting_of c.next_neighbor.new.self)))
           (sym (ap (map (λ n. n.0.now)) more ∙ map-append (λ n. n.0.now) c.loop-turn.found.items ((c.in_ok-t.t, c.in_ok-t.distance) ∷ [])))
-          (more-first (λ t. g.T.PointDistance.distances.distance_2 t p) all (map (λ n. n.0.now) c.loop-turn.found.items) (all_elements (waiting_of c.loop-turn.search)) (all_elements (waiting_of c.next_neighbor.new.self)) c.in_ok-t.t.now
-          c.loop-turn.invariant.first gives.bag gives.least);
+          (more-first (IsNotLater (λ t. g.T.PointDistance.distances.distance_2 t p) order) all (map (λ n. n.0.now) c.loop-turn.found.items) (all_elements (waiting_of c.loop-turn.search)) (all_elements (waiting_of c.next_neighbor.new.self)) c.in_ok-t.t.now
+          (c.loop-turn.invariant.first order by) gives.bag
+          (all-later (measured g p c.known.ensures.range) g.O.TieOrder.order order by c.in_ok-t.t.now (waiting_of c.next_neighbor.new.self)
+          (whole-waiting g.T.Envelope.Envelope.boxes g.T.PointDistance.distances p g.T.Envelope.Point.Scalar.Ord.cmp g.O.TieOrder.order g.T.Envelope.Point.Scalar.Number.value g.T.RTreeObject.object _ _ _ _ on c.next_neighbor.ensures.ready)
+          (rw c.in_ok-t.was at c.in-Some.ensures.first)));
       distances = subst (AllByRecursion (λ n. g.T.Envelope.Point.Scalar.Number.value n.1 ≡ pos (g.T.PointDistance.distances.distance_2 n.0.now p))) (sym more) (all-append _ c.loop-turn.found.items _ c.loop-turn.invariant.distances (at, tt));
       count = omega (arith, longer, count);
     }
 
 pub returns-in_default-clause-first : goal.returns-in_default-clause-first
-returns-in_default-clause-first g c =
+returns-in_default-clause-first g c = λ order by.
     let count = c.loop-turn.invariant.count in
     let long = length-map c.loop-turn.found.items (λ n. n.0.now) in
     record {
       left = all_elements (waiting_of c.loop-turn.search);
-      first = c.loop-turn.invariant.first;
+      first = c.loop-turn.invariant.first order by;
       few = omega (arith, count, long);
       enough = λ less. c.in_default.ensures.none c.loop-turn.invariant.unrefused;
     }
@@ -58,12 +73,12 @@ pub returns-in_default-clause-distances : goal.returns-in_default-clause-distanc
 returns-in_default-clause-distances g c = c.loop-turn.invariant.distances
 
 pub returns-clause-first : goal.returns-clause-first
-returns-clause-first g c =
+returns-clause-first g c = λ order by.
     let count = c.loop-turn.invariant.count in
     let long = length-map c.loop-turn.found.items (λ n. n.0.now) in
     record {
       left = all_elements (waiting_of c.loop-turn.search);
-      first = c.loop-turn.invariant.first;
+      first = c.loop-turn.invariant.first order by;
       few = omega (arith, count, long);
       enough = λ less. absurd (omega (arith, count, long, less));
     }

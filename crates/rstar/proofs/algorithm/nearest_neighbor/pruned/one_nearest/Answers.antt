@@ -5,7 +5,7 @@ use Rattle.rstar_base.specs.SmallHeaps.{items_of}
 use Rattle.rstar.specs.declared.node.RTreeNode.{Parent, Leaf}
 use Rattle.rstar.specs.Nodes.{all_parents, elements_of}
 use Rattle.rstar.specs.Pruned.{IsPruned}
-use Rattle.rstar.specs.Searches.{waiting_nodes}
+use Rattle.rstar.specs.Searches.{any_first, waiting_nodes}
 use Rattle.rstar.proofs.Nearness.{IsMeasured}
 use Rattle.rstar.proofs.Pruning as pruning
 use Rattle.rstar.proofs.Turns as turns
@@ -40,8 +40,8 @@ returns-in-Leaf-clause-nearest g c = λ whole.
     let p = table g.T.Envelope.Point.Point.DIMENSIONS (g.T.Envelope.Point.Point.coord c.args.point.now) in
     let value = g.T.Envelope.Point.Scalar.Number.value in
     let us = waiting_nodes (items_of c.pop.new.self) in
-    let nodes = turns.nodes-as g.T.Envelope.Envelope.boxes g.T.PointDistance.distances p value g.T.Envelope.Point.Scalar.Ord.cmp c.loop-current.heap c.pop.new.self c.in-Some.current c.loop-current.invariant.waiting c.pop.ensures.ordered c.in-Some.ensures.some (Leaf c.in-Leaf.t) c.in-Leaf.is in
-    let least = turns.leaf-least g.T.Envelope.Envelope.boxes g.T.PointDistance.distances p value g.T.Envelope.Point.Scalar.Ord.cmp c.loop-current.heap c.pop.new.self c.in-Some.current c.loop-current.invariant.waiting c.pop.ensures.ordered c.in-Some.ensures.some c.in-Leaf.t c.in-Leaf.is (order g) c.in-Some.ensures.greatest in
+    let nodes = turns.nodes-as g.T.Envelope.Envelope.boxes g.T.PointDistance.distances p value g.T.Envelope.Point.Scalar.Ord.cmp any_first c.loop-current.heap c.pop.new.self c.in-Some.current c.loop-current.invariant.waiting c.pop.ensures.ordered c.in-Some.ensures.some (Leaf c.in-Leaf.t) c.in-Leaf.is in
+    let least = turns.leaf-least g.T.Envelope.Envelope.boxes g.T.PointDistance.distances p value g.T.Envelope.Point.Scalar.Ord.cmp any_first c.loop-current.heap c.pop.new.self c.in-Some.current c.loop-current.invariant.waiting c.pop.ensures.ordered c.in-Some.ensures.some c.in-Leaf.t c.in-Leaf.is (order g) c.in-Some.ensures.greatest in
     let turned = pruning.same-nodes g.T.Envelope.Envelope.boxes g.T.RTreeObject.object g.T.PointDistance.distances p value (elements_of c.args.root.now) (waiting_nodes (items_of c.loop-current.heap)) (Leaf c.in-Leaf.t ∷ us) c.loop-current.bound nodes (c.loop-current.invariant.pruned whole) in
     pruning.pruned-leaf (measured g p c.known.ensures.range) value (elements_of c.args.root.now) c.in-Leaf.t us c.loop-current.bound least turned
 
@@ -53,14 +53,14 @@ returns-in-Leaf-clause-not_above g c = λ whole. pruning.nearest-not-above (meas
 
 pub returns-in-Leaf-clause-distance : goal.returns-in-Leaf-clause-distance
 returns-in-Leaf-clause-distance g c =
-    turns.leaf-at g.T.Envelope.Envelope.boxes g.T.PointDistance.distances (table g.T.Envelope.Point.Point.DIMENSIONS (g.T.Envelope.Point.Point.coord c.args.point.now)) g.T.Envelope.Point.Scalar.Number.value g.T.Envelope.Point.Scalar.Ord.cmp
+    turns.leaf-at g.T.Envelope.Envelope.boxes g.T.PointDistance.distances (table g.T.Envelope.Point.Point.DIMENSIONS (g.T.Envelope.Point.Point.coord c.args.point.now)) g.T.Envelope.Point.Scalar.Number.value g.T.Envelope.Point.Scalar.Ord.cmp any_first
     c.loop-current.heap c.pop.new.self c.in-Some.current c.loop-current.invariant.waiting c.pop.ensures.ordered c.in-Some.ensures.some c.in-Leaf.t c.in-Leaf.is
 
 pub loop-current-smaller : goal.loop-current-smaller
 loop-current-smaller g c =
     let p = table g.T.Envelope.Point.Point.DIMENSIONS (g.T.Envelope.Point.Point.coord c.args.point.now) in
     let value = g.T.Envelope.Point.Scalar.Number.value in
-    let one = turns.parents-popped g.T.Envelope.Envelope.boxes g.T.PointDistance.distances p value g.T.Envelope.Point.Scalar.Ord.cmp c.loop-current.heap c.pop.new.self c.in-Some.current c.loop-current.invariant.waiting c.pop.ensures.ordered c.in-Some.ensures.some c.in-Parent.parent c.in-Parent.is in
+    let one = turns.parents-popped g.T.Envelope.Envelope.boxes g.T.PointDistance.distances p value g.T.Envelope.Point.Scalar.Ord.cmp any_first c.loop-current.heap c.pop.new.self c.in-Some.current c.loop-current.invariant.waiting c.pop.ensures.ordered c.in-Some.ensures.some c.in-Parent.parent c.in-Parent.is in
     let same = ap all_parents c.deref-in-Parent.ensures.value in
     let more = c.in_ok-bound-in-Parent.ensures.fewer in
     omega arith
@@ -71,9 +71,9 @@ loop-current-preserved g c =
     let value = g.T.Envelope.Point.Scalar.Number.value in
     let q = c.in-Parent.parent in
     let us = waiting_nodes (items_of c.pop.new.self) in
-    let nodes = turns.nodes-as g.T.Envelope.Envelope.boxes g.T.PointDistance.distances p value g.T.Envelope.Point.Scalar.Ord.cmp c.loop-current.heap c.pop.new.self c.in-Some.current c.loop-current.invariant.waiting c.pop.ensures.ordered c.in-Some.ensures.some (Parent q) c.in-Parent.is in
+    let nodes = turns.nodes-as g.T.Envelope.Envelope.boxes g.T.PointDistance.distances p value g.T.Envelope.Point.Scalar.Ord.cmp any_first c.loop-current.heap c.pop.new.self c.in-Some.current c.loop-current.invariant.waiting c.pop.ensures.ordered c.in-Some.ensures.some (Parent q) c.in-Parent.is in
     record {
-      waiting = c.open_within-in-Parent.ensures.waiting (turns.rest-waiting g.T.Envelope.Envelope.boxes g.T.PointDistance.distances p value g.T.Envelope.Point.Scalar.Ord.cmp c.loop-current.heap c.pop.new.self c.in-Some.current c.loop-current.invariant.waiting c.pop.ensures.ordered c.in-Some.ensures.some);
+      waiting = c.open_within-in-Parent.ensures.waiting (turns.rest-waiting g.T.Envelope.Envelope.boxes g.T.PointDistance.distances p value g.T.Envelope.Point.Scalar.Ord.cmp any_first c.loop-current.heap c.pop.new.self c.in-Some.current c.loop-current.invariant.waiting c.pop.ensures.ordered c.in-Some.ensures.some);
       pruned = λ whole.
           let turned = pruning.same-nodes g.T.Envelope.Envelope.boxes g.T.RTreeObject.object g.T.PointDistance.distances p value (elements_of c.args.root.now) (waiting_nodes (items_of c.loop-current.heap)) (Parent q ∷ us) c.loop-current.bound nodes (c.loop-current.invariant.pruned whole) in
           let opened = pruning.pruned-parent (measured g p c.known.ensures.range) value (elements_of c.args.root.now) q us c.loop-current.bound turned in

@@ -1,18 +1,17 @@
 use Rattle.std.proofs.Common.{◌≤◌, ◌+◌, ◌++◌, drop, take, List}
-use Rattle.std.specs.Ordering.{on, flip_args}
 use Rattle.rstar_base.specs.Points.{table}
 use Rattle.rstar_base.specs.SmallHeaps.{items_of, IsOrdered}
 use Rattle.rstar.specs.Nodes.{all_parents}
 use Rattle.rstar.specs.Pruned.{IsPruned}
-use Rattle.rstar.specs.Searches.{waiting_nodes, AreWaiting}
+use Rattle.rstar.specs.Searches.{any_first, nearest_on_top, waiting_nodes, AreWaiting}
 use Rattle.rstar.proofs.algorithm.nearest_neighbor.pruned.open_within.Given as goal
 
 -- the nodes so far are offered
 abbrev pub invariant-loop-child : goal.invariant-loop-child
 invariant-loop-child g l = record {
-  ordered : IsOrdered (flip_args (on (λ w. w.distance) g.T.Envelope.Point.Scalar.Ord.cmp)) l.heap;
-  waiting : AreWaiting g.T.Envelope.Envelope.boxes g.T.PointDistance.distances (table g.T.Envelope.Point.Point.DIMENSIONS (g.T.Envelope.Point.Point.coord l.fn.point)) g.T.Envelope.Point.Scalar.Ord.cmp g.T.Envelope.Point.Scalar.Number.value l.fn.heap
-      → AreWaiting g.T.Envelope.Envelope.boxes g.T.PointDistance.distances (table g.T.Envelope.Point.Point.DIMENSIONS (g.T.Envelope.Point.Point.coord l.fn.point)) g.T.Envelope.Point.Scalar.Ord.cmp g.T.Envelope.Point.Scalar.Number.value l.heap;
+  ordered : IsOrdered (nearest_on_top g.T.Envelope.Point.Scalar.Ord.cmp any_first) l.heap;
+  waiting : AreWaiting g.T.Envelope.Envelope.boxes g.T.PointDistance.distances (table g.T.Envelope.Point.Point.DIMENSIONS (g.T.Envelope.Point.Point.coord l.fn.point)) g.T.Envelope.Point.Scalar.Ord.cmp any_first g.T.Envelope.Point.Scalar.Number.value l.fn.heap
+      → AreWaiting g.T.Envelope.Envelope.boxes g.T.PointDistance.distances (table g.T.Envelope.Point.Point.DIMENSIONS (g.T.Envelope.Point.Point.coord l.fn.point)) g.T.Envelope.Point.Scalar.Ord.cmp any_first g.T.Envelope.Point.Scalar.Number.value l.heap;
   fewer : all_parents (waiting_nodes (items_of l.heap)) ≤ all_parents (waiting_nodes (items_of l.fn.heap)) + all_parents (take l.child-index l.children);
   pruned : (all : List g.row.T.Denot) → IsPruned g.T.Envelope.Envelope.boxes g.T.RTreeObject.object g.T.PointDistance.distances (table g.T.Envelope.Point.Point.DIMENSIONS (g.T.Envelope.Point.Point.coord l.fn.point)) g.T.Envelope.Point.Scalar.Number.value all (waiting_nodes (items_of l.fn.heap) ++ l.children) l.fn.bound
       → IsPruned g.T.Envelope.Envelope.boxes g.T.RTreeObject.object g.T.PointDistance.distances (table g.T.Envelope.Point.Point.DIMENSIONS (g.T.Envelope.Point.Point.coord l.fn.point)) g.T.Envelope.Point.Scalar.Number.value all (waiting_nodes (items_of l.heap) ++ drop l.child-index l.children) l.left;

@@ -1,7 +1,7 @@
 use Rattle.std.proofs.Common.{◌≡◌, ℕ, List, map, pos}
 use Rattle.rstar_base.specs.Points.{table}
 use Rattle.rstar.specs.Nodes.{all_elements}
-use Rattle.rstar.specs.Searches.{waiting_of, calls_left, IsReady, IsUnrefused}
+use Rattle.rstar.specs.Searches.{any_first, waiting_of, calls_left, IsReady, IsUnrefused}
 use Rattle.rstar.specs.Ties.{IsTied}
 use Rattle.std.specs.Iterator.{size}
 use Rattle.rstar.proofs.algorithm.nearest_neighbor.ties.take_ties.Given as goal
@@ -9,7 +9,7 @@ use Rattle.rstar.proofs.algorithm.nearest_neighbor.ties.take_ties.Given as goal
 -- what was taken lies at the least distance
 abbrev pub invariant-loop-found : goal.invariant-loop-found
 invariant-loop-found g l = record {
-  ready : IsReady g.T.Envelope.Envelope.boxes g.T.PointDistance.distances (table g.T.Envelope.Point.Point.DIMENSIONS (g.T.Envelope.Point.Point.coord l.fn.point)) g.T.Envelope.Point.Scalar.Ord.cmp g.T.Envelope.Point.Scalar.Number.value g.T.RTreeObject.object l.search;
+  ready : IsReady g.T.Envelope.Envelope.boxes g.T.PointDistance.distances (table g.T.Envelope.Point.Point.DIMENSIONS (g.T.Envelope.Point.Point.coord l.fn.point)) g.T.Envelope.Point.Scalar.Ord.cmp any_first g.T.Envelope.Point.Scalar.Number.value g.T.RTreeObject.object l.search;
   unrefused : IsUnrefused l.search.stage;
   tied : (whole : List g.row.T.Denot) (d : ℕ) → g.T.Envelope.Point.Scalar.Number.value l.fn.least ≡ pos d
       → IsTied (λ t. g.T.PointDistance.distances.distance_2 t (table g.T.Envelope.Point.Point.DIMENSIONS (g.T.Envelope.Point.Point.coord l.fn.point))) whole d (map (λ t. t.now) l.fn.all.items) (all_elements (waiting_of l.fn.search))

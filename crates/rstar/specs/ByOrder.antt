@@ -1,0 +1,56 @@
+-- What an iterator over neighbours in the stated order gives, and what it costs. All distances are squared.
+-- T is the element's type, E its envelope's, P its point's, S its scalar's, X what a scalar's text is refused with.
+use Rattle.std.specs.Prelude.{◌≡◌, ℕ, ◌-◌, min, ℤ, pos, List, Option, Result, IfSome, IfOk}
+use Rattle.std.specs.Borrow.{Bor}
+use Rattle.std.specs.Iterator.{Count}
+use Rattle.std.specs.List.{AllByRecursion}
+use Rattle.std.specs.declared.alloc.AllocError.{AllocError}
+use Rattle.std.specs.declared.cmp.Ordering.{Ordering}
+use Rattle.rstar_base.specs.Counts.{usize_max}
+use Rattle.rstar_base.specs.Envelopes.{Boxes}
+use Rattle.rstar_base.specs.Elements.{Objects, Distances}
+use Rattle.rstar_base.specs.Points.{table}
+use Rattle.rstar.specs.declared.node.RTreeNode.{RTreeNode}
+use Rattle.rstar.specs.declared.node.ParentNode.{ParentNode}
+use Rattle.rstar.specs.declared.algorithm.nearest_neighbor.by_order.NeighborsByOrder.{NeighborsByOrder}
+use Rattle.rstar.specs.Lists.{IsNotLater}
+use Rattle.rstar.specs.Neighbors.{Search, shown, elements_waiting, GivesNeighbor}
+use Rattle.rstar.specs.Nodes.{parents_of, far_of}
+use Rattle.rstar.specs.Searches.{parents_first, calls_left, IsReady}
+
+-- the iterator over the nodes of a tree
+abbrev pub NearestNeighborByOrderIterator : (T E P S X : Type 0) → Type 0
+NearestNeighborByOrderIterator T E P S X = NeighborsByOrder (ParentNode T E P S X) (RTreeNode T E P S X) S P
+
+module _ {T E P S X : Type 0} where
+  -- what it shows
+  abbrev pub search_by_order : NearestNeighborByOrderIterator T E P S X → Search T E P S X
+  search_by_order it = shown it.search it.point
+
+  -- how many calls of `next` may give something
+  abbrev pub neighbors_left : NearestNeighborByOrderIterator T E P S X → Count
+  neighbors_left it = calls_left it.search
+
+-- after an element was given: nothing that waits comes before it, and just the parents that are no farther were opened
+pub record IsNextInOrder {T E P S X : Type 0} (v : Boxes E) (d : Distances T) (p : List ℤ) (order : T → T → Ordering)
+    (s : Search T E P S X) (t : T) : Type 0 where
+  pub first : AllByRecursion (IsNotLater (λ u. d.distance_2 u p) order t) (elements_waiting s)
+  pub opened : s.opened
+      ≡ min (parents_of s.root - far_of (λ e. v.distance_2 e p) (d.distance_2 t p) s.root) usize_max
+
+-- `order` is the elements' own, scalars compare by `compare` and mean `value`
+module _ {T E P S X : Type 0} (v : Boxes E) (o : Objects T E) (d : Distances T) (order : T → T → Ordering) (axes : ℕ)
+    (coord : P → ℕ → ℤ) (compare : S → S → Ordering) (value : S → ℤ) where
+  -- what it keeps, so that `next` may be called
+  unfoldable pub IsSearchingByOrder : NearestNeighborByOrderIterator T E P S X → Type 0
+  IsSearchingByOrder it = IsReady v d (table axes (coord it.point)) compare (parents_first order) value o it.search
+
+  -- until a refusal, a call of `next` gives the first of what waits in the stated order, with its distance, and `None`
+  -- where nothing waits; it may be called again, also after `None`
+  abbrev pub GivesByOrder : NearestNeighborByOrderIterator T E P S X → Option (Result (Bor T × S) AllocError)
+      → NearestNeighborByOrderIterator T E P S X → Type 0
+  GivesByOrder old r new =
+      GivesNeighbor v d axes coord (λ x. x.0.now) (search_by_order old) r (search_by_order new)
+      × IfSome r (λ y. IfOk y (λ x. IsNextInOrder v d (table axes (coord new.point)) order (search_by_order new) x.0.now))
+      × IfSome r (λ y. IfOk y (λ x. value x.1 ≡ pos (d.distance_2 x.0.now (table axes (coord old.point)))))
+      × IsSearchingByOrder new

@@ -1,0 +1,107 @@
+//! What waits in a search's heap: a node at its distance, and which of two at equal distance comes first.
+
+ghost use Rattle.std.proofs.Common.{rules};
+ghost use Rattle.std.specs.Cmp.{IsTotalOrder, partial_order_from_own_ties};
+ghost use Rattle.std.specs.Cmp.Rules.{comparing};
+ghost use Rattle.std.specs.Ordering.{as_partial_cmp, eq_by_cmp};
+ghost use Rattle.std.specs.Prelude.{◌≡◌};
+ghost use Rattle.std.specs.declared.cmp.Ordering.{Ordering};
+ghost use Rattle.rstar.specs.Searches.{any_first, parents_first, nearest_on_top};
+
+use crate::node::RTreeNode;
+use rstar_base::object::PointDistance;
+use std::cmp::Ordering;
+use std::marker::PhantomData;
+
+/// Which of two nodes at equal distance a search takes first.
+pub(crate) trait TieOrder<N> {
+    ghost order: { N → N → Ordering };
+
+    /// How they stand: the lesser comes first.
+    fn compare(a: &N, b: &N) -> Ordering
+        ensures { result ≡ order a.now b.now };
+
+    ghost total: { IsTotalOrder order };
+}
+
+/// Any of them comes first.
+pub(crate) struct AnyFirst;
+
+impl<N> TieOrder<N> for AnyFirst {
+    ghost order = { any_first };
+
+    fn compare(_a: &N, _b: &N) -> Ordering {
+        Ordering::Equal
+    }
+
+    ghost total = { Prim.search (comparing, rules) };
+}
+
+/// A parent comes before an element, and elements come by their own order.
+pub(crate) struct ParentsFirst;
+
+impl<T: PointDistance + Ord> TieOrder<RTreeNode<T>> for ParentsFirst {
+    ghost order = { parents_first T.cmp };
+
+    #[tactic(auto, unfolding(crate::specs::Nodes::leaf_element, crate::specs::Nodes::fold_tree))]
+    fn compare(a: &RTreeNode<T>, b: &RTreeNode<T>) -> Ordering {
+        match (a, b) {
+            (RTreeNode::Leaf(s), RTreeNode::Leaf(t)) => s.cmp(t),
+            (RTreeNode::Leaf(_), RTreeNode::Parent(_)) => Ordering::Greater,
+            (RTreeNode::Parent(_), RTreeNode::Leaf(_)) => Ordering::Less,
+            (RTreeNode::Parent(_), RTreeNode::Parent(_)) => Ordering::Equal,
+        }
+    }
+
+    ghost total = { Prim.search (comparing, rules) };
+}
+
+/// A node and the distance at which it waits. The nearer of two is the greater, so that a heap gives it first; of two
+/// at equal distance, the one that comes first.
+#[derive(Drop)]
+pub(crate) struct Waiting<N, S, O> {
+    pub(crate) node: N,
+    pub(crate) distance: S,
+    pub(crate) ties: PhantomData<O>,
+}
+
+impl<'a, N, S: Ord, O: TieOrder<N>> PartialEq for Waiting<&'a N, S, O> {
+    ghost eq = { eq_by_cmp (nearest_on_top S.cmp O.order) };
+
+    ghost laws = { Prim.search (comparing, rules) };
+
+    fn eq(&self, other: &Self) -> bool {
+        self.cmp(other).is_eq()
+    }
+}
+
+impl<'a, N, S: Ord, O: TieOrder<N>> Eq for Waiting<&'a N, S, O> {
+    ghost laws = { Prim.search (comparing, rules) };
+}
+
+impl<'a, N, S: Ord, O: TieOrder<N>> Ord for Waiting<&'a N, S, O> {
+    ghost cmp = { nearest_on_top S.cmp O.order };
+
+    ghost total = { Prim.search (comparing, rules) };
+
+    ghost matches_partial_cmp = { Prim.search (comparing, rules) };
+
+    ghost matches_eq = { Prim.search (comparing, rules) };
+
+    fn cmp(&self, other: &Self) -> Ordering {
+        match other.distance.cmp(&self.distance) {
+            Ordering::Equal => O::compare(other.node, self.node),
+            unequal => unequal,
+        }
+    }
+}
+
+impl<'a, N, S: Ord, O: TieOrder<N>> PartialOrd for Waiting<&'a N, S, O> {
+    ghost partial_cmp = { as_partial_cmp (nearest_on_top S.cmp O.order) };
+
+    ghost laws = { partial_order_from_own_ties (Prim.search (comparing, rules)) (Prim.search (comparing, rules)) };
+
+    fn partial_cmp(&self, other: &Self) -> Option<Ordering> {
+        Some(self.cmp(other))
+    }
+}

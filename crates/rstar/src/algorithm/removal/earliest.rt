@@ -1,0 +1,168 @@
+//! Taking out the earliest, by `Ord`, of the selected elements. Nothing here takes memory.
+//!
+//! A recursion that reads finds below which child it lies; it is then taken out of that child in the same way. So one
+//! path is changed, and at each level of it what is accepted below is read once.
+
+ghost use Rattle.std.specs.Prelude.{◌≡◌, ◌≢◌, ℕ, [], false, None, IfNone, vec_capacity, slice_index_or};
+ghost use Rattle.rstar_base.specs.Hulls.{hull};
+ghost use Rattle.rstar.specs.Earliest.{earliest, lent, earlier_at, IsGivenAt, IsEarliestOf};
+ghost use Rattle.rstar.specs.Kept.{IsKept, AreKept};
+ghost use Rattle.rstar.specs.Nodes.{node_box, given, all_given, is_leaf_node};
+ghost use Rattle.rstar.specs.Taking.{Takes, TakesInside};
+
+use crate::algorithm::removal::{differ, drop_child, is_childless, take_leaf};
+use crate::node::{ParentNode, RTreeNode, envelope_for_children};
+use rstar_base::algorithm::selection_functions::SelectionFunction;
+use rstar_base::envelope::Envelope;
+use rstar_base::object::RTreeObject;
+
+/// The earliest, by `Ord`, of the selected elements below a node; the leftmost of those before which none comes.
+#[cycle(earliest)]
+fn earliest_in<'a, T: RTreeObject + Ord, R: SelectionFunction<T>>(
+    node: &'a RTreeNode<T>,
+    func: &R,
+) -> Option<&'a T>
+    ensures { lent result ≡ earliest T.cmp (given (R.accepts func.now) (R.selects func.now) node.now) }
+{
+    match node {
+        RTreeNode::Leaf(t) => {
+            if func.should_unpack_leaf(t) {
+                Some(t)
+            } else {
+                None
+            }
+        }
+        RTreeNode::Parent(parent) => {
+            if func.should_unpack_parent(&parent.envelope) {
+                match earliest_below(parent.children.as_slice(), func) {
+                    Some((_place, t)) => Some(t),
+                    None => None,
+                }
+            } else {
+                None
+            }
+        }
+    }
+}
+
+/// The same below some nodes, with the place of the node that it lies below.
+#[cycle(earliest)]
+fn earliest_below<'a, T: RTreeObject + Ord, R: SelectionFunction<T>>(
+    nodes: &'a [RTreeNode<T>],
+    func: &R,
+) -> Option<(usize, &'a T)>
+    ensures { IsEarliestOf (R.accepts func.now) (R.selects func.now) T.cmp nodes.now result }
+{
+    let mut found = None;
+    for (place, node) in nodes.iter().enumerate() {
+        found = earlier(found, place, earliest_in(node, func));
+    }
+    found
+}
+
+/// The element that was found, or the next one, with its place, where that comes before it.
+fn earlier<'a, T: Ord>(
+    found: Option<(usize, &'a T)>,
+    place: usize,
+    next: Option<&'a T>,
+) -> Option<(usize, &'a T)>
+    ensures { result ≡ earlier_at T.cmp found.entry place next.entry }
+{
+    let Some(t) = next else {
+        return found;
+    };
+    match found {
+        Some(first) => {
+            if t.cmp(first.1).is_lt() {
+                Some((place, t))
+            } else {
+                Some(first)
+            }
+        }
+        None => Some((place, t)),
+    }
+}
+
+/// Takes out the earliest, by `Ord`, of the selected elements below a parent, and makes its envelope anew where one of
+/// its children's changed; `changed` then tells whether its own did.
+///
+/// At each level it reads once what is accepted there, and it changes one path.
+#[cycle(take_earliest)]
+pub(crate) fn take_earliest<T: RTreeObject + Ord, R: SelectionFunction<T>>(
+    node: &mut ParentNode<T>,
+    changed: &mut bool,
+    func: &R,
+) -> Option<T>
+    ensures takes { Takes T.Envelope.boxes T.object (R.accepts func.now) (R.selects func.now)
+        node.old.children.items [] None result node.new.children.items [] None }
+    ensures first { result ≡ earliest T.cmp
+        (all_given (R.accepts func.now) (R.selects func.now) node.old.children.items) }
+    ensures kept { (m w h : ℕ) → IsKept T.Envelope.boxes T.object m w node.old
+        → AreKept T.Envelope.boxes T.object m w h node.old.children.items
+        → IsKept T.Envelope.boxes T.object m w node.new }
+    ensures same { IfNone result (node.new ≡ node.old) }
+    ensures unchanged { changed.new ≡ false → node.new.envelope ≡ node.old.envelope }
+{
+    let place = match earliest_below(node.children.as_slice(), func) {
+        Some(found) => found.0,
+        None => return None,
+    };
+    let taken = take_at(&mut node.children, place, changed, func);
+    if *changed {
+        let merged = envelope_for_children(&node.children);
+        *changed = differ(&merged, &node.envelope);
+        node.envelope = merged;
+    }
+    taken
+}
+
+/// Takes out the earliest of the selected elements below the node at this place, and drops a parent that lost its last
+/// child; `changed` tells whether a node went, or changed its envelope.
+#[cycle(take_earliest)]
+fn take_at<T: RTreeObject + Ord, R: SelectionFunction<T>>(
+    children: &mut Vec<RTreeNode<T>>,
+    place: usize,
+    changed: &mut bool,
+    func: &R,
+) -> Option<T>
+    requires { IsGivenAt (R.accepts func.now) (R.selects func.now) children.old.items place }
+    ensures takes { Takes T.Envelope.boxes T.object (R.accepts func.now) (R.selects func.now)
+        children.old.items [] None result children.new.items [] None }
+    ensures first { (d : _) → result ≡ earliest T.cmp
+        (given (R.accepts func.now) (R.selects func.now) (slice_index_or children.old.items place d)) }
+    ensures capacity { vec_capacity children.new ≡ vec_capacity children.old }
+    ensures unchanged { changed.new ≡ false → hull T.Envelope.boxes (node_box T.object.box_of) children.new.items
+        ≡ hull T.Envelope.boxes (node_box T.object.box_of) children.old.items }
+{
+    if children[place].is_leaf() {
+        *changed = true;
+        return Some(take_leaf(children, place));
+    }
+    let taken = take_inside(&mut children[place], changed, func);
+    if is_childless(&children[place]) {
+        drop_child(children, place);
+        *changed = true;
+    }
+    taken
+}
+
+/// Takes out the earliest of the selected elements below a parent, which may be left without children.
+#[cycle(take_earliest)]
+fn take_inside<T: RTreeObject + Ord, R: SelectionFunction<T>>(
+    child: &mut RTreeNode<T>,
+    changed: &mut bool,
+    func: &R,
+) -> Option<T>
+    requires parent { is_leaf_node child.old ≡ false }
+    requires some { given (R.accepts func.now) (R.selects func.now) child.old ≢ [] }
+    ensures takes { TakesInside T.Envelope.boxes T.object (R.accepts func.now) (R.selects func.now)
+        child.old [] None result child.new [] None }
+    ensures first { result ≡ earliest T.cmp (given (R.accepts func.now) (R.selects func.now) child.old) }
+    ensures unchanged { changed.new ≡ false
+        → node_box T.object.box_of child.new ≡ node_box T.object.box_of child.old }
+{
+    match child {
+        RTreeNode::Leaf(_) => unreachable!(),
+        RTreeNode::Parent(parent) => take_earliest(parent, changed, func),
+    }
+}
