@@ -1,6 +1,6 @@
 -- Texts that are printed piece by piece.
 use Rattle.std.proofs.Common.{◌≡◌, ◌∙◌, ℕ, ◌+◌, ◌<◌, ◌≤◌, List, [], ◌∷◌, ◌++◌, length, get_or, drop, drop-cons, drop_of_length-le, add-one, take, take_all, ◌-◌, Option, Result, Ok, Err, refl, sym, ap, subst, append_assoc, append-nil, arith}
-use Rattle.std.specs.Prelude.{codes, decimal, map, OnOk, IfErr}
+use Rattle.std.specs.Prelude.{codes, map, OnOk, IfErr}
 use Rattle.std.specs.List.{flat_map}
 use Rattle.std.specs.Result.{IsErrAnd}
 use Rattle.std.specs.Io.KnownBytes.{Appends, Keeps}
@@ -139,22 +139,32 @@ pub printed_front : (u v : Option (List ℕ)) (held held' : List ℕ) (Kind : Li
 printed_front u v held held' Kind text k front s m (Ok x) h = absurd h
 printed_front u v held held' Kind text k front s m (Err e) h = subst (λ (o : Stop). PrintsSome Kind u v held held' (Err o)) (sym (h ∙ m)) (text, k, front)
 
--- ---- lists of numbers
+-- ---- lists of texts
 
--- the numbers of items from an index on
-pub next_item : {T : Type 0} (f : T → ℕ) (ts : List T) (i : ℕ) (t : T) (n : ℕ) → t ≡ get_or ts i t → n ≡ f t → i < length ts
-    → flat_map (λ n. codes " " ++ decimal n) (map f (drop i ts)) ++ codes "\n" ≡ codes " " ++ (decimal n ++ (flat_map (λ n. codes " " ++ decimal n) (map f (drop (i + 1) ts)) ++ codes "\n"))
-next_item {T} f ts i t n is e h =
-    let cut : drop i ts ≡ get_or ts i t ∷ drop (i + 1) ts = rw add-one (drop-cons ts i t h) in
-    let same : drop i ts ≡ t ∷ drop (i + 1) ts = cut ∙ ap (λ (u : T). u ∷ drop (i + 1) ts) (sym is) in
-    rw (same, e) (append_assoc (codes " " ++ decimal (f t)) _ (codes "\n"))
+module _ {T : Type 0} (text : T → List ℕ) where
+  -- the texts of items from an index on
+  pub next_item : (ts : List T) (i : ℕ) (t : T) → t ≡ get_or ts i t → i < length ts
+      → flat_map (λ t. codes " " ++ text t) (drop i ts) ++ codes "\n" ≡ codes " " ++ (text t ++ (flat_map (λ t. codes " " ++ text t) (drop (i + 1) ts) ++ codes "\n"))
+  next_item ts i t is h =
+      let cut : drop i ts ≡ get_or ts i t ∷ drop (i + 1) ts = rw add-one (drop-cons ts i t h) in
+      let same : drop i ts ≡ t ∷ drop (i + 1) ts = cut ∙ ap (λ (u : T). u ∷ drop (i + 1) ts) (sym is) in
+      rw same (append_assoc (codes " " ++ text t) _ (codes "\n"))
 
-pub no_item : {T : Type 0} (f : T → ℕ) (ts : List T) (i : ℕ) → length ts ≤ i → flat_map (λ n. codes " " ++ decimal n) (map f (drop i ts)) ++ codes "\n" ≡ codes "\n"
-no_item f ts i h = rw (drop_of_length-le ts h) refl
+  pub no_item : (ts : List T) (i : ℕ) → length ts ≤ i → flat_map (λ t. codes " " ++ text t) (drop i ts) ++ codes "\n" ≡ codes "\n"
+  no_item ts i h = rw (drop_of_length-le ts h) refl
 
-pub first_item : {T : Type 0} (f : T → ℕ) (ts : List T) (t : T) (n : ℕ) → t ≡ get_or ts 0 t → n ≡ f t → 0 < length ts
-    → list_text (map f ts) ++ codes "\n" ≡ decimal n ++ (flat_map (λ n. codes " " ++ decimal n) (map f (take (length ts - 1) (drop 1 ts))) ++ codes "\n")
-first_item f [] t n is e h = absurd (omega arith)
-first_item {T} f (u ∷ ts) t n is e h =
-    let rest : take (length (u ∷ ts) - 1) ts ≡ ts = take_all (length (u ∷ ts) - 1) ts (omega arith) in
-    rw (rest, e, is) (append_assoc (decimal (f u)) (flat_map (λ k. codes " " ++ decimal k) (map f ts)) (codes "\n"))
+  pub first_item : (ts : List T) (t : T) → t ≡ get_or ts 0 t → 0 < length ts
+      → list_text text ts ++ codes "\n" ≡ text t ++ (flat_map (λ t. codes " " ++ text t) (take (length ts - 1) (drop 1 ts)) ++ codes "\n")
+  first_item [] t is h = absurd (omega arith)
+  first_item (u ∷ ts) t is h =
+      let rest : take (length (u ∷ ts) - 1) ts ≡ ts = take_all (length (u ∷ ts) - 1) ts (omega arith) in
+      rw (rest, is) (append_assoc (text u) (flat_map (λ t. codes " " ++ text t) ts) (codes "\n"))
+
+-- the texts of some through a function
+pub list_text-map : {A B : Type 0} (text : B → List ℕ) (f : A → B) (xs : List A) → list_text text (map f xs) ≡ list_text (λ x. text (f x)) xs
+list_text-map text f [] = refl
+list_text-map {A} text f (x ∷ xs) = ap (λ l. text (f x) ++ l) (others xs)
+  where
+    others : (ys : List A) → flat_map (λ y. codes " " ++ text y) (map f ys) ≡ flat_map (λ y. codes " " ++ text (f y)) ys
+    others [] = refl
+    others (y ∷ ys) = ap (λ l. (codes " " ++ text (f y)) ++ l) (others ys)

@@ -1,7 +1,8 @@
 -- Rectangles with IDs, as the tree holds them, and what a scan asks of them.
 use Rattle.std.specs.Prelude.{◌≡◌, ◌^◌, ◌-◌, ◌&&◌, ◌==◌, ℕ, ℤ, Bool, List, pos, negsuc, length}
-use Rattle.std.specs.Ordering.{int_eq}
-use Rattle.std.specs.Cmp.Lexicographic.{pointwise}
+use Rattle.std.specs.Ordering.{int_eq, int_cmp, nat_cmp, ordering_then}
+use Rattle.std.specs.Cmp.Lexicographic.{pointwise, slice_cmp}
+use Rattle.std.specs.declared.cmp.Ordering.{Ordering}
 use Rattle.std.specs.declared.num.ParseIntError.{ParseIntError}
 use Rattle.rstar_base.specs.declared.primitives.Rectangle.{Rectangle}
 use Rattle.rstar_base.specs.BoxData.{box_data}
@@ -10,6 +11,7 @@ use Rattle.rstar.specs.Elements.{Objects, Distances, carried_objects, carried_di
 use Rattle.rstar.specs.Segments.{coordinate}
 use Rattle.rstar.specs.Rectangles.{rectangle_objects, rectangle_distances}
 use Rattle.rstar.specs.Steps as steps
+use Rattle.rstar.specs.StepsByOrder.{StepByOrder}
 use Rattle.rstar.specs.declared.replay.Command as commands
 use Rattle.rstar.specs.declared.replay.Reply as replies
 use Rattle.rstar_run.specs.declared.command.Corners.{Corners}
@@ -55,6 +57,18 @@ same_item a b =
 
 abbrev pub questions : steps.Questions Item Box Point ℤ
 questions = steps.questions_of (box_data low high 2) item_objects item_distances 2 coordinate (λ n. n) same_item
+
+-- the items' own order: by their lower corners, then by their upper ones, and then by their IDs
+abbrev pub compare_items : Item → Item → Ordering
+compare_items a b =
+    ordering_then
+    (ordering_then (slice_cmp int_cmp a.0.lower b.0.lower) (slice_cmp int_cmp a.0.upper b.0.upper))
+    (nat_cmp a.1 b.1)
+
+-- what a command may be answered, and which items it leaves: neighbours come by distance, and at equal distance by the
+-- items' own order
+abbrev pub StoreStep : List Item → Command → Reply → List Item → Type 0
+StoreStep = StepByOrder questions compare_items
 
 -- the box of two opposite corners: on each axis from the lesser coordinate to the greater
 abbrev pub box_between : Corners → Box

@@ -2,11 +2,10 @@
 use Rattle.std.specs.Prelude.{◌≡◌, ℕ, ◌+◌, ◌<◌, Bool, true, false, List, [], ◌∷◌, ◌++◌, length, decimal, codes, Option, IfSome, Result, Ok, Err, ⊤, ◌⊎◌}
 use Rattle.std.specs.Global.{Vec}
 use Rattle.std.specs.Io.KnownBytes.{Appends, IsAtEnd}
-use Rattle.rstar.specs.Steps.{Step}
 use Rattle.rstar.specs.declared.replay.Command.TheVariants as command
 use Rattle.rstar_run.specs.Words.{words_of, without_end}
 use Rattle.rstar_run.specs.Grammar.{line_of, entry_of}
-use Rattle.rstar_run.specs.Items.{Item, Command, Reply, questions, IsRectangle}
+use Rattle.rstar_run.specs.Items.{Item, Command, Reply, StoreStep, IsRectangle}
 use Rattle.rstar_run.specs.Requests.{Asks}
 use Rattle.rstar_run.specs.Statuses.{status_of}
 use Rattle.rstar_run.specs.Texts.{Spells, end_text}
@@ -43,7 +42,7 @@ Lists (line ∷ lines) items =
 -- the store takes a step by a command of this kind, and the reply is said
 abbrev pub StepSays : (Command → Type 0) → List Item → List ℕ → List Item → Type 0
 StepSays Kind old said new =
-    (c : Command) × Kind c × ((reply : Reply) × Step questions old c reply new × Spells reply said)
+    (c : Command) × Kind c × ((reply : Reply) × StoreStep old c reply new × Spells reply said)
 
 -- the command is a load of so many items, those of these lines
 abbrev pub IsLoad : ℕ → List (List ℕ) → Command → Type 0

@@ -1,5 +1,5 @@
 -- How replies and ends are spelled.
-use Rattle.std.specs.Prelude.{◌≡◌, ℕ, List, [], ◌∷◌, ◌++◌, codes, decimal, map, unsigned_abs, Some, None, Result, Ok, Err}
+use Rattle.std.specs.Prelude.{◌≡◌, ℕ, ℤ, List, [], ◌∷◌, ◌++◌, codes, decimal, map, unsigned_abs, Some, None, Result, Ok, Err}
 use Rattle.std.specs.List.{join_by}
 use Rattle.std.specs.List.Sorted.{IsPermutation, IsNonDecreasing}
 use Rattle.rstar.specs.declared.replay.Reply.TheVariants as reply
@@ -7,10 +7,17 @@ use Rattle.rstar_run.specs.Items.{Item, Reply}
 use Rattle.rstar_run.specs.declared.program.Stop.{Stop}
 use Rattle.rstar_run.specs.declared.program.Stop.TheVariants.{Line, Memory, Input, Output}
 
--- numbers with single spaces, and `-` where there is none
-abbrev pub list_text : List ℕ → List ℕ
-list_text [] = codes "-"
-list_text (n ∷ ns) = join_by decimal (codes " ") (n ∷ ns)
+-- the texts of some with single spaces, and `-` where there is none
+abbrev pub list_text : {A : Type 0} → (A → List ℕ) → List A → List ℕ
+list_text text [] = codes "-"
+list_text text (x ∷ xs) = join_by text (codes " ") (x ∷ xs)
+
+-- the ID of an item, and that of a neighbour with its squared distance
+abbrev pub id_text : Item → List ℕ
+id_text item = decimal item.1
+
+abbrev pub neighbour_text : Item × ℤ → List ℕ
+neighbour_text n = id_text n.0 ++ (codes ":" ++ decimal (unsigned_abs n.1))
 
 -- the IDs of just these items, ascending
 pub record AreIds (items : List Item) (ids : List ℕ) : Type 0 where
@@ -21,9 +28,10 @@ pub record AreIds (items : List Item) (ids : List ℕ) : Type 0 where
 abbrev pub Spells : Reply → List ℕ → Type 0
 Spells reply.Done text = text ≡ codes "ok\n"
 Spells (reply.Taken None) text = text ≡ codes "-\n"
-Spells (reply.Taken (Some item)) text = text ≡ decimal item.1 ++ codes "\n"
-Spells (reply.Elements items) text = (ids : List ℕ) × AreIds items.items ids × (text ≡ list_text ids ++ codes "\n")
-Spells (reply.Neighbours found) text = text ≡ list_text (map (λ n. unsigned_abs n.1) found.items) ++ codes "\n"
+Spells (reply.Taken (Some item)) text = text ≡ id_text item ++ codes "\n"
+Spells (reply.Elements items) text =
+    (ids : List ℕ) × AreIds items.items ids × (text ≡ list_text decimal ids ++ codes "\n")
+Spells (reply.Neighbours found) text = text ≡ list_text neighbour_text found.items ++ codes "\n"
 Spells _ _ = ⊥
 
 -- no text spells the reply: it says that memory was refused or that the tree is full, or no line asks for it

@@ -1,8 +1,8 @@
 //! Replies, as text.
 
-ghost use Rattle.std.specs.Prelude.{◌≡◌, ◌++◌, ℕ, codes, decimal, map, unsigned_abs, Err, IfErr, OnOk};
+ghost use Rattle.std.specs.Prelude.{◌≡◌, ◌++◌, ℕ, List, codes, decimal, Err, IfErr, OnOk};
 ghost use Rattle.rstar_run.specs.Prints.{AppendsFront, Prints, PrintsSome};
-ghost use Rattle.rstar_run.specs.Texts.{list_text, HasNoText, Spells};
+ghost use Rattle.rstar_run.specs.Texts.{list_text, id_text, neighbour_text, HasNoText, Spells};
 
 use super::print::Printer;
 use super::program::Stop;
@@ -10,31 +10,37 @@ use super::store::Item;
 use rstar::replay::Reply;
 use std::io::Write;
 
-/// What is printed as a number in a list.
-trait Numbered {
-    // The number.
-    ghost number_of: { Self → ℕ };
+/// What is printed in a list.
+trait Listed {
+    // Its text.
+    ghost text_of: { Self → List ℕ };
 
-    /// The number.
-    fn number(&self) -> u64
-        ensures { result ≡ number_of self.now };
+    /// Prints it. It takes no memory.
+    fn print<W: Write>(&self, printer: &mut Printer, output: &mut W) -> Result<(), Stop>
+        ensures all { OnOk result (Prints (W.contents output.old) (W.contents output.new)
+            printer.old.held.items (text_of self.now) printer.new.held.items) }
+        ensures front { AppendsFront (W.contents output.old) (W.contents output.new)
+            (printer.old.held.items ++ text_of self.now) }
+        ensures stop { IfErr result (λ stop. stop ≡ Stop.Output) };
 }
 
 /// A rectangle is printed as its ID.
-impl Numbered for Item {
-    ghost number_of = { λ item. item.1 };
+impl Listed for Item {
+    ghost text_of = { id_text };
 
-    fn number(&self) -> u64 {
-        self.data
+    fn print<W: Write>(&self, printer: &mut Printer, output: &mut W) -> Result<(), Stop> {
+        printer.put_number(output, self.data)
     }
 }
 
-/// A rectangle with its distance is printed as the distance.
-impl Numbered for (Item, i64) {
-    ghost number_of = { λ found. unsigned_abs found.1 };
+/// A rectangle with its squared distance is printed as its ID, a colon and the distance.
+impl Listed for (Item, i64) {
+    ghost text_of = { neighbour_text };
 
-    fn number(&self) -> u64 {
-        self.1.unsigned_abs()
+    fn print<W: Write>(&self, printer: &mut Printer, output: &mut W) -> Result<(), Stop> {
+        self.0.print(printer, output)?;
+        printer.put(output, b":")?;
+        printer.put_number(output, self.1.unsigned_abs())
     }
 }
 
@@ -81,25 +87,25 @@ pub fn print_number<W: Write>(
     printer.put(output, b"\n")
 }
 
-/// Prints a line of numbers with single spaces, `-` where there is none.
-fn print_list<T: Numbered, W: Write>(
+/// Prints a line of texts with single spaces, `-` where there is none.
+fn print_list<T: Listed, W: Write>(
     printer: &mut Printer,
     output: &mut W,
     items: &[T],
 ) -> Result<(), Stop>
     ensures all { OnOk result (Prints (W.contents output.old) (W.contents output.new)
-        printer.old.held.items (list_text (map T.number_of items.now) ++ codes "\n") printer.new.held.items) }
+        printer.old.held.items (list_text T.text_of items.now ++ codes "\n") printer.new.held.items) }
     ensures front { AppendsFront (W.contents output.old) (W.contents output.new)
-        (printer.old.held.items ++ (list_text (map T.number_of items.now) ++ codes "\n")) }
+        (printer.old.held.items ++ (list_text T.text_of items.now ++ codes "\n")) }
     ensures stop { IfErr result (λ stop. stop ≡ Stop.Output) }
 {
     match items {
         [] => printer.put(output, b"-\n"),
         [first, rest @ ..] => {
-            printer.put_number(output, first.number())?;
+            first.print(printer, output)?;
             for item in rest {
                 printer.put(output, b" ")?;
-                printer.put_number(output, item.number())?;
+                item.print(printer, output)?;
             }
             printer.put(output, b"\n")
         }

@@ -24,7 +24,7 @@ pub enum Request {
     Remove(u64, Corners),
     /// Take out a rectangle that contains a point, and print its ID.
     RemoveAt([i64; 2]),
-    /// Take out a rectangle that is nearest to a point, and print its ID.
+    /// Take out the first rectangle by distance from a point, and print its ID.
     Pop([i64; 2]),
     /// Take out rectangles that lie in a box, at most so many, and print their IDs.
     DrainIn(Corners, usize),
@@ -38,7 +38,7 @@ pub enum Request {
     At([i64; 2]),
     /// Print the IDs of the rectangles whose squared distance from a point is at most a limit.
     Within([i64; 2], i64),
-    /// Print the squared distances of the first so many rectangles from a point, the nearest first.
+    /// Print the IDs of the first so many rectangles by distance from a point, each with its squared distance.
     Near([i64; 2], usize),
 }
 

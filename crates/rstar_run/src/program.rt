@@ -3,8 +3,8 @@
 ghost use Rattle.std.specs.Prelude.{◌≡◌, ◌+◌, ◌++◌, ℕ, List, [], Ok, Err, true, false, IsErr, OnOk, IfOk, IfErr};
 ghost use Rattle.std.specs.Io.KnownBytes.{Appends, IsAtEnd, Keeps};
 ghost use Rattle.rstar.specs.Lists.{NoneEmpty};
-ghost use Rattle.rstar.specs.Steps.{IsFit, Step};
-ghost use Rattle.rstar_run.specs.Items.{Reply, questions};
+ghost use Rattle.rstar.specs.Steps.{IsFit};
+ghost use Rattle.rstar_run.specs.Items.{Reply, StoreStep, questions};
 ghost use Rattle.rstar_run.specs.Lines.{bytes_left, TakesLine};
 ghost use Rattle.rstar_run.specs.Prints.{AppendsFront, Prints, Printed, PrintsSome};
 ghost use Rattle.rstar_run.specs.Runs.{IsNoLine, ReadsLoad, Turn, RunSays, Ran};
@@ -127,10 +127,10 @@ fn run_command<W: Write>(
     output: &mut W,
 ) -> Result<(), Stop>
     requires { IsFit questions 2 command }
-    ensures printed { PrintsSome (λ text. (reply : Reply) × Step questions store.old command reply store.new
+    ensures printed { PrintsSome (λ text. (reply : Reply) × StoreStep store.old command reply store.new
         × Spells reply text) (W.contents output.old) (W.contents output.new) printer.old.held.items
         printer.new.held.items result }
-    ensures silent { result ≡ Err Stop.Memory → (reply : Reply) × Step questions store.old command reply store.new
+    ensures silent { result ≡ Err Stop.Memory → (reply : Reply) × StoreStep store.old command reply store.new
         × HasNoText reply }
 {
     let reply = store.step(command);

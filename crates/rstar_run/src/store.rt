@@ -1,12 +1,12 @@
 //! The rectangles that commands work on.
 
 ghost use Rattle.std.specs.Prelude.{◌≡◌, false, [], length};
-ghost use Rattle.rstar.specs.Steps.{IsFit, Step};
-ghost use Rattle.rstar_run.specs.Items.{questions, IsRectangle};
+ghost use Rattle.rstar.specs.Steps.{IsFit};
+ghost use Rattle.rstar_run.specs.Items.{questions, StoreStep, IsRectangle};
 
 use super::command::Corners;
 use rstar::primitives::{GeomWithData, Rectangle};
-use rstar::replay::{Command, Reply, step};
+use rstar::replay::{Command, Reply, step_by_order};
 use rstar::{AABB, DefaultParams, Envelope, RTree, RTreeObject, RTreeParams};
 use std::alloc::Global;
 use std::marker::Model;
@@ -44,12 +44,12 @@ impl Store {
         }
     }
 
-    /// Runs one command.
+    /// Runs one command. Neighbours come by distance, and at equal distance by the items' own order.
     pub fn step(&mut self, command: Command<Item>) -> Reply<Item>
         requires { IsFit questions 2 command }
-        ensures { Step questions self.old command result self.new }
+        ensures { StoreStep self.old command result self.new }
     {
-        step(&mut self.tree, command)
+        step_by_order(&mut self.tree, command)
     }
 
     /// The number of rectangles.

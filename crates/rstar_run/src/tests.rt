@@ -34,7 +34,7 @@ fn expect_run(rt: &(impl AllocGlobal + Abort), input: &[u8], want: &str, status:
 
 #[test]
 fn answers_lines(rt: HostRuntime) {
-    let rows: [(&[u8], &str); 35] = [
+    let rows: [(&[u8], &str); 37] = [
         (b"", ""),
         (b"insert 7 0 0 2 2\nin 0 0 2 2\nsize\n", "ok\n7\n1\n"),
         // Equal rectangles and IDs count as often as they were inserted.
@@ -99,7 +99,7 @@ fn answers_lines(rt: HostRuntime) {
         (b"hit 0 0 1 1\nat 0 0\nwithin 0 0 9\n", "-\n-\n-\n"),
         (
             b"insert 7 0 0 2 2\ninsert 8 2 2 4 4\nhit 2 2 2 2\nin 0 0 2 2\nat 5 5\nnear 0 0 5\nsize\ndrain hit 3 3 9 9 5\npop 9 9\npop 9 9\nsize\n",
-            "ok\nok\n7 8\n7\n-\n0 8\n2\n8\n7\n-\n0\n",
+            "ok\nok\n7 8\n7\n-\n7:0 8:8\n2\n8\n7\n-\n0\n",
         ),
         (
             b"insert 1 0 0 1 1\ninsert 2 0 0 1 1\nremove 2 0 0 1 1\nremove 2 0 0 1 1\ndrain in 0 0 9 9 0\nremoveat 1 1\nremoveat 1 1\n",
@@ -125,7 +125,16 @@ fn answers_lines(rt: HostRuntime) {
         ),
         (
             b"near 0 0 3\ninsert 1 3 4 3 4\ninsert 2 0 1 9 1\ninsert 3 -2 0 -2 0\nnear 0 0 0\nnear 0 0 2\nnear 0 0 18446744073709551615\nsize\n",
-            "-\nok\nok\nok\n-\n1 4\n1 4 25\n3\n",
+            "-\nok\nok\nok\n-\n2:1 3:4\n2:1 3:4 1:25\n3\n",
+        ),
+        // At equal distance the lesser corners come first, and at equal corners the lesser ID.
+        (
+            b"insert 9 0 0 1 1\ninsert 4 0 0 1 1\ninsert 5 -3 0 -1 0\nnear 0 0 3\npop 0 0\npop 5 5\n",
+            "ok\nok\nok\n4:0 9:0 5:1\n4\n9\n",
+        ),
+        (
+            b"insert 1 3 0 3 0\ninsert 2 -3 0 -3 0\nnear 0 0 2\n",
+            "ok\nok\n2:9 1:9\n",
         ),
         (
             b"pop 0 0\ninsert 1 3 4 3 4\ninsert 2 0 1 9 1\npop 0 0\npop 0 0\npop 0 0\n",
@@ -144,7 +153,7 @@ fn answers_lines(rt: HostRuntime) {
         ),
         (
             b"load 7\n7 0 0 0 0\n6 1 0 1 0\n5 2 0 2 0\n4 100 0 100 0\n3 101 0 101 0\n2 102 0 102 0\n1 103 0 103 0\nhit 0 0 200 0\nnear 0 0 4\ndrain in 0 0 2 2 9\nsize",
-            "ok\n1 2 3 4 5 6 7\n0 1 4 10000\n5 6 7\n4\n",
+            "ok\n1 2 3 4 5 6 7\n7:0 6:1 5:4 4:10000\n5 6 7\n4\n",
         ),
     ];
     for (input, want) in rows {
@@ -405,7 +414,7 @@ const LINES: [(&'static [u8], &'static str); 12] = [
     (b"hit 2 2 2 2\n", "7 8\n"),
     (b"in 0 0 2 2\n", "7\n"),
     (b"at 5 5\n", "-\n"),
-    (b"near 0 0 5\n", "0 8\n"),
+    (b"near 0 0 5\n", "7:0 8:8\n"),
     (b"size\n", "2\n"),
     (b"drain hit 3 3 9 9 5\n", "8\n"),
     (b"pop 9 9\n", "7\n"),
