@@ -7,7 +7,7 @@ ghost use Rattle.rstar_base.specs.Sizes.{IsNarrow};
 ghost use Rattle.rstar_base.specs.laws.CarrierLaws.{carried_laws};
 ghost use Rattle.rstar.specs.Neighbors.{with_distances, IsSearching};
 ghost use Rattle.rstar.specs.Trees.{IsWholeTree};
-ghost use Rattle.rstar_vectors.specs.Fits.{iterator_row, alone_row};
+ghost use Rattle.rstar_vectors.specs.Fits.{iterator_row, alone_row, ordered_row};
 
 use crate::fences::Fence;
 use crate::neighbours::{all_below, in_order, one_below};
@@ -73,6 +73,7 @@ pub(crate) fn fits<P: Point>()
     requires { IsNarrow P.row }
     ensures with_distances { FitsInMemory (iterator_row P.row P.Scalar.row) }
     ensures alone { FitsInMemory (alone_row P.row P.Scalar.row) }
+    ensures ordered { FitsInMemory (ordered_row P.row P.Scalar.row) }
 {}
 
 /// Whether elements lie at these squared distances from a place, in this order.

@@ -6,6 +6,7 @@ ghost use Rattle.std.specs.Prelude.{◌≡◌, ◌≤◌, false};
 ghost use Rattle.rstar_base.specs.Sizes.{IsNarrow};
 ghost use Rattle.rstar.specs.Trees.{IsWholeTree};
 
+use crate::by_order::in_stated_order;
 use crate::joins::joined;
 use crate::loads::{shown, shows};
 use crate::neighbour_rows::{answers, come, fits, scanned};
@@ -60,7 +61,7 @@ where
 /// How many elements a question gives, none where it is refused: those five, all pairs of a join of the tree with itself,
 /// and the elements of a clone; and by each call for neighbours all that are asked for, where these lie at such squared
 /// distances.
-fn counted<T: PointDistance + Copy>(
+fn counted<T: PointDistance + Ord + Copy>(
     alloc: Global,
     tree: &RTree<T>,
     question: usize,
@@ -87,6 +88,10 @@ where
         } else {
             None
         },
+        8 => match &in_stated_order(alloc, tree, asked.1) {
+            Ok((all, _)) => Some(all.len()),
+            Err(_) => None,
+        },
         _ => match &selected(alloc, tree, question, asked) {
             Ok((all, _)) => Some(all.len()),
             Err(_) => None,
@@ -95,7 +100,7 @@ where
 }
 
 /// Whether a question gives so many, at once or, where it was refused and the tree shows the same, once more.
-fn is_answered<T: PointDistance + Copy + Debug>(
+fn is_answered<T: PointDistance + Ord + Copy + Debug>(
     alloc: Global,
     tree: &RTree<T>,
     question: usize,
@@ -136,7 +141,7 @@ fn shows_again<T: RTreeObject + Debug, Params: RTreeParams>(
 }
 
 /// Whether each question to a load of these elements gives as many as told, once more where it is refused.
-fn are_answered<T: PointDistance + Copy + Debug>(
+fn are_answered<T: PointDistance + Ord + Copy + Debug>(
     alloc: Global,
     elements: &[T],
     asked: &Asked<T>,
@@ -161,12 +166,12 @@ where
 }
 
 // Of 28 points, in two levels of parents below the root: all, those in a box, those that it touches, those at a point, those
-// within a distance, the pairs of the tree with itself, a clone, and by each call for neighbours all of them, or those that
-// are nearest.
+// within a distance, the pairs of the tree with itself, a clone, by each call for neighbours all of them, or those that are
+// nearest, and all in the stated order.
 #[test]
 fn questions_that_are_refused(rt: HostRuntime) {
     let asked = (AABB::from_corners([0, 0], [50, 50]), [0, 0], 2500);
-    let counts = [28, 7, 7, 1, 7, 28, 28, 28];
+    let counts = [28, 7, 7, 1, 7, 28, 28, 28, 28];
     assert!(rt; are_answered(rt.alloc(), &points(rt.alloc(), 28), &asked, &counts));
 }
 
@@ -281,11 +286,28 @@ where
         && (is_first || is_made(tree, drain, asked.0, asked.1, asked.2))
 }
 
-/// Whether a nearest neighbour is popped, at once or, where it was refused and the tree shows the same, once more.
-fn is_popped<T: PointDistance + Debug>(
+/// Takes a nearest neighbour out, or the first in the stated order.
+fn pop<T: PointDistance + Ord>(
+    tree: &mut RTree<T>,
+    place: PointOf<T>,
+    by_order: bool,
+) -> Result<Option<T>, AllocError>
+    requires { IsWholeTree T.Envelope.boxes T.object ⟦<DefaultParams as RTreeParams>⟧.MAX_SIZE tree.old }
+    ensures { IsWholeTree T.Envelope.boxes T.object ⟦<DefaultParams as RTreeParams>⟧.MAX_SIZE tree.new }
+{
+    if by_order {
+        tree.pop_nearest_neighbor_by_order(place)
+    } else {
+        tree.pop_nearest_neighbor(place)
+    }
+}
+
+/// Whether a neighbour is popped, at once or, where it was refused and the tree shows the same, once more.
+fn is_popped<T: PointDistance + Ord + Debug>(
     alloc: Global,
     tree: &mut RTree<T>,
     place: PointOf<T>,
+    by_order: bool,
 ) -> bool
 where
     PointOf<T>: Copy,
@@ -295,13 +317,13 @@ where
     let before = &shown(alloc, tree.root());
     let count = tree.size();
     let is_begun = is_marked(alloc);
-    let first = tree.pop_nearest_neighbor(place);
+    let first = pop(tree, place, by_order);
     let is_ended = is_marked(alloc);
     let is_out = match first {
         Ok(found) => found.is_some(),
         Err(_) => {
             let is_same = tree.size() == count && shows_again(alloc, &*tree, before);
-            matches!(tree.pop_nearest_neighbor(place), Ok(Some(_))) && is_same
+            matches!(pop(tree, place, by_order), Ok(Some(_))) && is_same
         }
     };
     is_begun && is_ended && is_out && tree.size().saturating_add(1) == count
@@ -337,8 +359,12 @@ fn is_taken_apart<T: RTreeObject + Debug>(alloc: Global, tree: RTree<T>, count: 
         }
 }
 
-/// Whether a load of these elements makes each drain, pops one, and is taken apart, once more where that is refused.
-fn change<T: PointDistance + Copy + Debug>(alloc: Global, elements: &[T], asked: &Asked<T>) -> bool
+/// Whether a load of these elements makes each drain, pops one, and the first in the stated order, and is taken apart, once more where that is refused.
+fn change<T: PointDistance + Ord + Copy + Debug>(
+    alloc: Global,
+    elements: &[T],
+    asked: &Asked<T>,
+) -> bool
 where
     T::Envelope: Copy,
     PointOf<T>: Copy,
@@ -350,9 +376,10 @@ where
             return false;
         }
     }
-    is_popped(alloc, &mut tree, asked.1)
+    is_popped(alloc, &mut tree, asked.1, false)
+        && is_popped(alloc, &mut tree, asked.1, true)
         && stands(&tree)
-        && is_taken_apart(alloc, tree, elements.len().saturating_sub(1))
+        && is_taken_apart(alloc, tree, elements.len().saturating_sub(2))
 }
 
 // The same 28 points.

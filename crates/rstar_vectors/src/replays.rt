@@ -12,7 +12,9 @@ use crate::counted::Place;
 use crate::neighbour_rows::take;
 use crate::refusals::is_marked;
 use crate::scenarios::stands;
-use rstar::replay::{Command, Query, Reply, Scanned, all_fit, is_fit, replay, step};
+use rstar::replay::{
+    Command, Query, Reply, Scanned, all_fit, is_fit, replay, replay_by_order, step,
+};
 use rstar::{
     AABB, Counted, DefaultParams, Envelope, EqualEnvelopes, Point, PointDistance, RTree,
     RTreeObject, RTreeParams,
@@ -58,11 +60,12 @@ fn replay_places(
 
 // ---- rows
 
-/// The replies to commands that one `replay` runs on an empty tree, between two marks, and how many elements the tree then
-/// has; none where one command is not fit, and none are counted where the tree does not stand.
-fn replies<T: PointDistance + EqualEnvelopes + Clone>(
+/// The replies to commands that one `replay`, or one `replay_by_order`, runs on an empty tree, between two marks, and how
+/// many elements the tree then has; none where one command is not fit, and none are counted where the tree does not stand.
+fn replies<T: PointDistance + EqualEnvelopes + Clone + Ord>(
     alloc: Global,
     commands: Vec<Command<T>>,
+    by_order: bool,
 ) -> (Result<Vec<Reply<T>>, AllocError>, Option<usize>)
     requires { ClonesEqual T.is_clone }
 {
@@ -71,7 +74,11 @@ fn replies<T: PointDistance + EqualEnvelopes + Clone>(
     }
     let mut tree: RTree<T> = RTree::default(alloc);
     let is_begun = is_marked(alloc);
-    let all = replay(&mut tree, commands);
+    let all = if by_order {
+        replay_by_order(&mut tree, commands)
+    } else {
+        replay(&mut tree, commands)
+    };
     let is_ended = is_marked(alloc);
     let left = if is_begun && is_ended && stands(&tree) {
         Some(tree.size())
@@ -512,13 +519,13 @@ fn is_one_refused(replies: &[Reply<At>]) -> bool {
     false
 }
 
-/// Whether the commands of some rows, run by one `replay`, give as many elements as the rows say; none where a command or
-/// all of them are refused, and the others are answered as over a list, and the tree has as many points as that.
-fn is_replayed(alloc: Global, rows: &[Row], draws: &[Draw]) -> Option<bool> {
+/// Whether the commands of some rows, run at once, give as many elements as the rows say; none where a command or all of
+/// them are refused, and the others are answered as over a list, and the tree has as many points as that.
+fn is_replayed(alloc: Global, rows: &[Row], draws: &[Draw], by_order: bool) -> Option<bool> {
     let Ok(commands) = commands_of(alloc, draws) else {
         return Some(false);
     };
-    let (answered, left) = replies(alloc, commands);
+    let (answered, left) = replies(alloc, commands, by_order);
     match &answered {
         Ok(all) => {
             if left.is_none() || left_after(alloc, draws, all) != Ok(left) {
@@ -533,12 +540,19 @@ fn is_replayed(alloc: Global, rows: &[Row], draws: &[Draw]) -> Option<bool> {
     }
 }
 
-/// Whether the commands of some rows, run by one `replay`, once more where that is refused, give as many elements as the
-/// rows say, and run one by one are answered as over a list.
+/// The same, once more where it is refused.
+fn are_replayed(alloc: Global, rows: &[Row], draws: &[Draw], by_order: bool) -> bool {
+    let first = is_replayed(alloc, rows, draws, by_order);
+    first == Some(true)
+        || first.is_none() && is_replayed(alloc, rows, draws, by_order) == Some(true)
+}
+
+/// Whether the commands of some rows, run by one `replay` and by one `replay_by_order`, give as many elements as the rows
+/// say, and run one by one are answered as over a list.
 fn go(alloc: Global, rows: &[Row]) -> bool {
     let draws = draws_of(alloc, rows);
-    let first = is_replayed(alloc, rows, &draws);
-    (first == Some(true) || first.is_none() && is_replayed(alloc, rows, &draws) == Some(true))
+    are_replayed(alloc, rows, &draws, false)
+        && are_replayed(alloc, rows, &draws, true)
         && matches!(are_alike(alloc, &draws), Ok(true))
 }
 
