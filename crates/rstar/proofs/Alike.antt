@@ -13,7 +13,7 @@ use Rattle.rstar.specs.Shown.{Shown, ShownRow, leaf, parent, row_of, nodes_in, f
 use Rattle.rstar.specs.Shapes.{HasSize, IsAny, IsSized}
 use Rattle.rstar.specs.Loaded.{IsParted, IsCut, IsCutAbove, HasSmallParent, IsLoadDepth, IsLoaded}
 use Rattle.rstar.proofs.PairRows.{node-cases, nodes-row}
-use Rattle.rstar.proofs.Rows.{joined-map, shown-Leaf, shown-Parent, is_leaf, is_parent, IsLeafOf-Leaf, IsParentOf-Parent}
+use Rattle.rstar.proofs.Rows.{shown-Leaf, shown-Parent, is_leaf, is_parent, IsLeafOf-Leaf, IsParentOf-Parent}
 
 -- ---- what a node shows tells what it is
 

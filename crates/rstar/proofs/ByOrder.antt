@@ -1,6 +1,6 @@
 -- What a search gives comes first in the stated order of what waits; and where a parent that waits is opened before an
 -- element at its distance is given, only the farther parents still wait.
-use Rattle.std.proofs.Common.{◌≡◌, ℕ, ◌+◌, ◌-◌, ◌<◌, ◌≤◌, ℤ, zero, suc, min, Bool, true, false, Some, None, Less, Equal, Greater, List, [], ◌∷◌, if◌then◌else◌, nat_lt, refl, ap, sym, ◌∙◌, subst, arith, Option, Result, Ok, Err, IfSome, IfOk}
+use Rattle.std.proofs.Common.{◌≡◌, ℕ, ◌-◌, ◌<◌, ◌≤◌, ℤ, zero, suc, min, Bool, true, false, Some, None, Less, Equal, Greater, List, [], ◌∷◌, if◌then◌else◌, nat_lt, refl, ap, sym, ◌∙◌, subst, arith, Option, Result, Ok, Err, IfSome, IfOk}
 use Rattle.std.specs.List.{AllByRecursion}
 use Rattle.std.specs.Option.{option_cmp}
 use Rattle.std.specs.Ordering.{is_lt, nat_cmp, ordering_then}
@@ -21,7 +21,7 @@ use Rattle.rstar.specs.ByOrder.{IsNextInOrder}
 use Rattle.rstar.specs.Lists.{by_distance, IsNotLater, IsNoFarther, AreFirstOf, AreNearestOf}
 use Rattle.rstar.specs.Neighbors.{IsNeighbor, shown}
 use Rattle.rstar.specs.Nodes.{fold_tree, far_of, parents_of, leaf_element, elements, parents, far, all_elements, all_parents, all_far, children_of, envelope_of, IsTree, IsInner, IsElement, AreWhole}
-use Rattle.rstar.specs.Searches.{NodeSearch, Item, waiting_nodes, waiting_at, waiting_of, any_first, parents_first, distance_of, AreWholeNodes, ComesFirst, TiesBy, IsReady, IsReadyAt, IsUnrefused}
+use Rattle.rstar.specs.Searches.{NodeSearch, Item, waiting_at, waiting_of, any_first, parents_first, distance_of, AreWholeNodes, ComesFirst, TiesBy, IsReady, IsReadyAt, IsUnrefused}
 use Rattle.rstar.proofs.Nearness.{IsMeasured, IsPart, above-node, above-Parent}
 use Rattle.rstar.proofs.InOrder.{first-by}
 use Rattle.rstar.proofs.Progress as progress

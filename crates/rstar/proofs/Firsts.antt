@@ -1,10 +1,10 @@
 -- The first elements in an order, as the first of all elements in such an order; with their clones.
-use Rattle.std.proofs.Common.{◌≡◌, ℕ, ℤ, pos, ◌+◌, ◌<◌, ◌≤◌, ◌⊎◌, inl, inr, Bool, true, false, List, [], ◌∷◌, ◌++◌, Option, Some, None, refl, ap, sym, ◌∙◌, subst, arith, length, map, take, get_or, slice_get, append-nil}
+use Rattle.std.proofs.Common.{◌≡◌, ℕ, ℤ, pos, ◌+◌, ◌<◌, ◌≤◌, ◌⊎◌, inl, inr, Bool, true, false, List, [], ◌∷◌, ◌++◌, Some, None, refl, ap, sym, ◌∙◌, subst, arith, length, map, take, get_or, slice_get, append-nil}
 use Rattle.std.specs.Borrow.{Bor}
 use Rattle.std.specs.Cmp.{IsTotalOrder}
 use Rattle.std.specs.List.{AllByRecursion}
 use Rattle.std.specs.List.Sorted.{IsPermutation}
-use Rattle.std.specs.Ordering.{is_lt, nat_cmp}
+use Rattle.std.specs.Ordering.{is_lt}
 use Rattle.std.specs.declared.cmp.Ordering.{Ordering}
 use lib.Dec.{leb}
 use Rattle.std.proofs.HeapSift as sifts
@@ -13,7 +13,7 @@ use Rattle.std.proofs.lemmas.Cmp.{nat_cmp_total, on_total, then_total}
 use Rattle.std.proofs.lemmas.List.{map-append, take_all, take_more, take-append-le}
 use Rattle.std.proofs.lemmas.List.Sorted.{IsPermutation-refl, IsPermutation-sym, IsPermutation-trans, IsPermutation-cons, IsPermutation-middle, IsPermutation-append_right, Contains-permutation, length_permutation}
 use Rattle.rstar_base.proofs.Lists.{all-append, all_along, all_map}
-use Rattle.rstar.specs.Lists.{AreOrdered, IsLeast, AreFirst, AreFirstOf, IsNoFarther, IsNotLater, by_distance}
+use Rattle.rstar.specs.Lists.{AreOrdered, IsLeast, AreFirstOf, IsNoFarther, IsNotLater, by_distance}
 use Rattle.rstar.specs.Steps.{AreFirstWith}
 
 -- ---- every list can be put in an order that ranks any two

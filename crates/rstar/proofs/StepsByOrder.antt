@@ -1,6 +1,6 @@
 -- The stated order is one in which distances never fall: what is first in it is a nearest one, and each step of the
 -- second reading is one of the first.
-use Rattle.std.proofs.Common.{◌≡◌, ℕ, ◌<◌, ◌≤◌, ℤ, Bool, true, false, Less, List, [], ◌∷◌, Option, Some, None, refl, ap, sym, ◌∙◌, nat_lt}
+use Rattle.std.proofs.Common.{◌≡◌, ℕ, ◌≤◌, ℤ, Bool, true, false, Less, List, [], ◌∷◌, Option, Some, None, refl, ap, ◌∙◌, nat_lt}
 use Rattle.std.specs.Cmp.{nat_cmp_is}
 use Rattle.std.specs.List.{AllByRecursion}
 use Rattle.std.specs.Ordering.{is_lt, nat_cmp, ordering_then}
@@ -11,7 +11,7 @@ use Rattle.rstar.specs.declared.replay.Command.{Command}
 use Rattle.rstar.specs.declared.replay.Command.TheVariants as command
 use Rattle.rstar.specs.declared.replay.Reply.{Reply}
 use Rattle.rstar.specs.declared.replay.Reply.TheVariants as reply
-use Rattle.rstar.specs.Lists.{AreOrdered, IsLeast, IsNoFarther, IsNotLater, by_distance}
+use Rattle.rstar.specs.Lists.{AreOrdered, IsLeast, IsNoFarther, IsNotLater}
 use Rattle.rstar.specs.Steps.{Questions, TakesFirst, IsFirstWith, AreFirstWith, Step, Run}
 use Rattle.rstar.specs.StepsByOrder.{stated_order, StepByOrder, RunByOrder}
 use Rattle.rstar.proofs.Replays.{run-weaker}

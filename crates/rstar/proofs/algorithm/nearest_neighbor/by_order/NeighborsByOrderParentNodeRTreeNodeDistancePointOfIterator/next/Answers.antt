@@ -1,6 +1,6 @@
 use Rattle.rstar_base.specs.Points.{table, IsPoint}
 use Rattle.rstar.specs.ByOrder.{IsSearchingByOrder}
-use Rattle.rstar.specs.Searches.{parents_first, waiting_of}
+use Rattle.rstar.specs.Searches.{parents_first}
 use Rattle.rstar.proofs.ByOrder.{next-in-order}
 use Rattle.rstar.proofs.Nearness.{IsMeasured}
 use Rattle.rstar.proofs.Progress as progress
