@@ -18,7 +18,7 @@ use Rattle.rstar.specs.declared.node.ParentNode.{ParentNode}
 use Rattle.rstar.specs.declared.algorithm.nearest_neighbor.search.Stage.{Stage}
 use Rattle.rstar.specs.declared.algorithm.nearest_neighbor.search.Stage.TheVariants.{Fresh, Running, Ended}
 use Rattle.rstar.specs.ByOrder.{IsNextInOrder}
-use Rattle.rstar.specs.Lists.{by_distance, IsNotLater, IsNoFarther, AreFirstOf, AreNearestOf}
+use Rattle.rstar.specs.Lists.{IsNotAfter, IsNotLater, IsNoFarther, AreFirstOf, AreNearestOf}
 use Rattle.rstar.specs.Neighbors.{IsNeighbor, shown}
 use Rattle.rstar.specs.Nodes.{fold_tree, far_of, parents_of, leaf_element, elements, parents, far, all_elements, all_parents, all_far, children_of, envelope_of, IsTree, IsInner, IsElement, AreWhole}
 use Rattle.rstar.specs.Searches.{NodeSearch, Item, waiting_at, waiting_of, any_first, parents_first, distance_of, AreWholeNodes, ComesFirst, TiesBy, IsReady, IsReadyAt, IsUnrefused}
@@ -46,15 +46,26 @@ parents-ties order (Parent' shape children envelope) t e = let no : true ≡ fal
 
 -- ---- two elements in the stated order
 
+by_less : {G : Type 0} (a b : ℕ) → a ≤ b → (b ≡ a → G) → (a < b → G) → G
+by_less {G} a b le same less = go (nat_lt a b) refl
+  where
+    go : (v : Bool) → nat_lt a b ≡ v → G
+    go true e = less (ltb-true a b e)
+    go false e = let no = ltb-false a b e in same (omega (arith, le, no))
+
 module _ {T : Type 0} (distance : T → ℕ) (order : T → T → Ordering) (t u : T) where
-  answered : (o : Ordering) → o ≡ nat_cmp (distance u) (distance t) → is_lt (ordering_then o (order u t)) ≡ false → is_lt (by_distance distance order u t) ≡ false
+  answered : (o : Ordering) → o ≡ nat_cmp (distance u) (distance t) → is_lt (ordering_then o (order u t)) ≡ false → IsNotLater distance order t u
   answered o e h = subst (λ r. is_lt (ordering_then r (order u t)) ≡ false) e h
 
-  later-far : distance t < distance u → is_lt (by_distance distance order u t) ≡ false
+  later-far : distance t < distance u → IsNotLater distance order t u
   later-far less = answered Greater (nat_cmp_is (distance u) (distance t) Greater less) refl
 
-  later-same : distance u ≡ distance t → is_lt (order u t) ≡ false → is_lt (by_distance distance order u t) ≡ false
+  later-same : distance u ≡ distance t → IsNotAfter order t u → IsNotLater distance order t u
   later-same same h = answered Equal (nat_cmp_is (distance u) (distance t) Equal same) h
+
+  -- one that is no farther, and at the same distance does not come after the other
+  pub no-later : distance t ≤ distance u → (distance u ≡ distance t → IsNotAfter order t u) → IsNotLater distance order t u
+  no-later le tied = by_less (distance t) (distance u) le (λ same. later-same same (tied same)) later-far
 
 -- what may stand before it in the stated order is no farther
 pub no-nearer : {T : Type 0} (distance : T → ℕ) (order : T → T → Ordering) (t u : T) → IsNotLater distance order t u → IsNoFarther distance t u
@@ -72,13 +83,6 @@ pub first-if-ok : {T A Z : Type 0} (distance : T → ℕ) (all : List T) (most :
     → IfOk r (λ x. AreNearestOf distance all most (given x))
 first-if-ok distance all most given (Ok x) h = first-by (IsNotLater distance any_first) (IsNoFarther distance) (no-nearer distance any_first) all most (given x) h
 first-if-ok distance all most given (Err z) h = tt
-
-by_less : {G : Type 0} (a b : ℕ) → a ≤ b → (b ≡ a → G) → (a < b → G) → G
-by_less {G} a b le same less = go (nat_lt a b) refl
-  where
-    go : (v : Bool) → nat_lt a b ≡ v → G
-    go true e = less (ltb-true a b e)
-    go false e = let no = ltb-false a b e in same (omega (arith, le, no))
 
 counted : (a b : ℕ) → a < b → ◌≡◌ {A = ℕ} (if nat_lt a b then 1 else 0) 1
 counted a b less = go (nat_lt a b) refl
@@ -128,10 +132,10 @@ module _ {T E : Type 0} {IsPoint : List ℤ → Type 0} {v : Boxes E} {o : Objec
 
   -- nothing that waits comes before what is given
   module _ (ties : RTreeNode T E P S X → RTreeNode T E P S X → Ordering) (order : T → T → Ordering) (by : TiesBy ties order) (t : T) where
-    each-later : (m : ℕ) (us : List T) → m ≡ (near law) t → AllByRecursion (λ u. m ≤ (near law) u) us → AllByRecursion (λ u. is_lt (order u t) ≡ false) us → AllByRecursion (IsNotLater (near law) order t) us
+    each-later : (m : ℕ) (us : List T) → m ≡ (near law) t → AllByRecursion (λ u. m ≤ (near law) u) us → AllByRecursion (IsNotAfter order t) us → AllByRecursion (IsNotLater (near law) order t) us
     each-later m [] same above first = tt
     each-later m (u ∷ us) same above first = (
-      by_less ((near law) t) ((near law) u) (let le = above.0 in omega (arith, same, le)) (λ at_it. later-same (near law) order t u at_it first.0) (λ less. later-far (near law) order t u less),
+      no-later (near law) order t u (let le = above.0 in omega (arith, same, le)) (λ _. first.0),
       each-later m us same above.1 first.1,
     )
 

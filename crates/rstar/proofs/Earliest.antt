@@ -17,8 +17,8 @@ use Rattle.rstar_base.specs.Elements.{Objects, ObjectLaws}
 use Rattle.rstar_base.specs.Selections.{SelectsBy}
 use Rattle.rstar.specs.declared.node.RTreeNode.{RTreeNode, Leaf, Parent}
 use Rattle.rstar.specs.declared.node.ParentNode.{ParentNode}
-use Rattle.rstar.specs.Earliest.{IsNotAfter, earlier, earliest, lent, earlier_at, IsEarliestAt, IsEarliestOf}
-use Rattle.rstar.specs.Lists.{IsLeast}
+use Rattle.rstar.specs.Earliest.{earlier, earliest, lent, earlier_at, IsEarliestAt, IsEarliestOf}
+use Rattle.rstar.specs.Lists.{IsLeast, IsNotAfter}
 use Rattle.rstar.specs.Nodes.{given, all_given, given_of, children_of, envelope_of, elements_of, IsWhole}
 use Rattle.rstar.proofs.Complete.{all-root}
 use Rattle.rstar.proofs.Rows.{given-Leaf, given-Parent}

@@ -10,7 +10,7 @@ use lib.Dec.{leb}
 use Rattle.std.proofs.HeapSift as sifts
 use Rattle.std.proofs.lemmas.Bool.{leb-true, leb-false}
 use Rattle.std.proofs.lemmas.Cmp.{nat_cmp_total, on_total, then_total}
-use Rattle.std.proofs.lemmas.List.{map-append, take_all, take_more, take-append-le}
+use Rattle.std.proofs.lemmas.List.{nil_from_length, map-append, take_all, take_more, take-append-le}
 use Rattle.std.proofs.lemmas.List.Sorted.{IsPermutation-refl, IsPermutation-sym, IsPermutation-trans, IsPermutation-cons, IsPermutation-middle, IsPermutation-append_right, Contains-permutation, length_permutation}
 use Rattle.rstar_base.proofs.Lists.{all-append, all_along, all_map}
 use Rattle.rstar.specs.Lists.{AreOrdered, IsLeast, AreFirstOf, IsNoFarther, IsNotLater, by_distance}
@@ -75,10 +75,6 @@ module _ {T : Type 0} (before : T → T → Type 0) (ranks : Ranks before) where
 
 -- ---- so many of them, or all, with their distances
 
-nil-from : {T : Type 0} (l : List T) → length l ≡ 0 → l ≡ []
-nil-from [] e = refl
-nil-from (x ∷ xs) e = cc
-
 first-taken : {T : Type 0} (k : ℕ) (ts others : List T) → length ts ≤ k → (length ts < k → others ≡ []) → (b : Bool) → leb k (length ts) ≡ b → ts ≡ take k (ts ++ others)
 first-taken k ts others few enough true e =
     let le = leb-true k (length ts) e in
@@ -92,7 +88,7 @@ module _ {T S : Type 0} (before : T → T → Type 0) (ranks : Ranks before) (di
   first-of k ns first at =
       let rest = ordered before ranks first.left in
       let ts = map (λ (n : T × S). n.0) ns in
-      let none : length ts < k → rest.0 ≡ [] = λ less. nil-from rest.0 (length_permutation _ _ rest.1 ∙ ap length (first.enough less)) in
+      let none : length ts < k → rest.0 ≡ [] = λ less. nil_from_length rest.0 (length_permutation _ _ rest.1 ∙ ap length (first.enough less)) in
       record {
         order = ts ++ rest.0;
         bag = IsPermutation-trans _ _ _ first.first.bag (IsPermutation-append_right ts first.left rest.0 rest.1);
@@ -160,5 +156,5 @@ module _ {T S : Type 0} (before : T → T → Type 0) (ranks : Ranks before) (di
 
 -- where none is lent though one was asked for, there is none
 pub first-none : {T S : Type 0} (before : T → T → Type 0) (all : List T) (k : ℕ) (found : List (Bor T × S)) → 0 < k → AreFirstOf before all k (map (λ n. n.0.now) found) → None ≡ slice_get found 0 → all ≡ []
-first-none before all k [] some first is = nil-from all (sym (length_permutation _ _ first.first.bag) ∙ ap length (first.enough some))
+first-none before all k [] some first is = nil_from_length all (sym (length_permutation _ _ first.first.bag) ∙ ap length (first.enough some))
 first-none before all k (n ∷ ns) some first is = let no : None ≡ Some n = is in cc

@@ -11,7 +11,7 @@ use Rattle.rstar_base.specs.Envelopes.{Boxes, EnvelopeLaws}
 use Rattle.rstar_base.specs.Elements.{Objects, ObjectLaws}
 use Rattle.rstar_base.specs.Hulls.{hull}
 use Rattle.rstar_base.proofs.Hulls.{hull-value}
-use Rattle.rstar_base.proofs.Lists.{all_map}
+use Rattle.rstar_base.proofs.Lists.{all_map, all_both}
 use Rattle.rstar.specs.declared.node.RTreeNode.{RTreeNode, Leaf, Parent}
 use Rattle.rstar.specs.declared.node.ParentNode.{ParentNode}
 use Rattle.rstar.specs.declared.iterators.joins.IntersectionIterator.{IntersectionIterator}
@@ -66,10 +66,6 @@ sums-along {A} {B} f g (x ∷ xs) ys all =
 zeros : {A : Type 0} (xs : List A) → sum_by (λ x. 0) xs ≡ 0
 zeros [] = refl
 zeros (x ∷ xs) = let a = sum_by-cons (λ x. 0) x xs in let b = zeros xs in omega (arith, a, b)
-
-all-both : {A : Type 0} {P Q R : A → Type 0} → ((x : A) → P x → Q x → R x) → (xs : List A) → AllByRecursion P xs → AllByRecursion Q xs → AllByRecursion R xs
-all-both f [] p q = tt
-all-both f (x ∷ xs) p q = (f x p.0 q.0, all-both f xs p.1 q.1)
 
 -- ---- Meet of a pair that is not of two leaves
 
@@ -149,7 +145,7 @@ module _ {T E U F : Type 0} {IsPoint IsPoint' : List ℤ → Type 0} {v : Boxes 
   all-apart h k ls rs hl hr apart =
       let vs = all_map (IsTree (IsInner v o) (IsElement v o) h) (λ l. v.IsValue (node_box o.box_of l)) (box-value laws ok h) ls hl in
       let ws = all_map (IsTree (IsInner w o') (IsElement w o') k) (λ r. w.IsValue (node_box o'.box_of r)) (box-value laws' ok' k) rs hr in
-      all-both (λ l vl none. hull-meets-right laws laws' same (node_box o'.box_of) rs (node_box o.box_of l) ws vl none) ls vs
+      all_both _ _ _ (λ l vl none. hull-meets-right laws laws' same (node_box o'.box_of) rs (node_box o.box_of l) ws vl none) ls vs
       (hull-meets-left laws laws' same (node_box o.box_of) ls (hull w (node_box o'.box_of) rs) vs (hull-value laws' (node_box o'.box_of) rs ws) apart)
 
   -- what Meet counts of all pairs
@@ -161,7 +157,7 @@ module _ {T E U F : Type 0} {IsPoint IsPoint' : List ℤ → Type 0} {v : Boxes 
       → (meets_by v seen) (hull v (node_box o.box_of) ls) (hull w (node_box o'.box_of) rs) ≡ false → all_meets T E P S X U F Q R Y (meets_by v seen) o.box_of o'.box_of ls rs ≡ 0
   all-pruned h k ls rs hl hr all apart =
       sums-along (meet (meets_by v seen) o.box_of o'.box_of) (λ l r. 0) ls rs
-      (all-both (λ l row none. all-both (λ r q n. q.pruned n) rs row none) ls all (all-apart h k ls rs hl hr apart))
+      (all_both _ _ _ (λ l row none. all_both _ _ _ (λ r q n. q.pruned n) rs row none) ls all (all-apart h k ls rs hl hr apart))
       ∙ zeros (product ls rs)
 
   leaves-right : (t : T) (u : U) (l : RTreeNode T E P S X) (r : RTreeNode U F Q R Y) → l ≡ Leaf t → r ≡ Leaf u → IsRight l r

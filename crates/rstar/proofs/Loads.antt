@@ -16,7 +16,7 @@ use Rattle.rstar_base.specs.Elements.{Objects, ObjectLaws}
 use Rattle.rstar_base.specs.Hulls.{hull}
 use Rattle.rstar_base.specs.Clusters.{IsClusterNumber}
 use Rattle.rstar_base.specs.Slabs.{NoneAbove, IsSlabOf, GivesSlab}
-use Rattle.rstar_base.proofs.Lists.{all-append, all_map}
+use Rattle.rstar_base.proofs.Lists.{all-append, all_map, all_both}
 use Rattle.rstar.specs.declared.node.ParentNode.{ParentNode}
 use Rattle.rstar.specs.declared.node.RTreeNode.{RTreeNode, Leaf, Parent}
 use Rattle.rstar.specs.Nodes.{elements, all_elements, elements_of, children_of, node_box, IsTree, IsElement, IsInner, AreWhole, IsLeafOf, IsParentOf}
@@ -117,10 +117,6 @@ leaves_of {T} E P S X R (t ∷ ts) h = (IsLeafOf-Leaf T E P S X R t h.0, leaves_
 any_of : {T : Type 0} (ts : List T) → AllByRecursion IsAny ts
 any_of [] = tt
 any_of (t ∷ ts) = (tt, any_of ts)
-
-both : {T : Type 0} (Q R : T → Type 0) (ts : List T) → AllByRecursion Q ts → AllByRecursion R ts → AllByRecursion (λ t. Q t × R t) ts
-both Q R [] q r = tt
-both Q R (t ∷ ts) q r = ((q.0, r.0), both Q R ts q.1 r.1)
 
 module _ {T E P S X : Type 0} where
   -- what holds of all elements of some nodes holds of those of each
@@ -285,7 +281,7 @@ module _ {T E P S X : Type 0} where
         record {
           whole = (
             (box ∙ ap (hull v o.box_of) (sym these), λ none. some (sym these ∙ ap (λ ns. all_elements ns) none)),
-            subst (AllByRecursion (IsLeafOf (IsElement v o))) (sym are) (leaves_of E P S X (IsElement v o) ts (both o.IsValue (λ t. v.is_empty (o.box_of t) ≡ false) ts own (all_of _ ts full))),
+            subst (AllByRecursion (IsLeafOf (IsElement v o))) (sym are) (leaves_of E P S X (IsElement v o) ts (all_both o.IsValue (λ t. v.is_empty (o.box_of t) ≡ false) _ (λ t own full. (own, full)) ts own (all_of _ ts full))),
           );
           roomy = (record { narrow = narrow; room = room }, subst (AllByRecursion (IsLeafOf IsAny)) (sym are) (leaves_of E P S X IsAny ts (any_of ts)));
           cut = subst (AllByRecursion (IsLeafOf IsAny)) (sym are) (leaves_of E P S X IsAny ts (any_of ts));

@@ -7,11 +7,11 @@ use Rattle.std.specs.Ordering.{is_lt, ordering_reverse}
 use Rattle.std.specs.declared.cmp.Ordering.{Ordering}
 use Rattle.std.proofs.lemmas.List.Sorted.{sum_by-IsPermutation}
 use Rattle.std.proofs.lemmas.List.Sums.{sum_by-cons}
-use Rattle.rstar.specs.Lists.{AreOrdered, AreAlike}
+use Rattle.rstar.specs.Lists.{IsNotAfter, AreOrdered, AreAlike}
 
 module _ {T : Type 0} (order : T → T → Ordering) (total : IsTotalOrder order) where
   abbrev before : T → T → Type 0
-  before t u = is_lt (order u t) ≡ false
+  before = IsNotAfter order
 
   -- 1 where u does not come behind z
   abbrev reach : T → T → ℕ

@@ -1,14 +1,13 @@
 -- What is the earliest within the least distance is the first in the stated order, by distance and then by the elements' own.
-use Rattle.std.proofs.Common.{◌≡◌, ℕ, ℤ, zero, suc, pos, int_le, ◌≤◌, ◌==◌, nat_lt, Bool, true, false, List, [], ◌∷◌, refl, sym, arith, Option, Some, None, IfSome, IfNone, filter, if◌then◌else◌}
+use Rattle.std.proofs.Common.{◌≡◌, ℕ, ℤ, zero, suc, pos, int_le, ◌≤◌, Bool, true, false, List, [], ◌∷◌, refl, sym, arith, Option, Some, None, IfSome, IfNone, filter, if◌then◌else◌}
 use Rattle.std.specs.Cmp.{IsTotalOrder}
 use Rattle.std.specs.List.{AllByRecursion, Contains}
-use Rattle.std.specs.Ordering.{is_lt, nat_cmp, ordering_then}
 use Rattle.std.specs.declared.cmp.Ordering.{Ordering}
-use Rattle.std.specs.declared.cmp.Ordering.TheVariants.{Less, Equal, Greater}
-use borrow.Author.Tests.{ltb-true, eqb-true}
 use Rattle.std.proofs.lemmas.List.Elements.{All-contains, filter_passes, Contains-append_right}
-use Rattle.rstar.specs.Earliest.{IsNotAfter, earliest}
-use Rattle.rstar.specs.Lists.{IsLeast, IsNearest, IsNotLater}
+use Rattle.rstar_base.proofs.Lists.{all_both}
+use Rattle.rstar.specs.Earliest.{earliest}
+use Rattle.rstar.specs.Lists.{IsLeast, IsNearest, IsNotAfter, IsNotLater}
+use Rattle.rstar.proofs.ByOrder.{no-later}
 use Rattle.rstar.proofs.Earliest.{earliest-none, earliest-first}
 use Rattle.rstar.proofs.Popped.{popped-some}
 use Rattle.rstar.proofs.Scans.{filter_none}
@@ -34,19 +33,6 @@ module _ {T : Type 0} (p : T → Bool) where
     by_test true is h rest = (λ _. h.0, rest h.1)
     by_test false is h rest = (λ kept. cc, rest h)
 
-all_both : {T : Type 0} (P Q R : T → Type 0) → ((t : T) → P t → Q t → R t) → (ts : List T) → AllByRecursion P ts → AllByRecursion Q ts → AllByRecursion R ts
-all_both P Q R f [] h k = tt
-all_both P Q R f (t ∷ ts) h k = (f t h.0 k.0, all_both P Q R f ts h.1 k.1)
-
--- ---- two in the stated order, by their distances and their own order
-
-two_by : (a b : ℕ) (r : Ordering) → b ≤ a → (a ≤ b → is_lt r ≡ false) → is_lt (ordering_then (nat_cmp a b) r) ≡ false
-two_by a b r no_nearer tied = by_tests (nat_lt a b) (a == b) refl refl where
-  by_tests : (l e : Bool) → nat_lt a b ≡ l → (a == b) ≡ e → is_lt (ordering_then (if l then Less else if e then Equal else Greater) r) ≡ false
-  by_tests true e less same = let less' = ltb-true a b less in absurd (omega (arith, less', no_nearer))
-  by_tests false true less same = let same' = eqb-true a b same in tied (omega (arith, same'))
-  by_tests false false less same = refl
-
 -- ---- what is taken, where x is nearest and the limit is its distance
 
 module _ {T : Type 0} (distance : T → ℕ) {R : T → T → Ordering} (o : IsTotalOrder R) (all : List T) (x : T) (near : IsNearest distance all x) (limit : ℤ) (at : limit ≡ pos (distance x)) where
@@ -70,7 +56,7 @@ module _ {T : Type 0} (distance : T → ℕ) {R : T → T → Ordering} (o : IsT
       record {
         member = contains_kept within all t first.member;
         least = all_both (λ u. distance x ≤ distance u) (λ u. within u ≡ true → IsNotAfter R t u) (IsNotLater distance R t)
-            (λ u far tied. two_by (distance u) (distance t) (R u t) (omega (arith, far, le)) (λ close. tied (reached u (omega (arith, close, le))))) all near.least (all_kept within (IsNotAfter R t) all first.least);
+            (λ u far tied. no-later distance R t u (omega (arith, far, le)) (λ same. tied (reached u (omega (arith, same, le))))) all near.least (all_kept within (IsNotAfter R t) all first.least);
       }
 
   pub popped-first : (r : Option T) → r ≡ earliest R (filter within all) → IfSome r (IsLeast (IsNotLater distance R) all)

@@ -1,33 +1,24 @@
 -- The stated order is one in which distances never fall: what is first in it is a nearest one, and each step of the
 -- second reading is one of the first.
-use Rattle.std.proofs.Common.{◌≡◌, ℕ, ◌≤◌, ℤ, Bool, true, false, Less, List, [], ◌∷◌, Option, Some, None, refl, ap, ◌∙◌, nat_lt}
-use Rattle.std.specs.Cmp.{nat_cmp_is}
-use Rattle.std.specs.List.{AllByRecursion}
-use Rattle.std.specs.Ordering.{is_lt, nat_cmp, ordering_then}
+use Rattle.std.proofs.Common.{ℕ, ℤ, List, Option, Some, None}
 use Rattle.std.specs.declared.cmp.Ordering.{Ordering}
-use Rattle.std.proofs.lemmas.Bool.{ltb-true, ltb-false}
 use Rattle.rstar_base.proofs.Lists.{all_map}
 use Rattle.rstar.specs.declared.replay.Command.{Command}
 use Rattle.rstar.specs.declared.replay.Command.TheVariants as command
 use Rattle.rstar.specs.declared.replay.Reply.{Reply}
 use Rattle.rstar.specs.declared.replay.Reply.TheVariants as reply
-use Rattle.rstar.specs.Lists.{AreOrdered, IsLeast, IsNoFarther, IsNotLater}
+use Rattle.rstar.specs.Lists.{IsLeast, IsNoFarther}
 use Rattle.rstar.specs.Steps.{Questions, TakesFirst, IsFirstWith, AreFirstWith, Step, Run}
 use Rattle.rstar.specs.StepsByOrder.{stated_order, StepByOrder, RunByOrder}
+use Rattle.rstar.proofs.ByOrder.{no-nearer}
+use Rattle.rstar.proofs.InOrder.{ordered-by}
 use Rattle.rstar.proofs.Replays.{run-weaker}
 
 -- ---- an order that is finer than another
 
 module _ {T : Type 0} (fine coarse : T → T → Type 0) (weaker : (t u : T) → fine t u → coarse t u) where
-  all-coarser : (t : T) (us : List T) → AllByRecursion (fine t) us → AllByRecursion (coarse t) us
-  all-coarser t = all_map (fine t) (coarse t) (weaker t)
-
-  ordered-coarser : (ts : List T) → AreOrdered fine ts → AreOrdered coarse ts
-  ordered-coarser [] h = h
-  ordered-coarser (t ∷ ts) h = (all-coarser t ts h.0, ordered-coarser ts h.1)
-
   first-coarser : (all : List T) (t : T) → IsLeast fine all t → IsLeast coarse all t
-  first-coarser all t h = record { member = h.member; least = all-coarser t all h.least }
+  first-coarser all t h = record { member = h.member; least = all_map (fine t) (coarse t) (weaker t) all h.least }
 
   taken-coarser : (old : List T) (found : Option T) (new : List T) → TakesFirst fine old found new → TakesFirst coarse old found new
   taken-coarser old None new h = h
@@ -39,19 +30,7 @@ module _ {T : Type 0} (fine coarse : T → T → Type 0) (weaker : (t u : T) →
     one-coarser ts (Some n) h = (first-coarser ts n.0 h.0, h.1)
 
     some-coarser : (k : ℕ) (ts : List T) (ns : List (T × S)) → AreFirstWith fine distance value k ts ns → AreFirstWith coarse distance value k ts ns
-    some-coarser k ts ns h = record { order = h.order; bag = h.bag; rising = ordered-coarser h.order h.rising; first = h.first; distances = h.distances }
-
--- ---- what does not come before t is no nearer
-
-no-nearer : {T : Type 0} (distance : T → ℕ) (compare : T → T → Ordering) (t u : T) → IsNotLater distance compare t u → IsNoFarther distance t u
-no-nearer distance compare t u h = by_test (nat_lt (distance u) (distance t)) refl
-  where
-    by_test : (b : Bool) → nat_lt (distance u) (distance t) ≡ b → distance t ≤ distance u
-    by_test false e = ltb-false (distance u) (distance t) e
-    by_test true e =
-        let less : Less ≡ nat_cmp (distance u) (distance t) = nat_cmp_is (distance u) (distance t) Less (ltb-true (distance u) (distance t) e) in
-        let no : true ≡ false = ap (λ o. is_lt (ordering_then o (compare u t))) less ∙ h in
-        cc
+    some-coarser k ts ns h = record { order = h.order; bag = h.bag; rising = ordered-by fine coarse weaker h.order h.rising; first = h.first; distances = h.distances }
 
 -- ---- steps and runs
 

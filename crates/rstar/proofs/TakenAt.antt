@@ -1,7 +1,8 @@
 -- What is left of some nodes, where the node at one place was taken or something below it was; the removal goes on from no
 -- place, and keeps no envelope for one.
-use Rattle.std.proofs.Common.{◌≡◌, ◌≢◌, ℕ, ℤ, zero, suc, ◌<◌, Bool, true, false, List, [], ◌∷◌, ◌++◌, refl, sym, ◌∙◌, ap, subst, arith, length, get_or, set, take, drop, Option, Some, None, is_some, length-set, if◌then◌else◌}
+use Rattle.std.proofs.Common.{◌≡◌, ◌≢◌, ℕ, ℤ, suc, ◌<◌, Bool, true, false, List, [], ◌∷◌, ◌++◌, refl, sym, ◌∙◌, ap, subst, arith, length, get_or, set, take, drop, Option, Some, None, is_some, length-set, if◌then◌else◌}
 use Rattle.std.specs.List.{remove}
+use Rattle.std.proofs.lemmas.List.{get_or_default}
 use Rattle.rstar_base.proofs.Lists.{all-append}
 use Rattle.rstar_base.specs.Envelopes.{Boxes, EnvelopeLaws}
 use Rattle.rstar_base.specs.Elements.{Objects, ObjectLaws}
@@ -21,9 +22,7 @@ use Rattle.rstar.proofs.Scans.{IsKeptNode, filter_none, no_elements, some_one}
 
 -- an item read by any default
 pub read_at : {A : Type 0} (l : List A) (i : ℕ) (a d : A) → i < length l → a ≡ get_or l i a → get_or l i d ≡ a
-read_at [] i a d within is = absurd (omega (arith, within))
-read_at (x ∷ l) zero a d within is = sym is
-read_at (x ∷ l) (suc i) a d within is = read_at l i a d (omega (arith, within)) is
+read_at l i a d within is = get_or_default l i d a within ∙ sym is
 
 -- ---- leaves and parents
 

@@ -1,5 +1,5 @@
 -- What a turn of a search keeps, over the items of its heap.
-use Rattle.std.proofs.Common.{◌≡◌, ℕ, ◌+◌, ◌<◌, ◌≤◌, min, ℤ, pos, false, List, [], ◌∷◌, ◌++◌, ap, sym, ◌∙◌, subst, All, arith, Option, Some}
+use Rattle.std.proofs.Common.{◌≡◌, ℕ, ◌+◌, ◌<◌, ◌≤◌, min, ℤ, pos, false, List, ◌∷◌, ◌++◌, ap, sym, ◌∙◌, subst, All, arith, Option, Some}
 use Rattle.std.specs.List.{AllByRecursion}
 use Rattle.std.specs.List.Sorted.{IsPermutation}
 use Rattle.std.specs.Ordering.{is_lt, int_cmp}
@@ -9,7 +9,7 @@ use Rattle.std.proofs.lemmas.List.Elements.{recursion_from_All}
 use Rattle.rstar_base.specs.Envelopes.{Boxes}
 use Rattle.rstar_base.specs.Elements.{Objects, Distances}
 use Rattle.rstar_base.specs.SmallHeaps.{Held, items_of, IsOrdered}
-use Rattle.rstar_base.proofs.Lists.{all_along}
+use Rattle.rstar_base.proofs.Lists.{all_along, all_both}
 use Rattle.rstar.specs.declared.node.RTreeNode.{RTreeNode, Leaf, Parent}
 use Rattle.rstar.specs.declared.node.ParentNode.{ParentNode}
 use Rattle.rstar.specs.Nodes.{all_elements, all_parents, parents, children_of}
@@ -107,11 +107,7 @@ module _ {T E : Type 0} {IsPoint : List ℤ → Type 0} {v : Boxes E} {o : Objec
     pub leaf-first : ComesFirst v d p ties rest t
     leaf-first =
         let all = subst (λ (m : RTreeNode T E P S X). AllByRecursion (λ c. near c ≡ near m → is_lt (ties c m) ≡ false) rest) is (popped-first v d p value compare ties ws us w running.waiting ordered popped order greatest) in
-        subst (λ m. AllByRecursion (λ c. (m ≤ near c) × (near c ≡ m → is_lt (ties c (Leaf t)) ≡ false)) rest) (node_distance-Leaf T E P S X (λ e. v.distance_2 e p) (λ t. d.distance_2 t p) t) (both (λ c. near (Leaf t) ≤ near c) (λ c. near c ≡ near (Leaf t) → is_lt (ties c (Leaf t)) ≡ false) rest least-leaf all)
-      where
-        both : (A B : RTreeNode T E P S X → Type 0) (ns : List (RTreeNode T E P S X)) → AllByRecursion A ns → AllByRecursion B ns → AllByRecursion (λ n. A n × B n) ns
-        both A B [] h k = tt
-        both A B (n ∷ ns) h k = ((h.0, k.0), both A B ns h.1 k.1)
+        subst (λ m. AllByRecursion (λ c. (m ≤ near c) × (near c ≡ m → is_lt (ties c (Leaf t)) ≡ false)) rest) (node_distance-Leaf T E P S X (λ e. v.distance_2 e p) (λ t. d.distance_2 t p) t) (all_both (λ c. near (Leaf t) ≤ near c) (λ c. near c ≡ near (Leaf t) → is_lt (ties c (Leaf t)) ≡ false) _ (λ c le first. (le, first)) rest least-leaf all)
 
   -- the item was a parent, whose children come into the heap
   module _ (q : ParentNode T E P S X) (is : w.node.now ≡ Parent q) where

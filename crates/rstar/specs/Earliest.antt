@@ -1,16 +1,12 @@
 -- The earliest of some elements, by an order of their own.
 -- T is the element's type, E its envelope's, P its point's, S its scalar's, X what a scalar's text is refused with.
-use Rattle.std.specs.Prelude.{◌≡◌, ◌≢◌, ℕ, ◌<◌, Bool, false, List, [], ◌∷◌, length, slice_index_or, if◌then◌else◌}
+use Rattle.std.specs.Prelude.{◌≡◌, ◌≢◌, ℕ, ◌<◌, Bool, List, [], ◌∷◌, length, slice_index_or, if◌then◌else◌}
 use Rattle.std.specs.Prelude.{Option, Some, None, option_map}
 use Rattle.std.specs.Borrow.{Bor}
 use Rattle.std.specs.Ordering.{is_lt}
 use Rattle.std.specs.declared.cmp.Ordering.{Ordering}
 use Rattle.rstar.specs.declared.node.RTreeNode.{RTreeNode}
 use Rattle.rstar.specs.Nodes.{given, all_given}
-
--- u does not come before t
-abbrev pub IsNotAfter : {T : Type 0} → (T → T → Ordering) → T → T → Type 0
-IsNotAfter compare t u = is_lt (compare u t) ≡ false
 
 -- the earlier of two that may be there, the left one where neither comes before the other
 abbrev pub earlier : {T : Type 0} → (T → T → Ordering) → Option T → Option T → Option T

@@ -19,6 +19,10 @@ NoneSelected selects ts = AllByRecursion (λ t. selects t ≡ false) ts
 abbrev pub NoneEmpty : {T E : Type 0} → (E → Bool) → (T → E) → List T → Type 0
 NoneEmpty is_empty box_of ts = All (λ t. is_empty (box_of t) ≡ false) ts
 
+-- t does not come after u, by an order of theirs: u does not come before t
+abbrev pub IsNotAfter : {T : Type 0} → (T → T → Ordering) → T → T → Type 0
+IsNotAfter compare t u = is_lt (compare u t) ≡ false
+
 -- ---- the first of a list, in an order: `before t u` says that t may stand before u
 
 module _ {T : Type 0} (before : T → T → Type 0) where
@@ -84,9 +88,9 @@ AreNearestOf distance all most nearest = AreFirstOf (IsNoFarther distance) all m
 abbrev pub by_distance : {T : Type 0} → (T → ℕ) → (T → T → Ordering) → T → T → Ordering
 by_distance distance compare = then_cmp (on distance nat_cmp) compare
 
--- u does not come before t
+-- t is no later than u in that order
 abbrev pub IsNotLater : {T : Type 0} → (T → ℕ) → (T → T → Ordering) → T → T → Type 0
-IsNotLater distance compare t u = is_lt (by_distance distance compare u t) ≡ false
+IsNotLater distance compare t u = IsNotAfter (by_distance distance compare) t u
 
 -- one list, up to elements that compare equal
 abbrev pub AreAlike : {T : Type 0} → (T → T → Ordering) → List T → List T → Type 0

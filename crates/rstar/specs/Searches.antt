@@ -17,6 +17,7 @@ use Rattle.rstar.specs.declared.algorithm.nearest_neighbor.search.Stage.{Stage}
 use Rattle.rstar.specs.declared.algorithm.nearest_neighbor.search.Stage.TheVariants.{Fresh, Running, Ended}
 use Rattle.rstar.specs.declared.algorithm.nearest_neighbor.search.NeighborSearch.{NeighborSearch}
 use Rattle.rstar.specs.Nodes.{leaf_element, node_distance, elements, all_elements, all_parents, all_far, parents_of, far_of, IsTree, IsInner, IsElement, IsWhole}
+use Rattle.rstar.specs.Lists.{IsNotAfter}
 use Rattle.rstar_base.specs.Counts.{usize_max}
 
 -- ---- which of two nodes at equal distance comes first: the lesser
@@ -34,7 +35,7 @@ parents_first before = on leaf_element (option_cmp before)
 abbrev pub TiesBy : {T E P S X : Type 0} → (RTreeNode T E P S X → RTreeNode T E P S X → Ordering) → (T → T → Ordering)
     → Type 0
 TiesBy {T} {E} {P} {S} {X} ties compare = (n : RTreeNode T E P S X) (t : T) → is_lt (ties n (Leaf t)) ≡ false
-    → AllByRecursion (λ u. is_lt (compare u t) ≡ false) (elements n)
+    → AllByRecursion (IsNotAfter compare t) (elements n)
 
 -- the nearer of two that wait is the greater, and at equal distance the one that comes first
 abbrev pub nearest_on_top : {N S O : Type 0} → (S → S → Ordering) → (N → N → Ordering)

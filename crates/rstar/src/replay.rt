@@ -172,8 +172,10 @@ pub fn step_by_order<T: PointDistance + EqualEnvelopes + Clone + Ord, Params: RT
     requires whole { IsWholeTree T.Envelope.boxes T.object Params.MAX_SIZE tree.old }
     requires clones { ClonesEqual T.is_clone }
     requires fit { IsFit ⟦<T as Scanned>⟧.questions T.Envelope.Point.DIMENSIONS command }
-    ensures step { StepByOrder ⟦<T as Scanned>⟧.questions T.cmp (elements_in tree.old) command result (elements_in tree.new) }
-    ensures first_reading { Step ⟦<T as Scanned>⟧.questions (elements_in tree.old) command result (elements_in tree.new) }
+    ensures step { StepByOrder ⟦<T as Scanned>⟧.questions T.cmp (elements_in tree.old) command result
+        (elements_in tree.new) }
+    ensures first_reading { Step ⟦<T as Scanned>⟧.questions (elements_in tree.old) command result
+        (elements_in tree.new) }
     ensures whole { IsWholeTree T.Envelope.boxes T.object Params.MAX_SIZE tree.new }
     ensures refused { IsRefusal result → IsUnchanged tree.old tree.new }
     ensures too_many { (result ≡ TooMany) ↔ (IsInsertion command × ((size_of tree.old ≡ usize.MAX)
@@ -198,8 +200,10 @@ pub fn replay_by_order<T: PointDistance + EqualEnvelopes + Clone + Ord, Params: 
     requires whole { IsWholeTree T.Envelope.boxes T.object Params.MAX_SIZE tree.old }
     requires clones { ClonesEqual T.is_clone }
     requires fit { AllByRecursion (IsFit ⟦<T as Scanned>⟧.questions T.Envelope.Point.DIMENSIONS) commands.items }
-    ensures run { IfOk result (λ replies. RunByOrder ⟦<T as Scanned>⟧.questions T.cmp (elements_in tree.old) commands.items replies.items (elements_in tree.new)) }
-    ensures first_reading { IfOk result (λ replies. Run ⟦<T as Scanned>⟧.questions (elements_in tree.old) commands.items replies.items (elements_in tree.new)) }
+    ensures run { IfOk result (λ replies. RunByOrder ⟦<T as Scanned>⟧.questions T.cmp (elements_in tree.old)
+        commands.items replies.items (elements_in tree.new)) }
+    ensures first_reading { IfOk result (λ replies. Run ⟦<T as Scanned>⟧.questions (elements_in tree.old)
+        commands.items replies.items (elements_in tree.new)) }
     ensures none_run { OnErr result (tree.new ≡ tree.old) }
     ensures whole { IsWholeTree T.Envelope.boxes T.object Params.MAX_SIZE tree.new }
 {

@@ -359,7 +359,8 @@ fn is_taken_apart<T: RTreeObject + Debug>(alloc: Global, tree: RTree<T>, count: 
         }
 }
 
-/// Whether a load of these elements makes each drain, pops one, and the first in the stated order, and is taken apart, once more where that is refused.
+/// Whether a load of these elements makes each drain, pops one, and the first in the stated order, and is taken apart, once
+/// more where that is refused.
 fn change<T: PointDistance + Ord + Copy + Debug>(
     alloc: Global,
     elements: &[T],

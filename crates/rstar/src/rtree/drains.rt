@@ -128,7 +128,8 @@ impl<T: RTreeObject, Params: RTreeParams> RTree<T, Params> {
     )
         requires whole { IsWholeTree T.Envelope.boxes T.object Params.MAX_SIZE self.old }
         requires room { most ≤ vec_capacity taken.old }
-        ensures moved { Gathers (R.selects func.now) most (elements_in self.old) taken.old.items (elements_in self.new) taken.new.items }
+        ensures moved { Gathers (R.selects func.now) most (elements_in self.old) taken.old.items
+            (elements_in self.new) taken.new.items }
         ensures ended { IsLawful T.Envelope.boxes T.object (R.accepts func.now) (R.selects func.now)
             → length taken.new.items < most → NoneSelected (R.selects func.now) (elements_in self.new) }
         ensures whole { IsWholeTree T.Envelope.boxes T.object Params.MAX_SIZE self.new }
