@@ -50,3 +50,13 @@ pub mod Joined
 pub mod Replays
 pub mod Firsts
 pub mod StepsByOrder
+pub mod StoredLoops
+pub mod StoredBytes
+pub mod StoredNodes
+pub mod StoredLaws
+pub mod StoredTrees
+pub mod StoredFaults
+pub mod StoredRows
+pub mod Roots
+pub mod StoredWriting
+pub mod Written

@@ -89,7 +89,7 @@ pub nodes-row : {T E : Type 0} (ns : List (Shown T E)) → nodes_in (row_of ns) 
 nodes-row [] = refl
 nodes-row (n ∷ ns) = ap (λ (l : List (Shown _ _)). n ∷ l) (nodes-row ns)
 
-folded-row : {T E A : Type 0} (at_leaf : T → A) (at_parent : E → List A → A) (ns : List (Shown T E)) → fold_shown_row at_leaf at_parent (row_of ns) ≡ map (fold_shown at_leaf at_parent) ns
+pub folded-row : {T E A : Type 0} (at_leaf : T → A) (at_parent : E → List A → A) (ns : List (Shown T E)) → fold_shown_row at_leaf at_parent (row_of ns) ≡ map (fold_shown at_leaf at_parent) ns
 folded-row at_leaf at_parent [] = refl
 folded-row {A = A} at_leaf at_parent (n ∷ ns) = ap (λ (l : List A). fold_shown at_leaf at_parent n ∷ l) (folded-row at_leaf at_parent ns)
 
@@ -133,7 +133,7 @@ module _ {T E P S X : Type 0} where
 
 -- what a node shows has the same envelope, and what it is opened to comes after it
 module _ {T E P S X : Type 0} where
-  shown-box : (box_of : T → E) (n : RTreeNode T E P S X) → shown_box box_of (shown n) ≡ node_box box_of n
+  pub shown-box : (box_of : T → E) (n : RTreeNode T E P S X) → shown_box box_of (shown n) ≡ node_box box_of n
   shown-box box_of n = by_case (node-cases n) where
     by_case : ((t : T) × (n ≡ Leaf t)) ⊎ ((p : ParentNode T E P S X) × (n ≡ Parent p)) → shown_box box_of (shown n) ≡ node_box box_of n
     by_case (inl a) = ap (λ m. shown_box box_of (shown m)) a.1 ∙ ap (shown_box box_of) (shown-Leaf T E P S X a.0) ∙ sym (ap (node_box box_of) a.1 ∙ node_box-Leaf T E P S X box_of a.0)

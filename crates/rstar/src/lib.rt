@@ -9,6 +9,7 @@ mod path;
 mod payloads;
 pub mod replay;
 pub mod rtree;
+pub mod stored;
 mod visits;
 
 pub use crate::algorithm::rstar::RStarInsertionStrategy;

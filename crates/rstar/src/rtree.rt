@@ -5,7 +5,7 @@ ghost use Rattle.std.specs.List.Sorted.{IsPermutation};
 ghost use Rattle.rstar.specs.Heights.{height_of, spare_lists};
 ghost use Rattle.rstar.specs.Insertions.{Inserts};
 ghost use Rattle.rstar.specs.Kept.{HasRoom};
-ghost use Rattle.rstar.specs.Nodes.{children_of, parents_of, IsWhole};
+ghost use Rattle.rstar.specs.Nodes.{children_of, envelope_of, parents_of, IsWhole};
 ghost use Rattle.rstar.specs.Shapes.{IsSized};
 ghost use Rattle.rstar.specs.Trees.{root_of, size_of, elements_in, IsUnchanged, IsWholeTree};
 
@@ -14,6 +14,7 @@ mod drains;
 mod joins;
 mod loads;
 mod neighbours;
+mod parts;
 mod payloads;
 mod removal;
 mod selections;
@@ -81,6 +82,8 @@ impl<T: RTreeObject, Params: RTreeParams> RTree<T, Params> {
     #[tactic(auto, unfolding(crate::specs::Trees::IsWholeTree))]
     pub fn default(alloc: Global) -> Self
         ensures none { elements_in result ≡ [] }
+        ensures children { children_of (root_of result) ≡ [] }
+        ensures envelope { envelope_of (root_of result) ≡ T.Envelope.boxes.empty }
         ensures whole { IsWholeTree T.Envelope.boxes T.object Params.MAX_SIZE result }
         ensures sized { IsSized Params.MIN_SIZE Params.MAX_SIZE (root_of result) }
     {

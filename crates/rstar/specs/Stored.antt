@@ -1,0 +1,100 @@
+-- The stored form of a tree of points: which bytes spell which tree.
+use Rattle.std.specs.Prelude.{◌≡◌, ◌<◌, ◌≤◌, ◌^◌, ◌-◌, ℕ, ℤ, zero, suc, List, [], ◌∷◌, ◌++◌, length, map, pos, negsuc, slice_index_or}
+use Rattle.std.specs.List.{AllByRecursion, flat_map}
+use Rattle.std.specs.Int.{w64, to_le_bytes, cast_unsigned}
+use Rattle.rstar_base.specs.BoxData.{box_data}
+use Rattle.rstar_base.specs.Elements.{Objects}
+use Rattle.rstar_base.specs.Envelopes.{Boxes}
+use Rattle.rstar_base.specs.Hulls.{hull}
+use Rattle.rstar_base.specs.PointElements.{point_object}
+use Rattle.rstar_base.specs.Points.{IsPoint}
+use Rattle.rstar.specs.Shown.{Shown, leaf, parent, end, nodes_in, fold_shown}
+use Rattle.rstar.specs.Meets.{shown_box}
+use Rattle.rstar.specs.Nodes.{joined}
+
+-- ---- trees of points
+
+-- a point's coordinates, and the bounds of a box on each axis
+abbrev pub Place : Type 0
+Place = List ℤ
+
+abbrev pub Box : Type 0
+Box = List (ℤ × ℤ)
+
+-- what a tree of points shows
+abbrev pub Tree : Type 0
+Tree = Shown Place Box
+
+-- the least and the greatest coordinate
+abbrev pub low : ℤ
+low = negsuc (2 ^ 63 - 1)
+
+abbrev pub high : ℤ
+high = pos (2 ^ 63 - 1)
+
+abbrev pub coordinate : Place → ℕ → ℤ
+coordinate p axis = slice_index_or p axis (pos 0)
+
+abbrev pub boxes : Boxes Box
+boxes = box_data low high 2
+
+abbrev pub places : Objects Place Box
+places = point_object low high 2 coordinate
+
+-- the merge of the boxes of some nodes
+abbrev pub merge_of : List Tree → Box
+merge_of ns = hull boxes (shown_box places.box_of) ns
+
+-- the points of the leaves, left to right
+abbrev pub points_of : Tree → List Place
+points_of t = fold_shown (λ p. p ∷ []) (λ b below. joined below) t
+
+-- all leaves lie this many levels below the node, and hold points of two coordinates; each parent has children, which
+-- eight bytes can count, and the merge of their boxes
+abbrev pub IsStored : ℕ → Tree → Type 0
+IsStored zero (leaf p) = IsPoint low high 2 p
+IsStored zero (parent b below) = ⊥
+IsStored (suc h) (leaf p) = ⊥
+IsStored (suc h) (parent b below) =
+    (0 < length (nodes_in below)) × (length (nodes_in below) < 2 ^ 64) × (b ≡ merge_of (nodes_in below))
+    × AllByRecursion (IsStored h) (nodes_in below)
+
+-- the tree has this many levels of parents; with none it is the empty root
+abbrev pub IsStoredTree : ℕ → Tree → Type 0
+IsStoredTree zero t = t ≡ parent boxes.empty end
+IsStoredTree (suc h) t = IsStored (suc h) t
+
+-- ---- their spelling
+
+-- a number as eight bytes, the least significant first
+unfoldable pub number : ℕ → List ℕ
+number n = to_le_bytes w64 n
+
+-- a point, one coordinate after another, in two's complement
+unfoldable pub point : Place → List ℕ
+point p = flat_map (λ z. number (cast_unsigned w64 z)) p
+
+-- a box, its lower corner and then its upper one
+abbrev pub corners : Box → List ℕ
+corners b = point (map (λ x. x.0) b) ++ point (map (λ x. x.1) b)
+
+-- a leaf by its point; a parent by the number of its children, its box, and its children in order
+abbrev pub spelling : Tree → List ℕ
+spelling t = fold_shown point (λ b below. number (length below) ++ corners b ++ joined below) t
+
+-- the root, where there is a level of parents
+abbrev pub root_spelling : ℕ → Tree → List ℕ
+root_spelling zero t = []
+root_spelling (suc h) t = spelling t
+
+-- "RST1"
+abbrev pub magic : List ℕ
+magic = 82 ∷ 83 ∷ 84 ∷ 49 ∷ []
+
+-- the bytes are the magic, the number of points, the number of levels of parents, at most 64, and the root
+pub record Spells (bytes : List ℕ) (t : Tree) : Type 0 where
+  pub height : ℕ
+  pub low : height ≤ 64
+  pub whole : IsStoredTree height t
+  pub counted : length (points_of t) < 2 ^ 64
+  pub spelled : bytes ≡ magic ++ number (length (points_of t)) ++ height ∷ root_spelling height t

@@ -1,0 +1,398 @@
+//! The stored form of a tree of points.
+//!
+//! All numbers are little-endian. The bytes `RST1`, the number of points (`u64`), the number of levels of parents
+//! (`u8`, at most 64), and where that is not 0 the root. A parent is the number of its children (`u64`, at least 1),
+//! the lower and the upper corner of its box, and its children in order; a leaf is its point. A point is two `i64`.
+
+ghost use Rattle.std.specs.Prelude.{◌≡◌, ◌⊎◌, ◌++◌, Err, suc, ◌≢◌, IfErr, ◌∷◌, [], ◌≤◌, ◌<◌, ◌+◌, ◌*◌, ◌^◌, ℕ, length, map, IfOk, OnOk, vec_len};
+ghost use Rattle.rstar.specs.declared.node.RTreeNode.{Parent};
+ghost use Rattle.rstar.specs.declared.stored.StoredError.TheVariants.{NoMemory, TooHigh};
+ghost use Rattle.rstar.specs.Kept.{HasRoom, IsKeptTree, AreKept};
+ghost use Rattle.rstar.specs.Nodes.{IsTree, IsElement, IsInner, elements, all_elements, elements_of};
+ghost use Rattle.rstar.specs.Heights.{height_of};
+ghost use Rattle.rstar.specs.Shapes.{IsParentTree};
+ghost use Rattle.rstar_base.specs.Points.{IsPoint};
+ghost use Rattle.rstar.specs.Shown.{shown, shown_root};
+ghost use Rattle.rstar.specs.Stored.{Tree, boxes, places, low, high, IsStored, Spells, point, spelling};
+ghost use Rattle.rstar.specs.StoredFaults.{HasFault};
+ghost use Rattle.rstar.specs.StoredReading.{Gives, number_at, coordinate_at, point_at, leaf_at, each_at, has_corners, parent_at, node_at, root_at, levels_at, tree_at};
+ghost use Rattle.rstar.specs.Trees.{root_of, IsWholeTree};
+
+use crate::node::{ParentNode, RTreeNode, envelope_for_children};
+use crate::rtree::RTree;
+use rstar_base::aabb::AABB;
+use rstar_base::params::RTreeParams;
+use rstar_base::point::known;
+use std::alloc::{AllocError, AllocFailed, Global};
+
+/// Why a tree was not read or not written.
+#[derive(Clone, Copy, Debug, PartialEq, Eq)]
+pub enum StoredError {
+    /// A part lacks bytes.
+    Truncated = 1,
+    /// The first four bytes are not `RST1`.
+    BadMagic = 2,
+    /// A height above 64, or a parent without children.
+    BadLevel = 3,
+    /// A box that is not the merge of the boxes below it.
+    BadBox = 4,
+    /// A number of points other than that of the leaves.
+    BadCount = 5,
+    /// Bytes after the tree.
+    Trailing = 6,
+    /// The allocator refused a growth.
+    NoMemory = 7,
+    /// The tree has more than 64 levels of parents; such a tree is not written.
+    TooHigh = 8,
+}
+
+impl From<AllocError> for StoredError {
+    ghost from_gives = { λ _ e. e ≡ NoMemory };
+
+    fn from(_e: AllocError) -> StoredError {
+        StoredError::NoMemory
+    }
+}
+
+impl<T: Drop> From<AllocFailed<T>> for StoredError {
+    ghost from_gives = { λ _ e. e ≡ NoMemory };
+
+    fn from(_e: AllocFailed<T>) -> StoredError {
+        StoredError::NoMemory
+    }
+}
+
+/// A number of eight bytes, and the bytes after it.
+#[tactic(auto, unfolding(crate::specs::StoredReading::number_at))]
+fn number_at(bytes: &[u8]) -> Result<(u64, &[u8]), StoredError>
+    ensures read { Gives (λ x. (x.0, x.1.now)) result (number_at bytes.now) }
+    ensures len { IfOk result (λ x. length x.1.now + 8 ≡ length bytes.now) }
+{
+    match bytes.split_first_chunk::<8>() {
+        Some((front, rest)) => Ok((u64::from_le_bytes(*front), rest)),
+        None => Err(StoredError::Truncated),
+    }
+}
+
+/// A coordinate, and the bytes after it.
+#[tactic(auto, unfolding(crate::specs::StoredReading::coordinate_at))]
+fn coordinate_at(bytes: &[u8]) -> Result<(i64, &[u8]), StoredError>
+    ensures read { Gives (λ x. (x.0, x.1.now)) result (coordinate_at bytes.now) }
+    ensures len { IfOk result (λ x. length x.1.now + 8 ≡ length bytes.now) }
+{
+    let (number, rest) = number_at(bytes)?;
+    Ok((number.cast_signed(), rest))
+}
+
+/// A point, and the bytes after it.
+#[tactic(auto, unfolding(crate::specs::StoredReading::point_at))]
+fn point_at(bytes: &[u8]) -> Result<([i64; 2], &[u8]), StoredError>
+    ensures read { Gives (λ x. (x.0, x.1.now)) result (point_at bytes.now) }
+    ensures len { IfOk result (λ x. length x.1.now + 16 ≡ length bytes.now) }
+{
+    let (x, rest) = coordinate_at(bytes)?;
+    let (y, rest) = coordinate_at(rest)?;
+    Ok(([x, y], rest))
+}
+
+/// Whether a box has these corners.
+fn has_corners(envelope: &AABB<[i64; 2]>, lower: [i64; 2], upper: [i64; 2]) -> bool
+    ensures { result ≡ has_corners lower upper envelope.now }
+{
+    envelope.lower() == lower && envelope.upper() == upper
+}
+
+/// A node with its leaves so many levels below, and the bytes after it. `widest` grows to the most
+/// children of a parent, and `points` by the points below.
+#[cycle(read)]
+#[tactic(auto, unfolding(crate::specs::StoredReading::node_at, crate::specs::StoredReading::leaf_at))]
+fn node_at<'a, Params: RTreeParams>(
+    alloc: Global,
+    bytes: &'a [u8],
+    height: usize,
+    widest: &mut usize,
+    points: &mut usize,
+) -> Result<(RTreeNode<[i64; 2]>, &'a [u8]), StoredError>
+    requires counted { widest.old + 1 < 2 ^ 64 }
+    requires points { points.old + length bytes.now < 2 ^ 64 }
+    ensures read { Gives (λ x. (shown x.0, x.1.now)) result (node_at height bytes.now) }
+    ensures kept { IfOk result (λ x. AreKept boxes places Params.MAX_SIZE widest.new height (x.0 ∷ [])) }
+    ensures wider { OnOk result (widest.old ≤ widest.new) }
+    ensures counted { OnOk result (widest.new + 1 < 2 ^ 64) }
+    ensures points { IfOk result (λ x. points.new ≡ points.old + length (elements x.0)) }
+    ensures left { IfOk result (λ x. points.new + length x.1.now ≤ points.old + length bytes.now) }
+{
+    if height == 0 {
+        let (point, rest) = point_at(bytes)?;
+        *points += 1;
+        return Ok((RTreeNode::Leaf(point), rest));
+    }
+    let (parent, rest) = parent_at::<Params>(alloc, bytes, height - 1, widest, points)?;
+    Ok((RTreeNode::Parent(parent), rest))
+}
+
+/// A parent with so many levels of parents below it, and the bytes after it.
+///
+/// The bytes that so many children need are there before memory is taken for them.
+#[cycle(read)]
+#[tactic(auto, unfolding(crate::specs::StoredReading::parent_at, crate::specs::StoredReading::children_at))]
+fn parent_at<'a, Params: RTreeParams>(
+    alloc: Global,
+    bytes: &'a [u8],
+    below: usize,
+    widest: &mut usize,
+    points: &mut usize,
+) -> Result<(ParentNode<[i64; 2]>, &'a [u8]), StoredError>
+    requires counted { widest.old + 1 < 2 ^ 64 }
+    requires points { points.old + length bytes.now < 2 ^ 64 }
+    ensures read { Gives (λ x. (shown_root x.0, x.1.now)) result (parent_at (node_at below) bytes.now) }
+    ensures kept { IfOk result (λ x. IsKeptTree boxes places Params.MAX_SIZE widest.new below x.0) }
+    ensures wider { OnOk result (widest.old ≤ widest.new) }
+    ensures counted { OnOk result (widest.new + 1 < 2 ^ 64) }
+    ensures points { IfOk result (λ x. points.new ≡ points.old + length (elements_of x.0)) }
+    ensures left { IfOk result (λ x. points.new + length x.1.now ≤ points.old + length bytes.now) }
+{
+    let (count, rest) = number_at(bytes)?;
+    if count == 0 {
+        return Err(StoredError::BadLevel);
+    }
+    if rest.len() < 32 || (rest.len() as u64 - 32) / 16 < count {
+        return Err(StoredError::Truncated);
+    }
+    let (lower, rest) = point_at(rest)?;
+    let (upper, rest) = point_at(rest)?;
+    let (children, rest) = children_at::<Params>(
+        alloc,
+        rest,
+        count as usize,
+        below,
+        widest,
+        points,
+    )?;
+    let envelope = envelope_for_children(&children);
+    if !has_corners(&envelope, lower, upper) {
+        return Err(StoredError::BadBox);
+    }
+    *widest = children.len().max(*widest);
+    Ok((ParentNode { children, envelope }, rest))
+}
+
+/// So many nodes with their leaves so many levels below, in a list with room for one more, and the bytes after them.
+#[cycle(read)]
+fn children_at<'a, Params: RTreeParams>(
+    alloc: Global,
+    bytes: &'a [u8],
+    count: usize,
+    below: usize,
+    widest: &mut usize,
+    points: &mut usize,
+) -> Result<(Vec<RTreeNode<[i64; 2]>>, &'a [u8]), StoredError>
+    requires counted { widest.old + 1 < 2 ^ 64 }
+    requires points { points.old + length bytes.now < 2 ^ 64 }
+    requires few { count + 1 < 2 ^ 64 }
+    ensures read { Gives (λ x. (map shown x.0.items, x.1.now)) result (each_at (node_at below) count bytes.now) }
+    ensures kept { IfOk result (λ x. AreKept boxes places Params.MAX_SIZE widest.new below x.0.items) }
+    ensures len { IfOk result (λ x. vec_len x.0 ≡ count) }
+    ensures room { IfOk result (λ x. HasRoom Params.MAX_SIZE x.0) }
+    ensures wider { OnOk result (widest.old ≤ widest.new) }
+    ensures counted { OnOk result (widest.new + 1 < 2 ^ 64) }
+    ensures points { IfOk result (λ x. points.new ≡ points.old + length (all_elements x.0.items)) }
+    ensures left { IfOk result (λ x. points.new + length x.1.now ≤ points.old + length bytes.now) }
+{
+    let room = count.max(Params::MAX_SIZE).saturating_add(1);
+    let mut children = Vec::with_capacity(alloc, room)?;
+    let mut rest = bytes;
+    for _ in 0..count {
+        let (node, after) = node_at::<Params>(alloc, rest, below, widest, points)?;
+        children.push_reserved(node);
+        rest = after;
+    }
+    Ok((children, rest))
+}
+
+/// What follows the number of points.
+#[tactic(auto, unfolding(crate::specs::StoredReading::levels_at, crate::specs::StoredReading::root_at))]
+fn tree_after<Params: RTreeParams>(
+    alloc: Global,
+    count: u64,
+    bytes: &[u8],
+) -> Result<RTree<[i64; 2], Params>, StoredError>
+    ensures read { Gives (λ tree. shown_root (root_of tree)) result (levels_at count bytes.now) }
+    ensures whole { IfOk result (IsWholeTree boxes places Params.MAX_SIZE) }
+{
+    let Some((height, rest)) = bytes.split_first() else {
+        return Err(StoredError::Truncated);
+    };
+    let height = *height;
+    if height > 64 {
+        return Err(StoredError::BadLevel);
+    }
+    if height == 0 {
+        if count != 0 {
+            return Err(StoredError::BadCount);
+        }
+        if !rest.is_empty() {
+            return Err(StoredError::Trailing);
+        }
+        return Ok(RTree::default(alloc));
+    }
+    root_after(alloc, count, height as usize - 1, rest)
+}
+
+/// The tree of the root that follows, of which so many levels of parents are below.
+#[tactic(auto, unfolding(crate::specs::StoredReading::root_at, crate::specs::StoredReading::node_at))]
+fn root_after<Params: RTreeParams>(
+    alloc: Global,
+    count: u64,
+    below: usize,
+    bytes: &[u8],
+) -> Result<RTree<[i64; 2], Params>, StoredError>
+    ensures read { Gives (λ tree. shown_root (root_of tree)) result (root_at (suc below) count bytes.now) }
+    ensures whole { IfOk result (IsWholeTree boxes places Params.MAX_SIZE) }
+{
+    let mut widest = Params::MAX_SIZE;
+    let mut points = 0;
+    let (root, rest) = parent_at::<Params>(alloc, bytes, below, &mut widest, &mut points)?;
+    if points as u64 != count {
+        return Err(StoredError::BadCount);
+    }
+    if !rest.is_empty() {
+        return Err(StoredError::Trailing);
+    }
+    Ok(RTree::from_root(alloc, root, points, below, widest))
+}
+
+/// The tree of all of the bytes.
+#[tactic(auto, unfolding(crate::specs::StoredReading::tree_at))]
+fn tree_of<Params: RTreeParams>(
+    alloc: Global,
+    bytes: &[u8],
+) -> Result<RTree<[i64; 2], Params>, StoredError>
+    ensures read { Gives (λ tree. shown_root (root_of tree)) result (tree_at bytes.now) }
+    ensures whole { IfOk result (IsWholeTree boxes places Params.MAX_SIZE) }
+{
+    let Some((front, rest)) = bytes.split_first_chunk::<4>() else {
+        return Err(StoredError::Truncated);
+    };
+    if front != b"RST1" {
+        return Err(StoredError::BadMagic);
+    }
+    let (count, rest) = number_at(rest)?;
+    tree_after(alloc, count, rest)
+}
+
+/// The tree that the bytes spell, which takes insertions, removals and drains as any other.
+///
+/// A refusal but `NoMemory` says that they spell none, and which fault they have: the first that is met from left to
+/// right. A child count lacks bytes where not even so many leaves follow, which is told before memory is taken for
+/// them; a box is compared once its last child was read, so inner boxes come before outer ones; the number of points
+/// comes after the root, and what is left after that.
+///
+/// One pass: each parent takes one list, and each box is merged once. The stack holds at most 64 levels.
+pub fn read_stored<Params: RTreeParams>(
+    alloc: Global,
+    bytes: &[u8],
+) -> Result<RTree<[i64; 2], Params>, StoredError>
+    ensures spelled { IfOk result (λ tree. Spells bytes.now (shown_root (root_of tree))) }
+    ensures whole { IfOk result (IsWholeTree boxes places Params.MAX_SIZE) }
+    ensures none { IfErr result (λ e. e ≢ NoMemory → (t : Tree) → Spells bytes.now t → ⊥) }
+    ensures fault { IfErr result (HasFault bytes.now) }
+{
+    tree_of(alloc, bytes)
+}
+
+/// Puts a point at the end.
+fn put_point(out: &mut Vec<u8>, p: [i64; 2]) -> Result<(), AllocError>
+    ensures spelled { OnOk result (out.new.items ≡ out.old.items ++ point p) }
+    ensures place { OnOk result (IsPoint low high 2 p) }
+{
+    // Does nothing but tell that the coordinates are in their range.
+    known(&p);
+    out.extend_from_slice(&p[0].to_le_bytes())?;
+    out.extend_from_slice(&p[1].to_le_bytes())?;
+    Ok(())
+}
+
+/// Puts a node at the end.
+#[cycle(write)]
+fn put_node(out: &mut Vec<u8>, node: &RTreeNode<[i64; 2]>) -> Result<(), AllocError>
+    ensures spelled { OnOk result (out.new.items ≡ out.old.items ++ spelling (shown node.now)) }
+    ensures stored { (h : ℕ) → IsTree (IsInner boxes places) (IsElement boxes places) h node.now
+        → OnOk result (IsStored h (shown node.now)) }
+{
+    match node {
+        RTreeNode::Leaf(p) => {
+            put_point(out, *p)?;
+            Ok(())
+        }
+        RTreeNode::Parent(parent) => {
+            put_parent(out, parent)?;
+            Ok(())
+        }
+    }
+}
+
+/// Puts a parent at the end.
+#[cycle(write)]
+fn put_parent(out: &mut Vec<u8>, parent: &ParentNode<[i64; 2]>) -> Result<(), AllocError>
+    ensures spelled { OnOk result (out.new.items ≡ out.old.items ++ spelling (shown_root parent.now)) }
+    ensures stored { (h : ℕ) → IsParentTree (IsInner boxes places) (IsElement boxes places) h parent.now
+        → OnOk result (IsStored (suc h) (shown_root parent.now)) }
+{
+    out.extend_from_slice(&(parent.children.len() as u64).to_le_bytes())?;
+    put_point(out, parent.envelope.lower())?;
+    put_point(out, parent.envelope.upper())?;
+    for node in parent.children.as_slice() {
+        put_node(out, node)?;
+    }
+    Ok(())
+}
+
+/// The bytes that a node takes, held at the greatest `usize`.
+#[cycle(size)]
+fn node_size(node: &RTreeNode<[i64; 2]>) -> usize {
+    match node {
+        RTreeNode::Leaf(_) => 16,
+        RTreeNode::Parent(parent) => parent_size(parent),
+    }
+}
+
+/// The bytes that a parent takes, held at the greatest `usize`.
+#[cycle(size)]
+fn parent_size(parent: &ParentNode<[i64; 2]>) -> usize {
+    let mut size: usize = 40;
+    for node in parent.children.as_slice() {
+        size = size.saturating_add(node_size(node));
+    }
+    size
+}
+
+/// The bytes that spell the tree: `read_stored` reads them back as the same tree.
+///
+/// A tree of more than 64 levels of parents is refused with `TooHigh`, any other with `NoMemory` alone. Memory is taken
+/// once, for as many bytes as are written. The cost is that of a walk over the nodes and of the bytes.
+pub fn write_stored<Params: RTreeParams>(
+    tree: &RTree<[i64; 2], Params>,
+) -> Result<Vec<u8>, StoredError>
+    requires { IsWholeTree boxes places Params.MAX_SIZE tree.now }
+    ensures spelled { IfOk result (λ out. Spells out.items (shown_root (root_of tree.now))) }
+    ensures refused { IfErr result (λ e. (e ≡ NoMemory) ⊎ ((e ≡ TooHigh) × (64 < height_of (root_of tree.now)))) }
+    ensures too_high { 64 < height_of (root_of tree.now) → result ≡ Err TooHigh }
+{
+    let root = tree.root();
+    let levels = tree.levels();
+    if levels > 63 {
+        return Err(StoredError::TooHigh);
+    }
+    let size = parent_size(root).saturating_add(13);
+    let mut out = Vec::with_capacity(*root.children.allocator(), size)?;
+    out.extend_from_slice(b"RST1")?;
+    out.extend_from_slice(&(tree.size() as u64).to_le_bytes())?;
+    if root.children.is_empty() {
+        out.push(0)?;
+        return Ok(out);
+    }
+    out.push(levels as u8 + 1)?;
+    put_parent(&mut out, root)?;
+    Ok(out)
+}
