@@ -6,3 +6,7 @@ pub mod Prints
 pub mod Reading
 pub mod Runs
 pub mod Loads
+pub mod PointLines
+pub mod Arguments
+pub mod Told
+pub mod Packing

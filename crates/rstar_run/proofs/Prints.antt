@@ -107,6 +107,11 @@ pub last : {u v w : Option (List ℕ)} {held text left mid piece held' : List �
 last {u} {v} {w} {held} {text} {left} {mid} {piece} {held'} so_far e p =
     subst (λ (l : List ℕ). Prints u w held l held') (sym (so_far.text_is ∙ ap (λ (l : List ℕ). so_far.said ++ l) e)) (prints_both so_far.printed p)
 
+-- nothing is left
+pub printed_all : {u v : Option (List ℕ)} {held text left held' : List ℕ} → PrintsBut u v held text left held' → left ≡ [] → Prints u v held text held'
+printed_all {u} {v} {held} {text} {left} {held'} so_far none =
+    subst (λ (l : List ℕ). Prints u v held l held') (sym (so_far.text_is ∙ ap (λ (l : List ℕ). so_far.said ++ l) none ∙ append-nil so_far.said)) so_far.printed
+
 pub some_more : {u v w : Option (List ℕ)} {held text left mid : List ℕ} (piece rest : List ℕ) → PrintsBut u v held text left mid → left ≡ piece ++ rest → AppendsFront v w (mid ++ piece)
     → AppendsFront u w (held ++ text)
 some_more {u} {v} {w} {held} {text} {left} {mid} piece rest so_far e a =
@@ -152,6 +157,15 @@ module _ {T : Type 0} (text : T → List ℕ) where
 
   pub no_item : (ts : List T) (i : ℕ) → length ts ≤ i → flat_map (λ t. codes " " ++ text t) (drop i ts) ++ codes "\n" ≡ codes "\n"
   no_item ts i h = rw (drop_of_length-le ts h) refl
+
+  -- the same with nothing between them
+  pub next_text : (ts : List T) (i : ℕ) (d : T) → i < length ts → flat_map text (drop i ts) ≡ text (get_or ts i d) ++ flat_map text (drop (i + 1) ts)
+  next_text ts i d h =
+      let cut : drop i ts ≡ get_or ts i d ∷ drop (i + 1) ts = rw add-one (drop-cons ts i d h) in
+      rw cut refl
+
+  pub no_text : (ts : List T) (i : ℕ) → length ts ≤ i → flat_map text (drop i ts) ≡ []
+  no_text ts i h = rw (drop_of_length-le ts h) refl
 
   pub first_item : (ts : List T) (t : T) → t ≡ get_or ts 0 t → 0 < length ts
       → list_text text ts ++ codes "\n" ≡ text t ++ (flat_map (λ t. codes " " ++ text t) (take (length ts - 1) (drop 1 ts)) ++ codes "\n")

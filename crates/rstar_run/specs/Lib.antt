@@ -8,3 +8,6 @@ pub mod Texts
 pub mod Prints
 pub mod Lines
 pub mod Runs
+pub mod Points
+pub mod Stored
+pub mod Modes

@@ -1,6 +1,6 @@
 -- What stands on an output, and what is held for it. An output is known by its bytes, `None` where std does not
 -- know them.
-use Rattle.std.specs.Prelude.{◌≡◌, ℕ, List, [], ◌++◌, Option, Result, Ok, Err}
+use Rattle.std.specs.Prelude.{◌≡◌, ◌⊎◌, ℕ, List, [], ◌++◌, Option, Result, Ok, Err}
 use Rattle.std.specs.Io.KnownBytes.{Appends}
 use Rattle.rstar_run.specs.declared.program.Stop.{Stop}
 use Rattle.rstar_run.specs.declared.program.Stop.TheVariants as stop
@@ -35,3 +35,8 @@ PrintsSome Kind old new held held' (Err (stop.Line _)) = ⊥
 PrintsSome Kind old new held held' (Err stop.Memory) = Prints old new held [] held'
 PrintsSome Kind old new held held' (Err stop.Input) = ⊥
 PrintsSome Kind old new held held' (Err stop.Output) = (text : List ℕ) × Kind text × AppendsFront old new (held ++ text)
+
+-- a text is written whole, and the status is this one; or a write failed, the status is 4, and a front of it is written
+abbrev pub Tells : Option (List ℕ) → Option (List ℕ) → List ℕ → ℕ → ℕ → Type 0
+Tells old new text told status =
+    ((status ≡ told) × Appends old new text) ⊎ ((status ≡ 4) × AppendsFront old new text)

@@ -1,7 +1,7 @@
 -- What a run reads and prints.
 use Rattle.std.specs.Prelude.{◌≡◌, ℕ, ◌+◌, ◌<◌, Bool, true, false, List, [], ◌∷◌, ◌++◌, length, decimal, codes, Option, IfSome, Result, Ok, Err, ⊤, ◌⊎◌}
 use Rattle.std.specs.Global.{Vec}
-use Rattle.std.specs.Io.KnownBytes.{Appends, IsAtEnd}
+use Rattle.std.specs.Io.KnownBytes.{IsAtEnd}
 use Rattle.rstar.specs.declared.replay.Command.TheVariants as command
 use Rattle.rstar_run.specs.Words.{words_of, without_end}
 use Rattle.rstar_run.specs.Grammar.{line_of, entry_of}
@@ -10,7 +10,7 @@ use Rattle.rstar_run.specs.Requests.{Asks}
 use Rattle.rstar_run.specs.Statuses.{status_of}
 use Rattle.rstar_run.specs.Texts.{Spells, end_text}
 use Rattle.rstar_run.specs.Lines.{lines_of, TakesLines}
-use Rattle.rstar_run.specs.Prints.{AppendsFront, Prints}
+use Rattle.rstar_run.specs.Prints.{AppendsFront, Prints, Tells}
 use Rattle.rstar_run.specs.declared.command.Entry.{Entry}
 use Rattle.rstar_run.specs.declared.command.Entry.TheVariants as entry
 use Rattle.rstar_run.specs.declared.command.Line.{Line}
@@ -116,9 +116,7 @@ pub record Ran (input old new : Option (List ℕ)) (status : ℕ) : Type 0 where
   pub ended : Result (Unit {0}) Stop
   pub said : List ℕ
   pub run : RunSays input ended said
-  pub printed :
-      ((status ≡ status_of ended) × Appends old new (said ++ end_text ended))
-      ⊎ ((status ≡ 4) × AppendsFront old new (said ++ end_text ended))
+  pub printed : Tells old new (said ++ end_text ended) (status_of ended) status
 
 -- ---- what a call reads
 

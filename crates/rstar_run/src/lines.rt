@@ -8,29 +8,11 @@ ghost use Rattle.rstar_run.specs.Lines.{bytes_left, TakesLine};
 ghost use Rattle.rstar_run.specs.Words.{without_end};
 
 use super::program::Stop;
+use super::source::{Source, input_stop};
 use super::words::without_end;
 use memchr::memchr;
 use std::alloc::Global;
-use std::io;
-use std::io::{BufRead, BufReader, Error, ErrorKind, Read};
-
-/// Reads as `R` does, but that no failed read looks like a refused allocation.
-#[derive(Drop)]
-pub struct Source<R>(R);
-
-impl<R: Read> Read for Source<R> {
-    ghost remaining = { λ source. R.remaining source.0 };
-
-    fn read(&mut self, buf: &mut [u8]) -> io::Result<usize> {
-        match self.0.read(buf) {
-            Ok(count) => Ok(count),
-            Err(e) => match e.kind() {
-                ErrorKind::OutOfMemory => Err(Error::from(ErrorKind::Other)),
-                _ => Err(e),
-            },
-        }
-    }
-}
+use std::io::{BufRead, BufReader, Read};
 
 /// Reads lines into one buffer, and counts them.
 #[derive(Drop)]
@@ -38,16 +20,6 @@ pub struct Lines<R> {
     reader: BufReader<Source<R>>,
     line: Vec<u8>,
     number: u64,
-}
-
-/// Why a line could not be read. Out of memory is the buffer for the line alone.
-fn input_stop(e: Error) -> Stop
-    ensures { (result ≡ Stop.Memory) ⊎ (result ≡ Stop.Input) }
-{
-    match e.kind() {
-        ErrorKind::OutOfMemory => Stop::Memory,
-        _ => Stop::Input,
-    }
 }
 
 impl<R: Read + Drop> Lines<R> {

@@ -1,22 +1,53 @@
-//! Reads commands over a tree of rectangles, a line each, and prints the answer to each.
+//! Reads commands over a tree of rectangles, a line each, and prints the answer to each. With the word `pack` it writes
+//! the stored bytes of points, with `unpack` it prints the points of such bytes.
 #![tactic(auto)]
 
 mod answers;
 mod command;
 mod lines;
+mod modes;
 mod number;
+mod points;
 mod print;
 mod program;
 mod request;
+mod source;
 mod store;
+mod stored;
+#[cfg(test)]
+mod stored_tests;
 #[cfg(test)]
 mod tests;
 mod words;
 
-use std::io;
+use program::{Mode, Stop, mode, pack, run, unpack};
+use std::io::ErrorKind;
 use std::process::ExitCode;
+use std::rt::Env;
+use std::{env, io};
+use stored::{Fault, refuse};
 
 fn main(rt: HostRuntime) -> ExitCode {
     let mut output = io::writer(&rt);
-    ExitCode::from(program::run(rt.alloc(), rt.reader(), &mut output))
+    let status = match given_words(&rt) {
+        Ok(words) => match mode(&words) {
+            Some(Mode::Run) => run(rt.alloc(), rt.reader(), &mut output),
+            Some(Mode::Pack) => pack(rt.alloc(), rt.reader(), &mut output),
+            Some(Mode::Unpack) => unpack(rt.alloc(), rt.reader(), &mut output),
+            None => refuse(Fault::Usage, &mut output),
+        },
+        Err(fault) => refuse(fault, &mut output),
+    };
+    ExitCode::from(status)
+}
+
+/// The words after the program's name. Where one of them is no text, they ask for nothing.
+fn given_words<R: Env + AllocGlobal>(rt: &R) -> Result<Vec<String>, Fault> {
+    match env::args(rt) {
+        Ok(args) => Ok(args.skip(1).collect(rt.alloc())?),
+        Err(e) => match e.kind() {
+            ErrorKind::OutOfMemory => Err(Fault::Stop(Stop::Memory)),
+            _ => Err(Fault::Usage),
+        },
+    }
 }

@@ -1,6 +1,7 @@
 //! Text on its way to an output.
 
 ghost use Rattle.std.specs.Prelude.{◌≡◌, ◌++◌, [], decimal, OnOk, IfErr};
+ghost use Rattle.std.specs.Fmt.{signed_decimal};
 ghost use Rattle.std.specs.Io.KnownBytes.{Appends};
 ghost use Rattle.rstar_run.specs.Prints.{AppendsFront, Prints};
 
@@ -52,6 +53,17 @@ impl Printer {
         ensures stop { IfErr result (λ stop. stop ≡ Stop.Output) }
     {
         self.put(output, Buffer::new().format(number).as_bytes())
+    }
+
+    /// Prints a number in decimal digits, with a `-` in front where it is below 0.
+    pub fn put_signed<W: Write>(&mut self, output: &mut W, value: i64) -> Result<(), Stop>
+        ensures all { OnOk result (Prints (W.contents output.old) (W.contents output.new)
+            self.old.held.items (signed_decimal value) self.new.held.items) }
+        ensures front { AppendsFront (W.contents output.old) (W.contents output.new)
+            (self.old.held.items ++ signed_decimal value) }
+        ensures stop { IfErr result (λ stop. stop ≡ Stop.Output) }
+    {
+        self.put(output, Buffer::new().format(value).as_bytes())
     }
 
     /// Writes all that is held, and has the output pass it on.

@@ -1,11 +1,12 @@
 //! Lines in, lines out.
 
-ghost use Rattle.std.specs.Prelude.{◌≡◌, ◌+◌, ◌++◌, ℕ, List, [], Ok, Err, true, false, IsErr, OnOk, IfOk, IfErr};
+ghost use Rattle.std.specs.Prelude.{◌≡◌, ◌+◌, ◌++◌, ℕ, List, [], Ok, Err, true, false, IsErr, OnOk, IfOk, IfErr, map, string_bytes};
 ghost use Rattle.std.specs.Io.KnownBytes.{Appends, IsAtEnd, Keeps};
 ghost use Rattle.rstar.specs.Lists.{NoneEmpty};
 ghost use Rattle.rstar.specs.Steps.{IsFit};
 ghost use Rattle.rstar_run.specs.Items.{Reply, StoreStep, questions};
 ghost use Rattle.rstar_run.specs.Lines.{bytes_left, TakesLine};
+ghost use Rattle.rstar_run.specs.Modes.{mode_of, mode_named};
 ghost use Rattle.rstar_run.specs.Prints.{AppendsFront, Prints, Printed, PrintsSome};
 ghost use Rattle.rstar_run.specs.Runs.{IsNoLine, ReadsLoad, Turn, RunSays, Ran};
 ghost use Rattle.rstar_run.specs.Statuses.{status_of};
@@ -15,12 +16,37 @@ ghost use Rattle.rstar_run.specs.declared.program.Stop.TheVariants.{Memory};
 use super::answers::{print_number, print_reply};
 use super::command::{Entry, Line, parse_entry, parse_line};
 use super::lines::Lines;
+pub use super::modes::Mode;
 use super::print::Printer;
 use super::request::command_of;
 use super::store::{Item, Store, item};
+pub use super::stored::{pack, unpack};
 use rstar::replay::Command;
 use std::alloc::{AllocError, AllocFailed, Global};
 use std::io::{Read, Write};
+
+/// What one word asks for.
+fn mode_named(word: &str) -> Option<Mode>
+    ensures { result ≡ mode_named word.now }
+{
+    match word {
+        "pack" => Some(Mode::Pack),
+        "unpack" => Some(Mode::Unpack),
+        _ => None,
+    }
+}
+
+/// What the words after the program's name ask for: no word for a run, `pack` or `unpack` alone for what it names.
+#[tactic(auto, using(crate::proofs::Arguments::mode_none))]
+pub fn mode(words: &[String]) -> Option<Mode>
+    ensures { result ≡ mode_of (map string_bytes words.now) }
+{
+    match words {
+        [] => Some(Mode::Run),
+        [word] => mode_named(word),
+        _ => None,
+    }
+}
 
 /// Why a run ends before its input does.
 #[derive(Clone, Copy, Debug, PartialEq, Eq)]
@@ -193,7 +219,7 @@ fn answer_all<R: Read + Drop, W: Write>(
 }
 
 /// Prints why a run stopped. After a failed write no further one is tried.
-fn print_stop<W: Write>(printer: &mut Printer, output: &mut W, stop: Stop) -> Result<(), Stop>
+pub fn print_stop<W: Write>(printer: &mut Printer, output: &mut W, stop: Stop) -> Result<(), Stop>
     ensures all { OnOk result (Prints (W.contents output.old) (W.contents output.new)
         printer.old.held.items (stop_text stop) printer.new.held.items) }
     ensures front { AppendsFront (W.contents output.old) (W.contents output.new)
@@ -237,7 +263,7 @@ fn close<W: Write>(
 }
 
 /// The status of a run that ended so.
-fn status(ended: Result<(), Stop>) -> u8
+pub fn status(ended: Result<(), Stop>) -> u8
     ensures { result ≡ status_of ended }
 {
     match ended {

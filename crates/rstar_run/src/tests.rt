@@ -20,7 +20,7 @@ fn run_on_bytes(alloc: Global, input: &[u8], output: &mut Vec<u8>) -> u8
     run(alloc, input, output)
 }
 
-fn expect_written(rt: &impl Abort, taken: &Cursor<[u8; 256]>, want: &str, input: &[u8]) {
+pub fn expect_written(rt: &impl Abort, taken: &Cursor<[u8; 256]>, want: &str, input: &[u8]) {
     let length = usize::try_from(taken.position()).unwrap_or(0);
     let written = taken.get_ref().get(..length).unwrap_or(&[]);
     assert_eq!(rt; written, want.as_bytes(), "at {input:?}");
@@ -348,11 +348,11 @@ fn stops_at_a_bad_line(rt: HostRuntime) {
 /// Gives at most so many of its bytes at a read, and none beyond the end of a line; then it is at its end, or fails. It
 /// counts the bytes that it gave.
 #[derive(Drop)]
-struct Feed<'a> {
-    bytes: &'a [u8],
-    most: usize,
-    fails: Option<ErrorKind>,
-    given: &'a Cell<usize>,
+pub struct Feed<'a> {
+    pub bytes: &'a [u8],
+    pub most: usize,
+    pub fails: Option<ErrorKind>,
+    pub given: &'a Cell<usize>,
 }
 
 impl Read for Feed<'_> {
@@ -501,11 +501,11 @@ fn a_refused_line_is_the_last(rt: HostRuntime) -> Result<(), Fail> {
 
 /// Takes this many writes and then fails. It counts the calls, and what was written at the last flush.
 #[derive(Drop)]
-struct Terminal<'a> {
-    good: usize,
-    calls: &'a Cell<usize>,
-    shown: &'a Cell<u64>,
-    taken: Cursor<[u8; 256]>,
+pub struct Terminal<'a> {
+    pub good: usize,
+    pub calls: &'a Cell<usize>,
+    pub shown: &'a Cell<u64>,
+    pub taken: Cursor<[u8; 256]>,
 }
 
 impl Write for Terminal<'_> {

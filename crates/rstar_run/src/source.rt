@@ -1,0 +1,49 @@
+//! The bytes of an input.
+
+ghost use Rattle.std.specs.Prelude.{◌≡◌, ◌⊎◌, IfOk, IfErr, IfSome};
+
+use super::program::Stop;
+use std::alloc::Global;
+use std::io;
+use std::io::{Error, ErrorKind, Read};
+
+/// Reads as `R` does, but that no failed read looks like a refused allocation.
+#[derive(Drop)]
+pub struct Source<R>(pub R);
+
+impl<R: Read> Read for Source<R> {
+    ghost remaining = { λ source. R.remaining source.0 };
+
+    fn read(&mut self, buf: &mut [u8]) -> io::Result<usize> {
+        match self.0.read(buf) {
+            Ok(count) => Ok(count),
+            Err(e) => match e.kind() {
+                ErrorKind::OutOfMemory => Err(Error::from(ErrorKind::Other)),
+                _ => Err(e),
+            },
+        }
+    }
+}
+
+/// Why an input could not be read. Out of memory is the buffer for what was read alone.
+pub fn input_stop(e: Error) -> Stop
+    ensures { (result ≡ Stop.Memory) ⊎ (result ≡ Stop.Input) }
+{
+    match e.kind() {
+        ErrorKind::OutOfMemory => Stop::Memory,
+        _ => Stop::Input,
+    }
+}
+
+/// All bytes of an input.
+pub fn read_all<R: Read + Drop>(alloc: Global, input: R) -> Result<Vec<u8>, Stop>
+    ensures all { IfOk result (λ read. IfSome (R.remaining input) (λ bytes. read.items ≡ bytes)) }
+    ensures stop { IfErr result (λ stop. (stop ≡ Stop.Memory) ⊎ (stop ≡ Stop.Input)) }
+{
+    let mut source = Source(input);
+    let mut read = Vec::new(alloc);
+    match source.read_to_end(&mut read) {
+        Ok(_) => Ok(read),
+        Err(e) => Err(input_stop(e)),
+    }
+}
