@@ -51,6 +51,9 @@ refuse() {
 
 calls=0
 refusals=0
+# How many allocations a test asks for between its marks, where that is told: a tree is written by one, and read by one for each
+# of its three parents.
+declare -A wanted=([refusals::stored_trees_that_are_refused]=4)
 # Runs those tests of a crate whose names fit a pattern, until no allocation between two marks is left to refuse.
 try_tests() {
   cd "$top/crates/$1"
@@ -67,6 +70,10 @@ try_tests() {
       [[ -e $work/said ]] || break
       refusals=$((refusals + 1))
     done
+    if [[ $((n - 1)) != "${wanted[$name]:-$((n - 1))}" ]]; then
+      echo "$name: $((n - 1)) allocations in the place of ${wanted[$name]}" >&2
+      exit 1
+    fi
   done
 }
 try_tests rstar_vectors 'refusals::[a-z_]*'

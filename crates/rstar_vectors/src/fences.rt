@@ -1,4 +1,4 @@
-//! A tree inside a struct of a user's own, which keeps it whole: the example of README.md. It names `rstar` alone.
+//! A tree inside a struct of a user's own, which keeps it whole: the example of docs/CALLING.md. It names `rstar` alone.
 
 ghost use Rattle.std.specs.Prelude.{◌≡◌, ◌+◌, [], false, length, OnOk, OnErr};
 ghost use Rattle.rstar.specs.Trees.{elements_in, IsWholeTree};

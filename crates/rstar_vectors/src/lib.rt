@@ -46,4 +46,6 @@ mod scenarios;
 #[cfg(test)]
 mod selections;
 #[cfg(test)]
+mod stored;
+#[cfg(test)]
 mod visits;

@@ -13,8 +13,10 @@ use crate::neighbour_rows::{answers, come, fits, scanned};
 use crate::node_sizes::Tens;
 use crate::payloads::{Walked, all_of, here, inside, near, touched};
 use crate::scenarios::{inserted, load_of, loaded, points, stands};
+use crate::stored::{ALONG_A_LINE, read_back};
 use rstar::algorithm::selection_functions::SelectAllFunc;
 use rstar::object::{Distance, PointOf};
+use rstar::stored::StoredError;
 use rstar::{
     AABB, DefaultParams, Envelope, EqualEnvelopes, InsertCause, Point, PointDistance, RTree,
     RTreeObject, RTreeParams,
@@ -211,6 +213,11 @@ fn all_go_in<T: EqualEnvelopes + Copy + Debug>(alloc: Global, elements: &[T]) ->
     true
 }
 
+/// Whether a tree stands, with so many elements.
+fn stands_with<T: RTreeObject, Params: RTreeParams>(tree: &RTree<T, Params>, count: usize) -> bool {
+    tree.size() == count && stands(tree)
+}
+
 /// Whether a load of these elements stands and has as many, at once or once more.
 fn is_loaded<T: RTreeObject + Copy>(alloc: Global, elements: &[T]) -> bool
     requires { 2 ≤ T.Envelope.Point.DIMENSIONS }
@@ -221,11 +228,8 @@ fn is_loaded<T: RTreeObject + Copy>(alloc: Global, elements: &[T]) -> bool
     is_begun
         && is_ended
         && match first {
-            Ok(tree) => tree.size() == elements.len() && stands(tree),
-            Err(_) => {
-                let tree = loaded::<T, DefaultParams>(alloc, elements);
-                tree.size() == elements.len() && stands(&tree)
-            }
+            Ok(tree) => stands_with(tree, elements.len()),
+            Err(_) => stands_with(&loaded::<T, DefaultParams>(alloc, elements), elements.len()),
         }
 }
 
@@ -423,4 +427,30 @@ where
 #[test]
 fn an_iterator_is_refused_once(rt: HostRuntime) {
     assert!(rt; end_once::<_, Tens>(rt.alloc(), &points(rt.alloc(), 40), [0, 0]));
+}
+
+/// Whether a tree of these points is written and read back with as many, at once or, where either is refused for want of
+/// memory, once more; neither call can change the tree, which is lent for reading.
+fn is_stored(alloc: Global, elements: &[[i64; 2]]) -> bool {
+    let count = elements.len();
+    let tree = inserted::<_, DefaultParams>(alloc, elements);
+    for _ in 0..2 {
+        let is_begun = is_marked(alloc);
+        let first = &read_back::<DefaultParams, DefaultParams>(alloc, &tree);
+        let is_ended = is_marked(alloc);
+        match first {
+            Ok(read) => return is_begun && is_ended && stands_with(read, count),
+            Err(refused) => if *refused != StoredError::NoMemory {
+                return false;
+            },
+        }
+    }
+    false
+}
+
+// The seven points on a line: one list of bytes, and the lists of three parents. `scripts/refuse_memory.sh` counts these four, so
+// that a tree is written by one allocation.
+#[test]
+fn stored_trees_that_are_refused(rt: HostRuntime) {
+    assert!(rt; is_stored(rt.alloc(), &ALONG_A_LINE));
 }
