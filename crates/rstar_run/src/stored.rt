@@ -76,6 +76,7 @@ fn print_fault<W: Write>(printer: &mut Printer, output: &mut W, fault: Fault) ->
         printer.old.held.items (fault_text fault) printer.new.held.items) }
     ensures front { AppendsFront (W.contents output.old) (W.contents output.new)
         (printer.old.held.items ++ fault_text fault) }
+    ensures failed { IfErr result (λ why. why ≡ Stop.Output) }
 {
     match fault {
         Fault::Usage => printer.put(output, b"error: usage\n"),
