@@ -11,7 +11,7 @@ ghost use Rattle.rstar.specs.Nodes.{parents_of};
 ghost use Rattle.rstar.specs.Trees.{root_of, elements_in, IsWholeTree};
 
 use crate::fences::Fence;
-use crate::neighbour_rows::fits;
+use crate::neighbour_rows::{fits, is_as_told};
 use crate::scenarios::{ALONG_A_LINE, inserted, loaded};
 use rstar::algorithm::nearest_neighbor::NearestNeighborByOrderIterator;
 use rstar::object::{Distance, PointDistance, PointOf, RTreeObject};
@@ -82,9 +82,7 @@ fn gives<T: PointDistance + Ord>(
             Some(Ok((element, distance))) => {
                 distance == wanted[k].0
                     && *element == wanted[k].1
-                    && opened
-                        .get(k)
-                        .is_none_or(|count| *count == neighbors.opened())
+                    && is_as_told(neighbors.opened(), opened.get(k))
             }
             _ => false,
         };
@@ -96,10 +94,7 @@ fn gives<T: PointDistance + Ord>(
 }
 
 /// Whether just these elements are lent, with their distances.
-fn are_lent<T: PointDistance + Ord>(
-    lent: &[(&T, Distance<T>)],
-    wanted: &[(Distance<T>, T)],
-) -> bool {
+fn are_lent<T: PartialEq, D: PartialEq>(lent: &[(&T, D)], wanted: &[(D, T)]) -> bool {
     if lent.len() != wanted.len() {
         return false;
     }

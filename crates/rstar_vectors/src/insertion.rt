@@ -177,13 +177,13 @@ pub(crate) fn goes_in_again<T: EqualEnvelopes + Copy, Params: RTreeParams>(
 }
 
 /// Whether an insertion that would need more lists than there can be is refused, and gives the element back.
-fn is_one_too_many<T: EqualEnvelopes + Copy, Params: RTreeParams>(alloc: Global, element: T) -> bool
+fn is_one_too_many<T: EqualEnvelopes + Copy>(alloc: Global, element: T) -> bool
     requires { 2 ≤ T.Envelope.Point.DIMENSIONS }
 {
     if element.envelope().is_empty() {
         return false;
     }
-    let mut tree: RTree<T, Params> = RTree::new_with_params(alloc);
+    let mut tree: RTree<T, Huge> = RTree::new_with_params(alloc);
     let refused = match RStarInsertionStrategy::insert(&mut tree, element) {
         Ok(()) => false,
         Err(refused) => refused.cause == InsertCause::TooMany && refused.element == element,
@@ -207,5 +207,5 @@ fn a_refused_insertion_loses_nothing(rt: HostRuntime) {
         [9, 1],
     ];
     assert!(rt; all_stand::<[i32; 2], DefaultParams>(rt.alloc(), &points));
-    assert!(rt; is_one_too_many::<[i32; 2], Huge>(rt.alloc(), [0, 0]));
+    assert!(rt; is_one_too_many::<[i32; 2]>(rt.alloc(), [0, 0]));
 }

@@ -11,7 +11,7 @@ ghost use Rattle.rstar.specs.Trees.{root_of, elements_in, IsWholeTree};
 
 use crate::fences::Fence;
 use crate::node_sizes::Splitting;
-use crate::scenarios::{ALONG_A_LINE, drained, in_steps, inserted, levels_of, loaded};
+use crate::scenarios::{ALONG_A_LINE, counts, drained, in_steps, inserted, levels_of, loaded};
 use rstar::iterators::InEnvelope;
 use rstar::primitives::{GeomWithData, Rectangle};
 use rstar::{AABB, DefaultParams, Envelope, Point, RTree, RTreeObject, RTreeParams};
@@ -70,45 +70,18 @@ pub fn fences_joined<'a>(
     joined(alloc, left, right)
 }
 
-/// Whether a join gives so many pairs, and opens so many pairs of nodes where that is told.
-fn joins_so<T: RTreeObject, U: InEnvelope<T::Envelope>>(
-    alloc: Global,
-    left: &RTree<T>,
-    right: &RTree<U>,
-    count: usize,
-    opened: Option<usize>,
-) -> bool
-    requires left { IsWholeTree T.Envelope.boxes T.object ⟦<DefaultParams as RTreeParams>⟧.MAX_SIZE left.now }
-    requires right { IsWholeTree U.Envelope.boxes U.object ⟦<DefaultParams as RTreeParams>⟧.MAX_SIZE right.now }
-{
-    match &joined(alloc, left, right) {
-        Ok((pairs, seen)) => pairs.len() == count && opened.unwrap_or(*seen) == *seen,
-        Err(_) => false,
-    }
-}
-
 /// Whether a join of two trees of these elements counts so.
 fn meets<T: RTreeObject + Copy, U: InEnvelope<T::Envelope> + Copy>(
     alloc: Global,
     lefts: &[T],
     rights: &[U],
-    counts: (usize, usize),
+    wanted: (usize, usize),
 ) -> bool {
-    let left = inserted(alloc, lefts);
+    let left = inserted::<T, DefaultParams>(alloc, lefts);
     let right = inserted(alloc, rights);
     left.size() == lefts.len()
         && right.size() == rights.len()
-        && joins_so(alloc, &left, &right, counts.0, Some(counts.1))
-}
-
-/// Whether elements of one type meet others so, and these them.
-fn meet_alike<T: RTreeObject + Copy>(
-    alloc: Global,
-    lefts: &[T],
-    rights: &[T],
-    counts: (usize, usize),
-) -> bool {
-    meets(alloc, lefts, rights, counts) && meets(alloc, rights, lefts, counts)
+        && counts(&joined(alloc, &left, &right), wanted.0, Some(wanted.1))
 }
 
 /// Whether elements meet others so, those points so, each in either order, and the points themselves so.
@@ -123,10 +96,11 @@ fn meet<
     counts: &[(usize, usize); 2],
     own: (usize, usize),
 ) -> bool {
-    meet_alike(alloc, lefts, rights, counts[0])
+    meets(alloc, lefts, rights, counts[0])
+        && meets(alloc, rights, lefts, counts[0])
         && meets(alloc, lefts, points, counts[1])
         && meets(alloc, points, lefts, counts[1])
-        && meet_alike(alloc, points, points, own)
+        && meets(alloc, points, points, own)
 }
 
 /// Rectangles between these corners, with a number each.
@@ -248,23 +222,21 @@ fn met_by_loads<T: RTreeObject + Copy>(
 ) -> bool
     requires { 2 ≤ T.Envelope.Point.DIMENSIONS }
 {
-    let left = loaded(alloc, lefts);
+    let left = loaded::<T, DefaultParams>(alloc, lefts);
     let right = loaded(alloc, rights);
-    joins_so(alloc, &left, &right, pairs, None) && joins_so(alloc, &left, &left, own, None)
+    counts(&joined(alloc, &left, &right), pairs, None)
+        && counts(&joined(alloc, &left, &left), own, None)
 }
 
-/// Whether a tree of these elements has so many levels of parents below its root, or more, and a join of it with itself gives
-/// as many pairs as there are elements.
-fn meets_itself_at_depth<T: RTreeObject + Copy, Params: RTreeParams>(
+/// Whether a tree of these elements in small nodes has so many levels of parents below its root, or more, and a join of it
+/// with itself gives as many pairs as there are elements.
+fn meets_itself_at_depth<T: RTreeObject + Copy>(
     alloc: Global,
     elements: &[T],
     levels: usize,
 ) -> bool {
-    let tree = inserted::<T, Params>(alloc, elements);
-    match &joined(alloc, &tree, &tree) {
-        Ok((pairs, _)) => levels <= levels_of(tree.root()) && pairs.len() == elements.len(),
-        Err(_) => false,
-    }
+    let tree = inserted::<T, Splitting>(alloc, elements);
+    levels <= levels_of(tree.root()) && counts(&joined(alloc, &tree, &tree), elements.len(), None)
 }
 
 /// How many points, the first of them, and the step from each to the next.
@@ -291,7 +263,7 @@ fn loads_of_points_meet(rt: HostRuntime) {
 #[test]
 fn a_deep_tree_meets_itself(rt: HostRuntime) {
     let line = in_steps(rt.alloc(), 600000, [0, 0], [-1, -1]);
-    assert!(rt; meets_itself_at_depth::<_, Splitting>(rt.alloc(), &line, 13));
+    assert!(rt; meets_itself_at_depth(rt.alloc(), &line, 13));
 }
 
 /// So many rectangles, spread by two factors.

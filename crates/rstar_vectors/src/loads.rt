@@ -174,17 +174,6 @@ pub(crate) fn are_same<V: Ord + Copy>(alloc: Global, list: &mut Vec<V>, items: &
     }
 }
 
-/// Whether the elements below a root, at most `levels` levels of parents down, are these, in some order.
-fn has_all<T: RTreeObject + Copy + Ord>(
-    alloc: Global,
-    root: &ParentNode<T>,
-    levels: usize,
-    elements: &[T],
-) -> bool {
-    let mut all = Vec::new(alloc);
-    gather(root.children(), levels, &mut all).is_ok() && are_same(alloc, &mut all, elements)
-}
-
 /// Whether a load of these elements has them all, and is loaded; and whether it takes more of them, one after another,
 /// and stands after each.
 fn loads_well<T: EqualEnvelopes + Copy + Ord, Params: RTreeParams>(
@@ -199,9 +188,11 @@ fn loads_well<T: EqualEnvelopes + Copy + Ord, Params: RTreeParams>(
     let root = tree.root();
     let levels = levels_of(root);
     let mut least = usize::MAX;
+    let mut all = Vec::new(alloc);
     tree.size() == elements.len()
         && stands(&*tree)
-        && has_all(alloc, root, levels, elements)
+        && gather(root.children(), levels, &mut all).is_ok()
+        && are_same(alloc, &mut all, elements)
         && is_cut(alloc, root, levels, Params::MAX_SIZE, most, &mut least)
         && least <= Params::MAX_SIZE
         && all_go_in(tree, more, 1, usize::MAX)
@@ -433,17 +424,6 @@ fn load_is_in_parts<T: RTreeObject + Copy>(alloc: Global, elements: &[T], parts:
     }
 }
 
-/// The same of a load that is asked for once more where it is refused.
-fn may_be_asked_again<T: RTreeObject + Copy>(
-    alloc: Global,
-    elements: &[T],
-    parts: &Parts<'_>,
-) -> bool
-    requires { 2 ≤ T.Envelope.Point.DIMENSIONS }
-{
-    load_is_in_parts(alloc, elements, parts) || load_is_in_parts(alloc, elements, parts)
-}
-
 /// Whether the root of a load, made by itself, has so many elements below each child; no elements make no root.
 fn root_has_parts<T: RTreeObject + Copy>(alloc: Global, elements: Vec<T>, parts: &[usize]) -> bool
     requires { 2 ≤ T.Envelope.Point.DIMENSIONS }
@@ -476,10 +456,15 @@ fn loads_and_clones_have_their_parts_and_may_be_asked_again(rt: HostRuntime) {
         if flat.len() < *count {
             flat = points(rt.alloc(), *count);
         }
-        assert!(rt; may_be_asked_again(rt.alloc(), &flat, parts));
+        assert!(rt;
+            load_is_in_parts(rt.alloc(), &flat, parts) || load_is_in_parts(rt.alloc(), &flat, parts)
+        );
     }
     let deep = deep_points(rt.alloc(), 7);
-    assert!(rt; may_be_asked_again(rt.alloc(), &deep, &(1, &[1; 7], &[])));
+    let parts: Parts<'_> = (1, &[1; 7], &[]);
+    assert!(rt;
+        load_is_in_parts(rt.alloc(), &deep, &parts) || load_is_in_parts(rt.alloc(), &deep, &parts)
+    );
     assert!(rt; root_has_parts(rt.alloc(), points(rt.alloc(), 25), &[6, 6, 6, 7]));
 }
 

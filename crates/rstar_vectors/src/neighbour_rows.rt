@@ -9,7 +9,6 @@ ghost use Rattle.rstar.specs.Neighbors.{with_distances, IsSearching};
 ghost use Rattle.rstar.specs.Trees.{IsWholeTree};
 ghost use Rattle.rstar_vectors.specs.Fits.{iterator_row, alone_row, ordered_row};
 
-use crate::fences::Fence;
 use crate::neighbours::{all_below, in_order, one_below};
 use crate::scenarios::{ALONG_A_LINE, inserted, loaded, points};
 use rstar::algorithm::nearest_neighbor::{
@@ -25,7 +24,7 @@ use std::cell::Cell;
 type At = [i32; 2];
 
 /// Whether a number is as told, where one is told.
-fn is_as_told(number: usize, told: Option<&usize>) -> bool {
+pub(crate) fn is_as_told(number: usize, told: Option<&usize>) -> bool {
     match told {
         Some(wanted) => number == *wanted,
         None => true,
@@ -158,10 +157,7 @@ fn are_in_order<T: PointDistance>(
 }
 
 /// Whether elements that were found with their distances have these, in this order.
-fn are_first<T: PointDistance>(
-    found: &Result<Vec<(&T, Distance<T>)>, AllocError>,
-    distances: &[Distance<T>],
-) -> bool {
+fn are_first<T, D: PartialEq>(found: &Result<Vec<(&T, D)>, AllocError>, distances: &[D]) -> bool {
     match found {
         Ok(all) => {
             if all.len() != distances.len() {
@@ -361,17 +357,17 @@ const LINES: [Line<[i64; 2]>; 2] = [
     },
 ];
 
-// Two lines; and two fences that touch, both seen from a corner of the one and from the other's side, the other first.
+// Two lines; and two rectangles that touch, both seen from a corner of the one and from the other's side, the other first.
 #[test]
-fn lines_and_fences_come_by_their_own_distances(rt: HostRuntime) {
+fn lines_and_rectangles_come_by_their_own_distances(rt: HostRuntime) {
     const PLACES: [([i64; 2], [i64; 2]); 2] = [([0, 0], [0, 8]), ([9, 9], [50, 98])];
     assert!(rt; come_and_go(rt.alloc(), &LINES, [9, 0], &[0, 25], &[]));
-    let fences = [
-        Fence::new(Rectangle::from_corners([0, 0], [2, 2]), 7),
-        Fence::new(Rectangle::from_corners([2, 2], [4, 4]), 8),
+    let two = [
+        Rectangle::from_corners([0i64, 0], [2, 2]),
+        Rectangle::from_corners([2, 2], [4, 4]),
     ];
     for (place, distances) in &PLACES {
-        assert!(rt; come_and_go(rt.alloc(), &fences, *place, distances, &[]));
+        assert!(rt; come_and_go(rt.alloc(), &two, *place, distances, &[]));
     }
 }
 

@@ -130,11 +130,15 @@ mod tests {
     fn are_lent<T: PartialEq>(lent: &Result<Vec<&T>, AllocError>, wanted: &[T]) -> bool {
         match lent {
             Ok(all) => {
-                let mut are_so = all.len() == wanted.len();
-                for (one, other) in all.iter().zip(wanted) {
-                    are_so = are_so && **one == *other;
+                if all.len() != wanted.len() {
+                    return false;
                 }
-                are_so
+                for k in 0..wanted.len() {
+                    if *all[k] != wanted[k] {
+                        return false;
+                    }
+                }
+                true
             }
             Err(_) => false,
         }

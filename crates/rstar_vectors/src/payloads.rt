@@ -101,7 +101,7 @@ pub fn points_inside<'a>(
 }
 
 /// The elements within a squared distance of a point, by `locate_within_distance`.
-pub(crate) fn near<'a, T: PointDistance>(
+fn near<'a, T: PointDistance>(
     alloc: Global,
     tree: &'a RTree<T>,
     point: PointOf<T>,
@@ -140,7 +140,7 @@ pub fn points_near<'a>(
 }
 
 /// The elements that an envelope touches, by `locate_in_envelope_intersecting`.
-pub(crate) fn touched<'a, T: RTreeObject>(
+fn touched<'a, T: RTreeObject>(
     alloc: Global,
     tree: &'a RTree<T>,
     area: T::Envelope,
@@ -157,7 +157,7 @@ pub(crate) fn touched<'a, T: RTreeObject>(
 }
 
 /// The elements that contain a point, by `locate_all_at_point`.
-pub(crate) fn here<'a, T: PointDistance>(
+fn here<'a, T: PointDistance>(
     alloc: Global,
     tree: &'a RTree<T>,
     point: PointOf<T>,
@@ -172,6 +172,31 @@ pub(crate) fn here<'a, T: PointDistance>(
     match tree.locate_all_at_point(point) {
         Ok(walk) => walked(alloc, walk),
         Err(refused) => Err(refused),
+    }
+}
+
+/// An envelope, a point, and a squared distance.
+pub(crate) type Asked<T> = (<T as RTreeObject>::Envelope, PointOf<T>, Distance<T>);
+
+/// What five questions give: all elements, those in an envelope, those that it touches, those that contain a point, and
+/// those within a distance of it.
+pub(crate) fn selected<'a, T: PointDistance>(
+    alloc: Global,
+    tree: &'a RTree<T>,
+    question: usize,
+    asked: &Asked<T>,
+) -> Result<Walked<'a, T>, AllocError>
+where
+    T::Envelope: Copy,
+    PointOf<T>: Copy,
+    requires { IsWholeTree T.Envelope.boxes T.object ⟦<DefaultParams as RTreeParams>⟧.MAX_SIZE tree.now }
+{
+    match question {
+        0 => all_of(alloc, tree),
+        1 => inside(alloc, tree, asked.0),
+        2 => touched(alloc, tree, asked.0),
+        3 => here(alloc, tree, asked.1),
+        _ => near(alloc, tree, asked.1, asked.2),
     }
 }
 

@@ -11,7 +11,7 @@ use crate::joins::joined;
 use crate::loads::{shown, shows};
 use crate::neighbour_rows::{answers, come, fits, scanned};
 use crate::node_sizes::Tens;
-use crate::payloads::{Walked, all_of, here, inside, near, touched};
+use crate::payloads::{Asked, selected};
 use crate::scenarios::{inserted, load_of, loaded, points, stands};
 use crate::stored::{ALONG_A_LINE, read_back};
 use rstar::algorithm::selection_functions::SelectAllFunc;
@@ -35,34 +35,17 @@ pub(crate) fn is_marked(alloc: Global) -> bool {
     }
 }
 
-/// An envelope, a point, and a squared distance.
-type Asked<T> = (<T as RTreeObject>::Envelope, PointOf<T>, Distance<T>);
-
-/// What the first five questions give: all elements, those in an envelope, those that it touches, those that contain a
-/// point, and those within a distance of it.
-fn selected<'a, T: PointDistance>(
-    alloc: Global,
-    tree: &'a RTree<T>,
-    question: usize,
-    asked: &Asked<T>,
-) -> Result<Walked<'a, T>, AllocError>
-where
-    T::Envelope: Copy,
-    PointOf<T>: Copy,
-    requires { IsWholeTree T.Envelope.boxes T.object ⟦<DefaultParams as RTreeParams>⟧.MAX_SIZE tree.now }
-{
-    match question {
-        0 => all_of(alloc, tree),
-        1 => inside(alloc, tree, asked.0),
-        2 => touched(alloc, tree, asked.0),
-        3 => here(alloc, tree, asked.1),
-        _ => near(alloc, tree, asked.1, asked.2),
+/// How many items a walk gave; none where it was refused.
+fn given<A>(walked: &Result<(Vec<A>, usize), AllocError>) -> Option<usize> {
+    match walked {
+        Ok((all, _opened)) => Some(all.len()),
+        Err(_) => None,
     }
 }
 
-/// How many elements a question gives, none where it is refused: those five, all pairs of a join of the tree with itself,
-/// and the elements of a clone; and by each call for neighbours all that are asked for, where these lie at such squared
-/// distances.
+/// How many elements a question gives, none where it is refused: the five of `selected`, all pairs of a join of the tree
+/// with itself, and the elements of a clone; and by each call for neighbours all that are asked for, where these lie at such
+/// squared distances.
 fn counted<T: PointDistance + Ord + Copy>(
     alloc: Global,
     tree: &RTree<T>,
@@ -77,10 +60,7 @@ where
     requires whole { IsWholeTree T.Envelope.boxes T.object ⟦<DefaultParams as RTreeParams>⟧.MAX_SIZE tree.now }
 {
     match question {
-        5 => match &joined(alloc, tree, tree) {
-            Ok((pairs, _)) => Some(pairs.len()),
-            Err(_) => None,
-        },
+        5 => given(&joined(alloc, tree, tree)),
         6 => match &tree.clone() {
             Ok(copy) => Some(copy.size()),
             Err(_) => None,
@@ -90,14 +70,8 @@ where
         } else {
             None
         },
-        8 => match &in_stated_order(alloc, tree, asked.1) {
-            Ok((all, _)) => Some(all.len()),
-            Err(_) => None,
-        },
-        _ => match &selected(alloc, tree, question, asked) {
-            Ok((all, _)) => Some(all.len()),
-            Err(_) => None,
-        },
+        8 => given(&in_stated_order(alloc, tree, asked.1)),
+        _ => given(&selected(alloc, tree, question, asked)),
     }
 }
 
@@ -394,20 +368,16 @@ fn changes_that_are_refused(rt: HostRuntime) {
     assert!(rt; change(rt.alloc(), &points(rt.alloc(), 28), &asked));
 }
 
-/// Whether an iterator over neighbours in a load of these elements gives all, or is refused once and then gives none for
-/// good, and the tree gives all to another one.
-fn end_once<T: PointDistance + Copy, Params: RTreeParams>(
-    alloc: Global,
-    elements: &[T],
-    place: PointOf<T>,
-) -> bool
+/// Whether an iterator over neighbours in a load of these elements, in nodes of ten to forty, gives all, or is refused once
+/// and then gives none for good, and the tree gives all to another one.
+fn end_once<T: PointDistance + Copy>(alloc: Global, elements: &[T], place: PointOf<T>) -> bool
 where
     PointOf<T>: Copy,
     requires narrow { IsNarrow T.Envelope.Point.row }
     requires dimensions { 2 ≤ T.Envelope.Point.DIMENSIONS }
 {
     fits::<PointOf<T>>();
-    let tree = loaded::<T, Params>(alloc, elements);
+    let tree = loaded::<T, Tens>(alloc, elements);
     let count = elements.len();
     let is_begun = is_marked(alloc);
     let mut neighbors = tree.nearest_neighbor_iter(place);
@@ -426,7 +396,7 @@ where
 // Forty points in one node of up to forty, where the first growth of an iterator is that of its heap.
 #[test]
 fn an_iterator_is_refused_once(rt: HostRuntime) {
-    assert!(rt; end_once::<_, Tens>(rt.alloc(), &points(rt.alloc(), 40), [0, 0]));
+    assert!(rt; end_once(rt.alloc(), &points(rt.alloc(), 40), [0, 0]));
 }
 
 /// Whether a tree of these points is written and read back with as many, at once or, where either is refused for want of

@@ -96,22 +96,8 @@ pub fn two_points_out_one_in(
     two_out_one_in(tree, area, [7, 8])
 }
 
-/// Whether a tree stands with so many elements, none of them at the first point and one at the other.
-fn stands_with<T: PointDistance>(
-    tree: &mut RTree<T>,
-    left: usize,
-    first: PointOf<T>,
-    other: PointOf<T>,
-) -> bool
-    requires { IsWholeTree T.Envelope.boxes T.object ⟦<DefaultParams as RTreeParams>⟧.MAX_SIZE tree.old }
-{
-    tree.size() == left
-        && stands(tree)
-        && tree.remove_at_point(first).is_none()
-        && tree.remove_at_point(other).is_some()
-}
-
-/// Whether a tree of these elements stands so after such a drain and an insertion.
+/// Whether a tree of these elements stands after such a drain and an insertion, with so many left, none of them at the
+/// first point and one at the other.
 fn stands_with_one_in<T: PointDistance + Copy>(
     alloc: Global,
     elements: &[T],
@@ -124,7 +110,10 @@ fn stands_with_one_in<T: PointDistance + Copy>(
     let mut tree = inserted::<T, DefaultParams>(alloc, elements);
     !one.envelope().is_empty()
         && matches!(two_out_one_in(&mut tree, area, one), Ok(true))
-        && stands_with(&mut tree, left, first, other)
+        && tree.size() == left
+        && stands(&tree)
+        && tree.remove_at_point(first).is_none()
+        && tree.remove_at_point(other).is_some()
 }
 
 /// Drains at most so many elements, puts them behind a list, and gives how many came; none where the tree does not stand
@@ -402,24 +391,6 @@ fn left_in<T: EqualEnvelopes, Params: RTreeParams>(
     count
 }
 
-/// The same of the elements that meet an envelope.
-fn drain_area_and_stand<T: RTreeObject, Params: RTreeParams>(
-    tree: &mut RTree<T, Params>,
-    area: &T::Envelope,
-    most: usize,
-    given: &mut Vec<T>,
-) -> Option<usize>
-    requires { IsWholeTree T.Envelope.boxes T.object Params.MAX_SIZE tree.old }
-    ensures { IsWholeTree T.Envelope.boxes T.object Params.MAX_SIZE tree.new }
-{
-    drain_and_stand(
-        tree,
-        SelectInEnvelopeFuncIntersecting::new(area.merged(area)),
-        most,
-        given,
-    )
-}
-
 /// Drains those of some elements that meet an envelope, in two parts, `part` and the rest; gives how many these were, and
 /// none where the tree does not stand after each drain, without what came and no other.
 fn drain_in_parts<T: EqualEnvelopes, Params: RTreeParams>(
@@ -433,9 +404,11 @@ fn drain_in_parts<T: EqualEnvelopes, Params: RTreeParams>(
 {
     let asked = left_in(&*tree, elements, area);
     let rest = asked.saturating_sub(part);
-    if drain_area_and_stand(tree, area, part, given) == Some(part.min(asked))
+    let first = SelectInEnvelopeFuncIntersecting::new(area.merged(area));
+    let second = SelectInEnvelopeFuncIntersecting::new(area.merged(area));
+    if drain_and_stand(tree, first, part, given) == Some(part.min(asked))
         && left_in(&*tree, elements, area) == rest
-        && drain_area_and_stand(tree, area, elements.len(), given) == Some(rest)
+        && drain_and_stand(tree, second, elements.len(), given) == Some(rest)
         && left_in(&*tree, elements, area) == 0
     {
         Some(asked)

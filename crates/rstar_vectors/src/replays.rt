@@ -486,11 +486,15 @@ fn draws_of(alloc: Global, rows: &[Row]) -> Vec<Draw> {
 
 /// Whether replies give as many elements as rows say.
 fn are_given(rows: &[Row], replies: &[Reply<At>]) -> bool {
-    let mut right = replies.len() == rows.len();
-    for (row, reply) in rows.iter().zip(replies.iter()) {
-        right = given(reply) == Some(row.3) && right;
+    if replies.len() != rows.len() {
+        return false;
     }
-    right
+    for k in 0..rows.len() {
+        if given(&replies[k]) != Some(rows[k].3) {
+            return false;
+        }
+    }
+    true
 }
 
 /// The number of points that a plain list has after commands that are answered so, where a refused one changes nothing;
@@ -500,9 +504,13 @@ fn left_after(
     draws: &[Draw],
     replies: &[Reply<At>],
 ) -> Result<Option<usize>, AllocError> {
+    if replies.len() != draws.len() {
+        return Ok(None);
+    }
     let mut list = Vec::new(alloc);
-    for (draw, reply) in draws.iter().zip(replies.iter()) {
-        if given(reply).is_some() && !is_right(alloc, &mut list, draw, reply)? {
+    for k in 0..draws.len() {
+        let reply = &replies[k];
+        if given(reply).is_some() && !is_right(alloc, &mut list, &draws[k], reply)? {
             return Ok(None);
         }
     }

@@ -73,6 +73,18 @@ where
     Ok(all)
 }
 
+/// Whether a walk gave so many items, with so many nodes opened where that is told.
+pub(crate) fn counts<A>(
+    found: &Result<(Vec<A>, usize), AllocError>,
+    count: usize,
+    opened: Option<usize>,
+) -> bool {
+    match found {
+        Ok((all, seen)) => all.len() == count && opened.unwrap_or(*seen) == *seen,
+        Err(_) => false,
+    }
+}
+
 /// So many fences, ten in a row and ten apart, each so wide and so high, numbered from a number on.
 pub(crate) fn fences(alloc: Global, count: u8, side: u8, first: u8) -> Vec<Fence> {
     let mut all = Vec::new(alloc);

@@ -6,8 +6,8 @@ ghost use Rattle.std.specs.Prelude.{◌≡◌, ◌<◌, true, false, pos, int_le
 ghost use Rattle.rstar.specs.Selections.{IsLawful};
 ghost use Rattle.rstar.specs.Trees.{elements_in, IsWholeTree};
 
-use crate::payloads::{Walked, all_of, either_at, here, inside, near, touched, walked};
-use crate::scenarios::{ALONG_A_LINE, inserted, points, stands};
+use crate::payloads::{Asked, Walked, all_of, either_at, inside, selected, walked};
+use crate::scenarios::{ALONG_A_LINE, counts, inserted, points, stands};
 use rstar::algorithm::selection_functions::SelectionFunction;
 use rstar::object::{Distance, PointDistance, PointOf, RTreeObject};
 use rstar::point::{Point, RTreeNum};
@@ -22,14 +22,12 @@ fn selects<T: RTreeObject + Copy, Func: SelectionFunction<T>>(
     alloc: Global,
     elements: &[T],
     func: Func,
-    counts: (usize, usize),
+    count: usize,
+    opened: usize,
 ) -> bool {
     let tree = inserted::<T, DefaultParams>(alloc, elements);
     let is_so = match tree.locate_with_selection_function(func) {
-        Ok(walk) => match walked(alloc, walk) {
-            Ok((all, opened)) => (all.len(), opened) == counts,
-            Err(_) => false,
-        },
+        Ok(walk) => counts(&walked(alloc, walk), count, Some(opened)),
         Err(_) => false,
     };
     is_so && stands(&tree)
@@ -50,17 +48,6 @@ fn chosen<'a, T: RTreeObject, Func: SelectionFunction<T>>(
     Ok(all)
 }
 
-/// Whether a walk gave so many elements, with so many parents opened.
-fn counts<T: RTreeObject>(
-    walked: &Result<Walked<'_, T>, AllocError>,
-    wanted: (usize, usize),
-) -> bool {
-    match walked {
-        Ok((all, opened)) => (all.len(), *opened) == wanted,
-        Err(_) => false,
-    }
-}
-
 /// Whether walks give so many elements in an envelope, by `locate_in_envelope`, and so many of all, by `iter`, each with
 /// the parents opened.
 fn select_so<T: RTreeObject + Copy>(
@@ -71,7 +58,8 @@ fn select_so<T: RTreeObject + Copy>(
     all: (usize, usize),
 ) -> bool {
     let tree = inserted::<T, DefaultParams>(alloc, elements);
-    counts(&inside(alloc, &tree, area), in_area) && counts(&all_of(alloc, &tree), all)
+    counts(&inside(alloc, &tree, area), in_area.0, Some(in_area.1))
+        && counts(&all_of(alloc, &tree), all.0, Some(all.1))
 }
 
 /// Points, two corners, how many points are between them, of all the points there are, each with the parents opened.
@@ -208,8 +196,8 @@ fn unlawful_functions_give_less(rt: HostRuntime) {
             (0, 0),
         ),
     ];
-    for &(points, counts) in &ROWS {
-        assert!(rt; selects(rt.alloc(), points, LeftOnly, counts));
+    for &(points, (count, opened)) in &ROWS {
+        assert!(rt; selects(rt.alloc(), points, LeftOnly, count, opened));
     }
 }
 
@@ -291,9 +279,6 @@ fn a_visit_ends_at_a_break(rt: HostRuntime) {
     assert!(rt; ends_at(rt.alloc(), &ALONG_A_LINE, area, 3));
 }
 
-/// An envelope, a point, and a squared distance.
-type Asked<T> = (<T as RTreeObject>::Envelope, PointOf<T>, Distance<T>);
-
 /// Whether an element is one, whether the envelope contains it, whether it intersects it, whether the element contains
 /// the point, and whether it lies within the distance.
 fn answers<T: PointDistance>(element: &T, asked: &Asked<T>) -> [bool; 5] {
@@ -308,33 +293,43 @@ fn answers<T: PointDistance>(element: &T, asked: &Asked<T>) -> [bool; 5] {
     ]
 }
 
-/// How many elements of a list answer each of the five questions.
-fn scanned<T: PointDistance>(elements: &[T], asked: &Asked<T>) -> [usize; 5] {
-    let mut counts = [0usize; 5];
+/// The same of each element of a list: a scan.
+fn scanned<T: PointDistance>(alloc: Global, elements: &[T], asked: &Asked<T>) -> Vec<[bool; 5]> {
+    let mut all = Vec::new(alloc);
     for element in elements {
-        let answers = answers(element, asked);
+        let _refused = all.push(answers(element, asked)).is_err();
+    }
+    all
+}
+
+/// How many elements of a list answer each of the five questions.
+fn counted(scan: &[[bool; 5]]) -> [usize; 5] {
+    let mut counts = [0usize; 5];
+    for answers in scan {
         for k in 0..5 {
-            if answers[k] {
-                counts[k] = counts[k].saturating_add(1);
-            }
+            counts[k] = counts[k].saturating_add(usize::from(answers[k]));
         }
     }
     counts
 }
 
-/// Whether those elements of a list that answer a question were found, and as many; of equal ones one is enough.
-fn are_answers<T: PointDistance + PartialEq>(
+/// Whether those elements of a list that answer a question, as a scan of it says, were found, and as many; of equal ones
+/// one is enough.
+fn are_answers<T: PartialEq>(
     found: &[&T],
     elements: &[T],
-    asked: &Asked<T>,
+    scan: &[[bool; 5]],
     question: usize,
 ) -> bool
     requires { question < 5 }
 {
+    if scan.len() != elements.len() {
+        return false;
+    }
     let mut count = 0usize;
-    for element in elements {
-        let is_wanted = answers(element, asked)[question];
-        if (&*found).contains(&element) != is_wanted {
+    for k in 0..elements.len() {
+        let is_wanted = scan[k][question];
+        if (&*found).contains(&&elements[k]) != is_wanted {
             return false;
         }
         count = count.saturating_add(usize::from(is_wanted));
@@ -343,16 +338,16 @@ fn are_answers<T: PointDistance + PartialEq>(
 }
 
 /// The same of what a walk gave.
-fn gives<T: PointDistance + PartialEq>(
-    walked: Result<Walked<'_, T>, AllocError>,
+fn gives<T: PartialEq>(
+    walked: &Result<Walked<'_, T>, AllocError>,
     elements: &[T],
-    asked: &Asked<T>,
+    scan: &[[bool; 5]],
     question: usize,
 ) -> bool
     requires { question < 5 }
 {
     match walked {
-        Ok((found, _opened)) => are_answers(&found, elements, asked, question),
+        Ok((found, _opened)) => are_answers(found, elements, scan, question),
         Err(_) => false,
     }
 }
@@ -362,6 +357,7 @@ fn iterators_find<T: PointDistance + PartialEq>(
     alloc: Global,
     tree: &RTree<T>,
     elements: &[T],
+    scan: &[[bool; 5]],
     asked: &Asked<T>,
 ) -> bool
 where
@@ -369,11 +365,13 @@ where
     PointOf<T>: Copy,
     requires { IsWholeTree T.Envelope.boxes T.object ⟦<DefaultParams as RTreeParams>⟧.MAX_SIZE tree.now }
 {
-    gives(all_of(alloc, tree), elements, asked, 0)
-        && gives(inside(alloc, tree, asked.0), elements, asked, 1)
-        && gives(touched(alloc, tree, asked.0), elements, asked, 2)
-        && gives(here(alloc, tree, asked.1), elements, asked, 3)
-        && gives(near(alloc, tree, asked.1, asked.2), elements, asked, 4)
+    for question in 0..5usize {
+        let walk = &selected(alloc, tree, question, asked);
+        if !gives(walk, elements, scan, question) {
+            return false;
+        }
+    }
+    true
 }
 
 /// Counts the calls of a visitor that goes on.
@@ -417,9 +415,10 @@ where
     PointOf<T>: Copy,
 {
     let asked = (area, point, limit);
-    let counts = scanned(elements, &asked);
+    let scan = scanned(alloc, elements, &asked);
+    let counts = counted(&scan);
     let tree = inserted::<T, DefaultParams>(alloc, elements);
-    if iterators_find(alloc, &tree, elements, &asked)
+    if iterators_find(alloc, &tree, elements, &scan, &asked)
         && visits_find(&tree, area, point, counts[2], counts[3])
     {
         Some(counts)
