@@ -3,7 +3,8 @@
 #
 # - of the tests that expect refusals (crates/rstar_vectors/src/refusals.rt, and one run of lines in the program's tests), those
 #   between two marks, which are lists of a size that nothing else asks for: each test passes whatever is refused;
-# - of the program over examples/levels.txt, all of them: the answers so far, then `error: memory` and status 3.
+# - of the program over examples/levels.txt, all of them: the answers so far, then `error: memory` and status 3; and of a
+#   hundred points that are packed and unpacked: `error: memory` alone, and status 3.
 #
 # Both are built first, as proved. The last line has the figures.
 set -euo pipefail
@@ -82,22 +83,38 @@ try_tests rstar_run 'tests::a_refused_line_is_the_last'
 [[ $refusals -gt 0 ]] || { echo 'no allocation of a test was refused' >&2; exit 1; }
 
 cd "$top/crates/rstar_run"
-input=$top/examples/levels.txt
-rt run <"$input" 2>/dev/null >"$work/whole"
-for ((n = 1; n <= 10000; n++)); do
-  status=0
-  refuse "$n" out/rstar_run <"$input" >"$work/told" || status=$?
-  if [[ ! -e $work/said && $status == 0 ]] && cmp -s "$work/told" "$work/whole"; then
-    echo "tests: $calls runs, $refusals refusals; the program: $n runs, $((n - 1)) refusals; all as they should be"
-    exit 0
-  fi
-  # The answers to some lines, and the end.
-  lines=$(($(wc -l <"$work/told") - 1))
-  { head -n "$lines" "$work/whole" && echo 'error: memory'; } >"$work/want"
-  if [[ $status != 3 ]] || ! cmp -s "$work/told" "$work/want"; then
-    echo "the program: allocation $n: status $status" >&2
-    exit 1
-  fi
-done
-echo 'more allocations than runs' >&2
-exit 1
+runs=0
+denied=0
+# Runs the program over a file, by the words that follow, with each allocation refused in turn.
+try_program() {
+  local input=$1 n status lines
+  shift
+  out/rstar_run "$@" <"$input" >"$work/whole"
+  for ((n = 1; n <= 10000; n++)); do
+    status=0
+    refuse "$n" out/rstar_run "$@" <"$input" >"$work/told" || status=$?
+    runs=$((runs + 1))
+    [[ -e $work/said ]] && denied=$((denied + 1))
+    if [[ $status == 0 ]] && cmp -s "$work/told" "$work/whole"; then
+      [[ -e $work/said ]] || return 0
+      # The list of the program's words, for which std asks once more where it was refused.
+      continue
+    fi
+    # The answers to some lines, and the end; of a tree that is packed or unpacked the end alone.
+    lines=$(($(wc -l <"$work/told") - 1))
+    { head -n "$lines" "$work/whole" && echo 'error: memory'; } >"$work/want"
+    if [[ $status != 3 ]] || ! cmp -s "$work/told" "$work/want"; then
+      echo "the program $*: allocation $n: status $status" >&2
+      exit 1
+    fi
+  done
+  echo 'more allocations than runs' >&2
+  exit 1
+}
+rt run <"$top/examples/levels.txt" >/dev/null 2>&1
+try_program "$top/examples/levels.txt"
+for ((k = 0; k < 101; k++)); do echo "$k $((37 * k % 101))"; done >"$work/points"
+out/rstar_run pack <"$work/points" >"$work/packed"
+try_program "$work/points" pack
+try_program "$work/packed" unpack
+echo "tests: $calls runs, $refusals refusals; the program: $runs runs, $denied refusals; all as they should be"
