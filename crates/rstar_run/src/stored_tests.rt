@@ -2,6 +2,7 @@
 
 use super::modes::Mode;
 use super::program::{mode, pack, unpack};
+use super::stored::{Fault, refuse};
 use super::tests::{Feed, Terminal, expect_written};
 use std::alloc::{AllocError, Global};
 use std::cell::Cell;
@@ -45,6 +46,10 @@ fn reads_its_mode(rt: HostRuntime) -> Result<(), Fail> {
         let list = list_of(rt.alloc(), words)?;
         assert_eq!(rt; mode(&list), want, "at {words:?}");
     }
+    // What the program says where its words ask for nothing.
+    let mut taken = Cursor::new([0u8; 256]);
+    assert_eq!(rt; refuse(Fault::Usage, &mut taken), 2);
+    expect_written(&rt, &taken, "error: usage\n", b"");
     Ok(())
 }
 
