@@ -33,6 +33,21 @@ use std::alloc::AllocError;
 ///
 /// A parent is opened where the selection function accepts its envelope and those of all above it, and a leaf is asked
 /// only when the walk comes to it. `next` takes no memory: the path was reserved when the iterator was made.
+///
+/// ```rust
+/// pub fn walked<'a, T: RTreeObject, Func: SelectionFunction<T>>(
+///     alloc: Global,
+///     mut walk: SelectionIterator<'a, T, Func>,
+/// ) -> Result<Walked<'a, T>, AllocError>
+///     // ..
+/// {
+///     match drained(alloc, &mut walk) {
+///         Ok(all) => Ok((all, walk.opened())),
+///         Err(refused) => Err(refused),
+///     }
+/// }
+/// ```
+/// *`crates/rstar_vectors/src/payloads.rt`*
 #[derive(Drop)]
 pub struct SelectionIterator<'a, T: RTreeObject, Func: SelectionFunction<T>> {
     root: &'a ParentNode<T>,
@@ -44,12 +59,36 @@ pub struct SelectionIterator<'a, T: RTreeObject, Func: SelectionFunction<T>> {
 }
 
 /// All elements of a tree.
+///
+/// ```rust
+/// match tree.iter() {
+///     Ok(walk) => walk.collect(alloc),
+///     Err(refused) => Err(refused),
+/// }
+/// ```
+/// *`crates/rstar_vectors/src/places.rt`*
 pub type RTreeIterator<'a, T> = SelectionIterator<'a, T, SelectAllFunc>;
 
 /// The elements whose envelopes an envelope contains.
+///
+/// ```rust
+/// match tree.locate_in_envelope(envelope) {
+///     Ok(mut walk) => Ok(walk.next()),
+///     Err(refused) => Err(refused),
+/// }
+/// ```
+/// *`crates/rstar_vectors/src/places.rt`*
 pub type LocateInEnvelope<'a, T> = SelectionIterator<'a, T, SelectInEnvelopeFunction<T>>;
 
 /// The elements whose envelopes an envelope intersects.
+///
+/// ```rust
+/// match tree.locate_in_envelope_intersecting(area) {
+///     Ok(walk) => walked(alloc, walk),
+///     Err(refused) => Err(refused),
+/// }
+/// ```
+/// *`crates/rstar_vectors/src/payloads.rt`*
 pub type LocateInEnvelopeIntersecting<'a, T> = SelectionIterator<
     'a,
     T,
@@ -57,9 +96,25 @@ pub type LocateInEnvelopeIntersecting<'a, T> = SelectionIterator<
 >;
 
 /// The elements that contain a point.
+///
+/// ```rust
+/// match tree.locate_all_at_point(point) {
+///     Ok(walk) => walked(alloc, walk),
+///     Err(refused) => Err(refused),
+/// }
+/// ```
+/// *`crates/rstar_vectors/src/payloads.rt`*
 pub type LocateAllAtPoint<'a, T> = SelectionIterator<'a, T, SelectAtPointFunction<T>>;
 
 /// The elements within a distance of a point.
+///
+/// ```rust
+/// match tree.locate_within_distance(point, limit) {
+///     Ok(walk) => walked(alloc, walk),
+///     Err(refused) => Err(refused),
+/// }
+/// ```
+/// *`crates/rstar_vectors/src/payloads.rt`*
 pub type LocateWithinDistanceIterator<'a, T> = SelectionIterator<
     'a,
     T,
@@ -105,6 +160,14 @@ impl<'a, T: RTreeObject, Func: SelectionFunction<T>> SelectionIterator<'a, T, Fu
 
     /// How many parents were opened so far, the root among them, held at the greatest `usize`. At the end these are the
     /// parents that the question reaches; an empty root is never asked.
+    ///
+    /// ```rust
+    /// match drained(alloc, &mut walk) {
+    ///     Ok(all) => Ok((all, walk.opened())),
+    ///     Err(refused) => Err(refused),
+    /// }
+    /// ```
+    /// *`crates/rstar_vectors/src/payloads.rt`*
     pub fn opened(&self) -> usize
         ensures { result ≡ opened_by self.now }
     {

@@ -8,6 +8,18 @@ use rstar_base::envelope::{Envelope, copied_envelope};
 use rstar_base::object::{RTreeObject, envelope_of_all};
 
 /// A node of a tree: one element, or a parent.
+///
+/// ```rust
+/// let mut nodes = root.children();
+/// for levels in 0..64 {
+///     match nodes.first() {
+///         Some(RTreeNode::Parent(parent)) => nodes = parent.children(),
+///         _ => return levels,
+///     }
+/// }
+/// 64
+/// ```
+/// *`crates/rstar_vectors/src/scenarios.rt`*
 #[cycle(node)]
 #[derive(Debug, Drop)]
 pub enum RTreeNode<T: RTreeObject> {
@@ -33,6 +45,19 @@ impl<T: RTreeObject> RTreeNode<T> {
 /// A list of nodes, with the merge of the envelopes of all elements below.
 ///
 /// The root of a tree is one. Only the tree makes and changes parents.
+///
+/// ```rust
+/// for node in nodes {
+///     let held = match node {
+///         RTreeNode::Leaf(_) => 0,
+///         RTreeNode::Parent(parent) => parent.children().len(),
+///     };
+///     if held == count && node.envelope() == *envelope {
+///         return true;
+///     }
+/// }
+/// ```
+/// *`crates/rstar_vectors/src/insertion.rt`*
 #[cycle(node)]
 #[derive(Debug, Drop)]
 pub struct ParentNode<T: RTreeObject> {
@@ -42,6 +67,14 @@ pub struct ParentNode<T: RTreeObject> {
 
 impl<T: RTreeObject> ParentNode<T> {
     /// Its children, left to right.
+    ///
+    /// ```rust
+    /// let nodes = tree.root().children();
+    /// [tree.size(), nodes.len()] == [elements.len(), 2]
+    ///     && stands_within(tree, 3, 6)
+    ///     && has_node(nodes, one.0, &one.1)
+    /// ```
+    /// *`crates/rstar_vectors/src/insertion.rt`*
     pub fn children(&self) -> &[RTreeNode<T>]
         ensures { result.now ≡ children_of self.now }
     {
@@ -49,6 +82,16 @@ impl<T: RTreeObject> ParentNode<T> {
     }
 
     /// The merge of the envelopes of all elements below it.
+    ///
+    /// ```rust
+    /// pub fn count_at_root<P: Point>(tree: &RTree<Place<P>>) -> usize
+    ///     // ..
+    ///     ensures { result ≡ min (length (elements_in tree.now)) usize.MAX }
+    /// {
+    ///     tree.root().envelope().count()
+    /// }
+    /// ```
+    /// *`crates/rstar_vectors/src/counted.rt`*
     pub fn envelope(&self) -> &T::Envelope
         ensures { result.now ≡ envelope_of self.now }
     {
@@ -79,6 +122,13 @@ impl<T: RTreeObject> RTreeObject for RTreeNode<T> {
 }
 
 /// The merge of the envelopes of some nodes, each once; the empty envelope of none. It takes no memory.
+///
+/// ```rust
+/// fn are_so<T: RTreeObject>(nodes: &[RTreeNode<T>], outline: &(usize, T::Envelope)) -> bool {
+///     nodes.len() == outline.0 && envelope_for_children(nodes) == outline.1
+/// }
+/// ```
+/// *`crates/rstar_vectors/src/insertion.rt`*
 pub fn envelope_for_children<T: RTreeObject>(children: &[RTreeNode<T>]) -> T::Envelope
     ensures { result ≡ hull T.Envelope.boxes (node_box T.object.box_of) children.now }
 {

@@ -10,6 +10,15 @@ use rstar_base::object::RTreeObject;
 pub use rstar_base::params::{DefaultParams, RTreeParams, verify_parameters};
 
 /// Why an insertion was refused.
+///
+/// ```rust
+/// let refused = match RStarInsertionStrategy::insert(&mut tree, element) {
+///     Ok(()) => false,
+///     Err(refused) => refused.cause == InsertCause::TooMany && refused.element == element,
+/// };
+/// refused && tree.size() == 0 && tree.root().children().is_empty()
+/// ```
+/// *`crates/rstar_vectors/src/insertion.rt`*
 #[derive(Clone, Copy, Debug, PartialEq, Eq, Drop)]
 pub enum InsertCause {
     /// The allocator refused a growth.
@@ -19,6 +28,20 @@ pub enum InsertCause {
 }
 
 /// An insertion that was refused. The tree has the elements, envelopes and size that it had before.
+///
+/// ```rust
+/// match tree.insert(element) {
+///     Ok(()) => true,
+///     Err(refused) => {
+///         let same = refused.cause == InsertCause::NoMemory
+///             && refused.element == element
+///             && tree.size() == before
+///             && stands(tree);
+///         tree.insert(refused.element).is_ok() && same
+///     }
+/// }
+/// ```
+/// *`crates/rstar_vectors/src/insertion.rt`*
 #[derive(Debug, Drop)]
 pub struct InsertError<T> {
     /// The element, handed back.
@@ -28,6 +51,15 @@ pub struct InsertError<T> {
 }
 
 /// How a tree takes elements in.
+///
+/// ```rust
+/// let refused = match RStarInsertionStrategy::insert(&mut tree, element) {
+///     Ok(()) => false,
+///     Err(refused) => refused.cause == InsertCause::TooMany && refused.element == element,
+/// };
+/// refused && tree.size() == 0 && tree.root().children().is_empty()
+/// ```
+/// *`crates/rstar_vectors/src/insertion.rt`*
 pub trait InsertionStrategy {
     /// Adds one element, whose envelope is not empty, and counts it. Equal elements may be added, and are counted.
     ///

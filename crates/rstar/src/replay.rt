@@ -27,6 +27,14 @@ use std::alloc::AllocError;
 
 /// What a scan asks of elements, in one word for contracts. It has no methods, and each type of elements with distances
 /// and equal envelopes has it.
+///
+/// ```rust
+/// fn step_points(tree: &mut RTree<At>, command: Command<At>) -> Reply<At>
+///     requires whole { IsWholeTree ⟦<AABB<[i64; 2]> as Envelope>⟧.boxes ⟦<[i64; 2] as RTreeObject>⟧.object
+///         ⟦<DefaultParams as RTreeParams>⟧.MAX_SIZE tree.old }
+///     requires fit { IsFit ⟦<[i64; 2] as Scanned>⟧.questions 2 command }
+/// ```
+/// *`crates/rstar_vectors/src/replays.rt`*
 pub trait Scanned: PointDistance + EqualEnvelopes {
     ghost questions: { Questions Self Self.Envelope Self.Envelope.Point Self.Envelope.Point.Scalar };
 }
@@ -37,6 +45,18 @@ impl<T: PointDistance + EqualEnvelopes> Scanned for T {
 }
 
 /// Which elements are asked for.
+///
+/// ```rust
+/// let (place, other) = (draw.place, draw.other);
+/// match draw.query {
+///     0 => Query::All,
+///     1 => Query::In(AABB::from_corners(place, other)),
+///     2 => Query::Hit(AABB::from_corners(place, other)),
+///     3 => Query::At(place),
+///     _ => Query::Within(place, draw.limit),
+/// }
+/// ```
+/// *`crates/rstar_vectors/src/replays.rt`*
 #[derive(Drop)]
 pub enum Query<T: PointDistance> {
     /// All.
@@ -52,6 +72,21 @@ pub enum Query<T: PointDistance> {
 }
 
 /// What can be done with a tree.
+///
+/// ```rust
+/// Ok(match draw.kind {
+///     Kind::Insert => Command::Insert(place),
+///     Kind::Remove => Command::Remove(place),
+///     Kind::RemoveAtPoint => Command::RemoveAtPoint(place),
+///     Kind::PopNearest => Command::PopNearest(place),
+///     Kind::Drain => Command::Drain(query_of(draw), draw.most),
+///     Kind::Ask => Command::Ask(query_of(draw)),
+///     Kind::Contains => Command::Contains(place),
+///     Kind::Nearest => Command::Nearest(place),
+/// // ..
+/// })
+/// ```
+/// *`crates/rstar_vectors/src/replays.rt`*
 #[derive(Drop)]
 pub enum Command<T: PointDistance> {
     /// Puts a fresh load of these elements in the tree's place.
@@ -79,6 +114,21 @@ pub enum Command<T: PointDistance> {
 }
 
 /// What a command is answered. Elements are clones, but for those that were taken out. Distances are squared.
+///
+/// ```rust
+/// fn given(reply: &Reply<At>) -> Option<usize> {
+///     match reply {
+///         Reply::Done => Some(0),
+///         Reply::Taken(found) => Some(usize::from(found.is_some())),
+///         Reply::Elements(all) => Some(all.len()),
+///         Reply::Has(found) => Some(usize::from(*found)),
+///         Reply::Nearest(found) => Some(usize::from(found.is_some())),
+///         Reply::Neighbours(all) => Some(all.len()),
+///         Reply::Pairs(all) => Some(all.len()),
+///         Reply::NoMemory | Reply::TooMany => None,
+///     }
+/// ```
+/// *`crates/rstar_vectors/src/replays.rt`*
 #[derive(Drop)]
 pub enum Reply<T: PointDistance> {
     /// It is done.
@@ -108,6 +158,15 @@ pub enum Reply<T: PointDistance> {
 /// and only of an `Insert`; `NoMemory` where the allocator refuses a growth, and never of a `Remove`, a `RemoveAtPoint`
 /// or a `Contains`, which take no memory. Both leave the tree, and a refused `Insert` drops its element. It costs what
 /// the tree's own call costs, and a clone of each element that it answers with and does not take out.
+///
+/// ```rust
+/// fn step_points(tree: &mut RTree<At>, command: Command<At>) -> Reply<At>
+///     // ..
+/// {
+///     step(tree, command)
+/// }
+/// ```
+/// *`crates/rstar_vectors/src/replays.rt`*
 #[tactic(auto, using(crate::proofs::Replays::too_many, crate::proofs::Replays::unchanged))]
 pub fn step<T: PointDistance + EqualEnvelopes + Clone, Params: RTreeParams>(
     tree: &mut RTree<T, Params>,
@@ -140,6 +199,20 @@ pub fn step<T: PointDistance + EqualEnvelopes + Clone, Params: RTreeParams>(
 /// Runs commands in order, each as `step` does, and gives their replies: see `Run`.
 ///
 /// It reserves the list of replies first. An error means that the allocator refused it, and that no command was run.
+///
+/// ```rust
+/// if !all_fit(&commands) {
+///     return (Ok(Vec::new(alloc)), None);
+/// }
+/// let mut tree: RTree<T> = RTree::default(alloc);
+/// // ..
+/// let all = if by_order {
+///     replay_by_order(&mut tree, commands)
+/// } else {
+///     replay(&mut tree, commands)
+/// };
+/// ```
+/// *`crates/rstar_vectors/src/replays.rt`*
 pub fn replay<T: PointDistance + EqualEnvelopes + Clone, Params: RTreeParams>(
     tree: &mut RTree<T, Params>,
     commands: Vec<Command<T>>,
@@ -165,6 +238,16 @@ pub fn replay<T: PointDistance + EqualEnvelopes + Clone, Params: RTreeParams>(
 /// first so many, so that elements which the order tells apart leave one reply alone. Every other command is run by
 /// `step`. What is asked of a command, its refusals and its cost are those of `step`; a reply by order is one that `step`
 /// may give.
+///
+/// ```rust
+/// pub fn step(&mut self, command: Command<Item>) -> Reply<Item>
+///     requires { IsFit questions 2 command }
+///     ensures { StoreStep self.old command result self.new }
+/// {
+///     step_by_order(&mut self.tree, command)
+/// }
+/// ```
+/// *`crates/rstar_run/src/store.rt`*
 pub fn step_by_order<T: PointDistance + EqualEnvelopes + Clone + Ord, Params: RTreeParams>(
     tree: &mut RTree<T, Params>,
     command: Command<T>,
@@ -193,6 +276,15 @@ pub fn step_by_order<T: PointDistance + EqualEnvelopes + Clone + Ord, Params: RT
 /// that `replay` may give.
 ///
 /// It reserves the list of replies first. An error means that the allocator refused it, and that no command was run.
+///
+/// ```rust
+/// let all = if by_order {
+///     replay_by_order(&mut tree, commands)
+/// } else {
+///     replay(&mut tree, commands)
+/// };
+/// ```
+/// *`crates/rstar_vectors/src/replays.rt`*
 pub fn replay_by_order<T: PointDistance + EqualEnvelopes + Clone + Ord, Params: RTreeParams>(
     tree: &mut RTree<T, Params>,
     commands: Vec<Command<T>>,

@@ -37,6 +37,16 @@ use std::marker::PhantomData;
 ///
 /// Every call that makes or changes a tree leaves it whole: the envelope of each parent is the merge
 /// of the envelopes of the elements below it, all leaves lie on one level, and `size` counts the elements.
+///
+/// ```rust
+/// fn two_points(alloc: Global) -> Result<usize, InsertError<[i64; 2]>> {
+///     let mut tree = RTree::new(alloc);
+///     tree.insert([1, 2])?;
+///     tree.insert([3, 4])?;
+///     Ok(tree.size())
+/// }
+/// ```
+/// *`crates/rstar_vectors/src/places.rt`*
 #[derive(Drop)]
 pub struct RTree<T: RTreeObject, Params: RTreeParams = DefaultParams> {
     root: ParentNode<T>,
@@ -54,6 +64,14 @@ impl<T: RTreeObject> RTree<T> {
     /// The empty tree, with the default node sizes. It takes no memory yet.
     ///
     /// Its points have at least two dimensions; `verify_parameters` is the test.
+    ///
+    /// ```rust
+    /// let mut tree = RTree::new(alloc);
+    /// if let Err(refused) = tree.insert(first) {
+    ///     return Err(refused);
+    /// }
+    /// ```
+    /// *`crates/rstar_vectors/src/places.rt`*
     pub fn new(alloc: Global) -> Self
         requires dimensions { 2 ≤ T.Envelope.Point.DIMENSIONS }
         ensures none { elements_in result ≡ [] }
@@ -69,6 +87,16 @@ impl<T: RTreeObject, Params: RTreeParams> RTree<T, Params> {
     /// The empty tree, with chosen node sizes. It takes no memory yet.
     ///
     /// Its points have at least two dimensions; `verify_parameters` is the test.
+    ///
+    /// ```rust
+    /// let mut tree: RTree<T, Huge> = RTree::new_with_params(alloc);
+    /// let refused = match RStarInsertionStrategy::insert(&mut tree, element) {
+    ///     Ok(()) => false,
+    ///     Err(refused) => refused.cause == InsertCause::TooMany && refused.element == element,
+    /// };
+    /// refused && tree.size() == 0 && tree.root().children().is_empty()
+    /// ```
+    /// *`crates/rstar_vectors/src/insertion.rt`*
     pub fn new_with_params(alloc: Global) -> Self
         requires dimensions { 2 ≤ T.Envelope.Point.DIMENSIONS }
         ensures none { elements_in result ≡ [] }
@@ -79,6 +107,17 @@ impl<T: RTreeObject, Params: RTreeParams> RTree<T, Params> {
     }
 
     /// The empty tree, of any number of dimensions. It takes no memory yet.
+    ///
+    /// ```rust
+    /// let mut tree = RTree::default(alloc);
+    /// for element in elements {
+    ///     if !goes_in(&mut tree, *element) {
+    ///         return RTree::default(alloc);
+    ///     }
+    /// }
+    /// tree
+    /// ```
+    /// *`crates/rstar_vectors/src/scenarios.rt`*
     #[tactic(auto, unfolding(crate::specs::Trees::IsWholeTree))]
     pub fn default(alloc: Global) -> Self
         ensures none { elements_in result ≡ [] }
@@ -101,6 +140,18 @@ impl<T: RTreeObject, Params: RTreeParams> RTree<T, Params> {
     }
 
     /// The root, from which all nodes are reached. It is a parent, without children where the tree is empty.
+    ///
+    /// ```rust
+    /// let mut nodes = root.children();
+    /// for levels in 0..64 {
+    ///     match nodes.first() {
+    ///         Some(RTreeNode::Parent(parent)) => nodes = parent.children(),
+    ///         _ => return levels,
+    ///     }
+    /// }
+    /// 64
+    /// ```
+    /// *`crates/rstar_vectors/src/scenarios.rt`*
     #[tactic(auto, unfolding(crate::specs::Trees::IsWholeTree))]
     pub fn root(&self) -> &ParentNode<T>
         ensures shown { result.now ≡ root_of self.now }
@@ -111,6 +162,13 @@ impl<T: RTreeObject, Params: RTreeParams> RTree<T, Params> {
     }
 
     /// The number of elements, equal ones counted each.
+    ///
+    /// ```rust
+    /// tree.size() == 2
+    ///     && tree.root().children().len() == 2
+    ///     && counted_inside(tree, area) == Some(near)
+    /// ```
+    /// *`crates/rstar_vectors/src/places.rt`*
     #[tactic(auto, unfolding(crate::specs::Trees::IsWholeTree))]
     pub fn size(&self) -> usize
         ensures shown { result ≡ size_of self.now }
@@ -128,6 +186,20 @@ impl<T: RTreeObject, Params: RTreeParams> RTree<T, Params> {
     /// the allocator refuses a growth. A refusal hands the element back and leaves the tree as it shows itself.
     ///
     /// It costs a path from the root to the leaves, with a look at each child beside it, and a split now and then.
+    ///
+    /// ```rust
+    /// match tree.insert(element) {
+    ///     Ok(()) => true,
+    ///     Err(refused) => {
+    ///         let same = refused.cause == InsertCause::NoMemory
+    ///             && refused.element == element
+    ///             && tree.size() == before
+    ///             && stands(tree);
+    ///         tree.insert(refused.element).is_ok() && same
+    ///     }
+    /// }
+    /// ```
+    /// *`crates/rstar_vectors/src/insertion.rt`*
     pub fn insert(&mut self, t: T) -> Result<(), InsertError<T>>
         requires whole { IsWholeTree T.Envelope.boxes T.object Params.MAX_SIZE self.old }
         requires element { T.Envelope.boxes.is_empty (T.object.box_of t) ≡ false }

@@ -26,6 +26,17 @@ use rstar_base::point::known;
 use std::alloc::{AllocError, AllocFailed, Global};
 
 /// Why a tree was not read or not written.
+///
+/// ```rust
+/// let (magic, rest) = bytes.split_at(bytes.len().min(4));
+/// if magic.len() == 4 && magic != b"RST1".as_slice() {
+///     return Err(StoredError::BadMagic);
+/// }
+/// if rest.len() < 9 {
+///     return Err(StoredError::Truncated);
+/// }
+/// ```
+/// *`crates/rstar_vectors/src/stored.rt`*
 #[derive(Clone, Copy, Debug, PartialEq, Eq)]
 pub enum StoredError {
     /// A part lacks bytes.
@@ -289,6 +300,14 @@ fn tree_of<Params: RTreeParams>(
 /// comes after the root, and what is left after that.
 ///
 /// One pass: each parent takes one list, and each box is merged once. The stack holds at most 64 levels.
+///
+/// ```rust
+/// match &mut read_stored::<Params>(alloc, bytes) {
+///     Ok(tree) => takes_and_loses(alloc, tree, points, others, widest),
+///     Err(_) => false,
+/// }
+/// ```
+/// *`crates/rstar_vectors/src/stored.rt`*
 pub fn read_stored<Params: RTreeParams>(
     alloc: Global,
     bytes: &[u8],
@@ -371,6 +390,14 @@ fn parent_size(parent: &ParentNode<[i64; 2]>) -> usize {
 ///
 /// A tree of more than 64 levels of parents is refused with `TooHigh`, any other with `NoMemory` alone. Memory is taken
 /// once, for as many bytes as are written. The cost is that of a walk over the nodes and of the bytes.
+///
+/// ```rust
+/// match write_stored(&loaded::<_, Params>(alloc, points)) {
+///     Ok(bytes) => bytes,
+///     Err(_) => Vec::new(alloc),
+/// }
+/// ```
+/// *`crates/rstar_vectors/src/stored.rt`*
 pub fn write_stored<Params: RTreeParams>(
     tree: &RTree<[i64; 2], Params>,
 ) -> Result<Vec<u8>, StoredError>

@@ -148,6 +148,18 @@ fn visit_nodes<
 /// Calls the visitor at the elements that a function selects below a root, in some order, each at most once, until a
 /// call breaks; its break is the answer. A function that is not lawful may miss some; a lawful one misses
 /// none below a root that is whole, as the root of a tree is. It takes no memory.
+///
+/// ```rust
+/// let _end: ControlFlow<()> = select_nodes(
+///     root,
+///     &SelectAllFunc,
+///     &mut |one: &Numbered<R>| {
+///         sum = sum.saturating_add(one.data);
+///         ControlFlow::Continue(())
+///     },
+/// );
+/// ```
+/// *`crates/rstar_vectors/src/visits.rt`*
 pub fn select_nodes<
     'a,
     T: RTreeObject,
@@ -226,6 +238,19 @@ fn visit_nodes_mut<
 /// call breaks; its break is the answer. The visitor may write the elements; it must keep their envelopes, and then
 /// nothing else of the nodes changes, and a whole root stays whole. A function that is not lawful may miss some; a
 /// lawful one misses none below a root that is whole. It takes no memory.
+///
+/// ```rust
+/// let func = SelectInEnvelopeFuncIntersecting::new(area);
+/// let _went_on: ControlFlow<()> = select_nodes_mut(
+///     root,
+///     &func,
+///     &mut |one: &mut GeomWithData<R, u64>| {
+///         one.data = 0;
+///         ControlFlow::Continue(())
+///     },
+/// );
+/// ```
+/// *`crates/rstar_vectors/src/visits.rt`*
 pub fn select_nodes_mut<
     T: RTreeObject,
     F: SelectionFunction<T>,

@@ -42,6 +42,17 @@ pub(crate) fn bound<P: Point>(lower: &P, upper: &P, above: &P, below: &P) -> boo
 }
 
 /// Whether `lower <= upper` on every axis, as `AABB::from_bounds` asks.
+///
+/// ```rust
+/// fn boxed<P: Point + Copy>(lower: P, upper: P) -> AABB<P> {
+///     if upright(&lower, &upper) {
+///         AABB::from_bounds(lower, upper)
+///     } else {
+///         AABB::new_empty()
+///     }
+/// }
+/// ```
+/// *`crates/rstar_base/src/tests/boxes.rt`*
 pub fn upright<P: Point>(lower: &P, upper: &P) -> bool
     ensures { result ≡ is_upright P.DIMENSIONS (P.coord lower.now) (P.coord upper.now) }
 {
@@ -219,6 +230,13 @@ pub(crate) fn same_coordinates<P: Point>(p: &P, q: &P) -> bool
 /// With no axis there is one box, and it is not empty. Measures and distances are exact, and held at
 /// the greatest scalar; distances are squared. Each call costs a pass over the axes, and a copy of a
 /// box takes no memory. Boxes are ordered by their lower, then by their upper corners.
+///
+/// ```rust
+/// let one = AABB::from_corners([0i64, 2], [1, 1]);
+/// assert!(rt; hashed(&one) == hashed(&AABB::from_corners([0i64, 1], [1, 2])));
+/// assert!(rt; is_shown(rt.alloc(), &one, "AABB { lower: [0, 1], upper: [1, 2] }"));
+/// ```
+/// *`crates/rstar_base/src/tests/boxes.rt`*
 #[derive(Copy, Debug, PartialEq, Eq, PartialOrd, Ord, Hash, Drop)]
 pub struct AABB<P: Point> {
     lower: P,
@@ -267,6 +285,13 @@ impl<P: Point> Clone for AABB<P> {
 
 impl<P: Point> AABB<P> {
     /// The box of one point.
+    ///
+    /// ```rust
+    /// let none: [i64; 0] = [];
+    /// let one = AABB::from_point(none);
+    /// assert!(rt; merges(&Counted::new(one), &one, 1, 2));
+    /// ```
+    /// *`crates/rstar_base/src/tests/boxes.rt`*
     pub fn from_point(p: P) -> Self
         ensures { result ≡ between_corners P.DIMENSIONS (P.coord p) (P.coord p) }
     {
@@ -277,6 +302,17 @@ impl<P: Point> AABB<P> {
     }
 
     /// The box between two corners, of which the first is nowhere above the second; `upright` is the test.
+    ///
+    /// ```rust
+    /// fn boxed<P: Point + Copy>(lower: P, upper: P) -> AABB<P> {
+    ///     if upright(&lower, &upper) {
+    ///         AABB::from_bounds(lower, upper)
+    ///     } else {
+    ///         AABB::new_empty()
+    ///     }
+    /// }
+    /// ```
+    /// *`crates/rstar_base/src/tests/boxes.rt`*
     pub fn from_bounds(lower: P, upper: P) -> Self
         requires { IsTrue (is_upright P.DIMENSIONS (P.coord lower) (P.coord upper)) }
         ensures { result ≡ between_corners P.DIMENSIONS (P.coord lower) (P.coord upper) }
@@ -304,6 +340,17 @@ impl<P: Point> AABB<P> {
 
     /// The least box of all points that are at most `distance` from `center` on every axis, held
     /// inside the range of the scalar. A negative distance counts as the positive one.
+    ///
+    /// ```rust
+    /// fn is_round<P: Point + Copy>(center: P, distance: P::Scalar, lower: P, upper: P) -> bool {
+    ///     let wanted = boxed(lower, upper);
+    ///     let below = P::Scalar::zero().clamped_sub(distance);
+    ///     AABB::from_center(center, distance) == wanted && AABB::from_center(center, below) == wanted
+    /// }
+    /// // ..
+    /// is_round([100i8, 0], 50, [50, -50], [127, 50]),
+    /// ```
+    /// *`crates/rstar_base/src/tests/boxes.rt`*
     pub fn from_center(center: P, distance: P::Scalar) -> Self
         ensures { result ≡ box_of_corners P.DIMENSIONS
             (λ i. between (P.coord center i +ℤ P.Scalar.value distance) P.Scalar.low P.Scalar.high)
@@ -313,6 +360,16 @@ impl<P: Point> AABB<P> {
     }
 
     /// The least box of all points; of none, the empty box. The iterator has to end. It costs a merge per point.
+    ///
+    /// ```rust
+    /// fn is_hull<P: Point + Copy>(points: &[P], lower: P, upper: P) -> bool {
+    ///     AABB::from_points(points) == boxed(lower, upper)
+    /// }
+    /// // ..
+    /// is_hull(&[[1i32, 5], [2, 3], [1, 5], [1, 5]], [1, 3], [2, 5]),
+    /// is_hull(&[[7i32, -7]], [7, -7], [7, -7]),
+    /// ```
+    /// *`crates/rstar_base/src/tests/boxes.rt`*
     pub fn from_points<'a, I: IntoIterator<Item = &'a P>>(i: I) -> Self
     where
         P: 'a,
@@ -331,6 +388,16 @@ impl<P: Point> AABB<P> {
     }
 
     /// The lower corner; of the empty box all greatest scalars.
+    ///
+    /// ```rust
+    /// fn has_measures<P: Point + Copy>(row: &MeasureRow<P>) -> bool {
+    ///     let made = boxed(row.0, row.1);
+    ///     made.lower() == row.0
+    ///         && made.upper() == row.1
+    ///         && measures(&made, &row.2, &row.3, &row.4, &row.5)
+    /// }
+    /// ```
+    /// *`crates/rstar_base/src/tests/boxes.rt`*
     pub fn lower(&self) -> P
         ensures { table P.DIMENSIONS (P.coord result) ≡ map (λ x. x.0) self.now }
     {
@@ -346,6 +413,20 @@ impl<P: Point> AABB<P> {
 
     /// The point of the box that is nearest to `point`, which is `point` itself where the box contains
     /// it. For the empty box, which has no point, it is the upper corner: all least scalars.
+    ///
+    /// The row: a box by its corners, a point, the box's nearest point, its squared distance, the min-max distance.
+    ///
+    /// ```rust
+    /// fn box_is_so_far<P: Point + Copy>(row: &DistanceRow<P>) -> bool {
+    ///     let made = boxed(row.0, row.1);
+    ///     made.min_point(&row.2) == row.3
+    ///         && made.distance_2(&row.2) == row.4
+    ///         && made.min_max_dist_2(&row.2) == row.5
+    /// }
+    /// // ..
+    /// ([0i8, -3], [2, 4], [5, 1], [2, 1], 9, 25),
+    /// ```
+    /// *`crates/rstar_base/src/tests/boxes.rt`*
     pub fn min_point(&self, point: &P) -> P
         ensures { table P.DIMENSIONS (P.coord result)
             ≡ nearest_point self.now (table P.DIMENSIONS (P.coord point.now)) }
@@ -363,6 +444,16 @@ impl<P: Point> AABB<P> {
     }
 
     /// The least box that contains two points: opposite corners, in any order.
+    ///
+    /// ```rust
+    /// fn has_corners<P: Point + Copy>(one: P, other: P, lower: P, upper: P) -> bool {
+    ///     AABB::from_corners(one, other) == boxed(lower, upper)
+    ///         && AABB::from_point(lower) == boxed(lower, lower)
+    /// }
+    /// // ..
+    /// has_corners([2i8, -3], [0, 4], [0, -3], [2, 4]),
+    /// ```
+    /// *`crates/rstar_base/src/tests/boxes.rt`*
     pub fn from_corners(p: P, q: P) -> Self
         ensures { result ≡ box_of_corners P.DIMENSIONS (P.coord p) (P.coord q) }
     {

@@ -20,6 +20,16 @@ use std::mem;
 /// All slabs but the last have the same number of elements, and no element of a later slab has a
 /// greater `axis_key` than one of an earlier. Each slab is a list of its own. A refusal comes once and
 /// drops the rest; the last slab is the list that is left, so that it is never refused.
+///
+/// ```rust
+/// let mut slabs = ClusterGroupIterator::new(elements, clusters, axis);
+/// let mut are_so = true;
+/// for (length, key) in wanted {
+///     are_so = is_slab(&slabs.next(), axis, *length, *key) && are_so;
+/// }
+/// are_so && slabs.next().is_none() && slabs.cluster_dimension() == axis
+/// ```
+/// *`crates/rstar_base/src/tests/slabs.rt`*
 #[derive(Drop)]
 pub struct ClusterGroupIterator<T> {
     remaining: Vec<T>,
@@ -116,6 +126,17 @@ fn partition_list<T: RTreeObject>(axis: usize, list: &mut Vec<T>, k: usize)
 /// parts are at most the subtrees that `n` elements fill. A load cuts into 2 where it is 1.
 ///
 /// It counts in whole numbers, exactly, for every `n`.
+///
+/// ```rust
+/// for &(count, clusters) in &ROWS {
+///     assert!(rt;
+///         count > 6
+///             && calculate_number_of_clusters_on_axis::<[i32; 2], DefaultParams>(count)
+///                 == clusters
+///     );
+/// }
+/// ```
+/// *`crates/rstar_base/src/tests/slabs.rt`*
 pub fn calculate_number_of_clusters_on_axis<T: RTreeObject, Params: RTreeParams>(n: usize) -> usize
     requires large { Params.MAX_SIZE < n }
     requires axes { 2 ≤ T.Envelope.Point.DIMENSIONS }

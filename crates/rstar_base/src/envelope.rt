@@ -20,6 +20,21 @@ use std::marker::Model;
 /// unit; a merge contains both parts; where neither part is empty, it is no farther than either, and its
 /// `min_max_dist_2` is at least the lesser of theirs. `AABB` is the envelope of boxes; a type of a
 /// user's own proves the same laws. All distances are squared, and a call takes no memory.
+///
+/// ```rust
+/// impl Envelope for Stretch {
+///     type Point = [i64; 1];
+///     ghost boxes = { stretch_data };
+///     // ..
+///     fn is_empty(&self) -> bool {
+///         self.to < self.from
+///     }
+///     // ..
+///     ghost envelope_laws = { stretch_laws };
+///     ghost eq_law = { λ a b _ _. stretch_eq a b };
+/// }
+/// ```
+/// *`crates/rstar_vectors/src/interval.rt`*
 pub trait Envelope: Clone + PartialEq + Debug + Drop {
     /// The type of its points.
     type Point: Point;
@@ -28,6 +43,15 @@ pub trait Envelope: Clone + PartialEq + Debug + Drop {
     ghost boxes: { Boxes Self };
 
     /// The envelope of nothing, which changes nothing that it is merged with.
+    ///
+    /// ```rust
+    /// let rows: [(AABB<[i64; 2]>, usize, usize); 3] = [
+    ///     (AABB::from_point([1, 2]), 1, 2),
+    ///     (AABB::from_corners([0, 0], [2, 2]), 1, 2),
+    ///     (AABB::new_empty(), 0, 0),
+    /// ];
+    /// ```
+    /// *`crates/rstar_base/src/tests/boxes.rt`*
     fn new_empty() -> Self
         ensures { result ≡ boxes.empty };
 
@@ -37,6 +61,21 @@ pub trait Envelope: Clone + PartialEq + Debug + Drop {
         ensures own { boxes.IsValue self.now };
 
     /// Whether it contains a point.
+    ///
+    /// ```rust
+    /// fn have_points<P: Point + Copy>(rows: &[((P, P), P, bool, bool)]) -> bool {
+    ///     for (corners, point, contained, empty) in rows {
+    ///         let made = boxed(corners.0, corners.1);
+    ///         if made.contains_point(point) != *contained || made.is_empty() != *empty {
+    ///             return false;
+    ///         }
+    ///     }
+    ///     true
+    /// }
+    /// // ..
+    /// (([0i64, 0], [4, 5]), [4, 0], true, false),
+    /// ```
+    /// *`crates/rstar_base/src/tests/boxes.rt`*
     fn contains_point(&self, point: &Self::Point) -> bool
         ensures test { result
             ≡ boxes.contains_point self.now (table Self.Point.DIMENSIONS (Self.Point.coord point.now)) }
@@ -48,6 +87,16 @@ pub trait Envelope: Clone + PartialEq + Debug + Drop {
         ensures own { boxes.IsValue self.now × boxes.IsValue other.now };
 
     /// Takes another envelope into this one.
+    ///
+    /// ```rust
+    /// let answers = one.intersects(other) == intersects
+    ///     && one.contains_envelope(other) == contains
+    ///     && one.intersection_area(other) == *shared
+    ///     && one.merged(other) == *merge;
+    /// one.merge(other);
+    /// answers && *one == *merge
+    /// ```
+    /// *`crates/rstar_base/src/tests/boxes.rt`*
     fn merge(&mut self, other: &Self)
         ensures merged { self.new ≡ boxes.merge self.old other.now }
         ensures own { boxes.IsValue self.old × boxes.IsValue other.now };
@@ -70,12 +119,29 @@ pub trait Envelope: Clone + PartialEq + Debug + Drop {
 
     /// The squared distance within which an element lies, where the envelope is the merge of elements' envelopes
     /// (MINMAXDIST of Roussopoulos, Kelley and Vincent 1995).
+    ///
+    /// ```rust
+    /// let place = [6950i64, 2207, 8186];
+    /// let boxed = AABB::from_corners([7018, 2121, 8120], [7297, 2302, 8194]);
+    /// let corner = [7018, 2302, 8120].distance_2(&place);
+    /// assert!(rt; boxed.min_max_dist_2(&place) == 18005 && corner == 18005);
+    /// ```
+    /// *`crates/rstar_base/src/tests/boxes.rt`*
     fn min_max_dist_2(&self, point: &Self::Point) -> <Self::Point as Point>::Scalar
         ensures value { Self.Point.Scalar.value result
             ≡ pos (boxes.min_max_dist_2 self.now (table Self.Point.DIMENSIONS (Self.Point.coord point.now))) }
         ensures own { boxes.IsValue self.now };
 
     /// The size of what it covers, held at the greatest scalar.
+    ///
+    /// ```rust
+    /// 1 < <E::Point as Point>::DIMENSIONS
+    ///     && made.area() == *area
+    ///     && made.perimeter_value() == *perimeter
+    ///     && made.center() == *center
+    ///     && made.axis_key(1) == *key
+    /// ```
+    /// *`crates/rstar_base/src/tests/boxes.rt`*
     fn area(&self) -> <Self::Point as Point>::Scalar
         ensures value { Self.Point.Scalar.value result ≡ pos (boxes.area self.now) }
         ensures own { boxes.IsValue self.now };
@@ -109,6 +175,18 @@ pub trait Envelope: Clone + PartialEq + Debug + Drop {
 }
 
 /// A copy of an envelope, which takes no memory.
+///
+/// ```rust
+/// let mut all = copied_envelope(&empty);
+/// all.merge(&Stretch::new(i64::MIN, i64::MAX, 1));
+/// assert!(rt;
+///     empty.is_empty()
+///         && empty.area() == 0
+///         && all == Stretch::new(i64::MIN, i64::MAX, 1)
+///         && all.area() == i64::MAX
+/// );
+/// ```
+/// *`crates/rstar_vectors/src/interval.rt`*
 pub fn copied_envelope<E: Envelope>(e: &E) -> E
     ensures same { result ≡ e.now }
     ensures own { E.boxes.IsValue e.now }
@@ -121,6 +199,18 @@ pub fn copied_envelope<E: Envelope>(e: &E) -> E
 /// So a parent of a tree over such envelopes tells how many elements lie below it. The count is 0 for the empty box
 /// alone (`count` says more). Everything else is as of the box; equality compares box and count. A copy takes no
 /// memory.
+///
+/// ```rust
+/// impl<P: Point> RTreeObject for Place<P> {
+///     type Envelope = Counted<P>;
+///     // ..
+///     fn envelope(&self) -> Counted<P> {
+///         Counted::new(self.at.envelope())
+///     }
+///     // ..
+/// }
+/// ```
+/// *`crates/rstar_vectors/src/counted.rt`*
 #[derive(Copy, Debug, PartialEq, Eq, Drop)]
 pub struct Counted<P: Point> {
     aabb: AABB<P>,
@@ -158,6 +248,13 @@ impl<P: Point> Clone for Counted<P> {
 
 impl<P: Point> Counted<P> {
     /// A box that counts once; the empty box, where there is an axis, counts 0.
+    ///
+    /// ```rust
+    /// for &(aabb, count, twice) in &rows {
+    ///     assert!(rt; merges(&Counted::new(aabb), &aabb, count, twice));
+    /// }
+    /// ```
+    /// *`crates/rstar_base/src/tests/boxes.rt`*
     pub fn new(aabb: AABB<P>) -> Self
         ensures { result ≡ (aabb, if is_empty_box aabb then 0 else 1) }
     {
@@ -174,6 +271,13 @@ impl<P: Point> Counted<P> {
 
     /// How many boxes were merged, held at the greatest `usize`. Where there is an axis, it is 0 exactly where the box
     /// is empty.
+    ///
+    /// ```rust
+    /// fn has_count<P: Point>(counted: &Counted<P>, aabb: &AABB<P>, count: usize) -> bool {
+    ///     *counted.aabb() == *aabb && counted.count() == count && counted.is_empty() == (count == 0)
+    /// }
+    /// ```
+    /// *`crates/rstar_base/src/tests/boxes.rt`*
     pub fn count(&self) -> usize
         ensures value { result ≡ self.now.1 }
         ensures none { 0 < P.DIMENSIONS → (result ≡ 0) ↔ (is_empty_box self.now.0 ≡ true) }

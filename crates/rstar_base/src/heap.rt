@@ -20,6 +20,17 @@ const INLINE: usize = 32;
 ///
 /// Up to 32 items lie inline, in order, the greatest last. An item that finds no place there goes into a binary heap in
 /// a list of its own. So with at most 31 items held, a push takes no memory, also after the list was used.
+///
+/// ```rust
+/// let mut heap = SmallHeap::new(alloc);
+/// for step in steps {
+///     if !goes(&mut heap, step) {
+///         return false;
+///     }
+/// }
+/// true
+/// ```
+/// *`crates/rstar_base/src/tests/heaps.rt`*
 #[derive(Drop)]
 pub struct SmallHeap<T> {
     // Each place that is taken holds an item.
@@ -56,6 +67,16 @@ impl<T: Ord + Drop> SmallHeap<T> {
     /// Adds an item. A refusal hands it back and changes nothing; with at most 31 items held there is none.
     ///
     /// It costs a comparison with each inline item that is greater, or those of a push on a binary heap.
+    ///
+    /// ```rust
+    /// for number in from..end {
+    ///     if heap.push(number).is_err() {
+    ///         return false;
+    ///     }
+    /// }
+    /// true
+    /// ```
+    /// *`crates/rstar_base/src/tests/heaps.rt`*
     pub fn push(&mut self, item: T) -> Result<(), T>
         requires { IsOrdered T.cmp self.old }
         ensures ordered { IsOrdered T.cmp self.new }
@@ -78,6 +99,16 @@ impl<T: Ord + Drop> SmallHeap<T> {
     }
 
     /// Takes out a greatest item, `None` exactly where there is none. It takes no memory.
+    ///
+    /// ```rust
+    /// for number in (end..from.saturating_add(1)).rev() {
+    ///     if heap.pop() != Some(number) {
+    ///         return false;
+    ///     }
+    /// }
+    /// true
+    /// ```
+    /// *`crates/rstar_base/src/tests/heaps.rt`*
     pub fn pop(&mut self) -> Option<T>
         requires { IsOrdered T.cmp self.old }
         ensures ordered { IsOrdered T.cmp self.new }
@@ -96,6 +127,16 @@ impl<T: Ord + Drop> SmallHeap<T> {
     /// Adds all items, or none where memory is refused; then the iterator is dropped.
     ///
     /// It takes memory once, before the first item, for those that find no inline place.
+    ///
+    /// ```rust
+    /// match step {
+    ///     Step::Push(from, end) => pushes(heap, *from, *end),
+    ///     Step::Extend(from, end) => heap.extend(*from..*end).is_ok(),
+    ///     Step::Pop(from, end) => pops_down(heap, *from, *end),
+    ///     Step::End => heap.pop().is_none(),
+    /// }
+    /// ```
+    /// *`crates/rstar_base/src/tests/heaps.rt`*
     pub fn extend<I: ExactSizeIterator<Item = T> + Drop>(
         &mut self,
         iter: I,

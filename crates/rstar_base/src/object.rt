@@ -21,14 +21,51 @@ use std::cmp::Ordering;
 use std::rc::Rc;
 
 /// The point type of an element type.
+///
+/// ```rust
+/// fn is_nothing<T: PointDistance>(element: &T, point: &PointOf<T>) -> bool {
+///     element.envelope().is_empty() && !element.contains_point(point)
+/// }
+/// ```
+/// *`crates/rstar_base/src/tests/elements.rt`*
 pub type PointOf<T> = <<T as RTreeObject>::Envelope as Envelope>::Point;
 
 /// A squared distance of an element type: the scalar of its points.
+///
+/// ```rust
+/// pub(crate) fn scanned<T: PointDistance>(
+///     alloc: Global,
+///     elements: &[T],
+///     place: &PointOf<T>,
+/// ) -> Result<Vec<Distance<T>>, AllocError> {
+///     let mut all = Vec::new(alloc);
+///     for element in elements {
+///         all.push(element.distance_2(place))?;
+///     }
+///     all.sort_unstable();
+///     Ok(all)
+/// }
+/// ```
+/// *`crates/rstar_vectors/src/neighbour_rows.rt`*
 pub type Distance<T> = <<<T as RTreeObject>::Envelope as Envelope>::Point as Point>::Scalar;
 
 /// An element of a tree: something with an envelope.
 ///
 /// The law: the envelope of each element in hand is a value of its type.
+///
+/// ```rust
+/// impl<P: Point> RTreeObject for Doors<P> {
+///     type Envelope = AABB<P>;
+///     ghost object = { doors_objects P.Scalar.low P.Scalar.high P.DIMENSIONS (λ d. P.coord d.front)
+///         (λ d. P.coord d.back) };
+///     fn envelope(&self) -> AABB<P> {
+///         self.front.envelope().merged(&self.back.envelope())
+///     }
+///     ghost object_law = { doors_object_law P.Scalar.low P.Scalar.high P.DIMENSIONS (λ d. P.coord d.front)
+///         (λ d. P.coord d.back) };
+/// }
+/// ```
+/// *`crates/rstar_vectors/src/doors.rt`*
 pub trait RTreeObject: Drop {
     /// The type of its envelope.
     type Envelope: Envelope;
@@ -49,6 +86,22 @@ pub trait RTreeObject: Drop {
 /// All distances are squared. The laws, at every point and for an element whose envelope is not
 /// empty: its distance is at least that of its envelope, and at most the envelope's
 /// `min_max_dist_2`. And where an element contains a point, its envelope contains it.
+///
+/// ```rust
+/// impl<P: Point> PointDistance for Doors<P> {
+///     ghost distances = { doors_distances P.Scalar.high P.DIMENSIONS (λ d. P.coord d.front) (λ d. P.coord d.back) };
+///     // ..
+///     fn distance_2(&self, point: &P) -> P::Scalar {
+///         least(self.front.distance_2(point), self.back.distance_2(point))
+///     }
+///     fn contains_point(&self, point: &P) -> bool {
+///         self.front.contains_point(point) || self.back.contains_point(point)
+///     }
+///     ghost distance_laws = { doors_laws P.Scalar.low P.Scalar.high P.DIMENSIONS (λ d. P.coord d.front)
+///         (λ d. P.coord d.back) P.Scalar.low_law P.Scalar.high_law };
+/// }
+/// ```
+/// *`crates/rstar_vectors/src/doors.rt`*
 pub trait PointDistance: RTreeObject {
     // The distance to a point, and whether a point is contained.
     ghost distances: { Distances Self };
@@ -72,6 +125,14 @@ pub trait PointDistance: RTreeObject {
     /// The squared distance to a point where it is at most `max_distance_2`, and else `None`.
     ///
     /// As provided, an element whose envelope is farther than that is not asked for its distance.
+    ///
+    /// ```rust
+    /// element.contains_point(point) == contained
+    ///     && element.distance_2(point) == distance
+    ///     && element.distance_2_if_less_or_equal(point, below).is_none()
+    ///     && element.distance_2_if_less_or_equal(point, distance) == Some(distance)
+    /// ```
+    /// *`crates/rstar_base/src/tests/elements.rt`*
     fn distance_2_if_less_or_equal(
         &self,
         point: &<Self::Envelope as Envelope>::Point,
@@ -98,6 +159,17 @@ pub trait PointDistance: RTreeObject {
 
 /// Elements of which equal ones have equal envelopes, so that a search for an element can skip
 /// what its envelope rules out. It has no methods: to implement it is to prove the law.
+///
+/// ```rust
+/// fn alike<T: EqualEnvelopes>(a: &T, b: &T) -> bool
+///     ensures { IsTrue result → T.object.box_of a.now ≡ T.object.box_of b.now }
+/// {
+///     let _a = a.envelope();
+///     let _b = b.envelope();
+///     a == b
+/// }
+/// ```
+/// *`crates/rstar_base/src/tests/generic.rt`*
 pub trait EqualEnvelopes: RTreeObject + PartialEq {
     ghost equal_law: { EqualLaws Self.eq Self.object };
 }
@@ -230,6 +302,15 @@ fn compare_on_axis<T: RTreeObject>(axis: usize, a: &T, b: &T) -> Ordering
 
 /// Puts the elements in an order that rises by the `axis_key` of their envelopes. It takes no
 /// memory, and about n log n calls of `envelope`.
+///
+/// ```rust
+/// sort_envelopes(0, elements);
+/// if elements.len() < 2 || *elements != *sorted {
+///     return false;
+/// }
+/// partition_envelopes(1, elements, 1);
+/// ```
+/// *`crates/rstar_base/src/tests/elements.rt`*
 pub fn sort_envelopes<T: RTreeObject>(axis: usize, list: &mut [T])
     requires { axis < T.Envelope.Point.DIMENSIONS }
     ensures same { IsPermutation list.old list.new }
@@ -246,6 +327,17 @@ pub fn sort_envelopes<T: RTreeObject>(axis: usize, list: &mut [T])
 
 /// Reorders the elements so that, by the `axis_key` of their envelopes, none before place `k` is
 /// greater than the one at `k`, and none after it is smaller. It takes no memory.
+///
+/// ```rust
+/// fn are_split(points: &mut [[i32; 2]], k: usize) -> bool {
+///     if points.len() <= k {
+///         return false;
+///     }
+///     partition_envelopes(0, points, k);
+///     is_split(points, k)
+/// }
+/// ```
+/// *`crates/rstar_base/src/tests/slabs.rt`*
 pub fn partition_envelopes<T: RTreeObject>(axis: usize, list: &mut [T], k: usize)
     requires axis { axis < T.Envelope.Point.DIMENSIONS }
     requires place { k < length list.old }

@@ -10,6 +10,21 @@ use crate::point::Point;
 /// The sizes of a tree's nodes. Their bounds are laws, so a type that breaks one is no `RTreeParams`.
 ///
 /// A type that implements it is a choice of the three numbers; no value of it is ever made.
+///
+/// ```rust
+/// impl RTreeParams for Small {
+///     // ..
+///     ghost MIN_SIZE = { 2 };
+///     ghost MAX_SIZE = { 4 };
+///     ghost REINSERTION_COUNT = { 1 };
+///     const MIN_SIZE: usize = 2;
+///     const MAX_SIZE: usize = 4;
+///     const REINSERTION_COUNT: usize = 1;
+///     ghost max_at_least_four = { Prim.omega arith };
+///     // ..
+/// }
+/// ```
+/// *`crates/rstar_vectors/src/node_sizes.rt`*
 pub trait RTreeParams {
     // The numbers, for clauses. Each is proved to be the constant of the same name.
     ghost MIN_SIZE: { ℕ };
@@ -41,6 +56,13 @@ pub trait RTreeParams {
 }
 
 /// The sizes of a tree where none are named: 3, 6 and 2.
+///
+/// ```rust
+/// all_stand::<T, DefaultParams>(alloc, elements)
+///     && all_stand::<T, Splitting>(alloc, elements)
+///     && all_stand::<T, Small>(alloc, elements)
+/// ```
+/// *`crates/rstar_vectors/src/reinsertion.rt`*
 #[derive(Clone, Copy, PartialEq, Eq, Default, Drop)]
 pub struct DefaultParams;
 
@@ -73,6 +95,13 @@ impl RTreeParams for DefaultParams {
 /// Whether the sizes keep their bounds and the element's points have at least two axes, as `new` and the loads ask.
 ///
 /// The bounds are laws of `RTreeParams`, so that for a lawful type only the axes can make it false.
+///
+/// ```rust
+/// assert!(rt; !verify_parameters::<[i32; 1], DefaultParams>());
+/// assert!(rt; verify_parameters::<[i32; 2], DefaultParams>());
+/// assert!(rt; verify_parameters::<[i32; 2], Huge>());
+/// ```
+/// *`crates/rstar_vectors/src/insertion.rt`*
 pub fn verify_parameters<T: RTreeObject, Params: RTreeParams>() -> bool
     ensures { IsTrue result ↔ AreNodeSizes Params.MIN_SIZE Params.MAX_SIZE Params.REINSERTION_COUNT
         × (2 ≤ T.Envelope.Point.DIMENSIONS) }

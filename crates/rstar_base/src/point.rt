@@ -18,6 +18,21 @@ use num_traits::{Bounded, CheckedAdd, CheckedMul, CheckedSub, Num, One, Signed, 
 use std::fmt::Debug;
 
 /// A scalar: the whole numbers from a least to a greatest.
+///
+/// ```rust
+/// let sums = (
+///     low.clamped_add(low),
+///     low.clamped_add(high),
+///     high.clamped_add(high),
+/// );
+/// let differences = (
+///     low.clamped_sub(high),
+///     high.clamped_sub(high),
+///     high.clamped_sub(low),
+/// );
+/// sums == (low, minus_one, high) && differences == (low, S::zero(), high)
+/// ```
+/// *`crates/rstar_base/src/tests/points.rt`*
 pub trait RTreeNum: Bounded
     + Num
     + Signed
@@ -36,10 +51,30 @@ pub trait RTreeNum: Bounded
         ensures range { InRange Self.low Self.high (Self.value self) };
 
     /// Half of the exact sum, truncated toward zero.
+    ///
+    /// ```rust
+    /// fn half_sums_at_ends<S: RTreeNum>(low: S, high: S, minus_one: S) -> bool {
+    ///     let zero = S::zero();
+    ///     (high.half_sum(high), low.half_sum(low)) == (high, low)
+    ///         && (low.half_sum(high), minus_one.half_sum(zero)) == (zero, zero)
+    /// }
+    /// ```
+    /// *`crates/rstar_base/src/tests/points.rt`*
     fn half_sum(self, other: Self) -> Self
         ensures { Self.value result ≡ int_div (Self.value self +ℤ Self.value other) (pos 2) };
 
     /// The exact sum, held between the least and the greatest.
+    ///
+    /// ```rust
+    /// let sums = (
+    ///     low.clamped_add(low),
+    ///     low.clamped_add(high),
+    ///     high.clamped_add(high),
+    /// );
+    /// // ..
+    /// sums == (low, minus_one, high) && differences == (low, S::zero(), high)
+    /// ```
+    /// *`crates/rstar_base/src/tests/points.rt`*
     fn clamped_add(self, other: Self) -> Self
         ensures { Self.value result ≡ between (Self.value self +ℤ Self.value other) Self.low Self.high }
     {
@@ -56,6 +91,16 @@ pub trait RTreeNum: Bounded
     }
 
     /// The exact difference, held between the least and the greatest.
+    ///
+    /// ```rust
+    /// let differences = (
+    ///     low.clamped_sub(high),
+    ///     high.clamped_sub(high),
+    ///     high.clamped_sub(low),
+    /// );
+    /// sums == (low, minus_one, high) && differences == (low, S::zero(), high)
+    /// ```
+    /// *`crates/rstar_base/src/tests/points.rt`*
     fn clamped_sub(self, other: Self) -> Self
         ensures { Self.value result ≡ between (Self.value self -ℤ Self.value other) Self.low Self.high }
     {
@@ -72,6 +117,17 @@ pub trait RTreeNum: Bounded
     }
 
     /// The exact product, held between the least and the greatest.
+    ///
+    /// ```rust
+    /// let held = (
+    ///     low.clamped_mul(low),
+    ///     low.clamped_mul(minus_one),
+    ///     high.clamped_mul(S::one()),
+    /// );
+    /// let below = (low.clamped_mul(high), high.clamped_mul(low), low.ord());
+    /// held == (high, high, high) && below == (low, low, low)
+    /// ```
+    /// *`crates/rstar_base/src/tests/points.rt`*
     fn clamped_mul(self, other: Self) -> Self
         ensures { Self.value result ≡ between (Self.value self *ℤ Self.value other) Self.low Self.high }
     {
@@ -104,6 +160,15 @@ pub trait RTreeNum: Bounded
 }
 
 /// Whether a scalar is at most another.
+///
+/// ```rust
+/// if not_above(from, to) {
+///     to.clamped_sub(from)
+/// } else {
+///     S::zero()
+/// }
+/// ```
+/// *`crates/rstar_vectors/src/interval.rt`*
 pub fn not_above<S: RTreeNum>(a: S, b: S) -> bool
     ensures { result ≡ int_le (S.value a) (S.value b) }
 {
@@ -111,6 +176,14 @@ pub fn not_above<S: RTreeNum>(a: S, b: S) -> bool
 }
 
 /// The lesser of two scalars.
+///
+/// ```rust
+/// let mut key = Distance::<T>::zero();
+/// for element in slab.iter() {
+///     key = least(key, element.envelope().axis_key(axis));
+/// }
+/// ```
+/// *`crates/rstar_base/src/tests/slabs.rt`*
 pub fn least<S: RTreeNum>(a: S, b: S) -> S
     ensures value { S.value result ≡ int_min (S.value a) (S.value b) }
     ensures range { InRange S.low S.high (S.value result) }
@@ -119,6 +192,15 @@ pub fn least<S: RTreeNum>(a: S, b: S) -> S
 }
 
 /// The greater of two scalars.
+///
+/// ```rust
+/// Stretch {
+///     from: least(self.from, other.from),
+///     to: greatest(self.to, other.to),
+///     level: self.level.max(other.level),
+/// }
+/// ```
+/// *`crates/rstar_vectors/src/interval.rt`*
 pub fn greatest<S: RTreeNum>(a: S, b: S) -> S
     ensures value { S.value result ≡ int_max (S.value a) (S.value b) }
     ensures range { InRange S.low S.high (S.value result) }
@@ -143,6 +225,17 @@ pub(crate) fn square_between<S: RTreeNum>(a: S, b: S) -> S
 }
 
 /// A point: a list of whole numbers, one for each axis.
+///
+/// ```rust
+/// let mut written = point;
+/// let mut is_other = false;
+/// if axis < P::DIMENSIONS {
+///     is_other = point.nth(axis) != P::Scalar::zero();
+///     *written.nth_mut(axis) = P::Scalar::zero();
+/// }
+/// reads(&written, coordinates, axis) && (written != point) == is_other && point == point
+/// ```
+/// *`crates/rstar_base/src/tests/points.rt`*
 pub trait Point: Clone + PartialEq + Debug + Drop {
     /// The type of the coordinates.
     type Scalar: RTreeNum;
@@ -162,6 +255,17 @@ pub trait Point: Clone + PartialEq + Debug + Drop {
     ghost with: { Self → ℕ → Self.Scalar → Self };
 
     /// The point whose coordinates are the generator's answers at 0, 1, ..
+    ///
+    /// ```rust
+    /// let mut asked = 0usize;
+    /// let pair = <(i64, i64)>::generate(|axis| {
+    ///     let in_order = axis == asked;
+    ///     asked = asked.wrapping_add(1);
+    ///     if in_order { 1 } else { 0 }
+    /// });
+    /// assert!(rt; pair == (1, 1));
+    /// ```
+    /// *`crates/rstar_base/src/tests/points.rt`*
     fn generate<F: FnMut(usize) -> Self::Scalar>(generator: F) -> Self
         requires { Callable F.step F.pre generator DIMENSIONS }
         ensures made { Made F.step Self.Scalar.value (coord result) generator DIMENSIONS }
@@ -174,6 +278,13 @@ pub trait Point: Clone + PartialEq + Debug + Drop {
         ensures own { of_coords (table DIMENSIONS (coord self.now)) ≡ self.now };
 
     /// The place of the coordinate on an axis.
+    ///
+    /// ```rust
+    /// *p.nth_mut(0) = 7;
+    /// *q.nth_mut(0) = 7;
+    /// write(t, 0, 7);
+    /// ```
+    /// *`crates/rstar_base/src/tests/generic.rt`*
     fn nth_mut(&mut self, index: usize) -> &mut Self::Scalar
         requires { index < DIMENSIONS }
         ensures* writes_back { sem 𝓛 (Lends Self.row Self.Scalar.row self.entry result (with self.old index)) }
@@ -200,6 +311,18 @@ pub trait Point: Clone + PartialEq + Debug + Drop {
 
 /// Does nothing: each point in hand has its coordinates in the range, and with an axis it is the
 /// point of its coordinates, so that `eq_law` speaks of it.
+///
+/// ```rust
+/// fn same<P: Point>(p: &P, q: &P) -> bool
+///     requires { 0 < P.DIMENSIONS }
+///     ensures { IsTrue result ↔ (table P.DIMENSIONS (P.coord p.now) ≡ table P.DIMENSIONS (P.coord q.now)) }
+/// {
+///     known(p);
+///     known(q);
+///     p == q
+/// }
+/// ```
+/// *`crates/rstar_base/src/tests/generic.rt`*
 pub fn known<P: Point>(p: &P)
     ensures range { IsPoint P.Scalar.low P.Scalar.high P.DIMENSIONS (table P.DIMENSIONS (P.coord p.now)) }
     ensures own { 0 < P.DIMENSIONS → P.of_coords (table P.DIMENSIONS (P.coord p.now)) ≡ p.now }

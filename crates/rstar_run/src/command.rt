@@ -9,6 +9,15 @@ use super::words::{MOST_WORDS, words};
 use arrayvec::ArrayVec;
 
 /// Two opposite corners of a box, as a line gives them.
+///
+/// ```rust
+/// fn between(corners: &Corners) -> AABB<[i64; 2]>
+///     ensures { result ≡ box_between corners.now }
+/// {
+///     AABB::from_corners(corners.one, corners.other)
+/// }
+/// ```
+/// *`crates/rstar_run/src/request.rt`*
 #[derive(Clone, Copy, Debug, PartialEq, Eq)]
 pub struct Corners {
     pub one: [i64; 2],
@@ -16,6 +25,19 @@ pub struct Corners {
 }
 
 /// What a line asks of the tree alone.
+///
+/// ```rust
+/// match request {
+///     Request::Insert(id, corners) => Command::Insert(item(*id, corners)),
+///     Request::Remove(id, corners) => Command::Remove(item(*id, corners)),
+///     Request::RemoveAt(point) => Command::RemoveAtPoint(*point),
+///     // ..
+///     Request::DrainIn(corners, most) => Command::Drain(Query::In(between(corners)), *most),
+///     // ..
+///     Request::Near(point, most) => Command::Neighbours(*point, *most),
+/// }
+/// ```
+/// *`crates/rstar_run/src/request.rt`*
 #[derive(Clone, Copy, Debug, PartialEq, Eq)]
 pub enum Request {
     /// Insert a rectangle with an ID.
@@ -43,6 +65,17 @@ pub enum Request {
 }
 
 /// The first word of a line.
+///
+/// ```rust
+/// match str::from_utf8(word).ok()? {
+///     "insert" => Some(Verb::Insert),
+///     "remove" => Some(Verb::Remove),
+///     "removeat" => Some(Verb::RemoveAt),
+///     // ..
+///     _ => None,
+/// }
+/// ```
+/// *`crates/rstar_run/src/command.rt`*
 #[derive(Clone, Copy, Debug, PartialEq, Eq)]
 pub enum Verb {
     Insert,
@@ -60,6 +93,19 @@ pub enum Verb {
 }
 
 /// What a line is.
+///
+/// ```rust
+/// match parse_line(lines.text()) {
+///     Line::Blank => Ok(true),
+///     Line::Bad => Err(Stop::Line(lines.number())),
+///     // ..
+///     Line::Request(request) => {
+///         run_command(store, command_of(&request), printer, output)?;
+///         Ok(true)
+///     }
+/// }
+/// ```
+/// *`crates/rstar_run/src/program.rt`*
 #[derive(Clone, Copy, Debug, PartialEq, Eq)]
 pub enum Line {
     Blank,
@@ -72,6 +118,15 @@ pub enum Line {
 }
 
 /// What a line inside a load is.
+///
+/// ```rust
+/// match parse_entry(lines.text()) {
+///     Entry::Blank => {}
+///     Entry::Rectangle(id, corners) => items.push(item(id, &corners))?,
+///     Entry::Bad => return Err(Stop::Line(lines.number())),
+/// }
+/// ```
+/// *`crates/rstar_run/src/program.rt`*
 #[derive(Clone, Copy, Debug, PartialEq, Eq)]
 pub enum Entry {
     Blank,
@@ -177,6 +232,14 @@ fn parse_rectangle(id: &[u8], x1: &[u8], y1: &[u8], x2: &[u8], y2: &[u8]) -> Opt
 }
 
 /// Reads the words of a line.
+///
+/// ```rust
+/// match Parser::new(text) {
+///     Some(parser) => parser.line(),
+///     None => Line::Bad,
+/// }
+/// ```
+/// *`crates/rstar_run/src/command.rt`*
 #[derive(Drop)]
 pub struct Parser<'a> {
     words: ArrayVec<&'a [u8], MOST_WORDS>,

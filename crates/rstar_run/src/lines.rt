@@ -15,6 +15,13 @@ use std::alloc::Global;
 use std::io::{BufRead, BufReader, Read};
 
 /// Reads lines into one buffer, and counts them.
+///
+/// ```rust
+/// let next_end = lines.next_end();
+/// show_before_reading(next_end, printer, output)?;
+/// lines.advance(next_end)
+/// ```
+/// *`crates/rstar_run/src/program.rt`*
 #[derive(Drop)]
 pub struct Lines<R> {
     reader: BufReader<Source<R>>,

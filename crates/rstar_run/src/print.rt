@@ -15,6 +15,14 @@ pub const MOST_HELD: usize = 8192;
 
 /// Holds what was printed and is not yet written. The output comes with each call, so that a
 /// contract can say what stands in it. After a failed write nothing more is to be printed.
+///
+/// ```rust
+/// printer.put_signed(output, x)?;
+/// printer.put(output, b" ")?;
+/// printer.put_signed(output, y)?;
+/// printer.put(output, b"\n")
+/// ```
+/// *`crates/rstar_run/src/points.rt`*
 #[derive(Drop)]
 pub struct Printer {
     pub held: ArrayVec<u8, MOST_HELD>,

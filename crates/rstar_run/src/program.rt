@@ -49,6 +49,17 @@ pub fn mode(words: &[String]) -> Option<Mode>
 }
 
 /// Why a run ends before its input does.
+///
+/// ```rust
+/// match ended {
+///     Ok(()) => printer.flush(output),
+///     Err(stop) => {
+///         print_stop(printer, output, stop)?;
+///         printer.flush(output)
+///     }
+/// }
+/// ```
+/// *`crates/rstar_run/src/program.rt`*
 #[derive(Clone, Copy, Debug, PartialEq, Eq)]
 pub enum Stop {
     /// A bad line, by its number from 1 on.
@@ -279,6 +290,13 @@ pub fn status(ended: Result<(), Stop>) -> u8
 ///
 /// What stands on the output then is the answers to the lines before, and behind them
 /// `error: line N`, `error: memory` or `error: input`; where a write failed, a front of that.
+///
+/// ```rust
+/// let mut taken = Cursor::new([0u8; 256]);
+/// assert_eq!(rt; run(rt.alloc(), input, &mut taken), status, "at {input:?}");
+/// expect_written(rt, &taken, want, input);
+/// ```
+/// *`crates/rstar_run/src/tests.rt`*
 pub fn run<R: Read + Drop, W: Write>(alloc: Global, input: R, output: &mut W) -> u8
     ensures { Ran (R.remaining input) (W.contents output.old) (W.contents output.new) result }
 {

@@ -8,6 +8,16 @@ use std::io;
 use std::io::{Error, ErrorKind, Read};
 
 /// Reads as `R` does, but that no failed read looks like a refused allocation.
+///
+/// ```rust
+/// let mut source = Source(input);
+/// let mut read = Vec::new(alloc);
+/// match source.read_to_end(&mut read) {
+///     Ok(_) => Ok(read),
+///     Err(e) => Err(input_stop(e)),
+/// }
+/// ```
+/// *`crates/rstar_run/src/source.rt`*
 #[derive(Drop)]
 pub struct Source<R>(pub R);
 

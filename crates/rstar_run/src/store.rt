@@ -12,9 +12,29 @@ use std::alloc::Global;
 use std::marker::Model;
 
 /// A rectangle with its ID.
+///
+/// ```rust
+/// pub fn item(id: u64, corners: &Corners) -> Item
+///     // ..
+///     ensures filled { questions.is_empty (questions.box_of result) ≡ false }
+/// {
+///     Item::new(Rectangle::from_corners(corners.one, corners.other), id)
+/// }
+/// ```
+/// *`crates/rstar_run/src/store.rt`*
 pub type Item = GeomWithData<Rectangle<[i64; 2]>, u64>;
 
 /// Rectangles with IDs, in a tree.
+///
+/// ```rust
+/// let mut store = Store::new(alloc);
+/// for _ in 0..u64::MAX {
+///     if !answer_next(alloc, &mut lines, &mut store, printer, output)? {
+///         return Ok(());
+///     }
+/// }
+/// ```
+/// *`crates/rstar_run/src/program.rt`*
 #[derive(Drop)]
 pub struct Store {
     tree: RTree<Item>,

@@ -20,6 +20,13 @@ use std::alloc::{AllocError, Global};
 use std::io::{Read, Write};
 
 /// Why a call has no answer but an error.
+///
+/// ```rust
+/// let mut taken = Cursor::new([0u8; 256]);
+/// assert_eq!(rt; refuse(Fault::Usage, &mut taken), 2);
+/// expect_written(&rt, &taken, "error: usage\n", b"");
+/// ```
+/// *`crates/rstar_run/src/stored_tests.rt`*
 #[derive(Clone, Copy, Debug, PartialEq, Eq)]
 pub enum Fault {
     /// The words after the program's name ask for nothing.
@@ -141,6 +148,17 @@ fn packed<R: Read + Drop>(alloc: Global, input: R) -> Result<Vec<u8>, Fault>
 ///
 /// What stands on the output where there is no tree is `error: line N`, `error: TooHigh`, `error: memory` or
 /// `error: input`; where a write failed, a front of what was to stand there.
+///
+/// ```rust
+/// let rows: [(&[u8], &[u8], u8); 16] = [
+///     (b"", &EMPTY, 0),
+///     (b"\n \r\n", &EMPTY, 0),
+///     (b"1 2\n", &ONE, 0),
+///     (b"\n  01   2 \r\n\n", &ONE, 0),
+///     // ..
+/// ];
+/// ```
+/// *`crates/rstar_run/src/stored_tests.rt`*
 pub fn pack<R: Read + Drop, W: Write>(alloc: Global, input: R, output: &mut W) -> u8
     ensures { Packed (R.remaining input) (W.contents output.old) (W.contents output.new) result }
 {
@@ -181,6 +199,14 @@ fn unpacked<R: Read + Drop>(alloc: Global, input: R) -> Result<Vec<[i64; 2]>, Fa
 ///
 /// What stands on the output where there is no tree is `error: ` and the fault of the bytes, `error: memory` or
 /// `error: input`; where a write failed, a front of what was to stand there.
+///
+/// ```rust
+/// expect_answer(&rt, false, &EMPTY, b"", 0);
+/// expect_answer(&rt, false, &ONE, b"1 2\n", 0);
+/// expect_answer(&rt, false, b"", b"error: Truncated\n", 2);
+/// expect_answer(&rt, false, &ONE[..68], b"error: Truncated\n", 2);
+/// ```
+/// *`crates/rstar_run/src/stored_tests.rt`*
 pub fn unpack<R: Read + Drop, W: Write>(alloc: Global, input: R, output: &mut W) -> u8
     ensures { Unpacked (R.remaining input) (W.contents output.old) (W.contents output.new) result }
 {

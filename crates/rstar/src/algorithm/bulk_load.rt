@@ -28,6 +28,17 @@ use std::alloc::AllocError;
 /// leaves lie on one level. It is refused where the allocator refuses a list, and then the elements are dropped.
 ///
 /// It costs a selection by the key for each slab of each axis, on each level: about n log n calls of `envelope`.
+///
+/// ```rust
+/// if elements.is_empty() || !none_empty(&elements) {
+///     return false;
+/// }
+/// match &bulk_load_sequential::<T, DefaultParams>(elements) {
+///     Ok(root) => has_parts(alloc, root, parts),
+///     Err(_) => false,
+/// }
+/// ```
+/// *`crates/rstar_vectors/src/loads.rt`*
 pub fn bulk_load_sequential<T: RTreeObject, Params: RTreeParams>(
     elements: Vec<T>,
 ) -> Result<ParentNode<T>, AllocError>
@@ -66,6 +77,16 @@ pub(crate) fn load_root<T: RTreeObject, Params: RTreeParams>(
 }
 
 /// Whether no element has an empty envelope, as loads ask. It looks at each until one has.
+///
+/// ```rust
+/// let list = elements.to_vec(alloc)?;
+/// if none_empty(&list) {
+///     RTree::bulk_load_with_params(list)
+/// } else {
+///     Ok(RTree::default(alloc))
+/// }
+/// ```
+/// *`crates/rstar_vectors/src/scenarios.rt`*
 pub fn none_empty<T: RTreeObject>(elements: &[T]) -> bool
     ensures { IsTrue result ↔ NoneEmpty T.Envelope.boxes.is_empty T.object.box_of elements.now }
 {

@@ -32,6 +32,22 @@ pub(crate) use waiting::{AnyFirst, ParentsFirst};
 /// other one: the first opens the root. A distance is computed once for each child of an opened parent. It takes memory
 /// where more than 32 nodes wait; a refusal comes once, and then `None`. The order is that of Roussopoulos, Kelley and
 /// Vincent (1995) by MINDIST alone.
+///
+/// ```rust
+/// fn is_next<T: PointDistance>(
+///     neighbors: &mut NearestNeighborDistance2Iterator<'_, T>,
+///     distance: Distance<T>,
+///     opened: Option<&usize>,
+/// ) -> bool
+///     // ..
+/// {
+///     match neighbors.next() {
+///         Some(Ok((_, found))) => found == distance && is_as_told(neighbors.opened(), opened),
+///         _ => false,
+///     }
+/// }
+/// ```
+/// *`crates/rstar_vectors/src/neighbour_rows.rt`*
 pub type NearestNeighborDistance2Iterator<'a, T> = NeighborsWithDistance<
     'a,
     ParentNode<T>,
@@ -41,6 +57,17 @@ pub type NearestNeighborDistance2Iterator<'a, T> = NeighborsWithDistance<
 >;
 
 /// What a `NearestNeighborDistance2Iterator` is, by the types that it holds: a root's, a node's, a scalar's, a point's.
+///
+/// ```rust
+/// let is_fresh = neighbors.opened() == 0;
+/// for k in 0..distances.len() {
+///     if !is_next(neighbors, distances[k], opened.get(k)) {
+///         return false;
+///     }
+/// }
+/// is_fresh && neighbors.next().is_none()
+/// ```
+/// *`crates/rstar_vectors/src/neighbour_rows.rt`*
 #[derive(Drop)]
 pub struct NeighborsWithDistance<'a, R, N, S, P> {
     search: NeighborSearch<'a, R, N, S, AnyFirst>,
@@ -100,6 +127,19 @@ impl<'a, T: PointDistance> Iterator
 
 /// The elements of a tree, the nearest to a point first, and then `None`, as `NearestNeighborDistance2Iterator` gives
 /// them with their distances.
+///
+/// ```rust
+/// fn points_in_order<'a>(
+///     alloc: Global,
+///     tree: &'a RTree<At>,
+///     place: At,
+/// ) -> Result<Vec<&'a At>, AllocError>
+///     // ..
+/// {
+///     tree.nearest_neighbor_iter(place).try_collect(alloc)
+/// }
+/// ```
+/// *`crates/rstar_vectors/src/neighbours.rt`*
 pub type NearestNeighborIterator<'a, T> = Neighbors<
     'a,
     ParentNode<T>,
@@ -110,6 +150,17 @@ pub type NearestNeighborIterator<'a, T> = Neighbors<
 
 /// What a `NearestNeighborIterator` is, by the types that it holds. (It has what `NeighborsWithDistance` has, and not one of
 /// those: how much room that takes would have to be shown again wherever one is made, asked or dropped.)
+///
+/// ```rust
+/// let mut neighbors = tree.nearest_neighbor_iter(place);
+/// let mut all = Vec::new(alloc);
+/// while let Some(found) = neighbors.next() {
+///     let item = found?;
+///     all.push(item)?;
+/// }
+/// Ok((all, neighbors.opened()))
+/// ```
+/// *`crates/rstar_vectors/src/neighbours.rt`*
 #[derive(Drop)]
 pub struct Neighbors<'a, R, N, S, P> {
     search: NeighborSearch<'a, R, N, S, AnyFirst>,
@@ -173,6 +224,18 @@ impl<'a, T: PointDistance> Iterator
 /// (Roussopoulos, Kelley and Vincent 1995). That never loses the answer: the least distance of a whole node lies
 /// between the distance of its envelope and its envelope's `min_max_dist_2`. It takes memory where more than 32 nodes
 /// wait, and is refused where the allocator refuses that.
+///
+/// ```rust
+/// pub(crate) fn one_below<'a, T: PointDistance>(
+///     tree: &'a RTree<T>,
+///     place: PointOf<T>,
+/// ) -> Result<Option<(&'a T, Distance<T>)>, AllocError>
+///     // ..
+/// {
+///     nearest_neighbor_with_distance_2(tree.root(), place)
+/// }
+/// ```
+/// *`crates/rstar_vectors/src/neighbours.rt`*
 pub fn nearest_neighbor_with_distance_2<'a, T: PointDistance>(
     root: &'a ParentNode<T>,
     point: PointOf<T>,
@@ -198,6 +261,18 @@ pub fn nearest_neighbor_with_distance_2<'a, T: PointDistance>(
 ///
 /// It takes neighbours, as `NearestNeighborDistance2Iterator` gives them, until one is farther than the first. It is
 /// refused where the allocator refuses the list or what waits.
+///
+/// ```rust
+/// pub(crate) fn all_below<'a, T: PointDistance>(
+///     tree: &'a RTree<T>,
+///     place: PointOf<T>,
+/// ) -> Result<Option<(Vec<&'a T>, Distance<T>)>, AllocError>
+///     // ..
+/// {
+///     nearest_neighbors_with_distance_2(tree.root(), place)
+/// }
+/// ```
+/// *`crates/rstar_vectors/src/neighbours.rt`*
 pub fn nearest_neighbors_with_distance_2<'a, T: PointDistance>(
     root: &'a ParentNode<T>,
     point: PointOf<T>,

@@ -20,6 +20,16 @@ use rstar_base::params::RTreeParams;
 
 /// Inserts as the R*-tree does: going down into the child that contains the element or has to grow least, and splitting
 /// a parent that has too many children by a least cut.
+///
+/// ```rust
+/// let mut tree: RTree<T, Huge> = RTree::new_with_params(alloc);
+/// let refused = match RStarInsertionStrategy::insert(&mut tree, element) {
+///     Ok(()) => false,
+///     Err(refused) => refused.cause == InsertCause::TooMany && refused.element == element,
+/// };
+/// refused && tree.size() == 0 && tree.root().children().is_empty()
+/// ```
+/// *`crates/rstar_vectors/src/insertion.rt`*
 pub enum RStarInsertionStrategy {}
 
 impl InsertionStrategy for RStarInsertionStrategy {
@@ -50,6 +60,21 @@ impl InsertionStrategy for RStarInsertionStrategy {
 /// there is an axis. No allowed cut of that arrangement has a smaller overlap of the two merges, and none of the same
 /// overlap a smaller clamped sum of their areas. `spare` is an empty list with room for all children; no memory is
 /// taken. It costs a sort for each axis and one more, and a merge of all children for each allowed cut of each.
+///
+/// ```rust
+/// let Ok(list) = leaves_of(alloc, elements) else {
+///     return false;
+/// };
+/// let Ok(spare) = Vec::with_capacity(alloc, list.len()) else {
+///     return false;
+/// };
+/// if list.len() <= DefaultParams::MAX_SIZE {
+///     return false;
+/// }
+/// let (left, right) = &split_children::<T, DefaultParams>(list, spare);
+/// are_so(left, one) && are_so(right, other)
+/// ```
+/// *`crates/rstar_vectors/src/insertion.rt`*
 pub fn split_children<T: RTreeObject, Params: RTreeParams>(
     list: Vec<RTreeNode<T>>,
     spare: Vec<RTreeNode<T>>,

@@ -21,6 +21,21 @@ use rstar_base::params::{DefaultParams, RTreeParams};
 /// the tree is then the one of its last `next`.
 ///
 /// `Path` is the list of these numbers. Users leave it out.
+///
+/// ```rust
+/// for call in 0..most {
+///     match drain.next() {
+///         Some(element) => {
+///             if given.push(element).is_err() {
+///                 return call;
+///             }
+///         }
+///         None => return call,
+///     }
+/// }
+/// most
+/// ```
+/// *`crates/rstar_vectors/src/removal.rt`*
 pub struct DrainIterator<
     'a,
     T: RTreeObject,

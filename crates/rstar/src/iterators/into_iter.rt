@@ -15,6 +15,14 @@ use std::mem::replace;
 ///
 /// `next` takes no memory: the path was reserved when the iterator was made. Dropping it drops the elements that it did
 /// not give.
+///
+/// ```rust
+/// match tree.into_iter() {
+///     Ok(all) => all.collect(alloc),
+///     Err(_) => Err(AllocError),
+/// }
+/// ```
+/// *`crates/rstar_vectors/src/removal.rt`*
 #[derive(Drop)]
 pub struct IntoIter<T: RTreeObject> {
     // The nodes that are being given, from the last on, and in the path those that were left for them, the lowest last.

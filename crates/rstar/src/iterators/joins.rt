@@ -19,6 +19,22 @@ use std::alloc::AllocError;
 /// Elements whose envelopes are of a given type. Every element type has it for its own envelope type, and for no other.
 ///
 /// It stands where rstar writes `RTreeObject<Envelope = E>`.
+///
+/// ```rust
+/// fn meets<T: RTreeObject + Copy, U: InEnvelope<T::Envelope> + Copy>(
+///     alloc: Global,
+///     lefts: &[T],
+///     rights: &[U],
+///     wanted: (usize, usize),
+/// ) -> bool {
+///     let left = inserted::<T, DefaultParams>(alloc, lefts);
+///     let right = inserted(alloc, rights);
+///     left.size() == lefts.len()
+///         && right.size() == rights.len()
+///         && counts(&joined(alloc, &left, &right), wanted.0, Some(wanted.1))
+/// }
+/// ```
+/// *`crates/rstar_vectors/src/joins.rt`*
 pub trait InEnvelope<E: Envelope>: RTreeObject {
     // The envelope, as one of that type.
     ghost seen: { Self.Envelope → E };
@@ -55,6 +71,17 @@ const NARROW: usize = 8;
 /// The walk opens a pair of nodes where their envelopes intersect, and goes on with the pairs of their children; where
 /// one of the two is a leaf, the other goes on alone. `next` takes no memory: the paths were reserved when the iterator
 /// was made.
+///
+/// ```rust
+/// match left.intersection_candidates_with_other_tree(right) {
+///     Ok(mut pairs) => match drained(alloc, &mut pairs) {
+///         Ok(all) => Ok((all, pairs.opened())),
+///         Err(refused) => Err(refused),
+///     },
+///     Err(refused) => Err(refused),
+/// }
+/// ```
+/// *`crates/rstar_vectors/src/joins.rt`*
 #[derive(Drop)]
 pub struct IntersectionIterator<'a, T: RTreeObject, U: InEnvelope<T::Envelope> = T> {
     left: &'a ParentNode<T>,

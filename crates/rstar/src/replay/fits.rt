@@ -13,6 +13,15 @@ use rstar_base::point::{Point, RTreeNum};
 
 /// Whether `step` may be asked to run a command: no element that it brings has an empty envelope, and what it loads has
 /// two dimensions. It looks at each element that the command brings.
+///
+/// ```rust
+/// let command = command_of(alloc, draw)?;
+/// if !is_fit(&command) {
+///     return Ok(false);
+/// }
+/// let right = is_right(alloc, list, draw, &step_points(tree, command));
+/// ```
+/// *`crates/rstar_vectors/src/replays.rt`*
 pub fn is_fit<T: PointDistance + EqualEnvelopes>(command: &Command<T>) -> bool
     ensures { IsTrue result ↔ IsFit ⟦<T as Scanned>⟧.questions T.Envelope.Point.DIMENSIONS command.now }
 {
@@ -40,6 +49,14 @@ fn is_loadable<T: RTreeObject>(elements: &[T]) -> bool
 }
 
 /// Whether `replay` may be asked to run commands: each is fit.
+///
+/// ```rust
+/// if !all_fit(&commands) {
+///     return (Ok(Vec::new(alloc)), None);
+/// }
+/// let mut tree: RTree<T> = RTree::default(alloc);
+/// ```
+/// *`crates/rstar_vectors/src/replays.rt`*
 pub fn all_fit<T: PointDistance + EqualEnvelopes>(commands: &[Command<T>]) -> bool
     ensures { IsTrue result ↔ AllByRecursion (IsFit ⟦<T as Scanned>⟧.questions T.Envelope.Point.DIMENSIONS) commands.now }
 {

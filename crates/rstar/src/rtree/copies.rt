@@ -24,6 +24,14 @@ impl<T: RTreeObject + Clone, Params: RTreeParams> RTree<T, Params> {
     /// tree shows the same: it has the node sizes of this one, and is loaded where this one is.
     ///
     /// It is refused where the allocator refuses a list, or a clone of an element. It costs a clone of each element.
+    ///
+    /// ```rust
+    /// match &tree.clone() {
+    ///     Ok(copy) => is_in_parts(alloc, copy, count, parts),
+    ///     Err(_) => false,
+    /// }
+    /// ```
+    /// *`crates/rstar_vectors/src/loads.rt`*
     #[tactic(auto, unfolding(crate::specs::Trees::IsWholeTree))]
     pub fn clone(&self) -> Result<Self, AllocError>
         requires { IsWholeTree T.Envelope.boxes T.object Params.MAX_SIZE self.now }

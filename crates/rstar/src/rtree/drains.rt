@@ -29,6 +29,14 @@ impl<T: RTreeObject, Params: RTreeParams> RTree<T, Params> {
     ///
     /// It is refused where the allocator refuses the path, a number for each level, and the tree is then left. Where it
     /// is dropped or forgotten the tree is the one of the last `next`.
+    ///
+    /// ```rust
+    /// match tree.drain() {
+    ///     Ok(mut drain) => Ok(drain.next()),
+    ///     Err(refused) => Err(refused),
+    /// }
+    /// ```
+    /// *`crates/rstar_vectors/src/removal.rt`*
     pub fn drain(&mut self) -> Result<DrainIterator<'_, T, SelectAllFunc, Params>, AllocError>
         requires { IsWholeTree T.Envelope.boxes T.object Params.MAX_SIZE self.old }
         ensures* refused { sem 𝓛 (LeavesRefused T.row Params.row T.Envelope.row T.Envelope.Point.row
@@ -49,6 +57,14 @@ impl<T: RTreeObject, Params: RTreeParams> RTree<T, Params> {
     ///
     /// It is refused where the allocator refuses the path, a number for each level, and the tree is then left. Where it
     /// is dropped or forgotten the tree is the one of the last `next`.
+    ///
+    /// ```rust
+    /// let is_inside = match tree.drain_in_envelope(area) {
+    ///     Ok(mut drain) => drain.next().is_some(),
+    ///     Err(_) => false,
+    /// };
+    /// ```
+    /// *`crates/rstar_vectors/src/removal.rt`*
     pub fn drain_in_envelope(
         &mut self,
         envelope: T::Envelope,
@@ -73,6 +89,18 @@ impl<T: RTreeObject, Params: RTreeParams> RTree<T, Params> {
     ///
     /// It is refused where the allocator refuses the path, a number for each level, and the tree is then left. Where it
     /// is dropped or forgotten the tree is the one of the last `next`.
+    ///
+    /// ```rust
+    /// match tree.drain_in_envelope_intersecting(area) {
+    ///     Ok(mut drain) => {
+    ///         let _one = drain.next();
+    ///         let _other = drain.next();
+    ///     }
+    ///     Err(refused) => return Err(refused),
+    /// }
+    /// Ok(tree.insert(one).is_ok())
+    /// ```
+    /// *`crates/rstar_vectors/src/removal.rt`*
     pub fn drain_in_envelope_intersecting(
         &mut self,
         envelope: T::Envelope,
@@ -97,6 +125,19 @@ impl<T: RTreeObject, Params: RTreeParams> RTree<T, Params> {
     ///
     /// It is refused where the allocator refuses the path, a number for each level, and the tree is then left. Where it
     /// is dropped or forgotten the tree is the one of the last `next`.
+    ///
+    /// ```rust
+    /// let came = match tree.drain_with_selection_function(func) {
+    ///     Ok(mut drain) => call(&mut drain, most, given),
+    ///     Err(_) => return None,
+    /// };
+    /// if tree.size().saturating_add(came) == before && stands(tree) {
+    ///     Some(came)
+    /// } else {
+    ///     None
+    /// }
+    /// ```
+    /// *`crates/rstar_vectors/src/removal.rt`*
     #[tactic(auto, unfolding(crate::specs::Drains::IsDraining))]
     pub fn drain_with_selection_function<R: SelectionFunction<T>>(
         &mut self,
@@ -151,6 +192,14 @@ impl<T: RTreeObject, Params: RTreeParams> RTree<T, Params> {
     ///
     /// It is refused where the allocator refuses the path, a place for each level of parents below the root, and the
     /// tree is then handed back.
+    ///
+    /// ```rust
+    /// match tree.into_iter() {
+    ///     Ok(all) => all.collect(alloc),
+    ///     Err(_) => Err(AllocError),
+    /// }
+    /// ```
+    /// *`crates/rstar_vectors/src/removal.rt`*
     #[tactic(auto, unfolding(crate::specs::Trees::IsWholeTree))]
     pub fn into_iter(self) -> Result<IntoIter<T>, RTree<T, Params>>
         requires { IsWholeTree T.Envelope.boxes T.object Params.MAX_SIZE self }
@@ -173,6 +222,14 @@ impl<T: PointDistance, Params: RTreeParams> RTree<T, Params> {
     ///
     /// It is refused where the allocator refuses the path, a number for each level, and the tree is then left. Where it
     /// is dropped or forgotten the tree is the one of the last `next`.
+    ///
+    /// ```rust
+    /// let is_near = match tree.drain_within_distance(point, limit) {
+    ///     Ok(mut drain) => drain.next().is_some(),
+    ///     Err(_) => false,
+    /// };
+    /// ```
+    /// *`crates/rstar_vectors/src/removal.rt`*
     pub fn drain_within_distance(
         &mut self,
         query_point: PointOf<T>,

@@ -19,6 +19,17 @@ impl<T: RTreeObject, Params: RTreeParams> RTree<T, Params> {
     ///
     /// It opens the pairs of nodes whose envelopes intersect. It is refused where the allocator refuses the paths of
     /// trees of which one has more than 13 levels of parents.
+    ///
+    /// ```rust
+    /// match left.intersection_candidates_with_other_tree(right) {
+    ///     Ok(mut pairs) => match drained(alloc, &mut pairs) {
+    ///         Ok(all) => Ok((all, pairs.opened())),
+    ///         Err(refused) => Err(refused),
+    ///     },
+    ///     Err(refused) => Err(refused),
+    /// }
+    /// ```
+    /// *`crates/rstar_vectors/src/joins.rt`*
     #[tactic(auto, unfolding(crate::specs::Trees::IsWholeTree))]
     pub fn intersection_candidates_with_other_tree<
         'a,

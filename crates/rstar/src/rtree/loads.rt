@@ -23,6 +23,16 @@ impl<T: RTreeObject> RTree<T> {
     /// have at least two dimensions; `verify_parameters` is the test. It is refused where the allocator refuses a list:
     /// then there is no tree, and the elements are dropped. `bulk_load_sequential` says how it loads, and what that
     /// costs.
+    ///
+    /// ```rust
+    /// pub fn points_loaded(alloc: Global, more: [i64; 2]) -> Result<RTree<[i64; 2]>, AllocError>
+    ///     ensures { IfOk result (IsWholeTree ⟦<AABB<[i64; 2]> as Envelope>⟧.boxes ⟦<[i64; 2] as RTreeObject>⟧.object
+    ///         ⟦<DefaultParams as RTreeParams>⟧.MAX_SIZE) }
+    /// {
+    ///     RTree::bulk_load(Vec::from_array(alloc, [[0, 0], [5, 5], more])?)
+    /// }
+    /// ```
+    /// *`crates/rstar_vectors/src/loads.rt`*
     pub fn bulk_load(elements: Vec<T>) -> Result<Self, AllocError>
         requires dimensions { 2 ≤ T.Envelope.Point.DIMENSIONS }
         requires elements { NoneEmpty T.Envelope.boxes.is_empty T.object.box_of elements.items }
@@ -38,6 +48,16 @@ impl<T: RTreeObject> RTree<T> {
 
 impl<T: RTreeObject, Params: RTreeParams> RTree<T, Params> {
     /// The same with chosen node sizes.
+    ///
+    /// ```rust
+    /// let list = elements.to_vec(alloc)?;
+    /// if none_empty(&list) {
+    ///     RTree::bulk_load_with_params(list)
+    /// } else {
+    ///     Ok(RTree::default(alloc))
+    /// }
+    /// ```
+    /// *`crates/rstar_vectors/src/scenarios.rt`*
     #[tactic(auto, unfolding(crate::specs::Trees::IsWholeTree))]
     pub fn bulk_load_with_params(elements: Vec<T>) -> Result<Self, AllocError>
         requires dimensions { 2 ≤ T.Envelope.Point.DIMENSIONS }

@@ -28,6 +28,17 @@ impl<T: PointDistance, Params: RTreeParams> RTree<T, Params> {
     /// All elements, the nearest to a point first: each once, with the distances never falling.
     ///
     /// Making it takes no memory and opens nothing; `next` may be refused.
+    ///
+    /// ```rust
+    /// let mut neighbors = tree.nearest_neighbor_iter(place);
+    /// let mut all = Vec::new(alloc);
+    /// while let Some(found) = neighbors.next() {
+    ///     let item = found?;
+    ///     all.push(item)?;
+    /// }
+    /// Ok((all, neighbors.opened()))
+    /// ```
+    /// *`crates/rstar_vectors/src/neighbours.rt`*
     #[tactic(auto, unfolding(crate::specs::Trees::IsWholeTree))]
     pub fn nearest_neighbor_iter(&self, point: PointOf<T>) -> NearestNeighborIterator<'_, T>
         requires { IsWholeTree T.Envelope.boxes T.object Params.MAX_SIZE self.now }
@@ -42,6 +53,19 @@ impl<T: PointDistance, Params: RTreeParams> RTree<T, Params> {
     /// falling.
     ///
     /// Making it takes no memory and opens nothing; `next` may be refused.
+    ///
+    /// ```rust
+    /// gives(
+    ///     &mut tree.nearest_neighbor_iter_with_distance_2(place),
+    ///     distances,
+    ///     opened,
+    /// ) && gives(
+    ///     &mut tree.nearest_neighbor_iter_with_distance(place),
+    ///     distances,
+    ///     opened,
+    /// ) && calls_find(tree, place, least)
+    /// ```
+    /// *`crates/rstar_vectors/src/neighbour_rows.rt`*
     #[tactic(auto, unfolding(crate::specs::Trees::IsWholeTree))]
     pub fn nearest_neighbor_iter_with_distance_2(
         &self,
@@ -73,6 +97,17 @@ impl<T: PointDistance, Params: RTreeParams> RTree<T, Params> {
     ///
     /// It opens the nearest waiting parent first, and leaves out what lies farther than the least `min_max_dist_2` that
     /// it saw. It takes memory where more than 32 nodes wait, and is refused where the allocator refuses that.
+    ///
+    /// ```rust
+    /// match found {
+    ///     Ok(Some(element)) => is_at(least, &element.distance_2(place)),
+    ///     Ok(None) => least.is_empty(),
+    ///     Err(_) => false,
+    /// }
+    /// // ..
+    /// is_least_alone(tree.nearest_neighbor(place), &place, least)
+    /// ```
+    /// *`crates/rstar_vectors/src/neighbour_rows.rt`*
     pub fn nearest_neighbor(&self, point: PointOf<T>) -> Result<Option<&T>, AllocError>
         requires { IsWholeTree T.Envelope.boxes T.object Params.MAX_SIZE self.now }
         ensures none { IfOk result (λ r. IfNone r (elements_in self.now ≡ [])) }
@@ -91,6 +126,17 @@ impl<T: PointDistance, Params: RTreeParams> RTree<T, Params> {
     /// It opens the nearest waiting parent first, and leaves out what lies farther than the least `min_max_dist_2` seen
     /// (Roussopoulos, Kelley and Vincent 1995); there is no second search behind it. It takes memory where more than 32
     /// nodes wait, and is refused where the allocator refuses that.
+    ///
+    /// ```rust
+    /// match found {
+    ///     Ok(Some((element, one))) => is_at(least, &one) && element.distance_2(place) == one,
+    ///     Ok(None) => least.is_empty(),
+    ///     Err(_) => false,
+    /// }
+    /// // ..
+    /// && is_least(tree.nearest_neighbor_with_distance_2(place), &place, least)
+    /// ```
+    /// *`crates/rstar_vectors/src/neighbour_rows.rt`*
     #[tactic(auto, unfolding(crate::specs::Trees::IsWholeTree))]
     pub fn nearest_neighbor_with_distance_2(
         &self,
@@ -119,6 +165,20 @@ impl<T: PointDistance, Params: RTreeParams> RTree<T, Params> {
     /// It finds the least distance as `nearest_neighbor` does, and then takes out one element within it, opening the
     /// parents that are no farther until it comes upon one. The search takes memory where more than 32 nodes wait, and
     /// is refused where the allocator refuses that; the tree is then left. The taking takes none.
+    ///
+    /// ```rust
+    /// for distance in distances {
+    ///     let is_next = match tree.pop_nearest_neighbor(place) {
+    ///         Ok(Some(element)) => element.distance_2(&place) == *distance && take(rest, &element),
+    ///         _ => false,
+    ///     };
+    ///     if !is_next {
+    ///         return false;
+    ///     }
+    /// }
+    /// rest.is_empty() && tree.size() == 0 && matches!(tree.pop_nearest_neighbor(place), Ok(None))
+    /// ```
+    /// *`crates/rstar_vectors/src/neighbour_rows.rt`*
     #[tactic(auto, unfolding(crate::specs::Trees::IsWholeTree))]
     pub fn pop_nearest_neighbor(&mut self, point: PointOf<T>) -> Result<Option<T>, AllocError>
         requires { IsWholeTree T.Envelope.boxes T.object Params.MAX_SIZE self.old }
@@ -146,6 +206,16 @@ impl<T: PointDistance, Params: RTreeParams> RTree<T, Params> {
     ///
     /// It takes neighbours, the nearest first, until one is farther than the first. It is refused where the allocator
     /// refuses the list or what waits.
+    ///
+    /// ```rust
+    /// match found {
+    ///     Ok(all) => lie_at(all, place, distances),
+    ///     Err(_) => false,
+    /// }
+    /// // ..
+    /// && are_at(&tree.nearest_neighbors(&place), &place, least)
+    /// ```
+    /// *`crates/rstar_vectors/src/neighbour_rows.rt`*
     #[tactic(auto, unfolding(crate::specs::Trees::IsWholeTree))]
     pub fn nearest_neighbors(&self, point: &PointOf<T>) -> Result<Vec<&T>, AllocError>
         requires { IsWholeTree T.Envelope.boxes T.object Params.MAX_SIZE self.now }
@@ -164,6 +234,21 @@ impl<T: PointDistance, Params: RTreeParams> RTree<T, Params> {
     ///
     /// It takes neighbours, the nearest first, until one is farther than the first. It is refused where the allocator
     /// refuses the list or what waits.
+    ///
+    /// ```rust
+    /// match found {
+    ///     Ok(Some((all, one))) => is_at(least, one) && lie_at(all, place, least),
+    ///     Ok(None) => least.is_empty(),
+    ///     Err(_) => false,
+    /// }
+    /// // ..
+    /// && are_least(
+    ///     &tree.nearest_neighbors_with_distance_2(&place),
+    ///     &place,
+    ///     least,
+    /// )
+    /// ```
+    /// *`crates/rstar_vectors/src/neighbour_rows.rt`*
     #[tactic(auto, unfolding(crate::specs::Trees::IsWholeTree))]
     pub fn nearest_neighbors_with_distance_2(
         &self,
@@ -184,6 +269,13 @@ impl<T: PointDistance, Params: RTreeParams> RTree<T, Params> {
     /// It costs what `nearest_neighbor_iter_with_distance_2` costs for as many. Its list takes memory once, for no more
     /// elements than the tree has, however many are asked for. It is refused where the allocator refuses the list or
     /// what waits.
+    ///
+    /// ```rust
+    /// are_in_order(&in_order(alloc, tree, place), &place, distances)
+    ///     && are_first(&tree.first_neighbors(&place, usize::MAX), distances)
+    ///     && are_first(&tree.first_neighbors(&place, least.len()), least)
+    /// ```
+    /// *`crates/rstar_vectors/src/neighbour_rows.rt`*
     #[tactic(auto, unfolding(crate::specs::Trees::IsWholeTree))]
     pub fn first_neighbors(
         &self,
@@ -207,6 +299,17 @@ impl<T: PointDistance + Ord, Params: RTreeParams> RTree<T, Params> {
     /// distance the least by their own order. It is one order, up to elements that compare equal.
     ///
     /// Making it takes no memory and opens nothing; `next` may be refused.
+    ///
+    /// ```rust
+    /// let mut neighbors = tree.nearest_neighbor_iter_by_order(place);
+    /// let mut all = Vec::new(alloc);
+    /// while let Some(found) = neighbors.next() {
+    ///     let item = found?;
+    ///     all.push(item)?;
+    /// }
+    /// Ok((all, neighbors.opened()))
+    /// ```
+    /// *`crates/rstar_vectors/src/by_order.rt`*
     #[tactic(auto, unfolding(crate::specs::Trees::IsWholeTree))]
     pub fn nearest_neighbor_iter_by_order(
         &self,
@@ -225,6 +328,19 @@ impl<T: PointDistance + Ord, Params: RTreeParams> RTree<T, Params> {
     ///
     /// It costs what that iterator costs for as many. Its list takes memory once, for no more elements than the tree
     /// has, however many are asked for. It is refused where the allocator refuses the list or what waits.
+    ///
+    /// ```rust
+    /// match (
+    ///     &in_stated_order(alloc, tree, place),
+    ///     &tree.first_neighbors_by_order(&place, half),
+    /// ) {
+    ///     (Ok((all, _opened)), Ok(first)) => {
+    ///         are_lent(all, wanted) && are_lent(first, &wanted[..half])
+    ///     }
+    ///     _ => false,
+    /// }
+    /// ```
+    /// *`crates/rstar_vectors/src/by_order.rt`*
     #[tactic(auto, unfolding(crate::specs::Trees::IsWholeTree))]
     pub fn first_neighbors_by_order(
         &self,
@@ -251,6 +367,20 @@ impl<T: PointDistance + Ord, Params: RTreeParams> RTree<T, Params> {
     /// It finds the least distance as `nearest_neighbor` does. That search takes memory where more than 32 nodes wait,
     /// and is refused where the allocator refuses that; the tree is then left. The taking takes none: it goes down one
     /// path, at each level of which it reads once the parents below that are within the least distance.
+    ///
+    /// ```rust
+    /// for pair in wanted {
+    ///     let is_next = match tree.pop_nearest_neighbor_by_order(place) {
+    ///         Ok(Some(element)) => element == pair.1,
+    ///         _ => false,
+    ///     };
+    ///     if !is_next {
+    ///         return false;
+    ///     }
+    /// }
+    /// tree.size() == 0 && matches!(tree.pop_nearest_neighbor_by_order(place), Ok(None))
+    /// ```
+    /// *`crates/rstar_vectors/src/by_order.rt`*
     #[tactic(auto, unfolding(crate::specs::Trees::IsWholeTree))]
     pub fn pop_nearest_neighbor_by_order(
         &mut self,

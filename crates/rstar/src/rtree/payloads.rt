@@ -21,6 +21,17 @@ impl<R: PointDistance, D: Drop, Params: RTreeParams> RTree<GeomWithData<R, D>, P
     ///
     /// It opens the parents whose envelopes contain the point until it finds an element, and then goes down to it, with
     /// the same search anew below each parent on the way. It takes no memory.
+    ///
+    /// ```rust
+    /// match tree.locate_at_point_mut(point) {
+    ///     Some(lent) => {
+    ///         *lent = number;
+    ///         true
+    ///     }
+    ///     None => false,
+    /// }
+    /// ```
+    /// *`crates/rstar_vectors/src/payloads.rt`*
     #[tactic(auto, unfolding(crate::specs::Trees::IsWholeTree))]
     pub fn locate_at_point_mut(&mut self, point: PointOf<R>) -> Option<&mut D>
         requires { IsWholeTree R.Envelope.boxes ⟦<GeomWithData<R, D> as RTreeObject>⟧.object Params.MAX_SIZE self.old }
@@ -47,6 +58,17 @@ impl<R: PointDistance, D: Drop, Params: RTreeParams> RTree<GeomWithData<R, D>, P
     }
 
     /// The same as `locate_at_point_mut`. In rstar the two walk in different ways.
+    ///
+    /// ```rust
+    /// match tree.locate_at_point_int_mut(point) {
+    ///     Some(lent) => {
+    ///         *lent = number;
+    ///         true
+    ///     }
+    ///     None => false,
+    /// }
+    /// ```
+    /// *`crates/rstar_vectors/src/payloads.rt`*
     pub fn locate_at_point_int_mut(&mut self, point: PointOf<R>) -> Option<&mut D>
         requires { IsWholeTree R.Envelope.boxes ⟦<GeomWithData<R, D> as RTreeObject>⟧.object Params.MAX_SIZE self.old }
         ensures* writes_back { sem 𝓛 (LendsPayloadOf R.row D.row Params.row R.Envelope.row R.Envelope.Point.row

@@ -101,6 +101,14 @@ impl<T: EqualEnvelopes, Params: RTreeParams> RTree<T, Params> {
     /// Whether an element that equals this one, by `==`, is there.
     ///
     /// It opens the parents whose envelopes contain the element's until it finds one, and takes no memory.
+    ///
+    /// ```rust
+    /// match &RTree::<T>::bulk_load(elements) {
+    ///     Ok(tree) => tree.contains(wanted),
+    ///     Err(_) => false,
+    /// }
+    /// ```
+    /// *`crates/rstar_vectors/src/loads.rt`*
     pub fn contains(&self, t: &T) -> bool
         requires { IsWholeTree T.Envelope.boxes T.object Params.MAX_SIZE self.now }
         ensures { result ≡ list_any (λ x. T.eq x t.now) (elements_in self.now) }
@@ -112,6 +120,20 @@ impl<T: EqualEnvelopes, Params: RTreeParams> RTree<T, Params> {
     /// where none does. Of several one is taken out.
     ///
     /// It opens the parents whose envelopes contain the element's until it finds one, and takes no memory.
+    ///
+    /// ```rust
+    /// let before = tree.size();
+    /// let is_there = tree.contains(element);
+    /// let taken = match place {
+    ///     Some(at) => tree.remove_at_point(at),
+    ///     None => tree.remove(element),
+    /// };
+    /// is_there
+    ///     && taken == Some(*element)
+    ///     && tree.size().saturating_add(1) == before
+    ///     && !(is_last && (tree.contains(element) || tree.remove(element).is_some()))
+    /// ```
+    /// *`crates/rstar_vectors/src/removal.rt`*
     pub fn remove(&mut self, t: &T) -> Option<T>
         requires { IsWholeTree T.Envelope.boxes T.object Params.MAX_SIZE self.old }
         ensures taken { IfSome result (λ x. IsPermutation (elements_in self.old) (x ∷ elements_in self.new)) }
@@ -130,6 +152,14 @@ impl<T: PointDistance, Params: RTreeParams> RTree<T, Params> {
     /// was, exactly where none does.
     ///
     /// It opens the parents whose envelopes contain the point until it finds one, and takes no memory.
+    ///
+    /// ```rust
+    /// let taken = match place {
+    ///     Some(at) => tree.remove_at_point(at),
+    ///     None => tree.remove(element),
+    /// };
+    /// ```
+    /// *`crates/rstar_vectors/src/removal.rt`*
     pub fn remove_at_point(&mut self, point: PointOf<T>) -> Option<T>
         requires { IsWholeTree T.Envelope.boxes T.object Params.MAX_SIZE self.old }
         ensures taken { IfSome result (λ x. IsPermutation (elements_in self.old) (x ∷ elements_in self.new)) }

@@ -28,6 +28,14 @@ impl<T: RTreeObject, Params: RTreeParams> RTree<T, Params> {
     /// All elements, in some order.
     ///
     /// It is refused where the allocator refuses the path of a tree of more than 13 levels of parents.
+    ///
+    /// ```rust
+    /// match tree.iter() {
+    ///     Ok(walk) => walk.collect(alloc),
+    ///     Err(refused) => Err(refused),
+    /// }
+    /// ```
+    /// *`crates/rstar_vectors/src/places.rt`*
     pub fn iter(&self) -> Result<RTreeIterator<'_, T>, AllocError>
         requires { IsWholeTree T.Envelope.boxes T.object Params.MAX_SIZE self.now }
         ensures all { IfOk result (λ it. to_come ⟦<SelectAllFunc as SelectionFunction<T>>⟧.accepts
@@ -44,6 +52,20 @@ impl<T: RTreeObject, Params: RTreeParams> RTree<T, Params> {
     ///
     /// It opens the parents whose envelopes intersect it. It is refused where the allocator refuses the path of a tree
     /// of more than 13 levels of parents.
+    ///
+    /// ```rust
+    /// let Ok(mut found) = tree.locate_in_envelope(envelope) else {
+    ///     return Err(AllocError);
+    /// };
+    /// let mut count = 0usize;
+    /// let mut sum = 0u64;
+    /// while let Some(element) = found.next() {
+    ///     count = count.saturating_add(1);
+    ///     sum = sum.saturating_add(element.data);
+    /// }
+    /// Ok((count, sum))
+    /// ```
+    /// *`crates/rstar_vectors/src/fences.rt`*
     pub fn locate_in_envelope(
         &self,
         envelope: T::Envelope,
@@ -65,6 +87,14 @@ impl<T: RTreeObject, Params: RTreeParams> RTree<T, Params> {
     ///
     /// It opens the parents whose envelopes intersect it. It is refused where the allocator refuses the path of a tree
     /// of more than 13 levels of parents.
+    ///
+    /// ```rust
+    /// match tree.locate_in_envelope_intersecting(area) {
+    ///     Ok(walk) => walked(alloc, walk),
+    ///     Err(refused) => Err(refused),
+    /// }
+    /// ```
+    /// *`crates/rstar_vectors/src/payloads.rt`*
     pub fn locate_in_envelope_intersecting(
         &self,
         envelope: T::Envelope,
@@ -86,6 +116,13 @@ impl<T: RTreeObject, Params: RTreeParams> RTree<T, Params> {
     ///
     /// It opens the parents that the function accepts. It is refused where the allocator refuses the path of a tree of
     /// more than 13 levels of parents.
+    ///
+    /// ```rust
+    /// let walk = tree.locate_with_selection_function(func)?;
+    /// let (all, _opened) = walked(alloc, walk)?;
+    /// Ok(all)
+    /// ```
+    /// *`crates/rstar_vectors/src/selections.rt`*
     #[tactic(auto, unfolding(crate::specs::Trees::IsWholeTree))]
     pub fn locate_with_selection_function<Func: SelectionFunction<T>>(
         &self,
@@ -119,6 +156,13 @@ impl<T: PointDistance, Params: RTreeParams> RTree<T, Params> {
     /// An element that contains a point, by `contains_point`; `None` exactly where none does.
     ///
     /// It opens the parents whose envelopes contain the point until it finds one, and takes no memory.
+    ///
+    /// ```rust
+    /// let found = tree.locate_at_point(point).is_some();
+    /// let _refused = tree.insert(more).is_err();
+    /// (found, tree.size())
+    /// ```
+    /// *`crates/rstar_vectors/src/loads.rt`*
     pub fn locate_at_point(&self, point: PointOf<T>) -> Option<&T>
         requires { IsWholeTree T.Envelope.boxes T.object Params.MAX_SIZE self.now }
         ensures { IsOneOf (filter (λ t. T.distances.contains_point t
@@ -129,6 +173,19 @@ impl<T: PointDistance, Params: RTreeParams> RTree<T, Params> {
     }
 
     /// The same as `locate_at_point`. In rstar the two walk in different ways.
+    ///
+    /// ```rust
+    /// pub fn either_at<T: PointDistance>(
+    ///     tree: &RTree<T>,
+    ///     one: PointOf<T>,
+    ///     other: PointOf<T>,
+    /// ) -> (Option<&T>, Option<&T>)
+    ///     // ..
+    /// {
+    ///     (tree.locate_at_point(one), tree.locate_at_point_int(other))
+    /// }
+    /// ```
+    /// *`crates/rstar_vectors/src/payloads.rt`*
     pub fn locate_at_point_int(&self, point: PointOf<T>) -> Option<&T>
         requires { IsWholeTree T.Envelope.boxes T.object Params.MAX_SIZE self.now }
         ensures { IsOneOf (filter (λ t. T.distances.contains_point t
@@ -142,6 +199,14 @@ impl<T: PointDistance, Params: RTreeParams> RTree<T, Params> {
     ///
     /// It opens the parents whose envelopes contain the point. It is refused where the allocator refuses the path of a
     /// tree of more than 13 levels of parents.
+    ///
+    /// ```rust
+    /// match tree.locate_all_at_point(point) {
+    ///     Ok(walk) => walked(alloc, walk),
+    ///     Err(refused) => Err(refused),
+    /// }
+    /// ```
+    /// *`crates/rstar_vectors/src/payloads.rt`*
     pub fn locate_all_at_point(
         &self,
         point: PointOf<T>,
@@ -166,6 +231,14 @@ impl<T: PointDistance, Params: RTreeParams> RTree<T, Params> {
     ///
     /// It opens the parents whose envelopes are no farther. It is refused where the allocator refuses the path of a
     /// tree of more than 13 levels of parents.
+    ///
+    /// ```rust
+    /// match tree.locate_within_distance(point, limit) {
+    ///     Ok(walk) => walked(alloc, walk),
+    ///     Err(refused) => Err(refused),
+    /// }
+    /// ```
+    /// *`crates/rstar_vectors/src/payloads.rt`*
     pub fn locate_within_distance(
         &self,
         query_point: PointOf<T>,

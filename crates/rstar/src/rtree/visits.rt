@@ -21,6 +21,19 @@ use std::ops::ControlFlow;
 impl<T: RTreeObject, Params: RTreeParams> RTree<T, Params> {
     /// Calls a visitor at the elements whose envelopes an envelope contains, until a call breaks; its break is the
     /// answer. It takes no memory.
+    ///
+    /// ```rust
+    /// let mut calls = 0usize;
+    /// let answer = tree.locate_in_envelope_int(area, |_element: &T| {
+    ///     calls = calls.saturating_add(1);
+    ///     if calls == last {
+    ///         ControlFlow::Break(calls)
+    ///     } else {
+    ///         ControlFlow::Continue(())
+    ///     }
+    /// });
+    /// ```
+    /// *`crates/rstar_vectors/src/selections.rt`*
     pub fn locate_in_envelope_int<'a, V: FnMut(&'a T) -> ControlFlow<B>, B: Drop>(
         &'a self,
         envelope: T::Envelope,
@@ -36,6 +49,17 @@ impl<T: RTreeObject, Params: RTreeParams> RTree<T, Params> {
 
     /// Calls a visitor at the elements whose envelopes an envelope intersects, until a call breaks; its break is the
     /// answer. It takes no memory.
+    ///
+    /// ```rust
+    /// fn called(calls: &mut usize) -> ControlFlow<()> {
+    ///     *calls = calls.saturating_add(1);
+    ///     ControlFlow::Continue(())
+    /// }
+    /// // ..
+    /// let mut touched = 0usize;
+    /// let _end = tree.locate_in_envelope_intersecting_int(area, |_element: &T| called(&mut touched));
+    /// ```
+    /// *`crates/rstar_vectors/src/selections.rt`*
     pub fn locate_in_envelope_intersecting_int<'a, V: FnMut(&'a T) -> ControlFlow<B>, B: Drop>(
         &'a self,
         envelope: T::Envelope,
@@ -54,6 +78,13 @@ impl<T: RTreeObject, Params: RTreeParams> RTree<T, Params> {
 
     /// Calls a visitor at the elements that a function selects, each at most once, until a call breaks; its break is
     /// the answer. A function that is not lawful may miss some. It takes no memory.
+    ///
+    /// ```rust
+    /// let func = SelectAtPointFunction::new(point);
+    /// let found = tree.locate_with_selection_function_int(func, at_once);
+    /// found.break_value()
+    /// ```
+    /// *`crates/rstar_vectors/src/readings.rt`*
     #[tactic(auto, unfolding(crate::specs::Trees::IsWholeTree))]
     pub fn locate_with_selection_function_int<
         'a,
@@ -72,6 +103,16 @@ impl<T: RTreeObject, Params: RTreeParams> RTree<T, Params> {
 
     /// Calls a visitor at the elements whose envelopes an envelope contains, until a call breaks; its break is the
     /// answer. The visitor may write each element in its place, and must keep its envelope. It takes no memory.
+    ///
+    /// ```rust
+    /// let add_one = |one: &mut Numbered<R>| {
+    ///     one.data = one.data.wrapping_add(1);
+    ///     ControlFlow::<()>::Continue(())
+    /// };
+    /// tree.locate_in_envelope_int_mut(area, add_one);
+    /// let second = sum(tree.root());
+    /// ```
+    /// *`crates/rstar_vectors/src/visits.rt`*
     pub fn locate_in_envelope_int_mut<V: FnMut(&mut T) -> ControlFlow<B>, B: Drop>(
         &mut self,
         envelope: T::Envelope,
@@ -92,6 +133,17 @@ impl<T: RTreeObject, Params: RTreeParams> RTree<T, Params> {
 
     /// Calls a visitor at the elements whose envelopes an envelope intersects, until a call breaks; its break is the
     /// answer. The visitor may write each element in its place, and must keep its envelope. It takes no memory.
+    ///
+    /// ```rust
+    /// let _went_on: ControlFlow<()> = tree.locate_in_envelope_intersecting_int_mut(
+    ///     area,
+    ///     |one: &mut GeomWithData<R, u64>| {
+    ///         one.data = 0;
+    ///         ControlFlow::Continue(())
+    ///     },
+    /// );
+    /// ```
+    /// *`crates/rstar_vectors/src/visits.rt`*
     pub fn locate_in_envelope_intersecting_int_mut<V: FnMut(&mut T) -> ControlFlow<B>, B: Drop>(
         &mut self,
         envelope: T::Envelope,
@@ -113,6 +165,21 @@ impl<T: RTreeObject, Params: RTreeParams> RTree<T, Params> {
     /// Calls a visitor at the elements that a function selects, each at most once, until a call breaks; its break is
     /// the answer. The visitor may write each element in its place, and must keep its envelope. A function that is not
     /// lawful may miss some. It takes no memory.
+    ///
+    /// ```rust
+    /// let answer = tree.locate_with_selection_function_int_mut(
+    ///     SelectAllFunc,
+    ///     |one: &mut Numbered<R>| {
+    ///         one.data = one.data.wrapping_add(10);
+    ///         if breaks {
+    ///             ControlFlow::Break(one.data)
+    ///         } else {
+    ///             ControlFlow::Continue(())
+    ///         }
+    ///     },
+    /// );
+    /// ```
+    /// *`crates/rstar_vectors/src/visits.rt`*
     pub fn locate_with_selection_function_int_mut<
         F: SelectionFunction<T>,
         V: FnMut(&mut T) -> ControlFlow<B>,
@@ -134,6 +201,14 @@ impl<T: RTreeObject, Params: RTreeParams> RTree<T, Params> {
 impl<T: PointDistance, Params: RTreeParams> RTree<T, Params> {
     /// Calls a visitor at the elements that contain a point, until a call breaks; its break is the answer. It takes no
     /// memory.
+    ///
+    /// ```rust
+    /// let mut located = 0usize;
+    /// let _end = tree.locate_all_at_point_int(point, |_element: &T| called(&mut located));
+    /// // ..
+    /// touched == touching && located == at && one.is_some() == (at > 0) && other.is_some() == (at > 0)
+    /// ```
+    /// *`crates/rstar_vectors/src/selections.rt`*
     pub fn locate_all_at_point_int<'a, V: FnMut(&'a T) -> ControlFlow<B>, B: Drop>(
         &'a self,
         point: PointOf<T>,
@@ -151,6 +226,17 @@ impl<T: PointDistance, Params: RTreeParams> RTree<T, Params> {
 
     /// Calls a visitor at the elements that contain a point, until a call breaks; its break is the answer. The visitor
     /// may write each element in its place, and must keep its envelope. It takes no memory.
+    ///
+    /// ```rust
+    /// let add_one = |one: &mut Numbered<R>| {
+    ///     one.data = one.data.wrapping_add(1);
+    ///     ControlFlow::<()>::Continue(())
+    /// };
+    /// // ..
+    /// tree.locate_all_at_point_int_mut(point, add_one);
+    /// let third = sum(tree.root());
+    /// ```
+    /// *`crates/rstar_vectors/src/visits.rt`*
     pub fn locate_all_at_point_int_mut<V: FnMut(&mut T) -> ControlFlow<B>, B: Drop>(
         &mut self,
         point: PointOf<T>,

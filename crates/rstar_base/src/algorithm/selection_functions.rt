@@ -13,6 +13,20 @@ use crate::point::{known, not_above};
 /// It is lawful where it accepts each envelope into which the envelope of a selected element was
 /// merged, if that is not empty. Then a search gives each selected element; with any other function
 /// it still gives selected elements alone.
+///
+/// ```rust
+/// impl SelectionFunction<[i32; 2]> for LeftHalf {
+///     ghost accepts = { λ _ e. int_lt (⟦<AABB<[i32; 2]> as Envelope>⟧.boxes.axis_key e 0) (pos 50) };
+///     ghost selects = { λ _ t. int_lt (⟦<[i32; 2] as Point>⟧.coord t 0) (pos 50) };
+///     fn should_unpack_parent(&self, envelope: &AABB<[i32; 2]>) -> bool {
+///         envelope.axis_key(0) < 50
+///     }
+///     fn should_unpack_leaf(&self, leaf: &[i32; 2]) -> bool {
+///         leaf[0] < 50
+///     }
+/// }
+/// ```
+/// *`crates/rstar_vectors/src/selections.rt`*
 pub trait SelectionFunction<T: RTreeObject>: Drop {
     // The two answers, as functions.
     ghost accepts: { Self → T.Envelope → Bool };
@@ -29,6 +43,18 @@ pub trait SelectionFunction<T: RTreeObject>: Drop {
 }
 
 /// Gives all elements.
+///
+/// ```rust
+/// let _end: ControlFlow<()> = select_nodes(
+///     root,
+///     &SelectAllFunc,
+///     &mut |one: &Numbered<R>| {
+///         sum = sum.saturating_add(one.data);
+///         ControlFlow::Continue(())
+///     },
+/// );
+/// ```
+/// *`crates/rstar_vectors/src/visits.rt`*
 #[derive(Drop)]
 pub struct SelectAllFunc;
 
@@ -53,6 +79,18 @@ impl<T: RTreeObject> SelectionFunction<T> for SelectAllFunc {
 }
 
 /// Gives the elements whose envelopes an envelope contains.
+///
+/// ```rust
+/// fn asked<T: RTreeObject, F: SelectionFunction<T>>(func: F, element: &T) -> (bool, bool) {
+///     (
+///         func.should_unpack_parent(&element.envelope()),
+///         func.should_unpack_leaf(element),
+///     )
+/// }
+/// // ..
+/// asked(SelectInEnvelopeFunction::new(area), element),
+/// ```
+/// *`crates/rstar_base/src/tests/generic.rt`*
 #[derive(Drop)]
 pub struct SelectInEnvelopeFunction<T: RTreeObject> {
     envelope: T::Envelope,
@@ -86,6 +124,19 @@ impl<T: RTreeObject> SelectionFunction<T> for SelectInEnvelopeFunction<T> {
 }
 
 /// Gives the elements whose envelopes an envelope intersects.
+///
+/// ```rust
+/// let func = SelectInEnvelopeFuncIntersecting::new(area);
+/// let _went_on: ControlFlow<()> = select_nodes_mut(
+///     root,
+///     &func,
+///     &mut |one: &mut GeomWithData<R, u64>| {
+///         one.data = 0;
+///         ControlFlow::Continue(())
+///     },
+/// );
+/// ```
+/// *`crates/rstar_vectors/src/visits.rt`*
 #[derive(Drop)]
 pub struct SelectInEnvelopeFuncIntersecting<T: RTreeObject> {
     envelope: T::Envelope,
@@ -119,6 +170,13 @@ impl<T: RTreeObject> SelectionFunction<T> for SelectInEnvelopeFuncIntersecting<T
 }
 
 /// Gives the elements that contain a point.
+///
+/// ```rust
+/// let func = SelectAtPointFunction::new(point);
+/// let found = tree.locate_with_selection_function_int(func, at_once);
+/// found.break_value()
+/// ```
+/// *`crates/rstar_vectors/src/readings.rt`*
 #[derive(Drop)]
 pub struct SelectAtPointFunction<T: RTreeObject> {
     point: PointOf<T>,
@@ -157,6 +215,18 @@ impl<T: PointDistance> SelectionFunction<T> for SelectAtPointFunction<T> {
 }
 
 /// Gives the elements within a distance of a point.
+///
+/// ```rust
+/// all_leave(&mut tree, elements, order, distinct)
+///     && tree.size() == 0
+///     && drain_and_stand(
+///         &mut tree,
+///         SelectWithinDistanceFunction::new(point, limit),
+///         1,
+///         &mut Vec::new(alloc),
+///     ) == Some(0)
+/// ```
+/// *`crates/rstar_vectors/src/removal.rt`*
 #[derive(Drop)]
 pub struct SelectWithinDistanceFunction<T: RTreeObject> {
     circle_origin: PointOf<T>,
@@ -207,6 +277,15 @@ impl<T: PointDistance> SelectionFunction<T> for SelectWithinDistanceFunction<T> 
 }
 
 /// Gives the elements that equal an element.
+///
+/// ```rust
+/// let func = SelectEqualsFunction::new(wanted);
+/// match tree.locate_with_selection_function(func) {
+///     Ok(walk) => walked(alloc, walk),
+///     Err(refused) => Err(refused),
+/// }
+/// ```
+/// *`crates/rstar_vectors/src/payloads.rt`*
 #[derive(Drop)]
 pub struct SelectEqualsFunction<'a, T: EqualEnvelopes> {
     object_to_remove: &'a T,

@@ -20,6 +20,18 @@ use std::alloc::AllocError;
 /// same distance: so after each neighbour just the parents that are no farther than it were opened. A distance is
 /// computed once for each child of an opened parent; elements are compared where their distances are equal. It takes
 /// memory where more than 32 nodes wait; a refusal comes once, and then `None`.
+///
+/// ```rust
+/// let is_next = match neighbors.next() {
+///     Some(Ok((element, distance))) => {
+///         distance == wanted[k].0
+///             && *element == wanted[k].1
+///             && is_as_told(neighbors.opened(), opened.get(k))
+///     }
+///     _ => false,
+/// };
+/// ```
+/// *`crates/rstar_vectors/src/by_order.rt`*
 pub type NearestNeighborByOrderIterator<'a, T> = NeighborsByOrder<
     'a,
     ParentNode<T>,
@@ -29,6 +41,17 @@ pub type NearestNeighborByOrderIterator<'a, T> = NeighborsByOrder<
 >;
 
 /// What a `NearestNeighborByOrderIterator` is, by the types that it holds: a root's, a node's, a scalar's, a point's.
+///
+/// ```rust
+/// let mut neighbors = tree.nearest_neighbor_iter_by_order(place);
+/// let mut all = Vec::new(alloc);
+/// while let Some(found) = neighbors.next() {
+///     let item = found?;
+///     all.push(item)?;
+/// }
+/// Ok((all, neighbors.opened()))
+/// ```
+/// *`crates/rstar_vectors/src/by_order.rt`*
 #[derive(Drop)]
 pub struct NeighborsByOrder<'a, R, N, S, P> {
     search: NeighborSearch<'a, R, N, S, ParentsFirst>,
