@@ -65,17 +65,6 @@ pub enum Request {
 }
 
 /// The first word of a line.
-///
-/// ```rust
-/// match str::from_utf8(word).ok()? {
-///     "insert" => Some(Verb::Insert),
-///     "remove" => Some(Verb::Remove),
-///     "removeat" => Some(Verb::RemoveAt),
-///     // ..
-///     _ => None,
-/// }
-/// ```
-/// *`crates/rstar_run/src/command.rt`*
 #[derive(Clone, Copy, Debug, PartialEq, Eq)]
 pub enum Verb {
     Insert,
@@ -232,14 +221,6 @@ fn parse_rectangle(id: &[u8], x1: &[u8], y1: &[u8], x2: &[u8], y2: &[u8]) -> Opt
 }
 
 /// Reads the words of a line.
-///
-/// ```rust
-/// match Parser::new(text) {
-///     Some(parser) => parser.line(),
-///     None => Line::Bad,
-/// }
-/// ```
-/// *`crates/rstar_run/src/command.rt`*
 #[derive(Drop)]
 pub struct Parser<'a> {
     words: ArrayVec<&'a [u8], MOST_WORDS>,

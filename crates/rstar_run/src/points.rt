@@ -15,15 +15,6 @@ use std::alloc::Global;
 use std::io::{Read, Write};
 
 /// What a line of a list of points is.
-///
-/// ```rust
-/// match parse_point_line(lines.text()) {
-///     PointLine::Blank => {}
-///     PointLine::Point(point) => points.push(point)?,
-///     PointLine::Bad => return Err(Stop::Line(lines.number())),
-/// }
-/// ```
-/// *`crates/rstar_run/src/points.rt`*
 #[derive(Clone, Copy, Debug, PartialEq, Eq)]
 pub enum PointLine {
     Blank,

@@ -51,15 +51,12 @@ pub fn mode(words: &[String]) -> Option<Mode>
 /// Why a run ends before its input does.
 ///
 /// ```rust
-/// match ended {
-///     Ok(()) => printer.flush(output),
-///     Err(stop) => {
-///         print_stop(printer, output, stop)?;
-///         printer.flush(output)
-///     }
+/// match e.kind() {
+///     ErrorKind::OutOfMemory => Stop::Memory,
+///     _ => Stop::Input,
 /// }
 /// ```
-/// *`crates/rstar_run/src/program.rt`*
+/// *`crates/rstar_run/src/source.rt`*
 #[derive(Clone, Copy, Debug, PartialEq, Eq)]
 pub enum Stop {
     /// A bad line, by its number from 1 on.

@@ -10,14 +10,16 @@ use std::io::{Error, ErrorKind, Read};
 /// Reads as `R` does, but that no failed read looks like a refused allocation.
 ///
 /// ```rust
-/// let mut source = Source(input);
-/// let mut read = Vec::new(alloc);
-/// match source.read_to_end(&mut read) {
-///     Ok(_) => Ok(read),
-///     Err(e) => Err(input_stop(e)),
+/// match BufReader::new(alloc, Source(input)) {
+///     Ok(reader) => Ok(Lines {
+///         reader,
+///         line: Vec::new(alloc),
+///         number: 0,
+///     }),
+///     Err(_) => Err(Stop::Memory),
 /// }
 /// ```
-/// *`crates/rstar_run/src/source.rt`*
+/// *`crates/rstar_run/src/lines.rt`*
 #[derive(Drop)]
 pub struct Source<R>(pub R);
 

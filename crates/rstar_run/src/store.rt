@@ -14,14 +14,15 @@ use std::marker::Model;
 /// A rectangle with its ID.
 ///
 /// ```rust
-/// pub fn item(id: u64, corners: &Corners) -> Item
+/// impl Listed for Item {
+///     ghost text_of = { id_text };
 ///     // ..
-///     ensures filled { questions.is_empty (questions.box_of result) ≡ false }
-/// {
-///     Item::new(Rectangle::from_corners(corners.one, corners.other), id)
+///     fn print<W: Write>(&self, printer: &mut Printer, output: &mut W) -> Result<(), Stop> {
+///         printer.put_number(output, self.data)
+///     }
 /// }
 /// ```
-/// *`crates/rstar_run/src/store.rt`*
+/// *`crates/rstar_run/src/answers.rt`*
 pub type Item = GeomWithData<Rectangle<[i64; 2]>, u64>;
 
 /// Rectangles with IDs, in a tree.

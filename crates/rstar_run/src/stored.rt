@@ -201,10 +201,13 @@ fn unpacked<R: Read + Drop>(alloc: Global, input: R) -> Result<Vec<[i64; 2]>, Fa
 /// `error: input`; where a write failed, a front of what was to stand there.
 ///
 /// ```rust
-/// expect_answer(&rt, false, &EMPTY, b"", 0);
-/// expect_answer(&rt, false, &ONE, b"1 2\n", 0);
-/// expect_answer(&rt, false, b"", b"error: Truncated\n", 2);
-/// expect_answer(&rt, false, &ONE[..68], b"error: Truncated\n", 2);
+/// fn answer<R: Read + Drop, W: Write>(alloc: Global, packs: bool, input: R, output: &mut W) -> u8 {
+///     if packs {
+///         pack(alloc, input, output)
+///     } else {
+///         unpack(alloc, input, output)
+///     }
+/// }
 /// ```
 /// *`crates/rstar_run/src/stored_tests.rt`*
 pub fn unpack<R: Read + Drop, W: Write>(alloc: Global, input: R, output: &mut W) -> u8
