@@ -5,10 +5,12 @@
 
 An example is what stands between two fences, and the line behind it names the file, as `*`crates/..`*`. Its lines must
 stand in that file, whitespace aside and in this order; a line `// ..` marks what is left out. It is copied from another
-file than the one it stands in: the text that an edit replaces has to stand once in a file. A piece of docs/CALLING.md
-names its file likewise; pieces that follow one another may share the name, and one piece may come from several files.
+file than the one it stands in: the text that an edit of must-fail/ or edits/ replaces has to stand once in a file. A
+piece of docs/CALLING.md names its file likewise; pieces that follow one another may share the name, and one piece may
+come from several files.
 
-It prints each example that does not stand so, and each public type without one. The status is 1 where there is either.
+It prints each example that does not stand so, each public type without one, and each edit whose text does not stand
+once. The status is 1 where there is one of these.
 """
 
 import re
@@ -98,9 +100,27 @@ def docstrings(path):
             block = []
 
 
+def lost_edits(crate):
+    """The edits of a crate whose text does not stand once; of several pairs, after those before it."""
+    for path in sorted([*crate.glob("must-fail/*.edit"), *crate.glob("edits/*.edit")]):
+        texts, file, old = {}, "", ""
+        for line in path.read_text().splitlines():
+            kind, _, rest = line.partition(": ")
+            if kind == "file":
+                file = rest
+            elif kind == "old":
+                old = rest
+            elif line.startswith("new:"):
+                text = texts.get(file) or (crate / file).read_text()
+                if text.count(old) != 1:
+                    yield f"{path.relative_to(ROOT)}: stands {text.count(old)} times in {file}: {old.strip()}"
+                texts[file] = text.replace(old, rest)
+
+
 def main():
     faults, count, types = [], 0, 0
     for crate in CRATES:
+        faults += lost_edits(ROOT / "crates" / crate)
         for path in sorted((ROOT / "crates" / crate / "src").rglob("*.rt")):
             place = str(path.relative_to(ROOT))
             if TESTS.search(place):
@@ -120,7 +140,8 @@ def main():
         found = examples(page, (ROOT / page).read_text().splitlines(), 1)
         pieces += len(found)
         faults += [f"{one.place}: {fault}" for one in found if (fault := one.fault())]
-    print("\n".join([*faults, f"{count} examples, {types} public types, {len(LEFT_OUT)} of them left out; {pieces} pieces"]))
+    counts = f"{count} examples, {types} public types, {len(LEFT_OUT)} of them left out; {pieces} pieces"
+    print("\n".join([*faults, counts]))
     return 1 if faults else 0
 
 
