@@ -5,7 +5,7 @@ ghost use Rattle.rstar_base.specs.Hulls.{hull};
 ghost use Rattle.rstar.specs.Nodes.{node_box, is_leaf_node, children_of, envelope_of};
 
 use rstar_base::envelope::{Envelope, copied_envelope};
-use rstar_base::object::{RTreeObject, envelope_of_all};
+use rstar_base::object::{Distance, RTreeObject, envelope_of_all};
 
 /// A node of a tree: one element, or a parent.
 ///
@@ -115,6 +115,14 @@ impl<T: RTreeObject> RTreeObject for RTreeNode<T> {
         match self {
             RTreeNode::Leaf(t) => t.envelope(),
             RTreeNode::Parent(parent) => copied_envelope(&parent.envelope),
+        }
+    }
+
+    #[tactic(auto, unfolding(crate::specs::Nodes::node_box, crate::specs::Nodes::fold_tree))]
+    fn axis_key(&self, axis: usize) -> Distance<T> {
+        match self {
+            RTreeNode::Leaf(t) => t.axis_key(axis),
+            RTreeNode::Parent(parent) => parent.envelope.axis_key(axis),
         }
     }
 

@@ -323,7 +323,7 @@ impl<P: Point> AABB<P> {
         }
     }
 
-    /// The box between two corners; the empty box where the first lies above the second on some axis.
+    /// The box of a rectangle's two corners, of which the first lies nowhere above the second but in those of the empty box.
     pub(crate) fn between(lower: &P, upper: &P) -> Self
         ensures { result
             ≡ box_or_empty P.Scalar.low P.Scalar.high P.DIMENSIONS (P.coord lower.now) (P.coord upper.now) }
@@ -334,7 +334,23 @@ impl<P: Point> AABB<P> {
                 upper: copied_point(upper),
             }
         } else {
-            AABB::new_empty()
+            AABB::of_any_corners(lower, upper)
+        }
+    }
+
+    // The same of any corners, as two corners may be without a word about them.
+    fn of_any_corners(lower: &P, upper: &P) -> Self
+        ensures { result
+            ≡ box_or_empty P.Scalar.low P.Scalar.high P.DIMENSIONS (P.coord lower.now) (P.coord upper.now) }
+    {
+        let highest = filled(P::Scalar::max_value());
+        let lowest = filled(P::Scalar::min_value());
+        if bound(&highest, &lowest, lower, upper) {
+            return AABB::new_empty();
+        }
+        AABB {
+            lower: copied_point(lower),
+            upper: greatest_point(lower, upper),
         }
     }
 

@@ -78,6 +78,16 @@ pub trait RTreeObject: Drop {
         ensures value { result ≡ object.box_of self.now }
         ensures own { object.IsValue self.now };
 
+    /// The `axis_key` of its envelope, by which loads and splits order elements. As provided it makes the envelope; a type
+    /// that has the number at hand answers it alone.
+    fn axis_key(&self, axis: usize) -> <<Self::Envelope as Envelope>::Point as Point>::Scalar
+        requires { axis < Self.Envelope.Point.DIMENSIONS }
+        ensures { Self.Envelope.Point.Scalar.value result
+            ≡ Self.Envelope.boxes.axis_key (object.box_of self.now) axis }
+    {
+        self.envelope().axis_key(axis)
+    }
+
     ghost object_law: { ObjectLaws Self.Envelope.boxes object };
 }
 
@@ -202,6 +212,10 @@ impl<P: Point> RTreeObject for P {
         AABB::from_point(copied_point(self))
     }
 
+    fn axis_key(&self, axis: usize) -> P::Scalar {
+        self.nth(axis)
+    }
+
     ghost object_law = { λ p h. h };
 }
 
@@ -243,6 +257,10 @@ impl<T: RTreeObject> RTreeObject for Rc<T> {
 
     fn envelope(&self) -> T::Envelope {
         (**self).envelope()
+    }
+
+    fn axis_key(&self, axis: usize) -> <<T::Envelope as Envelope>::Point as Point>::Scalar {
+        (**self).axis_key(axis)
     }
 
     ghost object_law = { λ t h. T.object_law t.value h };
@@ -295,9 +313,7 @@ fn compare_on_axis<T: RTreeObject>(axis: usize, a: &T, b: &T) -> Ordering
     ensures { result ≡ int_cmp (T.Envelope.boxes.axis_key (T.object.box_of a.now) axis)
         (T.Envelope.boxes.axis_key (T.object.box_of b.now) axis) }
 {
-    a.envelope()
-        .axis_key(axis)
-        .cmp(&b.envelope().axis_key(axis))
+    a.axis_key(axis).cmp(&b.axis_key(axis))
 }
 
 /// Puts the elements in an order that rises by the `axis_key` of their envelopes. It takes no

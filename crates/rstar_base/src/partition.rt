@@ -21,18 +21,25 @@ pub(crate) fn partition_by_selection<T: RTreeObject>(axis: usize, list: &mut [T]
     select(axis, list, k, turns);
 }
 
+/// Lists of at most so many elements are sorted: that moves fewer than it takes to part them.
+const SHORT: usize = 16;
+
+/// In lists of at least so many the pivot is the element that belongs at the place in a sample.
+const LONG: usize = 400;
+
 /// The same by at most so many pivots, and then by a sort.
+#[cycle(select)]
 fn select<T: RTreeObject>(axis: usize, list: &mut [T], k: usize, turns: u32)
     requires axis { axis < T.Envelope.Point.DIMENSIONS }
     requires place { k < length list.old }
     ensures same { IsPermutation list.old list.new }
     ensures split { IsSplitAt (λ t. T.Envelope.boxes.axis_key (T.object.box_of t) axis) k list.new }
 {
-    if turns == 0 {
+    if turns == 0 || list.len() <= SHORT {
         sort_envelopes(axis, list);
         return;
     }
-    let pivot = middle_key(axis, list);
+    let pivot = pivot_for(axis, list, k, turns - 1);
     let (from, to) = split_around(axis, list, pivot);
     if k < from {
         let (front, _) = list.split_at_mut(from);
@@ -41,6 +48,45 @@ fn select<T: RTreeObject>(axis: usize, list: &mut [T], k: usize, turns: u32)
         let (_, back) = list.split_at_mut(to);
         select(axis, back, k - to, turns - 1);
     }
+}
+
+/// A key that should stand near the place. In a long list it is found in a sample, in which the place is selected first
+/// (Floyd and Rivest 1975): so two passes over the list and one over half of it are seldom passed.
+#[cycle(select)]
+fn pivot_for<T: RTreeObject>(axis: usize, list: &mut [T], k: usize, turns: u32) -> Distance<T>
+    requires axis { axis < T.Envelope.Point.DIMENSIONS }
+    requires place { k < length list.old }
+    ensures same { IsPermutation list.old list.new }
+{
+    if list.len() < LONG {
+        return middle_key(axis, list);
+    }
+    let (from, to) = sample_around(list.len(), k);
+    let (_, rest) = list.split_at_mut(from);
+    let (sample, _) = rest.split_at_mut(to - from);
+    select(axis, sample, k - from, turns);
+    key_at(axis, list, k)
+}
+
+/// Where a sample begins and ends that has a place of so many. The place stands in it as it does in the whole, but for a
+/// little that leaves it on the shorter side of the pivot.
+fn sample_around(len: usize, k: usize) -> (usize, usize)
+    requires { k < len }
+    ensures from { result.0 ≤ k }
+    ensures to { k < result.1 }
+    ensures within { result.1 ≤ len }
+{
+    let digits = len.ilog2() as usize;
+    let part = (digits * digits / 6).max(1);
+    let size = (len / part).max(1);
+    let away = size / part;
+    let rank = if k < len / 2 {
+        (k / part).saturating_add(away)
+    } else {
+        (k / part).saturating_sub(away)
+    };
+    let from = k.saturating_sub(rank.min(size - 1)).min(len - size);
+    (from, from + size)
 }
 
 /// Whether a key is smaller than the pivot, or the same where `with_same` says so.
@@ -63,7 +109,7 @@ fn key_at<T: RTreeObject>(axis: usize, list: &[T], k: usize) -> Distance<T>
     ensures { (d : T) → T.Envelope.Point.Scalar.value result
         ≡ T.Envelope.boxes.axis_key (T.object.box_of (slice_index_or list.now k d)) axis }
 {
-    list[k].envelope().axis_key(axis)
+    list[k].axis_key(axis)
 }
 
 /// The middle one of three keys, and of nine in a long list, as a pivot. Any key is right; this one makes

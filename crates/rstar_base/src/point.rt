@@ -180,7 +180,9 @@ pub fn not_above<S: RTreeNum>(a: S, b: S) -> bool
 /// ```rust
 /// let mut key = Distance::<T>::zero();
 /// for element in slab.iter() {
-///     key = least(key, element.envelope().axis_key(axis));
+///     let own = element.axis_key(axis);
+///     // ..
+///     key = least(key, own);
 /// }
 /// ```
 /// *`crates/rstar_base/src/tests/slabs.rt`*

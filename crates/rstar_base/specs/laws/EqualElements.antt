@@ -3,8 +3,9 @@ use Rattle.std.specs.Prelude.{◌≡◌, ◌&&◌, IsTrue, ℕ, ℤ, Bool}
 use Rattle.std.proofs.Common.{refl}
 use Rattle.rstar_base.specs.Points.{table}
 use Rattle.rstar_base.specs.laws.PointLemmas.{and_parts, table-same, table-each, all_below-same}
-use Rattle.rstar_base.specs.Boxes.{between_corners, box_of_corners, is_upright}
-use Rattle.rstar_base.specs.Rectangles.{box_or_empty}
+use Rattle.std.specs.Int.{int_max}
+use Rattle.rstar_base.specs.Boxes.{between_corners, box_of_corners}
+use Rattle.rstar_base.specs.Rectangles.{are_empty_corners, box_or_empty}
 
 -- ---- what is made of the same two lists of coordinates
 
@@ -12,11 +13,14 @@ module _ (n : ℕ) (l u k v : ℕ → ℤ) (e : table n l ≡ table n k) (f : ta
   pub between-same : between_corners n l u ≡ between_corners n k v
   between-same = table-same n _ _ (λ i h. rw (table-each n l k e i h, table-each n u v f i h) refl)
 
-  upright-same : is_upright n l u ≡ is_upright n k v
-  upright-same = all_below-same n _ _ (λ i h. rw (table-each n l k e i h, table-each n u v f i h) refl)
+  empty-same : (low high : ℤ) → are_empty_corners low high n l u ≡ are_empty_corners low high n k v
+  empty-same low high = all_below-same n _ _ (λ i h. rw (table-each n l k e i h, table-each n u v f i h) refl)
+
+  greater-same : between_corners n l (λ i. int_max (l i) (u i)) ≡ between_corners n k (λ i. int_max (k i) (v i))
+  greater-same = table-same n _ _ (λ i h. rw (table-each n l k e i h, table-each n u v f i h) refl)
 
   pub box_or_empty-equal : (low high : ℤ) → box_or_empty low high n l u ≡ box_or_empty low high n k v
-  box_or_empty-equal low high = rw (upright-same, between-same) refl
+  box_or_empty-equal low high = rw (empty-same low high, greater-same) refl
 
   pub corners-same : box_of_corners n l u ≡ box_of_corners n k v
   corners-same = table-same n _ _ (λ i h. rw (table-each n l k e i h, table-each n u v f i h) refl)

@@ -10,7 +10,8 @@ use crate::point::least;
 use num_traits::Zero;
 use std::alloc::{AllocError, Global};
 
-/// Whether there is a slab, and it has this length, and this least key on an axis, or 0 if that is less.
+/// Whether there is a slab, and it has this length, and this least key on an axis, or 0 if that is less. Each key is asked of
+/// the element and of its envelope.
 fn is_slab<T: RTreeObject>(
     slab: &Option<Result<Vec<T>, AllocError>>,
     axis: usize,
@@ -23,10 +24,13 @@ fn is_slab<T: RTreeObject>(
         return false;
     };
     let mut key = Distance::<T>::zero();
+    let mut are_own = true;
     for element in slab.iter() {
-        key = least(key, element.envelope().axis_key(axis));
+        let own = element.axis_key(axis);
+        are_own = own == element.envelope().axis_key(axis) && are_own;
+        key = least(key, own);
     }
-    slab.len() == length && key == wanted
+    are_own && slab.len() == length && key == wanted
 }
 
 /// Whether elements are cut along an axis into slabs of these lengths and least keys.
@@ -160,7 +164,7 @@ fn are_split(points: &mut [[i32; 2]], k: usize) -> bool {
 /// Whether the first so many of the points [0, 0], [29 % keys, 0], [58 % keys, 0], .. are split at a place by a
 /// partition there.
 fn splits(count: usize, keys: u16, k: usize) -> bool {
-    let mut points = [[0i32, 0]; 64];
+    let mut points = [[0i32, 0]; 1000];
     let mut number = 0u16;
     for point in &mut points {
         point[0] = i32::from(number % keys.max(1));
@@ -176,6 +180,15 @@ fn a_partition_splits_equal_keys_too(rt: HostRuntime) {
         for k in 0..count {
             assert!(rt; splits(count, keys, k));
         }
+    }
+    // Lists that are long enough for a sample.
+    for &(count, keys, k) in &[
+        (400usize, 7u16, 0usize),
+        (401, 400, 399),
+        (1000, 1000, 333),
+        (1000, 3, 500),
+    ] {
+        assert!(rt; splits(count, keys, k));
     }
     let mut equal = [[5i32, 5]; 1000];
     assert!(rt; are_split(&mut equal, 3));

@@ -19,4 +19,4 @@ pub returns-then-upright : goal.returns-then-upright
 returns-then-upright g c =
     corners-same _ _ _ _ _ c.copied_point.ensures.coords c.copied_point-then-upright.ensures.coords
     ∙ sym (box_or_empty-upright g.P.Scalar.Bounded.low g.P.Scalar.Bounded.high g.P.Point.DIMENSIONS (g.P.Point.coord c.args.lower.now) (g.P.Point.coord c.args.upper.now)
-    (sym c.upright.ensures ∙ c.if-upright.true))
+    g.met.P.Scalar.RTreeNum.low_law g.met.P.Scalar.RTreeNum.high_law (sym c.upright.ensures ∙ c.if-upright.true))
