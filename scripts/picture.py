@@ -2,11 +2,13 @@
 """Draws a stored tree as SVG: each parent's box in the colour of its level, each point as a dot.
 
     out/rstar_run pack < points | scripts/picture.py > tree.svg        from the standard library alone
+    scripts/picture.py --places 2000 > points                          so many places around forty towns, always the same
 
 The bytes are those of docs/DEFINITIONS.md, "Stored trees"; `unpack` checks them, and this draws what they say. Below
 stands how many parents each level has, from the root down, in its colour.
 """
 
+import random
 import struct
 import sys
 
@@ -72,5 +74,16 @@ def drawing(data):
     return "\n".join([*lines, "</text>", "</svg>"])
 
 
+def places(count):
+    draw = random.Random(1990)
+    towns = [(draw.uniform(-1e6, 1e6), draw.uniform(-1e6, 1e6), draw.uniform(1e4, 1.5e5)) for _ in range(40)]
+    for _ in range(count):
+        x, y, wide = draw.choice(towns)
+        yield f"{draw.gauss(x, wide):.0f} {draw.gauss(y, wide):.0f}"
+
+
 if __name__ == "__main__":
-    print(drawing(sys.stdin.buffer.read()))
+    if sys.argv[1:2] == ["--places"]:
+        print("\n".join(places(int(sys.argv[2]))))
+    else:
+        print(drawing(sys.stdin.buffer.read()))
