@@ -4,3 +4,4 @@ pub mod Faces
 pub mod FirstSeen
 pub mod Fits
 pub mod LeftHalf
+pub mod ShardAnswers

@@ -1,3 +1,4 @@
+pub mod Shards
 pub mod Stretches
 pub mod laws
 pub mod Doors

@@ -46,6 +46,8 @@ mod scenarios;
 #[cfg(test)]
 mod selections;
 #[cfg(test)]
+mod shards;
+#[cfg(test)]
 mod stored;
 #[cfg(test)]
 mod visits;
