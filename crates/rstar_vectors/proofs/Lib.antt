@@ -4,4 +4,6 @@ pub mod Faces
 pub mod FirstSeen
 pub mod Fits
 pub mod LeftHalf
+pub mod Numbered
 pub mod ShardAnswers
+pub mod Spacing

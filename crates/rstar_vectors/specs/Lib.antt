@@ -1,7 +1,9 @@
+pub mod Callers
+pub mod Doors
+pub mod Fits
+pub mod Frames
+pub mod Numbered
 pub mod Shards
+pub mod Spacing
 pub mod Stretches
 pub mod laws
-pub mod Doors
-pub mod Frames
-pub mod Callers
-pub mod Fits

@@ -10,9 +10,9 @@ ghost use Rattle.rstar.specs.Lists.{AreAlike, AreOrdered, IsNotLater, by_distanc
 ghost use Rattle.rstar.specs.Nodes.{parents_of};
 ghost use Rattle.rstar.specs.Trees.{root_of, elements_in, IsWholeTree};
 
-use crate::fences::Fence;
 use crate::neighbour_rows::{fits, is_as_told};
 use crate::scenarios::{ALONG_A_LINE, inserted, loaded};
+use crate::uses::geofence::Fence;
 use rstar::algorithm::nearest_neighbor::NearestNeighborByOrderIterator;
 use rstar::object::{Distance, PointDistance, PointOf, RTreeObject};
 use rstar::point::{Point, RTreeNum};

@@ -12,43 +12,53 @@ use rstar::object::{Distance, PointOf};
 use rstar::{AABB, DefaultParams, EqualEnvelopes, Point, PointDistance};
 use std::alloc::Global;
 
-/// All points of two axes whose coordinates are among the least scalar, -1, 0 and the greatest.
-macro_rules! at_the_ends {
-    ($low:expr, $high:expr) => {
-        [
-            [$low, $low],
-            [$low, -1],
-            [$low, 0],
-            [$low, $high],
-            [-1, $low],
-            [-1, -1],
-            [-1, 0],
-            [-1, $high],
-            [0, $low],
-            [0, -1],
-            [0, 0],
-            [0, $high],
-            [$high, $low],
-            [$high, -1],
-            [$high, 0],
-            [$high, $high],
-        ]
+/// Points of two axes; one of them, at a corner; a place between; 0 and the greatest squared distance; and the one below that.
+type Ends<'a, P> = (
+    &'a [P],
+    P,
+    P,
+    &'a [<P as Point>::Scalar],
+    <P as Point>::Scalar,
+);
+
+/// All points of two axes whose coordinates are among the least scalar, -1, 0 and the greatest, with a place between whose
+/// coordinates are alike.
+macro_rules! ends {
+    ($low:expr, $high:expr, $between:expr) => {
+        (
+            &[
+                [$low, $low],
+                [$low, -1],
+                [$low, 0],
+                [$low, $high],
+                [-1, $low],
+                [-1, -1],
+                [-1, 0],
+                [-1, $high],
+                [0, $low],
+                [0, -1],
+                [0, 0],
+                [0, $high],
+                [$high, $low],
+                [$high, -1],
+                [$high, 0],
+                [$high, $high],
+            ],
+            [$high; 2],
+            [$between; 2],
+            &[0, $high],
+            $high - 1,
+        )
     };
 }
 
 /// Whether of some points one lies at a corner, and all others at the greatest squared distance from it, and all of them so
-/// far from a place between: each is within that distance, and none within less. `first` is 0 and that distance.
-fn are_held<P: Point + Copy>(
-    alloc: Global,
-    points: &[P],
-    corner: P,
-    between: P,
-    first: &[P::Scalar],
-    less: P::Scalar,
-) -> bool
+/// far from a place between: each is within that distance, and none within less.
+fn are_held<P: Point + Copy>(alloc: Global, ends: &Ends<'_, P>) -> bool
     requires narrow { IsNarrow P.row }
     requires dimensions { 2 ≤ P.DIMENSIONS }
 {
+    let &(points, corner, between, first, less) = ends;
     first.len() == 2
         && come_and_go(alloc, points, corner, first, &[])
         && come_and_go(alloc, points, between, &first[1..], &[])
@@ -74,69 +84,18 @@ fn has_within<P: Point + Copy>(
 // others as far away as can be; from a place between, all of them do.
 #[test]
 fn all_scalars_at_their_ends(rt: HostRuntime) {
-    const I8: [[i8; 2]; 16] = at_the_ends!(i8::MIN, i8::MAX);
-    const I16: [[i16; 2]; 16] = at_the_ends!(i16::MIN, i16::MAX);
-    const I32: [[i32; 2]; 16] = at_the_ends!(i32::MIN, i32::MAX);
-    const I64: [[i64; 2]; 16] = at_the_ends!(i64::MIN, i64::MAX);
-    const ISIZE: [[isize; 2]; 16] = at_the_ends!(isize::MIN, isize::MAX);
-    const I128: [[i128; 2]; 16] = at_the_ends!(i128::MIN, i128::MAX);
-    let eight = [i8::MAX; 2];
-    assert!(rt; are_held(rt.alloc(), &I8, eight, [60, 60], &[0, 127], 126));
-    let half = [i16::MAX / 2; 2];
-    assert!(rt;
-        are_held(
-            rt.alloc(),
-            &I16,
-            [i16::MAX; 2],
-            half,
-            &[0, i16::MAX],
-            i16::MAX - 1
-        )
-    );
-    let half = [i32::MAX / 2; 2];
-    assert!(rt;
-        are_held(
-            rt.alloc(),
-            &I32,
-            [i32::MAX; 2],
-            half,
-            &[0, i32::MAX],
-            i32::MAX - 1
-        )
-    );
-    let half = [i64::MAX / 2; 2];
-    assert!(rt;
-        are_held(
-            rt.alloc(),
-            &I64,
-            [i64::MAX; 2],
-            half,
-            &[0, i64::MAX],
-            i64::MAX - 1
-        )
-    );
-    let half = [isize::MAX / 2; 2];
-    assert!(rt;
-        are_held(
-            rt.alloc(),
-            &ISIZE,
-            [isize::MAX; 2],
-            half,
-            &[0, isize::MAX],
-            isize::MAX - 1
-        )
-    );
-    let half = [i128::MAX / 2; 2];
-    assert!(rt;
-        are_held(
-            rt.alloc(),
-            &I128,
-            [i128::MAX; 2],
-            half,
-            &[0, i128::MAX],
-            i128::MAX - 1
-        )
-    );
+    const I8: Ends<'static, [i8; 2]> = ends!(i8::MIN, i8::MAX, 60);
+    const I16: Ends<'static, [i16; 2]> = ends!(i16::MIN, i16::MAX, i16::MAX / 2);
+    const I32: Ends<'static, [i32; 2]> = ends!(i32::MIN, i32::MAX, i32::MAX / 2);
+    const I64: Ends<'static, [i64; 2]> = ends!(i64::MIN, i64::MAX, i64::MAX / 2);
+    const ISIZE: Ends<'static, [isize; 2]> = ends!(isize::MIN, isize::MAX, isize::MAX / 2);
+    const I128: Ends<'static, [i128; 2]> = ends!(i128::MIN, i128::MAX, i128::MAX / 2);
+    assert!(rt; are_held(rt.alloc(), &I8));
+    assert!(rt; are_held(rt.alloc(), &I16));
+    assert!(rt; are_held(rt.alloc(), &I32));
+    assert!(rt; are_held(rt.alloc(), &I64));
+    assert!(rt; are_held(rt.alloc(), &ISIZE));
+    assert!(rt; are_held(rt.alloc(), &I128));
 }
 
 /// Whether a tree of equal elements stands after each insertion, all of them come and go from a place, the first ones at

@@ -12,7 +12,7 @@ use crate::interval::squared_nearer_end;
 use num_traits::{Bounded, Zero};
 use rstar_base::aabb::AABB;
 use rstar_base::envelope::Envelope;
-use rstar_base::object::{PointDistance, RTreeObject, contains_by_distance};
+use rstar_base::object::{PointDistance, RTreeObject, contains_by_distance, up_to};
 use rstar_base::point::{Point, least};
 
 /// The outline of the box between two opposite corners. It is as far from a point inside as its nearest face, and as far as
@@ -71,6 +71,14 @@ impl<P: Point> PointDistance for Frame<P> {
 
     fn contains_point(&self, point: &P) -> bool {
         self.envelope().contains_point(point) && contains_by_distance(self.distance_2(point))
+    }
+
+    fn distance_2_if_less_or_equal(
+        &self,
+        point: &P,
+        max_distance_2: P::Scalar,
+    ) -> Option<P::Scalar> {
+        up_to(self.distance_2(point), max_distance_2)
     }
 
     ghost distance_laws = { frame_laws P.Scalar.low P.Scalar.high P.DIMENSIONS (λ f. P.coord f.one)

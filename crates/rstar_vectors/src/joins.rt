@@ -9,9 +9,9 @@ ghost use Rattle.rstar.specs.Joins.{meets_by, join};
 ghost use Rattle.rstar.specs.Meets.{meet_of_roots};
 ghost use Rattle.rstar.specs.Trees.{root_of, elements_in, IsWholeTree};
 
-use crate::fences::Fence;
 use crate::node_sizes::Splitting;
 use crate::scenarios::{ALONG_A_LINE, counts, drained, in_steps, inserted, levels_of, loaded};
+use crate::uses::geofence::Fence;
 use rstar::iterators::InEnvelope;
 use rstar::primitives::{GeomWithData, Rectangle};
 use rstar::{AABB, DefaultParams, Envelope, Point, RTree, RTreeObject, RTreeParams};

@@ -10,8 +10,6 @@ mod doors;
 #[cfg(test)]
 mod extremes;
 #[cfg(test)]
-mod fences;
-#[cfg(test)]
 mod frames;
 #[cfg(test)]
 mod insertion;
@@ -49,5 +47,7 @@ mod selections;
 mod shards;
 #[cfg(test)]
 mod stored;
+#[cfg(test)]
+mod uses;
 #[cfg(test)]
 mod visits;

@@ -157,7 +157,10 @@ fn are_in_order<T: PointDistance>(
 }
 
 /// Whether elements that were found with their distances have these, in this order.
-fn are_first<T, D: PartialEq>(found: &Result<Vec<(&T, D)>, AllocError>, distances: &[D]) -> bool {
+pub(crate) fn are_first<T, D: PartialEq>(
+    found: &Result<Vec<(&T, D)>, AllocError>,
+    distances: &[D],
+) -> bool {
     match found {
         Ok(all) => {
             if all.len() != distances.len() {

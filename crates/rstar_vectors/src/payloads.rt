@@ -10,8 +10,8 @@ ghost use Rattle.rstar.specs.Trees.{root_of, elements_in, IsWholeTree};
 ghost use Rattle.rstar.specs.Visits.{IsOneOf};
 ghost use Rattle.rstar_vectors.specs.Callers.{IsRenumbered};
 
-use crate::fences::Fence;
 use crate::scenarios::drained;
+use crate::uses::geofence::Fence;
 use rstar::algorithm::selection_functions::{SelectEqualsFunction, SelectionFunction};
 use rstar::iterators::SelectionIterator;
 use rstar::object::{Distance, PointOf};
@@ -140,7 +140,7 @@ pub fn points_near<'a>(
 }
 
 /// The elements that an envelope touches, by `locate_in_envelope_intersecting`.
-fn touched<'a, T: RTreeObject>(
+pub(crate) fn touched<'a, T: RTreeObject>(
     alloc: Global,
     tree: &'a RTree<T>,
     area: T::Envelope,

@@ -8,7 +8,7 @@ ghost use Rattle.std.specs.Prelude.{◌≤◌, None, IfOk};
 ghost use Rattle.std.specs.Iterator.{IsFinite, YieldsThen};
 ghost use Rattle.rstar.specs.Trees.{IsWholeTree};
 
-use crate::fences::Fence;
+use crate::uses::geofence::Fence;
 use rstar::algorithm::bulk_load::none_empty;
 use rstar::node::{ParentNode, RTreeNode};
 use rstar::object::{Distance, PointOf};

@@ -5,7 +5,7 @@ ghost use Rattle.rstar.specs.Boxes.{boxes_intersect};
 ghost use Rattle.rstar.specs.Nodes.{elements_of, IsWhole};
 ghost use Rattle.rstar.specs.Trees.{elements_in, HasSameOutline, IsWholeTree};
 
-use crate::fences::Fence;
+use crate::uses::geofence::Fence;
 use rstar::algorithm::selection_functions::SelectInEnvelopeFuncIntersecting;
 use rstar::iterators::select_nodes_mut;
 use rstar::node::ParentNode;

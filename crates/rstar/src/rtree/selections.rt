@@ -65,7 +65,7 @@ impl<T: RTreeObject, Params: RTreeParams> RTree<T, Params> {
     /// }
     /// Ok((count, sum))
     /// ```
-    /// *`crates/rstar_vectors/src/fences.rt`*
+    /// *`crates/rstar_vectors/src/uses/geofence.rt`*
     pub fn locate_in_envelope(
         &self,
         envelope: T::Envelope,

@@ -1,0 +1,144 @@
+//! An overlap finder: parts are laid down, and all pairs of them that lie over each other are asked for.
+//!
+//! The pairs come of the join of the tree with itself, and not of two trees, since a part may overlap any other. That join
+//! gives each pair in both orders, and each part with itself; of these the finder keeps the pairs whose first part has the
+//! lesser number. So each pair comes once, and pieces of one part, which share its number, are not told of.
+
+ghost use Rattle.std.specs.Prelude.{◌≡◌, ◌∷◌, ◌&&◌, [], false, map, filter, nat_lt, IfOk, IfErr, OnOk, OnErr};
+ghost use Rattle.std.specs.List.Sorted.{IsPermutation};
+ghost use Rattle.rstar.specs.Boxes.{is_empty_box};
+ghost use Rattle.rstar.specs.Lists.{product};
+ghost use Rattle.rstar.specs.Trees.{elements_in, IsWholeTree};
+ghost use Rattle.rstar_vectors.specs.Numbered.{box_of, overlaps};
+
+use rstar::primitives::{GeomWithData, Rectangle};
+use rstar::{AABB, DefaultParams, Envelope, InsertError, RTree, RTreeObject, RTreeParams};
+use std::alloc::{AllocError, Global};
+use std::marker::Model;
+
+/// A rectangle with the number of the part that it is a piece of.
+pub type Piece = GeomWithData<Rectangle<[i64; 2]>, u64>;
+
+/// Two pieces.
+type Pair<'a, T> = (&'a T, &'a T);
+
+/// Pieces of parts, in a tree. Equal ones may be there more than once, and each counts.
+#[derive(Drop)]
+pub struct Layout {
+    tree: RTree<Piece>,
+}
+
+// Contracts see the list of the pieces, in no order that is told. The tree is whole.
+impl Model for Layout {
+    ghost use Rattle.std.specs.Prelude.{List};
+    ghost use Rattle.rstar.specs.Trees.{elements_in, IsWholeTree};
+    ghost use Rattle.rstar_vectors.specs.Numbered.{Numbered};
+
+    ghost Value = { List Numbered };
+
+    ghost view = { λ s. elements_in s.tree };
+
+    ghost invariant = { λ s. IsWholeTree ⟦<AABB<[i64; 2]> as Envelope>⟧.boxes ⟦<Piece as RTreeObject>⟧.object
+        ⟦<DefaultParams as RTreeParams>⟧.MAX_SIZE s.tree };
+}
+
+impl Layout {
+    /// No piece. It takes no memory yet.
+    pub fn new(alloc: Global) -> Layout
+        ensures { result ≡ [] }
+    {
+        Layout {
+            tree: RTree::new(alloc),
+        }
+    }
+
+    /// One piece more. It is refused where memory is, or where one more cannot be counted: then it is handed back, and
+    /// the layout is as it was.
+    pub fn lay(&mut self, piece: Piece) -> Result<(), InsertError<Piece>>
+        requires filled { is_empty_box (box_of piece) ≡ false }
+        ensures laid { OnOk result (IsPermutation (piece ∷ self.old) self.new) }
+        ensures handed_back { IfErr result (λ refused. refused.element ≡ piece) }
+        ensures unchanged { OnErr result (self.new ≡ self.old) }
+    {
+        self.tree.insert(piece)
+    }
+
+    /// The pairs of pieces of two parts that lie over each other, each pair once, the lesser number first, in some order.
+    /// Touching is enough. It is refused where memory is.
+    pub fn overlaps(&self, alloc: Global) -> Result<Vec<(&Piece, &Piece)>, AllocError>
+        ensures { IfOk result (λ pairs. IsPermutation (map (λ pair. (pair.0.now, pair.1.now)) pairs.items)
+            (overlaps self.now)) }
+    {
+        met_in_order(alloc, &self.tree)
+    }
+}
+
+/// The pairs of elements of a tree that meet, the first of which has the lesser number.
+fn met_in_order<R: RTreeObject>(
+    alloc: Global,
+    tree: &RTree<GeomWithData<R, u64>>,
+) -> Result<Vec<Pair<'_, GeomWithData<R, u64>>>, AllocError>
+    requires { IsWholeTree R.Envelope.boxes ⟦<GeomWithData<R, u64> as RTreeObject>⟧.object
+        ⟦<DefaultParams as RTreeParams>⟧.MAX_SIZE tree.now }
+    ensures { IfOk result (λ pairs. IsPermutation (map (λ pair. (pair.0.now, pair.1.now)) pairs.items)
+        (filter (λ pair. R.Envelope.boxes.intersects (R.object.box_of pair.0.0) (R.object.box_of pair.1.0)
+        && nat_lt pair.0.1 pair.1.1) (product (elements_in tree.now) (elements_in tree.now)))) }
+{
+    match tree.intersection_candidates_with_other_tree(tree) {
+        Ok(met) => met
+            .filter(|&(one, other)| one.data < other.data)
+            .collect(alloc),
+        Err(refused) => Err(refused),
+    }
+}
+
+#[cfg(test)]
+mod tests {
+    use super::*;
+    use crate::uses::geofence::fence;
+
+    /// A piece's number and two corners.
+    type Row = (u64, [i64; 2], [i64; 2]);
+
+    /// Whether pairs have these numbers, in some order.
+    fn are(pairs: &[(&Piece, &Piece)], numbers: &[(u64, u64)]) -> bool {
+        for (one, other) in pairs {
+            if !numbers.contains(&(one.data, other.data)) {
+                return false;
+            }
+        }
+        pairs.len() == numbers.len()
+    }
+
+    /// Whether pieces, laid one after another, overlap so.
+    fn overlap(alloc: Global, list: &[Row], numbers: &[(u64, u64)]) -> bool {
+        let mut layout = Layout::new(alloc);
+        for &(number, one, other) in list {
+            if layout.lay(fence(number, one, other)).is_err() {
+                return false;
+            }
+        }
+        match &layout.overlaps(alloc) {
+            Ok(pairs) => are(pairs, numbers),
+            Err(_) => false,
+        }
+    }
+
+    // Parts that touch at a corner overlap, and each pair comes once, in whichever order its parts were laid; two pieces of one
+    // part do not, and both overlap another.
+    #[test]
+    fn parts_that_overlap(rt: HostRuntime) {
+        const DESK: Row = (1, [0, 0], [4, 2]);
+        const SHELF: Row = (2, [4, 2], [6, 9]);
+        const LAMP: Row = (3, [1, 1], [2, 2]);
+        const ROWS: [(&'static [Row], &'static [(u64, u64)]); 4] = [
+            (&[], &[]),
+            (&[LAMP, SHELF], &[]),
+            (&[LAMP, SHELF, DESK], &[(1, 3), (1, 2)]),
+            (&[DESK, DESK, LAMP], &[(1, 3), (1, 3)]),
+        ];
+        for &(list, numbers) in &ROWS {
+            assert!(rt; overlap(rt.alloc(), list, numbers));
+        }
+    }
+}
