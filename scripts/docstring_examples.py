@@ -5,8 +5,8 @@
 
 An example is what stands between two fences, and the line behind it names the file, as `*`crates/..`*`. Its lines must
 stand in that file, whitespace aside and in this order; a line `// ..` marks what is left out. It is copied from another
-file than the one it stands in: the text that an edit of must-fail/ or edits/ replaces has to stand once in a file. A
-piece of docs/CALLING.md names its file likewise; pieces that follow one another may share the name, and one piece may
+file than the one it stands in, where there is one: the text that an edit of must-fail/ or edits/ replaces has to stand
+once in a file. A piece of docs/CALLING.md names its file likewise; pieces that follow one another may share the name, and one piece may
 come from several files.
 
 It prints each example that does not stand so, each public type without one, and each edit whose text does not stand
@@ -28,9 +28,6 @@ LEFT_OUT = {
     "NodesRef": "its module is private",
     "Rest": "its module is private",
     "OrderedDistances": "a law alone, which no other file names",
-    "Parser": "no other file names it",
-    "PointLine": "no other file names it",
-    "Verb": "no other file names it",
 }
 
 TYPE = re.compile(r"\s*pub (?:struct|enum|trait|type) (\w+)")
@@ -45,12 +42,10 @@ class Example:
         self.lines = lines
         self.files = []
 
-    def fault(self, here=None):
+    def fault(self):
         """What is wrong with it; None where nothing is."""
         if not self.files:
             return "names no file"
-        if here in self.files:
-            return "is copied from the file that it stands in"
         text = []
         for name in self.files:
             if not (ROOT / name).is_file():
@@ -128,7 +123,7 @@ def main():
             for first, block, item in docstrings(path):
                 found = examples(place, block, first)
                 count += len(found)
-                faults += [f"{one.place}: {fault}" for one in found if (fault := one.fault(place))]
+                faults += [f"{one.place}: {fault}" for one in found if (fault := one.fault())]
                 if named := TYPE.match(item):
                     types += 1
                     if not found and named[1] not in LEFT_OUT:

@@ -65,6 +65,16 @@ pub enum Request {
 }
 
 /// The first word of a line.
+///
+/// ```rust
+/// match str::from_utf8(word).ok()? {
+///     // ..
+///     "size" => Some(Verb::Size),
+///     "load" => Some(Verb::Load),
+///     _ => None,
+/// }
+/// ```
+/// *`crates/rstar_run/src/command.rt`*
 #[derive(Clone, Copy, Debug, PartialEq, Eq)]
 pub enum Verb {
     Insert,
@@ -221,6 +231,14 @@ fn parse_rectangle(id: &[u8], x1: &[u8], y1: &[u8], x2: &[u8], y2: &[u8]) -> Opt
 }
 
 /// Reads the words of a line.
+///
+/// ```rust
+/// match Parser::new(text) {
+///     Some(parser) => parser.line(),
+///     None => Line::Bad,
+/// }
+/// ```
+/// *`crates/rstar_run/src/command.rt`*
 #[derive(Drop)]
 pub struct Parser<'a> {
     words: ArrayVec<&'a [u8], MOST_WORDS>,

@@ -15,6 +15,15 @@ use std::alloc::Global;
 use std::io::{Read, Write};
 
 /// What a line of a list of points is.
+///
+/// ```rust
+/// match words {
+///     [] => PointLine::Blank,
+///     // ..
+///     _ => PointLine::Bad,
+/// }
+/// ```
+/// *`crates/rstar_run/src/points.rt`*
 #[derive(Clone, Copy, Debug, PartialEq, Eq)]
 pub enum PointLine {
     Blank,
