@@ -1,5 +1,5 @@
 -- Equal rectangles with numbers, and lists of pairs of them.
-use Rattle.std.proofs.Common.{◌≡◌, ◌∙◌, ◌&&◌, ◌==◌, if◌then◌else◌, ℕ, ℤ, Bool, true, false, List, [], ◌∷◌, filter, refl, sym, ap, ap₂, arith, eqb-true, eq-eqb}
+use Rattle.std.proofs.Common.{◌≡◌, ◌∙◌, ◌&&◌, ◌==◌, if◌then◌else◌, ℕ, ℤ, Bool, true, false, List, [], ◌∷◌, filter, map, refl, sym, ap, ap₂, arith, eqb-true, eq-eqb}
 use Rattle.std.specs.Cmp.Lexicographic.{pointwise}
 use Rattle.std.specs.Cmp.Rules.{signed_items}
 use Rattle.std.specs.List.{Contains}
@@ -54,4 +54,13 @@ filter-twice {X} p q (x ∷ xs) = by (p x) (filter-twice p q xs)
         again : (c : Bool) → (if c then x ∷ filter q (filter p xs) else filter q (filter p xs)) ≡ (if c then x ∷ filter (λ y. p y && q y) xs else filter (λ y. p y && q y) xs)
         again true = ap (λ (ys : List X). x ∷ ys) e
         again false = e
+    by false e = e
+
+-- what passes a test of what is seen of it, seen
+pub filter-seen : {A B : Type 0} (seen : A → B) (p : B → Bool) (xs : List A) → map seen (filter (λ x. p (seen x)) xs) ≡ filter p (map seen xs)
+filter-seen seen p [] = refl
+filter-seen {A} {B} seen p (x ∷ xs) = by (p (seen x)) (filter-seen seen p xs)
+  where
+    by : (b : Bool) → map seen (filter (λ y. p (seen y)) xs) ≡ filter p (map seen xs) → map seen (if b then x ∷ filter (λ y. p (seen y)) xs else filter (λ y. p (seen y)) xs) ≡ (if b then seen x ∷ filter p (map seen xs) else filter p (map seen xs))
+    by true e = ap (λ (ys : List B). seen x ∷ ys) e
     by false e = e

@@ -39,57 +39,37 @@ pub(crate) fn gather<T: RTreeObject + Copy>(
     Ok(())
 }
 
-/// The elements below each child of a parent that is a parent itself, at most `levels` levels of parents down.
-fn parts_of<T: RTreeObject + Copy>(
-    alloc: Global,
-    parent: &ParentNode<T>,
-    levels: usize,
-) -> Result<Vec<Vec<T>>, AllocError> {
-    let mut parts = Vec::new(alloc);
-    for node in parent.children() {
-        if let RTreeNode::Parent(part) = node {
-            let mut own = Vec::new(alloc);
-            gather(part.children(), levels, &mut own)?;
-            parts.push(own)?;
-        }
+/// How many elements lie below some nodes, at most `levels` levels of parents down.
+fn count_below<T: RTreeObject>(nodes: &[RTreeNode<T>], levels: usize) -> usize {
+    let mut count = 0usize;
+    for node in nodes {
+        let own = match node {
+            RTreeNode::Leaf(_) => 1,
+            RTreeNode::Parent(parent) if 0 < levels => count_below(parent.children(), levels - 1),
+            RTreeNode::Parent(_) => 0,
+        };
+        count = count.saturating_add(own);
     }
-    Ok(parts)
+    count
 }
 
-/// Whether the elements of one list have no greater keys on an axis than those of another.
-fn is_below<T: RTreeObject>(axis: usize, one: &[T], other: &[T]) -> bool
-    requires { axis < T.Envelope.Point.DIMENSIONS }
-{
-    let mut greatest = None;
-    for element in one {
-        let key = element.envelope().axis_key(axis);
-        if greatest.is_none() || greatest < Some(key) {
-            greatest = Some(key);
-        }
-    }
-    for element in other {
-        if Some(element.envelope().axis_key(axis)) < greatest {
-            return false;
-        }
-    }
-    true
-}
-
-/// Whether there is an axis on which two lists of elements do not overlap but in equal keys.
-fn are_parted<T: RTreeObject>(one: &[T], other: &[T]) -> bool {
-    for axis in 0..<<T::Envelope as Envelope>::Point as Point>::DIMENSIONS {
-        if is_below(axis, one, other) || is_below(axis, other, one) {
+/// Whether there is an axis on which two boxes do not overlap but at a border.
+fn are_parted<P: Point>(one: &AABB<P>, other: &AABB<P>) -> bool {
+    for axis in 0..P::DIMENSIONS {
+        if one.upper().nth(axis) <= other.lower().nth(axis)
+            || other.upper().nth(axis) <= one.lower().nth(axis)
+        {
             return true;
         }
     }
     false
 }
 
-/// Whether any two of some lists of elements are parted.
-fn are_all_parted<T: RTreeObject>(parts: &[Vec<T>]) -> bool {
-    for k in 0..parts.len() {
+/// Whether the boxes of any two of some nodes are parted.
+fn are_all_parted<P: Point>(nodes: &[RTreeNode<P>]) -> bool {
+    for k in 0..nodes.len() {
         for before in 0..k {
-            if !are_parted(&parts[before], &parts[k]) {
+            if !are_parted(&nodes[before].envelope(), &nodes[k].envelope()) {
                 return false;
             }
         }
@@ -97,67 +77,53 @@ fn are_all_parted<T: RTreeObject>(parts: &[Vec<T>]) -> bool {
     true
 }
 
-/// Whether these parts of a parent with so many children are as a load cuts them: more than `wide` elements, at most
-/// half of them in each part, at most `most` parts, and any two of them parted.
-fn are_cut<T: RTreeObject>(parts: &[Vec<T>], children: usize, wide: usize, most: usize) -> bool {
-    let mut count = 0usize;
-    let mut longest = 0usize;
-    for own in parts {
-        count = count.saturating_add(own.len());
-        longest = longest.max(own.len());
-    }
-    wide < count
-        && longest <= count.div_ceil(2)
-        && parts.len() == children
-        && children <= most
-        && are_all_parted(parts)
-}
-
-/// Whether parents, so many levels above the lowest of them, are cut as a load cuts; `least` becomes the least number of
-/// children of a parent of leaves, where that is less.
-fn is_cut<T: RTreeObject + Copy>(
-    alloc: Global,
-    parent: &ParentNode<T>,
+/// Whether parents, so many levels above the lowest of them, are as a load cuts them: more than `wide` points below each, at
+/// most half of them below each child, at most `most` children, and any two of these parted. `least` becomes the least number
+/// of children of a parent of leaves, where that is less.
+fn is_cut<P: Point>(
+    parent: &ParentNode<P>,
     levels: usize,
     wide: usize,
     most: usize,
     least: &mut usize,
 ) -> bool {
+    let children = parent.children();
     if levels == 0 {
-        *least = (*least).min(parent.children().len());
+        *least = (*least).min(children.len());
         return true;
     }
-    for node in parent.children() {
+    let mut count = 0usize;
+    let mut longest = 0usize;
+    for node in children {
+        let RTreeNode::Parent(part) = node else {
+            return false;
+        };
+        if !is_cut(part, levels - 1, wide, most, least) {
+            return false;
+        }
+        let own = count_below(part.children(), levels - 1);
+        count = count.saturating_add(own);
+        longest = longest.max(own);
+    }
+    wide < count
+        && longest <= count.div_ceil(2)
+        && children.len() <= most
+        && are_all_parted(children)
+}
+
+/// Whether the children of a root, each a parent, have so many elements below them, in rising order.
+fn has_parts<T: RTreeObject>(alloc: Global, root: &ParentNode<T>, parts: &[usize]) -> bool {
+    let levels = levels_of(root);
+    let mut counts = Vec::new(alloc);
+    for node in root.children() {
         if let RTreeNode::Parent(part) = node {
-            if !is_cut(alloc, part, levels - 1, wide, most, least) {
+            if counts.push(count_below(part.children(), levels)).is_err() {
                 return false;
             }
         }
     }
-    match &parts_of(alloc, parent, levels - 1) {
-        Ok(parts) => are_cut(parts, parent.children().len(), wide, most),
-        Err(_) => false,
-    }
-}
-
-/// Whether some lists are so long, in rising order.
-fn are_so_long<V>(alloc: Global, lists: &[Vec<V>], lengths: &[usize]) -> bool {
-    let mut counts = Vec::new(alloc);
-    for list in lists {
-        if counts.push(list.len()).is_err() {
-            return false;
-        }
-    }
     counts.sort_unstable();
-    counts.as_slice() == lengths
-}
-
-/// Whether the children of a root have so many elements below them, in rising order.
-fn has_parts<T: RTreeObject + Copy>(alloc: Global, root: &ParentNode<T>, parts: &[usize]) -> bool {
-    match &parts_of(alloc, root, levels_of(root)) {
-        Ok(own) => are_so_long(alloc, own, parts),
-        Err(_) => false,
-    }
+    counts.as_slice() == parts
 }
 
 // ---- loads
@@ -174,26 +140,26 @@ pub(crate) fn are_same<V: Ord + Copy>(alloc: Global, list: &mut Vec<V>, items: &
     }
 }
 
-/// Whether a load of these elements has them all, and is loaded; and whether it takes more of them, one after another,
-/// and stands after each.
-fn loads_well<T: EqualEnvelopes + Copy + Ord, Params: RTreeParams>(
+/// Whether a load of these points has them all, and is loaded; and whether it takes more of them, one after another, and
+/// stands after each.
+fn loads_well<P: Point + Copy + Ord, Params: RTreeParams>(
     alloc: Global,
-    elements: &[T],
+    points: &[P],
     most: usize,
-    more: &[T],
+    more: &[P],
 ) -> bool
-    requires { 2 ≤ T.Envelope.Point.DIMENSIONS }
+    requires { 2 ≤ P.DIMENSIONS }
 {
-    let tree: &mut RTree<T, Params> = &mut loaded(alloc, elements);
+    let tree: &mut RTree<P, Params> = &mut loaded(alloc, points);
     let root = tree.root();
     let levels = levels_of(root);
     let mut least = usize::MAX;
     let mut all = Vec::new(alloc);
-    tree.size() == elements.len()
+    tree.size() == points.len()
         && stands(&*tree)
         && gather(root.children(), levels, &mut all).is_ok()
-        && are_same(alloc, &mut all, elements)
-        && is_cut(alloc, root, levels, Params::MAX_SIZE, most, &mut least)
+        && are_same(alloc, &mut all, points)
+        && is_cut(root, levels, Params::MAX_SIZE, most, &mut least)
         && least <= Params::MAX_SIZE
         && all_go_in(tree, more, 1, usize::MAX)
 }
@@ -315,18 +281,18 @@ const OF_FOUR_AXES: [[i32; 4]; 40] = [
 
 const EQUAL: [[i32; 2]; 300] = [[0, 1]; 300];
 
-/// Whether loads of elements of two axes, and of equal ones, are as they should be, in nodes of either size.
-fn loads_well_at_both_sizes<T: EqualEnvelopes + Copy + Ord>(
+/// Whether loads of points of two axes, and of equal ones, are as they should be, in nodes of either size.
+fn loads_well_at_both_sizes<P: Point + Copy + Ord>(
     alloc: Global,
-    elements: &[T],
-    same: &[T],
-    more: &[T],
+    points: &[P],
+    same: &[P],
+    more: &[P],
 ) -> bool
-    requires { 2 ≤ T.Envelope.Point.DIMENSIONS }
+    requires { 2 ≤ P.DIMENSIONS }
 {
-    loads_well::<T, DefaultParams>(alloc, elements, 6, more)
-        && loads_well::<T, DefaultParams>(alloc, same, 6, more)
-        && loads_well::<T, Small>(alloc, elements, 4, &[])
+    loads_well::<P, DefaultParams>(alloc, points, 6, more)
+        && loads_well::<P, DefaultParams>(alloc, same, 6, more)
+        && loads_well::<P, Small>(alloc, points, 4, &[])
 }
 
 // From none to 300 and some larger counts, of points and equal points; a load of 25 has a parent of leaves that is too
@@ -355,7 +321,7 @@ fn loads_of_many_sizes_are_loaded_and_take_insertions(rt: HostRuntime) {
 }
 
 /// Whether each child of a root has its elements in such parts.
-fn children_have_parts<T: RTreeObject + Copy>(
+fn children_have_parts<T: RTreeObject>(
     alloc: Global,
     root: &ParentNode<T>,
     parts: &[usize],
@@ -377,7 +343,7 @@ fn children_have_parts<T: RTreeObject + Copy>(
 type Parts<'a> = (usize, &'a [usize], &'a [usize]);
 
 /// Whether a tree stands, and has so many elements, in such parts; asked once more where memory for the parts is refused.
-fn is_in_parts<T: RTreeObject + Copy>(
+fn is_in_parts<T: RTreeObject>(
     alloc: Global,
     tree: &RTree<T>,
     count: usize,
@@ -425,7 +391,7 @@ fn load_is_in_parts<T: RTreeObject + Copy>(alloc: Global, elements: &[T], parts:
 }
 
 /// Whether the root of a load, made by itself, has so many elements below each child; no elements make no root.
-fn root_has_parts<T: RTreeObject + Copy>(alloc: Global, elements: Vec<T>, parts: &[usize]) -> bool
+fn root_has_parts<T: RTreeObject>(alloc: Global, elements: Vec<T>, parts: &[usize]) -> bool
     requires { 2 ≤ T.Envelope.Point.DIMENSIONS }
 {
     if elements.is_empty() || !none_empty(&elements) {

@@ -2,7 +2,6 @@
 
 ghost use Rattle.std.specs.Prelude.{◌≡◌, min, map, filter, true, pos, int_le, IfOk, IsTrue, not};
 ghost use Rattle.std.specs.List.{list_any};
-ghost use Rattle.rstar.specs.Boxes.{contains_box, boxes_intersect};
 ghost use Rattle.rstar.specs.Nodes.{reach_of};
 ghost use Rattle.rstar.specs.Points.{table};
 ghost use Rattle.rstar.specs.Selections.{to_come, reach_by, IsWalking};
@@ -55,19 +54,6 @@ pub(crate) fn all_of<'a, T: RTreeObject>(
     }
 }
 
-/// All points.
-pub fn all_points<'a>(
-    alloc: Global,
-    tree: &'a RTree<[i64; 2]>,
-) -> Result<Walked<'a, [i64; 2]>, AllocError>
-    requires { IsWholeTree ⟦<AABB<[i64; 2]> as Envelope>⟧.boxes ⟦<[i64; 2] as RTreeObject>⟧.object
-        ⟦<DefaultParams as RTreeParams>⟧.MAX_SIZE tree.now }
-    ensures given { IfOk result (λ r. map (λ t. t.now) r.0.items ≡ elements_in tree.now) }
-    ensures opened { IfOk result (λ r. r.1 ≡ min (reach_of (λ e. true) (root_of tree.now)) usize.MAX) }
-{
-    all_of(alloc, tree)
-}
-
 /// The elements in an envelope, by `locate_in_envelope`.
 pub(crate) fn inside<'a, T: RTreeObject>(
     alloc: Global,
@@ -83,21 +69,6 @@ pub(crate) fn inside<'a, T: RTreeObject>(
         Ok(walk) => walked(alloc, walk),
         Err(refused) => Err(refused),
     }
-}
-
-/// The points in a box.
-pub fn points_inside<'a>(
-    alloc: Global,
-    tree: &'a RTree<[i64; 2]>,
-    area: AABB<[i64; 2]>,
-) -> Result<Walked<'a, [i64; 2]>, AllocError>
-    requires { IsWholeTree ⟦<AABB<[i64; 2]> as Envelope>⟧.boxes ⟦<[i64; 2] as RTreeObject>⟧.object
-        ⟦<DefaultParams as RTreeParams>⟧.MAX_SIZE tree.now }
-    ensures given { IfOk result (λ r. map (λ t. t.now) r.0.items ≡ filter
-        (λ t. contains_box area (⟦<[i64; 2] as RTreeObject>⟧.object.box_of t)) (elements_in tree.now)) }
-    ensures opened { IfOk result (λ r. r.1 ≡ min (reach_of (λ e. boxes_intersect area e) (root_of tree.now)) usize.MAX) }
-{
-    inside(alloc, tree, area)
 }
 
 /// The elements within a squared distance of a point, by `locate_within_distance`.
@@ -119,24 +90,6 @@ fn near<'a, T: PointDistance>(
         Ok(walk) => walked(alloc, walk),
         Err(refused) => Err(refused),
     }
-}
-
-/// The points within a distance of 10 of a point.
-pub fn points_near<'a>(
-    alloc: Global,
-    tree: &'a RTree<[i64; 2]>,
-    point: [i64; 2],
-) -> Result<Walked<'a, [i64; 2]>, AllocError>
-    requires { IsWholeTree ⟦<AABB<[i64; 2]> as Envelope>⟧.boxes ⟦<[i64; 2] as RTreeObject>⟧.object
-        ⟦<DefaultParams as RTreeParams>⟧.MAX_SIZE tree.now }
-    ensures given { IfOk result (λ r. map (λ t. t.now) r.0.items ≡ filter
-        (λ t. int_le (pos (⟦<[i64; 2] as PointDistance>⟧.distances.distance_2 t
-        (table 2 (⟦<[i64; 2] as Point>⟧.coord point)))) (pos 100)) (elements_in tree.now)) }
-    ensures opened { IfOk result (λ r. r.1 ≡ min (reach_of (λ e. int_le
-        (pos (⟦<AABB<[i64; 2]> as Envelope>⟧.boxes.distance_2 e
-        (table 2 (⟦<[i64; 2] as Point>⟧.coord point)))) (pos 100)) (root_of tree.now)) usize.MAX) }
-{
-    near(alloc, tree, point, 100)
 }
 
 /// The elements that an envelope touches, by `locate_in_envelope_intersecting`.

@@ -80,15 +80,6 @@ fn point_selected(tree: &RTree<At>, point: At) -> Option<&At>
     first_selected(tree, point)
 }
 
-/// The first point below a root at a place.
-fn point_below(root: &ParentNode<At>, point: At) -> Option<&At>
-    requires { IsWhole ⟦<AABB<[i64; 2]> as Envelope>⟧.boxes ⟦<[i64; 2] as RTreeObject>⟧.object root.now }
-    ensures { IsFirst (filter (λ t. ⟦<[i64; 2] as PointDistance>⟧.distances.contains_point t
-        (table 2 (⟦<[i64; 2] as Point>⟧.coord point))) (elements_of root.now)) result }
-{
-    first_below(root, point)
-}
-
 #[cfg(test)]
 mod tests {
     use super::*;

@@ -43,10 +43,10 @@ fn given<A>(walked: &Result<(Vec<A>, usize), AllocError>) -> Option<usize> {
     }
 }
 
-/// How many elements a question gives, none where it is refused: the five of `selected`, all pairs of a join of the tree
-/// with itself, and the elements of a clone; and by each call for neighbours all that are asked for, where these lie at such
-/// squared distances.
-fn counted<T: PointDistance + Ord + Copy>(
+/// How many elements a question to a tree gives, none where it is refused: the five of `selected`, all pairs of a join of the
+/// tree with itself, and the elements of a clone; and by each call for neighbours all that are asked for, where these lie at
+/// such squared distances.
+fn told<T: PointDistance + Ord + Copy>(
     alloc: Global,
     tree: &RTree<T>,
     question: usize,
@@ -75,11 +75,70 @@ where
     }
 }
 
-/// Whether a question gives so many, at once or, where it was refused and the tree shows the same, once more.
+/// Whether a drain is made: of all, of those in an envelope, of those that it touches, of those near a point, and of all by
+/// a function.
+fn is_made<T: PointDistance>(
+    tree: &mut RTree<T>,
+    drain: usize,
+    area: T::Envelope,
+    point: PointOf<T>,
+    limit: Distance<T>,
+) -> bool
+    requires { IsWholeTree T.Envelope.boxes T.object ⟦<DefaultParams as RTreeParams>⟧.MAX_SIZE tree.old }
+    ensures { IsWholeTree T.Envelope.boxes T.object ⟦<DefaultParams as RTreeParams>⟧.MAX_SIZE tree.new }
+{
+    match drain {
+        0 => tree.drain().is_ok(),
+        1 => tree.drain_in_envelope(area).is_ok(),
+        2 => tree.drain_in_envelope_intersecting(area).is_ok(),
+        3 => tree.drain_within_distance(point, limit).is_ok(),
+        _ => tree.drain_with_selection_function(SelectAllFunc).is_ok(),
+    }
+}
+
+/// The first of the calls that take an element out.
+const POPS: usize = 14;
+
+/// The same of each call: those questions, each drain that is made and never called, and two that take one element out, a
+/// nearest neighbour and the first in the stated order.
+fn counted<T: PointDistance + Ord + Copy>(
+    alloc: Global,
+    tree: &mut RTree<T>,
+    call: usize,
+    asked: &Asked<T>,
+    distances: &[Distance<T>],
+) -> Option<usize>
+where
+    T::Envelope: Copy,
+    PointOf<T>: Copy,
+    requires narrow { IsNarrow T.Envelope.Point.row }
+    requires whole { IsWholeTree T.Envelope.boxes T.object ⟦<DefaultParams as RTreeParams>⟧.MAX_SIZE tree.old }
+    ensures { IsWholeTree T.Envelope.boxes T.object ⟦<DefaultParams as RTreeParams>⟧.MAX_SIZE tree.new }
+{
+    if call < 9 {
+        return told(alloc, &*tree, call, asked, distances);
+    }
+    if call < POPS {
+        let is_made = is_made(tree, call - 9, asked.0, asked.1, asked.2);
+        return if is_made { Some(0) } else { None };
+    }
+    let popped = if call == POPS {
+        tree.pop_nearest_neighbor(asked.1)
+    } else {
+        tree.pop_nearest_neighbor_by_order(asked.1)
+    };
+    match popped {
+        Ok(found) => Some(usize::from(found.is_some())),
+        Err(_) => None,
+    }
+}
+
+/// Whether a call gives so many, at once or, where it was refused and the tree shows the same, once more; and the tree then
+/// shows the same, or has one element less.
 fn is_answered<T: PointDistance + Ord + Copy + Debug>(
     alloc: Global,
-    tree: &RTree<T>,
-    question: usize,
+    tree: &mut RTree<T>,
+    call: usize,
     asked: &Asked<T>,
     distances: &[Distance<T>],
     wanted: usize,
@@ -88,20 +147,23 @@ where
     T::Envelope: Copy,
     PointOf<T>: Copy,
     requires narrow { IsNarrow T.Envelope.Point.row }
-    requires whole { IsWholeTree T.Envelope.boxes T.object ⟦<DefaultParams as RTreeParams>⟧.MAX_SIZE tree.now }
+    requires whole { IsWholeTree T.Envelope.boxes T.object ⟦<DefaultParams as RTreeParams>⟧.MAX_SIZE tree.old }
+    ensures { IsWholeTree T.Envelope.boxes T.object ⟦<DefaultParams as RTreeParams>⟧.MAX_SIZE tree.new }
 {
     let before = &shown(alloc, tree.root());
-    let count = tree.size();
+    let left = tree.size().saturating_sub(usize::from(POPS <= call));
     let is_begun = is_marked(alloc);
-    let first = counted(alloc, tree, question, asked, distances);
+    let first = counted(alloc, tree, call, asked, distances);
     let is_ended = is_marked(alloc);
+    let is_right = first == Some(wanted)
+        || first.is_none()
+            && shows_again(alloc, &*tree, before)
+            && counted(alloc, tree, call, asked, distances) == Some(wanted);
     is_begun
         && is_ended
-        && (first == Some(wanted)
-            || first.is_none()
-                && tree.size() == count
-                && shows_again(alloc, tree, before)
-                && counted(alloc, tree, question, asked, distances) == Some(wanted))
+        && is_right
+        && tree.size() == left
+        && (POPS <= call || shows_again(alloc, &*tree, before))
 }
 
 /// Whether a tree shows the text that was noted of it.
@@ -114,41 +176,6 @@ fn shows_again<T: RTreeObject + Debug, Params: RTreeParams>(
         Ok(text) => shows(alloc, tree.root(), text.as_str()),
         Err(_) => false,
     }
-}
-
-/// Whether each question to a load of these elements gives as many as told, once more where it is refused.
-fn are_answered<T: PointDistance + Ord + Copy + Debug>(
-    alloc: Global,
-    elements: &[T],
-    asked: &Asked<T>,
-    counts: &[usize],
-) -> bool
-where
-    T::Envelope: Copy,
-    PointOf<T>: Copy,
-    requires narrow { IsNarrow T.Envelope.Point.row }
-    requires dimensions { 2 ≤ T.Envelope.Point.DIMENSIONS }
-{
-    let tree = loaded::<T, DefaultParams>(alloc, elements);
-    let Ok(distances) = scanned(alloc, elements, &asked.1) else {
-        return false;
-    };
-    for question in 0..counts.len() {
-        if !is_answered(alloc, &tree, question, asked, &distances, counts[question]) {
-            return false;
-        }
-    }
-    tree.size() == elements.len()
-}
-
-// Of 28 points, in two levels of parents below the root: all, those in a box, those that it touches, those at a point, those
-// within a distance, the pairs of the tree with itself, a clone, by each call for neighbours all of them, or those that are
-// nearest, and all in the stated order.
-#[test]
-fn questions_that_are_refused(rt: HostRuntime) {
-    let asked = (AABB::from_corners([0, 0], [50, 50]), [0, 0], 2500);
-    let counts = [28, 7, 7, 1, 7, 28, 28, 28, 28];
-    assert!(rt; are_answered(rt.alloc(), &points(rt.alloc(), 28), &asked, &counts));
 }
 
 /// Whether an element goes into a tree, at once or, where it was refused for want of memory, was handed back and the tree
@@ -218,95 +245,6 @@ fn insertions_and_loads_that_are_refused(rt: HostRuntime) {
     }
 }
 
-/// Whether a drain is made: of all, of those in an envelope, of those that it touches, of those near a point, and of all by
-/// a function.
-fn is_made<T: PointDistance>(
-    tree: &mut RTree<T>,
-    drain: usize,
-    area: T::Envelope,
-    point: PointOf<T>,
-    limit: Distance<T>,
-) -> bool
-    requires { IsWholeTree T.Envelope.boxes T.object ⟦<DefaultParams as RTreeParams>⟧.MAX_SIZE tree.old }
-    ensures { IsWholeTree T.Envelope.boxes T.object ⟦<DefaultParams as RTreeParams>⟧.MAX_SIZE tree.new }
-{
-    match drain {
-        0 => tree.drain().is_ok(),
-        1 => tree.drain_in_envelope(area).is_ok(),
-        2 => tree.drain_in_envelope_intersecting(area).is_ok(),
-        3 => tree.drain_within_distance(point, limit).is_ok(),
-        _ => tree.drain_with_selection_function(SelectAllFunc).is_ok(),
-    }
-}
-
-/// Whether a drain is made, at once or once more, and leaves the tree where no `next` was asked for, made or refused.
-fn is_made_again<T: PointDistance + Debug>(
-    alloc: Global,
-    tree: &mut RTree<T>,
-    drain: usize,
-    asked: &Asked<T>,
-) -> bool
-where
-    T::Envelope: Copy,
-    PointOf<T>: Copy,
-    requires { IsWholeTree T.Envelope.boxes T.object ⟦<DefaultParams as RTreeParams>⟧.MAX_SIZE tree.old }
-    ensures { IsWholeTree T.Envelope.boxes T.object ⟦<DefaultParams as RTreeParams>⟧.MAX_SIZE tree.new }
-{
-    let before = &shown(alloc, tree.root());
-    let count = tree.size();
-    let is_begun = is_marked(alloc);
-    let is_first = is_made(tree, drain, asked.0, asked.1, asked.2);
-    let is_ended = is_marked(alloc);
-    is_begun
-        && is_ended
-        && tree.size() == count
-        && shows_again(alloc, &*tree, before)
-        && (is_first || is_made(tree, drain, asked.0, asked.1, asked.2))
-}
-
-/// Takes a nearest neighbour out, or the first in the stated order.
-fn pop<T: PointDistance + Ord>(
-    tree: &mut RTree<T>,
-    place: PointOf<T>,
-    by_order: bool,
-) -> Result<Option<T>, AllocError>
-    requires { IsWholeTree T.Envelope.boxes T.object ⟦<DefaultParams as RTreeParams>⟧.MAX_SIZE tree.old }
-    ensures { IsWholeTree T.Envelope.boxes T.object ⟦<DefaultParams as RTreeParams>⟧.MAX_SIZE tree.new }
-{
-    if by_order {
-        tree.pop_nearest_neighbor_by_order(place)
-    } else {
-        tree.pop_nearest_neighbor(place)
-    }
-}
-
-/// Whether a neighbour is popped, at once or, where it was refused and the tree shows the same, once more.
-fn is_popped<T: PointDistance + Ord + Debug>(
-    alloc: Global,
-    tree: &mut RTree<T>,
-    place: PointOf<T>,
-    by_order: bool,
-) -> bool
-where
-    PointOf<T>: Copy,
-    requires { IsWholeTree T.Envelope.boxes T.object ⟦<DefaultParams as RTreeParams>⟧.MAX_SIZE tree.old }
-    ensures { IsWholeTree T.Envelope.boxes T.object ⟦<DefaultParams as RTreeParams>⟧.MAX_SIZE tree.new }
-{
-    let before = &shown(alloc, tree.root());
-    let count = tree.size();
-    let is_begun = is_marked(alloc);
-    let first = pop(tree, place, by_order);
-    let is_ended = is_marked(alloc);
-    let is_out = match first {
-        Ok(found) => found.is_some(),
-        Err(_) => {
-            let is_same = tree.size() == count && shows_again(alloc, &*tree, before);
-            matches!(pop(tree, place, by_order), Ok(Some(_))) && is_same
-        }
-    };
-    is_begun && is_ended && is_out && tree.size().saturating_add(1) == count
-}
-
 /// Whether a tree is taken apart into so many elements, at once or, where it was refused and is handed back as it was, once
 /// more.
 fn is_taken_apart<T: RTreeObject + Debug>(alloc: Global, tree: RTree<T>, count: usize) -> bool
@@ -337,35 +275,40 @@ fn is_taken_apart<T: RTreeObject + Debug>(alloc: Global, tree: RTree<T>, count: 
         }
 }
 
-/// Whether a load of these elements makes each drain, pops one, and the first in the stated order, and is taken apart, once
-/// more where that is refused.
-fn change<T: PointDistance + Ord + Copy + Debug>(
+/// Whether each call gives as many of a load of these elements as told, once more where it is refused, and the load is then
+/// taken apart.
+fn are_answered<T: PointDistance + Ord + Copy + Debug>(
     alloc: Global,
     elements: &[T],
     asked: &Asked<T>,
+    counts: &[usize],
 ) -> bool
 where
     T::Envelope: Copy,
     PointOf<T>: Copy,
-    requires { 2 ≤ T.Envelope.Point.DIMENSIONS }
+    requires narrow { IsNarrow T.Envelope.Point.row }
+    requires dimensions { 2 ≤ T.Envelope.Point.DIMENSIONS }
 {
     let mut tree = loaded::<T, DefaultParams>(alloc, elements);
-    for drain in 0..5usize {
-        if !is_made_again(alloc, &mut tree, drain, asked) {
+    let Ok(distances) = scanned(alloc, elements, &asked.1) else {
+        return false;
+    };
+    for call in 0..counts.len() {
+        if !is_answered(alloc, &mut tree, call, asked, &distances, counts[call]) {
             return false;
         }
     }
-    is_popped(alloc, &mut tree, asked.1, false)
-        && is_popped(alloc, &mut tree, asked.1, true)
-        && stands(&tree)
-        && is_taken_apart(alloc, tree, elements.len().saturating_sub(2))
+    stands(&tree) && is_taken_apart(alloc, tree, elements.len().saturating_sub(2))
 }
 
-// The same 28 points.
+// Of 28 points, in two levels of parents below the root: all, those in a box, those that it touches, those at a point, those
+// within a distance, the pairs of the tree with itself, a clone, by each call for neighbours all of them, or those that are
+// nearest, and all in the stated order; then the five drains are made, and two points are popped.
 #[test]
-fn changes_that_are_refused(rt: HostRuntime) {
+fn calls_that_are_refused(rt: HostRuntime) {
     let asked = (AABB::from_corners([0, 0], [50, 50]), [0, 0], 2500);
-    assert!(rt; change(rt.alloc(), &points(rt.alloc(), 28), &asked));
+    let counts = [28, 7, 7, 1, 7, 28, 28, 28, 28, 0, 0, 0, 0, 0, 1, 1];
+    assert!(rt; are_answered(rt.alloc(), &points(rt.alloc(), 28), &asked, &counts));
 }
 
 /// Whether an iterator over neighbours in a load of these elements, in nodes of ten to forty, gives all, or is refused once

@@ -1,16 +1,14 @@
 //! Visits that write: elements with payloads, each written in its place.
 
 ghost use Rattle.std.specs.Prelude.{◌≡◌, ◌≤◌, if◌then◌else◌, map};
-ghost use Rattle.rstar.specs.Boxes.{boxes_intersect};
 ghost use Rattle.rstar.specs.Nodes.{elements_of, IsWhole};
 ghost use Rattle.rstar.specs.Trees.{elements_in, HasSameOutline, IsWholeTree};
 
-use crate::uses::geofence::Fence;
 use rstar::algorithm::selection_functions::SelectInEnvelopeFuncIntersecting;
 use rstar::iterators::select_nodes_mut;
 use rstar::node::ParentNode;
 use rstar::primitives::GeomWithData;
-use rstar::{AABB, DefaultParams, Envelope, RTree, RTreeObject, RTreeParams};
+use rstar::{DefaultParams, Envelope, RTree, RTreeObject, RTreeParams};
 use std::ops::ControlFlow;
 
 /// Gives the number 0 to all elements that an envelope touches, and changes nothing else.
@@ -52,21 +50,12 @@ fn clear_below<R: RTreeObject>(root: &mut ParentNode<GeomWithData<R, u64>>, area
     );
 }
 
-/// The same of fences, below such a root.
-pub fn clear_fences_below(root: &mut ParentNode<Fence>, area: AABB<[i64; 2]>)
-    requires { IsWhole ⟦<AABB<[i64; 2]> as Envelope>⟧.boxes ⟦<Fence as RTreeObject>⟧.object root.old }
-    ensures cleared { elements_of root.new
-        ≡ map (λ fence. if boxes_intersect area (⟦<Fence as RTreeObject>⟧.object.box_of fence)
-        then (fence.0, 0) else fence) (elements_of root.old) }
-    ensures whole { IsWhole ⟦<AABB<[i64; 2]> as Envelope>⟧.boxes ⟦<Fence as RTreeObject>⟧.object root.new }
-{
-    clear_below(root, area);
-}
-
 #[cfg(test)]
 mod tests {
     use super::*;
     use crate::scenarios::{fences, inserted};
+    use crate::uses::geofence::Fence;
+    use rstar::AABB;
     use rstar::algorithm::bulk_load::{bulk_load_sequential, none_empty};
     use rstar::algorithm::selection_functions::SelectAllFunc;
     use rstar::iterators::select_nodes;

@@ -84,12 +84,10 @@ fn met_in_order<R: RTreeObject>(
         (filter (λ pair. R.Envelope.boxes.intersects (R.object.box_of pair.0.0) (R.object.box_of pair.1.0)
         && nat_lt pair.0.1 pair.1.1) (product (elements_in tree.now) (elements_in tree.now)))) }
 {
-    match tree.intersection_candidates_with_other_tree(tree) {
-        Ok(met) => met
-            .filter(|&(one, other)| one.data < other.data)
-            .collect(alloc),
-        Err(refused) => Err(refused),
-    }
+    let met = tree.intersection_candidates_with_other_tree(tree)?;
+    let mut pairs: Vec<Pair<'_, GeomWithData<R, u64>>> = met.collect(alloc)?;
+    pairs.retain(|&(one, other)| one.data < other.data);
+    Ok(pairs)
 }
 
 #[cfg(test)]
