@@ -1,11 +1,12 @@
 -- Words of another number than a command takes.
-use Rattle.std.proofs.Common.{◌≡◌, ◌≢◌, ◌<◌, ℕ, List, [], ◌∷◌, length, map, refl, ap, Option, None, Some, Bor, Bool, true, false, subst, sym, rules, arith, codes}
+use Rattle.std.proofs.Common.{◌≡◌, ◌≢◌, ◌∙◌, ◌<◌, ℕ, List, [], ◌∷◌, length, get_or, map, drop, ℤ, refl, ap, Option, None, Some, Bor, Bool, true, false, subst, sym, rules, arith, codes, w64, to_z, of_z, to_z-of_z}
 use Rattle.std.specs.Str.{IsUtf8, bytes_eq}
 use Rattle.std.proofs.lemmas.Str.{IsUtf8-from_ascii}
 use Rattle.std.proofs.lemmas.List.{length-map}
 use Rattle.std.proofs.lemmas.Slice.Eq.{bytes_eq-Decides}
-use Rattle.rstar_run.specs.Numerals.{◌>>=◌}
-use Rattle.rstar_run.specs.Grammar.{command_of, drain_of, line_of, verb_of, known, entry_of}
+use Rattle.rstar_run.specs.Numerals.{◌>>=◌, unsigned_of, signed_of}
+use Rattle.rstar_run.proofs.Numerals.{signed_fits}
+use Rattle.rstar_run.specs.Grammar.{command_of, drain_of, line_of, verb_of, known, listed, point_of, corners_of, rectangle_of, entry_of}
 use Rattle.rstar_run.specs.declared.command.Corners.{Corners}
 use Rattle.rstar_run.specs.declared.command.Line.TheVariants as line
 use Rattle.rstar_run.specs.declared.command.Entry.TheVariants as entry
@@ -146,19 +147,27 @@ line_bad (w ∷ ws) h = bad (verb_of w) where
   bad None = refl
   bad (Some v) = ap known (command_none v ws (many v))
 
--- inside a load, words of another number than a rectangle has are bad
-entry_none_of : (ws : List (List ℕ)) → length ws ≢ 0 → length ws ≢ 5 → entry.Bad ≡ entry_of ws
-entry_none_of [] h k = absurd (h refl)
-entry_none_of (a ∷ []) h k = refl
-entry_none_of (a ∷ b ∷ []) h k = refl
-entry_none_of (a ∷ b ∷ c ∷ []) h k = refl
-entry_none_of (a ∷ b ∷ c ∷ d ∷ []) h k = refl
-entry_none_of (a ∷ b ∷ c ∷ d ∷ e ∷ []) h k = absurd (k refl)
-entry_none_of (a ∷ b ∷ c ∷ d ∷ e ∷ f ∷ ws) h k = refl
+-- a point that is made of two numbers
+pub point_taken : (first second : List ℕ) (x y : ℤ) → Some x ≡ signed_of first → Some y ≡ signed_of second → Some (to_z w64 (of_z w64 x) ∷ to_z w64 (of_z w64 y) ∷ []) ≡ point_of first second
+point_taken first second x y e f = rw (to_z-of_z (signed_fits first x e), to_z-of_z (signed_fits second y f)) (sym (rw (← e, ← f) refl))
 
--- the same of words that are lent
-pub entry_none : (ws : List (Bor (List ℕ))) → length ws ≢ 0 → length ws ≢ 5 → entry.Bad ≡ entry_of (map (λ word. word.now) ws)
-entry_none ws h k = entry_none_of (map (λ word. word.now) ws) (rw length-map h) (rw length-map k)
+-- the last of the words that corners are
+last_word : (x1 y1 x2 y2 : List ℕ) (corners : Corners) → Some corners ≡ corners_of x1 y1 x2 y2 → y2 ≢ []
+last_word x1 y1 x2 y2 corners e none = none_of (point_of x1 y1) (signed_of x2) (rw none at e) where
+  none_of : (p : Option (List ℤ)) (o : Option ℤ) → Some corners ≡ (p >>= λ one'. ((o >>= λ x'. None) >>= λ other'. Some (record { one = one'; other = other' }))) → ⊥
+  none_of None o e = absurd cc
+  none_of (Some one') None e = absurd cc
+  none_of (Some one') (Some z) e = absurd cc
 
-pub entry_bad : (ws : List (List ℕ)) → 8 < length ws → entry.Bad ≡ entry_of ws
-entry_bad ws h = entry_none_of ws (λ e. omega (arith, e, h)) (λ e. omega (arith, e, h))
+-- inside a load, the corners behind the ID are all that is left of the words
+five : (ws : List (List ℕ)) → get_or (drop 1 ws) 3 [] ≢ [] → drop 4 (drop 1 ws) ≡ []
+    → entry_of ws ≡ listed (rectangle_of (get_or ws 0 []) (get_or (drop 1 ws) 0 []) (get_or (drop 1 ws) 1 []) (get_or (drop 1 ws) 2 []) (get_or (drop 1 ws) 3 []))
+five (a ∷ b ∷ c ∷ d ∷ e ∷ []) some none = refl
+five (a ∷ b ∷ c ∷ d ∷ e ∷ f ∷ ws) some none = absurd cc
+five _ some none = absurd (some refl)
+
+pub entry_found : (ws : List (List ℕ)) (id : ℕ) (corners : Corners) (others : List (List ℕ)) → others ≡ drop 1 ws → Some id ≡ unsigned_of (get_or ws 0 [])
+    → Some corners ≡ corners_of (get_or others 0 []) (get_or others 1 []) (get_or others 2 []) (get_or others 3 []) → drop 4 others ≡ [] → entry.Rectangle id corners ≡ entry_of ws
+entry_found ws id corners others behind i p none =
+    let p' = rw behind at p in
+    sym (five ws (last_word (get_or (drop 1 ws) 0 []) (get_or (drop 1 ws) 1 []) (get_or (drop 1 ws) 2 []) (get_or (drop 1 ws) 3 []) corners p') (rw behind at none) ∙ rw (← i, ← p') refl)

@@ -1,6 +1,8 @@
 pub mod Numerals
 pub mod Ids
 pub mod Pieces
+pub mod Fronts
+pub mod Digits
 pub mod Commands
 pub mod Prints
 pub mod Reading

@@ -1,6 +1,6 @@
 -- Numbers that are read digit by digit.
-use Rattle.std.proofs.Common.{◌≡◌, ℕ, zero, suc, ◌+◌, ◌-◌, ◌*◌, ◌<◌, ◌≤◌, ◌^◌, Bool, true, false, List, [], ◌∷◌, length, get_or, take, refl, ◌∙◌, sym, ap, arith, Some, None, add-one, take_all}
-use Rattle.std.specs.Prelude.{◌&&◌, nat_lt, not, ◌==◌}
+use Rattle.std.proofs.Common.{◌≡◌, ℕ, zero, suc, ◌+◌, ◌-◌, ◌*◌, ◌<◌, ◌≤◌, ◌^◌, Bool, true, false, List, [], ◌∷◌, length, get_or, take, drop, cond, ℤ, w64, Option, subst, refl, ◌∙◌, sym, ap, arith, Some, None, add-one, take_all}
+use Rattle.std.specs.Prelude.{FitsSigned, nat_le, pos, neg_ℤ, ◌&&◌, nat_lt, not, ◌==◌}
 use Rattle.std.specs.Char.{is_ascii_digit, digit_value}
 use Rattle.std.specs.Str.{all_ascii_digits}
 use Rattle.std.specs.Str.Parse.{digits_value}
@@ -8,9 +8,9 @@ use Rattle.std.proofs.lemmas.Bool.Decides.{nat_tests}
 use Rattle.std.proofs.lemmas.Str.Parse.{digits_value-take-le}
 use Rattle.std.proofs.lemmas.Str.{digit_value_digit}
 use Rattle.std.proofs.lemmas.Int.Digits.{digits_value_more}
-use Rattle.rstar_run.specs.Numerals.{is_numeral, unsigned_of}
+use Rattle.rstar_run.specs.Numerals.{◌>>=◌, is_numeral, unsigned_of, signed_of, has_minus, negated, plain}
 
-and_false : (a : Bool) → (a && false) ≡ false
+pub and_false : (a : Bool) → (a && false) ≡ false
 and_false true = refl
 and_false false = refl
 
@@ -57,3 +57,20 @@ some-value bs i v all some e d small =
     let a : (length bs == 0) ≡ false = grind (arith, nat_tests) in
     let b : nat_lt v (2 ^ 64) ≡ true = grind (arith, nat_tests) in
     sym (rw (a, d', e', b) refl)
+
+-- a number that a word spells with a sign is one of 64 bits
+negated_fits : (n : ℕ) → n ≤ 2 ^ 63 → FitsSigned w64 (neg_ℤ (pos n))
+negated_fits zero h = omega arith
+negated_fits (suc n) h = omega arith
+
+pub signed_fits : (word : List ℕ) (z : ℤ) → Some z ≡ signed_of word → FitsSigned w64 z
+signed_fits word z e = by_sign (has_minus word) (unsigned_of (drop 1 word)) (unsigned_of word) e where
+  by_size : (b : Bool) (n : ℤ) → (b ≡ true → FitsSigned w64 n) → Some z ≡ cond b (Some n) None → FitsSigned w64 z
+  by_size true n fits e = let is : z ≡ n = cc in subst (λ (n : ℤ). FitsSigned w64 n) (sym is) (fits refl)
+  by_size false n fits e = absurd cc
+
+  by_sign : (b : Bool) (p q : Option ℕ) → Some z ≡ cond b (p >>= negated) (q >>= plain) → FitsSigned w64 z
+  by_sign true None q e = absurd cc
+  by_sign true (Some n) q e = by_size (nat_le n (2 ^ 63)) (neg_ℤ (pos n)) (λ t. negated_fits n (grind (arith, nat_tests))) e
+  by_sign false p None e = absurd cc
+  by_sign false p (Some n) e = by_size (nat_lt n (2 ^ 63)) (pos n) (λ t. grind (arith, nat_tests)) e

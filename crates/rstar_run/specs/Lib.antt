@@ -1,5 +1,6 @@
 pub mod Numerals
 pub mod Words
+pub mod Fronts
 pub mod Grammar
 pub mod Items
 pub mod Requests

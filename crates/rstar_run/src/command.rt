@@ -1,11 +1,13 @@
 //! What lines ask for.
 
-ghost use Rattle.std.specs.Prelude.{◌≡◌, ◌<◌, length, map, IfSome, IfNone};
-ghost use Rattle.rstar_run.specs.Grammar.{point_of, corners_of, rectangle_of, verb_of, drain_of, command_of, line_of, entry_of};
+ghost use Rattle.std.specs.Prelude.{◌≡◌, ◌≢◌, ◌<◌, [], length, map, drop, IfSome, IfNone};
+ghost use Rattle.std.specs.Option.{option_map};
+ghost use Rattle.rstar_run.specs.Fronts.{word_at};
+ghost use Rattle.rstar_run.specs.Grammar.{point_of, corners_of, verb_of, drain_of, command_of, line_of, entry_of};
 ghost use Rattle.rstar_run.specs.Words.{words_of};
 
-use super::number::{signed, unsigned};
-use super::words::{MOST_WORDS, words};
+use super::number::{signed, take_signed, take_unsigned, unsigned};
+use super::words::{MOST_WORDS, is_blank, words};
 use arrayvec::ArrayVec;
 
 /// Two opposite corners of a box, as a line gives them.
@@ -223,11 +225,38 @@ fn parse_command(verb: Verb, args: &[&[u8]]) -> Option<Line>
     }
 }
 
-/// A line of a load, by its words.
-fn parse_rectangle(id: &[u8], x1: &[u8], y1: &[u8], x2: &[u8], y2: &[u8]) -> Option<Entry>
-    ensures { result ≡ rectangle_of id.now x1.now y1.now x2.now y2.now }
+/// The point that the first two words of a text are, and what stands behind them.
+fn take_point(text: &[u8]) -> Option<([i64; 2], &[u8])>
+    ensures point { option_map (λ taken. taken.0) result ≡ point_of (word_at text.now 0) (word_at text.now 1) }
+    ensures rest { IfSome result (λ taken. words_of taken.1.now ≡ drop 2 (words_of text.now)) }
 {
-    Some(Entry::Rectangle(unsigned(id)?, parse_corners(x1, y1, x2, y2)?))
+    let (x, text) = take_signed(text)?;
+    let (y, text) = take_signed(text)?;
+    Some(([x, y], text))
+}
+
+/// The corners that the first four words of a text are, and what stands behind them.
+fn take_corners(text: &[u8]) -> Option<(Corners, &[u8])>
+    ensures corners { option_map (λ taken. taken.0) result ≡
+        corners_of (word_at text.now 0) (word_at text.now 1) (word_at text.now 2) (word_at text.now 3) }
+    ensures rest { IfSome result (λ taken. words_of taken.1.now ≡ drop 4 (words_of text.now)) }
+{
+    let (one, text) = take_point(text)?;
+    let (other, text) = take_point(text)?;
+    Some((Corners { one, other }, text))
+}
+
+/// The rectangle that a line of a load is, none where the line is blank or bad.
+fn parse_rectangle(text: &[u8]) -> Option<Entry>
+    ensures found { IfSome result (λ entry. entry ≡ entry_of (words_of text.now)) }
+    ensures none { IfNone result (words_of text.now ≢ [] → Entry.Bad ≡ entry_of (words_of text.now)) }
+{
+    let (id, text) = take_unsigned(text)?;
+    let (corners, text) = take_corners(text)?;
+    if !is_blank(text) {
+        return None;
+    }
+    Some(Entry::Rectangle(id, corners))
 }
 
 /// Reads the words of a line.
@@ -266,21 +295,6 @@ impl<'a> Parser<'a> {
             },
         }
     }
-
-    /// What the line is inside a load.
-    #[tactic(auto, using(crate::proofs::Commands::entry_none))]
-    pub fn entry(&self) -> Entry
-        ensures { result ≡ entry_of (map (λ word. word.now) self.now.words.items) }
-    {
-        match self.words.as_slice() {
-            [] => Entry::Blank,
-            [id, x1, y1, x2, y2] => match parse_rectangle(id, x1, y1, x2, y2) {
-                Some(entry) => entry,
-                None => Entry::Bad,
-            },
-            _ => Entry::Bad,
-        }
-    }
 }
 
 /// What a line is, without its end.
@@ -295,12 +309,12 @@ pub fn parse_line(text: &[u8]) -> Line
 }
 
 /// What a line inside a load is, without its end.
-#[tactic(auto, using(crate::proofs::Commands::entry_bad))]
 pub fn parse_entry(text: &[u8]) -> Entry
     ensures { result ≡ entry_of (words_of text.now) }
 {
-    match Parser::new(text) {
-        Some(parser) => parser.entry(),
+    match parse_rectangle(text) {
+        Some(entry) => entry,
+        None if is_blank(text) => Entry::Blank,
         None => Entry::Bad,
     }
 }

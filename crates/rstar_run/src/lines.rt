@@ -14,6 +14,9 @@ use memchr::memchr;
 use std::alloc::Global;
 use std::io::{BufRead, BufReader, Read};
 
+/// How many bytes are read ahead at most: enough that a long input takes few reads.
+const MOST_READ: usize = 65536;
+
 /// Reads lines into one buffer, and counts them.
 ///
 /// ```rust
@@ -36,7 +39,7 @@ impl<R: Read + Drop> Lines<R> {
         ensures number { IfOk result (λ lines. lines.number ≡ 0) }
         ensures stop { IfErr result (λ stop. stop ≡ Stop.Memory) }
     {
-        match BufReader::new(alloc, Source(input)) {
+        match BufReader::with_capacity(alloc, MOST_READ, Source(input)) {
             Ok(reader) => Ok(Lines {
                 reader,
                 line: Vec::new(alloc),

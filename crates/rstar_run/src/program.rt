@@ -24,6 +24,7 @@ pub use super::stored::{pack, unpack};
 use rstar::replay::Command;
 use std::alloc::{AllocError, AllocFailed, Global};
 use std::io::{Read, Write};
+use std::mem::forget;
 
 /// What one word asks for.
 fn mode_named(word: &str) -> Option<Mode>
@@ -205,20 +206,21 @@ fn answer_next<R: Read + Drop, W: Write>(
     }
 }
 
-/// Answers each line of the input.
+/// Answers each line of the input, over a store that has nothing in it yet.
 fn answer_all<R: Read + Drop, W: Write>(
     alloc: Global,
     input: R,
+    store: &mut Store,
     printer: &mut Printer,
     output: &mut W,
 ) -> Result<(), Stop>
+    requires { store.old ≡ [] }
     ensures { (said : List ℕ) × RunSays (R.remaining input) result said × Printed result (W.contents output.old)
         (W.contents output.new) printer.old.held.items said printer.new.held.items }
 {
     let mut lines = Lines::new(alloc, input)?;
-    let mut store = Store::new(alloc);
     for _ in 0..u64::MAX {
-        if !answer_next(alloc, &mut lines, &mut store, printer, output)? {
+        if !answer_next(alloc, &mut lines, store, printer, output)? {
             return Ok(());
         }
     }
@@ -298,7 +300,10 @@ pub fn run<R: Read + Drop, W: Write>(alloc: Global, input: R, output: &mut W) ->
     ensures { Ran (R.remaining input) (W.contents output.old) (W.contents output.new) result }
 {
     let mut printer = Printer::new();
-    let ended = answer_all(alloc, input, &mut printer, output);
+    let mut store = Store::new(alloc);
+    let ended = answer_all(alloc, input, &mut store, &mut printer, output);
+    // The program ends here, and its memory with it: a drop would only go to each node once more.
+    forget(store);
     match close(&mut printer, output, ended) {
         Ok(()) => status(ended),
         Err(_) => 4,

@@ -10,7 +10,7 @@ use std::io::{Error, ErrorKind, Read};
 /// Reads as `R` does, but that no failed read looks like a refused allocation.
 ///
 /// ```rust
-/// match BufReader::new(alloc, Source(input)) {
+/// match BufReader::with_capacity(alloc, MOST_READ, Source(input)) {
 ///     Ok(reader) => Ok(Lines {
 ///         reader,
 ///         line: Vec::new(alloc),

@@ -29,11 +29,7 @@ pub type Item = GeomWithData<Rectangle<[i64; 2]>, u64>;
 ///
 /// ```rust
 /// let mut store = Store::new(alloc);
-/// for _ in 0..u64::MAX {
-///     if !answer_next(alloc, &mut lines, &mut store, printer, output)? {
-///         return Ok(());
-///     }
-/// }
+/// let ended = answer_all(alloc, input, &mut store, &mut printer, output);
 /// ```
 /// *`crates/rstar_run/src/program.rt`*
 #[derive(Drop)]

@@ -34,7 +34,7 @@ fn expect_run(rt: &(impl AllocGlobal + Abort), input: &[u8], want: &str, status:
 
 #[test]
 fn answers_lines(rt: HostRuntime) {
-    let rows: [(&[u8], &str); 37] = [
+    let rows: [(&[u8], &str); 38] = [
         (b"", ""),
         (b"insert 7 0 0 2 2\nin 0 0 2 2\nsize\n", "ok\n7\n1\n"),
         // Equal rectangles and IDs count as often as they were inserted.
@@ -154,6 +154,11 @@ fn answers_lines(rt: HostRuntime) {
         (
             b"load 7\n7 0 0 0 0\n6 1 0 1 0\n5 2 0 2 0\n4 100 0 100 0\n3 101 0 101 0\n2 102 0 102 0\n1 103 0 103 0\nhit 0 0 200 0\nnear 0 0 4\ndrain in 0 0 2 2 9\nsize",
             "ok\n1 2 3 4 5 6 7\n7:0 6:1 5:4 4:10000\n5 6 7\n4\n",
+        ),
+        // Numbers at their limits, and more digits than those have.
+        (
+            b"load 2\n18446744073709551615 -9223372036854775808 -0 9223372036854775807 00\n  00000000000000000000000000000000010  -000000000000000000000000000000000009223372036854775808 0   0 0 \nin -9223372036854775808 0 9223372036854775807 0\n",
+            "ok\n10 18446744073709551615\n",
         ),
     ];
     for (input, want) in rows {
@@ -336,6 +341,19 @@ fn stops_at_a_bad_line(rt: HostRuntime) {
         (b"load 1\ninsert 1 0 0 1 1\n", "error: line 2\n"),
         (b"load 1\n1 0 0 1 1 1 1 1 1\n", "error: line 2\n"),
         (b"load 1\n-1 0 0 1 1\n", "error: line 2\n"),
+        (b"load 1\n1\n", "error: line 2\n"),
+        (b"load 1\n- 0 0 1 1\n", "error: line 2\n"),
+        (b"load 1\n+1 0 0 1 1\n", "error: line 2\n"),
+        (b"load 1\n1x 0 0 1 1\n", "error: line 2\n"),
+        (b"load 1\n1 - 0 1 1\n", "error: line 2\n"),
+        (b"load 1\n1 0 0 1 --1\n", "error: line 2\n"),
+        (b"load 1\n1 0 0 1 1-\n", "error: line 2\n"),
+        (b"load 1\n18446744073709551616 0 0 1 1\n", "error: line 2\n"),
+        (b"load 1\n99999999999999999999 0 0 1 1\n", "error: line 2\n"),
+        (b"load 1\n1 9223372036854775808 0 1 1\n", "error: line 2\n"),
+        (b"load 1\n1 0 0 1 -9223372036854775809\n", "error: line 2\n"),
+        (b"load 1\n1\t0 0 1 1\n", "error: line 2\n"),
+        (b"load 1\n1 0 0 1 1\r\r\n", "error: line 2\n"),
         (b"load 2\n1 0 0 1 1", "error: line 3\n"),
         (b"load 2\n1 0 0 1 1\n\n \n", "error: line 5\n"),
         (b"load 1", "error: line 2\n"),

@@ -1,6 +1,7 @@
 //! The words of a line.
 
-ghost use Rattle.std.specs.Prelude.{◌≡◌, ◌<◌, length, map, IfSome, IfNone};
+ghost use Rattle.std.specs.Prelude.{◌≡◌, ◌<◌, ◌↔◌, [], length, map, IsTrue, IfSome, IfNone};
+ghost use Rattle.rstar_run.specs.Fronts.{after_spaces};
 ghost use Rattle.rstar_run.specs.Words.{words_of, without_end};
 
 use arrayvec::ArrayVec;
@@ -16,6 +17,25 @@ pub fn without_end(line: &[u8]) -> &[u8]
         [text @ .., b'\r', b'\n'] | [text @ .., b'\n'] => text,
         text => text,
     }
+}
+
+/// A text without the spaces in front.
+pub fn after_spaces(text: &[u8]) -> &[u8]
+    ensures { result.now ≡ after_spaces text.now }
+{
+    let mut rest = text;
+    while let [b' ', tail @ ..] = rest {
+        rest = tail;
+    }
+    rest
+}
+
+/// Whether a text has no word.
+#[tactic(auto, using(crate::proofs::Fronts::blank))]
+pub fn is_blank(text: &[u8]) -> bool
+    ensures { IsTrue result ↔ (words_of text.now ≡ []) }
+{
+    after_spaces(text).is_empty()
 }
 
 /// What stands between the spaces of a line, where it is no more than a command can have.

@@ -13,8 +13,8 @@ returns-in_err-lines g c =
 
 pub loop-init : goal.loop-init
 loop-init g c =
-    reached_first (g.R.Read.remaining c.args.input) (bytes_left g.R.Read.remaining c.in_ok-lines.lines) c.in_ok-lines.lines.number c.new-store.result
-    (g.W.Write.contents c.args.output.now) c.args.printer.now.held.items c.in_ok-lines.ensures.left c.in_ok-lines.ensures.number c.new-store.ensures
+    reached_first (g.R.Read.remaining c.args.input) (bytes_left g.R.Read.remaining c.in_ok-lines.lines) c.in_ok-lines.lines.number c.args.store.now
+    (g.W.Write.contents c.args.output.now) c.args.printer.now.held.items c.in_ok-lines.ensures.left c.in_ok-lines.ensures.number c.requires
 
 pub returns-in_err-answer_next : goal.returns-in_err-answer_next
 returns-in_err-answer_next g c =
