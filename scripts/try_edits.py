@@ -27,6 +27,8 @@ TOLD = re.compile(r"^(?:note: )?(?P<path>\S+?):(?P<line>\d+):\d+:")
 # What a proof file says of a name that the edit took away, and what is said of a text that does not read.
 NAMES = re.compile(r"^(\./)?proofs/.*(has no field|is not in scope|has no `|was not admitted)")
 UNREAD = re.compile(r"is not in scope|has no field|is no name|operand is missing|expected the end|cannot continue")
+# A function that a check does not prove itself; of one that calls it a check says that it calls it.
+UNPROVED = re.compile(r"^fn (\S+): (?:not proved|no proof: expected answers)")
 # An error whose first word is no goal's name.
 NO_GOAL = re.compile(r"^\S+ error: [^`]")
 
@@ -73,10 +75,12 @@ def modules(file):
     return [part for part in Path(file).with_suffix("").parts[1:] if part not in ("lib", "main", "mod")]
 
 
-def is_within(parts, names):
-    """Whether the names stand among the parts, in this order."""
-    rest = iter(parts)
-    return all(name in rest for name in names)
+def is_of(parts, place):
+    """Whether a name in parts, as a check writes it, is that of an edited function: its own name last, and before it the
+    outermost module of its file. A method is named by the module of its type, which may be another file's."""
+    file, name = place
+    outer = modules(file)[:1]
+    return parts[-1:] == [name] and all(module in parts for module in outer)
 
 
 def check(crate):
@@ -105,18 +109,28 @@ def told_lines(said):
     return [line for line in said if TOLD.match(line) and (": error" in line or line.startswith("note: "))]
 
 
+def starts_of(text):
+    """The line on which each function of a text begins, its attributes included, and its name."""
+    rows = text.split("\n")
+    starts = []
+    for head in FUNCTION.finditer(text):
+        line = text.count("\n", 0, head.start(1)) + 1
+        while line > 1 and rows[line - 2].lstrip().startswith("#["):
+            line -= 1
+        starts.append((line, head.group(1)))
+    return starts
+
+
 def told_of(function, crate, said):
     """What a check says of one function: by the folder of its proofs, and by the lines of its body."""
     file, name = function
-    text = (crate / file).read_text()
-    starts = [(text.count("\n", 0, head.start(1)) + 1, head.group(1)) for head in FUNCTION.finditer(text)]
+    starts = starts_of((crate / file).read_text())
     own = []
     for line in told_lines(said):
         at = TOLD.match(line)
         path, number = at["path"].removeprefix("./"), int(at["line"])
         if path.startswith("proofs/"):
-            parts = [part.removeprefix("+") for part in Path(path).parts[1:]]
-            if is_within(parts, modules(file) + [name]):
+            if is_of([part.removeprefix("+") for part in Path(path).parts[1:-1]], function):
                 own.append(line)
         elif path == file:
             before = [head for start, head in starts if start <= number]
@@ -137,10 +151,9 @@ def try_batch(edits, home, copy):
     if len(edits) == 1:
         return {edits[0].name: verdict(status, said, told_lines(said))}
     verdicts = {}
-    refused = [line.split(": not proved")[0].split("::") for line in said if line.endswith(": not proved")]
+    refused = [found[1].split("::") for found in map(UNPROVED.match, said) if found]
     for edit in edits:
-        file, name = edit.place
-        if any(parts[-1] == name and is_within(parts, modules(file)) for parts in refused):
+        if any(is_of(parts, edit.place) for parts in refused):
             told = told_of(edit.place, copy, said)
             word = verdict(status, said, told)
             verdicts[edit.name] = word if told and word.startswith("refused") else None
@@ -150,7 +163,7 @@ def try_batch(edits, home, copy):
 
 
 def batches_of(edits, home):
-    """The edits in batches: no two of one function, nor of one file and name, in a batch."""
+    """The edits in batches: no two of functions with one name in a batch."""
     batches = []
     for edit in edits:
         edit.place = edit.function(home)
@@ -158,7 +171,7 @@ def batches_of(edits, home):
             batches.append([edit])
             continue
         for batch in batches:
-            if batch[0].place and len(batch) < BATCH and all(other.place != edit.place for other in batch):
+            if batch[0].place and len(batch) < BATCH and all(other.place[1] != edit.place[1] for other in batch):
                 batch.append(edit)
                 break
         else:
