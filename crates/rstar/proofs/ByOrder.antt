@@ -57,7 +57,7 @@ module _ {T : Type 0} (distance : T → ℕ) (order : T → T → Ordering) (t u
   answered : (o : Ordering) → o ≡ nat_cmp (distance u) (distance t) → is_lt (ordering_then o (order u t)) ≡ false → IsNotLater distance order t u
   answered o e h = subst (λ r. is_lt (ordering_then r (order u t)) ≡ false) e h
 
-  later-far : distance t < distance u → IsNotLater distance order t u
+  pub later-far : distance t < distance u → IsNotLater distance order t u
   later-far less = answered Greater (nat_cmp_is (distance u) (distance t) Greater less) refl
 
   later-same : distance u ≡ distance t → IsNotAfter order t u → IsNotLater distance order t u

@@ -35,7 +35,7 @@ module _ {T : Type 0} (distance : T → ℕ) where
       by_test t u false e = let le = leb-false (distance t) (distance u) e in inr (omega (arith, le))
 
   module _ {compare : T → T → Ordering} (total : IsTotalOrder compare) where
-    stated_total : IsTotalOrder (by_distance distance compare)
+    pub stated_total : IsTotalOrder (by_distance distance compare)
     stated_total = then_total (on_total distance nat_cmp_total) total
 
     pub stated_ranks : Ranks (IsNotLater distance compare)

@@ -15,6 +15,7 @@ pub mod Ways
 pub mod Found
 pub mod Depths
 pub mod Loads
+pub mod Tails
 pub mod LoadedTrees
 pub mod Clones
 pub mod Marks
@@ -49,6 +50,7 @@ pub mod Meets
 pub mod Joined
 pub mod Replays
 pub mod Firsts
+pub mod Few
 pub mod StepsByOrder
 pub mod StoredLoops
 pub mod StoredBytes

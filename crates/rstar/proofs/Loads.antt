@@ -1,7 +1,5 @@
 -- How a load cuts elements into parts, and makes nodes of them.
-use Rattle.std.proofs.Common.{◌*◌, ◌^◌, ◌≤ℤ◌, ℤ, suc, min, max, add-one, ◌≡◌, ◌≢◌, ◌≤◌, ◌<◌, ◌+◌, ◌-◌, ℕ, List, [], ◌∷◌, ◌++◌, length, All, map, arith, refl, sym, ap, ◌∙◌, subst, inl, inr, append_assoc, append-nil, IsPermutation, false, slice_index_or, Some, Ok, Result}
-use Rattle.std.specs.Global.{Vec}
-use Rattle.std.specs.declared.alloc.AllocError.{AllocError}
+use Rattle.std.proofs.Common.{◌*◌, ◌^◌, ◌≤ℤ◌, ℤ, suc, min, max, add-one, ◌≡◌, ◌≢◌, ◌≤◌, ◌<◌, ◌+◌, ◌-◌, ℕ, List, [], ◌∷◌, ◌++◌, length, All, map, arith, refl, sym, ap, ◌∙◌, subst, inl, inr, append_assoc, append-nil, IsPermutation, false, slice_index_or}
 use Rattle.std.specs.Int.{div_ceil}
 use Rattle.std.specs.List.{AllPairs, AllByRecursion}
 use Rattle.std.proofs.Math.Nat.{pow-zero, pow-suc, mul-le-mul, lt_of_mul-lt-mul_left}
@@ -15,7 +13,7 @@ use Rattle.rstar_base.specs.Envelopes.{Boxes, EnvelopeLaws}
 use Rattle.rstar_base.specs.Elements.{Objects, ObjectLaws}
 use Rattle.rstar_base.specs.Hulls.{hull}
 use Rattle.rstar_base.specs.Clusters.{IsClusterNumber}
-use Rattle.rstar_base.specs.Slabs.{NoneAbove, IsSlabOf, GivesSlab}
+use Rattle.rstar_base.specs.Slabs.{NoneAbove, IsSlabOf}
 use Rattle.rstar_base.proofs.Lists.{all-append, all_map, all_both}
 use Rattle.rstar.specs.declared.node.ParentNode.{ParentNode}
 use Rattle.rstar.specs.declared.node.RTreeNode.{RTreeNode, Leaf, Parent}
@@ -33,10 +31,10 @@ use Rattle.rstar.proofs.Depths.{half_bound, part_of_load}
 -- ---- lists
 
 module _ {A : Type 0} where
-  All-front : (P : A → Type 0) (xs ys : List A) → All P (xs ++ ys) → All P xs
+  pub All-front : (P : A → Type 0) (xs ys : List A) → All P (xs ++ ys) → All P xs
   All-front P xs ys f k d h = subst P (get_or_append_left xs ys d k h) (f k d (omega (arith, length-append xs ys)))
 
-  All-back : (P : A → Type 0) (xs ys : List A) → All P (xs ++ ys) → All P ys
+  pub All-back : (P : A → Type 0) (xs ys : List A) → All P (xs ++ ys) → All P ys
   All-back P xs ys f k d h = subst P (get_or-append-add xs ys k d) (f (length xs + k) d (omega (arith, length-append xs ys)))
 
   all_of : (P : A → Type 0) (xs : List A) → All P xs → AllByRecursion P xs
@@ -76,24 +74,6 @@ swap_all : {A B : Type 0} (Q : A → B → Type 0) (xs : List A) (ys : List B) �
 swap_all Q xs ys f k d h i e p = f i e p k d h
 
 -- ---- slabs
-
--- what `next` gave, where it gave a slab
-pub slab_given : {T : Type 0} (key : T → ℕ → ℤ) (k axis s size : ℕ) (before : List T) (given : Result (Vec T) AllocError) (slab : Vec T) (after : List T)
-    → GivesSlab (λ t. key t k) s before (Some given) after → given ≡ Ok slab → k ≡ axis → s ≡ size → IsSlabOf (λ t. key t axis) size before slab.items after × (before ≢ [])
-slab_given key k axis s size before given slab after gives was on long =
-    let here = rw was at gives in
-    (subst (λ n. IsSlabOf (λ t. key t axis) n before slab.items after) long (subst (λ a. IsSlabOf (λ t. key t a) s before slab.items after) on here.1), here.0)
-
--- a slab of a list that is not empty is not empty
-pub slab_some : {T : Type 0} (key : T → ℤ) (s : ℕ) (before slab after : List T) → IsSlabOf key s before slab after → 0 < s → before ≢ [] → slab ≢ []
-slab_some key s [] slab after cut some left none = left refl
-slab_some key s (t ∷ ts) slab after cut some left none = absurd (omega (arith, cut.size, ap length none))
-
--- what holds of all elements holds of those of a slab and of those that remain
-pub slab_has : {T : Type 0} (key : T → ℤ) (Q : T → Type 0) (s : ℕ) (before slab after : List T) → IsSlabOf key s before slab after → All Q before → All Q slab × All Q after
-slab_has key Q s before slab after cut f =
-    let all = All-permutation Q before (after ++ slab) cut.same f in
-    (All-back Q after slab all, All-front Q after slab all)
 
 taken_few : (count taken c axis n : ℕ) → 0 < c → taken * div_ceil n c < n + div_ceil n c → count ≤ taken * c ^ axis → count ≤ c ^ suc axis
 taken_few count taken c axis n some full few =
@@ -264,10 +244,6 @@ module _ {T E P S X : Type 0} where
       few = u.few;
       each = u.each;
     }
-
-    -- the nodes that were put into an empty list hold just the elements
-    pub parts_same : (Good : RTreeNode T E P S X → Type 0) (c axes : ℕ) (ts : List T) (ns xs : List (RTreeNode T E P S X)) → AddsParts key Good c axes ts [] ns → xs ≡ ns → IsPermutation ts (all_elements xs)
-    parts_same Good c axes ts ns xs adds are = let these : xs ≡ adds.added = are ∙ adds.is in rw these adds.parts.same
 
   -- ---- parents
 

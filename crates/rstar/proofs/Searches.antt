@@ -53,7 +53,7 @@ not-counted a b h = go (nat_lt a b) refl
 not-above : (a b : ℕ) → is_lt (int_cmp (pos a) (pos b)) ≡ false → b ≤ a
 not-above a b h = by_ranked (pos a <ℤ pos b) (pos a ≡ pos b) (pos b <ℤ pos a) (int_cmp (pos a) (pos b)) (int_ranked (pos a) (pos b) (int_cmp (pos a) (pos b)) refl) (λ e p. let no = sym h ∙ ap is_lt e in cc) (λ e p. omega (arith, ints)) (λ e p. omega (arith, ints))
 
-then-first : (a b : Ordering) → is_lt (ordering_then a b) ≡ false → is_lt a ≡ false
+pub then-first : (a b : Ordering) → is_lt (ordering_then a b) ≡ false → is_lt a ≡ false
 then-first Less b e = cc
 then-first Equal b e = refl
 then-first Greater b e = refl

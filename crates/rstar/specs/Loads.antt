@@ -1,9 +1,9 @@
 -- The inside of a load: the parts of a list of elements, and the nodes made of them.
-use Rattle.std.specs.Prelude.{◌≡◌, ℕ, ℤ, zero, suc, ◌<◌, ◌≤◌, ◌+◌, ◌-◌, ◌*◌, ◌^◌, ◌++◌, List, length, min, All, AllPairs}
+use Rattle.std.specs.Prelude.{◌≡◌, ℕ, ℤ, zero, suc, ◌<◌, ◌≤◌, ◌+◌, ◌-◌, ◌*◌, ◌^◌, ◌++◌, List, length, min, take, drop, All, AllPairs}
 use Rattle.std.specs.Int.{div_ceil}
 use Rattle.std.specs.List.{AllByRecursion, Contains}
 use Rattle.std.specs.List.Sorted.{IsPermutation}
-use Rattle.rstar_base.specs.Slabs.{NoneAbove}
+use Rattle.rstar_base.specs.Slabs.{NoneAbove, IsSlabOf}
 use Rattle.rstar_base.specs.Envelopes.{Boxes}
 use Rattle.rstar_base.specs.Elements.{Objects}
 use Rattle.rstar.specs.declared.node.ParentNode.{ParentNode}
@@ -12,6 +12,20 @@ use Rattle.rstar.specs.Nodes.{elements, all_elements, elements_of, IsParentOf, I
 use Rattle.rstar.specs.Shapes.{IsParentTree, IsAny}
 use Rattle.rstar.specs.Kept.{IsRoomy}
 use Rattle.rstar.specs.Loaded.{IsPartSize, EndsAt, IsParted, IsCutAbove, HasSmallParent}
+
+-- the last n items of a list, and those in front of them
+abbrev pub last_of : {A : Type 0} → ℕ → List A → List A
+last_of n xs = drop (length xs - n) xs
+
+abbrev pub front_of : {A : Type 0} → ℕ → List A → List A
+front_of n xs = take (length xs - n) xs
+
+-- of the last `rest` items of a list a slab was put behind the others, at most `size` of them; those in front of them all stay
+pub record CutsSlab {T : Type 0} (key : T → ℤ) (size rest : ℕ) (old : List T) (slab : ℕ) (new : List T) : Type 0 where
+  pub count : slab ≡ min size rest
+  pub same : IsPermutation old new
+  pub front : front_of rest new ≡ front_of rest old
+  pub cut : IsSlabOf key size (last_of rest old) (last_of slab new) (last_of (rest - slab) (front_of slab new))
 
 -- the most elements of a part of n elements, cut along so many axes
 abbrev pub part_bound : ℕ → ℕ → ℕ → ℕ

@@ -73,7 +73,9 @@ pub(crate) fn load_root<T: RTreeObject, Params: RTreeParams>(
     ensures wider { OnOk result (widest.old ≤ widest.new) }
     ensures counted { OnOk result (widest.new + 1 < 2 ^ 64) }
 {
-    load_node::<T, Params>(elements, levels, widest)
+    let mut list = elements;
+    let len = list.len();
+    load_node::<T, Params>(&mut list, len, levels, widest)
 }
 
 /// Whether no element has an empty envelope, as loads ask. It looks at each until one has.

@@ -7,6 +7,7 @@ ghost use Rattle.rstar.specs.Lists.{IsNearest, AreSomeNearest};
 ghost use Rattle.rstar.specs.Neighbors.{with_distances, search_of, neighbors_left, IsSearching, HasBegun, GivesElement, GivesWithDistance};
 
 mod by_order;
+mod few;
 mod firsts;
 mod pruned;
 mod search;
@@ -24,7 +25,7 @@ use rstar_base::point::{Point, RTreeNum};
 use search::NeighborSearch;
 use std::alloc::AllocError;
 pub(crate) use ties::all_nearest;
-pub(crate) use waiting::{AnyFirst, ParentsFirst};
+pub(crate) use waiting::{AnyFirst, OwnOrder, ParentsFirst};
 
 /// The elements of a tree with their squared distances to a point, the nearest first, and then `None`.
 ///

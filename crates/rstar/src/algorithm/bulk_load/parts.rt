@@ -1,19 +1,21 @@
 //! The nodes of a load.
+//!
+//! The elements stay in one list: each call takes off those at its end, and the slabs of an axis are cut where they lie. So
+//! an element moves where its key belongs, and then into its leaf.
 
-ghost use Rattle.std.specs.Prelude.{◌≡◌, ◌≢◌, ℕ, ◌+◌, ◌^◌, ◌<◌, ◌≤◌, [], length, map, IfOk, OnOk, vec_len};
+ghost use Rattle.std.specs.Prelude.{◌≡◌, ℕ, ◌+◌, ◌^◌, ◌<◌, ◌≤◌, length, map, IfOk, OnOk, vec_len};
 ghost use Rattle.std.specs.List.Sorted.{IsPermutation};
 ghost use Rattle.rstar.specs.declared.node.RTreeNode.{Leaf};
 ghost use Rattle.rstar.specs.Nodes.{elements_of};
 ghost use Rattle.rstar.specs.Kept.{HasRoom};
 ghost use Rattle.rstar.specs.Lists.{NoneEmpty};
 ghost use Rattle.rstar.specs.Loaded.{IsPartSize, GoesDeep};
-ghost use Rattle.rstar.specs.Loads.{AddsParts, IsFresh, IsFreshNode};
+ghost use Rattle.rstar.specs.Loads.{AddsParts, CutsSlab, IsFresh, IsFreshNode, front_of, last_of};
 
 use crate::algorithm::bulk_load::depth::slabs_on_axis;
 use crate::node::{ParentNode, RTreeNode, envelope_for_children};
-use rstar_base::clusters::ClusterGroupIterator;
 use rstar_base::envelope::Envelope;
-use rstar_base::object::{RTreeObject, envelope_of_all};
+use rstar_base::object::{RTreeObject, envelope_of_all, partition_envelopes};
 use rstar_base::params::RTreeParams;
 use rstar_base::point::Point;
 use std::alloc::AllocError;
@@ -62,32 +64,35 @@ fn make_wide_room<T: RTreeObject, Params: RTreeParams>(
     Ok(())
 }
 
-/// A parent of these elements, with so many levels of parents below it. `widest` grows to its number of children, and
-/// to that of each parent below.
+/// A parent of the last `len` elements of a list, which are taken off it, with so many levels of parents below it.
+/// `widest` grows to its number of children, and to that of each parent below.
 #[cycle(load)]
 pub(crate) fn load_node<T: RTreeObject, Params: RTreeParams>(
-    elements: Vec<T>,
+    list: &mut Vec<T>,
+    len: usize,
     below: usize,
     widest: &mut usize,
 ) -> Result<ParentNode<T>, AllocError>
-    requires some { elements.items ≢ [] }
-    requires elements { NoneEmpty T.Envelope.boxes.is_empty T.object.box_of elements.items }
+    requires some { 0 < len }
+    requires within { len ≤ length list.old.items }
+    requires elements { NoneEmpty T.Envelope.boxes.is_empty T.object.box_of list.old.items }
     requires dimensions { 2 ≤ T.Envelope.Point.DIMENSIONS }
-    requires deep { GoesDeep Params.MAX_SIZE T.Envelope.Point.DIMENSIONS below (length elements.items) }
+    requires deep { GoesDeep Params.MAX_SIZE T.Envelope.Point.DIMENSIONS below len }
     requires counted { widest.old + 1 < 2 ^ 64 }
-    ensures same { IfOk result (λ parent. IsPermutation elements.items (elements_of parent)) }
+    ensures left { OnOk result (list.new.items ≡ front_of len list.old.items) }
+    ensures same { IfOk result (λ parent. IsPermutation (last_of len list.old.items) (elements_of parent)) }
     ensures fresh { IfOk result
         (IsFresh T.Envelope.boxes T.object Params.MAX_SIZE widest.new T.Envelope.Point.DIMENSIONS below) }
     ensures wider { OnOk result (widest.old ≤ widest.new) }
     ensures counted { OnOk result (widest.new + 1 < 2 ^ 64) }
 {
     if below == 0 {
-        return leaf_parent::<T, Params>(elements, widest);
+        return leaf_parent::<T, Params>(list, len, widest);
     }
-    let mut nodes = Vec::with_capacity(*elements.allocator(), Params::MAX_SIZE + 1)?;
-    let clusters = slabs_on_axis::<T, Params>(elements.len());
+    let mut nodes = Vec::with_capacity(*list.allocator(), Params::MAX_SIZE + 1)?;
+    let clusters = slabs_on_axis::<T, Params>(len);
     let axes = <<T::Envelope as Envelope>::Point as Point>::DIMENSIONS;
-    load_parts::<T, Params>(elements, axes, clusters, below - 1, &mut nodes, widest)?;
+    load_parts::<T, Params>(list, len, axes, clusters, below - 1, &mut nodes, widest)?;
     make_wide_room::<T, Params>(&mut nodes, widest)?;
     let envelope = envelope_for_children(&nodes);
     Ok(ParentNode {
@@ -96,59 +101,88 @@ pub(crate) fn load_node<T: RTreeObject, Params: RTreeParams>(
     })
 }
 
-/// A parent of leaves.
+/// A parent of the last elements of a list as leaves.
 fn leaf_parent<T: RTreeObject, Params: RTreeParams>(
-    elements: Vec<T>,
+    list: &mut Vec<T>,
+    len: usize,
     widest: &mut usize,
 ) -> Result<ParentNode<T>, AllocError>
-    requires some { elements.items ≢ [] }
-    requires elements { NoneEmpty T.Envelope.boxes.is_empty T.object.box_of elements.items }
+    requires some { 0 < len }
+    requires within { len ≤ length list.old.items }
+    requires elements { NoneEmpty T.Envelope.boxes.is_empty T.object.box_of list.old.items }
     requires counted { widest.old + 1 < 2 ^ 64 }
-    ensures same { IfOk result (λ parent. IsPermutation elements.items (elements_of parent)) }
+    ensures left { OnOk result (list.new.items ≡ front_of len list.old.items) }
+    ensures same { IfOk result (λ parent. IsPermutation (last_of len list.old.items) (elements_of parent)) }
     ensures fresh { IfOk result
         (IsFresh T.Envelope.boxes T.object Params.MAX_SIZE widest.new T.Envelope.Point.DIMENSIONS 0) }
     ensures wider { OnOk result (widest.old ≤ widest.new) }
     ensures counted { OnOk result (widest.new + 1 < 2 ^ 64) }
 {
+    let elements = list.split_off(list.len() - len)?;
     let envelope = envelope_of_all(&elements);
-    let room = elements.len().max(Params::MAX_SIZE).saturating_add(1);
+    let room = len.max(Params::MAX_SIZE).saturating_add(1);
     let mut children = leaves(elements, room)?;
     make_wide_room::<T, Params>(&mut children, widest)?;
     Ok(ParentNode { children, envelope })
 }
 
-/// Cuts the elements into slabs along each of the first axes, and puts a node for each part at the end of the list.
+/// Puts those of the last `rest` elements of a list that have the greatest keys behind the others: `size` of them, or all
+/// where there are fewer; and gives how many.
+fn cut_slab<T: RTreeObject>(axis: usize, list: &mut Vec<T>, rest: usize, size: usize) -> usize
+    requires axis { axis < T.Envelope.Point.DIMENSIONS }
+    requires some { 0 < size }
+    requires within { rest ≤ length list.old.items }
+    ensures { CutsSlab (λ t. T.Envelope.boxes.axis_key (T.object.box_of t) axis) size rest list.old.items result
+        list.new.items }
+{
+    if rest <= size {
+        return rest;
+    }
+    let first = list.len() - rest;
+    let (_, last) = list.as_mut_slice().split_at_mut(first);
+    partition_envelopes(axis, last, rest - size);
+    size
+}
+
+/// Takes off the last `len` elements of a list, cuts them into slabs along each of the first axes, and puts a node for each
+/// part at the end of the nodes.
 #[cycle(load)]
 fn load_parts<T: RTreeObject, Params: RTreeParams>(
-    elements: Vec<T>,
+    list: &mut Vec<T>,
+    len: usize,
     axes: usize,
     clusters: usize,
     below: usize,
     nodes: &mut Vec<RTreeNode<T>>,
     widest: &mut usize,
 ) -> Result<(), AllocError>
-    requires some { elements.items ≢ [] }
-    requires elements { NoneEmpty T.Envelope.boxes.is_empty T.object.box_of elements.items }
+    requires some { 0 < len }
+    requires within { len ≤ length list.old.items }
+    requires elements { NoneEmpty T.Envelope.boxes.is_empty T.object.box_of list.old.items }
     requires dimensions { 2 ≤ T.Envelope.Point.DIMENSIONS }
     requires axes { axes ≤ T.Envelope.Point.DIMENSIONS }
     requires clusters { 2 ≤ clusters }
-    requires deep { (m : ℕ) → IsPartSize clusters axes (length elements.items) m
+    requires deep { (m : ℕ) → IsPartSize clusters axes len m
         → GoesDeep Params.MAX_SIZE T.Envelope.Point.DIMENSIONS below m }
     requires counted { widest.old + 1 < 2 ^ 64 }
+    ensures left { OnOk result (list.new.items ≡ front_of len list.old.items) }
     ensures adds { OnOk result (AddsParts (λ t axis. T.Envelope.boxes.axis_key (T.object.box_of t) axis)
         (IsFreshNode T.Envelope.boxes T.object Params.MAX_SIZE widest.new T.Envelope.Point.DIMENSIONS below)
-        clusters axes elements.items nodes.old.items nodes.new.items) }
+        clusters axes (last_of len list.old.items) nodes.old.items nodes.new.items) }
     ensures wider { OnOk result (widest.old ≤ widest.new) }
     ensures counted { OnOk result (widest.new + 1 < 2 ^ 64) }
 {
     if axes == 0 {
-        let node = load_node::<T, Params>(elements, below, widest)?;
+        let node = load_node::<T, Params>(list, len, below, widest)?;
         nodes.push(RTreeNode::Parent(node))?;
         return Ok(());
     }
-    let mut slabs = ClusterGroupIterator::new(elements, clusters, axes - 1);
-    while let Some(slab) = slabs.next() {
-        load_parts::<T, Params>(slab?, axes - 1, clusters, below, nodes, widest)?;
+    let size = len.div_ceil(clusters);
+    let mut rest = len;
+    while 0 < rest {
+        let slab = cut_slab(axes - 1, list, rest, size);
+        load_parts::<T, Params>(list, slab, axes - 1, clusters, below, nodes, widest)?;
+        rest -= slab;
     }
     Ok(())
 }

@@ -9,6 +9,7 @@ ghost use Rattle.rstar.specs.Lists.{IsNotLater, AreFirstOf};
 ghost use Rattle.rstar.specs.Nodes.{all_elements, elements_of, IsWhole};
 ghost use Rattle.rstar.specs.Searches.{waiting_of, IsReady, TiesBy};
 
+use crate::algorithm::nearest_neighbor::few::first_few;
 use crate::algorithm::nearest_neighbor::search::{NeighborSearch, NodeSearch, fits};
 use crate::algorithm::nearest_neighbor::waiting::TieOrder;
 use crate::node::{ParentNode, RTreeNode};
@@ -17,24 +18,29 @@ use rstar_base::object::{Distance, PointDistance, PointOf, RTreeObject};
 use rstar_base::point::{Point, RTreeNum, known};
 use std::alloc::{AllocError, Global};
 
+/// Up to so many are found by a list that is sorted as each goes in.
+const FEW: usize = 32;
+
 /// So many elements, the nearest to a point first, with their squared distances; all where there are fewer. Of several
-/// at equal distance those come first that `O` says. The list has room for a number of them before the first is looked
-/// for.
-pub(crate) fn first_nearest<'a, T: PointDistance, O: TieOrder<RTreeNode<T>>>(
+/// at equal distance those come first that `E` says, by which the ties of `O` go. The list has room for a number of them
+/// before the first is looked for.
+pub(crate) fn first_nearest<'a, T: PointDistance, O: TieOrder<RTreeNode<T>>, E: TieOrder<T>>(
     root: &'a ParentNode<T>,
     point: &PointOf<T>,
     most: usize,
     room: usize,
 ) -> Result<Vec<(&'a T, Distance<T>)>, AllocError>
     requires { IsWhole T.Envelope.boxes T.object root.now }
-    ensures first { (order : T → T → Ordering) → TiesBy O.order order → IfOk result (λ found. AreFirstOf
-        (IsNotLater (λ t. T.distances.distance_2 t
-        (table T.Envelope.Point.DIMENSIONS (T.Envelope.Point.coord point.now))) order) (elements_of root.now) most
+    ensures first { TiesBy O.order E.order → IfOk result (λ found. AreFirstOf (IsNotLater (λ t. T.distances.distance_2 t
+        (table T.Envelope.Point.DIMENSIONS (T.Envelope.Point.coord point.now))) E.order) (elements_of root.now) most
         (map (λ n. n.0.now) found.items)) }
     ensures distances { IfOk result (λ found. AllByRecursion (λ n. T.Envelope.Point.Scalar.value n.1
         ≡ pos (T.distances.distance_2 n.0.now
         (table T.Envelope.Point.DIMENSIONS (T.Envelope.Point.coord point.now)))) found.items) }
 {
+    if most <= FEW {
+        return first_few::<T, E>(root, point, most, room);
+    }
     fits::<Distance<T>>();
     let mut search: NodeSearch<'_, T, O> = NeighborSearch::new(root);
     take_first(&mut search, *root.children.allocator(), point, most, room)

@@ -37,6 +37,19 @@ impl<N> TieOrder<N> for AnyFirst {
     ghost total = { Prim.search (comparing, rules) };
 }
 
+/// Elements come by their own order.
+pub(crate) struct OwnOrder;
+
+impl<T: Ord> TieOrder<T> for OwnOrder {
+    ghost order = { T.cmp };
+
+    fn compare(a: &T, b: &T) -> Ordering {
+        a.cmp(b)
+    }
+
+    ghost total = { T.total };
+}
+
 /// A parent comes before an element, and elements come by their own order.
 pub(crate) struct ParentsFirst;
 

@@ -1,12 +1,20 @@
-use Rattle.std.proofs.Common.{ℕ, Result, Ok, Err, IfOk, subst, sym}
+use Rattle.std.proofs.Common.{ℕ, Result, Ok, Err, IfOk, IsPermutation, subst, sym, ap, ◌∙◌}
 use Rattle.std.proofs.lemmas.List.Sorted.{length_permutation}
 use Rattle.rstar.specs.Nodes.{elements_of}
 use Rattle.rstar.specs.Loaded.{EndsAt, IsLoadDepth}
+use Rattle.rstar.specs.Loads.{last_of}
+use Rattle.rstar.proofs.Tails.{last_itself}
 use Rattle.rstar.proofs.algorithm.bulk_load.load_root.Goals as goal
 
 both : {A E : Type 0} (P Q R : A → Type 0) (r : Result A E) → ((x : A) → P x → Q x → R x) → IfOk r P → IfOk r Q → IfOk r R
 both P Q R (Ok x) f p q = f x p q
 both P Q R (Err e) f p q = tt
+
+pub returns-clause-same : goal.returns-clause-same
+returns-clause-same g c =
+    let items = c.args.elements.items in
+    let whole = ap (λ n. last_of n items) (c.len-len.ensures ∙ c.args.elements.ok.0) ∙ last_itself items in
+    subst (λ l. IfOk c.load_node.result (λ root. IsPermutation l (elements_of root))) whole c.load_node.ensures.same
 
 pub returns-clause-loaded : goal.returns-clause-loaded
 returns-clause-loaded g c =
@@ -19,4 +27,4 @@ returns-clause-loaded g c =
       cut = fresh.cut;
       small = fresh.small (subst ends (sym long) c.requires.depth.ends);
       depth = subst is_depth (sym long) c.requires.depth;
-    }) c.load_node.ensures.same c.load_node.ensures.fresh
+    }) (returns-clause-same g c) c.load_node.ensures.fresh

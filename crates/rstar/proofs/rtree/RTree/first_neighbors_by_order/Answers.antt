@@ -4,4 +4,4 @@ use Rattle.rstar.proofs.rtree.RTree.first_neighbors_by_order.Goals as goal
 
 pub returns-clause-first : goal.returns-clause-first
 unfolding IsWholeTree
-returns-clause-first g c = c.first_nearest.ensures.first g.T.Ord.cmp (parents-ties g.T.Ord.cmp)
+returns-clause-first g c = c.first_nearest.ensures.first (parents-ties g.T.Ord.cmp)

@@ -1,12 +1,28 @@
-use Rattle.std.proofs.Common.{arith, ◌∙◌}
+use Rattle.std.proofs.Common.{arith, false, ◌≡◌, ◌-◌, length, refl, sym, subst, ◌∙◌, IsPermutation}
+use Rattle.rstar.specs.Lists.{NoneEmpty}
+use Rattle.rstar.specs.Loads.{last_of}
+use Rattle.rstar.specs.Nodes.{all_elements}
 use Rattle.rstar.proofs.Loads.{leaves_parent, leaves_same}
+use Rattle.rstar.proofs.Tails.{dropped_as, last_has, some_last}
+use Rattle.rstar.proofs.algorithm.bulk_load.parts.leaf_parent.Given.{Over}
 use Rattle.rstar.proofs.algorithm.bulk_load.parts.leaf_parent.Goals as goal
 
+-- the elements are the last of the list
+last : (g : Over) (c : goal.In_ok-make_wide_room g) → c.in_ok-elements.elements.items ≡ last_of c.args.len c.args.list.now.items
+last g c =
+    let long = c.args.list.now.ok.0 in
+    let from : c.len.result - c.args.len ≡ length c.args.list.now.items - c.args.len = omega (arith, c.len.ensures, long) in
+    dropped_as (c.len.result - c.args.len) (length c.args.list.now.items - c.args.len) c.args.list.now.items c.args.list.now.items c.in_ok-elements.elements.items c.in_ok-elements.ensures.tail from refl
+
 pub returns-clause-same : goal.returns-clause-same
-returns-clause-same g c = leaves_same c.args.elements.items c.make_wide_room.new.nodes.items (c.make_wide_room.ensures.same ∙ c.in_ok-children.ensures)
+returns-clause-same g c =
+    subst (λ l. IsPermutation l (all_elements c.make_wide_room.new.nodes.items)) (last g c)
+    (leaves_same c.in_ok-elements.elements.items c.make_wide_room.new.nodes.items (c.make_wide_room.ensures.same ∙ c.in_ok-children.ensures))
 
 pub returns-clause-fresh : goal.returns-clause-fresh
 returns-clause-fresh g c =
-    leaves_parent g.T.Envelope.Envelope.boxes g.T.RTreeObject.object g.Params.RTreeParams.MAX_SIZE c.make_wide_room.new.widest g.T.Envelope.Point.Point.DIMENSIONS c.args.elements.items _
-    (rw c.deref.ensures.value at c.envelope_of_all-envelope.ensures.own) c.requires.elements c.requires.some (c.make_wide_room.ensures.same ∙ c.in_ok-children.ensures)
+    leaves_parent g.T.Envelope.Envelope.boxes g.T.RTreeObject.object g.Params.RTreeParams.MAX_SIZE c.make_wide_room.new.widest g.T.Envelope.Point.Point.DIMENSIONS c.in_ok-elements.elements.items _
+    (rw c.deref.ensures.value at c.envelope_of_all-envelope.ensures.own)
+    (subst (NoneEmpty g.T.Envelope.Envelope.boxes.is_empty g.T.RTreeObject.object.box_of) (sym (last g c)) (last_has (λ t. g.T.Envelope.Envelope.boxes.is_empty (g.T.RTreeObject.object.box_of t) ≡ false) c.args.len c.args.list.now.items c.requires.elements))
+    (λ none. some_last c.args.len c.args.list.now.items c.requires.some c.requires.within (sym (last g c) ∙ none)) (c.make_wide_room.ensures.same ∙ c.in_ok-children.ensures)
     (rw c.deref.ensures.value at c.envelope_of_all-envelope.ensures.hull) c.in_ok-make_wide_room.ensures.room (omega (arith, c.make_wide_room.new.nodes.ok.0, c.in_ok-make_wide_room.ensures.narrow))

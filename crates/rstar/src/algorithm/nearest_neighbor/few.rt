@@ -1,0 +1,237 @@
+//! The first few elements in the order of their distances: those found so far stand in a sorted list, and what is farther
+//! than a full list is left out (Roussopoulos et al. 1995).
+
+ghost use Rattle.std.specs.Prelude.{◌≡◌, ◌≤◌, ◌<ℤ◌, ◌+◌, ◌++◌, ◌∷◌, [], List, ℕ, true, false, length, pos, map, OnOk, IfOk};
+ghost use Rattle.std.specs.List.{AllByRecursion, insert};
+ghost use Rattle.std.specs.Ordering.{flip_args, is_lt};
+ghost use Rattle.rstar_base.specs.Points.{table, IsPoint};
+ghost use Rattle.rstar_base.specs.SmallHeaps.{items_of, IsOrdered, Rises};
+ghost use Rattle.rstar.specs.declared.node.RTreeNode.{RTreeNode};
+ghost use Rattle.rstar.specs.Few.{AreFoundSoFar, Keeps, WaitAtDistance, waiting_parents};
+ghost use Rattle.rstar.specs.Lists.{IsNotLater, AreFirstOf};
+ghost use Rattle.rstar.specs.Nodes.{all_parents, elements_of, parents, IsWhole};
+ghost use Rattle.rstar.specs.Searches.{any_first, nearest_on_top};
+
+use crate::algorithm::nearest_neighbor::search::{distance_to, fits};
+use crate::algorithm::nearest_neighbor::waiting::{AnyFirst, TieOrder, Waiting};
+use crate::node::{ParentNode, RTreeNode};
+use rstar_base::envelope::Envelope;
+use rstar_base::heap::SmallHeap;
+use rstar_base::object::{Distance, PointDistance, PointOf, RTreeObject};
+use rstar_base::point::{Point, RTreeNum, known};
+use std::alloc::AllocError;
+use std::marker::PhantomData;
+
+/// The parents that wait, the nearest on top.
+type Parents<'a, T> = SmallHeap<Waiting<&'a ParentNode<T>, Distance<T>, AnyFirst>>;
+
+/// The elements found so far, the nearest first.
+type Found<'a, T, E> = Vec<Waiting<&'a T, Distance<T>, E>>;
+
+/// So many elements, the nearest to a point first, with their squared distances; all where there are fewer. Of several at
+/// equal distance those come first that `E` says. A list of those found so far is sorted as each goes in, so it costs less
+/// than a heap of all that wait only where few are asked for. It has room for a number of them before the first is looked
+/// for.
+pub(crate) fn first_few<'a, T: PointDistance, E: TieOrder<T>>(
+    root: &'a ParentNode<T>,
+    point: &PointOf<T>,
+    most: usize,
+    room: usize,
+) -> Result<Vec<(&'a T, Distance<T>)>, AllocError>
+    requires { IsWhole T.Envelope.boxes T.object root.now }
+    ensures first { IfOk result (λ found. AreFirstOf (IsNotLater (λ t. T.distances.distance_2 t
+        (table T.Envelope.Point.DIMENSIONS (T.Envelope.Point.coord point.now))) E.order) (elements_of root.now) most
+        (map (λ n. n.0.now) found.items)) }
+    ensures distances { IfOk result (λ found. AllByRecursion (λ n. T.Envelope.Point.Scalar.value n.1
+        ≡ pos (T.distances.distance_2 n.0.now
+        (table T.Envelope.Point.DIMENSIONS (T.Envelope.Point.coord point.now)))) found.items) }
+{
+    // Does nothing but tell that the point's coordinates are in their range.
+    known(point);
+    fits::<Distance<T>>();
+    let alloc = *root.children.allocator();
+    let mut heap: Parents<'a, T> = SmallHeap::new(alloc);
+    let mut found: Found<'a, T, E> = Vec::with_capacity(alloc, room)?;
+    open(&mut heap, &mut found, &root.children, point, most)?;
+    while let Some(current) = heap.pop() {
+        if is_beyond(&found, most, current.distance) {
+            continue;
+        }
+        open(&mut heap, &mut found, &current.node.children, point, most)?;
+    }
+    lent(&found)
+}
+
+/// The elements of a list of what was found, with their distances.
+fn lent<'a, T, S: Copy, E>(found: &Vec<Waiting<&'a T, S, E>>) -> Result<Vec<(&'a T, S)>, AllocError>
+    ensures { IfOk result (λ all. all.items ≡ map (λ w. (w.node, w.distance)) found.now.items) }
+{
+    let mut all = Vec::with_capacity(*found.allocator(), found.len())?;
+    for one in found {
+        all.push((one.node, one.distance))?;
+    }
+    Ok(all)
+}
+
+/// Whether a list has as many as asked for, each nearer than a distance.
+fn is_beyond<'a, T, S: RTreeNum, E: TieOrder<T>>(
+    found: &[Waiting<&'a T, S, E>],
+    most: usize,
+    distance: S,
+) -> bool
+    ensures full { result ≡ true → most ≤ length found.now }
+    ensures beyond { result ≡ true → Rises (flip_args (nearest_on_top S.cmp E.order)) found.now
+        → AllByRecursion (λ w. S.value w.distance <ℤ S.value distance) found.now }
+{
+    match found.last() {
+        Some(last) => most <= found.len() && last.distance.cmp(&distance).is_lt(),
+        None => most == 0,
+    }
+}
+
+/// Opens nodes: parents wait, and elements are found, but for those that are beyond what was found.
+fn open<'a, T: PointDistance, E: TieOrder<T>>(
+    heap: &mut Parents<'a, T>,
+    found: &mut Found<'a, T, E>,
+    children: &'a [RTreeNode<T>],
+    point: &PointOf<T>,
+    most: usize,
+) -> Result<(), AllocError>
+    requires point { IsPoint T.Envelope.Point.Scalar.low T.Envelope.Point.Scalar.high T.Envelope.Point.DIMENSIONS
+        (table T.Envelope.Point.DIMENSIONS (T.Envelope.Point.coord point.now)) }
+    requires ordered { IsOrdered (nearest_on_top T.Envelope.Point.Scalar.cmp any_first) heap.old }
+    requires falls { Rises (flip_args (nearest_on_top T.Envelope.Point.Scalar.cmp E.order)) found.old.items }
+    ensures ordered { IsOrdered (nearest_on_top T.Envelope.Point.Scalar.cmp any_first) heap.new }
+    ensures falls { Rises (flip_args (nearest_on_top T.Envelope.Point.Scalar.cmp E.order)) found.new.items }
+    ensures waiting { OnOk result (WaitAtDistance T.Envelope.boxes T.distances
+        (table T.Envelope.Point.DIMENSIONS (T.Envelope.Point.coord point.now)) T.Envelope.Point.Scalar.value
+        (items_of heap.old)
+        → WaitAtDistance T.Envelope.boxes T.distances
+        (table T.Envelope.Point.DIMENSIONS (T.Envelope.Point.coord point.now)) T.Envelope.Point.Scalar.value
+        (items_of heap.new)) }
+    ensures fewer { OnOk result (all_parents (waiting_parents (items_of heap.new))
+        ≤ all_parents (waiting_parents (items_of heap.old)) + all_parents children.now) }
+    ensures first { OnOk result ((all : List T) → AreFoundSoFar T.Envelope.boxes T.object T.distances
+        (table T.Envelope.Point.DIMENSIONS (T.Envelope.Point.coord point.now)) E.order T.Envelope.Point.Scalar.value most
+        all (waiting_parents (items_of heap.old) ++ children.now) found.old.items
+        → AreFoundSoFar T.Envelope.boxes T.object T.distances
+        (table T.Envelope.Point.DIMENSIONS (T.Envelope.Point.coord point.now)) E.order T.Envelope.Point.Scalar.value most
+        all (waiting_parents (items_of heap.new)) found.new.items) }
+{
+    for child in children {
+        offer(heap, found, child, point, most)?;
+    }
+    Ok(())
+}
+
+/// Opens one node.
+fn offer<'a, T: PointDistance, E: TieOrder<T>>(
+    heap: &mut Parents<'a, T>,
+    found: &mut Found<'a, T, E>,
+    node: &'a RTreeNode<T>,
+    point: &PointOf<T>,
+    most: usize,
+) -> Result<(), AllocError>
+    requires point { IsPoint T.Envelope.Point.Scalar.low T.Envelope.Point.Scalar.high T.Envelope.Point.DIMENSIONS
+        (table T.Envelope.Point.DIMENSIONS (T.Envelope.Point.coord point.now)) }
+    requires ordered { IsOrdered (nearest_on_top T.Envelope.Point.Scalar.cmp any_first) heap.old }
+    requires falls { Rises (flip_args (nearest_on_top T.Envelope.Point.Scalar.cmp E.order)) found.old.items }
+    ensures ordered { IsOrdered (nearest_on_top T.Envelope.Point.Scalar.cmp any_first) heap.new }
+    ensures falls { Rises (flip_args (nearest_on_top T.Envelope.Point.Scalar.cmp E.order)) found.new.items }
+    ensures waiting { OnOk result (WaitAtDistance T.Envelope.boxes T.distances
+        (table T.Envelope.Point.DIMENSIONS (T.Envelope.Point.coord point.now)) T.Envelope.Point.Scalar.value
+        (items_of heap.old)
+        → WaitAtDistance T.Envelope.boxes T.distances
+        (table T.Envelope.Point.DIMENSIONS (T.Envelope.Point.coord point.now)) T.Envelope.Point.Scalar.value
+        (items_of heap.new)) }
+    ensures fewer { OnOk result (all_parents (waiting_parents (items_of heap.new))
+        ≤ all_parents (waiting_parents (items_of heap.old)) + parents node.now) }
+    ensures first { OnOk result ((all : List T)
+        (rest : List (RTreeNode T T.Envelope T.Envelope.Point T.Envelope.Point.Scalar
+        T.Envelope.Point.Scalar.FromStrRadixErr))
+        → AreFoundSoFar T.Envelope.boxes T.object T.distances
+        (table T.Envelope.Point.DIMENSIONS (T.Envelope.Point.coord point.now)) E.order T.Envelope.Point.Scalar.value most
+        all (waiting_parents (items_of heap.old) ++ node.now ∷ rest) found.old.items
+        → AreFoundSoFar T.Envelope.boxes T.object T.distances
+        (table T.Envelope.Point.DIMENSIONS (T.Envelope.Point.coord point.now)) E.order T.Envelope.Point.Scalar.value most
+        all (waiting_parents (items_of heap.new) ++ rest) found.new.items) }
+{
+    let distance = distance_to(node, point);
+    if is_beyond(found, most, distance) {
+        return Ok(());
+    }
+    match node {
+        RTreeNode::Leaf(t) => {
+            keep(
+                found,
+                most,
+                Waiting {
+                    node: t,
+                    distance,
+                    ties: PhantomData,
+                },
+            )?;
+            Ok(())
+        }
+        RTreeNode::Parent(parent) => match heap.push(Waiting {
+            node: parent,
+            distance,
+            ties: PhantomData,
+        }) {
+            Ok(()) => Ok(()),
+            Err(_refused) => Err(AllocError),
+        },
+    }
+}
+
+/// Puts an item into a list of so many at the most, the greatest first. Where the list is full its last item goes out, or
+/// the new one where that is not greater.
+fn keep<X: Ord + Drop>(found: &mut Vec<X>, most: usize, item: X) -> Result<(), AllocError>
+    requires { Rises (flip_args X.cmp) found.old.items }
+    ensures falls { Rises (flip_args X.cmp) found.new.items }
+    ensures kept { OnOk result (Keeps X.cmp most item found.old.items found.new.items) }
+{
+    if found.len() < most {
+        return put(found, item);
+    }
+    if !is_behind(found, &item) {
+        return Ok(());
+    }
+    found.pop();
+    put(found, item)
+}
+
+/// Puts an item into a list whose greatest come first.
+fn put<X: Ord + Drop>(found: &mut Vec<X>, item: X) -> Result<(), AllocError>
+    ensures falls { Rises (flip_args X.cmp) found.old.items → Rises (flip_args X.cmp) found.new.items }
+    ensures put { OnOk result ((place : ℕ) × (found.new.items ≡ insert found.old.items place item)) }
+{
+    let at = place_of(found, &item);
+    match found.insert(at, item) {
+        Ok(()) => Ok(()),
+        Err(_refused) => Err(AllocError),
+    }
+}
+
+/// Whether the last of a list is less than an item.
+fn is_behind<X: Ord>(items: &[X], item: &X) -> bool
+    ensures last { (front : List X) (last : X) → items.now ≡ front ++ last ∷ [] → result ≡ is_lt (X.cmp last item.now) }
+    ensures none { items.now ≡ [] → result ≡ false }
+{
+    match items.last() {
+        Some(last) => last.cmp(item).is_lt(),
+        None => false,
+    }
+}
+
+/// Where an item goes into a list whose greatest come first: behind those that are not less.
+fn place_of<X: Ord>(items: &[X], item: &X) -> usize
+    ensures bound { result ≤ length items.now }
+    ensures falls { Rises (flip_args X.cmp) items.now → Rises (flip_args X.cmp) (insert items.now result item.now) }
+{
+    let mut at = items.len();
+    while 0 < at && items[at - 1].cmp(item).is_lt() {
+        at -= 1;
+    }
+    at
+}
