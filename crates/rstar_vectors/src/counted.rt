@@ -116,10 +116,10 @@ fn is_drained<T: RTreeObject>(alloc: Global, tree: &mut RTree<T>, left: &[usize]
     true
 }
 
-/// The places with the numbers from one up to another, without that, on a line that wraps around in both coordinates.
-fn places(alloc: Global, from: usize, end: usize) -> Vec<Place<[i64; 2]>> {
+/// So many places, numbered from 0, on a line that wraps around in both coordinates.
+fn places(alloc: Global, count: usize) -> Vec<Place<[i64; 2]>> {
     let mut places = Vec::new(alloc);
-    for number in from..end {
+    for number in 0..count {
         let near = number % 10000;
         let _refused = places
             .push(Place {
@@ -135,10 +135,10 @@ fn places(alloc: Global, from: usize, end: usize) -> Vec<Place<[i64; 2]>> {
 // reinsert, and 1,000 removals.
 #[test]
 fn every_element_is_merged_once(rt: HostRuntime) {
-    let first = places(rt.alloc(), 0, 500);
-    let others = places(rt.alloc(), 500, 2000);
-    let removed = places(rt.alloc(), 0, 1000);
-    let tree = inserted::<_, DefaultParams>(rt.alloc(), &removed);
+    let all = &places(rt.alloc(), 2000);
+    let (first, others) = all.split_at(all.len().min(500));
+    let removed = all.split_at(all.len().min(1000)).0;
+    let tree = inserted::<_, DefaultParams>(rt.alloc(), removed);
     assert!(rt; count_at_root(&tree) == 1000);
-    assert!(rt; stands_always(rt.alloc(), &first, &others, &removed, &[700, 400, 100, 0]));
+    assert!(rt; stands_always(rt.alloc(), first, others, removed, &[700, 400, 100, 0]));
 }

@@ -228,6 +228,16 @@ where
         && tree.size() == 0
 }
 
+/// Whether the elements of a load of the first half of some leave, each for one of the others.
+fn half_gives_way<T: EqualEnvelopes + PointDistance + Copy>(alloc: Global, elements: &[T]) -> bool
+where
+    PointOf<T>: Copy,
+    requires { 2 ≤ T.Envelope.Point.DIMENSIONS }
+{
+    let (some, others) = elements.split_at(elements.len() / 2);
+    all_give_way::<T, DefaultParams>(alloc, some, &[], others)
+}
+
 /// Whether the elements of a load leave, by `==` and at their places, the first half of them for the others, and two
 /// where a node may have one child.
 fn give_way<T: EqualEnvelopes + PointDistance + Copy>(
@@ -561,14 +571,10 @@ fn elements_of_loads_give_way_to_others(rt: HostRuntime) {
     let lines = edges(rt.alloc(), 1000);
     assert!(rt; all_give_way::<_, DefaultParams>(rt.alloc(), &lines, &[], &[]));
     for &count in &[25, 27, 97, 111, 385, 447, 500] {
-        let all = rectangles(rt.alloc(), 2 * count);
-        let (some, others) = all.split_at(all.len() / 2);
-        assert!(rt; all_give_way::<_, DefaultParams>(rt.alloc(), some, &[], others));
+        assert!(rt; half_gives_way(rt.alloc(), &rectangles(rt.alloc(), 2 * count)));
     }
     for &count in &[388, 400, 444] {
-        let all = deep_points(rt.alloc(), 2 * count);
-        let (some, others) = all.split_at(all.len() / 2);
-        assert!(rt; all_give_way::<_, DefaultParams>(rt.alloc(), some, &[], others));
+        assert!(rt; half_gives_way(rt.alloc(), &deep_points(rt.alloc(), 2 * count)));
     }
 }
 
