@@ -78,7 +78,7 @@ try_tests() {
   done
 }
 try_tests rstar_vectors 'refusals::[a-z_]*'
-try_tests rstar_vectors replays::rows_of_commands
+try_tests rstar_run 'replay_tests::rows_of_commands'
 try_tests rstar_run 'tests::a_refused_line_is_the_last'
 [[ $refusals -gt 0 ]] || { echo 'no allocation of a test was refused' >&2; exit 1; }
 

@@ -34,7 +34,7 @@ use std::alloc::AllocError;
 ///         ⟦<DefaultParams as RTreeParams>⟧.MAX_SIZE tree.old }
 ///     requires fit { IsFit ⟦<[i64; 2] as Scanned>⟧.questions 2 command }
 /// ```
-/// *`crates/rstar_vectors/src/replays.rt`*
+/// *`crates/rstar_run/src/replay_tests.rt`*
 pub trait Scanned: PointDistance + EqualEnvelopes {
     ghost questions: { Questions Self Self.Envelope Self.Envelope.Point Self.Envelope.Point.Scalar };
 }
@@ -56,7 +56,7 @@ impl<T: PointDistance + EqualEnvelopes> Scanned for T {
 ///     _ => Query::Within(place, draw.limit),
 /// }
 /// ```
-/// *`crates/rstar_vectors/src/replays.rt`*
+/// *`crates/rstar_run/src/replay_tests.rt`*
 #[derive(Drop)]
 pub enum Query<T: PointDistance> {
     /// All.
@@ -86,7 +86,7 @@ pub enum Query<T: PointDistance> {
 /// // ..
 /// })
 /// ```
-/// *`crates/rstar_vectors/src/replays.rt`*
+/// *`crates/rstar_run/src/replay_tests.rt`*
 #[derive(Drop)]
 pub enum Command<T: PointDistance> {
     /// Puts a fresh load of these elements in the tree's place.
@@ -128,7 +128,7 @@ pub enum Command<T: PointDistance> {
 ///         Reply::NoMemory | Reply::TooMany => None,
 ///     }
 /// ```
-/// *`crates/rstar_vectors/src/replays.rt`*
+/// *`crates/rstar_run/src/replay_tests.rt`*
 #[derive(Drop)]
 pub enum Reply<T: PointDistance> {
     /// It is done.
@@ -166,7 +166,7 @@ pub enum Reply<T: PointDistance> {
 ///     step(tree, command)
 /// }
 /// ```
-/// *`crates/rstar_vectors/src/replays.rt`*
+/// *`crates/rstar_run/src/replay_tests.rt`*
 #[tactic(auto, using(crate::proofs::Replays::too_many, crate::proofs::Replays::unchanged))]
 pub fn step<T: PointDistance + EqualEnvelopes + Clone, Params: RTreeParams>(
     tree: &mut RTree<T, Params>,
@@ -202,17 +202,16 @@ pub fn step<T: PointDistance + EqualEnvelopes + Clone, Params: RTreeParams>(
 ///
 /// ```rust
 /// if !all_fit(&commands) {
-///     return (Ok(Vec::new(alloc)), None);
+///     return Ok(Vec::new(alloc));
 /// }
-/// let mut tree: RTree<T> = RTree::default(alloc);
 /// // ..
-/// let all = if by_order {
-///     replay_by_order(&mut tree, commands)
+/// if by_order {
+///     replay_by_order(tree, commands)
 /// } else {
-///     replay(&mut tree, commands)
-/// };
+///     replay(tree, commands)
+/// }
 /// ```
-/// *`crates/rstar_vectors/src/replays.rt`*
+/// *`crates/rstar_run/src/replay_tests.rt`*
 pub fn replay<T: PointDistance + EqualEnvelopes + Clone, Params: RTreeParams>(
     tree: &mut RTree<T, Params>,
     commands: Vec<Command<T>>,
@@ -278,13 +277,13 @@ pub fn step_by_order<T: PointDistance + EqualEnvelopes + Clone + Ord, Params: RT
 /// It reserves the list of replies first. An error means that the allocator refused it, and that no command was run.
 ///
 /// ```rust
-/// let all = if by_order {
-///     replay_by_order(&mut tree, commands)
+/// if by_order {
+///     replay_by_order(tree, commands)
 /// } else {
-///     replay(&mut tree, commands)
-/// };
+///     replay(tree, commands)
+/// }
 /// ```
-/// *`crates/rstar_vectors/src/replays.rt`*
+/// *`crates/rstar_run/src/replay_tests.rt`*
 pub fn replay_by_order<T: PointDistance + EqualEnvelopes + Clone + Ord, Params: RTreeParams>(
     tree: &mut RTree<T, Params>,
     commands: Vec<Command<T>>,

@@ -36,7 +36,7 @@ use std::alloc::{AllocError, AllocFailed, Global};
 ///     return Err(StoredError::Truncated);
 /// }
 /// ```
-/// *`crates/rstar_vectors/src/stored.rt`*
+/// *`crates/rstar_run/src/format_tests.rt`*
 #[derive(Clone, Copy, Debug, PartialEq, Eq)]
 pub enum StoredError {
     /// A part lacks bytes.

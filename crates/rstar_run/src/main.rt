@@ -4,12 +4,16 @@
 
 mod answers;
 mod command;
+#[cfg(test)]
+mod format_tests;
 mod lines;
 mod modes;
 mod number;
 mod points;
 mod print;
 mod program;
+#[cfg(test)]
+mod replay_tests;
 mod request;
 mod source;
 mod store;

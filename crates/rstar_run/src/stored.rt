@@ -173,7 +173,7 @@ pub fn pack<R: Read + Drop, W: Write>(alloc: Global, input: R, output: &mut W) -
 }
 
 /// The points of a tree.
-fn points_of(alloc: Global, tree: RTree<[i64; 2]>) -> Result<Vec<[i64; 2]>, AllocError>
+pub fn points_of(alloc: Global, tree: RTree<[i64; 2]>) -> Result<Vec<[i64; 2]>, AllocError>
     requires { IsWholeTree boxes places ⟦<DefaultParams as RTreeParams>⟧.MAX_SIZE tree }
     ensures { IfOk result (λ points. IsPermutation (elements_in tree) points.items) }
 {
@@ -201,7 +201,12 @@ fn unpacked<R: Read + Drop>(alloc: Global, input: R) -> Result<Vec<[i64; 2]>, Fa
 /// `error: input`; where a write failed, a front of what was to stand there.
 ///
 /// ```rust
-/// fn answer<R: Read + Drop, W: Write>(alloc: Global, packs: bool, input: R, output: &mut W) -> u8 {
+/// pub fn answer<R: Read + Drop, W: Write>(
+///     alloc: Global,
+///     packs: bool,
+///     input: R,
+///     output: &mut W,
+/// ) -> u8 {
 ///     if packs {
 ///         pack(alloc, input, output)
 ///     } else {

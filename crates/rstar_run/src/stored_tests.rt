@@ -11,10 +11,10 @@ use std::process::Abort;
 use std::test::Fail;
 
 /// The stored bytes of no point.
-const EMPTY: [u8; 13] = [82, 83, 84, 49, 0, 0, 0, 0, 0, 0, 0, 0, 0];
+pub const EMPTY: [u8; 13] = [82, 83, 84, 49, 0, 0, 0, 0, 0, 0, 0, 0, 0];
 
 /// The stored bytes of the point 1 2.
-const ONE: [u8; 69] = [
+pub const ONE: [u8; 69] = [
     82, 83, 84, 49, 1, 0, 0, 0, 0, 0, 0, 0, 1, 1, 0, 0, 0, 0, 0, 0, 0, 1, 0, 0, 0, 0, 0, 0, 0, 2,
     0, 0, 0, 0, 0, 0, 0, 1, 0, 0, 0, 0, 0, 0, 0, 2, 0, 0, 0, 0, 0, 0, 0, 1, 0, 0, 0, 0, 0, 0, 0, 2,
     0, 0, 0, 0, 0, 0, 0,
@@ -54,7 +54,12 @@ fn reads_its_mode(rt: HostRuntime) -> Result<(), Fail> {
 }
 
 /// Packs or unpacks.
-fn answer<R: Read + Drop, W: Write>(alloc: Global, packs: bool, input: R, output: &mut W) -> u8 {
+pub fn answer<R: Read + Drop, W: Write>(
+    alloc: Global,
+    packs: bool,
+    input: R,
+    output: &mut W,
+) -> u8 {
     if packs {
         pack(alloc, input, output)
     } else {

@@ -491,7 +491,7 @@ fn a_read_that_fails_leaves_the_answers_so_far(rt: HostRuntime) -> Result<(), Fa
 
 /// Asks for a list of a size that nothing else asks for: `scripts/refuse_memory.sh` counts the allocations after one such, up
 /// to the next.
-fn mark(alloc: Global) {
+pub fn mark(alloc: Global) {
     let _list = Vec::<u8>::with_capacity(alloc, 10007).is_ok();
 }
 

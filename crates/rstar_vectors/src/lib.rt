@@ -38,8 +38,6 @@ mod reinsertion;
 #[cfg(test)]
 mod removal;
 #[cfg(test)]
-mod replays;
-#[cfg(test)]
 mod scenarios;
 #[cfg(test)]
 mod selections;

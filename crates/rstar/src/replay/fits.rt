@@ -21,7 +21,7 @@ use rstar_base::point::{Point, RTreeNum};
 /// }
 /// let right = is_right(alloc, list, draw, &step_points(tree, command));
 /// ```
-/// *`crates/rstar_vectors/src/replays.rt`*
+/// *`crates/rstar_run/src/replay_tests.rt`*
 pub fn is_fit<T: PointDistance + EqualEnvelopes>(command: &Command<T>) -> bool
     ensures { IsTrue result ↔ IsFit ⟦<T as Scanned>⟧.questions T.Envelope.Point.DIMENSIONS command.now }
 {
@@ -52,11 +52,12 @@ fn is_loadable<T: RTreeObject>(elements: &[T]) -> bool
 ///
 /// ```rust
 /// if !all_fit(&commands) {
-///     return (Ok(Vec::new(alloc)), None);
+///     return Ok(Vec::new(alloc));
 /// }
-/// let mut tree: RTree<T> = RTree::default(alloc);
+/// mark(alloc);
+/// let all = replayed(tree, commands, by_order);
 /// ```
-/// *`crates/rstar_vectors/src/replays.rt`*
+/// *`crates/rstar_run/src/replay_tests.rt`*
 pub fn all_fit<T: PointDistance + EqualEnvelopes>(commands: &[Command<T>]) -> bool
     ensures { IsTrue result ↔ AllByRecursion (IsFit ⟦<T as Scanned>⟧.questions T.Envelope.Point.DIMENSIONS) commands.now }
 {

@@ -1,4 +1,4 @@
-//! Commands: rows, callers at concrete types, and thousands of commands beside a plain list.
+//! Commands over points: a caller with all that a step promises, rows, and thousands of commands beside a plain list.
 
 ghost use Rattle.std.specs.Prelude.{◌≡◌, ◌<◌, ◌≤◌, ◌↔◌, ◌⊎◌, IfOk, OnErr};
 ghost use Rattle.std.specs.List.{AllByRecursion};
@@ -8,22 +8,19 @@ ghost use Rattle.rstar.specs.Heights.{height_of, spare_lists};
 ghost use Rattle.rstar.specs.Steps.{IsFit, IsInsertion, IsRefusal, Step, Run};
 ghost use Rattle.rstar.specs.Trees.{root_of, size_of, elements_in, IsUnchanged, IsWholeTree};
 
-use crate::counted::Place;
-use crate::neighbour_rows::take;
-use crate::refusals::is_marked;
-use crate::scenarios::stands;
+use super::format_tests::scan;
+use super::tests::mark;
 use rstar::replay::{
     Command, Query, Reply, Scanned, all_fit, is_fit, replay, replay_by_order, step,
 };
+use rstar::stored::write_stored;
 use rstar::{
-    AABB, Counted, DefaultParams, Envelope, EqualEnvelopes, Point, PointDistance, RTree,
-    RTreeObject, RTreeParams,
+    AABB, DefaultParams, Envelope, EqualEnvelopes, Point, PointDistance, RTree, RTreeObject,
+    RTreeParams,
 };
 use std::alloc::{AllocError, Global};
 
 type At = [i64; 2];
-
-// ---- callers
 
 /// Runs one command over points.
 fn step_points(tree: &mut RTree<At>, command: Command<At>) -> Reply<At>
@@ -41,49 +38,59 @@ fn step_points(tree: &mut RTree<At>, command: Command<At>) -> Reply<At>
     step(tree, command)
 }
 
-/// Runs commands over places whose envelopes count.
-fn replay_places(
-    tree: &mut RTree<Place<At>>,
-    commands: Vec<Command<Place<At>>>,
-) -> Result<Vec<Reply<Place<At>>>, AllocError>
-    requires whole { IsWholeTree ⟦<Counted<[i64; 2]> as Envelope>⟧.boxes ⟦<Place<[i64; 2]> as RTreeObject>⟧.object
-        ⟦<DefaultParams as RTreeParams>⟧.MAX_SIZE tree.old }
-    requires fit { AllByRecursion (IsFit ⟦<Place<[i64; 2]> as Scanned>⟧.questions 2) commands.items }
-    ensures run { IfOk result (λ replies. Run ⟦<Place<[i64; 2]> as Scanned>⟧.questions
-        (elements_in tree.old) commands.items replies.items (elements_in tree.new)) }
-    ensures none_run { OnErr result (tree.new ≡ tree.old) }
-    ensures whole { IsWholeTree ⟦<Counted<[i64; 2]> as Envelope>⟧.boxes ⟦<Place<[i64; 2]> as RTreeObject>⟧.object
-        ⟦<DefaultParams as RTreeParams>⟧.MAX_SIZE tree.new }
-{
-    replay(tree, commands)
-}
-
-// ---- rows
-
-/// The replies to commands that one `replay`, or one `replay_by_order`, runs on an empty tree, between two marks, and how
-/// many elements the tree then has; none where one command is not fit, and none are counted where the tree does not stand.
-fn replies<T: PointDistance + EqualEnvelopes + Clone + Ord>(
+/// The replies to commands that are run at once, between two marks; none where one is not fit.
+fn replied<T: PointDistance + EqualEnvelopes + Clone + Ord>(
     alloc: Global,
+    tree: &mut RTree<T>,
     commands: Vec<Command<T>>,
     by_order: bool,
-) -> (Result<Vec<Reply<T>>, AllocError>, Option<usize>)
-    requires { ClonesEqual T.is_clone }
+) -> Result<Vec<Reply<T>>, AllocError>
+    requires whole { IsWholeTree T.Envelope.boxes T.object ⟦<DefaultParams as RTreeParams>⟧.MAX_SIZE tree.old }
+    requires exact { ClonesEqual T.is_clone }
+    ensures { IsWholeTree T.Envelope.boxes T.object ⟦<DefaultParams as RTreeParams>⟧.MAX_SIZE tree.new }
 {
     if !all_fit(&commands) {
-        return (Ok(Vec::new(alloc)), None);
+        return Ok(Vec::new(alloc));
     }
-    let mut tree: RTree<T> = RTree::default(alloc);
-    let is_begun = is_marked(alloc);
-    let all = if by_order {
-        replay_by_order(&mut tree, commands)
+    mark(alloc);
+    let all = replayed(tree, commands, by_order);
+    mark(alloc);
+    all
+}
+
+/// Runs commands, in the stated order of neighbours or in any.
+fn replayed<T: PointDistance + EqualEnvelopes + Clone + Ord>(
+    tree: &mut RTree<T>,
+    commands: Vec<Command<T>>,
+    by_order: bool,
+) -> Result<Vec<Reply<T>>, AllocError>
+    requires whole { IsWholeTree T.Envelope.boxes T.object ⟦<DefaultParams as RTreeParams>⟧.MAX_SIZE tree.old }
+    requires exact { ClonesEqual T.is_clone }
+    requires fit { AllByRecursion (IsFit ⟦<T as Scanned>⟧.questions T.Envelope.Point.DIMENSIONS) commands.items }
+    ensures run { IfOk result (λ replies. Run ⟦<T as Scanned>⟧.questions
+        (elements_in tree.old) commands.items replies.items (elements_in tree.new)) }
+    ensures none_run { OnErr result (tree.new ≡ tree.old) }
+    ensures whole { IsWholeTree T.Envelope.boxes T.object ⟦<DefaultParams as RTreeParams>⟧.MAX_SIZE tree.new }
+{
+    if by_order {
+        replay_by_order(tree, commands)
     } else {
-        replay(&mut tree, commands)
-    };
-    let is_ended = is_marked(alloc);
-    let left = if is_begun && is_ended && stands(&tree) {
-        Some(tree.size())
-    } else {
-        None
+        replay(tree, commands)
+    }
+}
+
+/// The replies to commands that run on an empty tree, and how many points the tree then has; none are counted where a scan of
+/// what it is written as finds a fault.
+fn replies(
+    alloc: Global,
+    commands: Vec<Command<At>>,
+    by_order: bool,
+) -> (Result<Vec<Reply<At>>, AllocError>, Option<usize>) {
+    let mut tree: RTree<At> = RTree::default(alloc);
+    let all = replied(alloc, &mut tree, commands, by_order);
+    let left = match &write_stored(&tree) {
+        Ok(bytes) if scan(alloc, bytes, &mut Vec::new(alloc)).is_ok() => Some(tree.size()),
+        _ => None,
     };
     (all, left)
 }
@@ -236,6 +243,17 @@ fn asks(draw: &Draw, point: &At) -> bool {
         3 => *point == place,
         _ => squared_distance(point, &place) <= draw.limit,
     }
+}
+
+/// Takes one item out of a list, and whether there is one.
+fn take<A: PartialEq + Copy>(list: &mut Vec<A>, item: &A) -> bool {
+    for place in 0..list.len() {
+        if list[place] == *item {
+            list.swap_remove(place);
+            return true;
+        }
+    }
+    false
 }
 
 /// Takes some points out of a list, and whether all are there.

@@ -3,7 +3,7 @@ use Rattle.rstar_base.specs.BoxData.{box_data}
 use Rattle.rstar_base.specs.PointElements.{point_object}
 use Rattle.rstar_base.specs.Points.{list_coord}
 use Rattle.rstar.specs.Trees.{IsWholeTree}
-use Rattle.rstar_vectors.proofs.replays.are_alike.Given as goal
+use Rattle.rstar_run.proofs.replay_tests.are_alike.Given as goal
 
 -- the words of a tree of points, written out: only a clause can name an impl by its types
 abbrev pub low : ℤ
