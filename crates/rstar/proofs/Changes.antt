@@ -128,8 +128,7 @@ module _ {T E P S X : Type 0} (K : T → T → Type 0) where
 
   pub roomy-kept : (max widest h : ℕ) (p q : ParentNode T E P S X) → IsChangedParent (IsChanged K h) p q → HasRoom max p.children → HasRoom max q.children
   roomy-kept max widest h p q w room =
-      let e = AllZip-long (IsChanged K h) (children_of p) (children_of q) w.children in
-      let c = w.capacity in let a = room.0 in let b = room.1 in let f = p.children.ok.0 in let g = q.children.ok.0 in (omega arith, omega arith)
+      let c = w.capacity in omega arith
 
 pub element-kept : {T E : Type 0} (v : Boxes E) (o : Objects T E) (t u : T) → KeepsBox o t u → IsElement v o t → IsElement v o u
 element-kept v o t u k is = (k.1 is.0, ap v.is_empty k.0 ∙ is.1)
@@ -178,6 +177,7 @@ module _ {T E P S X : Type 0} (v : Boxes E) (o : Objects T E) where
         rooms = subst (λ n. AllByRecursion (IsTree (IsRoomy max n) IsAny h) (children_of (root_of new))) (sym w.widest)
             (trees-kept (KeepsBox o) (IsRoomy max old.widest) IsAny (λ t u k a. tt) (room-kept max old.widest) h (children_of (root_of old)) (children_of (root_of new)) w.root.children whole.rooms);
         spares = subst (λ n. AllByRecursion (IsSpare n) new.spares.items) (sym w.widest) (subst (λ s. AllByRecursion (IsSpare old.widest) s.items) (sym w.spares) whole.spares);
+        none_over = ap (λ s. s.items) w.overfull ∙ whole.none_over;
       }
     where
       none-kept : (h : ℕ) (ns ms : List (RTreeNode T E P S X)) → AllZip (IsChanged (KeepsBox o) h) ns ms → ns ≡ [] → ms ≡ []

@@ -156,9 +156,9 @@ module _ {T E P S X : Type 0} (is_clone : T → T → Type 0) (max : ℕ) where
 
 -- a tree over a clone of a root
 pub tree_cloned_whole : {T D E P S X : Type 0} (is_clone : T → T → Type 0) (equal : ClonesEqual is_clone) (v : Boxes E) (o : Objects T E) (max : ℕ) (old new : RTree T D E P S X) (whole : IsWholeTree v o max old) → ((h : ℕ) → AllByRecursion (IsLevel h) (children_of old.root) → IsParentClone is_clone max h old.root new.root)
-    → new.size ≡ old.size → new.levels ≡ old.levels → new.widest ≡ old.widest → new.spares.items ≡ [] → IsUnchanged old new × IsWholeTree v o max new
+    → new.size ≡ old.size → new.levels ≡ old.levels → new.widest ≡ old.widest → new.spares.items ≡ [] → new.overfull.items ≡ [] → IsUnchanged old new × IsWholeTree v o max new
 unfolding IsWholeTree
-tree_cloned_whole is_clone equal v o max old new whole cloned size deep wide none =
+tree_cloned_whole is_clone equal v o max old new whole cloned size deep wide none over =
     let h = whole.root_whole.height in
     let c = cloned h (trees_map (λ p q. q.1) (λ t q. tt) h (children_of old.root) whole.root_whole.below) in
     let elements = elements_same is_clone max equal h old.root new.root c in
@@ -184,5 +184,6 @@ tree_cloned_whole is_clone equal v o max old new whole cloned size deep wide non
         root_room = λ some. c.room;
         rooms = rw wide (rooms_cloned is_clone max equal v o h old.root new.root c old.widest whole.rooms);
         spares = subst (AllByRecursion (IsSpare new.widest)) (sym none) tt;
+        none_over = over;
       },
     )

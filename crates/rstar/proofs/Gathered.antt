@@ -292,14 +292,14 @@ module _ {T E : Type 0} {IsPoint : List ℤ → Type 0} {v : Boxes E} {o : Objec
         let all = whole.counted in let same = moved_count selects most _ _ _ _ among.moved in omega arith
 
     pub whole_left : (tree : RTree T D E P S X) → root_of tree ≡ new → ((m w h : ℕ) → IsKept v o m w (root_of old) → AreKept v o m w h (children_of (root_of old)) → IsKept v o m w new)
-        → tree.widest ≡ old.widest → tree.spares.items ≡ old.spares.items → tree.size ≡ old.size - (len - before)
+        → tree.widest ≡ old.widest → tree.spares.items ≡ old.spares.items → tree.overfull.items ≡ old.overfull.items → tree.size ≡ old.size - (len - before)
         → (children_of new ≡ [] → tree.levels ≡ 0) → (children_of new ≢ [] → tree.levels ≡ old.levels) → IsWholeTree v o max tree
     unfolding IsWholeTree
-    whole_left tree root kept same_widest same_spares less none_left some_left =
+    whole_left tree root kept same_widest same_spares same_overfull less none_left some_left =
         let k = kept_of laws ok max old whole some in
         let all = whole.counted in let same = moved_count selects most _ _ _ _ among.moved in let grown = held_longer selects most _ _ _ _ among.moved in
         let left : tree.size ≡ length (all_elements (children_of new)) = omega arith in
         whole_still laws ok max old tree whole some k.0 k.2 (subst (IsKept v o max old.widest) (sym root) (kept max old.widest k.0 k.1 k.2))
         (subst (λ (p : ParentNode T E P S X). AreKept v o max old.widest k.0 (children_of p)) (sym root) (among.kept max old.widest k.0 k.2))
-        same_widest same_spares (left ∙ ap (λ (p : ParentNode T E P S X). length (all_elements (children_of p))) (sym root))
+        same_widest same_spares same_overfull (left ∙ ap (λ (p : ParentNode T E P S X). length (all_elements (children_of p))) (sym root))
         (λ none. none_left (ap children_of (sym root) ∙ none)) (λ some. some_left (λ none. some (ap children_of root ∙ none)))

@@ -14,9 +14,9 @@ use Rattle.rstar.proofs.Heights.{levels_are}
 
 -- a tree over what a load made
 pub fresh_tree : {T D E P S X : Type 0} (v : Boxes E) (o : Objects T E) (max axes : ℕ) (tree : RTree T D E P S X) → IsFresh v o max tree.widest axes tree.levels tree.root
-    → tree.size ≡ length (elements_in tree) → tree.levels < 2 ^ 64 → max ≤ tree.widest → tree.widest + 1 < 2 ^ 64 → tree.spares.items ≡ [] → IsWholeTree v o max tree
+    → tree.size ≡ length (elements_in tree) → tree.levels < 2 ^ 64 → max ≤ tree.widest → tree.widest + 1 < 2 ^ 64 → tree.spares.items ≡ [] → tree.overfull.items ≡ [] → IsWholeTree v o max tree
 unfolding IsWholeTree
-fresh_tree v o max axes tree fresh count low wide fits none = record {
+fresh_tree v o max axes tree fresh count low wide fits none over = record {
   root_whole = record { height = tree.levels; tight = fresh.whole.0.0; below = fresh.whole.1 };
   counted = count;
   leveled = sym (levels_are (IsInner v o) (IsElement v o) (λ p inner. inner.1) tree.levels (children_of tree.root) fresh.whole.0.1 fresh.whole.1);
@@ -27,6 +27,7 @@ fresh_tree v o max axes tree fresh count low wide fits none = record {
   root_room = λ some. fresh.roomy.0.room;
   rooms = fresh.roomy.1;
   spares = subst (AllByRecursion (IsSpare tree.widest)) (sym none) tt;
+  none_over = over;
 }
 
 pub none_same : {A : Type 0} (xs ys : List A) → xs ≡ [] → ys ≡ [] → IsPermutation xs ys

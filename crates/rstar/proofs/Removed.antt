@@ -61,8 +61,8 @@ module _ {T E P S X : Type 0} (v : Boxes E) (o : Objects T E) where
 module _ {T D E P S X : Type 0} where
   -- where the root is as it was, so is the tree
   pub same_tree : (tree : RTree T D E P S X) (root : ParentNode T E P S X) (r : Option T) → IfNone r (root ≡ tree.root)
-      → IfNone r (record { root = root; size = tree.size; levels = tree.levels; widest = tree.widest; spares = tree.spares; params = tree.params } ≡ tree)
-  same_tree tree root None e = ap (λ (p : ParentNode T E P S X). record { root = p; size = tree.size; levels = tree.levels; widest = tree.widest; spares = tree.spares; params = tree.params }) e
+      → IfNone r (record { root = root; size = tree.size; levels = tree.levels; widest = tree.widest; spares = tree.spares; overfull = tree.overfull; params = tree.params } ≡ tree)
+  same_tree tree root None e = ap (λ (p : ParentNode T E P S X). record { root = p; size = tree.size; levels = tree.levels; widest = tree.widest; spares = tree.spares; overfull = tree.overfull; params = tree.params }) e
   same_tree tree root (Some x) e = tt
 
 module _ {T E : Type 0} {IsPoint : List ℤ → Type 0} {v : Boxes E} {o : Objects T E} (laws : EnvelopeLaws IsPoint v) (ok : ObjectLaws v o) (max : ℕ) {D P S X : Type 0} where
@@ -80,11 +80,11 @@ module _ {T E : Type 0} {IsPoint : List ℤ → Type 0} {v : Boxes E} {o : Objec
   -- where they still are, the tree is whole
   pub whole_still : (old new : RTree T D E P S X) → IsWholeTree v o max old → children_of (root_of old) ≢ [] → (h : ℕ) → AreKept v o max old.widest h (children_of (root_of old))
       → IsKept v o max old.widest (root_of new) → AreKept v o max old.widest h (children_of (root_of new))
-      → new.widest ≡ old.widest → new.spares.items ≡ old.spares.items → new.size ≡ length (elements_in new)
+      → new.widest ≡ old.widest → new.spares.items ≡ old.spares.items → new.overfull.items ≡ old.overfull.items → new.size ≡ length (elements_in new)
       → (children_of (root_of new) ≡ [] → new.levels ≡ 0) → (children_of (root_of new) ≢ [] → new.levels ≡ old.levels)
       → IsWholeTree v o max new
   unfolding IsWholeTree
-  whole_still old new whole some h below root' below' same_widest same_spares counted none_left some_left = record {
+  whole_still old new whole some h below root' below' same_widest same_spares same_overfull counted none_left some_left = record {
     root_whole = record { height = h; tight = root'.tight; below = whole_of_kept laws ok max old.widest h (children_of (root_of new)) below' };
     counted = counted;
     leveled = levels_left v o max old.widest h (children_of (root_of old)) (children_of (root_of new)) old.levels new.levels whole.leveled some below below' none_left some_left;
@@ -95,6 +95,7 @@ module _ {T E : Type 0} {IsPoint : List ℤ → Type 0} {v : Boxes E} {o : Objec
     root_room = λ _. root'.roomy.room;
     rooms = rw same_widest (rooms_of v o max old.widest h (children_of (root_of new)) below');
     spares = rw (same_widest, same_spares) whole.spares;
+    none_over = same_overfull ∙ whole.none_over;
   }
 
 module _ {T E : Type 0} {IsPoint : List ℤ → Type 0} {v : Boxes E} {o : Objects T E} (laws : EnvelopeLaws IsPoint v) (ok : ObjectLaws v o) (max : ℕ)
@@ -104,16 +105,16 @@ module _ {T E : Type 0} {IsPoint : List ℤ → Type 0} {v : Boxes E} {o : Objec
       → Takes v o accepts selects (children_of (root_of old)) path rest r (children_of (root_of new)) path' rest'
       → ((m w h : ℕ) → IsKept v o m w (root_of old) → AreKept v o m w h (children_of (root_of old)) → IsRestAt v o rest path (children_of (root_of old)) → IsKept v o m w (root_of new))
       → IfNone r (new ≡ old)
-      → new.widest ≡ old.widest → new.spares.items ≡ old.spares.items → new.size ≡ length (elements_in new)
+      → new.widest ≡ old.widest → new.spares.items ≡ old.spares.items → new.overfull.items ≡ old.overfull.items → new.size ≡ length (elements_in new)
       → (children_of (root_of new) ≡ [] → new.levels ≡ 0) → (children_of (root_of new) ≢ [] → new.levels ≡ old.levels)
       → Removes v o max accepts selects old path rest r new path' rest'
-  removes old new path path' rest rest' r whole some takes kept same same_widest same_spares counted none_left some_left =
+  removes old new path path' rest rest' r whole some takes kept same same_widest same_spares same_overfull counted none_left some_left =
       let before = kept_of laws ok max old whole some in
       let h = before.0 in
       let below = before.2 in
       record {
         whole = λ at. whole_still laws ok max old new whole some h below (kept max old.widest h before.1 below at) (takes.whole max old.widest h below at)
-            same_widest same_spares counted none_left some_left;
+            same_widest same_spares same_overfull counted none_left some_left;
         rests = λ at. takes.rests max old.widest h below at;
         taken = takes.taken;
         selected = takes.selected;

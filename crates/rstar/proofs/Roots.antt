@@ -11,9 +11,9 @@ use Rattle.rstar.proofs.Insertion.{whole_of_kept}
 use Rattle.rstar.proofs.WholeTrees.{levels_kept, rooms_of}
 
 pub kept_root : {T D E P S X : Type 0} {IsPoint : List ℤ → Type 0} {v : Boxes E} {o : Objects T E} (laws : EnvelopeLaws IsPoint v) (ok : ObjectLaws v o) (max : ℕ) (tree : RTree T D E P S X) → IsKeptTree v o max tree.widest tree.levels tree.root
-    → tree.size ≡ length (elements_in tree) → tree.levels < 2 ^ 64 → max ≤ tree.widest → tree.widest + 1 < 2 ^ 64 → tree.spares.items ≡ [] → IsWholeTree v o max tree
+    → tree.size ≡ length (elements_in tree) → tree.levels < 2 ^ 64 → max ≤ tree.widest → tree.widest + 1 < 2 ^ 64 → tree.spares.items ≡ [] → tree.overfull.items ≡ [] → IsWholeTree v o max tree
 unfolding IsWholeTree
-kept_root {v = v} {o = o} laws ok max tree kept count low wide fits none = record {
+kept_root {v = v} {o = o} laws ok max tree kept count low wide fits none over = record {
   root_whole = record { height = tree.levels; tight = kept.0.0.tight; below = whole_of_kept laws ok max tree.widest tree.levels (children_of tree.root) kept.1 };
   counted = count;
   leveled = levels_kept v o max tree.widest tree.levels tree.root kept;
@@ -24,4 +24,5 @@ kept_root {v = v} {o = o} laws ok max tree kept count low wide fits none = recor
   root_room = λ some. kept.0.0.roomy.room;
   rooms = rooms_of v o max tree.widest tree.levels (children_of tree.root) kept.1;
   spares = subst (AllByRecursion (IsSpare tree.widest)) (sym none) tt;
+  none_over = over;
 }

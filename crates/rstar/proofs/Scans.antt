@@ -454,10 +454,10 @@ module _ {T E : Type 0} {IsPoint : List ℤ → Type 0} {v : Boxes E} {o : Objec
       → vec_len q.children ≡ length q.children.items → vec_len p.children ≡ length p.children.items → vec_capacity q.children ≡ vec_capacity p.children
       → q.envelope ≡ hull v (node_box o.box_of) q.children.items → IsKept v o m w q
   kept_anew h p q kept below short ql pl same made =
-      let narrow = kept.roomy.narrow in let room = kept.roomy.room.0 in let wide = kept.roomy.room.1 in
+      let narrow = kept.roomy.narrow in let room = kept.roomy.room in
       record {
         tight = made ∙ merged_is_hull laws ok h q.children.items (whole_of_kept laws ok m w h q.children.items below);
-        roomy = record { narrow = omega arith; room = (omega arith, omega arith) };
+        roomy = record { narrow = omega arith; room = omega arith };
       }
 
   -- so is one whose envelope stayed, where the merge of its children's is what it was

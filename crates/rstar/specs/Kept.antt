@@ -25,18 +25,18 @@ use Rattle.rstar.specs.declared.node.ParentNode.{ParentNode}
 use Rattle.rstar.specs.Nodes.{node_box, IsElement, IsTight}
 use Rattle.rstar.specs.Shapes.{AreTrees, IsParentTree, IsAny, HasSize}
 
--- the list can take one item more, and holds one more than `max` at least
+-- the list can hold `max` items
 abbrev pub HasRoom : {A : Type 0} → ℕ → Vec A Global → Type 0
-HasRoom max v = (vec_len v < vec_capacity v) × (max < vec_capacity v)
+HasRoom max v = max ≤ vec_capacity v
 
--- at most `widest` children, and room for one more
+-- at most `widest` children, and room for `max`
 pub record IsRoomy {T E P S X : Type 0} (max widest : ℕ) (p : ParentNode T E P S X) : Type 0 where
   pub narrow : length p.children.items ≤ widest
   pub room : HasRoom max p.children
 
--- an empty list that can hold one more than `widest`
+-- an empty list that can hold so many items
 abbrev pub IsSpare : {A : Type 0} → ℕ → Vec A Global → Type 0
-IsSpare widest v = (v.items ≡ []) × (widest < vec_capacity v)
+IsSpare count v = (v.items ≡ []) × (count ≤ vec_capacity v)
 
 -- ---- a parent while an element goes in
 

@@ -54,11 +54,13 @@ module _ {T D E P S X : Type 0} (v : Boxes E) (o : Objects T E) (max : ℕ) wher
     pub wide : max ≤ tree.widest
     pub wide_fits : tree.widest + 1 < 2 ^ 64
     pub narrow : length (children_of (root_of tree)) ≤ tree.widest
-    -- each child list can take a child more, but that of an empty root
+    -- each child list can hold `max` children, but that of an empty root
     pub root_room : children_of (root_of tree) ≢ [] → HasRoom max tree.root.children
     pub rooms : AreTrees (IsRoomy max tree.widest) IsAny root_whole.height (children_of (root_of tree))
-    -- and so can each spare list, one more than the bound
+    -- and each spare list as many as the bound
     pub spares : AllByRecursion (IsSpare tree.widest) tree.spares.items
+    -- nothing is left of an overflow
+    pub none_over : tree.overfull.items ≡ []
 
   -- a whole tree; callers need no more than the word
   unfoldable pub IsWholeTree : RTree T D E P S X → Type 0

@@ -4,7 +4,7 @@ ghost use Rattle.std.specs.Prelude.{◌≡◌, ◌⊎◌, ◌∷◌, ◌+◌, �
 ghost use Rattle.std.specs.List.Sorted.{IsPermutation};
 ghost use Rattle.rstar.specs.Heights.{height_of, spare_lists};
 ghost use Rattle.rstar.specs.Insertions.{Inserts};
-ghost use Rattle.rstar.specs.Kept.{HasRoom};
+ghost use Rattle.rstar.specs.Kept.{HasRoom, IsSpare};
 ghost use Rattle.rstar.specs.Nodes.{children_of, envelope_of, parents_of, IsWhole};
 ghost use Rattle.rstar.specs.Shapes.{IsSized};
 ghost use Rattle.rstar.specs.Trees.{root_of, size_of, elements_in, IsUnchanged, IsWholeTree};
@@ -57,6 +57,8 @@ pub struct RTree<T: RTreeObject, Params: RTreeParams = DefaultParams> {
     widest: usize,
     // Empty child lists, for the parents that an insertion makes.
     spares: Vec<Vec<RTreeNode<T>>>,
+    // An empty list, in which a parent's children are put in order when there is one too many.
+    overfull: Vec<RTreeNode<T>>,
     params: PhantomData<Params>,
 }
 
@@ -135,6 +137,7 @@ impl<T: RTreeObject, Params: RTreeParams> RTree<T, Params> {
             levels: 0,
             widest: Params::MAX_SIZE,
             spares: Vec::new(alloc),
+            overfull: Vec::new(alloc),
             params: PhantomData,
         }
     }
@@ -233,11 +236,13 @@ impl<T: RTreeObject, Params: RTreeParams> RTree<T, Params> {
         ensures whole { IsWholeTree T.Envelope.boxes T.object Params.MAX_SIZE self.new }
         ensures room { OnOk result (HasRoom Params.MAX_SIZE self.new.root.children) }
         ensures spares { OnOk result (vec_len self.new.spares ≡ max (vec_len self.old.spares) wanted) }
+        ensures overfull { OnOk result (IsSpare (self.new.widest + 1) self.new.overfull) }
     {
         let alloc = *self.root.children.allocator();
         top_up(&mut self.spares, wanted, self.widest, alloc)?;
+        self.overfull.reserve(self.widest + 1)?;
         if self.root.children.is_empty() {
-            self.root.children.reserve(Params::MAX_SIZE + 1)?;
+            self.root.children.reserve(Params::MAX_SIZE)?;
         }
         Ok(())
     }
@@ -250,6 +255,7 @@ impl<T: RTreeObject, Params: RTreeParams> RTree<T, Params> {
         requires room { HasRoom Params.MAX_SIZE self.old.root.children }
         requires enough { spare_lists Params.REINSERTION_COUNT (height_of (root_of self.old))
             ≤ vec_len self.old.spares }
+        requires overfull { IsSpare (self.old.widest + 1) self.old.overfull }
         requires count { size_of self.old < usize.MAX }
         ensures added { IsPermutation (t ∷ elements_in self.old) (elements_in self.new) }
         ensures counted { size_of self.new ≡ size_of self.old + 1 }
@@ -267,6 +273,7 @@ impl<T: RTreeObject, Params: RTreeParams> RTree<T, Params> {
             self.levels,
             self.widest,
             &mut self.spares,
+            &mut self.overfull,
         );
         self.size += 1;
     }

@@ -210,8 +210,7 @@ fn children_at<'a, Params: RTreeParams>(
     ensures points { IfOk result (λ x. points.new ≡ points.old + length (all_elements x.0.items)) }
     ensures left { IfOk result (λ x. points.new + length x.1.now ≤ points.old + length bytes.now) }
 {
-    let room = count.max(Params::MAX_SIZE).saturating_add(1);
-    let mut children = Vec::with_capacity(alloc, room)?;
+    let mut children = Vec::with_capacity(alloc, count.max(Params::MAX_SIZE))?;
     let mut rest = bytes;
     for _ in 0..count {
         let (node, after) = node_at::<Params>(alloc, rest, below, widest, points)?;

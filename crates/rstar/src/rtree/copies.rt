@@ -53,6 +53,7 @@ impl<T: RTreeObject + Clone, Params: RTreeParams> RTree<T, Params> {
             levels: self.levels,
             widest: self.widest,
             spares: Vec::new(*self.root.children.allocator()),
+            overfull: Vec::new(*self.root.children.allocator()),
             params: PhantomData,
         })
     }

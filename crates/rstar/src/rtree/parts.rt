@@ -36,6 +36,7 @@ impl<T: RTreeObject, Params: RTreeParams> RTree<T, Params> {
             levels,
             widest,
             spares: Vec::new(alloc),
+            overfull: Vec::new(alloc),
             params: PhantomData,
         }
     }

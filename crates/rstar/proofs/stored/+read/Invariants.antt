@@ -22,8 +22,8 @@ invariant-children_at-loop g l = record {
   read : with_front (map shown l.children.items) (each_at (node_at l.below) (l.count - l.counter) l.rest) ≡ each_at (node_at l.below) l.count l.bytes;
   kept : AreKept boxes places g.Params.RTreeParams.MAX_SIZE l.widest l.below l.children.items;
   len : vec_len l.children ≡ l.counter;
-  room : l.count < vec_capacity l.children;
-  wide : g.Params.RTreeParams.MAX_SIZE < vec_capacity l.children;
+  room : l.count ≤ vec_capacity l.children;
+  wide : g.Params.RTreeParams.MAX_SIZE ≤ vec_capacity l.children;
   wider : l.fn.widest ≤ l.widest;
   counted : l.widest + 1 < 2 ^ 64;
   points : l.points ≡ l.fn.points + length (all_elements l.children.items);

@@ -31,20 +31,14 @@ fn leaves<T: RTreeObject>(elements: Vec<T>, room: usize) -> Result<Vec<RTreeNode
     Ok(leaves)
 }
 
-/// Room for one child more, and for more than `MAX_SIZE`.
+/// Room for `MAX_SIZE` children.
 pub(crate) fn make_room<T: RTreeObject, Params: RTreeParams>(
     nodes: &mut Vec<RTreeNode<T>>,
 ) -> Result<(), AllocError>
     ensures same { nodes.new.items ≡ nodes.old.items }
     ensures room { OnOk result (HasRoom Params.MAX_SIZE nodes.new) }
 {
-    let len = nodes.len();
-    let wanted = if len <= Params::MAX_SIZE {
-        Params::MAX_SIZE + 1 - len
-    } else {
-        1
-    };
-    nodes.reserve(wanted)
+    nodes.reserve(Params::MAX_SIZE.saturating_sub(nodes.len()))
 }
 
 /// The same; `widest` grows to the number of children.
@@ -89,7 +83,7 @@ pub(crate) fn load_node<T: RTreeObject, Params: RTreeParams>(
     if below == 0 {
         return leaf_parent::<T, Params>(list, len, widest);
     }
-    let mut nodes = Vec::with_capacity(*list.allocator(), Params::MAX_SIZE + 1)?;
+    let mut nodes = Vec::with_capacity(*list.allocator(), Params::MAX_SIZE)?;
     let clusters = slabs_on_axis::<T, Params>(len);
     let axes = <<T::Envelope as Envelope>::Point as Point>::DIMENSIONS;
     load_parts::<T, Params>(list, len, axes, clusters, below - 1, &mut nodes, widest)?;

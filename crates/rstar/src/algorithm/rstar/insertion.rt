@@ -10,7 +10,7 @@ ghost use Rattle.rstar.specs.Shapes.{AreSized, IsSizedTree};
 ghost use Rattle.rstar.specs.Kept.{HasRoom, IsRoomy, IsSpare, IsKept, HasMergedBox, AreKept, IsKeptTree, IsSizedAfter, second_children, as_node};
 
 use crate::algorithm::rstar::choose::choose_subtree;
-use crate::algorithm::rstar::split::split_in_place;
+use crate::algorithm::rstar::split::{move_all, split_in_place};
 use crate::node::{ParentNode, RTreeNode, envelope_for_children};
 use rstar_base::envelope::Envelope;
 use rstar_base::object::RTreeObject;
@@ -23,6 +23,7 @@ fn add_child<T: RTreeObject, Params: RTreeParams>(
     child: RTreeNode<T>,
     widest: usize,
     spares: &mut Vec<Vec<RTreeNode<T>>>,
+    overfull: &mut Vec<RTreeNode<T>>,
 ) -> Option<ParentNode<T>>
     requires covered { node.old.envelope
         ≡ hull T.Envelope.boxes (node_box T.object.box_of) (node.old.children.items ++ child ∷ []) }
@@ -30,6 +31,7 @@ fn add_child<T: RTreeObject, Params: RTreeParams>(
     requires wide { Params.MAX_SIZE ≤ widest }
     requires spares { AllByRecursion (IsSpare widest) spares.old.items }
     requires enough { 0 < vec_len spares.old }
+    requires overfull { IsSpare (widest + 1) overfull.old }
 
     // The children are those before and the new one.
     ensures same { IsPermutation (node.old.children.items ++ child ∷ [])
@@ -51,15 +53,19 @@ fn add_child<T: RTreeObject, Params: RTreeParams>(
     ensures spares { AllByRecursion (IsSpare widest) spares.new.items }
     ensures used { vec_len spares.old ≡ vec_len spares.new + length (as_node result) }
 
-    // A list that is handed back has its place.
+    // A list that is handed back has its place, and nothing is left of an overflow.
     ensures places { vec_capacity spares.new ≡ vec_capacity spares.old }
+    ensures overfull { IsSpare (widest + 1) overfull.new }
 {
-    node.children.push_reserved(child);
-    if node.children.len() <= Params::MAX_SIZE {
+    if node.children.len() < Params::MAX_SIZE {
+        node.children.push_reserved(child);
         return None;
     }
     let mut second = spares.take_last();
-    split_in_place::<_, Params>(&mut node.children, &mut second);
+    move_all(&mut node.children, overfull);
+    overfull.push_reserved(child);
+    split_in_place::<_, Params>(overfull, &mut second);
+    move_all(overfull, &mut node.children);
     node.envelope = envelope_for_children(&node.children);
     let envelope = envelope_for_children(&second);
     Some(ParentNode {
@@ -77,6 +83,7 @@ fn insert_below<T: RTreeObject, Params: RTreeParams>(
     levels: usize,
     widest: usize,
     spares: &mut Vec<Vec<RTreeNode<T>>>,
+    overfull: &mut Vec<RTreeNode<T>>,
 ) -> Option<ParentNode<T>>
     requires node { IsKept T.Envelope.boxes T.object Params.MAX_SIZE widest node.old }
     requires below { AreKept T.Envelope.boxes T.object Params.MAX_SIZE widest levels node.old.children.items }
@@ -85,6 +92,7 @@ fn insert_below<T: RTreeObject, Params: RTreeParams>(
     requires wide { Params.MAX_SIZE ≤ widest }
     requires spares { AllByRecursion (IsSpare widest) spares.old.items }
     requires enough { levels < vec_len spares.old }
+    requires overfull { IsSpare (widest + 1) overfull.old }
     ensures bag { IsPermutation (t ∷ all_elements node.old.children.items)
         (all_elements (node.new.children.items ++ second_children result)) }
     ensures first { IsKeptTree T.Envelope.boxes T.object Params.MAX_SIZE widest levels node.new }
@@ -95,6 +103,7 @@ fn insert_below<T: RTreeObject, Params: RTreeParams>(
     ensures used { vec_len spares.old ≤ vec_len spares.new + levels + 1 }
     ensures fewer { vec_len spares.new ≤ vec_len spares.old }
     ensures places { vec_capacity spares.new ≡ vec_capacity spares.old }
+    ensures overfull { IsSpare (widest + 1) overfull.new }
 
     // Each parent that is new took one.
     ensures made { vec_len spares.old + all_parents node.old.children.items ≡ vec_len spares.new
@@ -103,12 +112,22 @@ fn insert_below<T: RTreeObject, Params: RTreeParams>(
     let envelope = t.envelope();
     node.envelope.merge(&envelope);
     if levels == 0 {
-        return add_child::<T, Params>(node, RTreeNode::Leaf(t), widest, spares);
+        return add_child::<T, Params>(node, RTreeNode::Leaf(t), widest, spares, overfull);
     }
     let index = choose_subtree(&node.children, &envelope, levels == 1);
-    match insert_in_child::<T, Params>(&mut node.children, index, t, levels, widest, spares) {
+    match insert_in_child::<T, Params>(
+        &mut node.children,
+        index,
+        t,
+        levels,
+        widest,
+        spares,
+        overfull,
+    ) {
         None => None,
-        Some(second) => add_child::<T, Params>(node, RTreeNode::Parent(second), widest, spares),
+        Some(second) => {
+            add_child::<T, Params>(node, RTreeNode::Parent(second), widest, spares, overfull)
+        }
     }
 }
 
@@ -121,6 +140,7 @@ fn insert_in_child<T: RTreeObject, Params: RTreeParams>(
     levels: usize,
     widest: usize,
     spares: &mut Vec<Vec<RTreeNode<T>>>,
+    overfull: &mut Vec<RTreeNode<T>>,
 ) -> Option<ParentNode<T>>
     requires index { index < vec_len children.old }
     requires above { 0 < levels }
@@ -129,6 +149,7 @@ fn insert_in_child<T: RTreeObject, Params: RTreeParams>(
     requires wide { Params.MAX_SIZE ≤ widest }
     requires spares { AllByRecursion (IsSpare widest) spares.old.items }
     requires enough { levels ≤ vec_len spares.old }
+    requires overfull { IsSpare (widest + 1) overfull.old }
     ensures bag { IsPermutation (t ∷ all_elements children.old.items)
         (all_elements (children.new.items ++ as_node result)) }
     ensures below { AreKept T.Envelope.boxes T.object Params.MAX_SIZE widest levels
@@ -141,11 +162,14 @@ fn insert_in_child<T: RTreeObject, Params: RTreeParams>(
     ensures used { vec_len spares.old ≤ vec_len spares.new + levels }
     ensures fewer { vec_len spares.new ≤ vec_len spares.old }
     ensures places { vec_capacity spares.new ≡ vec_capacity spares.old }
+    ensures overfull { IsSpare (widest + 1) overfull.new }
     ensures made { vec_len spares.old + all_parents children.old.items
         ≡ vec_len spares.new + all_parents (children.new.items ++ as_node result) }
 {
     match &mut children[index] {
-        RTreeNode::Parent(child) => insert_below::<T, Params>(child, t, levels - 1, widest, spares),
+        RTreeNode::Parent(child) => {
+            insert_below::<T, Params>(child, t, levels - 1, widest, spares, overfull)
+        }
         RTreeNode::Leaf(_) => unreachable!(),
     }
 }
@@ -182,6 +206,7 @@ pub(crate) fn insert_at_root<T: RTreeObject, Params: RTreeParams>(
     levels: usize,
     widest: usize,
     spares: &mut Vec<Vec<RTreeNode<T>>>,
+    overfull: &mut Vec<RTreeNode<T>>,
 ) -> usize
     requires root { IsKept T.Envelope.boxes T.object Params.MAX_SIZE widest root.old }
     requires below { AreKept T.Envelope.boxes T.object Params.MAX_SIZE widest levels root.old.children.items }
@@ -190,6 +215,7 @@ pub(crate) fn insert_at_root<T: RTreeObject, Params: RTreeParams>(
     requires wide { Params.MAX_SIZE ≤ widest }
     requires spares { AllByRecursion (IsSpare widest) spares.old.items }
     requires enough { levels + 1 < vec_len spares.old }
+    requires overfull { IsSpare (widest + 1) overfull.old }
     ensures bag { IsPermutation (t ∷ all_elements root.old.children.items) (all_elements root.new.children.items) }
     ensures kept { IsKeptTree T.Envelope.boxes T.object Params.MAX_SIZE widest result root.new }
     ensures sized { IsSizedTree Params.MIN_SIZE Params.MAX_SIZE levels root.old
@@ -199,11 +225,12 @@ pub(crate) fn insert_at_root<T: RTreeObject, Params: RTreeParams>(
     ensures used { vec_len spares.old ≤ vec_len spares.new + result + 1 }
     ensures fewer { vec_len spares.new ≤ vec_len spares.old }
     ensures places { vec_capacity spares.new ≡ vec_capacity spares.old }
+    ensures overfull { IsSpare (widest + 1) overfull.new }
 
     // Each parent that is new took a spare list.
     ensures made { vec_len spares.old + parents_of root.old ≡ vec_len spares.new + parents_of root.new }
 {
-    match insert_below::<T, Params>(root, t, levels, widest, spares) {
+    match insert_below::<T, Params>(root, t, levels, widest, spares, overfull) {
         None => levels,
         Some(second) => {
             grow_root::<T, Params>(root, second, widest, spares);

@@ -22,7 +22,7 @@ pub(crate) fn lists_wanted<Params: RTreeParams>(levels: usize) -> Option<usize>
     Params::REINSERTION_COUNT.max(1).checked_mul(each)
 }
 
-/// Tops the spare lists up to so many. Each can hold one child more than `widest`.
+/// Tops the spare lists up to so many. Each can hold `widest` children.
 pub(crate) fn top_up<T: RTreeObject>(
     spares: &mut Vec<Vec<RTreeNode<T>>>,
     wanted: usize,
@@ -30,12 +30,11 @@ pub(crate) fn top_up<T: RTreeObject>(
     alloc: Global,
 ) -> Result<(), AllocError>
     requires spares { AllByRecursion (IsSpare widest) spares.old.items }
-    requires fits { widest < usize.MAX }
     ensures spares { AllByRecursion (IsSpare widest) spares.new.items }
     ensures count { OnOk result (vec_len spares.new ≡ max (vec_len spares.old) wanted) }
 {
     while spares.len() < wanted {
-        let list = Vec::with_capacity(alloc, widest + 1)?;
+        let list = Vec::with_capacity(alloc, widest)?;
         spares.push(list)?;
     }
     Ok(())

@@ -13,7 +13,7 @@ ghost use Rattle.rstar.specs.Kept.{IsRoomy, IsSpare, IsKept, HasMergedBox, AreKe
 
 use crate::algorithm::rstar::choose::choose_subtree;
 use crate::algorithm::rstar::insertion::insert_at_root;
-use crate::algorithm::rstar::split::cut_at;
+use crate::algorithm::rstar::split::{cut_at, move_all};
 use crate::node::{ParentNode, RTreeNode, envelope_for_children};
 use rstar_base::envelope::Envelope;
 use rstar_base::object::{Distance, PointDistance, PointOf, RTreeObject};
@@ -37,25 +37,35 @@ fn sort_by_distance<T: RTreeObject>(list: &mut [T], point: &PointOf<T>)
     list.sort_unstable_by(|a: &T, b: &T| -> Ordering { compare_centres(point, a, b) });
 }
 
-/// Hands out the `REINSERTION_COUNT` children whose centres lie farthest from the node's centre, the farthest one last.
+/// Takes a child in that a node has no room for, and hands out the `REINSERTION_COUNT` children whose centres lie farthest
+/// from the node's centre, the farthest one last.
 fn hand_out<T: RTreeObject, Params: RTreeParams>(
     node: &mut ParentNode<T>,
+    child: RTreeNode<T>,
     handed: &mut Vec<RTreeNode<T>>,
+    overfull: &mut Vec<RTreeNode<T>>,
 )
-    requires many { Params.MAX_SIZE < vec_len node.old.children }
+    requires many { Params.MAX_SIZE ≤ vec_len node.old.children }
+    requires reinserts { 0 < Params.REINSERTION_COUNT }
     requires none { handed.old.items ≡ [] }
+    requires over { IsSpare (vec_len node.old.children + 1) overfull.old }
     requires room { Params.REINSERTION_COUNT ≤ vec_capacity handed.old }
-    ensures same { IsPermutation node.old.children.items (node.new.children.items ++ handed.new.items) }
+    ensures same { IsPermutation (node.old.children.items ++ child ∷ [])
+        (node.new.children.items ++ handed.new.items) }
     ensures merged { node.new.envelope ≡ hull T.Envelope.boxes (node_box T.object.box_of) node.new.children.items }
     ensures count { vec_len handed.new ≡ Params.REINSERTION_COUNT }
-    ensures lengths { vec_len node.new.children + Params.REINSERTION_COUNT ≡ vec_len node.old.children }
-    ensures capacity { vec_capacity node.new.children ≡ vec_capacity node.old.children }
+    ensures lengths { vec_len node.new.children + Params.REINSERTION_COUNT ≡ vec_len node.old.children + 1 }
+    ensures capacity { vec_capacity node.old.children ≤ vec_capacity node.new.children }
     ensures handed_capacity { vec_capacity handed.old ≤ vec_capacity handed.new }
+    ensures over { (overfull.new.items ≡ []) × (vec_capacity overfull.old ≤ vec_capacity overfull.new) }
 {
+    move_all(&mut node.children, overfull);
+    overfull.push_reserved(child);
     let centre = node.envelope.center();
-    sort_by_distance(&mut node.children, &centre);
-    let kept = node.children.len() - Params::REINSERTION_COUNT;
-    cut_at(&mut node.children, kept, handed);
+    sort_by_distance(overfull, &centre);
+    let kept = overfull.len() - Params::REINSERTION_COUNT;
+    cut_at(overfull, kept, handed);
+    move_all(overfull, &mut node.children);
     node.envelope = envelope_for_children(&node.children);
 }
 
@@ -65,6 +75,7 @@ fn add_leaf<T: RTreeObject, Params: RTreeParams>(
     t: T,
     widest: usize,
     handed: &mut Vec<RTreeNode<T>>,
+    overfull: &mut Vec<RTreeNode<T>>,
 )
     requires covered { node.old.envelope
         ≡ hull T.Envelope.boxes (node_box T.object.box_of) (node.old.children.items ++ Leaf t ∷ []) }
@@ -72,6 +83,7 @@ fn add_leaf<T: RTreeObject, Params: RTreeParams>(
     requires wide { Params.MAX_SIZE ≤ widest }
     requires reinserts { 0 < Params.REINSERTION_COUNT }
     requires spare { IsSpare widest handed.old }
+    requires overfull { IsSpare (widest + 1) overfull.old }
     ensures same { IsPermutation (node.old.children.items ++ Leaf t ∷ [])
         (node.new.children.items ++ handed.new.items) }
     ensures fit { HasMergedBox T.Envelope.boxes T.object Params.MAX_SIZE widest node.new }
@@ -79,10 +91,13 @@ fn add_leaf<T: RTreeObject, Params: RTreeParams>(
     ensures least { Params.MIN_SIZE ≤ vec_len node.old.children → Params.MIN_SIZE ≤ vec_len node.new.children }
     ensures most { vec_len node.old.children ≤ Params.MAX_SIZE → vec_len node.new.children ≤ Params.MAX_SIZE }
     ensures capacity { vec_capacity handed.old ≤ vec_capacity handed.new }
+    ensures overfull { IsSpare (widest + 1) overfull.new }
 {
-    node.children.push_reserved(RTreeNode::Leaf(t));
-    if Params::MAX_SIZE < node.children.len() {
-        hand_out::<T, Params>(node, handed);
+    let leaf = RTreeNode::Leaf(t);
+    if node.children.len() < Params::MAX_SIZE {
+        node.children.push_reserved(leaf);
+    } else {
+        hand_out::<T, Params>(node, leaf, handed, overfull);
     }
 }
 
@@ -95,6 +110,7 @@ fn insert_first<T: RTreeObject, Params: RTreeParams>(
     levels: usize,
     widest: usize,
     handed: &mut Vec<RTreeNode<T>>,
+    overfull: &mut Vec<RTreeNode<T>>,
 )
     requires node { IsKept T.Envelope.boxes T.object Params.MAX_SIZE widest node.old }
     requires below { AreKept T.Envelope.boxes T.object Params.MAX_SIZE widest levels node.old.children.items }
@@ -103,6 +119,7 @@ fn insert_first<T: RTreeObject, Params: RTreeParams>(
     requires wide { Params.MAX_SIZE ≤ widest }
     requires reinserts { 0 < Params.REINSERTION_COUNT }
     requires spare { IsSpare widest handed.old }
+    requires overfull { IsSpare (widest + 1) overfull.old }
     ensures bag { IsPermutation (t ∷ all_elements node.old.children.items)
         (all_elements node.new.children.items ++ all_elements handed.new.items) }
     ensures kept { IsKeptTree T.Envelope.boxes T.object Params.MAX_SIZE widest levels node.new }
@@ -111,6 +128,7 @@ fn insert_first<T: RTreeObject, Params: RTreeParams>(
     ensures sized { IsSizedTree Params.MIN_SIZE Params.MAX_SIZE levels node.old
         → IsSizedAfter Params.MIN_SIZE Params.MAX_SIZE levels (vec_len node.old.children) node.new None }
     ensures capacity { vec_capacity handed.old ≤ vec_capacity handed.new }
+    ensures overfull { IsSpare (widest + 1) overfull.new }
 
     // No parent is new, and none goes.
     ensures parents { all_parents node.new.children.items ≡ all_parents node.old.children.items }
@@ -118,11 +136,19 @@ fn insert_first<T: RTreeObject, Params: RTreeParams>(
     let envelope = t.envelope();
     node.envelope.merge(&envelope);
     if levels == 0 {
-        add_leaf::<T, Params>(node, t, widest, handed);
+        add_leaf::<T, Params>(node, t, widest, handed, overfull);
         return;
     }
     let index = choose_subtree(&node.children, &envelope, levels == 1);
-    insert_first_in_child::<T, Params>(&mut node.children, index, t, levels, widest, handed);
+    insert_first_in_child::<T, Params>(
+        &mut node.children,
+        index,
+        t,
+        levels,
+        widest,
+        handed,
+        overfull,
+    );
     if !handed.is_empty() {
         node.envelope = envelope_for_children(&node.children);
     }
@@ -137,6 +163,7 @@ fn insert_first_in_child<T: RTreeObject, Params: RTreeParams>(
     levels: usize,
     widest: usize,
     handed: &mut Vec<RTreeNode<T>>,
+    overfull: &mut Vec<RTreeNode<T>>,
 )
     requires index { index < vec_len children.old }
     requires above { 0 < levels }
@@ -145,6 +172,7 @@ fn insert_first_in_child<T: RTreeObject, Params: RTreeParams>(
     requires wide { Params.MAX_SIZE ≤ widest }
     requires reinserts { 0 < Params.REINSERTION_COUNT }
     requires spare { IsSpare widest handed.old }
+    requires overfull { IsSpare (widest + 1) overfull.old }
     ensures bag { IsPermutation (t ∷ all_elements children.old.items)
         (all_elements children.new.items ++ all_elements handed.new.items) }
     ensures below { AreKept T.Envelope.boxes T.object Params.MAX_SIZE widest levels children.new.items }
@@ -155,11 +183,12 @@ fn insert_first_in_child<T: RTreeObject, Params: RTreeParams>(
     ensures length { vec_len children.new ≡ vec_len children.old }
     ensures capacity { vec_capacity children.new ≡ vec_capacity children.old }
     ensures handed_capacity { vec_capacity handed.old ≤ vec_capacity handed.new }
+    ensures overfull { IsSpare (widest + 1) overfull.new }
     ensures parents { all_parents children.new.items ≡ all_parents children.old.items }
 {
     match &mut children[index] {
         RTreeNode::Parent(child) => {
-            insert_first::<T, Params>(child, t, levels - 1, widest, handed)
+            insert_first::<T, Params>(child, t, levels - 1, widest, handed, overfull)
         }
         RTreeNode::Leaf(_) => unreachable!(),
     }
@@ -173,12 +202,14 @@ fn insert_again<T: RTreeObject, Params: RTreeParams>(
     levels: usize,
     widest: usize,
     spares: &mut Vec<Vec<RTreeNode<T>>>,
+    overfull: &mut Vec<RTreeNode<T>>,
 ) -> usize
     requires root { IsKeptTree T.Envelope.boxes T.object Params.MAX_SIZE widest levels root.old }
     requires leaves { AreKept T.Envelope.boxes T.object Params.MAX_SIZE widest 0 handed.old.items }
     requires wide { Params.MAX_SIZE ≤ widest }
     requires spares { AllByRecursion (IsSpare widest) spares.old.items }
     requires enough { vec_len handed.old * (levels + vec_len handed.old + 1) ≤ vec_len spares.old }
+    requires overfull { IsSpare (widest + 1) overfull.old }
     ensures bag { IsPermutation (all_elements root.old.children.items ++ all_elements handed.old.items)
         (all_elements root.new.children.items) }
     ensures kept { IsKeptTree T.Envelope.boxes T.object Params.MAX_SIZE widest result root.new }
@@ -190,13 +221,14 @@ fn insert_again<T: RTreeObject, Params: RTreeParams>(
     ensures made { vec_len spares.old + parents_of root.old ≡ vec_len spares.new + parents_of root.new }
     ensures none { handed.new.items ≡ [] }
     ensures capacity { vec_capacity handed.new ≡ vec_capacity handed.old }
+    ensures overfull { IsSpare (widest + 1) overfull.new }
 {
     let mut current = levels;
     while let Some(leaf) = handed.pop() {
         let RTreeNode::Leaf(t) = leaf else {
             unreachable!()
         };
-        current = insert_at_root::<T, Params>(root, t, current, widest, spares);
+        current = insert_at_root::<T, Params>(root, t, current, widest, spares, overfull);
     }
     current
 }
@@ -210,6 +242,7 @@ pub(crate) fn insert_with_reinsertion<T: RTreeObject, Params: RTreeParams>(
     levels: usize,
     widest: usize,
     spares: &mut Vec<Vec<RTreeNode<T>>>,
+    overfull: &mut Vec<RTreeNode<T>>,
 ) -> usize
     requires root { IsKept T.Envelope.boxes T.object Params.MAX_SIZE widest root.old }
     requires below { AreKept T.Envelope.boxes T.object Params.MAX_SIZE widest levels root.old.children.items }
@@ -218,21 +251,23 @@ pub(crate) fn insert_with_reinsertion<T: RTreeObject, Params: RTreeParams>(
     requires wide { Params.MAX_SIZE ≤ widest }
     requires spares { AllByRecursion (IsSpare widest) spares.old.items }
     requires enough { spare_lists Params.REINSERTION_COUNT (1 + levels) ≤ vec_len spares.old }
+    requires overfull { IsSpare (widest + 1) overfull.old }
     ensures bag { IsPermutation (t ∷ all_elements root.old.children.items) (all_elements root.new.children.items) }
     ensures kept { IsKeptTree T.Envelope.boxes T.object Params.MAX_SIZE widest result root.new }
     ensures sized { IsSizedTree Params.MIN_SIZE Params.MAX_SIZE levels root.old
         → IsSizedTree Params.MIN_SIZE Params.MAX_SIZE result root.new }
     ensures spares { AllByRecursion (IsSpare widest) spares.new.items }
+    ensures overfull { IsSpare (widest + 1) overfull.new }
 
     // Each parent that is new took a spare list, and no other list is gone.
     ensures made { vec_len spares.old + parents_of root.old ≡ vec_len spares.new + parents_of root.new }
 {
     if Params::REINSERTION_COUNT == 0 {
-        return insert_at_root::<T, Params>(root, t, levels, widest, spares);
+        return insert_at_root::<T, Params>(root, t, levels, widest, spares, overfull);
     }
     let mut handed = spares.take_last();
-    insert_first::<T, Params>(root, t, levels, widest, &mut handed);
-    let grown = insert_again::<T, Params>(root, &mut handed, levels, widest, spares);
+    insert_first::<T, Params>(root, t, levels, widest, &mut handed, overfull);
+    let grown = insert_again::<T, Params>(root, &mut handed, levels, widest, spares, overfull);
     // The list that is empty again goes back to its place, which is still there.
     spares.push_reserved(handed);
     grown

@@ -28,6 +28,21 @@ pub(crate) fn cut_at<A: Drop>(list: &mut Vec<A>, at: usize, spare: &mut Vec<A>)
     spare.reverse();
 }
 
+/// Moves all items of a list into an empty one. It takes no memory.
+pub(crate) fn move_all<A>(list: &mut Vec<A>, empty: &mut Vec<A>)
+    requires empty { empty.old.items ≡ [] }
+    requires room { vec_len list.old ≤ vec_capacity empty.old }
+    ensures left { list.new.items ≡ [] }
+    ensures moved { empty.new.items ≡ list.old.items }
+    ensures length { vec_len empty.new ≡ vec_len list.old }
+    ensures capacity { vec_capacity list.new ≡ vec_capacity list.old }
+    ensures empty_capacity { vec_capacity empty.old ≤ vec_capacity empty.new }
+{
+    if empty.append(list).is_err() {
+        unreachable!()
+    }
+}
+
 /// The overlap of the two parts at a cut, and the clamped sum of their areas.
 fn measures_at<T: RTreeObject>(list: &[T], k: usize) -> (Distance<T>, Distance<T>)
     requires { k ≤ length list.now }
@@ -143,7 +158,7 @@ pub(crate) fn split_in_place<T: RTreeObject, Params: RTreeParams>(
 )
     requires many { Params.MAX_SIZE < vec_len list.old }
     requires empty { spare.old.items ≡ [] }
-    requires room { vec_len list.old ≤ vec_capacity spare.old }
+    requires room { vec_len list.old ≤ vec_capacity spare.old + Params.MIN_SIZE }
     ensures arranged { IsArrangement T.Envelope.Point.DIMENSIONS
         (λ t axis. T.Envelope.boxes.axis_key (T.object.box_of t) axis) list.old.items
         (list.new.items ++ spare.new.items) }

@@ -43,6 +43,7 @@ returns-clause-whole g c =
       root_room = λ some. after.0.0.roomy.room;
       rooms = rooms_of g.T.Envelope.Envelope.boxes g.T.RTreeObject.object g.Params.RTreeParams.MAX_SIZE c.args.self.now.widest h children after.1;
       spares = c.insert_with_reinsertion-self.ensures.spares;
+      none_over = c.insert_with_reinsertion-self.ensures.overfull.0;
     }
 
 pub returns-clause-sized : goal.returns-clause-sized

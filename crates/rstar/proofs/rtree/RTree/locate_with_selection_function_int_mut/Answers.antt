@@ -25,6 +25,7 @@ returns-clause-outline g c =
       levels = refl;
       widest = refl;
       spares = refl;
+      overfull = refl;
     })
 
 pub returns-clause-whole : goal.returns-clause-whole
@@ -37,4 +38,5 @@ returns-clause-whole g c =
       levels = refl;
       widest = refl;
       spares = refl;
+      overfull = refl;
     })

@@ -17,14 +17,14 @@ use Rattle.rstar.specs.Trees.{IsUnchanged, WholeTree, IsWholeTree}
 use Rattle.rstar.proofs.Walks.{no-items, some-items}
 use Rattle.rstar.proofs.rtree.RTree.prepare.Goals as goal
 
-room_for : (len max read cap : ℕ) → read ≡ max → len + (read + 1) ≤ cap → (len < cap) × (max < cap)
-room_for len max read cap e h = (omega arith, omega arith)
+room_for : (len max read cap : ℕ) → read ≡ max → len + read ≤ cap → max ≤ cap
+room_for len max read cap e h = omega arith
 
 -- a tree with the same children and envelope at its root, and with other spare lists
-module _ {T D E P S X : Type 0} (tree : RTree T D E P S X) (root : ParentNode T E P S X) (spares : Vec (Vec (RTreeNode T E P S X) Global) Global)
+module _ {T D E P S X : Type 0} (tree : RTree T D E P S X) (root : ParentNode T E P S X) (spares : Vec (Vec (RTreeNode T E P S X) Global) Global) (overfull : Vec (RTreeNode T E P S X) Global)
     (items : children_of root ≡ children_of tree.root) (box : envelope_of root ≡ envelope_of tree.root) where
   abbrev prepared : RTree T D E P S X
-  prepared = record { root = root; size = tree.size; levels = tree.levels; widest = tree.widest; spares = spares; params = tree.params }
+  prepared = record { root = root; size = tree.size; levels = tree.levels; widest = tree.widest; spares = spares; overfull = overfull; params = tree.params }
 
   unchanged : IsUnchanged tree prepared
   unchanged = record {
@@ -34,9 +34,9 @@ module _ {T D E P S X : Type 0} (tree : RTree T D E P S X) (root : ParentNode T 
     envelopes = ap (λ e. e ∷ flat_map envelopes (children_of root)) box ∙ ap (λ ns. envelope_of tree.root ∷ flat_map envelopes ns) items;
   }
 
-  whole_again : (v : Boxes E) (o : Objects T E) (max : ℕ) → (children_of root ≢ [] → HasRoom max root.children) → AllByRecursion (IsSpare tree.widest) spares.items
+  whole_again : (v : Boxes E) (o : Objects T E) (max : ℕ) → (children_of root ≢ [] → HasRoom max root.children) → AllByRecursion (IsSpare tree.widest) spares.items → overfull.items ≡ []
       → WholeTree v o max tree → WholeTree v o max prepared
-  whole_again v o max room spare whole = record {
+  whole_again v o max room spare over whole = record {
     root_whole = record {
       height = whole.root_whole.height;
       tight = box ∙ whole.root_whole.tight ∙ ap (λ ns. hull v o.box_of (all_elements ns)) (sym items);
@@ -51,6 +51,7 @@ module _ {T D E P S X : Type 0} (tree : RTree T D E P S X) (root : ParentNode T 
     root_room = room;
     rooms = subst (AreTrees (IsRoomy max tree.widest) IsAny whole.root_whole.height) (sym items) whole.rooms;
     spares = spare;
+    none_over = over;
   }
 
 pub returns-in_err-top_up : goal.returns-in_err-top_up
@@ -58,49 +59,68 @@ unfolding IsWholeTree
 returns-in_err-top_up g c =
     let tree = c.args.self.now in
     record {
-      unchanged = unchanged tree tree.root c.top_up.new.spares refl refl;
+      unchanged = unchanged tree tree.root c.top_up.new.spares tree.overfull refl refl;
       same = refl;
-      whole = whole_again tree tree.root c.top_up.new.spares refl refl g.T.Envelope.Envelope.boxes g.T.RTreeObject.object g.Params.RTreeParams.MAX_SIZE c.requires.whole.root_room c.top_up.ensures.spares c.requires.whole;
+      whole = whole_again tree tree.root c.top_up.new.spares tree.overfull refl refl g.T.Envelope.Envelope.boxes g.T.RTreeObject.object g.Params.RTreeParams.MAX_SIZE c.requires.whole.root_room c.top_up.ensures.spares c.requires.whole.none_over c.requires.whole;
       room = IfOk-from_err c.from_residual.result _ c.from_residual.ensures.0;
       spares = IfOk-from_err c.from_residual.result _ c.from_residual.ensures.0;
+      overfull = IfOk-from_err c.from_residual.result _ c.from_residual.ensures.0;
     }
 
 pub returns-in_err-reserve : goal.returns-in_err-reserve
 unfolding IsWholeTree
 returns-in_err-reserve g c =
     let tree = c.args.self.now in
-    let items = c.reserve.ensures.items in
-    let none = no-items (children_of tree.root) _ _ c.is_empty.ensures c.if-is_empty.true tree.root.children.ok.0 in
     record {
-      unchanged = unchanged tree _ c.top_up.new.spares items refl;
-      same = items;
-      whole = whole_again tree _ c.top_up.new.spares items refl g.T.Envelope.Envelope.boxes g.T.RTreeObject.object g.Params.RTreeParams.MAX_SIZE (λ some. absurd (some (items ∙ none))) c.top_up.ensures.spares c.requires.whole;
+      unchanged = unchanged tree tree.root c.top_up.new.spares c.reserve.new.self refl refl;
+      same = refl;
+      whole = whole_again tree tree.root c.top_up.new.spares c.reserve.new.self refl refl g.T.Envelope.Envelope.boxes g.T.RTreeObject.object g.Params.RTreeParams.MAX_SIZE c.requires.whole.root_room c.top_up.ensures.spares (c.reserve.ensures.items ∙ c.requires.whole.none_over) c.requires.whole;
       room = IfOk-from_err c.from_residual-in_err-reserve.result _ c.from_residual-in_err-reserve.ensures.0;
       spares = IfOk-from_err c.from_residual-in_err-reserve.result _ c.from_residual-in_err-reserve.ensures.0;
+      overfull = IfOk-from_err c.from_residual-in_err-reserve.result _ c.from_residual-in_err-reserve.ensures.0;
     }
 
-pub returns-in_ok-reserve : goal.returns-in_ok-reserve
+pub returns-in_err-reserve-2 : goal.returns-in_err-reserve-2
 unfolding IsWholeTree
-returns-in_ok-reserve g c =
+returns-in_err-reserve-2 g c =
     let tree = c.args.self.now in
-    let items = c.reserve.ensures.items in
-    let room = room_for (vec_len c.reserve.new.self) g.Params.RTreeParams.MAX_SIZE c.MAX_SIZE.result (vec_capacity c.reserve.new.self) c.MAX_SIZE.ensures c.in_ok-reserve.ensures.ok in
+    let items = c.reserve-then-is_empty.ensures.items in
+    let none = no-items (children_of tree.root) _ _ c.is_empty.ensures c.if-is_empty.true tree.root.children.ok.0 in
     record {
-      unchanged = unchanged tree _ c.top_up.new.spares items refl;
+      unchanged = unchanged tree _ c.top_up.new.spares c.reserve.new.self items refl;
       same = items;
-      whole = whole_again tree _ c.top_up.new.spares items refl g.T.Envelope.Envelope.boxes g.T.RTreeObject.object g.Params.RTreeParams.MAX_SIZE (λ some. room) c.top_up.ensures.spares c.requires.whole;
+      whole = whole_again tree _ c.top_up.new.spares c.reserve.new.self items refl g.T.Envelope.Envelope.boxes g.T.RTreeObject.object g.Params.RTreeParams.MAX_SIZE (λ some. absurd (some (items ∙ none))) c.top_up.ensures.spares (c.reserve.ensures.items ∙ c.requires.whole.none_over) c.requires.whole;
+      room = IfOk-from_err c.from_residual-in_err-reserve-2.result _ c.from_residual-in_err-reserve-2.ensures.0;
+      spares = IfOk-from_err c.from_residual-in_err-reserve-2.result _ c.from_residual-in_err-reserve-2.ensures.0;
+      overfull = IfOk-from_err c.from_residual-in_err-reserve-2.result _ c.from_residual-in_err-reserve-2.ensures.0;
+    }
+
+pub returns-in_ok-reserve-2 : goal.returns-in_ok-reserve-2
+unfolding IsWholeTree
+returns-in_ok-reserve-2 g c =
+    let tree = c.args.self.now in
+    let items = c.reserve-then-is_empty.ensures.items in
+    let room = room_for (vec_len c.reserve-then-is_empty.new.self) g.Params.RTreeParams.MAX_SIZE c.MAX_SIZE.result (vec_capacity c.reserve-then-is_empty.new.self) c.MAX_SIZE.ensures c.in_ok-reserve-2.ensures.ok in
+    let over = c.reserve.ensures.items ∙ c.requires.whole.none_over in
+    record {
+      unchanged = unchanged tree _ c.top_up.new.spares c.reserve.new.self items refl;
+      same = items;
+      whole = whole_again tree _ c.top_up.new.spares c.reserve.new.self items refl g.T.Envelope.Envelope.boxes g.T.RTreeObject.object g.Params.RTreeParams.MAX_SIZE (λ some. room) c.top_up.ensures.spares over c.requires.whole;
       room = room;
       spares = c.in_ok-top_up.ensures.count;
+      overfull = (over, omega (arith, c.in_ok-reserve.ensures.ok));
     }
 
 pub returns-else-is_empty : goal.returns-else-is_empty
 unfolding IsWholeTree
 returns-else-is_empty g c =
     let tree = c.args.self.now in
+    let over = c.reserve.ensures.items ∙ c.requires.whole.none_over in
     record {
-      unchanged = unchanged tree tree.root c.top_up.new.spares refl refl;
+      unchanged = unchanged tree tree.root c.top_up.new.spares c.reserve.new.self refl refl;
       same = refl;
-      whole = whole_again tree tree.root c.top_up.new.spares refl refl g.T.Envelope.Envelope.boxes g.T.RTreeObject.object g.Params.RTreeParams.MAX_SIZE c.requires.whole.root_room c.top_up.ensures.spares c.requires.whole;
+      whole = whole_again tree tree.root c.top_up.new.spares c.reserve.new.self refl refl g.T.Envelope.Envelope.boxes g.T.RTreeObject.object g.Params.RTreeParams.MAX_SIZE c.requires.whole.root_room c.top_up.ensures.spares over c.requires.whole;
       room = c.requires.whole.root_room (some-items (children_of tree.root) _ _ c.is_empty.ensures c.if-is_empty.false tree.root.children.ok.0);
       spares = c.in_ok-top_up.ensures.count;
+      overfull = (over, omega (arith, c.in_ok-reserve.ensures.ok));
     }

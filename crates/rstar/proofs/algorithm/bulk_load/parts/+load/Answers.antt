@@ -88,7 +88,7 @@ load_node-returns-clause-fresh g t c =
     (c.args.below - 1) c.args.below c.load_parts.new.widest c.slabs_on_axis-clusters.ensures.number.0 ts c.load_parts.new.nodes.items (record { children = c.make_wide_room.new.nodes; envelope = c.envelope_for_children-envelope.result })
     (some_last c.args.len c.args.list.now.items c.requires.some c.requires.within)
     (subst (λ n. g.Params.RTreeParams.MAX_SIZE < n) (sym long) (deep_large g.Params.RTreeParams.MAX_SIZE g.T.Envelope.Point.Point.DIMENSIONS (c.args.below - 1) c.args.below c.args.len c.requires.deep (previous c.args.below c.if-below-eq0.false))) c.slabs_on_axis-clusters.ensures.least
-    (rw c.slabs_on_axis-clusters.ensures.number.2 (cluster_bound g.Params.RTreeParams.MAX_SIZE g.T.Envelope.Point.Point.DIMENSIONS c.args.len c.slabs_on_axis-clusters.ensures.number.0 (search rules) c.slabs_on_axis-clusters.ensures.number.1)) (two_some g.T.Envelope.Point.Point.DIMENSIONS c.requires.dimensions)
+    (rw c.slabs_on_axis-clusters.ensures.number.2 (cluster_bound g.Params.RTreeParams.MAX_SIZE g.T.Envelope.Point.Point.DIMENSIONS c.args.len c.slabs_on_axis-clusters.ensures.number.0 (omega (arith, g.Params.RTreeParams.max_at_least_four)) c.slabs_on_axis-clusters.ensures.number.1)) (two_some g.T.Envelope.Point.Point.DIMENSIONS c.requires.dimensions)
     (subst (λ n. IsClusterNumber g.Params.RTreeParams.MAX_SIZE g.T.Envelope.Point.Point.DIMENSIONS n c.slabs_on_axis-clusters.ensures.number.0) (sym long) c.slabs_on_axis-clusters.ensures.number.1) c.slabs_on_axis-clusters.ensures.number.2 c.in_ok-make_wide_room.ensures.wider
     (rw (c.in_ok-nodes.ensures.items, c.DIMENSIONS-axes.ensures) at c.in_ok-load_parts.ensures.adds) c.make_wide_room.ensures.same (previous c.args.below c.if-below-eq0.false) (rw c.deref.ensures.value at c.envelope_for_children-envelope.ensures)
     c.in_ok-make_wide_room.ensures.room (narrow_as c.make_wide_room.new.nodes.len (length c.make_wide_room.new.nodes.items) c.make_wide_room.new.widest c.make_wide_room.new.nodes.ok.0 c.in_ok-make_wide_room.ensures.narrow)

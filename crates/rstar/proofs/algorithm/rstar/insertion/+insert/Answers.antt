@@ -59,6 +59,7 @@ insert_below-returns-then-levels-eq0 g t c =
       used = used_one (vec_len c.args.spares.now) (vec_len c.add_child.new.spares) (length (as_node c.add_child.result)) c.args.levels c.add_child.ensures.used (at_most_one c.add_child.result);
       fewer = taken_some (vec_len c.args.spares.now) (vec_len c.add_child.new.spares) _ c.add_child.ensures.used;
       places = c.add_child.ensures.places;
+      overfull = c.add_child.ensures.overfull;
       made = let same = parents_along _ _ c.add_child.ensures.same in
           let leaf = leaf_counted c.args.node.now.children.items c.args.t in
           omega (arith, same, leaf, c.add_child.ensures.used);
@@ -77,7 +78,7 @@ insert_below-returns-in-None-clause-first g t c =
           tight = hull.0;
           roomy = record {
             narrow = omega (arith, c.insert_in_child.new.children.ok.0, c.args.node.now.children.ok.0);
-            room = (omega arith, omega arith);
+            room = omega arith;
           };
         },
         omega (arith, c.insert_in_child.new.children.ok.0),
@@ -104,6 +105,7 @@ insert_below-returns g t c =
       used = used_more (vec_len c.args.spares.now) (vec_len c.insert_in_child.new.spares) (vec_len c.add_child-in-Some.new.spares) (length (as_node c.add_child-in-Some.result)) c.args.levels c.in-Some.ensures.used c.add_child-in-Some.ensures.used (at_most_one c.add_child-in-Some.result);
       fewer = fewer_yet (vec_len c.args.spares.now) (vec_len c.insert_in_child.new.spares) (vec_len c.add_child-in-Some.new.spares) _ c.add_child-in-Some.ensures.used c.in-Some.ensures.fewer;
       places = c.add_child-in-Some.ensures.places ∙ c.in-Some.ensures.places;
+      overfull = c.add_child-in-Some.ensures.overfull;
       made = let same = parents_along _ _ c.add_child-in-Some.ensures.same in
           omega (arith, same, c.in-Some.ensures.made, c.add_child-in-Some.ensures.used);
     }
@@ -128,7 +130,7 @@ pub insert_in_child-insert_below-requires : goal.insert_in_child-insert_below-re
 insert_in_child-insert_below-requires g t c κs within =
     let tree = child_at (IsKeptInner g.T.Envelope.Envelope.boxes g.T.RTreeObject.object g.Params.RTreeParams.MAX_SIZE c.args.widest) (IsElement g.T.Envelope.Envelope.boxes g.T.RTreeObject.object) c.args.levels c.args.children.now.items c.args.index (Parent c.in-Parent.child) (subst (λ n. c.args.index < n) c.args.children.now.ok.0 c.requires.index) (rw c.in-Parent.is at c.index_mut.ensures.value) c.requires.below in
     let at = tree_at (IsKeptInner g.T.Envelope.Envelope.boxes g.T.RTreeObject.object g.Params.RTreeParams.MAX_SIZE c.args.widest) (IsElement g.T.Envelope.Envelope.boxes g.T.RTreeObject.object) c.args.levels c.in-Parent.child c.requires.above tree in
-    rw c.in-Parent.child-is (omega arith, (within.0, (within.1.0, (within.1.1.0, (within.1.1.1.0, (within.1.1.1.1.0, (within.1.1.1.1.1, (at.0.0, (at.1, (λ _. omega (arith, at.0.1, c.in-Parent.child.children.ok.0), (c.requires.element, (c.requires.wide, (c.requires.spares, omega arith)))))))))))))
+    rw c.in-Parent.child-is (omega arith, (within.0, (within.1.0, (within.1.1.0, (within.1.1.1.0, (within.1.1.1.1.0, (within.1.1.1.1.1, (at.0.0, (at.1, (λ _. omega (arith, at.0.1, c.in-Parent.child.children.ok.0), (c.requires.element, (c.requires.wide, (c.requires.spares, (omega arith, c.requires.overfull))))))))))))))
 
 pub insert_in_child-unreachable-requires : goal.insert_in_child-unreachable-requires
 insert_in_child-unreachable-requires g t c =
@@ -150,6 +152,7 @@ insert_in_child-returns g t c =
       used = level_below (vec_len c.args.spares.now) (vec_len c.insert_below.new.spares) c.args.levels c.requires.above c.insert_below.ensures.used;
       fewer = c.insert_below.ensures.fewer;
       places = c.insert_below.ensures.places;
+      overfull = c.insert_below.ensures.overfull;
       made = simp (c.in-Parent.is, outs-Parent) (child_made c.args.children.now.items c.args.index c.in-Parent.child c.insert_below.new.node c.insert_below.result (vec_len c.args.spares.now) (vec_len c.insert_below.new.spares)
           (subst (λ n. c.args.index < n) c.args.children.now.ok.0 c.requires.index) (rw c.in-Parent.is at c.index_mut.ensures.value) (rw c.in-Parent.child-is at c.insert_below.ensures.made));
     }
@@ -167,6 +170,15 @@ insert_below-add_child-requires-clause-spares g t c = c.requires.spares
 
 pub insert_below-add_child-requires-clause-enough : goal.insert_below-add_child-requires-clause-enough
 insert_below-add_child-requires-clause-enough g t c = some_spare c.args.levels (vec_len c.args.spares.now) c.requires.enough
+
+pub insert_below-add_child-requires-clause-overfull : goal.insert_below-add_child-requires-clause-overfull
+insert_below-add_child-requires-clause-overfull g t c = c.requires.overfull
+
+pub insert_below-returns-in-None-clause-overfull : goal.insert_below-returns-in-None-clause-overfull
+insert_below-returns-in-None-clause-overfull g t c = c.in-None.ensures.overfull
+
+pub insert_below-add_child-requires-in-Some-clause-overfull : goal.insert_below-add_child-requires-in-Some-clause-overfull
+insert_below-add_child-requires-in-Some-clause-overfull g t c = c.in-Some.ensures.overfull
 
 pub insert_below-returns-in-None-clause-bag : goal.insert_below-returns-in-None-clause-bag
 insert_below-returns-in-None-clause-bag g t c = c.in-None.ensures.bag

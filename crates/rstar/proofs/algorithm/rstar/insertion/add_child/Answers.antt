@@ -1,4 +1,4 @@
-use Rattle.std.proofs.Common.{arith, ◌++◌, ◌∷◌, [], ◌∙◌, append-nil, subst, sym}
+use Rattle.std.proofs.Common.{arith, ◌++◌, ◌∷◌, [], ◌∙◌, append-nil, ap, subst, sym}
 use Rattle.std.specs.List.{AllByRecursion}
 use Rattle.rstar_base.proofs.Along.{IsPermutation-same}
 use Rattle.rstar_base.proofs.Lists.{all_first, all_second}
@@ -6,7 +6,7 @@ use Rattle.rstar.specs.Kept.{IsSpare}
 use Rattle.rstar.proofs.algorithm.rstar.insertion.add_child.Goals as goal
 
 pub push_reserved-requires : goal.push_reserved-requires
-push_reserved-requires g c = c.requires.roomy.room.0
+push_reserved-requires g c = omega (arith, c.requires.roomy.room)
 
 pub returns-then-len-MAX_SIZE-clause-same : goal.returns-then-len-MAX_SIZE-clause-same
 returns-then-len-MAX_SIZE-clause-same g c =
@@ -16,8 +16,14 @@ pub returns-then-len-MAX_SIZE-clause-first : goal.returns-then-len-MAX_SIZE-clau
 returns-then-len-MAX_SIZE-clause-first g c = record {
   merged = rw c.push_reserved.ensures.items c.requires.covered;
   some = omega (arith, c.push_reserved.ensures.len);
-  roomy = record { narrow = omega (arith, c.push_reserved.ensures.len); room = (omega (arith, c.push_reserved.ensures.len, c.push_reserved.ensures.capacity), omega (arith, c.push_reserved.ensures.capacity)) };
+  roomy = record { narrow = omega (arith, c.push_reserved.ensures.len); room = omega (arith, c.push_reserved.ensures.capacity) };
 }
+
+pub move_all-requires-clause-room : goal.move_all-requires-clause-room
+move_all-requires-clause-room g c = omega (arith, c.requires.roomy.narrow, c.requires.overfull.1, c.args.node.now.children.ok.0)
+
+pub push_reserved-requires-2 : goal.push_reserved-requires-2
+push_reserved-requires-2 g c = omega (arith, c.requires.roomy.narrow, c.requires.overfull.1, c.args.node.now.children.ok.0, c.move_all.ensures.length, c.move_all.ensures.empty_capacity)
 
 pub split_in_place-requires-clause-empty : goal.split_in_place-requires-clause-empty
 split_in_place-requires-clause-empty g c = ((all_second (IsSpare c.args.widest) c.take_last-second.new.self.items (c.take_last-second.result ∷ []) (subst (AllByRecursion (IsSpare c.args.widest)) c.take_last-second.ensures.items c.requires.spares)).0).0
@@ -25,29 +31,57 @@ split_in_place-requires-clause-empty g c = ((all_second (IsSpare c.args.widest) 
 pub split_in_place-requires-clause-room : goal.split_in_place-requires-clause-room
 split_in_place-requires-clause-room g c =
     let spare = (all_second (IsSpare c.args.widest) c.take_last-second.new.self.items (c.take_last-second.result ∷ []) (subst (AllByRecursion (IsSpare c.args.widest)) c.take_last-second.ensures.items c.requires.spares)).0 in
-    omega (arith, spare.1, c.requires.roomy.narrow, c.push_reserved.ensures.len, c.args.node.now.children.ok.0)
+    omega (arith, spare.1, c.requires.roomy.narrow, c.move_all.ensures.length, c.push_reserved-2.ensures.len, c.args.node.now.children.ok.0, g.Params.RTreeParams.min_positive)
+
+pub move_all-requires-2-clause-room : goal.move_all-requires-2-clause-room
+move_all-requires-2-clause-room g c =
+    omega (arith, c.split_in_place.ensures.lengths, c.split_in_place.ensures.second, c.move_all.ensures.length, c.push_reserved-2.ensures.len, c.move_all.ensures.capacity, c.args.node.now.children.ok, g.Params.RTreeParams.min_positive)
 
 pub returns-clause-same : goal.returns-clause-same
-returns-clause-same g c = rw (← c.push_reserved.ensures.items) c.split_in_place.ensures.arranged.same
+returns-clause-same g c =
+    rw (← c.move_all.ensures.moved, ← c.push_reserved-2.ensures.items, c.move_all-2.ensures.moved) c.split_in_place.ensures.arranged.same
 
 pub returns-clause-first : goal.returns-clause-first
 returns-clause-first g c =
     let positive = g.Params.RTreeParams.min_positive in
+    let long = c.split_in_place.ensures.first in
+    let all = c.split_in_place.ensures.lengths in
+    let least = c.split_in_place.ensures.second in
+    let moved = c.move_all-2.ensures.length in
+    let over = c.move_all.ensures.length in
+    let one = c.push_reserved-2.ensures.len in
     record {
       merged = rw (← c.deref.ensures.value) c.envelope_for_children.ensures;
-      some = omega (arith, positive);
-      roomy = record { narrow = omega (arith, positive); room = (omega (arith, positive), omega (arith, positive)) };
+      some = omega (arith, positive, long, moved, c.move_all-2.new.empty.ok.0);
+      roomy = record {
+        narrow = omega (arith, positive, all, least, moved, over, one, c.requires.roomy.narrow, c.args.node.now.children.ok.0, c.move_all-2.new.empty.ok.0);
+        room = omega (arith, c.requires.roomy.room, c.move_all.ensures.capacity, c.move_all-2.ensures.empty_capacity);
+      };
     }
 
 pub returns-clause-second : goal.returns-clause-second
 returns-clause-second g c =
     let spare = (all_second (IsSpare c.args.widest) c.take_last-second.new.self.items (c.take_last-second.result ∷ []) (subst (AllByRecursion (IsSpare c.args.widest)) c.take_last-second.ensures.items c.requires.spares)).0 in
     let positive = g.Params.RTreeParams.min_positive in
+    let all = c.split_in_place.ensures.lengths in
+    let least = c.split_in_place.ensures.first in
+    let long = c.split_in_place.ensures.second in
+    let over = c.move_all.ensures.length in
+    let one = c.push_reserved-2.ensures.len in
     record {
       merged = rw (← c.deref-2.ensures.value) c.envelope_for_children-envelope.ensures;
-      some = omega (arith, positive);
-      roomy = record { narrow = omega (arith, positive); room = (omega (arith, positive, spare.1), omega (arith, positive, spare.1)) };
+      some = omega (arith, positive, long, c.split_in_place.new.spare.ok.0);
+      roomy = record {
+        narrow = omega (arith, positive, all, least, over, one, c.requires.roomy.narrow, c.args.node.now.children.ok.0, c.split_in_place.new.spare.ok.0);
+        room = omega (arith, spare.1, c.requires.wide, c.split_in_place.ensures.second_capacity);
+      };
     }
 
 pub returns-clause-spares : goal.returns-clause-spares
 returns-clause-spares g c = all_first (IsSpare c.args.widest) c.take_last-second.new.self.items (c.take_last-second.result ∷ []) (subst (AllByRecursion (IsSpare c.args.widest)) c.take_last-second.ensures.items c.requires.spares)
+
+pub returns-clause-overfull : goal.returns-clause-overfull
+returns-clause-overfull g c = (
+  c.move_all-2.ensures.left,
+  omega (arith, c.requires.overfull.1, c.move_all.ensures.empty_capacity, c.push_reserved-2.ensures.capacity, c.split_in_place.ensures.first_capacity, c.move_all-2.ensures.capacity),
+)

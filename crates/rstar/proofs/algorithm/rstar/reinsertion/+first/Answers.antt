@@ -28,6 +28,7 @@ insert_first-returns-then-levels-eq0 g t c =
           sized_kept g.Params.RTreeParams.MIN_SIZE g.Params.RTreeParams.MAX_SIZE c.args.levels (vec_len c.args.node.now.children) (c.args.node.now.children.items ++ Leaf c.args.t ∷ []) c.add_leaf.new.handed.items c.add_leaf.new.node
           (sized_leaf g.Params.RTreeParams.MIN_SIZE g.Params.RTreeParams.MAX_SIZE g.Params.RTreeParams.min_positive c.args.levels c.args.t c.args.node.now.children.items c.if-levels-eq0.true sized.0) c.add_leaf.ensures.same (c.add_leaf.ensures.most sized.1) c.add_leaf.ensures.least;
       capacity = c.add_leaf.ensures.capacity;
+      overfull = c.add_leaf.ensures.overfull;
       parents = leaf_left (IsKeptInner g.T.Envelope.Envelope.boxes g.T.RTreeObject.object g.Params.RTreeParams.MAX_SIZE c.args.widest) (IsElement g.T.Envelope.Envelope.boxes g.T.RTreeObject.object) c.args.levels c.args.t c.args.node.now.children.items c.add_leaf.new.node.children.items c.add_leaf.new.handed.items
           c.if-levels-eq0.true c.requires.below c.add_leaf.ensures.same;
     }
@@ -40,7 +41,7 @@ insert_first-returns-then-not-is_empty-clause-kept g t c =
     let some = c.requires.some (omega arith) in
     let is = rw c.deref-then-not-is_empty.ensures.value at c.envelope_for_children.ensures in
     let tight = made_anew g.met.T.Envelope.Envelope.envelope_laws g.met.T.RTreeObject.object_law g.Params.RTreeParams.MAX_SIZE c.args.widest c.args.levels c.insert_first_in_child.new.children.items c.envelope_for_children.result c.insert_first_in_child.ensures.below is in
-    ((record { tight = tight; roomy = record { narrow = omega (arith, c.insert_first_in_child.new.children.ok.0, c.args.node.now.children.ok.0); room = (omega arith, omega arith) } }, omega (arith, c.insert_first_in_child.new.children.ok.0)), c.insert_first_in_child.ensures.below)
+    ((record { tight = tight; roomy = record { narrow = omega (arith, c.insert_first_in_child.new.children.ok.0, c.args.node.now.children.ok.0); room = omega arith } }, omega (arith, c.insert_first_in_child.new.children.ok.0)), c.insert_first_in_child.ensures.below)
 
 pub insert_first-returns-clause-kept : goal.insert_first-returns-clause-kept
 insert_first-returns-clause-kept g t c =
@@ -52,7 +53,7 @@ insert_first-returns-clause-kept g t c =
     let none = nil_from_length c.insert_first_in_child.new.handed.items (omega (arith, zero, c.insert_first_in_child.new.handed.ok.0)) in
     let bag = rw (none, append-nil) at c.insert_first_in_child.ensures.bag in
     let tight = (hull_grown g.met.T.Envelope.Envelope.envelope_laws g.met.T.RTreeObject.object_law g.Params.RTreeParams.MAX_SIZE c.args.widest c.args.levels c.args.t c.args.node.now.children.items c.insert_first_in_child.new.children.items c.args.node.now.envelope c.merge.new.self c.requires.below c.requires.node.tight c.envelope-envelope.ensures.own (c.merge.ensures.merged ∙ ap (g.T.Envelope.Envelope.boxes.merge c.args.node.now.envelope) c.envelope-envelope.ensures.value) bag c.insert_first_in_child.ensures.below).0 in
-    ((record { tight = tight; roomy = record { narrow = omega (arith, c.insert_first_in_child.new.children.ok.0, c.args.node.now.children.ok.0); room = (omega arith, omega arith) } }, omega (arith, c.insert_first_in_child.new.children.ok.0)), c.insert_first_in_child.ensures.below)
+    ((record { tight = tight; roomy = record { narrow = omega (arith, c.insert_first_in_child.new.children.ok.0, c.args.node.now.children.ok.0); room = omega arith } }, omega (arith, c.insert_first_in_child.new.children.ok.0)), c.insert_first_in_child.ensures.below)
 
 -- ---- in a child
 
@@ -60,7 +61,7 @@ pub insert_first_in_child-insert_first-requires : goal.insert_first_in_child-ins
 insert_first_in_child-insert_first-requires g t c κs within =
     let tree = child_at (IsKeptInner g.T.Envelope.Envelope.boxes g.T.RTreeObject.object g.Params.RTreeParams.MAX_SIZE c.args.widest) (IsElement g.T.Envelope.Envelope.boxes g.T.RTreeObject.object) c.args.levels c.args.children.now.items c.args.index (Parent c.in-Parent.child) (subst (λ n. c.args.index < n) c.args.children.now.ok.0 c.requires.index) (rw c.in-Parent.is at c.index_mut.ensures.value) c.requires.below in
     let at = tree_at (IsKeptInner g.T.Envelope.Envelope.boxes g.T.RTreeObject.object g.Params.RTreeParams.MAX_SIZE c.args.widest) (IsElement g.T.Envelope.Envelope.boxes g.T.RTreeObject.object) c.args.levels c.in-Parent.child c.requires.above tree in
-    rw c.in-Parent.child-is (omega arith, (within.0, (within.1.0, (within.1.1.0, (within.1.1.1.0, (within.1.1.1.1.0, (within.1.1.1.1.1, (at.0.0, (at.1, (λ _. omega (arith, at.0.1, c.in-Parent.child.children.ok.0), (c.requires.element, (c.requires.wide, (c.requires.reinserts, c.requires.spare)))))))))))))
+    rw c.in-Parent.child-is (omega arith, (within.0, (within.1.0, (within.1.1.0, (within.1.1.1.0, (within.1.1.1.1.0, (within.1.1.1.1.1, (at.0.0, (at.1, (λ _. omega (arith, at.0.1, c.in-Parent.child.children.ok.0), (c.requires.element, (c.requires.wide, (c.requires.reinserts, (c.requires.spare, c.requires.overfull))))))))))))))
 
 pub insert_first_in_child-unreachable-requires : goal.insert_first_in_child-unreachable-requires
 insert_first_in_child-unreachable-requires g t c =
@@ -78,6 +79,7 @@ insert_first_in_child-returns g t c =
       length = refl;
       capacity = refl;
       handed_capacity = c.insert_first.ensures.capacity;
+      overfull = c.insert_first.ensures.overfull;
       parents = simp (c.in-Parent.is, outs-Parent) (child_same c.args.children.now.items c.args.index c.in-Parent.child c.insert_first.new.node (subst (λ n. c.args.index < n) c.args.children.now.ok.0 c.requires.index) (rw c.in-Parent.is at c.index_mut.ensures.value) (rw c.in-Parent.child-is at c.insert_first.ensures.parents));
     }
 
@@ -94,6 +96,15 @@ insert_first-add_leaf-requires-clause-reinserts g t c = c.requires.reinserts
 
 pub insert_first-add_leaf-requires-clause-spare : goal.insert_first-add_leaf-requires-clause-spare
 insert_first-add_leaf-requires-clause-spare g t c = c.requires.spare
+
+pub insert_first-add_leaf-requires-clause-overfull : goal.insert_first-add_leaf-requires-clause-overfull
+insert_first-add_leaf-requires-clause-overfull g t c = c.requires.overfull
+
+pub insert_first-returns-then-not-is_empty-clause-overfull : goal.insert_first-returns-then-not-is_empty-clause-overfull
+insert_first-returns-then-not-is_empty-clause-overfull g t c = c.insert_first_in_child.ensures.overfull
+
+pub insert_first-returns-clause-overfull : goal.insert_first-returns-clause-overfull
+insert_first-returns-clause-overfull g t c = c.insert_first_in_child.ensures.overfull
 
 pub insert_first-returns-then-not-is_empty-clause-bag : goal.insert_first-returns-then-not-is_empty-clause-bag
 insert_first-returns-then-not-is_empty-clause-bag g t c = c.insert_first_in_child.ensures.bag

@@ -17,6 +17,7 @@ loop-leaf-init g c = record {
   places = refl;
   made = refl;
   capacity = refl;
+  overfull = c.requires.overfull;
 }
 
 pub unreachable-requires : goal.unreachable-requires
@@ -47,4 +48,5 @@ loop-leaf-preserved g c =
       places = c.insert_at_root-current.ensures.places ∙ c.loop-leaf.invariant.places;
       made = c.loop-leaf.invariant.made ∙ c.insert_at_root-current.ensures.made;
       capacity = c.in-Some.ensures.capacity ∙ c.loop-leaf.invariant.capacity;
+      overfull = c.insert_at_root-current.ensures.overfull;
     }

@@ -22,6 +22,7 @@ invariant-loop-leaf g l = record {
   places : vec_capacity l.spares ≡ vec_capacity l.initial.spares;
   made : vec_len l.initial.spares + parents_of l.initial.root ≡ vec_len l.spares + parents_of l.root;
   capacity : vec_capacity l.handed ≡ vec_capacity l.initial.handed;
+  overfull : IsSpare (l.widest + 1) l.overfull;
 }
 
 abbrev pub decreases-loop-leaf : goal.decreases-loop-leaf

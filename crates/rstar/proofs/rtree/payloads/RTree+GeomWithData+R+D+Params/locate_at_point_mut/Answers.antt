@@ -60,6 +60,7 @@ returns-then-index-len g c =
       levels = refl;
       widest = refl;
       spares = refl;
+      overfull = refl;
     } in (
       refl,
       record {
