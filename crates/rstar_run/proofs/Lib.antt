@@ -12,3 +12,4 @@ pub mod PointLines
 pub mod Arguments
 pub mod Told
 pub mod Packing
+pub mod ShardAnswers

@@ -12,3 +12,4 @@ pub mod Runs
 pub mod Points
 pub mod Stored
 pub mod Modes
+pub mod Shards

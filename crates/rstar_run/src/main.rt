@@ -15,6 +15,8 @@ mod program;
 #[cfg(test)]
 mod replay_tests;
 mod request;
+#[cfg(test)]
+mod shards;
 mod source;
 mod store;
 mod stored;

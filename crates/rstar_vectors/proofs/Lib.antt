@@ -5,5 +5,4 @@ pub mod FirstSeen
 pub mod Fits
 pub mod LeftHalf
 pub mod Numbered
-pub mod ShardAnswers
 pub mod Spacing

@@ -3,7 +3,6 @@ pub mod Doors
 pub mod Fits
 pub mod Frames
 pub mod Numbered
-pub mod Shards
 pub mod Spacing
 pub mod Stretches
 pub mod laws

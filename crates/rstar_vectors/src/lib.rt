@@ -42,8 +42,6 @@ mod scenarios;
 #[cfg(test)]
 mod selections;
 #[cfg(test)]
-mod shards;
-#[cfg(test)]
 mod stored;
 #[cfg(test)]
 mod uses;

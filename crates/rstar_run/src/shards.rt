@@ -2,7 +2,7 @@
 
 ghost use Rattle.std.specs.Prelude.{◌≡◌, ◌++◌, [], List, IfOk, IfSome, IfNone};
 ghost use Rattle.rstar.specs.Lists.{AreAlike, AreFirstOf, AreOrdered, IsNotAfter};
-ghost use Rattle.rstar_vectors.specs.Shards.{IsFirstOfTwo};
+ghost use Rattle.rstar_run.specs.Shards.{IsFirstOfTwo};
 
 use std::alloc::{AllocError, Global};
 

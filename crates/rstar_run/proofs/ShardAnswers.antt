@@ -19,7 +19,7 @@ use Rattle.rstar.proofs.InOrder.{more-first}
 use Rattle.rstar.proofs.OneOrder.{one-order}
 use Rattle.rstar.proofs.PairRows.{the_pair, product-none}
 use Rattle.rstar.proofs.Ties.{filter-along}
-use Rattle.rstar_vectors.specs.Shards.{IsFirstOfTwo}
+use Rattle.rstar_run.specs.Shards.{IsFirstOfTwo}
 
 -- ---- selections: what is selected of all shards is what is selected of each, one after another
 

@@ -1,6 +1,6 @@
 use Rattle.std.proofs.Common.{rules}
-use Rattle.rstar_vectors.proofs.ShardAnswers.{more-merged, merged-shards, merged-only}
-use Rattle.rstar_vectors.proofs.shards.merged_nearest.Goals as goal
+use Rattle.rstar_run.proofs.ShardAnswers.{more-merged, merged-shards, merged-only}
+use Rattle.rstar_run.proofs.shards.merged_nearest.Goals as goal
 
 pub loop-rest-preserved : goal.loop-rest-preserved
 loop-rest-preserved g c = record {

@@ -1,6 +1,6 @@
 use Rattle.std.proofs.Common.{◌-◌, ◌≤◌, length}
-use Rattle.rstar_vectors.proofs.ShardAnswers.{IsMerged}
-use Rattle.rstar_vectors.proofs.shards.merged_nearest.Given as goal
+use Rattle.rstar_run.proofs.ShardAnswers.{IsMerged}
+use Rattle.rstar_run.proofs.shards.merged_nearest.Given as goal
 
 abbrev pub invariant-loop-rest : goal.invariant-loop-rest
 invariant-loop-rest g l = record {

@@ -1,6 +1,6 @@
 use Rattle.std.proofs.Common.{rules, ◌∙◌, sym, ap, is_lt}
-use Rattle.rstar_vectors.proofs.ShardAnswers.{of_one, of_other}
-use Rattle.rstar_vectors.proofs.shards.first_of.Goals as goal
+use Rattle.rstar_run.proofs.ShardAnswers.{of_one, of_other}
+use Rattle.rstar_run.proofs.shards.first_of.Goals as goal
 
 pub returns-then-is_lt-clause-first : goal.returns-then-is_lt-clause-first
 returns-then-is_lt-clause-first g c =
