@@ -356,7 +356,8 @@ fn rows_of_the_format(rt: HostRuntime) -> Result<(), Fail> {
 fn packed(alloc: Global, count: u64) -> Result<Vec<u8>, Fail> {
     let mut lines = Vec::new(alloc);
     for k in 0..count {
-        writeln!(lines, "{} {}", 37 * k % 101, 53 * k % 103)?;
+        let near = k % 1000;
+        writeln!(lines, "{} {}", 37 * near % 101, 53 * near % 103)?;
     }
     let mut bytes = Vec::new(alloc);
     let _status = answer(alloc, true, lines.as_slice(), &mut bytes);
