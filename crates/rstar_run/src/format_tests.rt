@@ -151,8 +151,7 @@ fn read_and_written(
     Ok(again)
 }
 
-/// Whether bytes are refused as the scan tells, or read as the points that it tells and written as they are, in a list with
-/// room for just them; and the refusal.
+/// Whether bytes are refused as the scan tells, or read as the points that it tells and written as they are; and the refusal.
 fn told(alloc: Global, bytes: &[u8]) -> (bool, Option<StoredError>) {
     let (mut scanned, mut read) = (Vec::new(alloc), Vec::new(alloc));
     let is_scanned = scan(alloc, bytes, &mut scanned);
@@ -160,10 +159,7 @@ fn told(alloc: Global, bytes: &[u8]) -> (bool, Option<StoredError>) {
     scanned.sort_unstable();
     read.sort_unstable();
     match (again, is_scanned) {
-        (Ok(again), Ok(())) => (
-            *again == *bytes && again.capacity() == bytes.len() && *scanned == *read,
-            None,
-        ),
+        (Ok(again), Ok(())) => (*again == *bytes && *scanned == *read, None),
         (Err(error), Err(fault)) => (error == fault, Some(error)),
         (Err(error), Ok(())) => (false, Some(error)),
         (Ok(_), Err(_)) => (false, None),
@@ -364,12 +360,21 @@ fn packed(alloc: Global, count: u64) -> Result<Vec<u8>, Fail> {
     Ok(bytes)
 }
 
+/// Whether a tree of such bytes is written into a list with room for just them.
+fn fill_their_list(alloc: Global, bytes: &[u8]) -> bool {
+    match &read_and_written(alloc, bytes, &mut Vec::new(alloc)) {
+        Ok(again) => again.capacity() == bytes.len(),
+        Err(_) => false,
+    }
+}
+
 // One point, seven points under two parents, and a load of 25 points.
 #[test]
 fn damaged_bytes_are_told_as_by_a_scan(rt: HostRuntime) -> Result<(), Fail> {
     let line = spelled(rt.alloc(), 7, 2, &ALONG_A_LINE)?;
     let load = packed(rt.alloc(), 25)?;
     assert_eq!(rt; [line.len(), load.len()], [245, 613]);
+    assert!(rt; fill_their_list(rt.alloc(), &line) && fill_their_list(rt.alloc(), &load));
     for bytes in [ONE.as_slice(), &line, &load] {
         assert!(rt; stands_damage(rt.alloc(), bytes));
     }
