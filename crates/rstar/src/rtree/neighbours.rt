@@ -267,8 +267,8 @@ impl<T: PointDistance, Params: RTreeParams> RTree<T, Params> {
     /// So many elements with their squared distances, the nearest to a point first; all where there are fewer.
     ///
     /// It costs what `nearest_neighbor_iter_with_distance_2` costs for as many. Its list takes memory once, for no more
-    /// elements than the tree has, however many are asked for. It is refused where the allocator refuses the list or
-    /// what waits.
+    /// elements than the tree has, however many are asked for; up to 32 stand in order in one more list of that room
+    /// before they are lent. It is refused where the allocator refuses these lists or what waits.
     ///
     /// ```rust
     /// are_in_order(&in_order(alloc, tree, place), &place, distances)
@@ -327,7 +327,8 @@ impl<T: PointDistance + Ord, Params: RTreeParams> RTree<T, Params> {
     /// `nearest_neighbor_iter_by_order`; all where there are fewer.
     ///
     /// It costs what that iterator costs for as many. Its list takes memory once, for no more elements than the tree
-    /// has, however many are asked for. It is refused where the allocator refuses the list or what waits.
+    /// has, however many are asked for; up to 32 stand in order in one more list of that room before they are lent. It is
+    /// refused where the allocator refuses these lists or what waits.
     ///
     /// ```rust
     /// match (
