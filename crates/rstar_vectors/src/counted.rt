@@ -11,7 +11,7 @@ ghost use Rattle.rstar.specs.Trees.{elements_in, IsWholeTree};
 
 use crate::reinsertion::all_go_in;
 use crate::removal::{all_leave, drain_and_stand};
-use crate::scenarios::{inserted, loaded, stands};
+use crate::scenarios::{inserted, loaded, stands_with};
 use rstar::algorithm::selection_functions::SelectAllFunc;
 use rstar::object::PointOf;
 use rstar::{
@@ -81,35 +81,38 @@ pub fn count_at_root<P: Point>(tree: &RTree<Place<P>>) -> usize
     tree.root().envelope().count()
 }
 
-/// Whether a load of elements stands, and so after each insertion, each removal and each drain of at most 300, after which so
-/// many are left. Where envelopes count, each parent then counts those below it, each once.
+/// Whether a load of elements stands, and so after each insertion, each removal and each drain of at most so many, after
+/// which so many are left. Where envelopes count, each parent then counts those below it, each once.
 fn stands_always<T: EqualEnvelopes + PointDistance + Copy>(
     alloc: Global,
     first: &[T],
     others: &[T],
     removed: &[T],
-    left: &[usize],
+    drains: &[(usize, usize)],
 ) -> bool
 where
     PointOf<T>: Copy,
     requires { 2 ≤ T.Envelope.Point.DIMENSIONS }
 {
     let mut tree = loaded::<T, DefaultParams>(alloc, first);
-    tree.size() == first.len()
-        && stands(&tree)
+    stands_with(&tree, first.len())
         && all_go_in(&mut tree, others, 1, usize::MAX)
         && all_leave(&mut tree, removed, 0, true)
-        && is_drained(alloc, &mut tree, left)
+        && is_drained(alloc, &mut tree, drains)
 }
 
-/// Whether a tree stands after each drain of at most 300, with so many left.
-fn is_drained<T: RTreeObject>(alloc: Global, tree: &mut RTree<T>, left: &[usize]) -> bool
+/// Whether a tree stands after each drain of at most so many, with so many left.
+pub(crate) fn is_drained<T: RTreeObject>(
+    alloc: Global,
+    tree: &mut RTree<T>,
+    drains: &[(usize, usize)],
+) -> bool
     requires { IsWholeTree T.Envelope.boxes T.object ⟦<DefaultParams as RTreeParams>⟧.MAX_SIZE tree.old }
     ensures { IsWholeTree T.Envelope.boxes T.object ⟦<DefaultParams as RTreeParams>⟧.MAX_SIZE tree.new }
 {
     let given = &mut Vec::new(alloc);
-    for all in left {
-        if drain_and_stand(tree, SelectAllFunc, 300, given).is_none() || tree.size() != *all {
+    for &(most, left) in drains {
+        if drain_and_stand(tree, SelectAllFunc, most, given).is_none() || tree.size() != left {
             return false;
         }
     }
@@ -140,5 +143,6 @@ fn every_element_is_merged_once(rt: HostRuntime) {
     let removed = all.split_at(all.len().min(1000)).0;
     let tree = inserted::<_, DefaultParams>(rt.alloc(), removed);
     assert!(rt; count_at_root(&tree) == 1000);
-    assert!(rt; stands_always(rt.alloc(), first, others, removed, &[700, 400, 100, 0]));
+    let drains = [(300, 700), (300, 400), (300, 100), (300, 0)];
+    assert!(rt; stands_always(rt.alloc(), first, others, removed, &drains));
 }

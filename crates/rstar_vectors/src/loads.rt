@@ -6,7 +6,7 @@ ghost use Rattle.rstar.specs.Trees.{IsWholeTree};
 
 use crate::node_sizes::Small;
 use crate::reinsertion::all_go_in;
-use crate::scenarios::{goes_in, levels_of, load_of, loaded, points, stands};
+use crate::scenarios::{goes_in, levels_of, load_of, loaded, points, stands_with};
 use rstar::algorithm::bulk_load::{bulk_load_sequential, none_empty};
 use rstar::node::{ParentNode, RTreeNode};
 use rstar::object::PointOf;
@@ -155,8 +155,7 @@ fn loads_well<P: Point + Copy + Ord, Params: RTreeParams>(
     let levels = levels_of(root);
     let mut least = usize::MAX;
     let mut all = Vec::new(alloc);
-    tree.size() == points.len()
-        && stands(&*tree)
+    stands_with(&*tree, points.len())
         && gather(root.children(), levels, &mut all).is_ok()
         && are_same(alloc, &mut all, points)
         && is_cut(root, levels, Params::MAX_SIZE, most, &mut least)
@@ -350,8 +349,7 @@ fn is_in_parts<T: RTreeObject>(
     parts: &Parts<'_>,
 ) -> bool {
     let root = tree.root();
-    tree.size() == count
-        && stands(tree)
+    stands_with(tree, count)
         && levels_of(root) == parts.0
         && (has_parts(alloc, root, parts.1) || has_parts(alloc, root, parts.1))
         && (parts.2.is_empty()
@@ -470,18 +468,7 @@ fn stays_alone<T: RTreeObject + Copy + Debug>(
     }
 }
 
-/// The same of a clone of a tree.
-fn clones_alone<T: RTreeObject + Copy + Debug>(alloc: Global, tree: &RTree<T>, element: T) -> bool
-    requires whole { IsWholeTree T.Envelope.boxes T.object ⟦<DefaultParams as RTreeParams>⟧.MAX_SIZE tree.now }
-    requires exact { ClonesEqual T.is_clone }
-{
-    match &mut tree.clone() {
-        Ok(copy) => stays_alone(alloc, tree, copy, element),
-        Err(_) => false,
-    }
-}
-
-/// The same of a load of these elements; and whether the load shows a text, where one is given.
+/// The same of a load of these elements and its clone; and whether the load shows a text, where one is given.
 fn loads_cloned_alone<T: RTreeObject + Copy + Debug>(
     alloc: Global,
     elements: &[T],
@@ -494,7 +481,10 @@ fn loads_cloned_alone<T: RTreeObject + Copy + Debug>(
     let tree = loaded(alloc, elements);
     tree.size() == elements.len()
         && (text.is_empty() || shows(alloc, &tree, text))
-        && clones_alone(alloc, &tree, more)
+        && match &mut tree.clone() {
+            Ok(copy) => stays_alone(alloc, &tree, copy, more),
+            Err(_) => false,
+        }
 }
 
 // Points in one place, with the text of their load; and so many points, where no text is given.

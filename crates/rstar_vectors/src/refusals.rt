@@ -12,7 +12,7 @@ use crate::loads::{shown, shows};
 use crate::neighbour_rows::{answers, come, fits, scanned};
 use crate::node_sizes::Tens;
 use crate::payloads::{Asked, selected};
-use crate::scenarios::{inserted, load_of, loaded, points, stands};
+use crate::scenarios::{inserted, load_of, loaded, points, stands_with};
 use crate::stored::{ALONG_A_LINE, read_back};
 use rstar::algorithm::selection_functions::SelectAllFunc;
 use rstar::object::{Distance, PointOf};
@@ -200,7 +200,7 @@ fn goes_in<T: EqualEnvelopes + Copy + Debug>(alloc: Global, tree: &mut RTree<T>,
             tree.insert(refused.element).is_ok() && is_same
         }
     };
-    is_begun && is_ended && is_in && tree.size() == count.saturating_add(1) && stands(&*tree)
+    is_begun && is_ended && is_in && stands_with(&*tree, count.saturating_add(1))
 }
 
 /// Whether these elements go into a tree so, one after another.
@@ -212,11 +212,6 @@ fn all_go_in<T: EqualEnvelopes + Copy + Debug>(alloc: Global, elements: &[T]) ->
         }
     }
     true
-}
-
-/// Whether a tree stands, with so many elements.
-fn stands_with<T: RTreeObject, Params: RTreeParams>(tree: &RTree<T, Params>, count: usize) -> bool {
-    tree.size() == count && stands(tree)
 }
 
 /// Whether a load of these elements stands and has as many, at once or once more.
@@ -298,7 +293,8 @@ where
             return false;
         }
     }
-    stands(&tree) && is_taken_apart(alloc, tree, elements.len().saturating_sub(2))
+    let left = elements.len().saturating_sub(2);
+    stands_with(&tree, left) && is_taken_apart(alloc, tree, left)
 }
 
 // Of 28 points, in two levels of parents below the root: all, those in a box, those that it touches, those at a point, those

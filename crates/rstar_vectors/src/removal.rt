@@ -7,10 +7,13 @@ ghost use Rattle.rstar.specs.Drains.{drained, IsDraining};
 ghost use Rattle.rstar.specs.Removals.{IsWithout};
 ghost use Rattle.rstar.specs.Trees.{elements_in, IsWholeTree};
 
+use crate::counted::is_drained;
 use crate::loads::{are_same, deep_points, gather};
 use crate::node_sizes::{Emptying, Wide};
 use crate::reinsertion::all_go_in;
-use crate::scenarios::{ALONG_A_LINE, goes_in, inserted, levels_of, loaded, points, stands};
+use crate::scenarios::{
+    ALONG_A_LINE, goes_in, inserted, levels_of, loaded, points, stands, stands_with,
+};
 use crate::selections::LeftOnly;
 use rstar::algorithm::selection_functions::{
     SelectAllFunc, SelectInEnvelopeFuncIntersecting, SelectWithinDistanceFunction,
@@ -110,8 +113,7 @@ fn stands_with_one_in<T: PointDistance + Copy>(
     let mut tree = inserted::<T, DefaultParams>(alloc, elements);
     !one.envelope().is_empty()
         && matches!(two_out_one_in(&mut tree, area, one), Ok(true))
-        && tree.size() == left
-        && stands(&tree)
+        && stands_with(&tree, left)
         && tree.remove_at_point(first).is_none()
         && tree.remove_at_point(other).is_some()
 }
@@ -222,10 +224,7 @@ where
             }
         }
     }
-    tree.size() == others.len()
-        && stands(&tree)
-        && all_leave(&mut tree, others, 1, true)
-        && tree.size() == 0
+    stands_with(&tree, others.len()) && all_leave(&mut tree, others, 1, true) && tree.size() == 0
 }
 
 /// Whether the elements of a load of the first half of some leave, each for one of the others.
@@ -328,8 +327,7 @@ fn stands_without_two<T: PointDistance + Copy>(
 ) -> bool {
     let mut tree = inserted::<T, DefaultParams>(alloc, elements);
     one_inside_one_near(&mut tree, area, point, limit)
-        && tree.size().saturating_add(2) == elements.len()
-        && stands(&tree)
+        && stands_with(&tree, elements.len().saturating_sub(2))
 }
 
 /// Drains so many elements into a list, and forgets the drain: no clause says what the tree is then.
@@ -455,27 +453,23 @@ fn drained_in_parts<T: EqualEnvelopes + Copy, Params: RTreeParams>(
     }
 }
 
-/// Drains twice `most` elements of a load of these, then the others, puts all in again, and drains those that meet an
-/// envelope, in parts; gives how many these were, and none where the tree does not stand after each.
+/// Drains a load of these elements, at most so many each time, with so many left; puts all in again, and drains those that
+/// meet an envelope, in parts; gives how many these were, and none where the tree does not stand after each.
 fn drained_and_filled_again<T: EqualEnvelopes + Copy>(
     alloc: Global,
     elements: &[T],
-    most: usize,
+    drains: &[(usize, usize)],
     area: &T::Envelope,
     part: usize,
 ) -> Option<usize>
     requires { 2 ≤ T.Envelope.Point.DIMENSIONS }
 {
     let mut tree = loaded::<T, DefaultParams>(alloc, elements);
-    let given = &mut Vec::new(alloc);
-    if drain_and_stand(&mut tree, SelectAllFunc, most, given) == Some(most)
-        && drain_and_stand(&mut tree, SelectAllFunc, most, given) == Some(most)
-        && drain_and_stand(&mut tree, SelectAllFunc, usize::MAX, given).is_some()
-        && given.len() == elements.len()
+    if is_drained(alloc, &mut tree, drains)
         && all_go_in(&mut tree, elements, 1, usize::MAX)
         && left_in(&tree, elements, tree.root().envelope()) == elements.len()
     {
-        drain_in_parts(&mut tree, elements, area, part, given)
+        drain_in_parts(&mut tree, elements, area, part, &mut Vec::new(alloc))
     } else {
         None
     }
@@ -611,7 +605,8 @@ fn drains_end_where_none_is_left(rt: HostRuntime) {
     let asked = drained_in_parts::<_, DefaultParams>(rt.alloc(), &all, false, 0, &area, 40);
     assert!(rt; asked == Some(89));
     let many = points(rt.alloc(), 1000);
-    assert!(rt; drained_and_filled_again(rt.alloc(), &many, 250, &area, 80) == Some(293));
+    let drains = [(250, 750), (250, 500), (usize::MAX, 0)];
+    assert!(rt; drained_and_filled_again(rt.alloc(), &many, &drains, &area, 80) == Some(293));
 }
 
 #[test]

@@ -243,3 +243,11 @@ pub(crate) fn stands_within<T: RTreeObject, Params: RTreeParams>(
 pub(crate) fn stands<T: RTreeObject, Params: RTreeParams>(tree: &RTree<T, Params>) -> bool {
     stands_within(tree, 1, usize::MAX)
 }
+
+/// The same, with so many elements.
+pub(crate) fn stands_with<T: RTreeObject, Params: RTreeParams>(
+    tree: &RTree<T, Params>,
+    count: usize,
+) -> bool {
+    tree.size() == count && stands(tree)
+}
