@@ -227,8 +227,8 @@ impl<T: RTreeObject, Params: RTreeParams> RTree<T, Params> {
         lists_wanted::<Params>(self.levels)
     }
 
-    /// Takes the memory of an insertion: so many spare lists, one for a parent that has a child too many, and room in an
-    /// empty root's list.
+    /// Takes the memory of an insertion: so many spare lists, room in `overfull` for a child more than a parent has, and
+    /// room in an empty root's list.
     #[tactic(auto, unfolding(crate::specs::Trees::IsWholeTree))]
     pub(crate) fn prepare(&mut self, wanted: usize) -> Result<(), AllocError>
         requires whole { IsWholeTree T.Envelope.boxes T.object Params.MAX_SIZE self.old }

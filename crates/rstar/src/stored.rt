@@ -200,7 +200,6 @@ fn children_at<'a, Params: RTreeParams>(
 ) -> Result<(Vec<RTreeNode<[i64; 2]>>, &'a [u8]), StoredError>
     requires counted { widest.old + 1 < 2 ^ 64 }
     requires points { points.old + length bytes.now < 2 ^ 64 }
-    requires few { count + 1 < 2 ^ 64 }
     ensures read { Gives (λ x. (map shown x.0.items, x.1.now)) result (each_at (node_at below) count bytes.now) }
     ensures kept { IfOk result (λ x. AreKept boxes places Params.MAX_SIZE widest.new below x.0.items) }
     ensures len { IfOk result (λ x. vec_len x.0 ≡ count) }
