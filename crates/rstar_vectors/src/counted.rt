@@ -1,6 +1,6 @@
 //! Envelopes that count: elements of a user's own, each of which counts once in every parent above it.
 
-ghost use Rattle.std.specs.Prelude.{◌≡◌, ◌≤◌, min, length};
+ghost use Rattle.std.specs.Prelude.{◌≡◌, min, length};
 ghost use Rattle.rstar_base.specs.BoxData.{box_data};
 ghost use Rattle.rstar_base.specs.Counts.{counted_objects};
 ghost use Rattle.rstar_base.specs.PointElements.{point_object, point_distances};
@@ -9,14 +9,11 @@ ghost use Rattle.rstar_base.specs.laws.PointElementLaws.{point_distance_laws};
 ghost use Rattle.rstar_vectors.specs.laws.PlaceLaws.{place_equal};
 ghost use Rattle.rstar.specs.Trees.{elements_in, IsWholeTree};
 
-use crate::reinsertion::all_go_in;
-use crate::removal::{all_leave, drain_and_stand};
-use crate::scenarios::{inserted, loaded, stands_with};
-use rstar::algorithm::selection_functions::SelectAllFunc;
-use rstar::object::PointOf;
+use crate::scenarios::inserted;
+use crate::trials::{ALL, By, Drained, Order, Step, goes_through};
 use rstar::{
-    Counted, DefaultParams, Envelope, EqualEnvelopes, Point, PointDistance, RTree, RTreeObject,
-    RTreeParams,
+    AABB, Counted, DefaultParams, Envelope, EqualEnvelopes, Point, PointDistance, RTree,
+    RTreeObject, RTreeParams,
 };
 use std::alloc::Global;
 
@@ -81,44 +78,6 @@ pub fn count_at_root<P: Point>(tree: &RTree<Place<P>>) -> usize
     tree.root().envelope().count()
 }
 
-/// Whether a load of elements stands, and so after each insertion, each removal and each drain of at most so many, after
-/// which so many are left. Where envelopes count, each parent then counts those below it, each once.
-fn stands_always<T: EqualEnvelopes + PointDistance + Copy>(
-    alloc: Global,
-    first: &[T],
-    others: &[T],
-    removed: &[T],
-    drains: &[(usize, usize)],
-) -> bool
-where
-    PointOf<T>: Copy,
-    requires { 2 ≤ T.Envelope.Point.DIMENSIONS }
-{
-    let mut tree = loaded::<T, DefaultParams>(alloc, first);
-    stands_with(&tree, first.len())
-        && all_go_in(&mut tree, others, 1, usize::MAX)
-        && all_leave(&mut tree, removed, 0, true)
-        && is_drained(alloc, &mut tree, drains)
-}
-
-/// Whether a tree stands after each drain of at most so many, with so many left.
-pub(crate) fn is_drained<T: RTreeObject>(
-    alloc: Global,
-    tree: &mut RTree<T>,
-    drains: &[(usize, usize)],
-) -> bool
-    requires { IsWholeTree T.Envelope.boxes T.object ⟦<DefaultParams as RTreeParams>⟧.MAX_SIZE tree.old }
-    ensures { IsWholeTree T.Envelope.boxes T.object ⟦<DefaultParams as RTreeParams>⟧.MAX_SIZE tree.new }
-{
-    let given = &mut Vec::new(alloc);
-    for &(most, left) in drains {
-        if drain_and_stand(tree, SelectAllFunc, most, given).is_none() || tree.size() != left {
-            return false;
-        }
-    }
-    true
-}
-
 /// So many places, numbered from 0, on a line that wraps around in both coordinates.
 fn places(alloc: Global, count: usize) -> Vec<Place<[i64; 2]>> {
     let mut places = Vec::new(alloc);
@@ -135,14 +94,24 @@ fn places(alloc: Global, count: usize) -> Vec<Place<[i64; 2]>> {
 }
 
 // rstar's `test_envelopes_merge_every_element_once`, and drains after it: a load of 500, 1,500 insertions, which
-// reinsert, and 1,000 removals.
+// reinsert, and 1,000 removals. The tree stands after each: each parent counts those below it, each once.
 #[test]
 fn every_element_is_merged_once(rt: HostRuntime) {
+    const STEPS: [Step; 10] = [
+        Step::In(500, ALL, 1, ALL),
+        Step::Out(0, 1000, Order::Forward, By::Equality),
+        Step::Drain(Drained::All, 300, 300),
+        Step::Left(700),
+        Step::Drain(Drained::All, 300, 300),
+        Step::Left(400),
+        Step::Drain(Drained::All, 300, 300),
+        Step::Left(100),
+        Step::Drain(Drained::All, 300, 100),
+        Step::Left(0),
+    ];
     let all = &places(rt.alloc(), 2000);
-    let (first, others) = all.split_at(all.len().min(500));
-    let removed = all.split_at(all.len().min(1000)).0;
-    let tree = inserted::<_, DefaultParams>(rt.alloc(), removed);
+    let tree = inserted::<_, DefaultParams>(rt.alloc(), all.split_at(all.len().min(1000)).0);
     assert!(rt; count_at_root(&tree) == 1000);
-    let drains = [(300, 700), (300, 400), (300, 100), (300, 0)];
-    assert!(rt; stands_always(rt.alloc(), first, others, removed, &drains));
+    let none = (Counted::new(AABB::from_point([0, 0])), [0, 0], 0);
+    assert!(rt; goes_through::<_, DefaultParams>(rt.alloc(), all, 500, &none, &STEPS));
 }

@@ -4,12 +4,11 @@ ghost use Rattle.std.specs.Prelude.{◌≤◌};
 ghost use Rattle.rstar_base.specs.Sizes.{IsNarrow};
 
 use crate::neighbour_rows::{answers, come_and_go};
-use crate::reinsertion::all_stand;
-use crate::removal::leave_to_the_end;
 use crate::scenarios::{in_steps, inserted};
 use crate::selections::found;
+use crate::trials::{By, Drained, Order, Step, goes_through};
 use rstar::object::{Distance, PointOf};
-use rstar::{AABB, DefaultParams, EqualEnvelopes, Point, PointDistance};
+use rstar::{AABB, DefaultParams, Point, PointDistance};
 use std::alloc::Global;
 
 /// Points of two axes; one of them, at a corner; a place between; 0 and the greatest squared distance; and the one below that.
@@ -98,32 +97,20 @@ fn all_scalars_at_their_ends(rt: HostRuntime) {
     assert!(rt; are_held(rt.alloc(), &I128));
 }
 
-/// Whether a tree of equal elements stands after each insertion, all of them come and go from a place, the first ones at
-/// these squared distances, and leave.
-fn stand_and_leave<T: EqualEnvelopes + PointDistance + Copy>(
-    alloc: Global,
-    same: &[T],
-    place: PointOf<T>,
-    first: &[Distance<T>],
-    limit: Distance<T>,
-) -> bool
-where
-    PointOf<T>: Copy,
-    requires narrow { IsNarrow T.Envelope.Point.row }
-    requires dimensions { 2 ≤ T.Envelope.Point.DIMENSIONS }
-{
-    all_stand::<T, DefaultParams>(alloc, same)
-        && come_and_go(alloc, same, place, first, &[])
-        && leave_to_the_end(alloc, same, 0, false, place, limit)
-}
-
 // Five thousand points in one place: the tree stands, with its nodes' sizes, after each insertion; all of them are
 // nearest to a place, and leave it; and each is taken out by `==`, after which the tree stands, until one more is not there.
 #[test]
 fn thousands_of_equal_points(rt: HostRuntime) {
+    const STEPS: [Step; 4] = [
+        Step::In(0, 5000, 3, 6),
+        Step::Out(0, 5000, Order::Forward, By::Likeness),
+        Step::Left(0),
+        Step::Drain(Drained::Near, 1, 0),
+    ];
     let same = in_steps(rt.alloc(), 5000, [3, 3], [0, 0]);
-    assert!(rt; same.len() == 5000);
-    assert!(rt; stand_and_leave(rt.alloc(), &same, [0, 0], &[18], 18));
+    assert!(rt; same.len() == 5000 && come_and_go(rt.alloc(), &same, [0, 0], &[18], &[]));
+    let asked = (AABB::from_point([0, 0]), [0, 0], 18);
+    assert!(rt; goes_through::<_, DefaultParams>(rt.alloc(), &same, 0, &asked, &STEPS));
 }
 
 /// Whether all neighbours of a place in a tree of these elements, of any number of axes, lie at these squared distances, by

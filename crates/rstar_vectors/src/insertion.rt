@@ -4,8 +4,8 @@ ghost use Rattle.std.specs.Prelude.{◌≡◌, ◌≤◌, false};
 ghost use Rattle.rstar.specs.Trees.{IsWholeTree};
 
 use crate::node_sizes::Huge;
-use crate::reinsertion::all_stand;
 use crate::scenarios::{ALONG_A_LINE, inserted, stands, stands_within};
+use crate::trials::{ALL, Step, goes_through};
 use rstar::algorithm::rstar::{RStarInsertionStrategy, split_children};
 use rstar::node::{RTreeNode, envelope_for_children};
 use rstar::params::{
@@ -206,6 +206,8 @@ fn a_refused_insertion_loses_nothing(rt: HostRuntime) {
         [8, 2],
         [9, 1],
     ];
-    assert!(rt; all_stand::<[i32; 2], DefaultParams>(rt.alloc(), &points));
+    let none = (AABB::from_point([0, 0]), [0, 0], 0);
+    let steps = [Step::In(0, ALL, 3, 6)];
+    assert!(rt; goes_through::<_, DefaultParams>(rt.alloc(), &points, 0, &none, &steps));
     assert!(rt; is_one_too_many::<[i32; 2]>(rt.alloc(), [0, 0]));
 }

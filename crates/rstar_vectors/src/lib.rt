@@ -44,6 +44,8 @@ mod selections;
 #[cfg(test)]
 mod stored;
 #[cfg(test)]
+mod trials;
+#[cfg(test)]
 mod uses;
 #[cfg(test)]
 mod visits;

@@ -12,9 +12,10 @@ use crate::loads::{shown, shows};
 use crate::neighbour_rows::{answers, come, fits, scanned};
 use crate::node_sizes::Tens;
 use crate::payloads::{Asked, selected};
+use crate::removal::drain_some;
 use crate::scenarios::{inserted, load_of, loaded, points, stands_with};
 use crate::stored::{ALONG_A_LINE, read_back};
-use rstar::algorithm::selection_functions::SelectAllFunc;
+use crate::trials::Drained;
 use rstar::object::{Distance, PointOf};
 use rstar::stored::StoredError;
 use rstar::{
@@ -75,26 +76,14 @@ where
     }
 }
 
-/// Whether a drain is made: of all, of those in an envelope, of those that it touches, of those near a point, and of all by
-/// a function.
-fn is_made<T: PointDistance>(
-    tree: &mut RTree<T>,
-    drain: usize,
-    area: T::Envelope,
-    point: PointOf<T>,
-    limit: Distance<T>,
-) -> bool
-    requires { IsWholeTree T.Envelope.boxes T.object ⟦<DefaultParams as RTreeParams>⟧.MAX_SIZE tree.old }
-    ensures { IsWholeTree T.Envelope.boxes T.object ⟦<DefaultParams as RTreeParams>⟧.MAX_SIZE tree.new }
-{
-    match drain {
-        0 => tree.drain().is_ok(),
-        1 => tree.drain_in_envelope(area).is_ok(),
-        2 => tree.drain_in_envelope_intersecting(area).is_ok(),
-        3 => tree.drain_within_distance(point, limit).is_ok(),
-        _ => tree.drain_with_selection_function(SelectAllFunc).is_ok(),
-    }
-}
+/// The five drains.
+const DRAINS: [Drained; 5] = [
+    Drained::All,
+    Drained::Inside,
+    Drained::Touched,
+    Drained::Near,
+    Drained::Chosen,
+];
 
 /// The first of the calls that take an element out.
 const POPS: usize = 14;
@@ -119,8 +108,7 @@ where
         return told(alloc, &*tree, call, asked, distances);
     }
     if call < POPS {
-        let is_made = is_made(tree, call - 9, asked.0, asked.1, asked.2);
-        return if is_made { Some(0) } else { None };
+        return drain_some(tree, DRAINS[call - 9], asked, 0, &mut Vec::new(alloc));
     }
     let popped = if call == POPS {
         tree.pop_nearest_neighbor(asked.1)

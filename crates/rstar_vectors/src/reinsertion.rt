@@ -1,11 +1,18 @@
 //! Forced reinsertion: trees stay whole and sized, and a fixed sequence of points takes its shape.
 
+ghost use Rattle.std.specs.Prelude.{◌≤◌};
 ghost use Rattle.rstar.specs.Trees.{IsWholeTree};
 
 use crate::insertion::goes_in_again;
 use crate::node_sizes::{Emptying, Large, Small, Splitting};
+use crate::payloads::Asked;
 use crate::scenarios::{points, stands_within};
-use rstar::{DefaultParams, Envelope, EqualEnvelopes, RTree, RTreeObject, RTreeParams};
+use crate::trials::{ALL, Step, goes_through};
+use rstar::object::PointOf;
+use rstar::{
+    AABB, DefaultParams, Envelope, EqualEnvelopes, Point, PointDistance, RTree, RTreeObject,
+    RTreeParams,
+};
 use std::alloc::Global;
 
 /// Whether elements go into a tree, one after another, where one that is refused is asked for once more, and it stands
@@ -32,26 +39,27 @@ pub(crate) fn all_go_in<T: EqualEnvelopes + Copy, Params: RTreeParams>(
     true
 }
 
-/// The same of an empty tree, where the node sizes bound the children.
-pub(crate) fn all_stand<T: EqualEnvelopes + Copy, Params: RTreeParams>(
+/// Whether trees of all these node sizes stand after each insertion, with these sizes.
+fn all_stand_at_each_size<T: EqualEnvelopes + PointDistance + Copy>(
     alloc: Global,
     elements: &[T],
-) -> bool {
-    let mut tree: RTree<T, Params> = RTree::default(alloc);
-    all_go_in(&mut tree, elements, Params::MIN_SIZE, Params::MAX_SIZE)
-}
-
-/// Whether trees of all these node sizes stand after each insertion.
-fn all_stand_at_each_size<T: EqualEnvelopes + Copy>(alloc: Global, elements: &[T]) -> bool {
-    all_stand::<T, DefaultParams>(alloc, elements)
-        && all_stand::<T, Splitting>(alloc, elements)
-        && all_stand::<T, Small>(alloc, elements)
-        && all_stand::<T, Emptying>(alloc, elements)
-        && all_stand::<T, Large>(alloc, elements)
+    asked: &Asked<T>,
+) -> bool
+where
+    PointOf<T>: Copy,
+    requires { 2 ≤ T.Envelope.Point.DIMENSIONS }
+{
+    let small = [Step::In(0, ALL, 2, 4)];
+    goes_through::<T, DefaultParams>(alloc, elements, 0, asked, &[Step::In(0, ALL, 3, 6)])
+        && goes_through::<T, Splitting>(alloc, elements, 0, asked, &small)
+        && goes_through::<T, Small>(alloc, elements, 0, asked, &small)
+        && goes_through::<T, Emptying>(alloc, elements, 0, asked, &[Step::In(0, ALL, 1, 10)])
+        && goes_through::<T, Large>(alloc, elements, 0, asked, &[Step::In(0, ALL, 10, 20)])
 }
 
 #[test]
 fn a_thousand_insertions_leave_whole_and_sized_trees(rt: HostRuntime) {
     let all = points(rt.alloc(), 1000);
-    assert!(rt; all_stand_at_each_size(rt.alloc(), &all));
+    let none = (AABB::from_point([0, 0]), [0, 0], 0);
+    assert!(rt; all_stand_at_each_size(rt.alloc(), &all, &none));
 }

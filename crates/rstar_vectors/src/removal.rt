@@ -2,29 +2,25 @@
 //!
 //! What is done to a tree is generic, and a test gives it elements.
 
-ghost use Rattle.std.specs.Prelude.{◌≡◌, ◌<◌, ◌≤◌, false, IfOk, IfSome};
+ghost use Rattle.std.specs.Prelude.{◌≡◌, ◌≤◌, false, IfOk, IfSome};
 ghost use Rattle.rstar.specs.Drains.{drained, IsDraining};
 ghost use Rattle.rstar.specs.Removals.{IsWithout};
 ghost use Rattle.rstar.specs.Trees.{elements_in, IsWholeTree};
 
-use crate::counted::is_drained;
 use crate::loads::{are_same, deep_points, gather};
 use crate::node_sizes::{Emptying, Wide};
-use crate::reinsertion::all_go_in;
-use crate::scenarios::{
-    ALONG_A_LINE, goes_in, inserted, levels_of, loaded, points, stands, stands_with,
-};
+use crate::payloads::Asked;
+use crate::scenarios::{ALONG_A_LINE, inserted, levels_of, points, stands, stands_with};
 use crate::selections::LeftOnly;
-use rstar::algorithm::selection_functions::{
-    SelectAllFunc, SelectInEnvelopeFuncIntersecting, SelectWithinDistanceFunction,
-    SelectionFunction,
-};
+use crate::trials::{ALL, By, Drained, Order, State, Step, goes_on, goes_through};
+use rstar::algorithm::selection_functions::{SelectAllFunc, SelectionFunction};
 use rstar::iterators::DrainIterator;
-use rstar::object::{Distance, PointOf};
+use rstar::object::PointOf;
 use rstar::primitives::{Line, Rectangle};
 use rstar::{
     AABB, DefaultParams, Envelope, EqualEnvelopes, PointDistance, RTree, RTreeObject, RTreeParams,
 };
+use rstar_base::envelope::copied_envelope;
 use std::alloc::{AllocError, Global};
 use std::mem::forget;
 
@@ -100,7 +96,7 @@ pub fn two_points_out_one_in(
 }
 
 /// Whether a tree of these elements stands after such a drain and an insertion, with so many left, none of them at the
-/// first point and one at the other.
+/// first point and one at the other, and gives one more out.
 fn stands_with_one_in<T: PointDistance + Copy>(
     alloc: Global,
     elements: &[T],
@@ -116,218 +112,71 @@ fn stands_with_one_in<T: PointDistance + Copy>(
         && stands_with(&tree, left)
         && tree.remove_at_point(first).is_none()
         && tree.remove_at_point(other).is_some()
+        && matches!(one_out(&mut tree), Ok(Some(_)))
 }
 
-/// Drains at most so many elements, puts them behind a list, and gives how many came; none where the tree does not stand
-/// without them.
-pub(crate) fn drain_and_stand<T: RTreeObject, R: SelectionFunction<T>, Params: RTreeParams>(
+/// Drains at most so many of the elements that are asked for, puts them behind a list, and gives how many came; none where the
+/// drain is refused.
+pub(crate) fn drain_some<T: PointDistance, Params: RTreeParams>(
     tree: &mut RTree<T, Params>,
-    func: R,
+    which: Drained,
+    asked: &Asked<T>,
     most: usize,
     given: &mut Vec<T>,
 ) -> Option<usize>
+where
+    PointOf<T>: Copy,
     requires { IsWholeTree T.Envelope.boxes T.object Params.MAX_SIZE tree.old }
     ensures { IsWholeTree T.Envelope.boxes T.object Params.MAX_SIZE tree.new }
 {
-    let before = tree.size();
-    let came = match tree.drain_with_selection_function(func) {
-        Ok(mut drain) => call(&mut drain, most, given),
-        Err(_) => return None,
-    };
-    if tree.size().saturating_add(came) == before && stands(tree) {
-        Some(came)
-    } else {
-        None
+    let area = copied_envelope(&asked.0);
+    match which {
+        Drained::All => match tree.drain() {
+            Ok(mut drain) => Some(call(&mut drain, most, given)),
+            Err(_) => None,
+        },
+        Drained::Inside => match tree.drain_in_envelope(area) {
+            Ok(mut drain) => Some(call(&mut drain, most, given)),
+            Err(_) => None,
+        },
+        Drained::Touched => match tree.drain_in_envelope_intersecting(area) {
+            Ok(mut drain) => Some(call(&mut drain, most, given)),
+            Err(_) => None,
+        },
+        Drained::Near => match tree.drain_within_distance(asked.1, asked.2) {
+            Ok(mut drain) => Some(call(&mut drain, most, given)),
+            Err(_) => None,
+        },
+        Drained::Chosen => match tree.drain_with_selection_function(SelectAllFunc) {
+            Ok(mut drain) => Some(call(&mut drain, most, given)),
+            Err(_) => None,
+        },
     }
 }
 
-/// Whether an element that is there leaves, by `==`, or at a place that no other contains, and the tree has one less; the
-/// last of its kind is then gone.
-fn leaves<T: EqualEnvelopes + PointDistance + Copy, Params: RTreeParams>(
+/// Whether an element that is there leaves, by `==`, or at its center, which no other contains, and the tree stands with one
+/// less; the last of its kind is then gone.
+pub(crate) fn leaves<T: EqualEnvelopes + PointDistance + Copy, Params: RTreeParams>(
     tree: &mut RTree<T, Params>,
     element: &T,
-    place: Option<PointOf<T>>,
+    is_at_place: bool,
     is_last: bool,
 ) -> bool
-where
-    PointOf<T>: Copy,
     requires { IsWholeTree T.Envelope.boxes T.object Params.MAX_SIZE tree.old }
     ensures { IsWholeTree T.Envelope.boxes T.object Params.MAX_SIZE tree.new }
 {
     let before = tree.size();
     let is_there = tree.contains(element);
-    let taken = match place {
-        Some(at) => tree.remove_at_point(at),
-        None => tree.remove(element),
+    let taken = if is_at_place {
+        tree.remove_at_point(element.envelope().center())
+    } else {
+        tree.remove(element)
     };
     is_there
         && taken == Some(*element)
         && tree.size().saturating_add(1) == before
         && !(is_last && (tree.contains(element) || tree.remove(element).is_some()))
-}
-
-/// The place that comes `k`-th in an order of `count` places.
-fn place(order: usize, k: usize, count: usize) -> usize
-    requires { k < count }
-    ensures { result < count }
-{
-    match order {
-        0 => k,
-        1 => count - 1 - k,
-        _ => k.wrapping_mul(307) % count,
-    }
-}
-
-/// Whether elements leave a tree in such an order, which stands with one less after each; and each is then gone, at
-/// once where they are distinct, and else when none is left.
-pub(crate) fn all_leave<T: EqualEnvelopes + PointDistance + Copy, Params: RTreeParams>(
-    tree: &mut RTree<T, Params>,
-    elements: &[T],
-    order: usize,
-    distinct: bool,
-) -> bool
-where
-    PointOf<T>: Copy,
-    requires { IsWholeTree T.Envelope.boxes T.object Params.MAX_SIZE tree.old }
-    ensures { IsWholeTree T.Envelope.boxes T.object Params.MAX_SIZE tree.new }
-{
-    let count = elements.len();
-    for k in 0..count {
-        let is_last = distinct || k + 1 == count;
-        if !leaves(tree, &elements[place(order, k, count)], None, is_last) || !stands(&*tree) {
-            return false;
-        }
-    }
-    true
-}
-
-/// Whether the elements of a load leave one by one, at these places where there are any, each for one of the others, so
-/// long as there are any; and the others then are there, and leave.
-fn all_give_way<T: EqualEnvelopes + PointDistance + Copy, Params: RTreeParams>(
-    alloc: Global,
-    elements: &[T],
-    places: &[PointOf<T>],
-    others: &[T],
-) -> bool
-where
-    PointOf<T>: Copy,
-    requires { 2 ≤ T.Envelope.Point.DIMENSIONS }
-{
-    let mut tree = loaded::<T, Params>(alloc, elements);
-    for k in 0..elements.len() {
-        if !leaves(&mut tree, &elements[k], places.get(k).copied(), true) {
-            return false;
-        }
-        if let Some(other) = others.get(k) {
-            if !goes_in(&mut tree, *other) {
-                return false;
-            }
-        }
-    }
-    stands_with(&tree, others.len()) && all_leave(&mut tree, others, 1, true) && tree.size() == 0
-}
-
-/// Whether the elements of a load of the first half of some leave, each for one of the others.
-fn half_gives_way<T: EqualEnvelopes + PointDistance + Copy>(alloc: Global, elements: &[T]) -> bool
-where
-    PointOf<T>: Copy,
-    requires { 2 ≤ T.Envelope.Point.DIMENSIONS }
-{
-    let (some, others) = elements.split_at(elements.len() / 2);
-    all_give_way::<T, DefaultParams>(alloc, some, &[], others)
-}
-
-/// Whether the elements of a load leave, by `==` and at their places, the first half of them for the others, and two
-/// where a node may have one child.
-fn give_way<T: EqualEnvelopes + PointDistance + Copy>(
-    alloc: Global,
-    elements: &[T],
-    places: &[PointOf<T>],
-) -> bool
-where
-    PointOf<T>: Copy,
-    requires { 2 ≤ T.Envelope.Point.DIMENSIONS }
-{
-    let (some, others) = elements.split_at(elements.len() / 2);
-    all_give_way::<T, DefaultParams>(alloc, elements, places, &[])
-        && all_give_way::<T, DefaultParams>(alloc, some, places, others)
-        && all_give_way::<T, Emptying>(alloc, some.split_at(some.len().min(2)).0, &[], &[])
-}
-
-/// Whether the elements of a tree leave in such an order, to the end, and the tree then stands, with none to drain near
-/// a point.
-pub(crate) fn leave_to_the_end<T: EqualEnvelopes + PointDistance + Copy>(
-    alloc: Global,
-    elements: &[T],
-    order: usize,
-    distinct: bool,
-    point: PointOf<T>,
-    limit: Distance<T>,
-) -> bool
-where
-    PointOf<T>: Copy,
-{
-    let mut tree = inserted::<T, DefaultParams>(alloc, elements);
-    all_leave(&mut tree, elements, order, distinct)
-        && tree.size() == 0
-        && drain_and_stand(
-            &mut tree,
-            SelectWithinDistanceFunction::new(point, limit),
-            1,
-            &mut Vec::new(alloc),
-        ) == Some(0)
-}
-
-/// Whether a tree stands after so many calls of a drain that is dropped, takes one element more, and gives one up.
-fn dropped_stands<T: EqualEnvelopes + Copy>(
-    alloc: Global,
-    elements: &[T],
-    calls: usize,
-    one: T,
-) -> bool {
-    let mut tree = inserted::<T, DefaultParams>(alloc, elements);
-    drain_and_stand(&mut tree, SelectAllFunc, calls, &mut Vec::new(alloc)) == Some(calls)
-        && goes_in(&mut tree, one)
-        && tree.size().saturating_add(calls) == elements.len().saturating_add(1)
-        && stands(&tree)
-        && tree.contains(&one)
-        && matches!(one_out(&mut tree), Ok(Some(_)))
-        && tree.size().saturating_add(calls) == elements.len()
-}
-
-/// Takes out one element inside an envelope, and one near a point, each by a drain that is dropped after its first `next`;
-/// and whether there was one of each.
-fn one_inside_one_near<T: PointDistance>(
-    tree: &mut RTree<T>,
-    area: T::Envelope,
-    point: PointOf<T>,
-    limit: Distance<T>,
-) -> bool
-    requires { IsWholeTree T.Envelope.boxes T.object ⟦<DefaultParams as RTreeParams>⟧.MAX_SIZE tree.old }
-    ensures { IsWholeTree T.Envelope.boxes T.object ⟦<DefaultParams as RTreeParams>⟧.MAX_SIZE tree.new }
-{
-    let is_inside = match tree.drain_in_envelope(area) {
-        Ok(mut drain) => drain.next().is_some(),
-        Err(_) => false,
-    };
-    let is_near = match tree.drain_within_distance(point, limit) {
-        Ok(mut drain) => drain.next().is_some(),
-        Err(_) => false,
-    };
-    is_inside && is_near
-}
-
-/// Whether a tree of these elements stands without those two.
-fn stands_without_two<T: PointDistance + Copy>(
-    alloc: Global,
-    elements: &[T],
-    area: T::Envelope,
-    point: PointOf<T>,
-    limit: Distance<T>,
-) -> bool {
-    let mut tree = inserted::<T, DefaultParams>(alloc, elements);
-    one_inside_one_near(&mut tree, area, point, limit)
-        && stands_with(&tree, elements.len().saturating_sub(2))
+        && stands(&*tree)
 }
 
 /// Drains so many elements into a list, and forgets the drain: no clause says what the tree is then.
@@ -344,156 +193,53 @@ fn forgotten_after<T: RTreeObject>(tree: &mut RTree<T>, calls: usize, given: &mu
     }
 }
 
-/// Whether a tree stands after a drain that is dropped after so many calls, and one that is forgotten after so many, and
-/// what was given and what is left are these elements.
+/// Whether a tree stands after a drain that is forgotten after so many calls, and what was given and what is left are these
+/// elements.
 fn are_given_or_left<T: RTreeObject + Ord + Copy>(
     alloc: Global,
     elements: &[T],
-    dropped: usize,
-    forgotten: usize,
+    calls: usize,
 ) -> bool {
     let mut tree = inserted::<T, DefaultParams>(alloc, elements);
     let mut all = Vec::new(alloc);
-    drain_and_stand(&mut tree, SelectAllFunc, dropped, &mut all) == Some(dropped)
-        && forgotten_after(&mut tree, forgotten, &mut all)
-        && all.len() == dropped.saturating_add(forgotten)
-        && tree.size().saturating_add(all.len()) == elements.len()
+    forgotten_after(&mut tree, calls, &mut all)
+        && all.len() == calls
+        && tree.size().saturating_add(calls) == elements.len()
         && stands(&tree)
         && gather(tree.root().children(), levels_of(tree.root()), &mut all).is_ok()
         && are_same(alloc, &mut all, elements)
 }
 
-/// Whether drains that are given up after so many calls, dropped or forgotten, of all or of the first five elements, leave
-/// the others.
-fn are_given_up<T: EqualEnvelopes + Ord + Copy>(
-    alloc: Global,
-    elements: &[T],
-    calls: usize,
-    one: T,
-) -> bool {
-    dropped_stands(alloc, elements, calls, one)
-        && are_given_or_left(alloc, elements, calls, 0)
-        && are_given_or_left(alloc, elements, 0, calls)
-        && are_given_or_left(
-            alloc,
-            elements.split_at(elements.len().min(5)).0,
-            calls.min(5),
-            0,
-        )
-}
-
-/// How many of these elements meet an envelope and are there.
-fn left_in<T: EqualEnvelopes, Params: RTreeParams>(
-    tree: &RTree<T, Params>,
-    elements: &[T],
-    area: &T::Envelope,
-) -> usize
-    requires { IsWholeTree T.Envelope.boxes T.object Params.MAX_SIZE tree.now }
-{
-    let mut count = 0usize;
-    for element in elements {
-        if area.intersects(&element.envelope()) && tree.contains(element) {
-            count = count.saturating_add(1);
-        }
-    }
-    count
-}
-
-/// Drains those of some elements that meet an envelope, in two parts, `part` and the rest; gives how many these were, and
-/// none where the tree does not stand after each drain, without what came and no other.
-fn drain_in_parts<T: EqualEnvelopes, Params: RTreeParams>(
-    tree: &mut RTree<T, Params>,
-    elements: &[T],
-    area: &T::Envelope,
-    part: usize,
-    given: &mut Vec<T>,
-) -> Option<usize>
-    requires { IsWholeTree T.Envelope.boxes T.object Params.MAX_SIZE tree.old }
-{
-    let asked = left_in(&*tree, elements, area);
-    let rest = asked.saturating_sub(part);
-    let first = SelectInEnvelopeFuncIntersecting::new(area.merged(area));
-    let second = SelectInEnvelopeFuncIntersecting::new(area.merged(area));
-    if drain_and_stand(tree, first, part, given) == Some(part.min(asked))
-        && left_in(&*tree, elements, area) == rest
-        && drain_and_stand(tree, second, elements.len(), given) == Some(rest)
-        && left_in(&*tree, elements, area) == 0
-    {
-        Some(asked)
-    } else {
-        None
-    }
-}
-
-/// Drains at most `most` elements of a tree of these, loaded or inserted, and then those that meet an envelope, in parts,
-/// and gives how many these were.
-fn drained_in_parts<T: EqualEnvelopes + Copy, Params: RTreeParams>(
-    alloc: Global,
-    elements: &[T],
-    is_loaded: bool,
-    most: usize,
-    area: &T::Envelope,
-    part: usize,
-) -> Option<usize>
-    requires { 2 ≤ T.Envelope.Point.DIMENSIONS }
-{
-    let mut tree = if is_loaded {
-        loaded::<T, Params>(alloc, elements)
-    } else {
-        inserted::<T, Params>(alloc, elements)
-    };
-    let given = &mut Vec::new(alloc);
-    if tree.size() == elements.len()
-        && drain_and_stand(&mut tree, SelectAllFunc, most, given)
-            == Some(most.min(elements.len()))
-    {
-        drain_in_parts(&mut tree, elements, area, part, given)
-    } else {
-        None
-    }
-}
-
-/// Drains a load of these elements, at most so many each time, with so many left; puts all in again, and drains those that
-/// meet an envelope, in parts; gives how many these were, and none where the tree does not stand after each.
-fn drained_and_filled_again<T: EqualEnvelopes + Copy>(
-    alloc: Global,
-    elements: &[T],
-    drains: &[(usize, usize)],
-    area: &T::Envelope,
-    part: usize,
-) -> Option<usize>
-    requires { 2 ≤ T.Envelope.Point.DIMENSIONS }
-{
-    let mut tree = loaded::<T, DefaultParams>(alloc, elements);
-    if is_drained(alloc, &mut tree, drains)
-        && all_go_in(&mut tree, elements, 1, usize::MAX)
-        && left_in(&tree, elements, tree.root().envelope()) == elements.len()
-    {
-        drain_in_parts(&mut tree, elements, area, part, &mut Vec::new(alloc))
-    } else {
-        None
-    }
-}
-
-/// Whether a drain takes at most so many out, and leaves so many of those that meet an envelope.
-fn drains_at_most<T: EqualEnvelopes + Copy, R: SelectionFunction<T>>(
+/// Whether a drain by a function takes at most so many out, and leaves so many of those that an envelope touches.
+fn drains_at_most<T: EqualEnvelopes + PointDistance + Copy, R: SelectionFunction<T>>(
     alloc: Global,
     elements: &[T],
     func: R,
     most: usize,
-    kept: &T::Envelope,
+    asked: &Asked<T>,
     left: usize,
-) -> bool {
+) -> bool
+where
+    PointOf<T>: Copy,
+{
     let mut tree = inserted::<T, DefaultParams>(alloc, elements);
-    match drain_and_stand(
-        &mut tree,
-        func,
-        elements.len().saturating_add(2),
-        &mut Vec::new(alloc),
-    ) {
-        Some(came) => came <= most && left_in(&tree, elements, kept) == left,
-        None => false,
-    }
+    let came = match tree.drain_with_selection_function(func) {
+        Ok(mut drain) => call(
+            &mut drain,
+            elements.len().saturating_add(2),
+            &mut Vec::new(alloc),
+        ),
+        Err(_) => ALL,
+    };
+    came <= most
+        && stands_with(&tree, elements.len().saturating_sub(came))
+        && goes_on(
+            alloc,
+            tree,
+            elements,
+            asked,
+            &[Step::Are(State::Touched, 0, ALL, left)],
+        )
 }
 
 /// What a tree gives when it is taken apart.
@@ -549,40 +295,112 @@ fn edges(alloc: Global, count: usize) -> Vec<Edge> {
 // Each point leaves once. A tree that was never filled is drained, and one that is emptied.
 #[test]
 fn removals_of_all_in_several_orders(rt: HostRuntime) {
+    let asked = (AABB::from_point([0, 0]), [0, 0], 10);
     for count in 0..301 {
         let all = points(rt.alloc(), count);
-        for order in 0..3 {
-            assert!(rt; leave_to_the_end(rt.alloc(), &all, order, true, [0, 0], 10));
+        for &order in &[Order::Forward, Order::Backward, Order::Mixed] {
+            let steps = [
+                Step::In(0, ALL, 1, ALL),
+                Step::Out(0, ALL, order, By::Equality),
+                Step::Left(0),
+                Step::Drain(Drained::Near, 1, 0),
+            ];
+            assert!(rt; goes_through::<_, DefaultParams>(rt.alloc(), &all, 0, &asked, &steps));
         }
     }
 }
 
-// Points leave a load once, by `==` or at their places, and others come; and lines, rectangles and points of three axes.
+/// Whether the elements of a load of the first half of a list leave, each for one of the others, which then leave.
+fn half_gives_way<T: EqualEnvelopes + PointDistance + Copy>(
+    alloc: Global,
+    elements: &[T],
+    by: By,
+    asked: &Asked<T>,
+) -> bool
+where
+    PointOf<T>: Copy,
+    requires { 2 ≤ T.Envelope.Point.DIMENSIONS }
+{
+    let half = elements.len() / 2;
+    let steps = [
+        Step::GiveWay(half, by),
+        Step::Left(half),
+        Step::Out(half, ALL, Order::Backward, By::Equality),
+        Step::Left(0),
+    ];
+    goes_through::<T, DefaultParams>(alloc, elements, half, asked, &steps)
+}
+
+// Points leave a load once, by `==` or at their places, and others come, and two where a node may have one child; and lines,
+// rectangles and points of three axes.
 #[test]
 fn elements_of_loads_give_way_to_others(rt: HostRuntime) {
+    const AT_PLACES: [Step; 2] = [Step::Out(0, ALL, Order::Forward, By::Place), Step::Left(0)];
+    const BY_EQUALITY: [Step; 2] = [
+        Step::Out(0, ALL, Order::Forward, By::Equality),
+        Step::Left(0),
+    ];
+    let none = (AABB::from_point([0, 0]), [0, 0], 0);
     let all = points(rt.alloc(), 1000);
-    assert!(rt; give_way(rt.alloc(), &all, &all));
+    assert!(rt; goes_through::<_, DefaultParams>(rt.alloc(), &all, ALL, &none, &AT_PLACES));
+    assert!(rt; half_gives_way(rt.alloc(), &all, By::Place, &none));
+    assert!(rt;
+        goes_through::<_, Emptying>(rt.alloc(), &[[0, 0], [37, 53]], ALL, &none, &BY_EQUALITY)
+    );
     let lines = edges(rt.alloc(), 1000);
-    assert!(rt; all_give_way::<_, DefaultParams>(rt.alloc(), &lines, &[], &[]));
+    assert!(rt; goes_through::<_, DefaultParams>(rt.alloc(), &lines, ALL, &none, &BY_EQUALITY));
     for &count in &[25, 27, 97, 111, 385, 447, 500] {
-        assert!(rt; half_gives_way(rt.alloc(), &rectangles(rt.alloc(), 2 * count)));
+        let some = rectangles(rt.alloc(), 2 * count);
+        assert!(rt; half_gives_way(rt.alloc(), &some, By::Equality, &none));
     }
+    let none_deep = (AABB::from_point([0, 0, 0]), [0, 0, 0], 0);
     for &count in &[388, 400, 444] {
-        assert!(rt; half_gives_way(rt.alloc(), &deep_points(rt.alloc(), 2 * count)));
+        let some = deep_points(rt.alloc(), 2 * count);
+        assert!(rt; half_gives_way(rt.alloc(), &some, By::Equality, &none_deep));
     }
 }
 
-// For each number of calls: a drain that is dropped after them, with an insertion, or with one that is made and forgotten;
+// For each number of calls: a drain that is dropped after them, with an insertion and one more, of seven points and of five;
 // and one that is forgotten after them. And a drain by a function that is not lawful, and one element by each of the drains
 // of what lies in a box and of what is near.
 #[test]
 fn drains_that_are_given_up(rt: HostRuntime) {
-    for calls in 0..8usize {
-        assert!(rt; are_given_up(rt.alloc(), &ALONG_A_LINE, calls, [5, 5]));
-    }
-    let far = AABB::from_corners([100, 0], [103, 0]);
+    const EIGHT: [[i32; 2]; 8] = [
+        [0, 0],
+        [1, 0],
+        [2, 0],
+        [100, 0],
+        [101, 0],
+        [102, 0],
+        [103, 0],
+        [5, 5],
+    ];
+    const ONE_OF_EACH: [Step; 4] = [
+        Step::In(0, 7, 1, ALL),
+        Step::Drain(Drained::Inside, 1, 1),
+        Step::Drain(Drained::Near, 1, 1),
+        Step::Left(5),
+    ];
+    let far = (AABB::from_corners([100, 0], [103, 0]), [0, 0], 4);
+    assert!(rt; goes_through::<_, DefaultParams>(rt.alloc(), &EIGHT, 0, &far, &ONE_OF_EACH));
     assert!(rt; drains_at_most(rt.alloc(), &ALONG_A_LINE, LeftOnly, 3, &far, 4));
-    assert!(rt; stands_without_two(rt.alloc(), &ALONG_A_LINE, far, [0, 0], 4));
+    for calls in 0..8usize {
+        assert!(rt; are_given_or_left(rt.alloc(), &ALONG_A_LINE, calls));
+        for &count in &[5, 7] {
+            let came = calls.min(count);
+            let steps = [
+                Step::In(0, count, 1, ALL),
+                Step::Drain(Drained::All, came, came),
+                Step::Are(State::Either, 0, count, count),
+                Step::In(7, 8, 1, ALL),
+                Step::Left(count + 1 - came),
+                Step::Are(State::There, 7, 8, 1),
+                Step::Drain(Drained::All, 1, 1),
+                Step::Left(count - came),
+            ];
+            assert!(rt; goes_through::<_, DefaultParams>(rt.alloc(), &EIGHT, 0, &far, &steps));
+        }
+    }
 }
 
 // A node of 90 leaves, and four of 75: a drain keeps the merge of those that it has not come to. Then narrow nodes, and
@@ -591,22 +409,34 @@ fn drains_that_are_given_up(rt: HostRuntime) {
 fn drains_end_where_none_is_left(rt: HostRuntime) {
     const COUNTS: [usize; 2] = [90, 300];
     const MOST: [usize; 13] = [0, 1, 9, 10, 57, 58, 59, 60, 75, 80, 90, 299, 300];
-    let half = AABB::from_corners([0, 0], [50, 102]);
+    const NARROW: [Step; 2] = [Step::In(0, ALL, 1, ALL), Step::Parts(40, Some(89))];
+    const AGAIN: [Step; 9] = [
+        Step::Drain(Drained::All, 250, 250),
+        Step::Left(750),
+        Step::Drain(Drained::All, 250, 250),
+        Step::Left(500),
+        Step::Drain(Drained::All, ALL, 500),
+        Step::Left(0),
+        Step::In(0, ALL, 1, ALL),
+        Step::Are(State::There, 0, ALL, 1000),
+        Step::Parts(80, Some(293)),
+    ];
+    let half = (AABB::from_corners([0, 0], [50, 102]), [0, 0], 0);
     for &count in &COUNTS {
         let all = points(rt.alloc(), count);
         for &most in &MOST {
-            assert!(rt;
-                drained_in_parts::<_, Wide>(rt.alloc(), &all, true, most, &half, most).is_some()
-            );
+            let steps = [
+                Step::Drain(Drained::All, most, most.min(count)),
+                Step::Parts(most, None),
+            ];
+            assert!(rt; goes_through::<_, Wide>(rt.alloc(), &all, ALL, &half, &steps));
         }
     }
-    let area = AABB::from_corners([20, 20], [70, 80]);
+    let area = (AABB::from_corners([20, 20], [70, 80]), [0, 0], 0);
     let all = points(rt.alloc(), 300);
-    let asked = drained_in_parts::<_, DefaultParams>(rt.alloc(), &all, false, 0, &area, 40);
-    assert!(rt; asked == Some(89));
+    assert!(rt; goes_through::<_, DefaultParams>(rt.alloc(), &all, 0, &area, &NARROW));
     let many = points(rt.alloc(), 1000);
-    let drains = [(250, 750), (250, 500), (usize::MAX, 0)];
-    assert!(rt; drained_and_filled_again(rt.alloc(), &many, &drains, &area, 80) == Some(293));
+    assert!(rt; goes_through::<_, DefaultParams>(rt.alloc(), &many, ALL, &area, &AGAIN));
 }
 
 #[test]

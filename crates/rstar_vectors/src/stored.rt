@@ -6,15 +6,11 @@ ghost use Rattle.rstar.specs.Shown.{shown_root};
 ghost use Rattle.rstar.specs.Stored.{boxes, places};
 ghost use Rattle.rstar.specs.Trees.{root_of, IsWholeTree};
 
-use crate::loads::are_same;
 use crate::node_sizes::{Small, Wide};
-use crate::reinsertion::all_go_in;
-use crate::removal::{all_leave, drain_and_stand};
 use crate::scenarios::{loaded, stands_within};
-use rstar::algorithm::selection_functions::SelectAllFunc;
-use rstar::object::PointOf;
+use crate::trials::{ALL, By, Drained, Order, State, Step, goes_on};
 use rstar::stored::{StoredError, read_stored, write_stored};
-use rstar::{DefaultParams, EqualEnvelopes, PointDistance, RTree, RTreeObject, RTreeParams};
+use rstar::{AABB, DefaultParams, RTree, RTreeParams};
 use std::alloc::Global;
 
 /// Seven points in two groups on a line, which lie under two parents.
@@ -62,39 +58,27 @@ pub fn read_back<Params: RTreeParams, Others: RTreeParams>(
     read_stored(alloc, &bytes)
 }
 
-/// Whether a tree that has these elements takes others, one after another, where no node is wider than told; then the first
-/// ones leave it, and a drain gives the others, and it stands after each.
-fn takes_and_loses<T: EqualEnvelopes + PointDistance + Ord + Copy, Params: RTreeParams>(
-    alloc: Global,
-    tree: &mut RTree<T, Params>,
-    elements: &[T],
-    others: &[T],
-    widest: usize,
-) -> bool
-where
-    PointOf<T>: Copy,
-    requires { IsWholeTree T.Envelope.boxes T.object Params.MAX_SIZE tree.old }
-{
-    let given = &mut Vec::new(alloc);
-    tree.size() == elements.len()
-        && stands_within(&*tree, 1, widest)
-        && all_go_in(tree, others, 1, widest)
-        && all_leave(tree, elements, 1, true)
-        && drain_and_stand(tree, SelectAllFunc, usize::MAX, given) == Some(others.len())
-        && are_same(alloc, given, others)
-        && tree.size() == 0
-}
-
-/// Whether bytes are read as a tree of these points, which takes and loses elements so.
+/// Whether bytes are read as a tree of the first so many points, in nodes no wider than told, which takes the others and
+/// stays so; then the first ones leave it, and a drain gives the others.
 fn is_read<Params: RTreeParams>(
     alloc: Global,
     bytes: &[u8],
     points: &[[i64; 2]],
-    others: &[[i64; 2]],
+    count: usize,
     widest: usize,
 ) -> bool {
-    match &mut read_stored::<Params>(alloc, bytes) {
-        Ok(tree) => takes_and_loses(alloc, tree, points, others, widest),
+    let rest = points.len().saturating_sub(count);
+    let steps = [
+        Step::Left(count),
+        Step::In(count, ALL, 1, widest),
+        Step::Out(0, count, Order::Backward, By::Equality),
+        Step::Drain(Drained::All, ALL, rest),
+        Step::Are(State::Given, count, ALL, rest),
+        Step::Left(0),
+    ];
+    let none = (AABB::from_point([0, 0]), [0, 0], 0);
+    match read_stored::<Params>(alloc, bytes) {
+        Ok(tree) => stands_within(&tree, 1, widest) && goes_on(alloc, tree, points, &none, &steps),
         Err(_) => false,
     }
 }
@@ -115,13 +99,13 @@ fn trees_that_were_read_take_and_lose_elements(rt: HostRuntime) {
     ];
     for &(count, taken, widest, is_small) in &ROWS {
         let all = points(rt.alloc(), count + taken);
-        let (some, others) = all.split_at(all.len().min(count));
+        let some = all.split_at(all.len().min(count)).0;
         let is_so = if is_small {
             let bytes = written::<Wide>(rt.alloc(), some);
-            is_read::<Small>(rt.alloc(), &bytes, some, others, widest)
+            is_read::<Small>(rt.alloc(), &bytes, &all, count, widest)
         } else {
             let bytes = written::<DefaultParams>(rt.alloc(), some);
-            is_read::<DefaultParams>(rt.alloc(), &bytes, some, others, widest)
+            is_read::<DefaultParams>(rt.alloc(), &bytes, &all, count, widest)
         };
         assert!(rt; is_so, "{count}");
     }
