@@ -300,8 +300,8 @@ fn tree_of<Params: RTreeParams>(
 /// One pass: each parent takes one list, and each box is merged once. The stack holds at most 64 levels.
 ///
 /// ```rust
-/// match &mut read_stored::<Params>(alloc, bytes) {
-///     Ok(tree) => takes_and_loses(alloc, tree, points, others, widest),
+/// match read_stored::<Params>(alloc, bytes) {
+///     Ok(tree) => stands_within(&tree, 1, widest) && goes_on(alloc, tree, points, &none, &steps),
 ///     Err(_) => false,
 /// }
 /// ```

@@ -58,9 +58,9 @@ pub trait RTreeParams {
 /// The sizes of a tree where none are named: 3, 6 and 2.
 ///
 /// ```rust
-/// all_stand::<T, DefaultParams>(alloc, elements)
-///     && all_stand::<T, Splitting>(alloc, elements)
-///     && all_stand::<T, Small>(alloc, elements)
+/// goes_through::<T, DefaultParams>(alloc, elements, 0, asked, &[Step::In(0, ALL, 3, 6)])
+///     && goes_through::<T, Splitting>(alloc, elements, 0, asked, &small)
+///     && goes_through::<T, Small>(alloc, elements, 0, asked, &small)
 /// ```
 /// *`crates/rstar_vectors/src/reinsertion.rt`*
 #[derive(Clone, Copy, PartialEq, Eq, Default, Drop)]

@@ -59,10 +59,10 @@ impl<T: RTreeObject, Params: RTreeParams> RTree<T, Params> {
     /// is dropped or forgotten the tree is the one of the last `next`.
     ///
     /// ```rust
-    /// let is_inside = match tree.drain_in_envelope(area) {
-    ///     Ok(mut drain) => drain.next().is_some(),
-    ///     Err(_) => false,
-    /// };
+    /// Drained::Inside => match tree.drain_in_envelope(area) {
+    ///     Ok(mut drain) => Some(call(&mut drain, most, given)),
+    ///     Err(_) => None,
+    /// },
     /// ```
     /// *`crates/rstar_vectors/src/removal.rt`*
     pub fn drain_in_envelope(
@@ -128,14 +128,15 @@ impl<T: RTreeObject, Params: RTreeParams> RTree<T, Params> {
     ///
     /// ```rust
     /// let came = match tree.drain_with_selection_function(func) {
-    ///     Ok(mut drain) => call(&mut drain, most, given),
-    ///     Err(_) => return None,
+    ///     Ok(mut drain) => call(
+    ///         &mut drain,
+    ///         elements.len().saturating_add(2),
+    ///         &mut Vec::new(alloc),
+    ///     ),
+    ///     Err(_) => ALL,
     /// };
-    /// if tree.size().saturating_add(came) == before && stands(tree) {
-    ///     Some(came)
-    /// } else {
-    ///     None
-    /// }
+    /// came <= most
+    ///     && stands_with(&tree, elements.len().saturating_sub(came))
     /// ```
     /// *`crates/rstar_vectors/src/removal.rt`*
     #[tactic(auto, unfolding(crate::specs::Drains::IsDraining))]
@@ -224,10 +225,10 @@ impl<T: PointDistance, Params: RTreeParams> RTree<T, Params> {
     /// is dropped or forgotten the tree is the one of the last `next`.
     ///
     /// ```rust
-    /// let is_near = match tree.drain_within_distance(point, limit) {
-    ///     Ok(mut drain) => drain.next().is_some(),
-    ///     Err(_) => false,
-    /// };
+    /// Drained::Near => match tree.drain_within_distance(asked.1, asked.2) {
+    ///     Ok(mut drain) => Some(call(&mut drain, most, given)),
+    ///     Err(_) => None,
+    /// },
     /// ```
     /// *`crates/rstar_vectors/src/removal.rt`*
     pub fn drain_within_distance(

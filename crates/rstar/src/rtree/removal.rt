@@ -124,9 +124,10 @@ impl<T: EqualEnvelopes, Params: RTreeParams> RTree<T, Params> {
     /// ```rust
     /// let before = tree.size();
     /// let is_there = tree.contains(element);
-    /// let taken = match place {
-    ///     Some(at) => tree.remove_at_point(at),
-    ///     None => tree.remove(element),
+    /// let taken = if is_at_place {
+    ///     tree.remove_at_point(element.envelope().center())
+    /// } else {
+    ///     tree.remove(element)
     /// };
     /// is_there
     ///     && taken == Some(*element)
@@ -154,9 +155,10 @@ impl<T: PointDistance, Params: RTreeParams> RTree<T, Params> {
     /// It opens the parents whose envelopes contain the point until it finds one, and takes no memory.
     ///
     /// ```rust
-    /// let taken = match place {
-    ///     Some(at) => tree.remove_at_point(at),
-    ///     None => tree.remove(element),
+    /// let taken = if is_at_place {
+    ///     tree.remove_at_point(element.envelope().center())
+    /// } else {
+    ///     tree.remove(element)
     /// };
     /// ```
     /// *`crates/rstar_vectors/src/removal.rt`*

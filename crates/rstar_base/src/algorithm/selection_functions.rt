@@ -217,16 +217,16 @@ impl<T: PointDistance> SelectionFunction<T> for SelectAtPointFunction<T> {
 /// Gives the elements within a distance of a point.
 ///
 /// ```rust
-/// all_leave(&mut tree, elements, order, distinct)
-///     && tree.size() == 0
-///     && drain_and_stand(
-///         &mut tree,
-///         SelectWithinDistanceFunction::new(point, limit),
-///         1,
-///         &mut Vec::new(alloc),
-///     ) == Some(0)
+/// fn asked<T: RTreeObject, F: SelectionFunction<T>>(func: F, element: &T) -> (bool, bool) {
+///     (
+///         func.should_unpack_parent(&element.envelope()),
+///         func.should_unpack_leaf(element),
+///     )
+/// }
+/// // ..
+/// asked(SelectWithinDistanceFunction::new(point, limit), element),
 /// ```
-/// *`crates/rstar_vectors/src/removal.rt`*
+/// *`crates/rstar_base/src/tests/generic.rt`*
 #[derive(Drop)]
 pub struct SelectWithinDistanceFunction<T: RTreeObject> {
     circle_origin: PointOf<T>,
