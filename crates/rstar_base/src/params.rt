@@ -58,7 +58,7 @@ pub trait RTreeParams {
 /// The sizes of a tree where none are named: 3, 6 and 2.
 ///
 /// ```rust
-/// goes_through::<T, DefaultParams>(alloc, elements, 0, asked, &[Step::In(0, ALL, 3, 6)])
+/// goes_through::<T, DefaultParams>(alloc, elements, 0, asked, &[Step::InSized(0, ALL, 3, 6)])
 ///     && goes_through::<T, Splitting>(alloc, elements, 0, asked, &small)
 ///     && goes_through::<T, Small>(alloc, elements, 0, asked, &small)
 /// ```

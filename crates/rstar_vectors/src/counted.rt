@@ -98,7 +98,7 @@ fn places(alloc: Global, count: usize) -> Vec<Place<[i64; 2]>> {
 #[test]
 fn every_element_is_merged_once(rt: HostRuntime) {
     const STEPS: [Step; 10] = [
-        Step::In(500, ALL, 1, ALL),
+        Step::In(500, ALL),
         Step::Out(0, 1000, Order::Forward, By::Equality),
         Step::Drain(Drained::All, 300, 300),
         Step::Left(700),

@@ -102,7 +102,7 @@ fn all_scalars_at_their_ends(rt: HostRuntime) {
 #[test]
 fn thousands_of_equal_points(rt: HostRuntime) {
     const STEPS: [Step; 4] = [
-        Step::In(0, 5000, 3, 6),
+        Step::InSized(0, 5000, 3, 6),
         Step::Out(0, 5000, Order::Forward, By::Likeness),
         Step::Left(0),
         Step::Drain(Drained::Near, 1, 0),

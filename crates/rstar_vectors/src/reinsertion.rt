@@ -49,12 +49,12 @@ where
     PointOf<T>: Copy,
     requires { 2 ≤ T.Envelope.Point.DIMENSIONS }
 {
-    let small = [Step::In(0, ALL, 2, 4)];
-    goes_through::<T, DefaultParams>(alloc, elements, 0, asked, &[Step::In(0, ALL, 3, 6)])
+    let small = [Step::InSized(0, ALL, 2, 4)];
+    goes_through::<T, DefaultParams>(alloc, elements, 0, asked, &[Step::InSized(0, ALL, 3, 6)])
         && goes_through::<T, Splitting>(alloc, elements, 0, asked, &small)
         && goes_through::<T, Small>(alloc, elements, 0, asked, &small)
-        && goes_through::<T, Emptying>(alloc, elements, 0, asked, &[Step::In(0, ALL, 1, 10)])
-        && goes_through::<T, Large>(alloc, elements, 0, asked, &[Step::In(0, ALL, 10, 20)])
+        && goes_through::<T, Emptying>(alloc, elements, 0, asked, &[Step::InSized(0, ALL, 1, 10)])
+        && goes_through::<T, Large>(alloc, elements, 0, asked, &[Step::InSized(0, ALL, 10, 20)])
 }
 
 #[test]

@@ -300,7 +300,7 @@ fn removals_of_all_in_several_orders(rt: HostRuntime) {
         let all = points(rt.alloc(), count);
         for &order in &[Order::Forward, Order::Backward, Order::Mixed] {
             let steps = [
-                Step::In(0, ALL, 1, ALL),
+                Step::In(0, ALL),
                 Step::Out(0, ALL, order, By::Equality),
                 Step::Left(0),
                 Step::Drain(Drained::Near, 1, 0),
@@ -376,7 +376,7 @@ fn drains_that_are_given_up(rt: HostRuntime) {
         [5, 5],
     ];
     const ONE_OF_EACH: [Step; 4] = [
-        Step::In(0, 7, 1, ALL),
+        Step::In(0, 7),
         Step::Drain(Drained::Inside, 1, 1),
         Step::Drain(Drained::Near, 1, 1),
         Step::Left(5),
@@ -389,10 +389,10 @@ fn drains_that_are_given_up(rt: HostRuntime) {
         for &count in &[5, 7] {
             let came = calls.min(count);
             let steps = [
-                Step::In(0, count, 1, ALL),
+                Step::In(0, count),
                 Step::Drain(Drained::All, came, came),
                 Step::Are(State::Either, 0, count, count),
-                Step::In(7, 8, 1, ALL),
+                Step::In(7, 8),
                 Step::Left(count + 1 - came),
                 Step::Are(State::There, 7, 8, 1),
                 Step::Drain(Drained::All, 1, 1),
@@ -409,7 +409,7 @@ fn drains_that_are_given_up(rt: HostRuntime) {
 fn drains_end_where_none_is_left(rt: HostRuntime) {
     const COUNTS: [usize; 2] = [90, 300];
     const MOST: [usize; 13] = [0, 1, 9, 10, 57, 58, 59, 60, 75, 80, 90, 299, 300];
-    const NARROW: [Step; 2] = [Step::In(0, ALL, 1, ALL), Step::Parts(40, Some(89))];
+    const NARROW: [Step; 2] = [Step::In(0, ALL), Step::Parts(40, Some(89))];
     const AGAIN: [Step; 9] = [
         Step::Drain(Drained::All, 250, 250),
         Step::Left(750),
@@ -417,7 +417,7 @@ fn drains_end_where_none_is_left(rt: HostRuntime) {
         Step::Left(500),
         Step::Drain(Drained::All, ALL, 500),
         Step::Left(0),
-        Step::In(0, ALL, 1, ALL),
+        Step::In(0, ALL),
         Step::Are(State::There, 0, ALL, 1000),
         Step::Parts(80, Some(293)),
     ];

@@ -70,7 +70,7 @@ fn is_read<Params: RTreeParams>(
     let rest = points.len().saturating_sub(count);
     let steps = [
         Step::Left(count),
-        Step::In(count, ALL, 1, widest),
+        Step::InSized(count, ALL, 1, widest),
         Step::Out(0, count, Order::Backward, By::Equality),
         Step::Drain(Drained::All, ALL, rest),
         Step::Are(State::Given, count, ALL, rest),

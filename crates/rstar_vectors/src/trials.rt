@@ -57,8 +57,10 @@ pub(crate) enum State {
 /// One step. A range of elements ends before its second place, or with the list.
 #[derive(Clone, Copy)]
 pub(crate) enum Step {
+    /// A range goes in, one after another.
+    In(usize, usize),
     /// A range goes in, one after another; each parent then has at least and at most so many children.
-    In(usize, usize, usize, usize),
+    InSized(usize, usize, usize, usize),
     /// A range leaves, one after another.
     Out(usize, usize, Order, By),
     /// So many leave, one after another, each for the one that lies as many places on.
@@ -186,7 +188,8 @@ fn takes<S: Trial>(trial: &mut S, step: &Step) -> bool
     ensures { S.is_whole trial.new }
 {
     match *step {
-        Step::In(from, to, least, most) => trial.go_in(from, to, least, most),
+        Step::In(from, to) => trial.go_in(from, to, 1, ALL),
+        Step::InSized(from, to, least, most) => trial.go_in(from, to, least, most),
         Step::Out(from, to, order, by) => all_leave(trial, from, to, order, by),
         Step::GiveWay(count, by) => all_give_way(trial, count, matches!(by, By::Place)),
         Step::Drain(which, most, came) => trial.drain(which, most) == Some(came),
