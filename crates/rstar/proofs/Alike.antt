@@ -25,18 +25,18 @@ abbrev shows_parent : {T E : Type 0} → E → ShownRow T E → Shown T E → Ty
 shows_parent e row (leaf u) = ⊥
 shows_parent e row (parent f r) = (f ≡ e) × (r ≡ row)
 
-module _ {T E P S X : Type 0} where
-  leaf-alike : (n m : RTreeNode T E P S X) (t : T) → shown m ≡ shown n → n ≡ Leaf t → m ≡ Leaf t
+module _ {T E : Type 0} where
+  leaf-alike : (n m : RTreeNode T E) (t : T) → shown m ≡ shown n → n ≡ Leaf t → m ≡ Leaf t
   leaf-alike n m t same is = by_case (node-cases m) where
     told : shows_leaf {E = E} t (shown m)
-    told = subst (shows_leaf t) (sym (same ∙ ap shown is ∙ shown-Leaf T E P S X t)) refl
+    told = subst (shows_leaf t) (sym (same ∙ ap shown is ∙ shown-Leaf T E t)) refl
 
-    by_case : ((u : T) × (m ≡ Leaf u)) ⊎ ((p : ParentNode T E P S X) × (m ≡ Parent p)) → m ≡ Leaf t
-    by_case (inl a) = a.1 ∙ ap Leaf (subst (shows_leaf {E = E} t) (ap shown a.1 ∙ shown-Leaf T E P S X a.0) told)
+    by_case : ((u : T) × (m ≡ Leaf u)) ⊎ ((p : ParentNode T E) × (m ≡ Parent p)) → m ≡ Leaf t
+    by_case (inl a) = a.1 ∙ ap Leaf (subst (shows_leaf {E = E} t) (ap shown a.1 ∙ shown-Leaf T E a.0) told)
     by_case (inr a) = absurd (subst (shows_leaf {E = E} t) (ap shown a.1 ∙ shown-Parent a.0) told)
 
-  parent-alike : (n m : RTreeNode T E P S X) (p : ParentNode T E P S X) → shown m ≡ shown n → n ≡ Parent p
-      → (q : ParentNode T E P S X) × (m ≡ Parent q) × (map shown (children_of q) ≡ map shown (children_of p))
+  parent-alike : (n m : RTreeNode T E) (p : ParentNode T E) → shown m ≡ shown n → n ≡ Parent p
+      → (q : ParentNode T E) × (m ≡ Parent q) × (map shown (children_of q) ≡ map shown (children_of p))
   parent-alike n m p same is = by_case (node-cases m) where
     row : ShownRow T E
     row = row_of (map shown (children_of p))
@@ -44,23 +44,23 @@ module _ {T E P S X : Type 0} where
     told : shows_parent p.envelope row (shown m)
     told = subst (shows_parent p.envelope row) (sym (same ∙ ap shown is ∙ shown-Parent p)) (refl, refl)
 
-    by_case : ((u : T) × (m ≡ Leaf u)) ⊎ ((q : ParentNode T E P S X) × (m ≡ Parent q))
-        → (q : ParentNode T E P S X) × (m ≡ Parent q) × (map shown (children_of q) ≡ map shown (children_of p))
-    by_case (inl a) = absurd (subst (shows_parent p.envelope row) (ap shown a.1 ∙ shown-Leaf T E P S X a.0) told)
+    by_case : ((u : T) × (m ≡ Leaf u)) ⊎ ((q : ParentNode T E) × (m ≡ Parent q))
+        → (q : ParentNode T E) × (m ≡ Parent q) × (map shown (children_of q) ≡ map shown (children_of p))
+    by_case (inl a) = absurd (subst (shows_parent p.envelope row) (ap shown a.1 ∙ shown-Leaf T E a.0) told)
     by_case (inr a) =
         let here = subst (shows_parent p.envelope row) (ap shown a.1 ∙ shown-Parent a.0) told in
         (a.0, a.1, sym (nodes-row (map shown (children_of a.0))) ∙ ap nodes_in here.1 ∙ nodes-row (map shown (children_of p)))
 
 -- a fold of what a node shows is a fold of the node
-module _ {T E A : Type 0} (P S X : Type 0) (at_leaf : T → A) (at_parent : E → List A → A) where
+module _ {T E A : Type 0} (at_leaf : T → A) (at_parent : E → List A → A) where
   mutual
     unfolding shown fold_tree
 
-    fold-shown : (n : RTreeNode T E P S X) → fold_shown at_leaf at_parent (shown n) ≡ fold_tree at_leaf at_parent n
+    fold-shown : (n : RTreeNode T E) → fold_shown at_leaf at_parent (shown n) ≡ fold_tree at_leaf at_parent n
     fold-shown (Leaf t) = refl
     fold-shown (Parent' shape children envelope) = ap (at_parent envelope) (fold-shown-row children)
 
-    fold-shown-row : {k : _} (row : Row_of-RTreeNode T E P S X k)
+    fold-shown-row : {k : _} (row : Row_of-RTreeNode T E k)
         → fold_shown_row at_leaf at_parent (row_of (fold_row leaf (λ e below. parent e (row_of below)) row)) ≡ fold_row at_leaf at_parent row
     fold-shown-row end_of-RTreeNode = refl
     fold-shown-row (more_of-RTreeNode node rest) = ap₂ (λ a as'. a ∷ as') (fold-shown node) (fold-shown-row rest)
@@ -69,43 +69,43 @@ module _ {T E A : Type 0} (P S X : Type 0) (at_leaf : T → A) (at_parent : E �
 abbrev shown_elements : {T E : Type 0} → Shown T E → List T
 shown_elements n = fold_shown (λ t. t ∷ []) (λ e below. joined below) n
 
-module _ {T E P S X : Type 0} where
-  elements-alike : (n m : RTreeNode T E P S X) → shown m ≡ shown n → elements m ≡ elements n
+module _ {T E : Type 0} where
+  elements-alike : (n m : RTreeNode T E) → shown m ≡ shown n → elements m ≡ elements n
   unfolding elements
   elements-alike n m same =
-      sym (fold-shown P S X (λ t. t ∷ []) (λ e below. joined below) m) ∙ ap shown_elements same ∙ fold-shown P S X (λ t. t ∷ []) (λ e below. joined below) n
+      sym (fold-shown (λ t. t ∷ []) (λ e below. joined below) m) ∙ ap shown_elements same ∙ fold-shown (λ t. t ∷ []) (λ e below. joined below) n
 
-  elements-row : (ns : List (RTreeNode T E P S X)) → all_elements ns ≡ flat_map shown_elements (map shown ns)
+  elements-row : (ns : List (RTreeNode T E)) → all_elements ns ≡ flat_map shown_elements (map shown ns)
   unfolding elements
   elements-row [] = refl
-  elements-row (n ∷ ns) = ap₂ (λ a b. a ++ b) (sym (fold-shown P S X (λ t. t ∷ []) (λ e below. joined below) n)) (elements-row ns)
+  elements-row (n ∷ ns) = ap₂ (λ a b. a ++ b) (sym (fold-shown (λ t. t ∷ []) (λ e below. joined below) n)) (elements-row ns)
 
 -- ---- lists of nodes that show the same
 
-module _ {T E P S X : Type 0} (ns ms : List (RTreeNode T E P S X)) (same : map shown ms ≡ map shown ns) where
+module _ {T E : Type 0} (ns ms : List (RTreeNode T E)) (same : map shown ms ≡ map shown ns) where
   as_long : length ms ≡ length ns
   as_long = sym (length-map ms shown) ∙ ap length same ∙ length-map ns shown
 
-  shown-at : (k : ℕ) (d : RTreeNode T E P S X) → shown (get_or ms k d) ≡ shown (get_or ns k d)
+  shown-at : (k : ℕ) (d : RTreeNode T E) → shown (get_or ms k d) ≡ shown (get_or ns k d)
   shown-at k d = sym (get_or-map shown ms k d) ∙ ap (λ l. get_or l k (shown d)) same ∙ get_or-map shown ns k d
 
   all-elements-alike : all_elements ms ≡ all_elements ns
   all-elements-alike = elements-row ms ∙ ap (flat_map shown_elements) same ∙ sym (elements-row ns)
 
-  All-alike : (Q : RTreeNode T E P S X → Type 0) → ((n m : RTreeNode T E P S X) → shown m ≡ shown n → Q n → Q m) → All Q ns → All Q ms
+  All-alike : (Q : RTreeNode T E → Type 0) → ((n m : RTreeNode T E) → shown m ≡ shown n → Q n → Q m) → All Q ns → All Q ms
   All-alike Q move all k d below = move _ _ (shown-at k d) (all k d (subst (λ l. k < l) as_long below))
 
-  AllPairs-alike : (R : RTreeNode T E P S X → RTreeNode T E P S X → Type 0)
-      → ((n n' m m' : RTreeNode T E P S X) → shown m ≡ shown n → shown m' ≡ shown n' → R n n' → R m m') → AllPairs R ns → AllPairs R ms
+  AllPairs-alike : (R : RTreeNode T E → RTreeNode T E → Type 0)
+      → ((n n' m m' : RTreeNode T E) → shown m ≡ shown n → shown m' ≡ shown n' → R n n' → R m m') → AllPairs R ns → AllPairs R ms
   AllPairs-alike R move all i j d less below = move _ _ _ _ (shown-at i d) (shown-at j d) (all i j d less (subst (λ l. j < l) as_long below))
 
-  Contains-alike : (n : RTreeNode T E P S X) → Contains ns n → (m : RTreeNode T E P S X) × Contains ms m × (shown m ≡ shown n)
+  Contains-alike : (n : RTreeNode T E) → Contains ns n → (m : RTreeNode T E) × Contains ms m × (shown m ≡ shown n)
   Contains-alike n has =
       let below : has.0 < length ms = subst (λ l. has.0 < l) (sym as_long) has.1 in
       (get_or ms has.0 n, (has.0, below, get_or_default ms has.0 _ n below), shown-at has.0 n ∙ ap shown has.2)
 
-each-alike : {T E P S X : Type 0} (Q : RTreeNode T E P S X → Type 0) → ((n m : RTreeNode T E P S X) → shown m ≡ shown n → Q n → Q m)
-    → (ns ms : List (RTreeNode T E P S X)) → map shown ms ≡ map shown ns → AllByRecursion Q ns → AllByRecursion Q ms
+each-alike : {T E : Type 0} (Q : RTreeNode T E → Type 0) → ((n m : RTreeNode T E) → shown m ≡ shown n → Q n → Q m)
+    → (ns ms : List (RTreeNode T E)) → map shown ms ≡ map shown ns → AllByRecursion Q ns → AllByRecursion Q ms
 each-alike Q move ns [] same all = tt
 each-alike Q move [] (m ∷ ms) same all = absurd (omega (arith, as_long [] (m ∷ ms) same))
 each-alike Q move (n ∷ ns) (m ∷ ms) same all = (move n m (shown-at (n ∷ ns) (m ∷ ms) same 0 n) all.0, each-alike Q move ns ms (ap rest_of same) all.1) where
@@ -115,11 +115,11 @@ each-alike Q move (n ∷ ns) (m ∷ ms) same all = (move n m (shown-at (n ∷ ns
 
 -- ---- node sizes, and how a load cut them
 
-module _ {T E P S X : Type 0} where
-  sized-alike : (min max h : ℕ) (n m : RTreeNode T E P S X) → shown m ≡ shown n → IsTree (HasSize min max) IsAny h n → IsTree (HasSize min max) IsAny h m
+module _ {T E : Type 0} where
+  sized-alike : (min max h : ℕ) (n m : RTreeNode T E) → shown m ≡ shown n → IsTree (HasSize min max) IsAny h n → IsTree (HasSize min max) IsAny h m
   sized-alike min max zero n m same w =
       let here = is_leaf IsAny n w in
-      subst (IsLeafOf IsAny) (sym (leaf-alike n m here.0 same here.1)) (IsLeafOf-Leaf T E P S X IsAny here.0 tt)
+      subst (IsLeafOf IsAny) (sym (leaf-alike n m here.0 same here.1)) (IsLeafOf-Leaf T E IsAny here.0 tt)
   sized-alike min max (suc h) n m same w =
       let here = is_parent _ n w in
       let q = parent-alike n m here.0 same here.1 in
@@ -128,7 +128,7 @@ module _ {T E P S X : Type 0} where
       (IsParentOf-Parent _ q.0 ((subst (λ l. min ≤ l) (sym long) here.2.0.0, subst (λ l. l ≤ max) (sym long) here.2.0.1), each-alike _ (sized-alike min max h) (children_of here.0) (children_of q.0) q.2 here.2.1))
 
   module _ (key : T → ℕ → ℤ) (most axes : ℕ) where
-    cut-once : (p q : ParentNode T E P S X) → map shown (children_of q) ≡ map shown (children_of p) → IsCut key most axes p → IsCut key most axes q
+    cut-once : (p q : ParentNode T E) → map shown (children_of q) ≡ map shown (children_of p) → IsCut key most axes p → IsCut key most axes q
     cut-once p q same cut =
         let all = all-elements-alike (children_of p) (children_of q) same in record {
           many = subst (λ (l : List T). most < length l) (sym all) cut.many;
@@ -142,9 +142,9 @@ module _ {T E P S X : Type 0} where
               cut.parted;
         }
 
-    cut-alike : (h : ℕ) (p q : ParentNode T E P S X) → map shown (children_of q) ≡ map shown (children_of p) → IsCutAbove key most axes h p → IsCutAbove key most axes h q
+    cut-alike : (h : ℕ) (p q : ParentNode T E) → map shown (children_of q) ≡ map shown (children_of p) → IsCutAbove key most axes h p → IsCutAbove key most axes h q
     cut-alike zero p q same cut = each-alike (IsLeafOf IsAny)
-        (λ n m shows w. let here = is_leaf IsAny n w in subst (IsLeafOf IsAny) (sym (leaf-alike n m here.0 shows here.1)) (IsLeafOf-Leaf T E P S X IsAny here.0 tt))
+        (λ n m shows w. let here = is_leaf IsAny n w in subst (IsLeafOf IsAny) (sym (leaf-alike n m here.0 shows here.1)) (IsLeafOf-Leaf T E IsAny here.0 tt))
         (children_of p) (children_of q) same cut
     cut-alike (suc h) p q same cut = (
       cut-once p q same cut.0,
@@ -156,7 +156,7 @@ module _ {T E P S X : Type 0} where
           (children_of p) (children_of q) same cut.1,
     )
 
-  small-alike : (most h : ℕ) (p q : ParentNode T E P S X) → map shown (children_of q) ≡ map shown (children_of p) → HasSmallParent most h p → HasSmallParent most h q
+  small-alike : (most h : ℕ) (p q : ParentNode T E) → map shown (children_of q) ≡ map shown (children_of p) → HasSmallParent most h p → HasSmallParent most h q
   small-alike most zero p q same small = subst (λ l. l ≤ most) (sym (as_long (children_of p) (children_of q) same)) small
   small-alike most (suc h) p q same small =
       let there = Contains-alike (children_of p) (children_of q) same small.0 small.1 in
@@ -165,14 +165,14 @@ module _ {T E P S X : Type 0} where
       (there.0, there.1, subst (IsParentOf (HasSmallParent most h)) (sym other.1) (IsParentOf-Parent _ other.0 (small-alike most h here.0 other.0 other.2 here.2)))
 
   -- roots that show the same
-  below-alike : (p q : ParentNode T E P S X) → shown_root q ≡ shown_root p → map shown (children_of q) ≡ map shown (children_of p)
+  below-alike : (p q : ParentNode T E) → shown_root q ≡ shown_root p → map shown (children_of q) ≡ map shown (children_of p)
   below-alike p q same =
       sym (nodes-row (map shown (children_of q))) ∙ ap below same ∙ nodes-row (map shown (children_of p)) where
         below : Shown T E → List (Shown T E)
         below (leaf t) = []
         below (parent e row) = nodes_in row
 
-  pub root-sized : (min max : ℕ) (p q : ParentNode T E P S X) → shown_root q ≡ shown_root p → IsSized min max p → IsSized min max q
+  pub root-sized : (min max : ℕ) (p q : ParentNode T E) → shown_root q ≡ shown_root p → IsSized min max p → IsSized min max q
   root-sized min max p q same sized =
       let below = below-alike p q same in record {
         height = sized.height;
@@ -180,7 +180,7 @@ module _ {T E P S X : Type 0} where
         below = each-alike _ (sized-alike min max sized.height) (children_of p) (children_of q) below sized.below;
       }
 
-  pub root-loaded : (v : Boxes E) (o : Objects T E) (most axes : ℕ) (p q : ParentNode T E P S X) → shown_root q ≡ shown_root p → IsLoaded v o most axes p → IsLoaded v o most axes q
+  pub root-loaded : (v : Boxes E) (o : Objects T E) (most axes : ℕ) (p q : ParentNode T E) → shown_root q ≡ shown_root p → IsLoaded v o most axes p → IsLoaded v o most axes q
   root-loaded v o most axes p q same loaded =
       let below = below-alike p q same in record {
         levels = loaded.levels;

@@ -31,7 +31,7 @@ use Rattle.rstar.proofs.Searches.{parents-Leaf}
 -- ---- which order of elements the ties between nodes go by
 
 -- any order in which all are equal
-pub any-ties : {T E P S X : Type 0} → TiesBy {T = T} {E = E} {P = P} {S = S} {X = X} any_first any_first
+pub any-ties : {T E : Type 0} → TiesBy {T = T} {E = E} any_first any_first
 any-ties {T = T} n t e = all (elements n)
   where
     all : (us : List T) → AllByRecursion (λ (u : T). is_lt (any_first u t) ≡ false) us
@@ -39,7 +39,7 @@ any-ties {T = T} n t e = all (elements n)
     all (u ∷ us) = (refl, all us)
 
 -- the elements' own
-pub parents-ties : {T E P S X : Type 0} (order : T → T → Ordering) → TiesBy {T = T} {E = E} {P = P} {S = S} {X = X} (parents_first order) order
+pub parents-ties : {T E : Type 0} (order : T → T → Ordering) → TiesBy {T = T} {E = E} (parents_first order) order
 unfolding elements leaf_element fold_tree
 parents-ties order (Leaf u) t e = (e, tt)
 parents-ties order (Parent' shape children envelope) t e = let no : true ≡ false = e in cc
@@ -100,12 +100,12 @@ module _ {T E : Type 0} {IsPoint : List ℤ → Type 0} {v : Boxes E} {o : Objec
   abbrev near : T → ℕ
   near t = d.distance_2 t p
 
-module _ {T E : Type 0} {IsPoint : List ℤ → Type 0} {v : Boxes E} {o : Objects T E} {d : Distances T} {p : List ℤ} (law : IsMeasured IsPoint v o d p) {P S X : Type 0} where
-  abbrev at : RTreeNode T E P S X → ℕ
+module _ {T E : Type 0} {IsPoint : List ℤ → Type 0} {v : Boxes E} {o : Objects T E} {d : Distances T} {p : List ℤ} (law : IsMeasured IsPoint v o d p) where
+  abbrev at : RTreeNode T E → ℕ
   at = distance_of v d p
 
-  far-trees : (m h : ℕ) → ((n : RTreeNode T E P S X) → IsTree (IsInner v o) (IsElement v o) h n → m < at n → far (dist law) m n ≡ parents n)
-      → (ns : List (RTreeNode T E P S X)) → AreWhole v o h ns → AllByRecursion (λ n. m < at n) ns → all_far (dist law) m ns ≡ all_parents ns
+  far-trees : (m h : ℕ) → ((n : RTreeNode T E) → IsTree (IsInner v o) (IsElement v o) h n → m < at n → far (dist law) m n ≡ parents n)
+      → (ns : List (RTreeNode T E)) → AreWhole v o h ns → AllByRecursion (λ n. m < at n) ns → all_far (dist law) m ns ≡ all_parents ns
   far-trees m h each [] w less = refl
   far-trees m h each (n ∷ ns) w less =
       let one = each n w.0 less.0 in
@@ -115,10 +115,10 @@ module _ {T E : Type 0} {IsPoint : List ℤ → Type 0} {v : Boxes E} {o : Objec
       omega (arith, one, rest, a, b)
 
   -- all parents of a node that is farther than m are
-  far-tree : (m h : ℕ) (n : RTreeNode T E P S X) → IsTree (IsInner v o) (IsElement v o) h n → m < at n → far (dist law) m n ≡ parents n
+  far-tree : (m h : ℕ) (n : RTreeNode T E) → IsTree (IsInner v o) (IsElement v o) h n → m < at n → far (dist law) m n ≡ parents n
   far-tree m zero n w less =
       let l = is_leaf (IsElement v o) n w in
-      ap (far (dist law) m) l.1 ∙ far-Leaf T E P S X (dist law) m l.0 ∙ sym (ap parents l.1 ∙ parents-Leaf T E P S X l.0)
+      ap (far (dist law) m) l.1 ∙ far-Leaf T E (dist law) m l.0 ∙ sym (ap parents l.1 ∙ parents-Leaf T E l.0)
   far-tree m (suc h) n w less =
       let q = is_parent _ n w in
       let own = ap at q.1 ∙ node_distance-Parent (dist law) (near law) q.0 in
@@ -131,7 +131,7 @@ module _ {T E : Type 0} {IsPoint : List ℤ → Type 0} {v : Boxes E} {o : Objec
       omega (arith, rest, one, a, b)
 
   -- nothing that waits comes before what is given
-  module _ (ties : RTreeNode T E P S X → RTreeNode T E P S X → Ordering) (order : T → T → Ordering) (by : TiesBy ties order) (t : T) where
+  module _ (ties : RTreeNode T E → RTreeNode T E → Ordering) (order : T → T → Ordering) (by : TiesBy ties order) (t : T) where
     each-later : (m : ℕ) (us : List T) → m ≡ (near law) t → AllByRecursion (λ u. m ≤ (near law) u) us → AllByRecursion (IsNotAfter order t) us → AllByRecursion (IsNotLater (near law) order t) us
     each-later m [] same above first = tt
     each-later m (u ∷ us) same above first = (
@@ -139,40 +139,40 @@ module _ {T E : Type 0} {IsPoint : List ℤ → Type 0} {v : Boxes E} {o : Objec
       each-later m us same above.1 first.1,
     )
 
-    node-later : (n : RTreeNode T E P S X) → IsPart law n → ((near law) t ≤ at n) × (at n ≡ (near law) t → is_lt (ties n (Leaf t)) ≡ false) → AllByRecursion (IsNotLater (near law) order t) (elements n)
+    node-later : (n : RTreeNode T E) → IsPart law n → ((near law) t ≤ at n) × (at n ≡ (near law) t → is_lt (ties n (Leaf t)) ≡ false) → AllByRecursion (IsNotLater (near law) order t) (elements n)
     node-later n part h =
         by_less ((near law) t) (at n) h.0 (λ same. each-later (at n) (elements n) same (above-node law n part) (by n t (h.1 same)))
         (λ less. all_map (λ u. at n ≤ (near law) u) (IsNotLater (near law) order t) (λ u le. later-far (near law) order t u (omega (arith, less, le))) (elements n) (above-node law n part))
 
-    pub all-later : (ns : List (RTreeNode T E P S X)) → AreWholeNodes v o ns → ComesFirst v d p ties ns t → AllByRecursion (IsNotLater (near law) order t) (all_elements ns)
+    pub all-later : (ns : List (RTreeNode T E)) → AreWholeNodes v o ns → ComesFirst v d p ties ns t → AllByRecursion (IsNotLater (near law) order t) (all_elements ns)
     all-later [] w h = tt
     all-later (n ∷ ns) w h = all-append (IsNotLater (near law) order t) (elements n) (all_elements ns) (node-later n w.0 h.0) (all-later ns w.1 h.1)
 
   module _ (order : T → T → Ordering) (t : T) where
-    abbrev IsBehind : RTreeNode T E P S X → Type 0
+    abbrev IsBehind : RTreeNode T E → Type 0
     IsBehind n = ((near law) t ≤ at n) × (at n ≡ (near law) t → is_lt (parents_first order n (Leaf t)) ≡ false)
 
     -- a parent that waits is farther
-    parent-far : (q : ParentNode T E P S X) → IsBehind (Parent q) → (near law) t < at (Parent q)
+    parent-far : (q : ParentNode T E) → IsBehind (Parent q) → (near law) t < at (Parent q)
     parent-far q h = by_less ((near law) t) (at (Parent q)) h.0 (λ same. absurd (sooner (h.1 same))) (λ less. less)
       where
         sooner : is_lt (parents_first order (Parent q) (Leaf t)) ≡ false → ⊥
         sooner e =
-            let a = ap (λ x. is_lt (option_cmp order x (leaf_element {E = E} {P = P} {S = S} {X = X} (Leaf t)))) (leaf_element-Parent q) in
-            let b = ap (λ x. is_lt (option_cmp order None x)) (leaf_element-Leaf T E P S X t) in
+            let a = ap (λ x. is_lt (option_cmp order x (leaf_element {E = E} (Leaf t)))) (leaf_element-Parent q) in
+            let b = ap (λ x. is_lt (option_cmp order None x)) (leaf_element-Leaf T E t) in
             let c : true ≡ false = sym b ∙ sym a ∙ e in
             cc
 
-    node-far : (n : RTreeNode T E P S X) → IsPart law n → IsBehind n → far (dist law) ((near law) t) n ≡ parents n
+    node-far : (n : RTreeNode T E) → IsPart law n → IsBehind n → far (dist law) ((near law) t) n ≡ parents n
     node-far n (zero, w) h =
         let l = is_leaf (IsElement v o) n w in
-        ap (far (dist law) ((near law) t)) l.1 ∙ far-Leaf T E P S X (dist law) ((near law) t) l.0 ∙ sym (ap parents l.1 ∙ parents-Leaf T E P S X l.0)
+        ap (far (dist law) ((near law) t)) l.1 ∙ far-Leaf T E (dist law) ((near law) t) l.0 ∙ sym (ap parents l.1 ∙ parents-Leaf T E l.0)
     node-far n (suc h, w) k =
         let q = is_parent _ n w in
         far-tree ((near law) t) (suc h) n w (subst (λ m. (near law) t < at m) (sym q.1) (parent-far q.0 (subst IsBehind q.1 k)))
 
     -- all parents that wait are farther
-    pub parents-far : (ns : List (RTreeNode T E P S X)) → AreWholeNodes v o ns → ComesFirst v d p (parents_first order) ns t → all_far (dist law) ((near law) t) ns ≡ all_parents ns
+    pub parents-far : (ns : List (RTreeNode T E)) → AreWholeNodes v o ns → ComesFirst v d p (parents_first order) ns t → all_far (dist law) ((near law) t) ns ≡ all_parents ns
     parents-far [] w h = refl
     parents-far (n ∷ ns) w h =
         let one = node-far n w.0 h.0 in
@@ -184,14 +184,14 @@ module _ {T E : Type 0} {IsPoint : List ℤ → Type 0} {v : Boxes E} {o : Objec
 -- ---- what a call gives
 
 -- a search on its way has whole nodes that wait
-pub whole-waiting : {T E P S X O : Type 0} (v : Boxes E) (d : Distances T) (p : List ℤ) (compare : S → S → Ordering) (ties : RTreeNode T E P S X → RTreeNode T E P S X → Ordering) (value : S → ℤ) (o : Objects T E) (stage : Stage) (root : ParentNode T E P S X) (heap : Held (Item T E P S X O)) (opened : ℕ)
+pub whole-waiting : {T E S O : Type 0} (v : Boxes E) (d : Distances T) (p : List ℤ) (compare : S → S → Ordering) (ties : RTreeNode T E → RTreeNode T E → Ordering) (value : S → ℤ) (o : Objects T E) (stage : Stage) (root : ParentNode T E) (heap : Held (Item T E S O)) (opened : ℕ)
     → stage ≡ Running → IsReadyAt v d p compare ties value o stage root heap opened → AreWholeNodes v o (waiting_at stage root (items_of heap))
 whole-waiting v d p compare ties value o Running root heap opened e ready = ready.parts
 whole-waiting v d p compare ties value o Fresh root heap opened e ready = cc
 whole-waiting v d p compare ties value o Ended root heap opened e ready = cc
 
-module _ {T E : Type 0} {IsPoint : List ℤ → Type 0} {v : Boxes E} {o : Objects T E} {d : Distances T} {p : List ℤ} (law : IsMeasured IsPoint v o d p) {P S X O A : Type 0}
-    (order : T → T → Ordering) (compare : S → S → Ordering) (value : S → ℤ) (s t : NodeSearch T E P S X O) (point : P) (element : A → T) where
+module _ {T E : Type 0} {IsPoint : List ℤ → Type 0} {v : Boxes E} {o : Objects T E} {d : Distances T} {p : List ℤ} (law : IsMeasured IsPoint v o d p) {P S O A : Type 0}
+    (order : T → T → Ordering) (compare : S → S → Ordering) (value : S → ℤ) (s t : NodeSearch T E S O) (point : P) (element : A → T) where
   one-next : (x : T) → t.root ≡ s.root → IsReady v d p compare (parents_first order) value o t → t.stage ≡ Running → IsNeighbor v d p s.root.now (waiting_of s) (waiting_of t) x → ComesFirst v d p (parents_first order) (waiting_of t) x
       → IsNextInOrder v d p order (shown t point) x
   one-next x same ready on gives first =

@@ -4,37 +4,37 @@ use Rattle.std.specs.Borrow.{Bor}
 use Rattle.std.specs.Iterator.{Yields}
 use Rattle.std.proofs.lemmas.Iterator.{YieldsList}
 use Rattle.std.proofs.lemmas.Iterator.Consumers.{YieldsList-from_shown, YieldsList-end}
-use Rattle.rstar.specs.declared.iterators.SelectionIterator.{SelectionIterator}
+use Rattle.rstar.specs.declared.iterators.selection.SelectionIterator.{SelectionIterator}
 use Rattle.rstar.specs.declared.node.ParentNode.{ParentNode}
 use Rattle.rstar.specs.declared.iterators.joins.IntersectionIterator.{IntersectionIterator}
 use Rattle.rstar.specs.Joins.{pairs_to_come, GivesPair}
 use Rattle.rstar.specs.Selections.{to_come, IsMade, GivesNext}
 
-pub selection_list : {T F E P S X : Type 0} {accepts : F → E → Bool} {selects : F → T → Bool} {it : SelectionIterator T F E P S X} (xs : List T)
+pub selection_list : {T F E : Type 0} {accepts : F → E → Bool} {selects : F → T → Bool} {it : SelectionIterator T F E} (xs : List T)
     → to_come accepts selects it ≡ xs → YieldsList (GivesNext accepts selects) (λ (x : Bor T). x.now) it xs
-selection_list {T} {F} {E} {P} {S} {X} {accepts} {selects} {it} xs e =
+selection_list {T} {F} {E} {accepts} {selects} {it} xs e =
     subst (YieldsList (GivesNext accepts selects) (λ (x : Bor T). x.now) it) e
     (YieldsList-from_shown (GivesNext accepts selects) (λ (x : Bor T). x.now) (to_come accepts selects) (λ s t h. ap length h.gives.0) (λ s x t h. h.gives) it)
 
 -- at the end of a `for` over a selection, whose items so far are ys
-pub selection_end : {T F E P S X : Type 0} {accepts : F → E → Bool} {selects : F → T → Bool} (it : SelectionIterator T F E P S X) (xs : List T)
-    → to_come accepts selects it ≡ xs → (ys : List (Bor T)) (t : SelectionIterator T F E P S X) → Yields (GivesNext accepts selects) it ys t
-    → (u : SelectionIterator T F E P S X) → GivesNext accepts selects t None u → map (λ (x : Bor T). x.now) ys ≡ xs
+pub selection_end : {T F E : Type 0} {accepts : F → E → Bool} {selects : F → T → Bool} (it : SelectionIterator T F E) (xs : List T)
+    → to_come accepts selects it ≡ xs → (ys : List (Bor T)) (t : SelectionIterator T F E) → Yields (GivesNext accepts selects) it ys t
+    → (u : SelectionIterator T F E) → GivesNext accepts selects t None u → map (λ (x : Bor T). x.now) ys ≡ xs
 selection_end it xs e ys t y u last = (YieldsList-end (selection_list {it = it} xs e) ys t y None u refl last).0
 
 -- the same iterator, its question by another name
-pub made_asking : {T F E P S X : Type 0} {accepts : F → E → Bool} {over : ParentNode T E P S X} {asked same : E → Bool} → asked ≡ same
-    → (it : SelectionIterator T F E P S X) → IsMade accepts over asked it → IsMade accepts over same it
+pub made_asking : {T F E : Type 0} {accepts : F → E → Bool} {over : ParentNode T E} {asked same : E → Bool} → asked ≡ same
+    → (it : SelectionIterator T F E) → IsMade accepts over asked it → IsMade accepts over same it
 made_asking {accepts = accepts} {over} e it made = subst (λ asked. IsMade accepts over asked it) e made
 
 -- the same of a join: the pairs that it gives, and at the end of a `for` over it
-pub pairs_list : {T E P S X U F Q R Y : Type 0} {meets : E → F → Bool} {left_box : T → E} {right_box : U → F} {it : IntersectionIterator T U E P S X F Q R Y} (xs : List (T × U))
+pub pairs_list : {T E U F : Type 0} {meets : E → F → Bool} {left_box : T → E} {right_box : U → F} {it : IntersectionIterator T U E F} (xs : List (T × U))
     → pairs_to_come meets left_box right_box it ≡ xs → YieldsList (GivesPair meets left_box right_box) (λ (p : Bor T × Bor U). (p.0.now, p.1.now)) it xs
-pairs_list {T} {E} {P} {S} {X} {U} {F} {Q} {R} {Y} {meets} {left_box} {right_box} {it} xs e =
+pairs_list {T} {E} {U} {F} {meets} {left_box} {right_box} {it} xs e =
     subst (YieldsList (GivesPair meets left_box right_box) (λ (p : Bor T × Bor U). (p.0.now, p.1.now)) it) e
     (YieldsList-from_shown (GivesPair meets left_box right_box) (λ (p : Bor T × Bor U). (p.0.now, p.1.now)) (pairs_to_come meets left_box right_box) (λ s t h. ap length h.gives.0) (λ s x t h. h.gives) it)
 
-pub pairs_end : {T E P S X U F Q R Y : Type 0} {meets : E → F → Bool} {left_box : T → E} {right_box : U → F} (it : IntersectionIterator T U E P S X F Q R Y) (xs : List (T × U))
-    → pairs_to_come meets left_box right_box it ≡ xs → (ys : List (Bor T × Bor U)) (t : IntersectionIterator T U E P S X F Q R Y) → Yields (GivesPair meets left_box right_box) it ys t
-    → (u : IntersectionIterator T U E P S X F Q R Y) → GivesPair meets left_box right_box t None u → map (λ (p : Bor T × Bor U). (p.0.now, p.1.now)) ys ≡ xs
+pub pairs_end : {T E U F : Type 0} {meets : E → F → Bool} {left_box : T → E} {right_box : U → F} (it : IntersectionIterator T U E F) (xs : List (T × U))
+    → pairs_to_come meets left_box right_box it ≡ xs → (ys : List (Bor T × Bor U)) (t : IntersectionIterator T U E F) → Yields (GivesPair meets left_box right_box) it ys t
+    → (u : IntersectionIterator T U E F) → GivesPair meets left_box right_box t None u → map (λ (p : Bor T × Bor U). (p.0.now, p.1.now)) ys ≡ xs
 pairs_end it xs e ys t y u last = (YieldsList-end (pairs_list {it = it} xs e) ys t y None u refl last).0

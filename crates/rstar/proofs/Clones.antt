@@ -27,9 +27,9 @@ AllZip-map R Q f [] (y ∷ ys) z = absurd z
 AllZip-map R Q f (x ∷ xs) [] z = absurd z
 AllZip-map R Q f (x ∷ xs) (y ∷ ys) z = (f x y z.0, AllZip-map R Q f xs ys z.1)
 
-fold_tree-Leaf : {T E A : Type 0} (P S X : Type 0) (at_leaf : T → A) (at_parent : E → List A → A) (t : T) → fold_tree {P = P} {S = S} {X = X} at_leaf at_parent (Leaf t) ≡ at_leaf t
+fold_tree-Leaf : {T E A : Type 0} (at_leaf : T → A) (at_parent : E → List A → A) (t : T) → fold_tree at_leaf at_parent (Leaf t) ≡ at_leaf t
 unfolding fold_tree
-fold_tree-Leaf P S X at_leaf at_parent t = refl
+fold_tree-Leaf at_leaf at_parent t = refl
 
 -- one clone more
 pub zip_push : {A : Type 0} (R : A → A → Type 0) (xs items ys zs : List A) (k : ℕ) (x y : A) → items ≡ xs → AllZip R (take k xs) ys → k < length items → x ≡ get_or items k x → R x y → zs ≡ ys ++ y ∷ [] → AllZip R (take (k + 1) xs) zs
@@ -50,41 +50,41 @@ item_has P xs items k x same below is h =
 pub zip_whole : {A B : Type 0} (R : A → B → Type 0) (xs items : List A) (ys : List B) (k : ℕ) → items ≡ xs → length items ≤ k → AllZip R (take k xs) ys → AllZip R xs ys
 zip_whole R xs items ys k same ended z = let all : length xs ≤ k = rw same at ended in subst (λ us. AllZip R us ys) (take_all k xs all) z
 
-module _ {T E P S X : Type 0} (is_clone : T → T → Type 0) (max : ℕ) where
+module _ {T E : Type 0} (is_clone : T → T → Type 0) (max : ℕ) where
   -- what holds of each node and its clone holds of lists of them
-  zip_each : {A : Type 0} (R : RTreeNode T E P S X → RTreeNode T E P S X → Type 0) (f : RTreeNode T E P S X → List A) (Q : A → A → Type 0) → ((m n : RTreeNode T E P S X) → R m n → AllZip Q (f m) (f n))
-      → (ms ns : List (RTreeNode T E P S X)) → AllZip R ms ns → AllZip Q (flat_map f ms) (flat_map f ns)
+  zip_each : {A : Type 0} (R : RTreeNode T E → RTreeNode T E → Type 0) (f : RTreeNode T E → List A) (Q : A → A → Type 0) → ((m n : RTreeNode T E) → R m n → AllZip Q (f m) (f n))
+      → (ms ns : List (RTreeNode T E)) → AllZip R ms ns → AllZip Q (flat_map f ms) (flat_map f ns)
   zip_each R f Q one [] [] z = tt
   zip_each R f Q one [] (n ∷ ns) z = absurd z
   zip_each R f Q one (m ∷ ms) [] z = absurd z
   zip_each R f Q one (m ∷ ms) (n ∷ ns) z = AllZip-append Q (f m) (flat_map f ms) (f n) (flat_map f ns) (one m n z.0) (zip_each R f Q one ms ns z.1)
 
   -- the elements of a clone are clones, in their places
-  elements_cloned : (h : ℕ) (m n : RTreeNode T E P S X) → IsNodeClone is_clone max h m n → AllZip is_clone (elements m) (elements n)
-  elements_cloned zero m n c = rw (c.2, c.3, elements-Leaf T E P S X c.0, elements-Leaf T E P S X c.1) (c.4, tt)
+  elements_cloned : (h : ℕ) (m n : RTreeNode T E) → IsNodeClone is_clone max h m n → AllZip is_clone (elements m) (elements n)
+  elements_cloned zero m n c = rw (c.2, c.3, elements-Leaf T E c.0, elements-Leaf T E c.1) (c.4, tt)
   elements_cloned (suc h) m n c =
       rw (c.2, c.3, elements-Parent c.0, elements-Parent c.1) (zip_each (IsNodeClone is_clone max h) elements is_clone (elements_cloned h) (children_of c.0) (children_of c.1) c.6)
 
-  pub all_cloned : (h : ℕ) (p q : ParentNode T E P S X) → IsParentClone is_clone max h p q → AllZip is_clone (elements_of p) (elements_of q)
+  pub all_cloned : (h : ℕ) (p q : ParentNode T E) → IsParentClone is_clone max h p q → AllZip is_clone (elements_of p) (elements_of q)
   all_cloned h p q c = zip_each (IsNodeClone is_clone max h) elements is_clone (elements_cloned h) (children_of p) (children_of q) c.children
 
   module _ (equal : ClonesEqual is_clone) where
-    maps_same : {A : Type 0} (R : RTreeNode T E P S X → RTreeNode T E P S X → Type 0) (f : RTreeNode T E P S X → A) → ((m n : RTreeNode T E P S X) → R m n → f n ≡ f m)
-        → (ms ns : List (RTreeNode T E P S X)) → AllZip R ms ns → map f ns ≡ map f ms
+    maps_same : {A : Type 0} (R : RTreeNode T E → RTreeNode T E → Type 0) (f : RTreeNode T E → A) → ((m n : RTreeNode T E) → R m n → f n ≡ f m)
+        → (ms ns : List (RTreeNode T E)) → AllZip R ms ns → map f ns ≡ map f ms
     maps_same R f one [] [] z = refl
     maps_same R f one [] (n ∷ ns) z = absurd z
     maps_same R f one (m ∷ ms) [] z = absurd z
     maps_same R f one (m ∷ ms) (n ∷ ns) z = ap (λ x. x ∷ map f ns) (one m n z.0) ∙ ap (λ xs. f m ∷ xs) (maps_same R f one ms ns z.1)
 
     -- a fold gives the same of a clone
-    fold_cloned : {A : Type 0} (at_leaf : T → A) (at_parent : E → List A → A) (h : ℕ) (m n : RTreeNode T E P S X) → IsNodeClone is_clone max h m n → fold_tree at_leaf at_parent n ≡ fold_tree at_leaf at_parent m
-    fold_cloned at_leaf at_parent zero m n c = rw (c.2, c.3, fold_tree-Leaf P S X at_leaf at_parent c.0, fold_tree-Leaf P S X at_leaf at_parent c.1) (ap at_leaf (equal c.0 c.1 c.4))
+    fold_cloned : {A : Type 0} (at_leaf : T → A) (at_parent : E → List A → A) (h : ℕ) (m n : RTreeNode T E) → IsNodeClone is_clone max h m n → fold_tree at_leaf at_parent n ≡ fold_tree at_leaf at_parent m
+    fold_cloned at_leaf at_parent zero m n c = rw (c.2, c.3, fold_tree-Leaf at_leaf at_parent c.0, fold_tree-Leaf at_leaf at_parent c.1) (ap at_leaf (equal c.0 c.1 c.4))
     fold_cloned at_leaf at_parent (suc h) m n c =
         rw (c.2, c.3, fold_tree-Parent at_leaf at_parent c.0, fold_tree-Parent at_leaf at_parent c.1)
         (ap (λ e. at_parent e (map (fold_tree at_leaf at_parent) (children_of c.1))) c.4
         ∙ ap (at_parent (envelope_of c.0)) (maps_same (IsNodeClone is_clone max h) (fold_tree at_leaf at_parent) (fold_cloned at_leaf at_parent h) (children_of c.0) (children_of c.1) c.6))
 
-    module _ (h : ℕ) (p q : ParentNode T E P S X) (c : IsParentClone is_clone max h p q) where
+    module _ (h : ℕ) (p q : ParentNode T E) (c : IsParentClone is_clone max h p q) where
       folds_same : {A : Type 0} (at_leaf : T → A) (at_parent : E → List A → A) → map (fold_tree at_leaf at_parent) (children_of q) ≡ map (fold_tree at_leaf at_parent) (children_of p)
       folds_same at_leaf at_parent = maps_same (IsNodeClone is_clone max h) (fold_tree at_leaf at_parent) (fold_cloned at_leaf at_parent h) (children_of p) (children_of q) c.children
 
@@ -106,31 +106,31 @@ module _ {T E P S X : Type 0} (is_clone : T → T → Type 0) (max : ℕ) where
           ∙ ap (λ es. envelope_of p ∷ es) (sym (joined-map envelopes (children_of q)) ∙ ap joined (folds_same _ _) ∙ joined-map envelopes (children_of p))
 
     -- trees whose clones meet more
-    module _ (Q Q' : ParentNode T E P S X → Type 0) (R : T → Type 0) (f : (h : ℕ) (p q : ParentNode T E P S X) → IsParentClone is_clone max h p q → Q p → Q' q) where
-      trees_each : (h : ℕ) → ((m n : RTreeNode T E P S X) → IsNodeClone is_clone max h m n → IsTree Q R h m → IsTree Q' R h n)
-          → (ms ns : List (RTreeNode T E P S X)) → AllZip (IsNodeClone is_clone max h) ms ns → AreTrees Q R h ms → AreTrees Q' R h ns
+    module _ (Q Q' : ParentNode T E → Type 0) (R : T → Type 0) (f : (h : ℕ) (p q : ParentNode T E) → IsParentClone is_clone max h p q → Q p → Q' q) where
+      trees_each : (h : ℕ) → ((m n : RTreeNode T E) → IsNodeClone is_clone max h m n → IsTree Q R h m → IsTree Q' R h n)
+          → (ms ns : List (RTreeNode T E)) → AllZip (IsNodeClone is_clone max h) ms ns → AreTrees Q R h ms → AreTrees Q' R h ns
       trees_each h one [] [] z w = tt
       trees_each h one [] (n ∷ ns) z w = absurd z
       trees_each h one (m ∷ ms) [] z w = absurd z
       trees_each h one (m ∷ ms) (n ∷ ns) z w = (one m n z.0 w.0, trees_each h one ms ns z.1 w.1)
 
-      tree_cloned : (h : ℕ) (m n : RTreeNode T E P S X) → IsNodeClone is_clone max h m n → IsTree Q R h m → IsTree Q' R h n
+      tree_cloned : (h : ℕ) (m n : RTreeNode T E) → IsNodeClone is_clone max h m n → IsTree Q R h m → IsTree Q' R h n
       tree_cloned zero m n c w =
-          rw c.3 (IsLeafOf-Leaf T E P S X R c.1 (subst R (sym (equal c.0 c.1 c.4)) (leaf_of T E P S X R c.0 (rw c.2 at w))))
+          rw c.3 (IsLeafOf-Leaf T E R c.1 (subst R (sym (equal c.0 c.1 c.4)) (leaf_of T E R c.0 (rw c.2 at w))))
       tree_cloned (suc h) m n c w =
           let here = parent_of _ c.0 (subst (IsTree Q R (suc h)) c.2 w) in
           rw c.3 (IsParentOf-Parent _ c.1 (f h c.0 c.1 (record { envelope = c.4; room = c.5; children = c.6 }) here.0, trees_each h (tree_cloned h) (children_of c.0) (children_of c.1) c.6 here.1))
 
-      pub trees_cloned : (h : ℕ) (p q : ParentNode T E P S X) → IsParentClone is_clone max h p q → AreTrees Q R h (children_of p) → AreTrees Q' R h (children_of q)
+      pub trees_cloned : (h : ℕ) (p q : ParentNode T E) → IsParentClone is_clone max h p q → AreTrees Q R h (children_of p) → AreTrees Q' R h (children_of q)
       trees_cloned h p q c = trees_each h (tree_cloned h) (children_of p) (children_of q) c.children
 
-    none_cloned : (h : ℕ) (p q : ParentNode T E P S X) → IsParentClone is_clone max h p q → children_of p ≢ [] → children_of q ≢ []
+    none_cloned : (h : ℕ) (p q : ParentNode T E) → IsParentClone is_clone max h p q → children_of p ≢ [] → children_of q ≢ []
     none_cloned h p q c some none = some (empty_of (children_of p) (omega (arith, AllZip-long (IsNodeClone is_clone max h) (children_of p) (children_of q) c.children, ap length none))) where
       empty_of : {A : Type 0} (xs : List A) → length xs ≡ 0 → xs ≡ []
       empty_of [] e = refl
       empty_of (x ∷ xs) e = absurd (omega (arith, e))
 
-    module _ (v : Boxes E) (o : Objects T E) (h : ℕ) (p q : ParentNode T E P S X) (c : IsParentClone is_clone max h p q) where
+    module _ (v : Boxes E) (o : Objects T E) (h : ℕ) (p q : ParentNode T E) (c : IsParentClone is_clone max h p q) where
       pub tight_cloned : envelope_of p ≡ hull v o.box_of (elements_of p) → envelope_of q ≡ hull v o.box_of (elements_of q)
       tight_cloned tight = c.envelope ∙ tight ∙ ap (hull v o.box_of) (sym (elements_same h p q c))
 
@@ -143,11 +143,11 @@ module _ {T E P S X : Type 0} (is_clone : T → T → Type 0) (max : ℕ) where
           (λ k a b d roomy. record { narrow = let few = roomy.narrow in omega (arith, few, AllZip-long (IsNodeClone is_clone max k) (children_of a) (children_of b) d.children); room = d.room }) h p q c
 
   -- the clone of a leaf, and of a parent
-  pub leaf_cloned : (h : ℕ) (n m : RTreeNode T E P S X) (t u : T) → n ≡ Leaf t → m ≡ Leaf u → is_clone t u → IsLevel h n → IsNodeClone is_clone max h n m
+  pub leaf_cloned : (h : ℕ) (n m : RTreeNode T E) (t u : T) → n ≡ Leaf t → m ≡ Leaf u → is_clone t u → IsLevel h n → IsNodeClone is_clone max h n m
   leaf_cloned zero n m t u is put one level = (t, u, is, put, one)
   leaf_cloned (suc h) n m t u is put one level = absurd (no_parent _ t (subst (IsLevel (suc h)) is level))
 
-  pub parent_cloned : (h : ℕ) (n m : RTreeNode T E P S X) (p q : ParentNode T E P S X) → n ≡ Parent p → m ≡ Parent q
+  pub parent_cloned : (h : ℕ) (n m : RTreeNode T E) (p q : ParentNode T E) → n ≡ Parent p → m ≡ Parent q
       → ((k : ℕ) → AllByRecursion (IsLevel k) (children_of p) → IsParentClone is_clone max k p q) → IsLevel h n → IsNodeClone is_clone max h n m
   parent_cloned zero n m p q is put one level = absurd (no_leaf _ p (subst (IsLevel zero) is level))
   parent_cloned (suc h) n m p q is put one level =

@@ -33,27 +33,27 @@ part-if : {A : Type 0} (b : Bool) (xs ys : List A) → IsPartOf xs ys → IsPart
 part-if true xs ys p = p
 part-if false xs ys p = part-none ys
 
-module _ {T E P S X : Type 0} (accepts : E → Bool) (selects : T → Bool) where
+module _ {T E : Type 0} (accepts : E → Bool) (selects : T → Bool) where
   mutual
     unfolding given elements fold_tree
 
-    part-node : (n : RTreeNode T E P S X) → IsPartOf (given accepts selects n) (filter selects (elements n))
+    part-node : (n : RTreeNode T E) → IsPartOf (given accepts selects n) (filter selects (elements n))
     part-node (Leaf t) = part-refl (filter selects (t ∷ []))
     part-node (Parent' shape children envelope) = part-if (accepts envelope) _ _ (part-row children)
 
-    part-row : {k : _} (row : Row_of-RTreeNode T E P S X k)
+    part-row : {k : _} (row : Row_of-RTreeNode T E k)
         → IsPartOf (joined (fold_row (λ t. if selects t then t ∷ [] else []) (λ e below. if accepts e then joined below else []) row)) (filter selects (joined (fold_row (λ t. t ∷ []) (λ e below. joined below) row)))
     part-row end_of-RTreeNode = refl
     part-row (more_of-RTreeNode node rest) =
         subst (IsPartOf _) (sym (filter-append selects (elements node) _)) (part-append (given accepts selects node) _ (filter selects (elements node)) _ (part-node node) (part-row rest))
 
-  part-all : (ns : List (RTreeNode T E P S X)) → IsPartOf (all_given accepts selects ns) (filter selects (all_elements ns))
+  part-all : (ns : List (RTreeNode T E)) → IsPartOf (all_given accepts selects ns) (filter selects (all_elements ns))
   part-all [] = refl
   part-all (n ∷ ns) =
       subst (IsPartOf (all_given accepts selects (n ∷ ns))) (sym (filter-append selects (elements n) (all_elements ns)))
       (part-append (given accepts selects n) (all_given accepts selects ns) (filter selects (elements n)) (filter selects (all_elements ns)) (part-node n) (part-all ns))
 
-  pub part-root : (root : ParentNode T E P S X) → IsPartOf (given_of accepts selects root) (filter selects (elements_of root))
+  pub part-root : (root : ParentNode T E) → IsPartOf (given_of accepts selects root) (filter selects (elements_of root))
   part-root root = part-if (accepts (envelope_of root)) _ _ (part-all (children_of root))
 
 -- ---- a lawful function: all that is selected is given
@@ -87,20 +87,20 @@ module _ {T E : Type 0} {IsPoint : List ℤ → Type 0} {v : Boxes E} {o : Objec
       let vm = hull-value laws o.box_of ts (values-of laws ok ts all) in
       sym (none-selected ts v.empty all laws.empty_value (ap accepts (laws.merge_empty _ vm ∙ sym tight) ∙ is))
 
-  module _ {P S X : Type 0} where
-    pub all-each : (h : ℕ) → ((n : RTreeNode T E P S X) → IsTree (IsInner v o) (IsElement v o) h n → given accepts selects n ≡ filter selects (elements n))
-        → (ns : List (RTreeNode T E P S X)) → AreWhole v o h ns → all_given accepts selects ns ≡ filter selects (all_elements ns)
+  module _ where
+    pub all-each : (h : ℕ) → ((n : RTreeNode T E) → IsTree (IsInner v o) (IsElement v o) h n → given accepts selects n ≡ filter selects (elements n))
+        → (ns : List (RTreeNode T E)) → AreWhole v o h ns → all_given accepts selects ns ≡ filter selects (all_elements ns)
     all-each h one [] w = refl
     all-each h one (n ∷ ns) w =
         ap (λ (l : List T). l ++ all_given accepts selects ns) (one n w.0)
         ∙ ap (λ (l : List T). filter selects (elements n) ++ l) (all-each h one ns w.1)
         ∙ sym (filter-append selects (elements n) (all_elements ns))
 
-    pub all-node : (h : ℕ) (n : RTreeNode T E P S X) → IsTree (IsInner v o) (IsElement v o) h n → given accepts selects n ≡ filter selects (elements n)
+    pub all-node : (h : ℕ) (n : RTreeNode T E) → IsTree (IsInner v o) (IsElement v o) h n → given accepts selects n ≡ filter selects (elements n)
     all-node zero n w =
         let l = is_leaf (IsElement v o) n w in
-        ap (given accepts selects) l.1 ∙ given-Leaf T E P S X accepts selects l.0
-        ∙ sym (ap (filter selects) (ap elements l.1 ∙ elements-Leaf T E P S X l.0))
+        ap (given accepts selects) l.1 ∙ given-Leaf T E accepts selects l.0
+        ∙ sym (ap (filter selects) (ap elements l.1 ∙ elements-Leaf T E l.0))
     all-node (suc h) n w =
         let p = is_parent _ n w in
         ap (given accepts selects) p.1 ∙ given-Parent accepts selects p.0
@@ -108,7 +108,7 @@ module _ {T E : Type 0} {IsPoint : List ℤ → Type 0} {v : Boxes E} {o : Objec
         (all_sound v o h (children_of p.0) p.2.1) p.2.0.0 refl (all-each h (all-node h) (children_of p.0) p.2.1)
         ∙ sym (ap (filter selects) (ap elements p.1 ∙ elements-Parent p.0))
 
-    pub all-root : (root : ParentNode T E P S X) → IsWhole v o root → given_of accepts selects root ≡ filter selects (elements_of root)
+    pub all-root : (root : ParentNode T E) → IsWhole v o root → given_of accepts selects root ≡ filter selects (elements_of root)
     all-root root whole =
         all-if (elements_of root) (all_given accepts selects (children_of root)) (envelope_of root) (accepts (envelope_of root))
         (all_sound v o whole.height (children_of root) whole.below) whole.tight refl (all-each whole.height (all-node whole.height) (children_of root) whole.below)

@@ -101,14 +101,14 @@ module _ {T : Type 0} {R : T → T → Ordering} (o : IsTotalOrder R) where
 
 -- ---- of what is given below some nodes
 
-module _ {T E P S X : Type 0} (accepts : E → Bool) (selects : T → Bool) {R : T → T → Ordering} (o : IsTotalOrder R) where
-  abbrev below : RTreeNode T E P S X → List T
+module _ {T E : Type 0} (accepts : E → Bool) (selects : T → Bool) {R : T → T → Ordering} (o : IsTotalOrder R) where
+  abbrev below : RTreeNode T E → List T
   below n = given accepts selects n
 
-  abbrev all_below : List (RTreeNode T E P S X) → List T
+  abbrev all_below : List (RTreeNode T E) → List T
   all_below ns = all_given accepts selects ns
 
-  module _ (ns : List (RTreeNode T E P S X)) (n : RTreeNode T E P S X) where
+  module _ (ns : List (RTreeNode T E)) (n : RTreeNode T E) where
     below-push : all_below (ns ++ n ∷ []) ≡ all_below ns ++ below n
     below-push = flat_map-append (given accepts selects) ns (n ∷ []) ∙ ap (λ (l : List T). all_below ns ++ l) (append-nil (below n))
 
@@ -146,41 +146,41 @@ module _ {T E P S X : Type 0} (accepts : E → Bool) (selects : T → Bool) {R :
     pushed (Some found) (Some next) at here = by_test found.0 found.1.now found next (is_lt (R next.now found.1.now)) refl at (sym here)
 
   -- one node more
-  pub one_more : (ns : List (RTreeNode T E P S X)) (i : ℕ) (n : RTreeNode T E P S X) (found : Option (ℕ × Bor T)) (next : Option (Bor T)) → i < length ns → n ≡ get_or ns i n
+  pub one_more : (ns : List (RTreeNode T E)) (i : ℕ) (n : RTreeNode T E) (found : Option (ℕ × Bor T)) (next : Option (Bor T)) → i < length ns → n ≡ get_or ns i n
       → IsEarliestOf accepts selects R (take i ns) found → lent next ≡ earliest R (below n) → IsEarliestOf accepts selects R (take (i + 1) ns) (earlier_at R found i next)
   one_more ns i n found next within is at here =
-      subst (λ (l : List (RTreeNode T E P S X)). IsEarliestOf accepts selects R l (earlier_at R found i next)) (ap (λ m. take i ns ++ m ∷ []) is ∙ sym (take_more ns i n within))
+      subst (λ (l : List (RTreeNode T E)). IsEarliestOf accepts selects R l (earlier_at R found i next)) (ap (λ m. take i ns ++ m ∷ []) is ∙ sym (take_more ns i n within))
       (subst (λ (k : ℕ). IsEarliestOf accepts selects R (take i ns ++ n ∷ []) (earlier_at R found k next)) (length-take-le i ns (omega arith))
       (pushed (take i ns) n found next at here))
 
   -- of one node
-  pub earliest-leaf : (n : RTreeNode T E P S X) (t : T) (b : Bool) → n ≡ Leaf t → selects t ≡ b → earliest R (below n) ≡ (if b then Some t else None)
-  earliest-leaf n t b is chosen = ap (λ m. earliest R (below m)) is ∙ ap (earliest R) (given-Leaf T E P S X accepts selects t) ∙ by_test b chosen where
+  pub earliest-leaf : (n : RTreeNode T E) (t : T) (b : Bool) → n ≡ Leaf t → selects t ≡ b → earliest R (below n) ≡ (if b then Some t else None)
+  earliest-leaf n t b is chosen = ap (λ m. earliest R (below m)) is ∙ ap (earliest R) (given-Leaf T E accepts selects t) ∙ by_test b chosen where
     by_test : (b : Bool) → selects t ≡ b → earliest R (if selects t then t ∷ [] else []) ≡ (if b then Some t else None)
     by_test true is = ap (λ c. earliest R (if c then t ∷ [] else [])) is
     by_test false is = ap (λ c. earliest R (if c then t ∷ [] else [])) is
 
-  pub earliest-parent : (n : RTreeNode T E P S X) (p : ParentNode T E P S X) (b : Bool) → n ≡ Parent p → accepts p.envelope ≡ b → earliest R (below n) ≡ (if b then earliest R (all_below (children_of p)) else None)
+  pub earliest-parent : (n : RTreeNode T E) (p : ParentNode T E) (b : Bool) → n ≡ Parent p → accepts p.envelope ≡ b → earliest R (below n) ≡ (if b then earliest R (all_below (children_of p)) else None)
   earliest-parent n p b is opened = ap (λ m. earliest R (below m)) is ∙ ap (earliest R) (given-Parent accepts selects p) ∙ by_test b opened where
     by_test : (b : Bool) → accepts p.envelope ≡ b → earliest R (if accepts p.envelope then all_below (children_of p) else []) ≡ (if b then earliest R (all_below (children_of p)) else None)
     by_test true is = ap (λ c. earliest R (if c then all_below (children_of p) else [])) is
     by_test false is = ap (λ c. earliest R (if c then all_below (children_of p) else [])) is
 
   -- of a parent that is opened
-  pub earliest-opened : (n : RTreeNode T E P S X) (p : ParentNode T E P S X) (ns : List (RTreeNode T E P S X)) (r : Option T) → n ≡ Parent p → accepts p.envelope ≡ true → ns ≡ children_of p → earliest R (all_below ns) ≡ r → earliest R (below n) ≡ r
+  pub earliest-opened : (n : RTreeNode T E) (p : ParentNode T E) (ns : List (RTreeNode T E)) (r : Option T) → n ≡ Parent p → accepts p.envelope ≡ true → ns ≡ children_of p → earliest R (all_below ns) ≡ r → earliest R (below n) ≡ r
   earliest-opened n p ns r is opened same all = earliest-parent n p true is opened ∙ ap (λ l. earliest R (all_below l)) (sym same) ∙ all
 
   -- what is the earliest at the place that was found is the earliest of all
-  pub earliest-there : (ns read : List (RTreeNode T E P S X)) (i : ℕ) (t : T) (r : Option T) (d : RTreeNode T E P S X) → read ≡ ns → IsEarliestAt accepts selects R read i t → r ≡ earliest R (below (get_or ns i d))
+  pub earliest-there : (ns read : List (RTreeNode T E)) (i : ℕ) (t : T) (r : Option T) (d : RTreeNode T E) → read ≡ ns → IsEarliestAt accepts selects R read i t → r ≡ earliest R (below (get_or ns i d))
       → (r ≡ earliest R (all_below ns)) × (is_some r ≡ true)
   earliest-there ns read i t r d same at first =
-      let there = subst (λ (l : List (RTreeNode T E P S X)). IsEarliestAt accepts selects R l i t) same at in
+      let there = subst (λ (l : List (RTreeNode T E)). IsEarliestAt accepts selects R l i t) same at in
       let is : r ≡ Some t = first ∙ there.here d in
       (is ∙ sym there.all, ap is_some is)
 
 -- ---- of a root
 
-module _ {T E P S X : Type 0} (accepts : E → Bool) (selects : T → Bool) (root : ParentNode T E P S X) where
+module _ {T E : Type 0} (accepts : E → Bool) (selects : T → Bool) (root : ParentNode T E) where
   pub refused_of : accepts (envelope_of root) ≡ false → given_of accepts selects root ≡ []
   refused_of is = ap (λ b. if b then all_given accepts selects (children_of root) else []) is
 
@@ -194,8 +194,8 @@ module _ {T E P S X : Type 0} (accepts : E → Bool) (selects : T → Bool) (roo
     by_test false = refl
 
 -- what a lawful function selects below a whole root is given
-module _ {T E : Type 0} {IsPoint : List ℤ → Type 0} {v : Boxes E} {o : Objects T E} (laws : EnvelopeLaws IsPoint v) (ok : ObjectLaws v o) (R : T → T → Ordering) {P S X : Type 0} where
-  pub earliest-selected : {accepts : E → Bool} {selects : T → Bool} {opens : E → Bool} {asks : T → Bool} → SelectsBy v o accepts selects opens asks → (root : ParentNode T E P S X) → IsWhole v o root
+module _ {T E : Type 0} {IsPoint : List ℤ → Type 0} {v : Boxes E} {o : Objects T E} (laws : EnvelopeLaws IsPoint v) (ok : ObjectLaws v o) (R : T → T → Ordering) where
+  pub earliest-selected : {accepts : E → Bool} {selects : T → Bool} {opens : E → Bool} {asks : T → Bool} → SelectsBy v o accepts selects opens asks → (root : ParentNode T E) → IsWhole v o root
       → (r : Option T) → r ≡ earliest R (given_of accepts selects root) → r ≡ earliest R (filter asks (elements_of root))
   earliest-selected {accepts} {selects} by root whole r is =
       is ∙ ap (earliest R) (all-root laws ok accepts selects by.lawful root whole ∙ ap (λ s. filter s (elements_of root)) by.selects)

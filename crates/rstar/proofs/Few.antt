@@ -248,17 +248,17 @@ module _ {T S O : Type 0} where
 -- ---- the nodes that wait
 
 -- the elements of a node, seen too
-seen-too : {T E P S X : Type 0} (all : List T) (n : RTreeNode T E P S X) (ns : List (RTreeNode T E P S X)) (seen : List T) → IsPermutation all (all_elements (n ∷ ns) ++ seen) → IsPermutation all (all_elements ns ++ (elements n ++ seen))
+seen-too : {T E : Type 0} (all : List T) (n : RTreeNode T E) (ns : List (RTreeNode T E)) (seen : List T) → IsPermutation all (all_elements (n ∷ ns) ++ seen) → IsPermutation all (all_elements ns ++ (elements n ++ seen))
 seen-too all n ns seen bag =
     subst (IsPermutation all) (append_assoc (all_elements ns) (elements n) seen)
     (IsPermutation-trans _ _ _ bag (IsPermutation-append_left seen _ _ (IsPermutation-append_comm (elements n) (all_elements ns))))
 
-module _ {T E P S X O : Type 0} (v : Boxes E) (o : Objects T E) (d : Distances T) (p : List ℤ) (compare : T → T → Ordering) (value : S → ℤ) (most : ℕ) (all : List T) where
-  abbrev SoFar : List (RTreeNode T E P S X) → List (Found T S O) → Type 0
+module _ {T E S O : Type 0} (v : Boxes E) (o : Objects T E) (d : Distances T) (p : List ℤ) (compare : T → T → Ordering) (value : S → ℤ) (most : ℕ) (all : List T) where
+  abbrev SoFar : List (RTreeNode T E) → List (Found T S O) → Type 0
   SoFar = AreFoundSoFar v o d p compare value most all
 
   -- their order does not matter
-  pub so-far-same : (ns ms : List (RTreeNode T E P S X)) (found : List (Found T S O)) → IsPermutation ns ms → SoFar ns found → SoFar ms found
+  pub so-far-same : (ns ms : List (RTreeNode T E)) (found : List (Found T S O)) → IsPermutation ns ms → SoFar ns found → SoFar ms found
   so-far-same ns ms found same s = record {
     parts = all_along _ ns ms same s.parts;
     seen = s.seen;
@@ -268,11 +268,11 @@ module _ {T E P S X O : Type 0} (v : Boxes E) (o : Objects T E) (d : Distances T
   }
 
   -- where none is left, the first of all were found
-  pub so-far-end : (ns : List (RTreeNode T E P S X)) (found : List (Found T S O)) → ns ≡ [] → SoFar ns found → AreFirstOf (IsNotLater (λ t. d.distance_2 t p) compare) all most (found_elements found)
+  pub so-far-end : (ns : List (RTreeNode T E)) (found : List (Found T S O)) → ns ≡ [] → SoFar ns found → AreFirstOf (IsNotLater (λ t. d.distance_2 t p) compare) all most (found_elements found)
   so-far-end ns found none s = record {
     left = s.first.left;
     first = record {
-      bag = IsPermutation-trans _ _ _ (subst (λ (l : List (RTreeNode T E P S X)). IsPermutation all (all_elements l ++ s.seen)) none s.bag) s.first.first.bag;
+      bag = IsPermutation-trans _ _ _ (subst (λ (l : List (RTreeNode T E)). IsPermutation all (all_elements l ++ s.seen)) none s.bag) s.first.first.bag;
       order = s.first.first.order;
       least = s.first.first.least;
     };
@@ -281,24 +281,24 @@ module _ {T E P S X O : Type 0} (v : Boxes E) (o : Objects T E) (d : Distances T
   }
 
   -- an element was looked at
-  pub so-far-leaf : (scalars : S → S → Ordering) (order : (a b : S) → scalars a b ≡ int_cmp (value a) (value b)) (total : IsTotalOrder compare) (w : Found T S O) (ns : List (RTreeNode T E P S X)) (old new : List (Found T S O))
+  pub so-far-leaf : (scalars : S → S → Ordering) (order : (a b : S) → scalars a b ≡ int_cmp (value a) (value b)) (total : IsTotalOrder compare) (w : Found T S O) (ns : List (RTreeNode T E)) (old new : List (Found T S O))
       → value w.distance ≡ pos (d.distance_2 w.node.now p) → Keeps (nearest_on_top scalars compare) most w old new → Rises (flip_args (nearest_on_top scalars compare)) new → SoFar (Leaf w.node.now ∷ ns) old → SoFar ns new
   so-far-leaf scalars order total w ns old new at keeps falls s =
       let more = found-more (λ t. d.distance_2 t p) value scalars compare order total most w old new s.seen keeps falls at s.at s.first in
       record {
         parts = s.parts.1;
         seen = w.node.now ∷ s.seen;
-        bag = subst (λ (l : List T). IsPermutation all (all_elements ns ++ (l ++ s.seen))) (elements-Leaf T E P S X w.node.now) (seen-too all (Leaf w.node.now) ns s.seen s.bag);
+        bag = subst (λ (l : List T). IsPermutation all (all_elements ns ++ (l ++ s.seen))) (elements-Leaf T E w.node.now) (seen-too all (Leaf w.node.now) ns s.seen s.bag);
         first = more.0;
         at = more.1;
       }
 
-module _ {T E : Type 0} {IsPoint : List ℤ → Type 0} {v : Boxes E} {o : Objects T E} {d : Distances T} {p : List ℤ} (law : IsMeasured IsPoint v o d p) {P S X O : Type 0} (compare : T → T → Ordering) (value : S → ℤ) (most : ℕ) (all : List T) where
-  abbrev Until : List (RTreeNode T E P S X) → List (Found T S O) → Type 0
+module _ {T E : Type 0} {IsPoint : List ℤ → Type 0} {v : Boxes E} {o : Objects T E} {d : Distances T} {p : List ℤ} (law : IsMeasured IsPoint v o d p) {S O : Type 0} (compare : T → T → Ordering) (value : S → ℤ) (most : ℕ) (all : List T) where
+  abbrev Until : List (RTreeNode T E) → List (Found T S O) → Type 0
   Until = AreFoundSoFar v o d p compare value most all
 
   -- a node that is beyond what was found is left out
-  pub so-far-beyond : (scalars : S → S → Ordering) (order : (a b : S) → scalars a b ≡ int_cmp (value a) (value b)) (n : RTreeNode T E P S X) (ns : List (RTreeNode T E P S X)) (found : List (Found T S O)) (s : S)
+  pub so-far-beyond : (scalars : S → S → Ordering) (order : (a b : S) → scalars a b ≡ int_cmp (value a) (value b)) (n : RTreeNode T E) (ns : List (RTreeNode T E)) (found : List (Found T S O)) (s : S)
       → most ≤ length found → AllByRecursion (λ u. value u.distance <ℤ value s) found → value s ≡ pos (distance_of v d p n) → Until (n ∷ ns) found → Until ns found
   so-far-beyond scalars order n ns found s full nearer at h =
       let long = length-map found (λ (u : Found T S O). u.node.now) in
@@ -312,7 +312,7 @@ module _ {T E : Type 0} {IsPoint : List ℤ → Type 0} {v : Boxes E} {o : Objec
       }
 
   -- a parent is opened
-  pub so-far-parent : (q : ParentNode T E P S X) (ns : List (RTreeNode T E P S X)) (found : List (Found T S O)) → Until (Parent q ∷ ns) found → Until (ns ++ children_of q) found
+  pub so-far-parent : (q : ParentNode T E) (ns : List (RTreeNode T E)) (found : List (Found T S O)) → Until (Parent q ∷ ns) found → Until (ns ++ children_of q) found
   so-far-parent q ns found h =
       let i = part-Parent law q h.parts.0 in
       so-far-same v o d p compare value most all (children_of q ++ ns) (ns ++ children_of q) found (IsPermutation-append_comm (children_of q) ns) record {
@@ -327,10 +327,10 @@ module _ {T E : Type 0} {IsPoint : List ℤ → Type 0} {v : Boxes E} {o : Objec
       same = ap (λ (l : List T). l ++ all_elements ns) (elements-Parent q) ∙ sym (flat_map-append elements (children_of q) ns)
 
 -- before a child is asked, none was seen
-pub so-far-start : {T E P S X O Y : Type 0} (v : Boxes E) (o : Objects T E) (d : Distances T) (p : List ℤ) (compare : T → T → Ordering) (value : S → ℤ) (most : ℕ) (root : ParentNode T E P S X) (ws : List (Waiting (Bor (ParentNode T E P S X)) S Y)) (found : List (Found T S O))
+pub so-far-start : {T E S O Y : Type 0} (v : Boxes E) (o : Objects T E) (d : Distances T) (p : List ℤ) (compare : T → T → Ordering) (value : S → ℤ) (most : ℕ) (root : ParentNode T E) (ws : List (Waiting (Bor (ParentNode T E)) S Y)) (found : List (Found T S O))
     → ws ≡ [] → found ≡ [] → IsWhole v o root → AreFoundSoFar v o d p compare value most (elements_of root) (waiting_parents ws ++ children_of root) found
-so-far-start {T} {E} {P} {S} {X} {O} {Y} v o d p compare value most root ws found none new whole =
-    subst (λ (l : List (Waiting (Bor (ParentNode T E P S X)) S Y)). AreFoundSoFar v o d p compare value most (elements_of root) (waiting_parents l ++ children_of root) found) (sym none)
+so-far-start {T} {E} {S} {O} {Y} v o d p compare value most root ws found none new whole =
+    subst (λ (l : List (Waiting (Bor (ParentNode T E)) S Y)). AreFoundSoFar v o d p compare value most (elements_of root) (waiting_parents l ++ children_of root) found) (sym none)
     (subst (λ (l : List (Found T S O)). AreFoundSoFar v o d p compare value most (elements_of root) (children_of root) l) (sym new) record {
       parts = all_map _ _ (λ n w. (whole.height, w)) (children_of root) whole.below;
       seen = [];
@@ -341,24 +341,24 @@ so-far-start {T} {E} {P} {S} {X} {O} {Y} v o d p compare value most root ws foun
 
 -- ---- items of the heap
 
-module _ {T E P S X O : Type 0} (w : Waiting (Bor (ParentNode T E P S X)) S O) (ws us : List (Waiting (Bor (ParentNode T E P S X)) S O)) (put : IsPermutation (w ∷ ws) us) where
+module _ {T E S O : Type 0} (w : Waiting (Bor (ParentNode T E)) S O) (ws us : List (Waiting (Bor (ParentNode T E)) S O)) (put : IsPermutation (w ∷ ws) us) where
   nodes : IsPermutation (Parent w.node.now ∷ waiting_parents ws) (waiting_parents us)
-  nodes = IsPermutation-map (λ (u : Waiting (Bor (ParentNode T E P S X)) S O). Parent u.node.now) (w ∷ ws) us put
+  nodes = IsPermutation-map (λ (u : Waiting (Bor (ParentNode T E)) S O). Parent u.node.now) (w ∷ ws) us put
 
   -- one more parent waits
-  pub pushed-nodes : (rest : List (RTreeNode T E P S X)) → IsPermutation (Parent w.node.now ∷ (waiting_parents ws ++ rest)) (waiting_parents us ++ rest)
+  pub pushed-nodes : (rest : List (RTreeNode T E)) → IsPermutation (Parent w.node.now ∷ (waiting_parents ws ++ rest)) (waiting_parents us ++ rest)
   pushed-nodes rest = IsPermutation-append_left rest _ _ nodes
 
   pub pushed-parents : all_parents (waiting_parents us) ≡ parents (Parent w.node.now) + all_parents (waiting_parents ws)
   pushed-parents = sum_by-IsPermutation parents _ _ nodes ∙ sum_by-cons parents (Parent w.node.now) (waiting_parents ws)
 
   pub pushed-waiting : (v : Boxes E) (d : Distances T) (p : List ℤ) (value : S → ℤ) → value w.distance ≡ pos (distance_of v d p (Parent w.node.now)) → WaitAtDistance v d p value ws → WaitAtDistance v d p value us
-  pushed-waiting v d p value at h = all_along (λ (u : Waiting (Bor (ParentNode T E P S X)) S O). value u.distance ≡ pos (distance_of v d p (Parent u.node.now))) (w ∷ ws) us put (at, h)
+  pushed-waiting v d p value at h = all_along (λ (u : Waiting (Bor (ParentNode T E)) S O). value u.distance ≡ pos (distance_of v d p (Parent u.node.now))) (w ∷ ws) us put (at, h)
 
-module _ {T E P S X O : Type 0} (w : Waiting (Bor (ParentNode T E P S X)) S O) (ws us : List (Waiting (Bor (ParentNode T E P S X)) S O)) (popped : IsPermutation ws (w ∷ us)) where
+module _ {T E S O : Type 0} (w : Waiting (Bor (ParentNode T E)) S O) (ws us : List (Waiting (Bor (ParentNode T E)) S O)) (popped : IsPermutation ws (w ∷ us)) where
   -- one parent waits no more
   pub popped-nodes : IsPermutation (waiting_parents ws) (Parent w.node.now ∷ waiting_parents us)
-  popped-nodes = IsPermutation-map (λ (u : Waiting (Bor (ParentNode T E P S X)) S O). Parent u.node.now) ws (w ∷ us) popped
+  popped-nodes = IsPermutation-map (λ (u : Waiting (Bor (ParentNode T E)) S O). Parent u.node.now) ws (w ∷ us) popped
 
   pub popped-parents : all_parents (waiting_parents ws) ≡ 1 + (all_parents (children_of w.node.now) + all_parents (waiting_parents us))
   popped-parents =
@@ -367,4 +367,4 @@ module _ {T E P S X O : Type 0} (w : Waiting (Bor (ParentNode T E P S X)) S O) (
       omega arith
 
   pub popped-waiting : (v : Boxes E) (d : Distances T) (p : List ℤ) (value : S → ℤ) → WaitAtDistance v d p value ws → WaitAtDistance v d p value (w ∷ us)
-  popped-waiting v d p value h = all_along (λ (u : Waiting (Bor (ParentNode T E P S X)) S O). value u.distance ≡ pos (distance_of v d p (Parent u.node.now))) ws (w ∷ us) popped h
+  popped-waiting v d p value h = all_along (λ (u : Waiting (Bor (ParentNode T E)) S O). value u.distance ≡ pos (distance_of v d p (Parent u.node.now))) ws (w ∷ us) popped h

@@ -111,39 +111,39 @@ module _ {A : Type 0} (F : A → Type 0) where
 
 -- ---- lists of nodes
 
-module _ {T E P S X : Type 0} where
+module _ {T E : Type 0} where
   -- the elements of one node, and of the others
-  elements_out : (ns : List (RTreeNode T E P S X)) (i : ℕ) (n : RTreeNode T E P S X) → i < length ns → n ≡ get_or ns i n → IsPermutation (all_elements ns) (elements n ++ all_elements (remove ns i))
+  elements_out : (ns : List (RTreeNode T E)) (i : ℕ) (n : RTreeNode T E) → i < length ns → n ≡ get_or ns i n → IsPermutation (all_elements ns) (elements n ++ all_elements (remove ns i))
   elements_out ns i n within here = IsPermutation-flat_map elements ns (n ∷ remove ns i) (IsPermutation-remove ns i n within here)
 
-  elements_put : (ns : List (RTreeNode T E P S X)) (i : ℕ) (n : RTreeNode T E P S X) → i < length ns → IsPermutation (elements n ++ all_elements (remove ns i)) (all_elements (set ns i n))
+  elements_put : (ns : List (RTreeNode T E)) (i : ℕ) (n : RTreeNode T E) → i < length ns → IsPermutation (elements n ++ all_elements (remove ns i)) (all_elements (set ns i n))
   elements_put ns i n within =
       let long = length-set ns i n in
-      IsPermutation-sym _ _ (subst (λ (l : List (RTreeNode T E P S X)). IsPermutation (all_elements (set ns i n)) (elements n ++ all_elements l)) (remove_set ns i n within)
+      IsPermutation-sym _ _ (subst (λ (l : List (RTreeNode T E)). IsPermutation (all_elements (set ns i n)) (elements n ++ all_elements l)) (remove_set ns i n within)
       (elements_out (set ns i n) i n (omega arith) (sym (get_or-set_same ns i n n within))))
 
-  elements_swapped : (ns : List (RTreeNode T E P S X)) (i : ℕ) (n : RTreeNode T E P S X) (ns' : List (RTreeNode T E P S X)) → IsSwappedOut ns i ns' → n ≡ get_or ns i n → IsPermutation (all_elements ns) (elements n ++ all_elements ns')
+  elements_swapped : (ns : List (RTreeNode T E)) (i : ℕ) (n : RTreeNode T E) (ns' : List (RTreeNode T E)) → IsSwappedOut ns i ns' → n ≡ get_or ns i n → IsPermutation (all_elements ns) (elements n ++ all_elements ns')
   elements_swapped ns i n ns' out here = IsPermutation-flat_map elements ns (n ∷ ns') (out.bag n here)
 
   -- nothing is selected where nothing is in any node
-  none_each : (selects : T → Bool) (ns : List (RTreeNode T E P S X)) → ((k : ℕ) (d : RTreeNode T E P S X) → k < length ns → NoneSelected selects (elements (get_or ns k d))) → NoneSelected selects (all_elements ns)
+  none_each : (selects : T → Bool) (ns : List (RTreeNode T E)) → ((k : ℕ) (d : RTreeNode T E) → k < length ns → NoneSelected selects (elements (get_or ns k d))) → NoneSelected selects (all_elements ns)
   none_each selects [] each = tt
   none_each selects (n ∷ ns) each = all-append (λ t. selects t ≡ false) (elements n) (all_elements ns) (each 0 n (omega arith)) (none_each selects ns (λ k d lt. each (suc k) d (omega (arith, lt))))
 
 -- ---- the pass over a list
 
-module _ {T E P S X : Type 0} (v : Boxes E) (o : Objects T E) (accepts : E → Bool) (selects : T → Bool) (most : ℕ) where
+module _ {T E : Type 0} (v : Boxes E) (o : Objects T E) (accepts : E → Bool) (selects : T → Bool) (most : ℕ) where
   -- so far it went: the first nodes are left, and below the others nothing is selected where there is still room
-  pub record Gathering (old : List (RTreeNode T E P S X)) (held : List T) (cur : List (RTreeNode T E P S X)) (held' : List T) (left : ℕ) : Type 0 where
+  pub record Gathering (old : List (RTreeNode T E)) (held : List T) (cur : List (RTreeNode T E)) (held' : List T) (left : ℕ) : Type 0 where
     pub moved : Gathers selects most (all_elements old) held (all_elements cur) held'
     pub shorter : length cur ≤ length old
     pub within : left ≤ length cur
-    pub first : (k : ℕ) (d : RTreeNode T E P S X) → k < left → get_or cur k d ≡ get_or old k d
+    pub first : (k : ℕ) (d : RTreeNode T E) → k < left → get_or cur k d ≡ get_or old k d
     pub kept : (m w h : ℕ) → AreKept v o m w h old → AreKept v o m w h cur
     pub passed : IsLawful v o accepts selects → length held' < most → (m w h : ℕ) → AreKept v o m w h old
-        → (k : ℕ) (d : RTreeNode T E P S X) → left ≤ k → k < length cur → NoneSelected selects (elements (get_or cur k d))
+        → (k : ℕ) (d : RTreeNode T E) → left ≤ k → k < length cur → NoneSelected selects (elements (get_or cur k d))
 
-  pub gathering_begins : (ns : List (RTreeNode T E P S X)) (held : List T) (left : ℕ) → left ≡ length ns → Gathering ns held ns held left
+  pub gathering_begins : (ns : List (RTreeNode T E)) (held : List T) (left : ℕ) → left ≡ length ns → Gathering ns held ns held left
   gathering_begins ns held left all = record {
     moved = moved_none selects most (all_elements ns) held (all_elements ns) (IsPermutation-refl _);
     shorter = omega arith;
@@ -153,7 +153,7 @@ module _ {T E P S X : Type 0} (v : Boxes E) (o : Objects T E) (accepts : E → B
     passed = λ lawful less m w h kept k d on lt. absurd (omega (arith, all, on, lt));
   }
 
-  module _ (old : List (RTreeNode T E P S X)) (held : List T) (cur : List (RTreeNode T E P S X)) (held' : List T) where
+  module _ (old : List (RTreeNode T E)) (held : List T) (cur : List (RTreeNode T E)) (held' : List T) where
     -- none is left, or there is no room
     pub gathering_ends : (left : ℕ) → Gathering old held cur held' left → (length held' < most → left ≡ 0) → GathersAmong v o accepts selects most old held cur held'
     gathering_ends left s over = record {
@@ -167,17 +167,17 @@ module _ {T E P S X : Type 0} (v : Boxes E) (o : Objects T E) (accepts : E → B
       here_within : i < length cur
       here_within = let w = s.within in omega (arith, w, next)
 
-      here_kept : (m w h : ℕ) (n : RTreeNode T E P S X) → n ≡ get_or cur i n → AreKept v o m w h old → IsKeptNode v o m w h n
+      here_kept : (m w h : ℕ) (n : RTreeNode T E) → n ≡ get_or cur i n → AreKept v o m w h old → IsKeptNode v o m w h n
       here_kept m w h n here k = subst (IsKeptNode v o m w h) (sym here) (all_get (IsKeptNode v o m w h) cur i n here_within (s.kept m w h k))
 
       -- a selected leaf goes
-      pub takes_leaf : (t : T) (cur' : List (RTreeNode T E P S X)) → Leaf t ≡ get_or cur i (Leaf t) → selects t ≡ true → length held' < most → IsSwappedOut cur i cur'
+      pub takes_leaf : (t : T) (cur' : List (RTreeNode T E)) → Leaf t ≡ get_or cur i (Leaf t) → selects t ≡ true → length held' < most → IsSwappedOut cur i cur'
           → Gathering old held cur' (held' ++ t ∷ []) i
       takes_leaf t cur' here chosen room out =
           let long = out.long in let short = s.shorter in let within = here_within in let grown = length-append held' (t ∷ []) in
           record {
             moved = moved_on selects most _ _ _ _ _ _ s.moved (moved_one selects most (all_elements cur) held' (all_elements cur') t chosen room
-                (subst (λ (l : List T). IsPermutation (all_elements cur) (l ++ all_elements cur')) (elements-Leaf T E P S X t) (elements_swapped cur i (Leaf t) cur' out here)));
+                (subst (λ (l : List T). IsPermutation (all_elements cur) (l ++ all_elements cur')) (elements-Leaf T E t) (elements_swapped cur i (Leaf t) cur' out here)));
             shorter = omega arith;
             within = omega arith;
             first = λ k d lt. out.others k d (λ e. omega (arith, e, lt)) (omega (arith, lt, within)) ∙ s.first k d (omega (arith, lt, next));
@@ -186,7 +186,7 @@ module _ {T E P S X : Type 0} (v : Boxes E) (o : Objects T E) (accepts : E → B
                 (λ k d on other lt. s.passed lawful (omega (arith, less, grown)) m w h kept k d (omega (arith, on, other, next)) lt);
           }
 
-      module _ (n n' : RTreeNode T E P S X) (held'' : List T) (here : n ≡ get_or cur i n) (ins : GathersInside v o accepts selects most n held' n' held'') (leaf : is_selected_leaf selects n ≡ false) where
+      module _ (n n' : RTreeNode T E) (held'' : List T) (here : n ≡ get_or cur i n) (ins : GathersInside v o accepts selects most n held' n' held'') (leaf : is_selected_leaf selects n ≡ false) where
         moved_inside : Gathers selects most (all_elements old) held (all_elements (set cur i n')) held''
         moved_inside = moved_on selects most _ _ _ _ _ _ s.moved
             (moved_part selects most (elements n) (elements n') (all_elements (remove cur i)) (all_elements cur) (all_elements (set cur i n')) held' held'' ins.moved (elements_out cur i n here_within here) (elements_put cur i n' here_within))
@@ -195,10 +195,10 @@ module _ {T E P S X : Type 0} (v : Boxes E) (o : Objects T E) (accepts : E → B
         less_before less = let grown = held_longer selects most _ _ _ _ ins.moved in omega (arith, less, grown)
 
         others_passed : IsLawful v o accepts selects → length held'' < most → (m w h : ℕ) → AreKept v o m w h old
-            → (k : ℕ) (d : RTreeNode T E P S X) → i ≤ k → k ≢ i → k < length (set cur i n') → NoneSelected selects (elements (get_or (set cur i n') k d))
+            → (k : ℕ) (d : RTreeNode T E) → i ≤ k → k ≢ i → k < length (set cur i n') → NoneSelected selects (elements (get_or (set cur i n') k d))
         others_passed lawful less m w h kept k d on other lt =
             let long = length-set cur i n' in
-            subst (λ (x : RTreeNode T E P S X). NoneSelected selects (elements x)) (sym (get_or-set_other cur i k n' d other))
+            subst (λ (x : RTreeNode T E). NoneSelected selects (elements x)) (sym (get_or-set_other cur i k n' d other))
             (s.passed lawful (less_before less) m w h kept k d (omega (arith, on, other, next)) (omega (arith, lt, long)))
 
         -- it stays, without what went
@@ -213,14 +213,14 @@ module _ {T E P S X : Type 0} (v : Boxes E) (o : Objects T E) (accepts : E → B
               kept = λ m w h k. all_set (IsKeptNode v o m w h) cur i n' (s.kept m w h k) (ins.kept m w h (here_kept m w h n here k) has);
               passed = λ lawful less m w h kept k d on lt. elim (eqb_tells k i) as (λ _. NoneSelected selects (elements (get_or (set cur i n') k d))) [
                 | inl w' ↦
-                    subst (λ (x : RTreeNode T E P S X). NoneSelected selects (elements x)) (sym (ap (λ j. get_or (set cur i n') j d) w'.1 ∙ get_or-set_same cur i n' d within))
+                    subst (λ (x : RTreeNode T E). NoneSelected selects (elements x)) (sym (ap (λ j. get_or (set cur i n') j d) w'.1 ∙ get_or-set_same cur i n' d within))
                     (ins.ended lawful leaf less m w h (here_kept m w h n here kept))
                 | inr w' ↦ others_passed lawful less m w h kept k d on w'.1 lt
               ];
             }
 
         -- it lost its last child, and goes too
-        pub drops_childless : is_childless n' ≡ true → (cur' : List (RTreeNode T E P S X)) → IsSwappedOut (set cur i n') i cur' → Gathering old held cur' held'' i
+        pub drops_childless : is_childless n' ≡ true → (cur' : List (RTreeNode T E)) → IsSwappedOut (set cur i n') i cur' → Gathering old held cur' held'' i
         drops_childless empty cur' out =
             let long = length-set cur i n' in let short = s.shorter in let within = here_within in let less_one = out.long in
             record {
@@ -237,15 +237,15 @@ module _ {T E P S X : Type 0} (v : Boxes E) (o : Objects T E) (accepts : E → B
 
   -- ---- below one node
 
-  pub leaf_stays : (n : RTreeNode T E P S X) (t : T) (held : List T) → n ≡ Leaf t → GathersInside v o accepts selects most n held n held
+  pub leaf_stays : (n : RTreeNode T E) (t : T) (held : List T) → n ≡ Leaf t → GathersInside v o accepts selects most n held n held
   leaf_stays n t held is = record {
     moved = moved_none selects most (elements n) held (elements n) (IsPermutation-refl _);
     kept = λ m w h k has. k;
-    ended = λ lawful leaf less m w h k. node_none selects n leaf (subst (λ (ns : List (RTreeNode T E P S X)). NoneSelected selects (all_elements ns)) (sym (children_leaf n t is)) tt);
+    ended = λ lawful leaf less m w h k. node_none selects n leaf (subst (λ (ns : List (RTreeNode T E)). NoneSelected selects (all_elements ns)) (sym (children_leaf n t is)) tt);
   }
 
   -- a parent that is opened
-  pub opened : (p q : ParentNode T E P S X) (held held' : List T) → GathersAmong v o accepts selects most p.children.items held q.children.items held'
+  pub opened : (p q : ParentNode T E) (held held' : List T) → GathersAmong v o accepts selects most p.children.items held q.children.items held'
       → ((m w h : ℕ) → IsKept v o m w p → AreKept v o m w h p.children.items → IsKept v o m w q) → GathersInside v o accepts selects most (Parent p) held (Parent q) held'
   opened p q held held' among kept = record {
     moved = rw (elements-Parent p, elements-Parent q) among.moved;
@@ -255,7 +255,7 @@ module _ {T E P S X : Type 0} (v : Boxes E) (o : Objects T E) (accepts : E → B
   }
 
   -- a parent that is not opened
-  pub not_opened : {IsPoint : List ℤ → Type 0} (laws : EnvelopeLaws IsPoint v) (ok : ObjectLaws v o) (p : ParentNode T E P S X) (held : List T) → accepts p.envelope ≡ false
+  pub not_opened : {IsPoint : List ℤ → Type 0} (laws : EnvelopeLaws IsPoint v) (ok : ObjectLaws v o) (p : ParentNode T E) (held : List T) → accepts p.envelope ≡ false
       → GathersInside v o accepts selects most (Parent p) held (Parent p) held
   not_opened laws ok p held no_entry = record {
     moved = moved_none selects most _ held _ (IsPermutation-refl _);
@@ -265,8 +265,8 @@ module _ {T E P S X : Type 0} (v : Boxes E) (o : Objects T E) (accepts : E → B
   }
 
 -- a parent below which nothing went is kept
-module _ {T E : Type 0} {IsPoint : List ℤ → Type 0} {v : Boxes E} {o : Objects T E} (laws : EnvelopeLaws IsPoint v) (ok : ObjectLaws v o) (m w : ℕ) {P S X : Type 0} where
-  pub kept_alike : (h : ℕ) (p q : ParentNode T E P S X) → IsKept v o m w p → AreKept v o m w h p.children.items → AreKept v o m w h q.children.items
+module _ {T E : Type 0} {IsPoint : List ℤ → Type 0} {v : Boxes E} {o : Objects T E} (laws : EnvelopeLaws IsPoint v) (ok : ObjectLaws v o) (m w : ℕ) where
+  pub kept_alike : (h : ℕ) (p q : ParentNode T E) → IsKept v o m w p → AreKept v o m w h p.children.items → AreKept v o m w h q.children.items
       → length q.children.items ≤ length p.children.items → vec_len q.children ≡ length q.children.items → vec_len p.children ≡ length p.children.items
       → vec_capacity q.children ≡ vec_capacity p.children → q.envelope ≡ p.envelope
       → IsPermutation (all_elements p.children.items) (all_elements q.children.items) → IsKept v o m w q
@@ -279,7 +279,7 @@ module _ {T E : Type 0} {IsPoint : List ℤ → Type 0} {v : Boxes E} {o : Objec
 -- ---- a tree, below whose root some went
 
 module _ {T E : Type 0} {IsPoint : List ℤ → Type 0} {v : Boxes E} {o : Objects T E} (laws : EnvelopeLaws IsPoint v) (ok : ObjectLaws v o) (max : ℕ)
-    (accepts : E → Bool) (selects : T → Bool) (most : ℕ) {D P S X : Type 0} (old : RTree T D E P S X) (new : ParentNode T E P S X) (held held' : List T) (whole : IsWholeTree v o max old)
+    (accepts : E → Bool) (selects : T → Bool) (most : ℕ) {D P S X : Type 0} (old : RTree T D E P S X) (new : ParentNode T E) (held held' : List T) (whole : IsWholeTree v o max old)
     (some : children_of (root_of old) ≢ []) (among : GathersAmong v o accepts selects most (children_of (root_of old)) held (children_of new) held') where
   pub none_ended : IsLawful v o accepts selects → length held' < most → NoneSelected selects (all_elements (children_of new))
   none_ended lawful room = let before = kept_of laws ok max old whole some in among.ended lawful room max old.widest before.0 before.2
@@ -300,6 +300,6 @@ module _ {T E : Type 0} {IsPoint : List ℤ → Type 0} {v : Boxes E} {o : Objec
         let all = whole.counted in let same = moved_count selects most _ _ _ _ among.moved in let grown = held_longer selects most _ _ _ _ among.moved in
         let left : tree.size ≡ length (all_elements (children_of new)) = omega arith in
         whole_still laws ok max old tree whole some k.0 k.2 (subst (IsKept v o max old.widest) (sym root) (kept max old.widest k.0 k.1 k.2))
-        (subst (λ (p : ParentNode T E P S X). AreKept v o max old.widest k.0 (children_of p)) (sym root) (among.kept max old.widest k.0 k.2))
-        same_widest same_spares same_overfull (left ∙ ap (λ (p : ParentNode T E P S X). length (all_elements (children_of p))) (sym root))
+        (subst (λ (p : ParentNode T E). AreKept v o max old.widest k.0 (children_of p)) (sym root) (among.kept max old.widest k.0 k.2))
+        same_widest same_spares same_overfull (left ∙ ap (λ (p : ParentNode T E). length (all_elements (children_of p))) (sym root))
         (λ none. none_left (ap children_of (sym root) ∙ none)) (λ some. some_left (λ none. some (ap children_of root ∙ none)))

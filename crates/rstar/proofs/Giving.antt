@@ -20,7 +20,7 @@ use Rattle.rstar.proofs.Rows.{elements-Leaf, elements-Parent, steps-Parent}
 use Rattle.rstar.proofs.Walks.{tree-weaker, level-Parent}
 
 -- how many steps lists take, each one more for its end
-abbrev pub steps_in : {T E P S X : Type 0} → List (List (RTreeNode T E P S X)) → ℕ
+abbrev pub steps_in : {T E : Type 0} → List (List (RTreeNode T E)) → ℕ
 steps_in [] = 0
 steps_in (nodes ∷ lists) = steps_in lists + (1 + total (map steps nodes))
 
@@ -28,21 +28,21 @@ total-append : (xs ys : List ℕ) → total (xs ++ ys) ≡ total xs + total ys
 total-append [] ys = omega arith
 total-append (x ∷ xs) ys = omega (arith, total-append xs ys)
 
-module _ {T E P S X : Type 0} where
-  steps-last : (lists : List (List (RTreeNode T E P S X))) (nodes : List (RTreeNode T E P S X)) → steps_in (lists ++ nodes ∷ []) ≡ steps_in lists + (1 + total (map steps nodes))
+module _ {T E : Type 0} where
+  steps-last : (lists : List (List (RTreeNode T E))) (nodes : List (RTreeNode T E)) → steps_in (lists ++ nodes ∷ []) ≡ steps_in lists + (1 + total (map steps nodes))
   steps-last [] nodes = refl
   steps-last (m ∷ lists) nodes = omega (arith, steps-last lists nodes)
 
-  held-last : (lists : List (List (RTreeNode T E P S X))) (nodes : List (RTreeNode T E P S X)) → elements_held (lists ++ nodes ∷ []) ≡ elements_held lists ++ all_elements nodes
+  held-last : (lists : List (List (RTreeNode T E))) (nodes : List (RTreeNode T E)) → elements_held (lists ++ nodes ∷ []) ≡ elements_held lists ++ all_elements nodes
   held-last lists nodes = flat_map-append all_elements lists (nodes ∷ []) ∙ ap (λ (l : List T). elements_held lists ++ l) (append-nil (all_elements nodes))
 
-  lists-push : (h k : ℕ) (lists : List (List (RTreeNode T E P S X))) (nodes : List (RTreeNode T E P S X)) → k + 1 + length lists ≡ h → AreLists h lists → AllByRecursion (IsLevel k) nodes → AreLists h (lists ++ nodes ∷ [])
+  lists-push : (h k : ℕ) (lists : List (List (RTreeNode T E))) (nodes : List (RTreeNode T E)) → k + 1 + length lists ≡ h → AreLists h lists → AllByRecursion (IsLevel k) nodes → AreLists h (lists ++ nodes ∷ [])
   lists-push zero k lists nodes e is level = absurd (omega arith)
   lists-push (suc h) k [] nodes e is level =
       let same : k ≡ h = omega arith in (subst (λ n. AllByRecursion (IsLevel n) nodes) same level, is)
   lists-push (suc h) k (m ∷ lists) nodes e is level = (is.0, lists-push h k lists nodes (omega arith) is.1 level)
 
-  lists-pop : (h : ℕ) (lists : List (List (RTreeNode T E P S X))) (nodes : List (RTreeNode T E P S X)) → AreLists h (lists ++ nodes ∷ []) → (k : ℕ) × (k + 1 + length lists ≡ h) × AreLists h lists × AllByRecursion (IsLevel k) nodes
+  lists-pop : (h : ℕ) (lists : List (List (RTreeNode T E))) (nodes : List (RTreeNode T E)) → AreLists h (lists ++ nodes ∷ []) → (k : ℕ) × (k + 1 + length lists ≡ h) × AreLists h lists × AllByRecursion (IsLevel k) nodes
   lists-pop zero [] nodes is = absurd is
   lists-pop zero (m ∷ lists) nodes is = absurd is
   lists-pop (suc h) [] nodes is = (h, omega arith, tt, is.0)
@@ -50,20 +50,20 @@ module _ {T E P S X : Type 0} where
       let r = lists-pop h lists nodes is.1 in (r.0, omega (arith, r.1), (is.0, r.2), r.3)
 
   -- the last node is a leaf, and is given
-  pub gives_leaf : (room : ℕ) (lists : List (List (RTreeNode T E P S X))) (nodes rest : List (RTreeNode T E P S X)) (t : T) → nodes ≡ rest ++ Leaf t ∷ [] → HasItsLists room (lists ++ nodes ∷ [])
+  pub gives_leaf : (room : ℕ) (lists : List (List (RTreeNode T E))) (nodes rest : List (RTreeNode T E)) (t : T) → nodes ≡ rest ++ Leaf t ∷ [] → HasItsLists room (lists ++ nodes ∷ [])
       → HasItsLists room (lists ++ rest ∷ []) × (elements_held (lists ++ nodes ∷ []) ≡ elements_held (lists ++ rest ∷ []) ++ t ∷ [])
   gives_leaf room lists nodes rest t is its =
       let r = lists-pop its.height lists nodes its.levels in
       let level = subst (AllByRecursion (IsLevel r.0)) is r.3 in
       let one : all_elements nodes ≡ all_elements rest ++ t ∷ [] =
-      ap all_elements is ∙ flat_map-append elements rest (Leaf t ∷ []) ∙ ap (λ (l : List T). all_elements rest ++ (l ++ [])) (elements-Leaf T E P S X t) in (
+      ap all_elements is ∙ flat_map-append elements rest (Leaf t ∷ []) ∙ ap (λ (l : List T). all_elements rest ++ (l ++ [])) (elements-Leaf T E t) in (
         record { height = its.height; fits = its.fits; levels = lists-push its.height r.0 lists rest r.1 r.2 (all_first (IsLevel r.0) rest (Leaf t ∷ []) level) },
         held-last lists nodes ∙ ap (λ (l : List T). elements_held lists ++ l) one ∙ sym (append_assoc (elements_held lists) (all_elements rest) (t ∷ []))
             ∙ ap (λ (l : List T). l ++ t ∷ []) (sym (held-last lists rest)),
       )
 
   -- the last node is a parent, whose children come next
-  pub goes_below : (room : ℕ) (lists : List (List (RTreeNode T E P S X))) (nodes rest : List (RTreeNode T E P S X)) (p : ParentNode T E P S X) → nodes ≡ rest ++ Parent p ∷ [] → HasItsLists room (lists ++ nodes ∷ [])
+  pub goes_below : (room : ℕ) (lists : List (List (RTreeNode T E))) (nodes rest : List (RTreeNode T E)) (p : ParentNode T E) → nodes ≡ rest ++ Parent p ∷ [] → HasItsLists room (lists ++ nodes ∷ [])
       → (length lists < room) × HasItsLists room ((lists ++ rest ∷ []) ++ children_of p ∷ [])
       × (elements_held (lists ++ nodes ∷ []) ≡ elements_held ((lists ++ rest ∷ []) ++ children_of p ∷ []))
       × (steps_in ((lists ++ rest ∷ []) ++ children_of p ∷ []) < steps_in (lists ++ nodes ∷ []))
@@ -78,7 +78,7 @@ module _ {T E P S X : Type 0} where
       let one : all_elements nodes ≡ all_elements rest ++ all_elements (children_of p) =
       ap all_elements is ∙ flat_map-append elements rest (Parent p ∷ []) ∙ ap (λ (l : List T). all_elements rest ++ l) (append-nil (elements (Parent p)) ∙ elements-Parent p) in
       let s1 = steps-last lists nodes in
-      let s2 = ap (λ (l : List (RTreeNode T E P S X)). total (map steps l)) is ∙ ap total (map-append steps rest (Parent p ∷ [])) ∙ total-append (map steps rest) (map steps (Parent p ∷ [])) in
+      let s2 = ap (λ (l : List (RTreeNode T E)). total (map steps l)) is ∙ ap total (map-append steps rest (Parent p ∷ [])) ∙ total-append (map steps rest) (map steps (Parent p ∷ [])) in
       let s3 = steps-Parent p in
       let s4 = steps-last (lists ++ rest ∷ []) (children_of p) in
       let s5 = steps-last lists rest in (
@@ -90,39 +90,39 @@ module _ {T E P S X : Type 0} where
       )
 
   -- the last list is at its end
-  pub goes_back : (room : ℕ) (lists : List (List (RTreeNode T E P S X))) (nodes : List (RTreeNode T E P S X)) → nodes ≡ [] → HasItsLists room (lists ++ nodes ∷ [])
+  pub goes_back : (room : ℕ) (lists : List (List (RTreeNode T E))) (nodes : List (RTreeNode T E)) → nodes ≡ [] → HasItsLists room (lists ++ nodes ∷ [])
       → HasItsLists room lists × (elements_held (lists ++ nodes ∷ []) ≡ elements_held lists) × (steps_in lists < steps_in (lists ++ nodes ∷ []))
   goes_back room lists nodes is its =
       let s = steps-last lists nodes in (
         record { height = its.height; fits = its.fits; levels = (lists-pop its.height lists nodes its.levels).2 },
-        held-last lists nodes ∙ ap (λ (l : List (RTreeNode T E P S X)). elements_held lists ++ all_elements l) is ∙ append-nil (elements_held lists),
+        held-last lists nodes ∙ ap (λ (l : List (RTreeNode T E)). elements_held lists ++ all_elements l) is ∙ append-nil (elements_held lists),
         omega (arith, s),
       )
 
   -- whole nodes lie as many levels above the leaves as the first of them shows
-  levels_whole : (v : Boxes E) (o : Objects T E) (h : ℕ) (ns : List (RTreeNode T E P S X)) → AreWhole v o h ns → AllByRecursion (IsLevel (levels_below ns)) ns
+  levels_whole : (v : Boxes E) (o : Objects T E) (h : ℕ) (ns : List (RTreeNode T E)) → AreWhole v o h ns → AllByRecursion (IsLevel (levels_below ns)) ns
   levels_whole v o h [] whole = tt
   levels_whole v o h (n ∷ ns) whole =
-      let inner : (p : ParentNode T E P S X) → IsInner v o p → children_of p ≢ [] = λ p q. q.1 in
+      let inner : (p : ParentNode T E) → IsInner v o p → children_of p ≢ [] = λ p q. q.1 in
       subst (λ (k : ℕ). AllByRecursion (IsLevel k) (n ∷ ns)) (sym (levels_are (IsInner v o) (IsElement v o) inner h (n ∷ ns) (λ none. cc) whole))
       (all_map _ (IsLevel h) (tree-weaker (IsInner v o) (λ p. children_of p ≢ []) (IsElement v o) (λ t. ⊤) inner (λ t q. tt) h) (n ∷ ns) whole)
 
   -- where it begins
-  pub begins_below : (v : Boxes E) (o : Objects T E) (root : ParentNode T E P S X) (room : ℕ) (lists : List (List (RTreeNode T E P S X))) → IsWhole v o root → lists ≡ [] → levels_below (children_of root) ≤ room
+  pub begins_below : (v : Boxes E) (o : Objects T E) (root : ParentNode T E) (room : ℕ) (lists : List (List (RTreeNode T E))) → IsWhole v o root → lists ≡ [] → levels_below (children_of root) ≤ room
       → HasItsLists room (lists ++ children_of root ∷ []) × (elements_held (lists ++ children_of root ∷ []) ≡ elements_of root)
   begins_below v o root room lists whole none fits = (
-    subst (λ (l : List (List (RTreeNode T E P S X))). HasItsLists room (l ++ children_of root ∷ [])) (sym none)
+    subst (λ (l : List (List (RTreeNode T E))). HasItsLists room (l ++ children_of root ∷ [])) (sym none)
         (record { height = suc (levels_below (children_of root)); fits = omega arith; levels = (levels_whole v o whole.height (children_of root) whole.below, tt) }),
-    ap (λ (l : List (List (RTreeNode T E P S X))). elements_held (l ++ children_of root ∷ [])) none ∙ append-nil (elements_of root),
+    ap (λ (l : List (List (RTreeNode T E))). elements_held (l ++ children_of root ∷ [])) none ∙ append-nil (elements_of root),
   )
 
-module _ {T E P S X : Type 0} where
+module _ {T E : Type 0} where
   -- a call that gives an element, and leaves fewer
-  pub goes_on : (old new : IntoIter T E P S X) (t : T) → left_to_give old ≡ t ∷ left_to_give new → IsGiving new → MakesProgress IsGiving (item_count left_to_give) old (Some t) new
+  pub goes_on : (old new : IntoIter T E) (t : T) → left_to_give old ≡ t ∷ left_to_give new → IsGiving new → MakesProgress IsGiving (item_count left_to_give) old (Some t) new
   goes_on old new t e giving = let fewer = ap length e in record { on = λ finite. (giving, tt, omega (arith, fewer)); keeps = giving; rests = λ finite. tt }
 
   -- the same of an iterator: it goes on with the children of its last node
-  pub went_below : (old new : IntoIter T E P S X) (rest : Vec (RTreeNode T E P S X) Global) (p : ParentNode T E P S X) → old.nodes.items ≡ rest.items ++ Parent p ∷ [] → new.nodes.items ≡ children_of p
+  pub went_below : (old new : IntoIter T E) (rest : Vec (RTreeNode T E) Global) (p : ParentNode T E) → old.nodes.items ≡ rest.items ++ Parent p ∷ [] → new.nodes.items ≡ children_of p
       → new.path.items ≡ old.path.items ++ rest ∷ [] → vec_capacity new.path ≡ vec_capacity old.path → HasItsLists (vec_capacity old.path) (lists_of old)
       → HasItsLists (vec_capacity new.path) (lists_of new) × (elements_held (lists_of old) ≡ elements_held (lists_of new)) × (steps_in (lists_of new) < steps_in (lists_of old))
   went_below old new rest p is nodes path room its =
@@ -137,7 +137,7 @@ module _ {T E P S X : Type 0} where
       )
 
   -- and back to the list above
-  pub went_back : (old : IntoIter T E P S X) (path : Vec (Vec (RTreeNode T E P S X) Global) Global) (above : Vec (RTreeNode T E P S X) Global) → old.nodes.items ≡ [] → old.path.items ≡ path.items ++ above ∷ []
+  pub went_back : (old : IntoIter T E) (path : Vec (Vec (RTreeNode T E) Global) Global) (above : Vec (RTreeNode T E) Global) → old.nodes.items ≡ [] → old.path.items ≡ path.items ++ above ∷ []
       → vec_capacity path ≡ vec_capacity old.path → HasItsLists (vec_capacity old.path) (lists_of old)
       → HasItsLists (vec_capacity path) (map (λ v. v.items) path.items ++ above.items ∷ []) × (elements_held (lists_of old) ≡ elements_held (map (λ v. v.items) path.items ++ above.items ∷ []))
       × (steps_in (map (λ v. v.items) path.items ++ above.items ∷ []) < steps_in (lists_of old))
@@ -150,7 +150,7 @@ module _ {T E P S X : Type 0} where
       )
 
   -- there is room for the list that is left for a parent's
-  pub has_room : (old : IntoIter T E P S X) (rest : List (RTreeNode T E P S X)) (p : ParentNode T E P S X) → old.nodes.items ≡ rest ++ Parent p ∷ [] → HasItsLists (vec_capacity old.path) (lists_of old)
+  pub has_room : (old : IntoIter T E) (rest : List (RTreeNode T E)) (p : ParentNode T E) → old.nodes.items ≡ rest ++ Parent p ∷ [] → HasItsLists (vec_capacity old.path) (lists_of old)
       → vec_len old.path < vec_capacity old.path
   has_room old rest p is its =
       let room = (goes_below (vec_capacity old.path) (map (λ v. v.items) old.path.items) old.nodes.items rest p is its).0 in
@@ -159,7 +159,7 @@ module _ {T E P S X : Type 0} where
       omega (arith, room, same, counted)
 
   -- it gives its last node, a leaf
-  pub gave : (old : IntoIter T E P S X) (rest : Vec (RTreeNode T E P S X) Global) (t : T) → old.nodes.items ≡ rest.items ++ Leaf t ∷ [] → HasItsLists (vec_capacity old.path) (lists_of old)
+  pub gave : (old : IntoIter T E) (rest : Vec (RTreeNode T E) Global) (t : T) → old.nodes.items ≡ rest.items ++ Leaf t ∷ [] → HasItsLists (vec_capacity old.path) (lists_of old)
       → HasItsLists (vec_capacity old.path) (map (λ v. v.items) old.path.items ++ rest.items ∷ [])
       × (reverse (elements_held (lists_of old)) ≡ t ∷ reverse (elements_held (map (λ v. v.items) old.path.items ++ rest.items ∷ [])))
   gave old rest t is its =

@@ -77,25 +77,25 @@ module _ {T : Type 0} (before after : T → T → Type 0) (weaker : (t u : T) �
   }
 
 -- a search that has begun has all elements left
-pub begun-left : {T E P S X : Type 0} (over : ParentNode T E P S X) (at : P) (s : Search T E P S X) → HasBegun over at s → elements_waiting s ≡ elements_of over
+pub begun-left : {T E P : Type 0} (over : ParentNode T E) (at : P) (s : Search T E P) → HasBegun over at s → elements_waiting s ≡ elements_of over
 begun-left over at s begun = ap all_elements begun.waiting ∙ append-nil (elements (Parent over)) ∙ elements-Parent over
 
 -- ---- runs of calls of `next`
 
 -- calls that each gave a neighbour: these are the first of what waited
-pub record HasGiven {T E P S X : Type 0} (before : P → T → T → Type 0) (old : Search T E P S X) (given : List T) (new : Search T E P S X) : Type 0 where
+pub record HasGiven {T E P : Type 0} (before : P → T → T → Type 0) (old : Search T E P) (given : List T) (new : Search T E P) : Type 0 where
   pub root : new.root ≡ old.root
   pub point : new.point ≡ old.point
   pub going_on : IsGoingOn new
   pub first : AreFirst (before old.point) (elements_waiting old) given (elements_waiting new)
 
 -- the same, and then `None`: these are all, and each parent was opened
-pub record HasGivenAll {T E P S X : Type 0} (before : P → T → T → Type 0) (old : Search T E P S X) (given : List T) (new : Search T E P S X) : Type 0 where
+pub record HasGivenAll {T E P : Type 0} (before : P → T → T → Type 0) (old : Search T E P) (given : List T) (new : Search T E P) : Type 0 where
   pub bag : IsPermutation (elements_waiting old) given
   pub order : AreOrdered (before old.point) given
   pub opened : new.opened ≡ min (parents_of old.root) usize_max
 
-module _ {I T E P S X A Z : Type 0} (v : Boxes E) (d : Distances T) (axes : ℕ) (coord : P → ℕ → ℤ) (element : A → T) (shown : I → Search T E P S X)
+module _ {I T E P A Z : Type 0} (v : Boxes E) (d : Distances T) (axes : ℕ) (coord : P → ℕ → ℤ) (element : A → T) (shown : I → Search T E P)
     (steps : I → Option (Result A Z) → I → Type 0) (tell : (s : I) (r : Option (Result A Z)) (t : I) → steps s r t → GivesNeighbor v d axes coord element (shown s) r (shown t))
     (before : P → T → T → Type 0) (comes : (s : I) (y : A) (t : I) → steps s (Some (Ok y)) t → AllByRecursion (before (shown s).point (element y)) (elements_waiting (shown t))) where
   pub run-given : (ys : List A) (s t : I) → IsGoingOn (shown s) → Yields steps s (map Ok ys) t → HasGiven before (shown s) (map element ys) (shown t)
@@ -172,7 +172,7 @@ module _ {I A Z V : Type 0} (steps : I → Option (Result A Z) → I → Type 0)
 
 -- ---- a run up to the end, from a search that has begun; each is given with its distance
 
-module _ {I T E P S X Z : Type 0} (v : Boxes E) (d : Distances T) (axes : ℕ) (coord : P → ℕ → ℤ) (value : S → ℤ) (shown : I → Search T E P S X)
+module _ {I T E P S Z : Type 0} (v : Boxes E) (d : Distances T) (axes : ℕ) (coord : P → ℕ → ℤ) (value : S → ℤ) (shown : I → Search T E P)
     (steps : I → Option (Result (Bor T × S) Z) → I → Type 0) (tell : (s : I) (r : Option (Result (Bor T × S) Z)) (t : I) → steps s r t → GivesNeighbor v d axes coord (λ x. x.0.now) (shown s) r (shown t))
     (before : P → T → T → Type 0) (comes : (s : I) (y : Bor T × S) (t : I) → steps s (Some (Ok y)) t → AllByRecursion (before (shown s).point y.0.now) (elements_waiting (shown t)))
     (lies : (s : I) (y : Bor T × S) (t : I) → steps s (Some (Ok y)) t → value y.1 ≡ pos (d.distance_2 y.0.now (table axes (coord (shown s).point)))) where
@@ -183,7 +183,7 @@ module _ {I T E P S X Z : Type 0} (v : Boxes E) (d : Distances T) (axes : ℕ) (
     subst (λ p. AllByRecursion (λ y. value y.1 ≡ pos (d.distance_2 y.0.now (table axes (coord p)))) ys) (tell s (Some (Ok y)) run.0 run.1).point (each-told ys run.0 t run.2),
   )
 
-  module _ (over : ParentNode T E P S X) (at : P) (it : I) (begun : HasBegun over at (shown it)) where
+  module _ (over : ParentNode T E) (at : P) (it : I) (begun : HasBegun over at (shown it)) where
     pub given-end : (ys : List (Bor T × S)) (t u : I) → Yields steps it (map Ok ys) t → steps t None u
         → IsPermutation (elements_of over) (map (λ y. y.0.now) ys) × AreOrdered (before at) (map (λ y. y.0.now) ys)
         × AllByRecursion (λ y. value y.1 ≡ pos (d.distance_2 y.0.now (table axes (coord at)))) ys × ((shown u).opened ≡ min (parents_of over) usize_max)
@@ -215,29 +215,29 @@ module _ {I T E P S X Z : Type 0} (v : Boxes E) (d : Distances T) (axes : ℕ) (
 
 -- ---- the same of the iterator of a tree, or below any root
 
-module _ {T E P S X : Type 0} (v : Boxes E) (o : Objects T E) (d : Distances T) (axes : ℕ) (coord : P → ℕ → ℤ) (compare : S → S → Ordering) (value : S → ℤ)
-    (over : ParentNode T E P S X) (at : P) (it : NearestNeighborIterator T E P S X) (begun : HasBegun over at (search_of (with_distances it))) where
-  abbrev gives : NearestNeighborIterator T E P S X → Option (Result (Bor T) AllocError) → NearestNeighborIterator T E P S X → Type 0
+module _ {T E P S : Type 0} (v : Boxes E) (o : Objects T E) (d : Distances T) (axes : ℕ) (coord : P → ℕ → ℤ) (compare : S → S → Ordering) (value : S → ℤ)
+    (over : ParentNode T E) (at : P) (it : NearestNeighborIterator T E P S) (begun : HasBegun over at (search_of (with_distances it))) where
+  abbrev gives : NearestNeighborIterator T E P S → Option (Result (Bor T) AllocError) → NearestNeighborIterator T E P S → Type 0
   gives = GivesElement v o d axes coord compare value
 
   abbrev near : P → T → T → Type 0
   near p = IsNoFarther (λ t. d.distance_2 t (table axes (coord p)))
 
   -- at the end of a loop
-  pub neighbors_end : (ys : List (Bor T)) (t u : NearestNeighborIterator T E P S X) → Yields gives it (map Ok ys) t → gives t None u
+  pub neighbors_end : (ys : List (Bor T)) (t u : NearestNeighborIterator T E P S) → Yields gives it (map Ok ys) t → gives t None u
       → IsPermutation (elements_of over) (map (λ y. y.now) ys) × AreInOrder (λ t. d.distance_2 t (table axes (coord at))) (map (λ y. y.now) ys) × ((search_of (with_distances u)).opened ≡ min (parents_of over) usize_max)
   neighbors_end ys t u run last =
-      let all = run-ended v d axes coord (λ (y : Bor T). y.now) (λ (i : NearestNeighborIterator T E P S X). search_of (with_distances i)) gives (λ s r t h. h.0) near (λ s y t h. h.0.gives.least) ys it t u begun.going_on run last in (
+      let all = run-ended v d axes coord (λ (y : Bor T). y.now) (λ (i : NearestNeighborIterator T E P S). search_of (with_distances i)) gives (λ s r t h. h.0) near (λ s y t h. h.0.gives.least) ys it t u begun.going_on run last in (
         subst (λ l. IsPermutation l (map (λ y. y.now) ys)) (begun-left over at (search_of (with_distances it)) begun) all.bag,
         subst (λ p. AreInOrder (λ t. d.distance_2 t (table axes (coord p))) (map (λ y. y.now) ys)) begun.point all.order,
         all.opened ∙ ap (λ r. min (parents_of r) usize_max) begun.root,
       )
 
   -- at the end of a loop over `take`
-  pub neighbors_taken : (most : ℕ) (ys : List (Bor T)) (s t u : Take (NearestNeighborIterator T E P S X)) → take_source s ≡ it → take_count s ≡ most → Yields (take_steps gives) s (map Ok ys) t → take_steps gives t None u
+  pub neighbors_taken : (most : ℕ) (ys : List (Bor T)) (s t u : Take (NearestNeighborIterator T E P S)) → take_source s ≡ it → take_count s ≡ most → Yields (take_steps gives) s (map Ok ys) t → take_steps gives t None u
       → AreNearestOf (λ t. d.distance_2 t (table axes (coord at))) (elements_of over) most (map (λ y. y.now) ys)
   neighbors_taken most ys s t u source count run last =
-      let shown = λ (i : NearestNeighborIterator T E P S X). search_of (with_distances i) in
+      let shown = λ (i : NearestNeighborIterator T E P S). search_of (with_distances i) in
       let going = subst (λ i. IsGoingOn (shown i)) (sym source) begun.going_on in
       let first = taken-first v d axes coord (λ (y : Bor T). y.now) shown gives (λ s r t h. h.0) near (λ s y t h. h.0.gives.least) most ys s t u count going run last in
       let here = subst (λ i. AreNearestOf (λ t. d.distance_2 t (table axes (coord (shown i).point))) (elements_waiting (shown i)) most (map (λ y. y.now) ys)) source first in
@@ -256,44 +256,44 @@ module _ {T E P S X : Type 0} (v : Boxes E) (o : Objects T E) (d : Distances T) 
 
 -- ---- the same of the iterator that gives each element with its distance
 
-module _ {T E P S X : Type 0} (v : Boxes E) (o : Objects T E) (d : Distances T) (axes : ℕ) (coord : P → ℕ → ℤ) (compare : S → S → Ordering) (value : S → ℤ)
-    (over : ParentNode T E P S X) (at : P) (it : NearestNeighborDistance2Iterator T E P S X) (begun : HasBegun over at (search_of it)) where
-  abbrev gives_distance : NearestNeighborDistance2Iterator T E P S X → Option (Result (Bor T × S) AllocError) → NearestNeighborDistance2Iterator T E P S X → Type 0
+module _ {T E P S : Type 0} (v : Boxes E) (o : Objects T E) (d : Distances T) (axes : ℕ) (coord : P → ℕ → ℤ) (compare : S → S → Ordering) (value : S → ℤ)
+    (over : ParentNode T E) (at : P) (it : NearestNeighborDistance2Iterator T E P S) (begun : HasBegun over at (search_of it)) where
+  abbrev gives_distance : NearestNeighborDistance2Iterator T E P S → Option (Result (Bor T × S) AllocError) → NearestNeighborDistance2Iterator T E P S → Type 0
   gives_distance = GivesWithDistance v o d axes coord compare value
 
   -- at the end of a loop
-  pub distances_end : (ys : List (Bor T × S)) (t u : NearestNeighborDistance2Iterator T E P S X) → Yields gives_distance it (map Ok ys) t → gives_distance t None u
+  pub distances_end : (ys : List (Bor T × S)) (t u : NearestNeighborDistance2Iterator T E P S) → Yields gives_distance it (map Ok ys) t → gives_distance t None u
       → IsPermutation (elements_of over) (map (λ y. y.0.now) ys) × AreInOrder (λ t. d.distance_2 t (table axes (coord at))) (map (λ y. y.0.now) ys)
       × AllByRecursion (λ y. value y.1 ≡ pos (d.distance_2 y.0.now (table axes (coord at)))) ys × ((search_of u).opened ≡ min (parents_of over) usize_max)
   distances_end =
-      given-end v d axes coord value (λ (i : NearestNeighborDistance2Iterator T E P S X). search_of i) gives_distance (λ s r t h. h.0) (λ p. IsNoFarther (λ t. d.distance_2 t (table axes (coord p)))) (λ s y t h. h.0.gives.least) (λ s y t h. h.1) over at it begun
+      given-end v d axes coord value (λ (i : NearestNeighborDistance2Iterator T E P S). search_of i) gives_distance (λ s r t h. h.0) (λ p. IsNoFarther (λ t. d.distance_2 t (table axes (coord p)))) (λ s y t h. h.0.gives.least) (λ s y t h. h.1) over at it begun
 
 -- ---- the same of the iterator in the stated order
 
-module _ {T E P S X : Type 0} (v : Boxes E) (o : Objects T E) (d : Distances T) (order : T → T → Ordering) (axes : ℕ) (coord : P → ℕ → ℤ) (compare : S → S → Ordering) (value : S → ℤ)
-    (over : ParentNode T E P S X) (at : P) (it : NearestNeighborByOrderIterator T E P S X) (begun : HasBegun over at (search_by_order it)) where
-  abbrev gives_by_order : NearestNeighborByOrderIterator T E P S X → Option (Result (Bor T × S) AllocError) → NearestNeighborByOrderIterator T E P S X → Type 0
+module _ {T E P S : Type 0} (v : Boxes E) (o : Objects T E) (d : Distances T) (order : T → T → Ordering) (axes : ℕ) (coord : P → ℕ → ℤ) (compare : S → S → Ordering) (value : S → ℤ)
+    (over : ParentNode T E) (at : P) (it : NearestNeighborByOrderIterator T E P S) (begun : HasBegun over at (search_by_order it)) where
+  abbrev gives_by_order : NearestNeighborByOrderIterator T E P S → Option (Result (Bor T × S) AllocError) → NearestNeighborByOrderIterator T E P S → Type 0
   gives_by_order = GivesByOrder v o d order axes coord compare value
 
   abbrev stated : P → T → T → Type 0
   stated p = IsNotLater (λ t. d.distance_2 t (table axes (coord p))) order
 
-  comes-first : (s : NearestNeighborByOrderIterator T E P S X) (y : Bor T × S) (t : NearestNeighborByOrderIterator T E P S X) → gives_by_order s (Some (Ok y)) t → AllByRecursion (stated (search_by_order s).point y.0.now) (elements_waiting (search_by_order t))
+  comes-first : (s : NearestNeighborByOrderIterator T E P S) (y : Bor T × S) (t : NearestNeighborByOrderIterator T E P S) → gives_by_order s (Some (Ok y)) t → AllByRecursion (stated (search_by_order s).point y.0.now) (elements_waiting (search_by_order t))
   comes-first s y t h = subst (λ p. AllByRecursion (stated p y.0.now) (elements_waiting (search_by_order t))) h.0.point h.1.first
 
   -- at the end of a loop
-  pub ordered_end : (ys : List (Bor T × S)) (t u : NearestNeighborByOrderIterator T E P S X) → Yields gives_by_order it (map Ok ys) t → gives_by_order t None u
+  pub ordered_end : (ys : List (Bor T × S)) (t u : NearestNeighborByOrderIterator T E P S) → Yields gives_by_order it (map Ok ys) t → gives_by_order t None u
       → IsPermutation (elements_of over) (map (λ y. y.0.now) ys) × AreOrdered (stated at) (map (λ y. y.0.now) ys)
       × AllByRecursion (λ y. value y.1 ≡ pos (d.distance_2 y.0.now (table axes (coord at)))) ys × ((search_by_order u).opened ≡ min (parents_of over) usize_max)
-  ordered_end = given-end v d axes coord value (λ (i : NearestNeighborByOrderIterator T E P S X). search_by_order i) gives_by_order (λ s r t h. h.0) stated comes-first (λ s y t h. h.2) over at it begun
+  ordered_end = given-end v d axes coord value (λ (i : NearestNeighborByOrderIterator T E P S). search_by_order i) gives_by_order (λ s r t h. h.0) stated comes-first (λ s y t h. h.2) over at it begun
 
   -- at the end of a loop over `take`
-  pub ordered_taken : (most : ℕ) (ys : List (Bor T × S)) (s t u : Take (NearestNeighborByOrderIterator T E P S X)) → take_source s ≡ it → take_count s ≡ most → Yields (take_steps gives_by_order) s (map Ok ys) t → take_steps gives_by_order t None u
+  pub ordered_taken : (most : ℕ) (ys : List (Bor T × S)) (s t u : Take (NearestNeighborByOrderIterator T E P S)) → take_source s ≡ it → take_count s ≡ most → Yields (take_steps gives_by_order) s (map Ok ys) t → take_steps gives_by_order t None u
       → AreFirstOf (stated at) (elements_of over) most (map (λ y. y.0.now) ys)
-  ordered_taken = given-taken v d axes coord value (λ (i : NearestNeighborByOrderIterator T E P S X). search_by_order i) gives_by_order (λ s r t h. h.0) stated comes-first (λ s y t h. h.2) over at it begun
+  ordered_taken = given-taken v d axes coord value (λ (i : NearestNeighborByOrderIterator T E P S). search_by_order i) gives_by_order (λ s r t h. h.0) stated comes-first (λ s y t h. h.2) over at it begun
 
   -- what `try_collect` has taken into a list
   pub ordered_collected : (all : Vec (Bor T × S) Global)
       → TryCollects gives_by_order (λ x r. r ≡ x) (λ ys v. (v.items ≡ ys) × (vec_len v ≡ length ys)) (λ v ys w. (w.items ≡ v.items ++ ys) × (vec_len w ≡ vec_len v + length ys) × (vec_capacity v ≤ vec_capacity w)) it all
       → IsPermutation (elements_of over) (map (λ y. y.0.now) all.items) × AreOrdered (stated at) (map (λ y. y.0.now) all.items)
-  ordered_collected = given-collected v d axes coord value (λ (i : NearestNeighborByOrderIterator T E P S X). search_by_order i) gives_by_order (λ s r t h. h.0) stated comes-first (λ s y t h. h.2) over at it begun
+  ordered_collected = given-collected v d axes coord value (λ (i : NearestNeighborByOrderIterator T E P S). search_by_order i) gives_by_order (λ s r t h. h.0) stated comes-first (λ s y t h. h.2) over at it begun

@@ -18,19 +18,19 @@ use Rattle.rstar.proofs.Places.{all_set, all_get}
 use Rattle.rstar.proofs.Rows.{elements-Leaf, elements-Parent, parents-Parent, node_box-Parent, is_leaf, is_parent, parent_of, no_parent, IsLeafOf-Leaf, IsParentOf-Parent}
 use Rattle.rstar.proofs.Trees.{all_sound, values-of, merged_is_hull}
 
-module _ {T E P S X : Type 0} where
-  pub all_elements-append : (xs ys : List (RTreeNode T E P S X)) → all_elements (xs ++ ys) ≡ all_elements xs ++ all_elements ys
+module _ {T E : Type 0} where
+  pub all_elements-append : (xs ys : List (RTreeNode T E)) → all_elements (xs ++ ys) ≡ all_elements xs ++ all_elements ys
   all_elements-append xs ys = flat_map-append elements xs ys
 
-  pub all_elements-single : (n : RTreeNode T E P S X) → all_elements (n ∷ []) ≡ elements n
+  pub all_elements-single : (n : RTreeNode T E) → all_elements (n ∷ []) ≡ elements n
   all_elements-single n = append-nil (elements n)
 
   -- nodes in another order have elements in another order
-  pub elements_along : (xs ys : List (RTreeNode T E P S X)) → IsPermutation xs ys → IsPermutation (all_elements xs) (all_elements ys)
+  pub elements_along : (xs ys : List (RTreeNode T E)) → IsPermutation xs ys → IsPermutation (all_elements xs) (all_elements ys)
   elements_along = IsPermutation-flat_map elements
 
   -- one node of a list gets an element more, and hands out others
-  pub bag_of_set : (t : T) (ns : List (RTreeNode T E P S X)) (i : ℕ) (d m : RTreeNode T E P S X) (out : List T) → i < length ns
+  pub bag_of_set : (t : T) (ns : List (RTreeNode T E)) (i : ℕ) (d m : RTreeNode T E) (out : List T) → i < length ns
       → IsPermutation (t ∷ elements (get_or ns i d)) (elements m ++ out)
       → IsPermutation (t ∷ all_elements ns) (all_elements (set ns i m) ++ out)
   bag_of_set t [] i d m out below h = absurd (omega arith)
@@ -45,38 +45,38 @@ module _ {T E P S X : Type 0} where
       (rw (append_assoc (elements n) (all_elements (set ns i m)) out) (IsPermutation-append_right (elements n) _ _ rest))
 
   -- the lists of two parents that may be there
-  pub same_list : (r : Option (ParentNode T E P S X)) → all_elements (as_node r) ≡ all_elements (second_children r)
+  pub same_list : (r : Option (ParentNode T E)) → all_elements (as_node r) ≡ all_elements (second_children r)
   same_list None = refl
   same_list (Some q) = all_elements-single (Parent q) ∙ elements-Parent q
 
   -- the elements below two parents, as a list of two nodes
-  pub two_parents : (a b : ParentNode T E P S X) → all_elements (Parent a ∷ Parent b ∷ []) ≡ all_elements (a.children.items ++ b.children.items)
+  pub two_parents : (a b : ParentNode T E) → all_elements (Parent a ∷ Parent b ∷ []) ≡ all_elements (a.children.items ++ b.children.items)
   two_parents a b = ap (λ (ts : List T). elements (Parent a) ++ ts) (all_elements-single (Parent b)) ∙ ap (λ (ts : List T). ts ++ elements (Parent b)) (elements-Parent a)
       ∙ ap (λ (ts : List T). all_elements a.children.items ++ ts) (elements-Parent b) ∙ sym (all_elements-append a.children.items b.children.items)
 
 -- ---- how many parents there are
 
-module _ (T E P S X : Type 0) where
-  pub parents-Leaf : (t : T) → parents {E = E} {P = P} {S = S} {X = X} (Leaf t) ≡ 0
+module _ (T E : Type 0) where
+  pub parents-Leaf : (t : T) → parents {E = E} (Leaf t) ≡ 0
   unfolding parents fold_tree
   parents-Leaf t = refl
 
-  no_parents-leaf : (t : T) → all_parents {E = E} {P = P} {S = S} {X = X} (Leaf t ∷ []) ≡ 0
+  no_parents-leaf : (t : T) → all_parents {E = E} (Leaf t ∷ []) ≡ 0
   no_parents-leaf t = sum_by-cons parents (Leaf t) [] ∙ ap (λ n. n + 0) (parents-Leaf t)
 
-module _ {T E P S X : Type 0} where
-  pub all_parents-append : (xs ys : List (RTreeNode T E P S X)) → all_parents (xs ++ ys) ≡ all_parents xs + all_parents ys
+module _ {T E : Type 0} where
+  pub all_parents-append : (xs ys : List (RTreeNode T E)) → all_parents (xs ++ ys) ≡ all_parents xs + all_parents ys
   all_parents-append xs ys = sum_by-append parents xs ys
 
   -- a leaf more is no parent more
-  pub leaf_counted : (ns : List (RTreeNode T E P S X)) (t : T) → all_parents (ns ++ Leaf t ∷ []) ≡ all_parents ns
-  leaf_counted ns t = let both = all_parents-append ns (Leaf t ∷ []) in let none = no_parents-leaf T E P S X t in omega (arith, both, none)
+  pub leaf_counted : (ns : List (RTreeNode T E)) (t : T) → all_parents (ns ++ Leaf t ∷ []) ≡ all_parents ns
+  leaf_counted ns t = let both = all_parents-append ns (Leaf t ∷ []) in let none = no_parents-leaf T E t in omega (arith, both, none)
 
-  pub parents_along : (xs ys : List (RTreeNode T E P S X)) → IsPermutation xs ys → all_parents ys ≡ all_parents xs
+  pub parents_along : (xs ys : List (RTreeNode T E)) → IsPermutation xs ys → all_parents ys ≡ all_parents xs
   parents_along xs ys same = sum_by-IsPermutation parents xs ys same
 
   -- one node of a list is another
-  parents_of_set : (ns : List (RTreeNode T E P S X)) (i : ℕ) (d m : RTreeNode T E P S X) → i < length ns → all_parents (set ns i m) + parents (get_or ns i d) ≡ all_parents ns + parents m
+  parents_of_set : (ns : List (RTreeNode T E)) (i : ℕ) (d m : RTreeNode T E) → i < length ns → all_parents (set ns i m) + parents (get_or ns i d) ≡ all_parents ns + parents m
   parents_of_set [] i d m below = absurd (omega arith)
   parents_of_set (n ∷ ns) zero d m below =
       let a = sum_by-cons parents m ns in
@@ -87,7 +87,7 @@ module _ {T E P S X : Type 0} where
       let c = parents_of_set ns i d m (omega arith) in omega (arith, a, b, c)
 
   -- a child has as many parents below it as before
-  pub child_same : (old : List (RTreeNode T E P S X)) (i : ℕ) (a b : ParentNode T E P S X) → i < length old → Parent a ≡ get_or old i (Parent a)
+  pub child_same : (old : List (RTreeNode T E)) (i : ℕ) (a b : ParentNode T E) → i < length old → Parent a ≡ get_or old i (Parent a)
       → all_parents b.children.items ≡ all_parents a.children.items → all_parents (set old i (Parent b)) ≡ all_parents old
   child_same old i a b below is same =
       let change = parents_of_set old i (Parent a) (Parent b) below in
@@ -95,13 +95,13 @@ module _ {T E P S X : Type 0} where
       let one = parents-Parent a in let other = parents-Parent b in omega (arith, same, change, at, one, other)
 
   -- a parent that may be there counts itself and those below it
-  second_parents : (r : Option (ParentNode T E P S X)) → all_parents (as_node r) ≡ length (as_node r) + all_parents (second_children r)
+  second_parents : (r : Option (ParentNode T E)) → all_parents (as_node r) ≡ length (as_node r) + all_parents (second_children r)
   second_parents None = refl
   second_parents (Some q) =
       let a = sum_by-cons parents (Parent q) [] in
       let b = parents-Parent q in omega (arith, a, b)
 
-  pub two_counted : (a b : ParentNode T E P S X) → all_parents (Parent a ∷ Parent b ∷ []) ≡ 2 + all_parents (a.children.items ++ b.children.items)
+  pub two_counted : (a b : ParentNode T E) → all_parents (Parent a ∷ Parent b ∷ []) ≡ 2 + all_parents (a.children.items ++ b.children.items)
   two_counted a b =
       let first = sum_by-cons parents (Parent a) (Parent b ∷ []) in
       let second = sum_by-cons parents (Parent b) [] in
@@ -109,7 +109,7 @@ module _ {T E P S X : Type 0} where
       let one = parents-Parent a in let other = parents-Parent b in omega (arith, first, second, all, one, other)
 
   -- a child took spare lists for what it and the part that it handed out have more than it had
-  pub child_made : (old : List (RTreeNode T E P S X)) (i : ℕ) (a b : ParentNode T E P S X) (r : Option (ParentNode T E P S X)) (before after : ℕ)
+  pub child_made : (old : List (RTreeNode T E)) (i : ℕ) (a b : ParentNode T E) (r : Option (ParentNode T E)) (before after : ℕ)
       → i < length old → Parent a ≡ get_or old i (Parent a)
       → before + all_parents a.children.items ≡ after + all_parents (b.children.items ++ second_children r) + length (as_node r)
       → before + all_parents old ≡ after + all_parents (set old i (Parent b) ++ as_node r)
@@ -122,12 +122,12 @@ module _ {T E P S X : Type 0} where
       let all = all_parents-append (set old i (Parent b)) (as_node r) in
       omega (arith, made, change, at, one, other, second, parts, all)
 
-module _ {T E P S X : Type 0} (Q : ParentNode T E P S X → Type 0) (R : T → Type 0) where
-  pub tree_at : (h : ℕ) (p : ParentNode T E P S X) → 0 < h → IsTree Q R h (Parent p) → Q p × AreTrees Q R (h - 1) p.children.items
+module _ {T E : Type 0} (Q : ParentNode T E → Type 0) (R : T → Type 0) where
+  pub tree_at : (h : ℕ) (p : ParentNode T E) → 0 < h → IsTree Q R h (Parent p) → Q p × AreTrees Q R (h - 1) p.children.items
   tree_at zero p above is = absurd (omega arith)
   tree_at (suc h) p above is = rw sub-one (parent_of _ p is)
 
-  pub tree_of : (h : ℕ) (p : ParentNode T E P S X) → 0 < h → Q p → AreTrees Q R (h - 1) p.children.items → IsTree Q R h (Parent p)
+  pub tree_of : (h : ℕ) (p : ParentNode T E) → 0 < h → Q p → AreTrees Q R (h - 1) p.children.items → IsTree Q R h (Parent p)
   tree_of zero p above q all = absurd (omega arith)
   tree_of (suc h) p above q all = let below : AreTrees Q R h p.children.items = rw sub-one at all in IsParentOf-Parent _ p (q, below)
 
@@ -136,40 +136,40 @@ module _ {T E P S X : Type 0} (Q : ParentNode T E P S X → Type 0) (R : T → T
   no_leaf_above (suc h) t above is = no_parent _ t is
 
   pub leaf_tree : (h : ℕ) (t : T) → h ≡ 0 → R t → IsTree Q R h (Leaf t)
-  leaf_tree zero t e r = IsLeafOf-Leaf T E P S X R t r
+  leaf_tree zero t e r = IsLeafOf-Leaf T E R t r
   leaf_tree (suc h) t e r = absurd (omega arith)
 
   -- the child at an index
-  pub child_at : (h : ℕ) (ns : List (RTreeNode T E P S X)) (i : ℕ) (n : RTreeNode T E P S X) → i < length ns → n ≡ get_or ns i n → AreTrees Q R h ns → IsTree Q R h n
+  pub child_at : (h : ℕ) (ns : List (RTreeNode T E)) (i : ℕ) (n : RTreeNode T E) → i < length ns → n ≡ get_or ns i n → AreTrees Q R h ns → IsTree Q R h n
   child_at h ns i n below is trees = rw is (all_get (IsTree Q R h) ns i n below trees)
 
-  pub are_trees : (h : ℕ) (r : Option (ParentNode T E P S X)) → 0 < h → IfSome r (IsParentTree Q R (h - 1)) → AreTrees Q R h (as_node r)
+  pub are_trees : (h : ℕ) (r : Option (ParentNode T E)) → 0 < h → IfSome r (IsParentTree Q R (h - 1)) → AreTrees Q R h (as_node r)
   are_trees h None above k = tt
   are_trees h (Some q) above k = (tree_of h q above k.0 k.1, tt)
 
 -- trees whose parents and elements meet more
-module _ {T E P S X : Type 0} {Q Q' : ParentNode T E P S X → Type 0} {R R' : T → Type 0} (f : (p : ParentNode T E P S X) → Q p → Q' p) (g : (t : T) → R t → R' t) where
-  pub tree_map : (h : ℕ) (n : RTreeNode T E P S X) → IsTree Q R h n → IsTree Q' R' h n
+module _ {T E : Type 0} {Q Q' : ParentNode T E → Type 0} {R R' : T → Type 0} (f : (p : ParentNode T E) → Q p → Q' p) (g : (t : T) → R t → R' t) where
+  pub tree_map : (h : ℕ) (n : RTreeNode T E) → IsTree Q R h n → IsTree Q' R' h n
   tree_map zero n w =
       let l = is_leaf R n w in
-      subst (IsTree Q' R' 0) (sym l.1) (IsLeafOf-Leaf T E P S X R' l.0 (g l.0 l.2))
+      subst (IsTree Q' R' 0) (sym l.1) (IsLeafOf-Leaf T E R' l.0 (g l.0 l.2))
   tree_map (suc h) n w =
       let p = is_parent _ n w in
       subst (IsTree Q' R' (suc h)) (sym p.1) (IsParentOf-Parent _ p.0 (f p.0 p.2.0, all_map (IsTree Q R h) (IsTree Q' R' h) (tree_map h) p.0.children.items p.2.1))
 
-  pub trees_map : (h : ℕ) (ns : List (RTreeNode T E P S X)) → AreTrees Q R h ns → AreTrees Q' R' h ns
+  pub trees_map : (h : ℕ) (ns : List (RTreeNode T E)) → AreTrees Q R h ns → AreTrees Q' R' h ns
   trees_map h = all_map (IsTree Q R h) (IsTree Q' R' h) (tree_map h)
 
-module _ {T E : Type 0} {IsPoint : List ℤ → Type 0} {v : Boxes E} {o : Objects T E} (laws : EnvelopeLaws IsPoint v) (ok : ObjectLaws v o) (max widest : ℕ) {P S X : Type 0} where
-  inner : (p : ParentNode T E P S X) → IsKeptInner v o max widest p → IsInner v o p
+module _ {T E : Type 0} {IsPoint : List ℤ → Type 0} {v : Boxes E} {o : Objects T E} (laws : EnvelopeLaws IsPoint v) (ok : ObjectLaws v o) (max widest : ℕ) where
+  inner : (p : ParentNode T E) → IsKeptInner v o max widest p → IsInner v o p
   inner p k = (k.0.tight, λ none. let long = ap length none in absurd (omega (arith, long, k.1)))
 
   -- kept trees are whole
-  pub whole_of_kept : (h : ℕ) (ns : List (RTreeNode T E P S X)) → AreKept v o max widest h ns → AreWhole v o h ns
+  pub whole_of_kept : (h : ℕ) (ns : List (RTreeNode T E)) → AreKept v o max widest h ns → AreWhole v o h ns
   whole_of_kept = trees_map inner (λ t k. k)
 
   -- the envelope that took one element more in is the merge of what is there after it
-  pub hull_grown : (h : ℕ) (t : T) (old new : List (RTreeNode T E P S X)) (e f : E) → AreKept v o max widest h old → e ≡ hull v o.box_of (all_elements old)
+  pub hull_grown : (h : ℕ) (t : T) (old new : List (RTreeNode T E)) (e f : E) → AreKept v o max widest h old → e ≡ hull v o.box_of (all_elements old)
       → o.IsValue t → f ≡ v.merge e (o.box_of t)
       → IsPermutation (t ∷ all_elements old) (all_elements new) → AreKept v o max widest h new
       → (f ≡ hull v o.box_of (all_elements new)) × (f ≡ hull v (node_box o.box_of) new)
@@ -180,12 +180,12 @@ module _ {T E : Type 0} {IsPoint : List ℤ → Type 0} {v : Boxes E} {o : Objec
       let is : f ≡ hull v o.box_of (all_elements new) = next ∙ laws.merge_comm e (o.box_of t) first (ok t value) ∙ ap (v.merge (o.box_of t)) was ∙ both.0 in
       (is, is ∙ sym (merged_is_hull laws ok h new (whole_of_kept h new after)))
 
-  pub inner_of_fit : (h : ℕ) (p : ParentNode T E P S X) → AreKept v o max widest h p.children.items → HasMergedBox v o max widest p → IsKeptInner v o max widest p
+  pub inner_of_fit : (h : ℕ) (p : ParentNode T E) → AreKept v o max widest h p.children.items → HasMergedBox v o max widest p → IsKeptInner v o max widest p
   inner_of_fit h p trees fit =
       (record { tight = fit.merged ∙ merged_is_hull laws ok h p.children.items (whole_of_kept h p.children.items trees); roomy = fit.roomy }, fit.some)
 
   -- what an insertion leaves of a list of children, after it was parted
-  pub added : (h : ℕ) (t : T) (old before : List (RTreeNode T E P S X)) (p : ParentNode T E P S X) (r : Option (ParentNode T E P S X))
+  pub added : (h : ℕ) (t : T) (old before : List (RTreeNode T E)) (p : ParentNode T E) (r : Option (ParentNode T E))
       → IsPermutation (t ∷ all_elements old) (all_elements before) → AreKept v o max widest h before → IsPermutation before (p.children.items ++ second_children r)
       → HasMergedBox v o max widest p → IfSome r (HasMergedBox v o max widest)
       → IsPermutation (t ∷ all_elements old) (all_elements (p.children.items ++ second_children r)) × IsKeptTree v o max widest h p × IfSome r (IsKeptTree v o max widest h)
@@ -194,21 +194,21 @@ module _ {T E : Type 0} {IsPoint : List ℤ → Type 0} {v : Boxes E} {o : Objec
       let one = all_first (IsTree (IsKeptInner v o max widest) (IsElement v o) h) p.children.items (second_children r) parts in
       let two = all_second (IsTree (IsKeptInner v o max widest) (IsElement v o) h) p.children.items (second_children r) parts in
       (IsPermutation-trans _ _ _ bag (elements_along before (p.children.items ++ second_children r) same), (inner_of_fit h p one first, one), other r two second) where
-        other : (r : Option (ParentNode T E P S X)) → AreKept v o max widest h (second_children r) → IfSome r (HasMergedBox v o max widest) → IfSome r (IsKeptTree v o max widest h)
+        other : (r : Option (ParentNode T E)) → AreKept v o max widest h (second_children r) → IfSome r (HasMergedBox v o max widest) → IfSome r (IsKeptTree v o max widest h)
         other None trees fit = tt
         other (Some q) trees fit = (inner_of_fit h q trees fit, trees)
 
   -- a leaf at the end of a list of leaves
-  pub leaf_added : (h : ℕ) (t : T) (old : List (RTreeNode T E P S X)) → h ≡ 0 → IsElement v o t → AreKept v o max widest h old
+  pub leaf_added : (h : ℕ) (t : T) (old : List (RTreeNode T E)) → h ≡ 0 → IsElement v o t → AreKept v o max widest h old
       → IsPermutation (t ∷ all_elements old) (all_elements (old ++ Leaf t ∷ [])) × AreKept v o max widest h (old ++ Leaf t ∷ [])
   leaf_added h t old low is trees = (
     IsPermutation-trans _ _ _ (IsPermutation-sym _ _ (IsPermutation-to_front (all_elements old) t))
-        (IsPermutation-same _ _ (sym (all_elements-append old (Leaf t ∷ []) ∙ ap (λ (ts : List T). all_elements old ++ ts) (all_elements-single (Leaf t) ∙ elements-Leaf T E P S X t)))),
+        (IsPermutation-same _ _ (sym (all_elements-append old (Leaf t ∷ []) ∙ ap (λ (ts : List T). all_elements old ++ ts) (all_elements-single (Leaf t) ∙ elements-Leaf T E t)))),
     all-append (IsTree (IsKeptInner v o max widest) (IsElement v o) h) old (Leaf t ∷ []) trees (leaf_tree (IsKeptInner v o max widest) (IsElement v o) h t low is, tt),
   )
 
   -- a child that took the element in, and what it handed out
-  pub child_grown : (h : ℕ) (t : T) (old : List (RTreeNode T E P S X)) (i : ℕ) (a b : ParentNode T E P S X) (r : Option (ParentNode T E P S X))
+  pub child_grown : (h : ℕ) (t : T) (old : List (RTreeNode T E)) (i : ℕ) (a b : ParentNode T E) (r : Option (ParentNode T E))
       → 0 < h → i < length old → Parent a ≡ get_or old i (Parent a) → AreKept v o max widest h old
       → IsPermutation (t ∷ all_elements a.children.items) (all_elements (b.children.items ++ second_children r))
       → IsKeptTree v o max widest (h - 1) b → IfSome r (IsKeptTree v o max widest (h - 1))
@@ -222,7 +222,7 @@ module _ {T E : Type 0} {IsPoint : List ℤ → Type 0} {v : Boxes E} {o : Objec
   )
 
   -- a root above two parents is a tree of one level more
-  pub root_grown : (h : ℕ) (a b p : ParentNode T E P S X) → IsKeptTree v o max widest h a → IsKeptTree v o max widest h b
+  pub root_grown : (h : ℕ) (a b p : ParentNode T E) → IsKeptTree v o max widest h a → IsKeptTree v o max widest h b
       → p.children.items ≡ Parent a ∷ Parent b ∷ [] → p.envelope ≡ v.merge a.envelope b.envelope → HasRoom max p.children → 2 ≤ widest
       → IsKeptTree v o max widest (h + 1) p
   root_grown h a b p first second are is room wide =
@@ -236,7 +236,7 @@ module _ {T E : Type 0} {IsPoint : List ℤ → Type 0} {v : Boxes E} {o : Objec
       let all = merged_is_hull laws ok (h + 1) (Parent a ∷ Parent b ∷ []) (whole_of_kept (h + 1) (Parent a ∷ Parent b ∷ []) trees) in (
         (
           record {
-            tight = is ∙ sym both ∙ all ∙ ap (λ (ns : List (RTreeNode T E P S X)). hull v o.box_of (all_elements ns)) (sym are);
+            tight = is ∙ sym both ∙ all ∙ ap (λ (ns : List (RTreeNode T E)). hull v o.box_of (all_elements ns)) (sym are);
             roomy = record { narrow = rw are (omega arith); room = room };
           },
           rw are (omega arith),
@@ -244,9 +244,9 @@ module _ {T E : Type 0} {IsPoint : List ℤ → Type 0} {v : Boxes E} {o : Objec
         rw are trees,
       )
 
-module _ {T E P S X : Type 0} (min max : ℕ) (positive : 0 < min) where
+module _ {T E : Type 0} (min max : ℕ) (positive : 0 < min) where
   -- what is left of a list of children after it was parted is sized
-  pub sized_parts : (h n : ℕ) (before : List (RTreeNode T E P S X)) (p : ParentNode T E P S X) (r : Option (ParentNode T E P S X)) → AreTrees (HasSize min max) IsAny h before
+  pub sized_parts : (h n : ℕ) (before : List (RTreeNode T E)) (p : ParentNode T E) (r : Option (ParentNode T E)) → AreTrees (HasSize min max) IsAny h before
       → IsPermutation before (p.children.items ++ second_children r) → n ≤ max
       → IfNone r (vec_len p.children ≡ n + 1) → IfNone r (vec_len p.children ≤ max)
       → IfSome r (λ _. min ≤ vec_len p.children) → IfSome r (λ q. min ≤ vec_len q.children) → IfSome r (λ q. vec_len p.children + vec_len q.children ≡ n + 1)
@@ -270,11 +270,11 @@ module _ {T E P S X : Type 0} (min max : ℕ) (positive : 0 < min) where
         second_sized = ((omega (arith, q.children.ok.0), omega (arith, q.children.ok.0)), all_second (IsTree (HasSize min max) IsAny h) p.children.items q.children.items parts);
       }
 
-  pub sized_leaf : (h : ℕ) (t : T) (old : List (RTreeNode T E P S X)) → h ≡ 0 → AreTrees (HasSize min max) IsAny h old → AreTrees (HasSize min max) IsAny h (old ++ Leaf t ∷ [])
+  pub sized_leaf : (h : ℕ) (t : T) (old : List (RTreeNode T E)) → h ≡ 0 → AreTrees (HasSize min max) IsAny h old → AreTrees (HasSize min max) IsAny h (old ++ Leaf t ∷ [])
   sized_leaf h t old low trees = all-append (IsTree (HasSize min max) IsAny h) old (Leaf t ∷ []) trees (leaf_tree (HasSize min max) IsAny h t low tt, tt)
 
   -- a child that took an element in, and what it handed out
-  pub sized_child : (h : ℕ) (old : List (RTreeNode T E P S X)) (i : ℕ) (a b : ParentNode T E P S X) (r : Option (ParentNode T E P S X)) → 0 < h → i < length old → Parent a ≡ get_or old i (Parent a)
+  pub sized_child : (h : ℕ) (old : List (RTreeNode T E)) (i : ℕ) (a b : ParentNode T E) (r : Option (ParentNode T E)) → 0 < h → i < length old → Parent a ≡ get_or old i (Parent a)
       → AreTrees (HasSize min max) IsAny h old
       → (AreTrees (HasSize min max) IsAny (h - 1) a.children.items → vec_len a.children ≤ max → IsSizedAfter min max (h - 1) (vec_len a.children) b r)
       → AreTrees (HasSize min max) IsAny h (set old i (Parent b) ++ as_node r)
@@ -287,7 +287,7 @@ module _ {T E P S X : Type 0} (min max : ℕ) (positive : 0 < min) where
       (are_trees (HasSize min max) IsAny h r above done.second_sized)
 
   -- a root above two sized parts
-  pub sized_above : (h : ℕ) (a b p : ParentNode T E P S X) → AreTrees (HasSize min max) IsAny h a.children.items → min ≤ length a.children.items → length a.children.items ≤ max
+  pub sized_above : (h : ℕ) (a b p : ParentNode T E) → AreTrees (HasSize min max) IsAny h a.children.items → min ≤ length a.children.items → length a.children.items ≤ max
       → IsParentTree (HasSize min max) IsAny h b → p.children.items ≡ Parent a ∷ Parent b ∷ [] → 2 ≤ max
       → AreTrees (HasSize min max) IsAny (h + 1) p.children.items × (vec_len p.children ≤ max)
   sized_above h a b p first low high second are wide =

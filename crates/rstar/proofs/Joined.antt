@@ -34,11 +34,11 @@ use Rattle.rstar.proofs.Marked.{marked-zero}
 use Rattle.rstar.proofs.Meets.{IsJoined, all-joined, join-none, hull-meets-left, hull-meets-right}
 
 -- what comes after a node holds the same elements, and lies one level lower, but for a leaf
-pub whole-opened : {T E P S X : Type 0} (Q : ParentNode T E P S X → Type 0) (R : T → Type 0) (m h : ℕ) (n : RTreeNode T E P S X) → h ≤ m + 1 → IsTree Q R h n
+pub whole-opened : {T E : Type 0} (Q : ParentNode T E → Type 0) (R : T → Type 0) (m h : ℕ) (n : RTreeNode T E) → h ≤ m + 1 → IsTree Q R h n
     → (k : ℕ) × (k ≤ m) × AllByRecursion (IsTree Q R k) (opened_to n) × (all_elements (opened_to n) ≡ elements n)
-whole-opened {T} {E} {P} {S} {X} Q R m zero n le w =
+whole-opened {T} {E} Q R m zero n le w =
     let l = is_leaf R n w in
-    let alone : opened_to n ≡ n ∷ [] = ap opened_to l.1 ∙ opened_to-Leaf T E P S X l.0 ∙ ap (λ x. x ∷ []) (sym l.1) in
+    let alone : opened_to n ≡ n ∷ [] = ap opened_to l.1 ∙ opened_to-Leaf T E l.0 ∙ ap (λ x. x ∷ []) (sym l.1) in
     (0, omega arith, subst (AllByRecursion (IsTree Q R 0)) (sym alone) (w, tt), ap all_elements alone ∙ append-nil (elements n))
 whole-opened Q R m (suc h) n le w =
     let p = is_parent _ n w in
@@ -69,55 +69,55 @@ zeros (x ∷ xs) = let a = sum_by-cons (λ x. 0) x xs in let b = zeros xs in ome
 
 -- ---- Meet of a pair that is not of two leaves
 
-module _ (T E P S X U F Q R Y : Type 0) (meets : E → F → Bool) (left_box : T → E) (right_box : U → F) where
-  abbrev all_meets : List (RTreeNode T E P S X) → List (RTreeNode U F Q R Y) → ℕ
-  all_meets ls rs = sum_by (λ (p : RTreeNode T E P S X × RTreeNode U F Q R Y). meet meets left_box right_box p.0 p.1) (product ls rs)
+module _ (T E U F : Type 0) (meets : E → F → Bool) (left_box : T → E) (right_box : U → F) where
+  abbrev all_meets : List (RTreeNode T E) → List (RTreeNode U F) → ℕ
+  all_meets ls rs = sum_by (λ (p : RTreeNode T E × RTreeNode U F). meet meets left_box right_box p.0 p.1) (product ls rs)
 
-  meet-leaves : (t : T) (u : U) → meet {P = P} {S = S} {X = X} {Q = Q} {R = R} {Y = Y} meets left_box right_box (Leaf t) (Leaf u) ≡ 0
-  meet-leaves t u = meet-Leaf T E P S X U F Q R Y meets left_box right_box t (Leaf u) ∙ count_parents-Leaf U F Q R Y (meets (left_box t)) u
+  meet-leaves : (t : T) (u : U) → meet meets left_box right_box (Leaf t) (Leaf u) ≡ 0
+  meet-leaves t u = meet-Leaf T E U F meets left_box right_box t (Leaf u) ∙ count_parents-Leaf U F (meets (left_box t)) u
 
-  abbrev IsMet : RTreeNode T E P S X → RTreeNode U F Q R Y → Type 0
+  abbrev IsMet : RTreeNode T E → RTreeNode U F → Type 0
   IsMet l r = meet meets left_box right_box l r ≡ (if meets (node_box left_box l) (node_box right_box r) then 1 else 0) + all_meets (opened_to l) (opened_to r)
 
-  met-from : (l : RTreeNode T E P S X) (r : RTreeNode U F Q R Y) (e : E) (f : F) (ls : List (RTreeNode T E P S X)) (rs : List (RTreeNode U F Q R Y))
+  met-from : (l : RTreeNode T E) (r : RTreeNode U F) (e : E) (f : F) (ls : List (RTreeNode T E)) (rs : List (RTreeNode U F))
       → e ≡ node_box left_box l → f ≡ node_box right_box r → ls ≡ opened_to l → rs ≡ opened_to r
       → meet meets left_box right_box l r ≡ (if meets e f then 1 else 0) + all_meets ls rs → IsMet l r
   met-from l r e f ls rs is_e is_f is_ls is_rs m = m ∙ (λ i. (if meets (is_e i) (is_f i) then 1 else 0) + all_meets (is_ls i) (is_rs i))
 
-  met-Parent : (p : ParentNode T E P S X) (r : RTreeNode U F Q R Y) → IsMet (Parent p) r
+  met-Parent : (p : ParentNode T E) (r : RTreeNode U F) → IsMet (Parent p) r
   met-Parent p r =
       met-from (Parent p) r p.envelope (node_box right_box r) (children_of p) (opened_to r) (sym (node_box-Parent left_box p)) refl (sym (opened_to-Parent p)) refl
       (meet-Parent meets left_box right_box p r)
 
-  met-beside : (t : T) (q : ParentNode U F Q R Y) → IsMet (Leaf t) (Parent q)
+  met-beside : (t : T) (q : ParentNode U F) → IsMet (Leaf t) (Parent q)
   met-beside t q =
-      let row = λ (r : RTreeNode U F Q R Y). meet-Leaf T E P S X U F Q R Y meets left_box right_box t r in
+      let row = λ (r : RTreeNode U F). meet-Leaf T E U F meets left_box right_box t r in
       let each : total (map (count_parents (meets (left_box t))) (children_of q)) ≡ all_meets (Leaf t ∷ []) (children_of q) =
       total-map (count_parents (meets (left_box t))) (children_of q)
-      ∙ sum_by-same (count_parents (meets (left_box t))) (meet {P = P} {S = S} {X = X} meets left_box right_box (Leaf t)) (λ r. sym (row r)) (children_of q)
-      ∙ sym (sum_by-row (λ (p : RTreeNode T E P S X × RTreeNode U F Q R Y). meet meets left_box right_box p.0 p.1) (Leaf t) (children_of q)) in
-      met-from (Leaf t) (Parent q) (left_box t) q.envelope (Leaf t ∷ []) (children_of q) (sym (node_box-Leaf T E P S X left_box t)) (sym (node_box-Parent right_box q))
-      (sym (opened_to-Leaf T E P S X t)) (sym (opened_to-Parent q))
+      ∙ sum_by-same (count_parents (meets (left_box t))) (meet meets left_box right_box (Leaf t)) (λ r. sym (row r)) (children_of q)
+      ∙ sym (sum_by-row (λ (p : RTreeNode T E × RTreeNode U F). meet meets left_box right_box p.0 p.1) (Leaf t) (children_of q)) in
+      met-from (Leaf t) (Parent q) (left_box t) q.envelope (Leaf t ∷ []) (children_of q) (sym (node_box-Leaf T E left_box t)) (sym (node_box-Parent right_box q))
+      (sym (opened_to-Leaf T E t)) (sym (opened_to-Parent q))
       (row (Parent q) ∙ count_parents-Parent (meets (left_box t)) q ∙ ap (λ (n : ℕ). (if meets (left_box t) q.envelope then 1 else 0) + n) each)
 
-  met : (l : RTreeNode T E P S X) (r : RTreeNode U F Q R Y) → both_leaves l r ≡ false
+  met : (l : RTreeNode T E) (r : RTreeNode U F) → both_leaves l r ≡ false
       → ((t : T) (u : U) → l ≡ Leaf t → r ≡ Leaf u → ⊥) → IsMet l r
   met l r apart not_leaves = by_left (node-cases l) (node-cases r) where
-    by_left : ((t : T) × (l ≡ Leaf t)) ⊎ ((p : ParentNode T E P S X) × (l ≡ Parent p)) → ((u : U) × (r ≡ Leaf u)) ⊎ ((q : ParentNode U F Q R Y) × (r ≡ Parent q)) → IsMet l r
+    by_left : ((t : T) × (l ≡ Leaf t)) ⊎ ((p : ParentNode T E) × (l ≡ Parent p)) → ((u : U) × (r ≡ Leaf u)) ⊎ ((q : ParentNode U F) × (r ≡ Parent q)) → IsMet l r
     by_left (inr a) b = subst (λ x. IsMet x r) (sym a.1) (met-Parent a.0 r)
     by_left (inl a) (inr b) = subst (λ x. IsMet x r) (sym a.1) (subst (λ x. IsMet (Leaf a.0) x) (sym b.1) (met-beside a.0 b.0))
     by_left (inl a) (inl b) = absurd (not_leaves a.0 b.0 a.1 b.1)
 
 -- two leaves pass the test
-leaves-test : (T E P S X U F Q R Y : Type 0) (l : RTreeNode T E P S X) (r : RTreeNode U F Q R Y) → both_leaves l r ≡ false → (t : T) (u : U) → l ≡ Leaf t → r ≡ Leaf u → ⊥
-leaves-test T E P S X U F Q R Y l r apart t u is is' =
-    true≢false (sym (ap (λ x. both_leaves x r) is ∙ ap (λ c. if c then is_leaf_node r else false) (is_leaf-Leaf T E P S X t) ∙ ap is_leaf_node is' ∙ is_leaf-Leaf U F Q R Y u) ∙ apart)
+leaves-test : (T E U F : Type 0) (l : RTreeNode T E) (r : RTreeNode U F) → both_leaves l r ≡ false → (t : T) (u : U) → l ≡ Leaf t → r ≡ Leaf u → ⊥
+leaves-test T E U F l r apart t u is is' =
+    true≢false (sym (ap (λ x. both_leaves x r) is ∙ ap (λ c. if c then is_leaf_node r else false) (is_leaf-Leaf T E t) ∙ ap is_leaf_node is' ∙ is_leaf-Leaf U F u) ∙ apart)
 
 -- ---- whole nodes
 
-module _ {T E : Type 0} {IsPoint : List ℤ → Type 0} {v : Boxes E} {o : Objects T E} (laws : EnvelopeLaws IsPoint v) (ok : ObjectLaws v o) {P S X : Type 0} where
+module _ {T E : Type 0} {IsPoint : List ℤ → Type 0} {v : Boxes E} {o : Objects T E} (laws : EnvelopeLaws IsPoint v) (ok : ObjectLaws v o) where
   -- the envelope of a whole node is a value
-  box-value : (h : ℕ) (n : RTreeNode T E P S X) → IsTree (IsInner v o) (IsElement v o) h n → v.IsValue (node_box o.box_of n)
+  box-value : (h : ℕ) (n : RTreeNode T E) → IsTree (IsInner v o) (IsElement v o) h n → v.IsValue (node_box o.box_of n)
   box-value h n hn = subst v.IsValue (sym (box_is_hull laws ok h n hn)) (hull-value laws o.box_of (elements n) (values-of laws ok (elements n) (sound v o h n hn)))
 
 module _ {T E U F : Type 0} {IsPoint IsPoint' : List ℤ → Type 0} {v : Boxes E} {w : Boxes F} {o : Objects T E} {o' : Objects U F} {seen : F → E}
@@ -128,18 +128,18 @@ module _ {T E U F : Type 0} {IsPoint IsPoint' : List ℤ → Type 0} {v : Boxes 
   none-joined ts us hl hr apart = join-none laws laws' same o.box_of o'.box_of ts us (values-of laws ok ts hl) (values-of laws' ok' us hr) apart
 
 module _ {T E U F : Type 0} {IsPoint IsPoint' : List ℤ → Type 0} {v : Boxes E} {w : Boxes F} {o : Objects T E} {o' : Objects U F} {seen : F → E}
-    (laws : EnvelopeLaws IsPoint v) (laws' : EnvelopeLaws IsPoint' w) (same : SeenLaws w v seen) (ok : ObjectLaws v o) (ok' : ObjectLaws w o') {P S X Q R Y : Type 0} where
+    (laws : EnvelopeLaws IsPoint v) (laws' : EnvelopeLaws IsPoint' w) (same : SeenLaws w v seen) (ok : ObjectLaws v o) (ok' : ObjectLaws w o') where
   -- what the walk gives of a pair of nodes is the join of their elements, it opens what Meet counts, and Meet counts nothing where the two do not meet
-  pub record IsRight (l : RTreeNode T E P S X) (r : RTreeNode U F Q R Y) : Type 0 where
+  pub record IsRight (l : RTreeNode T E) (r : RTreeNode U F) : Type 0 where
     pub joined : IsJoined (meets_by v seen) o.box_of o'.box_of l r
     pub counted : meet (meets_by v seen) o.box_of o'.box_of l r ≡ opens_at (meets_by v seen) o.box_of o'.box_of l r
     pub pruned : (meets_by v seen) (node_box o.box_of l) (node_box o'.box_of r) ≡ false → meet (meets_by v seen) o.box_of o'.box_of l r ≡ 0
 
-  abbrev AreRight : List (RTreeNode T E P S X) → List (RTreeNode U F Q R Y) → Type 0
+  abbrev AreRight : List (RTreeNode T E) → List (RTreeNode U F) → Type 0
   AreRight ls rs = AllByRecursion (λ l. AllByRecursion (IsRight l) rs) ls
 
   -- of nodes whose merges do not meet, none do
-  all-apart : (h k : ℕ) (ls : List (RTreeNode T E P S X)) (rs : List (RTreeNode U F Q R Y)) → AreWhole v o h ls → AreWhole w o' k rs
+  all-apart : (h k : ℕ) (ls : List (RTreeNode T E)) (rs : List (RTreeNode U F)) → AreWhole v o h ls → AreWhole w o' k rs
       → (meets_by v seen) (hull v (node_box o.box_of) ls) (hull w (node_box o'.box_of) rs) ≡ false
       → AllByRecursion (λ l. AllByRecursion (λ r. (meets_by v seen) (node_box o.box_of l) (node_box o'.box_of r) ≡ false) rs) ls
   all-apart h k ls rs hl hr apart =
@@ -149,38 +149,38 @@ module _ {T E U F : Type 0} {IsPoint IsPoint' : List ℤ → Type 0} {v : Boxes 
       (hull-meets-left laws laws' same (node_box o.box_of) ls (hull w (node_box o'.box_of) rs) vs (hull-value laws' (node_box o'.box_of) rs ws) apart)
 
   -- what Meet counts of all pairs
-  all-counted : (ls : List (RTreeNode T E P S X)) (rs : List (RTreeNode U F Q R Y)) → AreRight ls rs → all_meets T E P S X U F Q R Y (meets_by v seen) o.box_of o'.box_of ls rs ≡ all_opens (meets_by v seen) o.box_of o'.box_of ls rs
+  all-counted : (ls : List (RTreeNode T E)) (rs : List (RTreeNode U F)) → AreRight ls rs → all_meets T E U F (meets_by v seen) o.box_of o'.box_of ls rs ≡ all_opens (meets_by v seen) o.box_of o'.box_of ls rs
   all-counted ls rs all =
       sums-along (meet (meets_by v seen) o.box_of o'.box_of) (opens_at (meets_by v seen) o.box_of o'.box_of) ls rs (all_map _ _ (λ l row. all_map _ _ (λ r q. q.counted) rs row) ls all)
 
-  all-pruned : (h k : ℕ) (ls : List (RTreeNode T E P S X)) (rs : List (RTreeNode U F Q R Y)) → AreWhole v o h ls → AreWhole w o' k rs → AreRight ls rs
-      → (meets_by v seen) (hull v (node_box o.box_of) ls) (hull w (node_box o'.box_of) rs) ≡ false → all_meets T E P S X U F Q R Y (meets_by v seen) o.box_of o'.box_of ls rs ≡ 0
+  all-pruned : (h k : ℕ) (ls : List (RTreeNode T E)) (rs : List (RTreeNode U F)) → AreWhole v o h ls → AreWhole w o' k rs → AreRight ls rs
+      → (meets_by v seen) (hull v (node_box o.box_of) ls) (hull w (node_box o'.box_of) rs) ≡ false → all_meets T E U F (meets_by v seen) o.box_of o'.box_of ls rs ≡ 0
   all-pruned h k ls rs hl hr all apart =
       sums-along (meet (meets_by v seen) o.box_of o'.box_of) (λ l r. 0) ls rs
       (all_both _ _ _ (λ l row none. all_both _ _ _ (λ r q n. q.pruned n) rs row none) ls all (all-apart h k ls rs hl hr apart))
       ∙ zeros (product ls rs)
 
-  leaves-right : (t : T) (u : U) (l : RTreeNode T E P S X) (r : RTreeNode U F Q R Y) → l ≡ Leaf t → r ≡ Leaf u → IsRight l r
+  leaves-right : (t : T) (u : U) (l : RTreeNode T E) (r : RTreeNode U F) → l ≡ Leaf t → r ≡ Leaf u → IsRight l r
   leaves-right t u l r is is' =
-      let none : meet (meets_by v seen) o.box_of o'.box_of l r ≡ 0 = (λ i. meet (meets_by v seen) o.box_of o'.box_of (is i) (is' i)) ∙ meet-leaves T E P S X U F Q R Y (meets_by v seen) o.box_of o'.box_of t u in
-      let ts : elements l ≡ t ∷ [] = ap elements is ∙ elements-Leaf T E P S X t in
-      let us : elements r ≡ u ∷ [] = ap elements is' ∙ elements-Leaf U F Q R Y u in
+      let none : meet (meets_by v seen) o.box_of o'.box_of l r ≡ 0 = (λ i. meet (meets_by v seen) o.box_of o'.box_of (is i) (is' i)) ∙ meet-leaves T E U F (meets_by v seen) o.box_of o'.box_of t u in
+      let ts : elements l ≡ t ∷ [] = ap elements is ∙ elements-Leaf T E t in
+      let us : elements r ≡ u ∷ [] = ap elements is' ∙ elements-Leaf U F u in
       let pairs : pairs_at (meets_by v seen) o.box_of o'.box_of l r ≡ join (meets_by v seen) o.box_of o'.box_of (t ∷ []) (u ∷ []) =
-      (λ i. pairs_at (meets_by v seen) o.box_of o'.box_of (is i) (is' i)) ∙ pairs-leaves T E P S X U F Q R Y (meets_by v seen) o.box_of o'.box_of t u in
+      (λ i. pairs_at (meets_by v seen) o.box_of o'.box_of (is i) (is' i)) ∙ pairs-leaves T E U F (meets_by v seen) o.box_of o'.box_of t u in
       record {
         joined = subst (IsPermutation (pairs_at (meets_by v seen) o.box_of o'.box_of l r)) (pairs ∙ sym (λ i. join (meets_by v seen) o.box_of o'.box_of (ts i) (us i))) (IsPermutation-refl _);
-        counted = none ∙ sym ((λ i. opens_at (meets_by v seen) o.box_of o'.box_of (is i) (is' i)) ∙ opens-leaves T E P S X U F Q R Y (meets_by v seen) o.box_of o'.box_of t u);
+        counted = none ∙ sym ((λ i. opens_at (meets_by v seen) o.box_of o'.box_of (is i) (is' i)) ∙ opens-leaves T E U F (meets_by v seen) o.box_of o'.box_of t u);
         pruned = λ apart. none;
       }
 
-  opened-right : (h k h' k' : ℕ) (l : RTreeNode T E P S X) (r : RTreeNode U F Q R Y) → IsTree (IsInner v o) (IsElement v o) h l → IsTree (IsInner w o') (IsElement w o') k r
+  opened-right : (h k h' k' : ℕ) (l : RTreeNode T E) (r : RTreeNode U F) → IsTree (IsInner v o) (IsElement v o) h l → IsTree (IsInner w o') (IsElement w o') k r
       → both_leaves l r ≡ false → AreWhole v o h' (opened_to l) → AreWhole w o' k' (opened_to r) → all_elements (opened_to l) ≡ elements l → all_elements (opened_to r) ≡ elements r
       → AreRight (opened_to l) (opened_to r) → IsRight l r
   opened-right h k h' k' l r hl hr inner hls hrs is_l is_r all = by_test ((meets_by v seen) (node_box o.box_of l) (node_box o'.box_of r)) refl where
     by_test : (b : Bool) → (meets_by v seen) (node_box o.box_of l) (node_box o'.box_of r) ≡ b → IsRight l r
     by_test true is =
         let gone = opened (meets_by v seen) o.box_of o'.box_of l r inner in
-        let m = met T E P S X U F Q R Y (meets_by v seen) o.box_of o'.box_of l r inner (leaves-test T E P S X U F Q R Y l r inner) in
+        let m = met T E U F (meets_by v seen) o.box_of o'.box_of l r inner (leaves-test T E U F l r inner) in
         let one = ap (λ (b : Bool). if◌then◌else◌ {A = ℕ} b 1 0) is in
         let pairs = gone.pairs ∙ ap (λ (b : Bool). if b then all_pairs (meets_by v seen) o.box_of o'.box_of (opened_to l) (opened_to r) else []) is in
         let opens = gone.opens ∙ ap (λ (b : Bool). if b then 1 + all_opens (meets_by v seen) o.box_of o'.box_of (opened_to l) (opened_to r) else 0) is in
@@ -194,7 +194,7 @@ module _ {T E U F : Type 0} {IsPoint IsPoint' : List ℤ → Type 0} {v : Boxes 
         }
     by_test false is =
         let gone = opened (meets_by v seen) o.box_of o'.box_of l r inner in
-        let m = met T E P S X U F Q R Y (meets_by v seen) o.box_of o'.box_of l r inner (leaves-test T E P S X U F Q R Y l r inner) in
+        let m = met T E U F (meets_by v seen) o.box_of o'.box_of l r inner (leaves-test T E U F l r inner) in
         let one = ap (λ (b : Bool). if◌then◌else◌ {A = ℕ} b 1 0) is in
         let pairs = gone.pairs ∙ ap (λ (b : Bool). if b then all_pairs (meets_by v seen) o.box_of o'.box_of (opened_to l) (opened_to r) else []) is in
         let opens = gone.opens ∙ ap (λ (b : Bool). if b then 1 + all_opens (meets_by v seen) o.box_of o'.box_of (opened_to l) (opened_to r) else 0) is in
@@ -210,12 +210,12 @@ module _ {T E U F : Type 0} {IsPoint IsPoint' : List ℤ → Type 0} {v : Boxes 
           pruned = λ no. omega (arith, m, one, sums);
         }
 
-  by-both : (l : RTreeNode T E P S X) (r : RTreeNode U F Q R Y) (b : Bool) → both_leaves l r ≡ b → (both_leaves l r ≡ false → IsRight l r) → IsRight l r
+  by-both : (l : RTreeNode T E) (r : RTreeNode U F) (b : Bool) → both_leaves l r ≡ b → (both_leaves l r ≡ false → IsRight l r) → IsRight l r
   by-both l r true is inner = let a = leaf-found l r is in leaves-right a.0 a.1 l r a.2 a.3
   by-both l r false is inner = inner is
 
-  deeper : (m h k : ℕ) (l : RTreeNode T E P S X) (r : RTreeNode U F Q R Y)
-      → ((h k : ℕ) (l : RTreeNode T E P S X) (r : RTreeNode U F Q R Y) → h ≤ m → k ≤ m → IsTree (IsInner v o) (IsElement v o) h l → IsTree (IsInner w o') (IsElement w o') k r → IsRight l r)
+  deeper : (m h k : ℕ) (l : RTreeNode T E) (r : RTreeNode U F)
+      → ((h k : ℕ) (l : RTreeNode T E) (r : RTreeNode U F) → h ≤ m → k ≤ m → IsTree (IsInner v o) (IsElement v o) h l → IsTree (IsInner w o') (IsElement w o') k r → IsRight l r)
       → h ≤ suc m → k ≤ suc m → IsTree (IsInner v o) (IsElement v o) h l → IsTree (IsInner w o') (IsElement w o') k r → both_leaves l r ≡ false → IsRight l r
   deeper m h k l r below lh lk hl hr inner =
       let a = whole-opened (IsInner v o) (IsElement v o) m h l (omega (arith, lh)) hl in
@@ -224,19 +224,19 @@ module _ {T E U F : Type 0} {IsPoint IsPoint' : List ℤ → Type 0} {v : Boxes 
       (all_map (IsTree (IsInner v o) (IsElement v o) a.0) _ (λ x hx. all_map (IsTree (IsInner w o') (IsElement w o') b.0) _ (λ y hy. below a.0 b.0 x y a.1 b.1 hx hy) (opened_to r) b.2) (opened_to l) a.2)
 
   -- two whole nodes, by a bound of both heights
-  pub right : (m h k : ℕ) (l : RTreeNode T E P S X) (r : RTreeNode U F Q R Y) → h ≤ m → k ≤ m → IsTree (IsInner v o) (IsElement v o) h l → IsTree (IsInner w o') (IsElement w o') k r → IsRight l r
+  pub right : (m h k : ℕ) (l : RTreeNode T E) (r : RTreeNode U F) → h ≤ m → k ≤ m → IsTree (IsInner v o) (IsElement v o) h l → IsTree (IsInner w o') (IsElement w o') k r → IsRight l r
   right zero (suc h) k l r lh lk hl hr = absurd (omega (arith, lh))
   right zero zero (suc k) l r lh lk hl hr = absurd (omega (arith, lk))
   right zero zero zero l r lh lk hl hr = let a = is_leaf _ l hl in let b = is_leaf _ r hr in leaves-right a.0 b.0 l r a.1 b.1
   right (suc m) h k l r lh lk hl hr = by-both l r (both_leaves l r) refl (λ inner. deeper m h k l r (right m) lh lk hl hr inner)
 
-  all-right : (h k : ℕ) (ls : List (RTreeNode T E P S X)) (rs : List (RTreeNode U F Q R Y)) → AreWhole v o h ls → AreWhole w o' k rs → AreRight ls rs
+  all-right : (h k : ℕ) (ls : List (RTreeNode T E)) (rs : List (RTreeNode U F)) → AreWhole v o h ls → AreWhole w o' k rs → AreRight ls rs
   all-right h k ls rs hl hr =
       all_map (IsTree (IsInner v o) (IsElement v o) h) _ (λ x hx. all_map (IsTree (IsInner w o') (IsElement w o') k) _ (λ y hy. right (max h k) h k x y (omega arith) (omega arith) hx hy) rs hr) ls hl
 
   -- ---- two roots
 
-  pub roots-joined : (left : ParentNode T E P S X) (other : ParentNode U F Q R Y) → IsWhole v o left → IsWhole w o' other
+  pub roots-joined : (left : ParentNode T E) (other : ParentNode U F) → IsWhole v o left → IsWhole w o' other
       → IsPermutation (pairs_from_roots (meets_by v seen) o.box_of o'.box_of left other) (join (meets_by v seen) o.box_of o'.box_of (elements_of left) (elements_of other))
   roots-joined left other hl hr = by_test ((meets_by v seen) (envelope_of left) (envelope_of other)) refl where
     by_test : (b : Bool) → (meets_by v seen) (envelope_of left) (envelope_of other) ≡ b
@@ -249,20 +249,20 @@ module _ {T E U F : Type 0} {IsPoint IsPoint' : List ℤ → Type 0} {v : Boxes 
         (sym (λ i. (meets_by v seen) (hl.tight i) (hr.tight i)) ∙ is))) (IsPermutation-refl [])
 
   -- the roots that meet are opened first
-  pub roots-counted : (left : ParentNode T E P S X) (other : ParentNode U F Q R Y) → IsWhole v o left → IsWhole w o' other → (meets_by v seen) (envelope_of left) (envelope_of other) ≡ true
+  pub roots-counted : (left : ParentNode T E) (other : ParentNode U F) → IsWhole v o left → IsWhole w o' other → (meets_by v seen) (envelope_of left) (envelope_of other) ≡ true
       → children_of left ≢ [] → children_of other ≢ [] → meet_of_roots (meets_by v seen) o.box_of o'.box_of left other ≡ 1 + all_opens (meets_by v seen) o.box_of o'.box_of (children_of left) (children_of other)
   roots-counted left other hl hr is some some' = by_lists (children_of left) (children_of other) some some' (all-right hl.height hr.height (children_of left) (children_of other) hl.below hr.below) where
-    by_lists : (ls : List (RTreeNode T E P S X)) (rs : List (RTreeNode U F Q R Y)) → ls ≢ [] → rs ≢ [] → AreRight ls rs
+    by_lists : (ls : List (RTreeNode T E)) (rs : List (RTreeNode U F)) → ls ≢ [] → rs ≢ [] → AreRight ls rs
         → meet_of_shown (meets_by v seen) o.box_of o'.box_of (parent (envelope_of left) (row_of (map shown ls))) (parent (envelope_of other) (row_of (map shown rs))) ≡ 1 + all_opens (meets_by v seen) o.box_of o'.box_of ls rs
     by_lists [] rs some some' all = absurd (some refl)
     by_lists (l ∷ ls) [] some some' all = absurd (some' refl)
     by_lists (l ∷ ls) (r ∷ rs) some some' all =
         meet-roots (meets_by v seen) o.box_of o'.box_of (envelope_of left) (envelope_of other) (l ∷ ls) (r ∷ rs)
-        ∙ ap (λ (b : Bool). (if b then 1 else 0) + all_meets T E P S X U F Q R Y (meets_by v seen) o.box_of o'.box_of (l ∷ ls) (r ∷ rs)) is
+        ∙ ap (λ (b : Bool). (if b then 1 else 0) + all_meets T E U F (meets_by v seen) o.box_of o'.box_of (l ∷ ls) (r ∷ rs)) is
         ∙ ap (λ n. 1 + n) (all-counted (l ∷ ls) (r ∷ rs) all)
 
   -- Meet counts nothing where they do not
-  pub roots-apart : (left : ParentNode T E P S X) (other : ParentNode U F Q R Y) → IsWhole v o left → IsWhole w o' other → (meets_by v seen) (envelope_of left) (envelope_of other) ≡ false
+  pub roots-apart : (left : ParentNode T E) (other : ParentNode U F) → IsWhole v o left → IsWhole w o' other → (meets_by v seen) (envelope_of left) (envelope_of other) ≡ false
       → meet_of_roots (meets_by v seen) o.box_of o'.box_of left other ≡ 0
   roots-apart left other hl hr is =
       let merged_l : envelope_of left ≡ hull v (node_box o.box_of) (children_of left) = hl.tight ∙ sym (merged_is_hull laws ok hl.height (children_of left) hl.below) in
@@ -271,7 +271,7 @@ module _ {T E U F : Type 0} {IsPoint IsPoint' : List ℤ → Type 0} {v : Boxes 
       (all-pruned hl.height hr.height (children_of left) (children_of other) hl.below hr.below (all-right hl.height hr.height (children_of left) (children_of other) hl.below hr.below)
       (sym (λ i. (meets_by v seen) (merged_l i) (merged_r i)) ∙ is))
     where
-      by_lists : (ls : List (RTreeNode T E P S X)) (rs : List (RTreeNode U F Q R Y)) → all_meets T E P S X U F Q R Y (meets_by v seen) o.box_of o'.box_of ls rs ≡ 0
+      by_lists : (ls : List (RTreeNode T E)) (rs : List (RTreeNode U F)) → all_meets T E U F (meets_by v seen) o.box_of o'.box_of ls rs ≡ 0
           → meet_of_shown (meets_by v seen) o.box_of o'.box_of (parent (envelope_of left) (row_of (map shown ls))) (parent (envelope_of other) (row_of (map shown rs))) ≡ 0
       by_lists [] rs none = refl
       by_lists (l ∷ ls) [] none = refl
@@ -279,7 +279,7 @@ module _ {T E U F : Type 0} {IsPoint IsPoint' : List ℤ → Type 0} {v : Boxes 
           let both = meet-roots (meets_by v seen) o.box_of o'.box_of (envelope_of left) (envelope_of other) (l ∷ ls) (r ∷ rs) in
           let z = ap (λ (b : Bool). if◌then◌else◌ {A = ℕ} b 1 0) is in omega (arith, z, none, both)
 
-module _ {T E U F P S X Q R Y : Type 0} (meets : E → F → Bool) (left_box : T → E) (right_box : U → F) (left : ParentNode T E P S X) (other : ParentNode U F Q R Y) where
+module _ {T E U F : Type 0} (meets : E → F → Bool) (left_box : T → E) (right_box : U → F) (left : ParentNode T E) (other : ParentNode U F) where
   -- and where one of them has no children
   pub roots-empty : (children_of left ≡ []) ⊎ (children_of other ≡ []) → (meet_of_roots meets left_box right_box left other ≡ 0) × (pairs_from_roots meets left_box right_box left other ≡ [])
   roots-empty none = by_lists (children_of left) (children_of other) none where
@@ -287,7 +287,7 @@ module _ {T E U F P S X Q R Y : Type 0} (meets : E → F → Bool) (left_box : T
     if-none true ps e = e
     if-none false ps e = refl
 
-    by_lists : (ls : List (RTreeNode T E P S X)) (rs : List (RTreeNode U F Q R Y)) → (ls ≡ []) ⊎ (rs ≡ [])
+    by_lists : (ls : List (RTreeNode T E)) (rs : List (RTreeNode U F)) → (ls ≡ []) ⊎ (rs ≡ [])
         → (meet_of_shown meets left_box right_box (parent (envelope_of left) (row_of (map shown ls))) (parent (envelope_of other) (row_of (map shown rs))) ≡ 0) × ((if meets (envelope_of left) (envelope_of other) then all_pairs meets left_box right_box ls rs else []) ≡ [])
     by_lists [] rs e = (refl, if-none (meets (envelope_of left) (envelope_of other)) [] refl)
     by_lists (l ∷ ls) [] e = (refl, if-none (meets (envelope_of left) (envelope_of other)) _ (ap (flat_map (λ p. pairs_at meets left_box right_box p.0 p.1)) (product-none (l ∷ ls))))
@@ -302,7 +302,7 @@ module _ {T E U F P S X Q R Y : Type 0} (meets : E → F → Bool) (left_box : T
 
 -- ---- the start of a walk
 
-module _ {T E P S X U F Q R Y : Type 0} (meets : E → F → Bool) (left_box : T → E) (right_box : U → F) (it : IntersectionIterator T U E P S X F Q R Y)
+module _ {T E U F : Type 0} (meets : E → F → Bool) (left_box : T → E) (right_box : U → F) (it : IntersectionIterator T U E F)
     (none : it.path.items ≡ []) where
   alone : frames_of it ≡ in_hand it ∷ []
   alone = ap (λ l. l ++ in_hand it ∷ []) none
@@ -325,14 +325,14 @@ module _ {T E P S X U F Q R Y : Type 0} (meets : E → F → Bool) (left_box : T
     };
   }
 
-module _ {T E P S X U F Q R Y : Type 0} (meets : E → F → Bool) (left_box : T → E) (right_box : U → F) (ls : Bor (List (RTreeNode T E P S X))) (asked rs : Bor (List (RTreeNode U F Q R Y))) where
+module _ {T E U F : Type 0} (meets : E → F → Bool) (left_box : T → E) (right_box : U → F) (ls : Bor (List (RTreeNode T E))) (asked rs : Bor (List (RTreeNode U F))) where
   -- a frame with no nodes on the left gives nothing, and another one all pairs
-  pub starts-none : (frames : List (Frame T E P S X U F Q R Y)) → frames ≡ [] → ls.now ≡ [] → pairs_from_frames meets left_box right_box (frames ++ (frame_of ls asked 0 rs rs) ∷ []) ≡ []
+  pub starts-none : (frames : List (Frame T E U F)) → frames ≡ [] → ls.now ≡ [] → pairs_from_frames meets left_box right_box (frames ++ (frame_of ls asked 0 rs rs) ∷ []) ≡ []
   starts-none frames none empty =
       ap (λ fs. pairs_from_frames meets left_box right_box (fs ++ (frame_of ls asked 0 rs rs) ∷ [])) none
       ∙ ap (pairs_below meets left_box right_box) (fresh meets left_box right_box ls asked rs) ∙ ap (λ l. pairs_below meets left_box right_box (product l rs.now)) empty
 
-  pub starts-all : (frames : List (Frame T E P S X U F Q R Y)) → frames ≡ [] → pairs_from_frames meets left_box right_box (frames ++ (frame_of ls asked 0 rs rs) ∷ []) ≡ all_pairs meets left_box right_box ls.now rs.now
+  pub starts-all : (frames : List (Frame T E U F)) → frames ≡ [] → pairs_from_frames meets left_box right_box (frames ++ (frame_of ls asked 0 rs rs) ∷ []) ≡ all_pairs meets left_box right_box ls.now rs.now
   starts-all frames none =
       ap (λ fs. pairs_from_frames meets left_box right_box (fs ++ (frame_of ls asked 0 rs rs) ∷ [])) none
       ∙ ap (pairs_below meets left_box right_box) (fresh meets left_box right_box ls asked rs)
@@ -350,8 +350,8 @@ module _ {T E P S X U F Q R Y : Type 0} (meets : E → F → Bool) (left_box : T
     fits = omega arith;
   }
 
-pub fits-whole : {T E P S X U F Q R Y : Type 0} (v : Boxes E) (w : Boxes F) (o : Objects T E) (o' : Objects U F) (meets : E → F → Bool) (ls : Bor (List (RTreeNode T E P S X))) (asked rs : Bor (List (RTreeNode U F Q R Y)))
-    (as' : List (RTreeNode T E P S X)) (bs : List (RTreeNode U F Q R Y)) (room h k : ℕ) → ls.now ≡ as' → rs.now ≡ bs → as' ≢ [] → bs ≢ [] → AreWhole v o h as' → AreWhole w o' k bs
+pub fits-whole : {T E U F : Type 0} (v : Boxes E) (w : Boxes F) (o : Objects T E) (o' : Objects U F) (meets : E → F → Bool) (ls : Bor (List (RTreeNode T E))) (asked rs : Bor (List (RTreeNode U F)))
+    (as' : List (RTreeNode T E)) (bs : List (RTreeNode U F)) (room h k : ℕ) → ls.now ≡ as' → rs.now ≡ bs → as' ≢ [] → bs ≢ [] → AreWhole v o h as' → AreWhole w o' k bs
     → max (levels_below as') (levels_below bs) ≤ room → IsFrame meets o.box_of o'.box_of room (frame_of ls asked 0 rs rs)
 fits-whole v w o o' meets ls asked rs as' bs room h k is is' some some' hl hr fits =
     let a = levels_are (IsInner v o) (IsElement v o) (λ p q. q.1) h as' some hl in

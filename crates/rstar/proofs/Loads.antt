@@ -86,27 +86,27 @@ taken_few count taken c axis n some full few =
 
 -- ---- nodes
 
-leaves_elements : {T : Type 0} (E P S X : Type 0) (ts : List T) → all_elements {T = T} {E = E} {P = P} {S = S} {X = X} (map Leaf ts) ≡ ts
-leaves_elements E P S X [] = refl
-leaves_elements {T} E P S X (t ∷ ts) = ap (λ (us : List T). us ++ all_elements {E = E} {P = P} {S = S} {X = X} (map Leaf ts)) (elements-Leaf T E P S X t) ∙ ap (λ (us : List T). t ∷ us) (leaves_elements E P S X ts)
+leaves_elements : {T : Type 0} (E : Type 0) (ts : List T) → all_elements {T = T} {E = E} (map Leaf ts) ≡ ts
+leaves_elements E [] = refl
+leaves_elements {T} E (t ∷ ts) = ap (λ (us : List T). us ++ all_elements {E = E} (map Leaf ts)) (elements-Leaf T E t) ∙ ap (λ (us : List T). t ∷ us) (leaves_elements E ts)
 
-leaves_of : {T : Type 0} (E P S X : Type 0) (R : T → Type 0) (ts : List T) → AllByRecursion R ts → AllByRecursion (IsLeafOf {T = T} {E = E} {P = P} {S = S} {X = X} R) (map Leaf ts)
-leaves_of E P S X R [] h = tt
-leaves_of {T} E P S X R (t ∷ ts) h = (IsLeafOf-Leaf T E P S X R t h.0, leaves_of E P S X R ts h.1)
+leaves_of : {T : Type 0} (E : Type 0) (R : T → Type 0) (ts : List T) → AllByRecursion R ts → AllByRecursion (IsLeafOf {T = T} {E = E} R) (map Leaf ts)
+leaves_of E R [] h = tt
+leaves_of {T} E R (t ∷ ts) h = (IsLeafOf-Leaf T E R t h.0, leaves_of E R ts h.1)
 
 any_of : {T : Type 0} (ts : List T) → AllByRecursion IsAny ts
 any_of [] = tt
 any_of (t ∷ ts) = (tt, any_of ts)
 
-module _ {T E P S X : Type 0} where
+module _ {T E : Type 0} where
   -- what holds of all elements of some nodes holds of those of each
-  each_below : (Q : T → Type 0) (ns : List (RTreeNode T E P S X)) → All Q (all_elements ns) → All (λ n. All Q (elements n)) ns
+  each_below : (Q : T → Type 0) (ns : List (RTreeNode T E)) → All Q (all_elements ns) → All (λ n. All Q (elements n)) ns
   each_below Q [] f = All-nil (λ n. All Q (elements n))
   each_below Q (n ∷ ns) f =
       All-cons (λ n. All Q (elements n)) n ns (All-front Q (elements n) (all_elements ns) f) (each_below Q ns (All-back Q (elements n) (all_elements ns) f))
 
   -- a node's elements are no more than all
-  part_le : (ns : List (RTreeNode T E P S X)) → All (λ n. length (elements n) ≤ length (all_elements ns)) ns
+  part_le : (ns : List (RTreeNode T E)) → All (λ n. length (elements n) ≤ length (all_elements ns)) ns
   part_le [] = All-nil (λ n. length (elements n) ≤ 0)
   part_le (n ∷ ns) =
       let long = length-append (elements n) (all_elements ns) in
@@ -114,19 +114,19 @@ module _ {T E P S X : Type 0} where
       (All-weaker (λ m. length (elements m) ≤ length (all_elements ns)) (λ m. length (elements m) ≤ length (all_elements (n ∷ ns))) (λ m h. omega (arith, long, h)) ns (part_le ns))
 
   -- parents that meet more
-  parent_map : (Q R : ParentNode T E P S X → Type 0) → ((p : ParentNode T E P S X) → Q p → R p) → (n : RTreeNode T E P S X) → IsParentOf Q n → IsParentOf R n
+  parent_map : (Q R : ParentNode T E → Type 0) → ((p : ParentNode T E) → Q p → R p) → (n : RTreeNode T E) → IsParentOf Q n → IsParentOf R n
   parent_map Q R f n w = let p = is_parent Q n w in subst (IsParentOf R) (sym p.1) (IsParentOf-Parent R p.0 (f p.0 p.2))
 
   -- a node of that size stays where others are put beside it
-  node_left : (m : ℕ) (ms ns : List (RTreeNode T E P S X)) → HasNodeOf m ms → HasNodeOf m (ms ++ ns)
+  node_left : (m : ℕ) (ms ns : List (RTreeNode T E)) → HasNodeOf m ms → HasNodeOf m (ms ++ ns)
   node_left m ms ns h = (h.0, Contains-append_left ms ns h.0 h.1, h.2)
 
-  node_right : (m : ℕ) (ms ns : List (RTreeNode T E P S X)) → HasNodeOf m ns → HasNodeOf m (ms ++ ns)
+  node_right : (m : ℕ) (ms ns : List (RTreeNode T E)) → HasNodeOf m ns → HasNodeOf m (ms ++ ns)
   node_right m ms ns h = (h.0, Contains-append_right ms ns h.0 h.1, h.2)
 
   module _ (key : T → ℕ → ℤ) where
     -- elements that are nowhere above some nodes' are nowhere above those of each
-    parted_each : (k : ℕ) (slab : List T) (us zs : List (RTreeNode T E P S X)) → IsPermutation slab (all_elements zs) → NoneAbove (λ t. key t k) slab (all_elements us)
+    parted_each : (k : ℕ) (slab : List T) (us zs : List (RTreeNode T E)) → IsPermutation slab (all_elements zs) → NoneAbove (λ t. key t k) slab (all_elements us)
         → All (λ m. All (λ n. NoneAbove (λ t. key t k) (elements n) (elements m)) zs) us
     parted_each k slab us zs same f =
         All-weaker (λ m. NoneAbove (λ t. key t k) slab (elements m)) (λ m. All (λ n. NoneAbove (λ t. key t k) (elements n) (elements m)) zs)
@@ -136,9 +136,9 @@ module _ {T E P S X : Type 0} where
         (All-weaker (λ x. All (λ y. key x k ≤ℤ key y k) (all_elements us)) (λ x. All (λ m. All (λ y. key x k ≤ℤ key y k) (elements m)) us)
         (λ x g. each_below (λ y. key x k ≤ℤ key y k) us g) slab f))
 
-    module _ (Good : RTreeNode T E P S X → Type 0) where
+    module _ (Good : RTreeNode T E → Type 0) where
       -- no slab was taken yet
-      pub underway_start : (c axis : ℕ) (ts : List T) (old : List (RTreeNode T E P S X)) → ts ≢ [] → IsUnderway key Good c axis ts ts old old
+      pub underway_start : (c axis : ℕ) (ts : List T) (old : List (RTreeNode T E)) → ts ≢ [] → IsUnderway key Good c axis ts ts old old
       underway_start c axis ts old some = record {
         added = [];
         is = sym (append-nil old);
@@ -155,7 +155,7 @@ module _ {T E P S X : Type 0} where
       }
 
       -- a slab was taken, and the nodes of its elements were put in
-      pub underway_more : (c axis : ℕ) (ts before slab after : List T) (old mid new : List (RTreeNode T E P S X))
+      pub underway_more : (c axis : ℕ) (ts before slab after : List T) (old mid new : List (RTreeNode T E))
           → IsUnderway key Good c axis ts before old mid → IsSlabOf (λ t. key t axis) (div_ceil (length ts) c) before slab after → before ≢ []
           → AddsParts key Good c axis slab mid new → IsUnderway key Good c axis ts after old new
       underway_more c axis ts before slab after old mid new u cut some a =
@@ -198,7 +198,7 @@ module _ {T E P S X : Type 0} where
           }
 
       -- which size the next slab has
-      pub next_size : (c axis : ℕ) (ts before slab after : List T) (old mid : List (RTreeNode T E P S X)) → IsUnderway key Good c axis ts before old mid
+      pub next_size : (c axis : ℕ) (ts before slab after : List T) (old mid : List (RTreeNode T E)) → IsUnderway key Good c axis ts before old mid
           → IsSlabOf (λ t. key t axis) (div_ceil (length ts) c) before slab after → before ≢ [] → IsSlabSize c (length ts) (length slab)
       next_size c axis ts before slab after old mid u cut some =
           let held = has_some before some in
@@ -206,7 +206,7 @@ module _ {T E P S X : Type 0} where
           (u.taken, omega (arith, held, was_left), cut.size ∙ ap (λ n. min (div_ceil (length ts) c) n) was_left)
 
       -- all slabs were taken
-      pub underway_end : (c axis axes : ℕ) (ts remaining : List T) (old new : List (RTreeNode T E P S X)) → 0 < c → IsUnderway key Good c axis ts remaining old new → remaining ≡ [] → suc axis ≡ axes
+      pub underway_end : (c axis axes : ℕ) (ts remaining : List T) (old new : List (RTreeNode T E)) → 0 < c → IsUnderway key Good c axis ts remaining old new → remaining ≡ [] → suc axis ≡ axes
           → AddsParts key Good c axes ts old new
       underway_end c axis axes ts remaining old new some u none next =
           let ended = ap length none in
@@ -228,7 +228,7 @@ module _ {T E P S X : Type 0} where
           })
 
     -- the nodes that were put in meet more
-    pub underway_better : (Good Better : RTreeNode T E P S X → Type 0) (f : (n : RTreeNode T E P S X) → Good n → Better n) (c axis : ℕ) (ts remaining : List T) (old new : List (RTreeNode T E P S X))
+    pub underway_better : (Good Better : RTreeNode T E → Type 0) (f : (n : RTreeNode T E) → Good n → Better n) (c axis : ℕ) (ts remaining : List T) (old new : List (RTreeNode T E))
         → IsUnderway key Good c axis ts remaining old new → IsUnderway key Better c axis ts remaining old new
     underway_better Good Better f c axis ts remaining old new u = record {
       added = u.added;
@@ -249,26 +249,26 @@ module _ {T E P S X : Type 0} where
 
   module _ (v : Boxes E) (o : Objects T E) (most widest axes : ℕ) where
     -- elements, each a leaf
-    pub leaves_parent : (ts : List T) (p : ParentNode T E P S X) → AllByRecursion o.IsValue ts → NoneEmpty v.is_empty o.box_of ts → ts ≢ [] → p.children.items ≡ map Leaf ts → p.envelope ≡ hull v o.box_of ts
+    pub leaves_parent : (ts : List T) (p : ParentNode T E) → AllByRecursion o.IsValue ts → NoneEmpty v.is_empty o.box_of ts → ts ≢ [] → p.children.items ≡ map Leaf ts → p.envelope ≡ hull v o.box_of ts
         → HasRoom most p.children → length p.children.items ≤ widest → IsFresh v o most widest axes 0 p
     leaves_parent ts p own full some are box room narrow =
-        let these : elements_of p ≡ ts = ap (λ ns. all_elements ns) are ∙ leaves_elements E P S X ts in
+        let these : elements_of p ≡ ts = ap (λ ns. all_elements ns) are ∙ leaves_elements E ts in
         let count : length p.children.items ≡ length (elements_of p) = ap length are ∙ length-map ts Leaf ∙ ap length (sym these) in
         record {
           whole = (
             (box ∙ ap (hull v o.box_of) (sym these), λ none. some (sym these ∙ ap (λ ns. all_elements ns) none)),
-            subst (AllByRecursion (IsLeafOf (IsElement v o))) (sym are) (leaves_of E P S X (IsElement v o) ts (all_both o.IsValue (λ t. v.is_empty (o.box_of t) ≡ false) _ (λ t own full. (own, full)) ts own (all_of _ ts full))),
+            subst (AllByRecursion (IsLeafOf (IsElement v o))) (sym are) (leaves_of E (IsElement v o) ts (all_both o.IsValue (λ t. v.is_empty (o.box_of t) ≡ false) _ (λ t own full. (own, full)) ts own (all_of _ ts full))),
           );
-          roomy = (record { narrow = narrow; room = room }, subst (AllByRecursion (IsLeafOf IsAny)) (sym are) (leaves_of E P S X IsAny ts (any_of ts)));
-          cut = subst (AllByRecursion (IsLeafOf IsAny)) (sym are) (leaves_of E P S X IsAny ts (any_of ts));
+          roomy = (record { narrow = narrow; room = room }, subst (AllByRecursion (IsLeafOf IsAny)) (sym are) (leaves_of E IsAny ts (any_of ts)));
+          cut = subst (AllByRecursion (IsLeafOf IsAny)) (sym are) (leaves_of E IsAny ts (any_of ts));
           small = λ few. omega (arith, count, few);
         }
 
-  pub leaves_same : (ts : List T) (ns : List (RTreeNode T E P S X)) → ns ≡ map Leaf ts → IsPermutation ts (all_elements ns)
-  leaves_same ts ns are = subst (IsPermutation ts) (sym (ap (λ ms. all_elements ms) are ∙ leaves_elements E P S X ts)) (IsPermutation-refl ts)
+  pub leaves_same : (ts : List T) (ns : List (RTreeNode T E)) → ns ≡ map Leaf ts → IsPermutation ts (all_elements ns)
+  leaves_same ts ns are = subst (IsPermutation ts) (sym (ap (λ ms. all_elements ms) are ∙ leaves_elements E ts)) (IsPermutation-refl ts)
 
   -- more room for the bound
-  pub fresh_wider : (v : Boxes E) (o : Objects T E) (most old new axes h : ℕ) → old ≤ new → (n : RTreeNode T E P S X) → IsFreshNode v o most old axes h n → IsFreshNode v o most new axes h n
+  pub fresh_wider : (v : Boxes E) (o : Objects T E) (most old new axes h : ℕ) → old ≤ new → (n : RTreeNode T E) → IsFreshNode v o most old axes h n → IsFreshNode v o most new axes h n
   fresh_wider v o most old new axes h le =
       parent_map (IsFresh v o most old axes h) (IsFresh v o most new axes h) (λ p f. record {
         whole = f.whole;
@@ -277,11 +277,11 @@ module _ {T E P S X : Type 0} where
         small = f.small;
       })
     where
-      wider : (q : ParentNode T E P S X) → IsRoomy most old q → IsRoomy most new q
+      wider : (q : ParentNode T E) → IsRoomy most old q → IsRoomy most new q
       wider q r = let narrow = r.narrow in record { narrow = omega (arith, narrow, le); room = r.room }
 
   -- one node is the only part
-  pub one_part : (v : Boxes E) (o : Objects T E) (most widest axes h c k : ℕ) (ts : List T) (old new : List (RTreeNode T E P S X)) (p : ParentNode T E P S X) → k ≡ 0 → new ≡ old ++ Parent p ∷ [] → IsPermutation ts (elements_of p) → IsFresh v o most widest axes h p
+  pub one_part : (v : Boxes E) (o : Objects T E) (most widest axes h c k : ℕ) (ts : List T) (old new : List (RTreeNode T E)) (p : ParentNode T E) → k ≡ 0 → new ≡ old ++ Parent p ∷ [] → IsPermutation ts (elements_of p) → IsFresh v o most widest axes h p
       → AddsParts (λ t axis. v.axis_key (o.box_of t) axis) (IsFreshNode v o most widest axes h) c k ts old new
   one_part v o most widest axes h c k ts old new p here put same fresh =
       let long = length_permutation ts (elements_of p) same in
@@ -301,7 +301,7 @@ module _ {T E P S X : Type 0} where
 
   module _ {IsPoint : List ℤ → Type 0} {v : Boxes E} {o : Objects T E} (laws : EnvelopeLaws IsPoint v) (ok : ObjectLaws v o) (most widest axes : ℕ) where
     -- a parent of leaves that is not too wide, below one of the parts
-    small_below : (c b k : ℕ) (n : ℕ) (p : ParentNode T E P S X) → AllByRecursion (IsFreshNode v o most widest axes b) (children_of p) → ((m : ℕ) → IsPartSize c axes n m → HasNodeOf m (children_of p))
+    small_below : (c b k : ℕ) (n : ℕ) (p : ParentNode T E) → AllByRecursion (IsFreshNode v o most widest axes b) (children_of p) → ((m : ℕ) → IsPartSize c axes n m → HasNodeOf m (children_of p))
         → IsClusterNumber most axes n k → c ≡ max k 2 → EndsAt most axes (suc b) n → HasSmallParent most (suc b) p
     small_below c b k n p good each number is ends =
         let has = each ends.0 (part_of_load most axes n c k ends.0 number is ends.1) in
@@ -310,7 +310,7 @@ module _ {T E P S X : Type 0} where
         (has.0, has.1, subst (IsParentOf (HasSmallParent most b)) (sym q.1) (IsParentOf-Parent (HasSmallParent most b) q.0 (q.2.small (subst (EndsAt most axes b) count ends.2))))
 
     -- parts become the children of a parent
-    pub parts_parent : (c b below old k : ℕ) (ts : List T) (ns : List (RTreeNode T E P S X)) (p : ParentNode T E P S X) → ts ≢ [] → most < length ts → 2 ≤ c → c ^ axes ≤ max most (2 ^ axes) → 0 < axes
+    pub parts_parent : (c b below old k : ℕ) (ts : List T) (ns : List (RTreeNode T E)) (p : ParentNode T E) → ts ≢ [] → most < length ts → 2 ≤ c → c ^ axes ≤ max most (2 ^ axes) → 0 < axes
         → IsClusterNumber most axes (length ts) k → c ≡ max k 2
         → old ≤ widest → AddsParts (λ t axis. v.axis_key (o.box_of t) axis) (IsFreshNode v o most old axes b) c axes ts [] ns → p.children.items ≡ ns → suc b ≡ below → p.envelope ≡ hull v (node_box o.box_of) p.children.items
         → HasRoom most p.children → length p.children.items ≤ widest

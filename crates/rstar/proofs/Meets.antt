@@ -114,18 +114,18 @@ join-nothing : {T E U F : Type 0} (meets : E → F → Bool) (left_box : T → E
 join-nothing meets left_box right_box [] = refl
 join-nothing meets left_box right_box (t ∷ ts) = join-nothing meets left_box right_box ts
 
-module _ {T E P S X U F Q R Y : Type 0} (meets : E → F → Bool) (left_box : T → E) (right_box : U → F) where
+module _ {T E U F : Type 0} (meets : E → F → Bool) (left_box : T → E) (right_box : U → F) where
   -- what the walk gives of a pair of nodes is the join of their elements
-  abbrev pub IsJoined : RTreeNode T E P S X → RTreeNode U F Q R Y → Type 0
+  abbrev pub IsJoined : RTreeNode T E → RTreeNode U F → Type 0
   IsJoined l r = IsPermutation (pairs_at meets left_box right_box l r) (join meets left_box right_box (elements l) (elements r))
 
-  row-joined : (l : RTreeNode T E P S X) (rs : List (RTreeNode U F Q R Y)) → AllByRecursion (IsJoined l) rs
+  row-joined : (l : RTreeNode T E) (rs : List (RTreeNode U F)) → AllByRecursion (IsJoined l) rs
       → IsPermutation (flat_map (λ p. pairs_at meets left_box right_box p.0 p.1) (map (λ r. the_pair l r) rs)) (join meets left_box right_box (elements l) (all_elements rs))
   row-joined l [] all = subst (IsPermutation []) (sym (join-nothing meets left_box right_box (elements l))) (IsPermutation-refl [])
   row-joined l (r ∷ rs) all =
       IsPermutation-trans _ _ _ (IsPermutation-append _ _ _ _ all.0 (row-joined l rs all.1)) (join-right meets left_box right_box (elements l) (elements r) (all_elements rs))
 
-  pub all-joined : (ls : List (RTreeNode T E P S X)) (rs : List (RTreeNode U F Q R Y)) → AllByRecursion (λ l. AllByRecursion (IsJoined l) rs) ls
+  pub all-joined : (ls : List (RTreeNode T E)) (rs : List (RTreeNode U F)) → AllByRecursion (λ l. AllByRecursion (IsJoined l) rs) ls
       → IsPermutation (all_pairs meets left_box right_box ls rs) (join meets left_box right_box (all_elements ls) (all_elements rs))
   all-joined [] rs all = IsPermutation-refl []
   all-joined (l ∷ ls) rs all =

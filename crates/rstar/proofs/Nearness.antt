@@ -89,37 +89,37 @@ module _ {T E : Type 0} {IsPoint : List ℤ → Type 0} {v : Boxes E} {o : Objec
   within-elements : (ts : List T) → ts ≢ [] → AllByRecursion (IsElement v o) ts → (m : ℕ) → v.min_max_dist_2 (hull v o.box_of ts) p ≤ m → AllByRecursion (λ t. m < d.distance_2 t p) ts → ⊥
   within-elements = hull_within law.laws o.box_of (IsElement v o) (λ t h. law.ok t h.0) (λ t h. h.1) p law.point (λ t. d.distance_2 t p) (λ t h. law.near.within t p law.point h.0 h.1)
 
-module _ {T E : Type 0} {IsPoint : List ℤ → Type 0} {v : Boxes E} {o : Objects T E} {d : Distances T} {p : List ℤ} (law : IsMeasured IsPoint v o d p) {P S X : Type 0} where
-  abbrev at : RTreeNode T E P S X → ℕ
+module _ {T E : Type 0} {IsPoint : List ℤ → Type 0} {v : Boxes E} {o : Objects T E} {d : Distances T} {p : List ℤ} (law : IsMeasured IsPoint v o d p) where
+  abbrev at : RTreeNode T E → ℕ
   at = distance_of v d p
 
   -- a whole node of some height
-  abbrev pub IsPart : RTreeNode T E P S X → Type 0
+  abbrev pub IsPart : RTreeNode T E → Type 0
   IsPart n = (h : ℕ) × IsTree (IsInner v o) (IsElement v o) h n
 
-  part-value : (n : RTreeNode T E P S X) → IsPart n → v.IsValue (node_box o.box_of n)
+  part-value : (n : RTreeNode T E) → IsPart n → v.IsValue (node_box o.box_of n)
   part-value n w = subst v.IsValue (sym (box_is_hull law.laws law.ok w.0 n w.1)) (hull-value law.laws o.box_of (elements n) (values-of law.laws law.ok (elements n) (sound v o w.0 n w.1)))
 
-  full_at : (h : ℕ) (n : RTreeNode T E P S X) → IsTree (IsInner v o) (IsElement v o) h n → v.is_empty (node_box o.box_of n) ≡ false
+  full_at : (h : ℕ) (n : RTreeNode T E) → IsTree (IsInner v o) (IsElement v o) h n → v.is_empty (node_box o.box_of n) ≡ false
   full_at zero n w =
       let l = is_leaf (IsElement v o) n w in
-      subst (λ e. v.is_empty e ≡ false) (sym (ap (node_box o.box_of) l.1 ∙ node_box-Leaf T E P S X o.box_of l.0)) l.2.1
+      subst (λ e. v.is_empty e ≡ false) (sym (ap (node_box o.box_of) l.1 ∙ node_box-Leaf T E o.box_of l.0)) l.2.1
   full_at (suc h) n w =
       let q = is_parent _ n w in
       let box = ap (node_box o.box_of) q.1 ∙ node_box-Parent o.box_of q.0 ∙ q.2.0.0 ∙ sym (merged_is_hull law.laws law.ok h (children_of q.0) q.2.1) in
       subst (λ e. v.is_empty e ≡ false) (sym box) (some (full_at h) (children_of q.0) q.2.0.1 q.2.1)
     where
-      some : ((n : RTreeNode T E P S X) → IsTree (IsInner v o) (IsElement v o) h n → v.is_empty (node_box o.box_of n) ≡ false)
-          → (ns : List (RTreeNode T E P S X)) → ns ≢ [] → AllByRecursion (IsTree (IsInner v o) (IsElement v o) h) ns → v.is_empty (hull v (node_box o.box_of) ns) ≡ false
+      some : ((n : RTreeNode T E) → IsTree (IsInner v o) (IsElement v o) h n → v.is_empty (node_box o.box_of n) ≡ false)
+          → (ns : List (RTreeNode T E)) → ns ≢ [] → AllByRecursion (IsTree (IsInner v o) (IsElement v o) h) ns → v.is_empty (hull v (node_box o.box_of) ns) ≡ false
       some each [] none all = absurd (none refl)
       some each (n ∷ ns) none all = hull_full law.laws (node_box o.box_of) (IsTree (IsInner v o) (IsElement v o) h) (λ n w. part-value n (h, w)) each n ns all
 
   -- an element's or a parent's distance is at least that of its box
-  part-near : (n : RTreeNode T E P S X) → IsPart n → v.distance_2 (node_box o.box_of n) p ≤ at n
+  part-near : (n : RTreeNode T E) → IsPart n → v.distance_2 (node_box o.box_of n) p ≤ at n
   part-near n (zero, w) =
       let l = is_leaf (IsElement v o) n w in
-      let box = ap (λ n. v.distance_2 (node_box o.box_of n) p) l.1 ∙ ap (λ e. v.distance_2 e p) (node_box-Leaf T E P S X o.box_of l.0) in
-      let own = ap at l.1 ∙ node_distance-Leaf T E P S X (λ e. v.distance_2 e p) (λ t. d.distance_2 t p) l.0 in
+      let box = ap (λ n. v.distance_2 (node_box o.box_of n) p) l.1 ∙ ap (λ e. v.distance_2 e p) (node_box-Leaf T E o.box_of l.0) in
+      let own = ap at l.1 ∙ node_distance-Leaf T E (λ e. v.distance_2 e p) (λ t. d.distance_2 t p) l.0 in
       let less = law.near.near l.0 p law.point l.2.0 l.2.1 in
       omega (arith, box, own, less)
   part-near n (suc h, w) =
@@ -129,11 +129,11 @@ module _ {T E : Type 0} {IsPoint : List ℤ → Type 0} {v : Boxes E} {o : Objec
       omega (arith, box, own)
 
   -- no element is nearer than its node
-  pub above-node : (n : RTreeNode T E P S X) → IsPart n → AllByRecursion (λ t. at n ≤ d.distance_2 t p) (elements n)
+  pub above-node : (n : RTreeNode T E) → IsPart n → AllByRecursion (λ t. at n ≤ d.distance_2 t p) (elements n)
   above-node n (zero, w) =
       let l = is_leaf (IsElement v o) n w in
-      let own = ap at l.1 ∙ node_distance-Leaf T E P S X (λ e. v.distance_2 e p) (λ t. d.distance_2 t p) l.0 in
-      subst (λ (ts : List T). AllByRecursion (λ t. at n ≤ d.distance_2 t p) ts) (sym (ap elements l.1 ∙ elements-Leaf T E P S X l.0)) (omega (arith, own), tt)
+      let own = ap at l.1 ∙ node_distance-Leaf T E (λ e. v.distance_2 e p) (λ t. d.distance_2 t p) l.0 in
+      subst (λ (ts : List T). AllByRecursion (λ t. at n ≤ d.distance_2 t p) ts) (sym (ap elements l.1 ∙ elements-Leaf T E l.0)) (omega (arith, own), tt)
   above-node n (suc h, w) =
       let q = is_parent _ n w in
       let own = ap at q.1 ∙ node_distance-Parent (λ e. v.distance_2 e p) (λ t. d.distance_2 t p) q.0 ∙ ap (λ e. v.distance_2 e p) q.2.0.0 in
@@ -142,24 +142,24 @@ module _ {T E : Type 0} {IsPoint : List ℤ → Type 0} {v : Boxes E} {o : Objec
       (subst (λ m. AllByRecursion (λ t. m ≤ d.distance_2 t p) (elements_of q.0)) (sym own) all)
 
   -- no child is nearer than its parent
-  pub above-Parent : (q : ParentNode T E P S X) (h : ℕ) → IsTight v o q → AreWhole v o h (children_of q) → AllByRecursion (λ c. v.distance_2 (envelope_of q) p ≤ at c) (children_of q)
+  pub above-Parent : (q : ParentNode T E) (h : ℕ) → IsTight v o q → AreWhole v o h (children_of q) → AllByRecursion (λ c. v.distance_2 (envelope_of q) p ≤ at c) (children_of q)
   above-Parent q h tight below =
       let box = tight ∙ sym (merged_is_hull law.laws law.ok h (children_of q) below) in
       let all = hull_above law.laws (node_box o.box_of) (IsTree (IsInner v o) (IsElement v o) h) (λ n w. part-value n (h, w)) (full_at h) p law.point at (λ n w. part-near n (h, w)) (children_of q) below in
       subst (λ e. AllByRecursion (λ c. v.distance_2 e p ≤ at c) (children_of q)) (sym box) all
 
   -- the children of a parent
-  pub parts : (h : ℕ) (ns : List (RTreeNode T E P S X)) → AreWhole v o h ns → AreWholeNodes v o ns
+  pub parts : (h : ℕ) (ns : List (RTreeNode T E)) → AreWhole v o h ns → AreWholeNodes v o ns
   parts h = all_map (IsTree (IsInner v o) (IsElement v o) h) IsPart (λ n w. (h, w))
 
   -- a parent that waits is tight, with its children
-  pub part-Parent : (q : ParentNode T E P S X) → IsPart (Parent q) → (h : ℕ) × IsTight v o q × AreWhole v o h (children_of q)
+  pub part-Parent : (q : ParentNode T E) → IsPart (Parent q) → (h : ℕ) × IsTight v o q × AreWhole v o h (children_of q)
   part-Parent q (zero, w) = absurd (no_leaf (IsElement v o) q w)
   part-Parent q (suc h, w) = let i = parent_of _ q w in (h, i.0.0, i.1)
 
   -- a whole node has an element
-  some-elements : (h : ℕ) (n : RTreeNode T E P S X) → IsTree (IsInner v o) (IsElement v o) h n → elements n ≢ []
-  some-elements zero n w = λ none. let l = is_leaf (IsElement v o) n w in let one = sym (elements-Leaf T E P S X l.0) ∙ sym (ap elements l.1) ∙ none in cc
+  some-elements : (h : ℕ) (n : RTreeNode T E) → IsTree (IsInner v o) (IsElement v o) h n → elements n ≢ []
+  some-elements zero n w = λ none. let l = is_leaf (IsElement v o) n w in let one = sym (elements-Leaf T E l.0) ∙ sym (ap elements l.1) ∙ none in cc
   some-elements (suc h) n w = λ none.
       let q = is_parent _ n w in
       some (some-elements h) (children_of q.0) q.2.0.1 q.2.1 (sym (elements-Parent q.0) ∙ sym (ap elements q.1) ∙ none)
@@ -168,24 +168,24 @@ module _ {T E : Type 0} {IsPoint : List ℤ → Type 0} {v : Boxes E} {o : Objec
       first-none [] us e = refl
       first-none (t ∷ ts) us e = cc
 
-      some : ((n : RTreeNode T E P S X) → IsTree (IsInner v o) (IsElement v o) h n → elements n ≢ [])
-          → (ns : List (RTreeNode T E P S X)) → ns ≢ [] → AllByRecursion (IsTree (IsInner v o) (IsElement v o) h) ns → all_elements ns ≢ []
+      some : ((n : RTreeNode T E) → IsTree (IsInner v o) (IsElement v o) h n → elements n ≢ [])
+          → (ns : List (RTreeNode T E)) → ns ≢ [] → AllByRecursion (IsTree (IsInner v o) (IsElement v o) h) ns → all_elements ns ≢ []
       some each [] none all = absurd (none refl)
       some each (n ∷ ns) none all = λ e. each n all.0 (first-none (elements n) (all_elements ns) e)
 
   -- not all elements of a node are farther than its min-max distance
-  pub node-within : (n : RTreeNode T E P S X) → IsPart n → (m : ℕ) → v.min_max_dist_2 (node_box o.box_of n) p ≤ m → AllByRecursion (λ t. m < d.distance_2 t p) (elements n) → ⊥
+  pub node-within : (n : RTreeNode T E) → IsPart n → (m : ℕ) → v.min_max_dist_2 (node_box o.box_of n) p ≤ m → AllByRecursion (λ t. m < d.distance_2 t p) (elements n) → ⊥
   node-within n w m le far =
       within-elements law (elements n) (some-elements w.0 n w.1) (sound v o w.0 n w.1) m
       (subst (λ e. v.min_max_dist_2 e p ≤ m) (box_is_hull law.laws law.ok w.0 n w.1) le) far
 
   -- the same of a root: its envelope's distance, and its envelope's min-max distance
-  pub root-below : (root : ParentNode T E P S X) → IsWhole v o root → AllByRecursion (λ t. v.distance_2 (envelope_of root) p ≤ d.distance_2 t p) (elements_of root)
+  pub root-below : (root : ParentNode T E) → IsWhole v o root → AllByRecursion (λ t. v.distance_2 (envelope_of root) p ≤ d.distance_2 t p) (elements_of root)
   root-below root whole =
       subst (λ e. AllByRecursion (λ t. v.distance_2 e p ≤ d.distance_2 t p) (elements_of root)) (sym whole.tight)
       (above-elements law (elements_of root) (all_sound v o whole.height (children_of root) whole.below))
 
-  pub root-within : (root : ParentNode T E P S X) → IsWhole v o root → elements_of root ≢ [] → AllByRecursion (λ t. v.min_max_dist_2 (envelope_of root) p < d.distance_2 t p) (elements_of root) → ⊥
+  pub root-within : (root : ParentNode T E) → IsWhole v o root → elements_of root ≢ [] → AllByRecursion (λ t. v.min_max_dist_2 (envelope_of root) p < d.distance_2 t p) (elements_of root) → ⊥
   root-within root whole some far =
       within-elements law (elements_of root) some (all_sound v o whole.height (children_of root) whole.below) (v.min_max_dist_2 (envelope_of root) p)
       (subst (λ e. v.min_max_dist_2 (hull v o.box_of (elements_of root)) p ≤ v.min_max_dist_2 e p) (sym whole.tight) (omega arith)) far

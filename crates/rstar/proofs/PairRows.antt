@@ -96,35 +96,35 @@ folded-row {A = A} at_leaf at_parent (n ∷ ns) = ap (λ (l : List A). fold_show
 -- ---- what comes after a node
 
 -- a node is a leaf or a parent
-pub node-cases : {T E P S X : Type 0} (n : RTreeNode T E P S X) → ((t : T) × (n ≡ Leaf t)) ⊎ ((p : ParentNode T E P S X) × (n ≡ Parent p))
-node-cases {T} {E} {P} {S} {X} n = by_layer (out-RTreeNode T E P S X n) (sym (roll-out-RTreeNode T E P S X n)) where
-  by_layer : (w : Layer T E P S X) → n ≡ roll-RTreeNode T E P S X w → ((t : T) × (n ≡ Leaf t)) ⊎ ((p : ParentNode T E P S X) × (n ≡ Parent p))
+pub node-cases : {T E : Type 0} (n : RTreeNode T E) → ((t : T) × (n ≡ Leaf t)) ⊎ ((p : ParentNode T E) × (n ≡ Parent p))
+node-cases {T} {E} n = by_layer (out-RTreeNode T E n) (sym (roll-out-RTreeNode T E n)) where
+  by_layer : (w : Layer T E) → n ≡ roll-RTreeNode T E w → ((t : T) × (n ≡ Leaf t)) ⊎ ((p : ParentNode T E) × (n ≡ Parent p))
   by_layer (layer.Leaf t) e = inl (t, e ∙ rolls-Leaf t)
   by_layer (layer.Parent p) e = inr (p, e ∙ rolls-Parent p)
 
-module _ (T E P S X : Type 0) where
-  pub opened_to-Leaf : (t : T) → opened_to {E = E} {P = P} {S = S} {X = X} (Leaf t) ≡ Leaf t ∷ []
+module _ (T E : Type 0) where
+  pub opened_to-Leaf : (t : T) → opened_to {E = E} (Leaf t) ≡ Leaf t ∷ []
   unfolding opened_to
   opened_to-Leaf t = ap (next_nodes (Leaf t)) (outs-Leaf t)
 
-  pub is_leaf-Leaf : (t : T) → is_leaf_node {E = E} {P = P} {S = S} {X = X} (Leaf t) ≡ true
+  pub is_leaf-Leaf : (t : T) → is_leaf_node {E = E} (Leaf t) ≡ true
   unfolding is_leaf_node fold_tree
   is_leaf-Leaf t = refl
 
-  pub count_parents-Leaf : (accepts : E → Bool) (t : T) → count_parents {P = P} {S = S} {X = X} accepts (Leaf t) ≡ 0
+  pub count_parents-Leaf : (accepts : E → Bool) (t : T) → count_parents accepts (Leaf t) ≡ 0
   unfolding count_parents shown fold_tree
   count_parents-Leaf accepts t = refl
 
-module _ {T E P S X : Type 0} where
-  pub opened_to-Parent : (p : ParentNode T E P S X) → opened_to (Parent p) ≡ children_of p
+module _ {T E : Type 0} where
+  pub opened_to-Parent : (p : ParentNode T E) → opened_to (Parent p) ≡ children_of p
   unfolding opened_to
   opened_to-Parent p = ap (next_nodes (Parent p)) (outs-Parent p)
 
-  pub is_leaf-Parent : (p : ParentNode T E P S X) → is_leaf_node (Parent p) ≡ false
+  pub is_leaf-Parent : (p : ParentNode T E) → is_leaf_node (Parent p) ≡ false
   unfolding is_leaf_node
   is_leaf-Parent p = fold_tree-Parent _ _ p
 
-  pub count_parents-Parent : (accepts : E → Bool) (p : ParentNode T E P S X) → count_parents accepts (Parent p) ≡ (if accepts p.envelope then 1 else 0) + total (map (count_parents accepts) (children_of p))
+  pub count_parents-Parent : (accepts : E → Bool) (p : ParentNode T E) → count_parents accepts (Parent p) ≡ (if accepts p.envelope then 1 else 0) + total (map (count_parents accepts) (children_of p))
   unfolding count_parents
   count_parents-Parent accepts p =
       ap (count_shown accepts) (shown-Parent p)
@@ -132,52 +132,52 @@ module _ {T E P S X : Type 0} where
       ∙ ap (λ (n : ℕ). (if accepts p.envelope then 1 else 0) + n) (total-applied shown (count_shown accepts) (children_of p))
 
 -- what a node shows has the same envelope, and what it is opened to comes after it
-module _ {T E P S X : Type 0} where
-  pub shown-box : (box_of : T → E) (n : RTreeNode T E P S X) → shown_box box_of (shown n) ≡ node_box box_of n
+module _ {T E : Type 0} where
+  pub shown-box : (box_of : T → E) (n : RTreeNode T E) → shown_box box_of (shown n) ≡ node_box box_of n
   shown-box box_of n = by_case (node-cases n) where
-    by_case : ((t : T) × (n ≡ Leaf t)) ⊎ ((p : ParentNode T E P S X) × (n ≡ Parent p)) → shown_box box_of (shown n) ≡ node_box box_of n
-    by_case (inl a) = ap (λ m. shown_box box_of (shown m)) a.1 ∙ ap (shown_box box_of) (shown-Leaf T E P S X a.0) ∙ sym (ap (node_box box_of) a.1 ∙ node_box-Leaf T E P S X box_of a.0)
+    by_case : ((t : T) × (n ≡ Leaf t)) ⊎ ((p : ParentNode T E) × (n ≡ Parent p)) → shown_box box_of (shown n) ≡ node_box box_of n
+    by_case (inl a) = ap (λ m. shown_box box_of (shown m)) a.1 ∙ ap (shown_box box_of) (shown-Leaf T E a.0) ∙ sym (ap (node_box box_of) a.1 ∙ node_box-Leaf T E box_of a.0)
     by_case (inr a) = ap (λ m. shown_box box_of (shown m)) a.1 ∙ ap (shown_box box_of) (shown-Parent a.0) ∙ sym (ap (node_box box_of) a.1 ∙ node_box-Parent box_of a.0)
 
-  shown-next : (n : RTreeNode T E P S X) → next_shown (shown n) ≡ map shown (opened_to n)
+  shown-next : (n : RTreeNode T E) → next_shown (shown n) ≡ map shown (opened_to n)
   shown-next n = by_case (node-cases n) where
-    by_case : ((t : T) × (n ≡ Leaf t)) ⊎ ((p : ParentNode T E P S X) × (n ≡ Parent p)) → next_shown (shown n) ≡ map shown (opened_to n)
-    by_case (inl a) = ap (λ m. next_shown (shown m)) a.1 ∙ ap next_shown (shown-Leaf T E P S X a.0) ∙ sym (ap (λ m. map shown (opened_to m)) a.1 ∙ ap (map shown) (opened_to-Leaf T E P S X a.0) ∙ ap (λ s. s ∷ []) (shown-Leaf T E P S X a.0))
+    by_case : ((t : T) × (n ≡ Leaf t)) ⊎ ((p : ParentNode T E) × (n ≡ Parent p)) → next_shown (shown n) ≡ map shown (opened_to n)
+    by_case (inl a) = ap (λ m. next_shown (shown m)) a.1 ∙ ap next_shown (shown-Leaf T E a.0) ∙ sym (ap (λ m. map shown (opened_to m)) a.1 ∙ ap (map shown) (opened_to-Leaf T E a.0) ∙ ap (λ s. s ∷ []) (shown-Leaf T E a.0))
     by_case (inr a) = ap (λ m. next_shown (shown m)) a.1 ∙ ap next_shown (shown-Parent a.0) ∙ nodes-row (map shown (children_of a.0)) ∙ sym (ap (λ m. map shown (opened_to m)) a.1 ∙ ap (map shown) (opened_to-Parent a.0))
 
 -- ---- pairs of nodes
 
-module _ (T E P S X U F Q R Y : Type 0) (meets : E → F → Bool) (left_box : T → E) (right_box : U → F) where
+module _ (T E U F : Type 0) (meets : E → F → Bool) (left_box : T → E) (right_box : U → F) where
   -- a leaf beside a node
-  pub pairs-Leaf : (t : T) (r : RTreeNode U F Q R Y) → pairs_at {P = P} {S = S} {X = X} meets left_box right_box (Leaf t) r ≡ map (λ u. (t, u)) (given (meets (left_box t)) (λ u. meets (left_box t) (right_box u)) r)
+  pub pairs-Leaf : (t : T) (r : RTreeNode U F) → pairs_at meets left_box right_box (Leaf t) r ≡ map (λ u. (t, u)) (given (meets (left_box t)) (λ u. meets (left_box t) (right_box u)) r)
   unfolding pairs_at fold_tree
   pairs-Leaf t r = refl
 
-  pub opens-Leaf : (t : T) (r : RTreeNode U F Q R Y) → opens_at {P = P} {S = S} {X = X} meets left_box right_box (Leaf t) r ≡ reach (meets (left_box t)) r
+  pub opens-Leaf : (t : T) (r : RTreeNode U F) → opens_at meets left_box right_box (Leaf t) r ≡ reach (meets (left_box t)) r
   unfolding opens_at fold_tree
   opens-Leaf t r = refl
 
-  pub meet-Leaf : (t : T) (r : RTreeNode U F Q R Y) → meet {P = P} {S = S} {X = X} meets left_box right_box (Leaf t) r ≡ count_parents (meets (left_box t)) r
+  pub meet-Leaf : (t : T) (r : RTreeNode U F) → meet meets left_box right_box (Leaf t) r ≡ count_parents (meets (left_box t)) r
   unfolding meet count_parents shown fold_tree
   meet-Leaf t r = refl
 
-module _ {T E P S X U F Q R Y : Type 0} (meets : E → F → Bool) (left_box : T → E) (right_box : U → F) where
+module _ {T E U F : Type 0} (meets : E → F → Bool) (left_box : T → E) (right_box : U → F) where
   -- a parent beside a node
-  pub pairs-Parent : (p : ParentNode T E P S X) (r : RTreeNode U F Q R Y) → pairs_at meets left_box right_box (Parent p) r ≡ (if meets p.envelope (node_box right_box r) then all_pairs meets left_box right_box (children_of p) (opened_to r) else [])
+  pub pairs-Parent : (p : ParentNode T E) (r : RTreeNode U F) → pairs_at meets left_box right_box (Parent p) r ≡ (if meets p.envelope (node_box right_box r) then all_pairs meets left_box right_box (children_of p) (opened_to r) else [])
   unfolding pairs_at
   pairs-Parent p r =
-      ap (λ (f : RTreeNode U F Q R Y → List (T × U)). f r) (fold_tree-Parent {A = RTreeNode U F Q R Y → List (T × U)} _ _ p)
+      ap (λ (f : RTreeNode U F → List (T × U)). f r) (fold_tree-Parent {A = RTreeNode U F → List (T × U)} _ _ p)
       ∙ ap (λ (l : List (T × U)). if meets p.envelope (node_box right_box r) then l else []) (flat_map-applied (pairs_at meets left_box right_box) (children_of p) (opened_to r))
 
-  pub opens-Parent : (p : ParentNode T E P S X) (r : RTreeNode U F Q R Y) → opens_at meets left_box right_box (Parent p) r ≡ (if meets p.envelope (node_box right_box r) then 1 + all_opens meets left_box right_box (children_of p) (opened_to r) else 0)
+  pub opens-Parent : (p : ParentNode T E) (r : RTreeNode U F) → opens_at meets left_box right_box (Parent p) r ≡ (if meets p.envelope (node_box right_box r) then 1 + all_opens meets left_box right_box (children_of p) (opened_to r) else 0)
   unfolding opens_at
   opens-Parent p r =
-      ap (λ (f : RTreeNode U F Q R Y → ℕ). f r) (fold_tree-Parent {A = RTreeNode U F Q R Y → ℕ} _ _ p)
+      ap (λ (f : RTreeNode U F → ℕ). f r) (fold_tree-Parent {A = RTreeNode U F → ℕ} _ _ p)
       ∙ ap (λ (n : ℕ). if meets p.envelope (node_box right_box r) then 1 + n else 0) (sum_by-applied (opens_at meets left_box right_box) (children_of p) (opened_to r))
 
   -- a parent beside a node, by the children of both
-  pub meet-row : (e : E) (ls : List (RTreeNode T E P S X)) (r : Shown U F) (rs : List (RTreeNode U F Q R Y)) → next_shown r ≡ map shown rs
-      → meet_shown meets left_box right_box (parent e (row_of (map shown ls))) r ≡ (if meets e (shown_box right_box r) then 1 else 0) + sum_by (λ (q : RTreeNode T E P S X × RTreeNode U F Q R Y). meet meets left_box right_box q.0 q.1) (product ls rs)
+  pub meet-row : (e : E) (ls : List (RTreeNode T E)) (r : Shown U F) (rs : List (RTreeNode U F)) → next_shown r ≡ map shown rs
+      → meet_shown meets left_box right_box (parent e (row_of (map shown ls))) r ≡ (if meets e (shown_box right_box r) then 1 else 0) + sum_by (λ (q : RTreeNode T E × RTreeNode U F). meet meets left_box right_box q.0 q.1) (product ls rs)
   unfolding meet
   meet-row e ls r rs next =
       let from = (if meets e (shown_box right_box r) then 1 else 0) in
@@ -186,40 +186,40 @@ module _ {T E P S X U F Q R Y : Type 0} (meets : E → F → Bool) (left_box : T
       ∙ ap (λ (l : List (Shown U F)). sum_by (λ (p : Shown T E × Shown U F). meet_shown meets left_box right_box p.0 p.1) (product (map shown ls) l)) next
       ∙ sum_by-seen shown shown (meet_shown meets left_box right_box) ls rs)
 
-  pub meet-Parent : (p : ParentNode T E P S X) (r : RTreeNode U F Q R Y) → meet meets left_box right_box (Parent p) r ≡ (if meets p.envelope (node_box right_box r) then 1 else 0) + sum_by (λ (q : RTreeNode T E P S X × RTreeNode U F Q R Y). meet meets left_box right_box q.0 q.1) (product (children_of p) (opened_to r))
+  pub meet-Parent : (p : ParentNode T E) (r : RTreeNode U F) → meet meets left_box right_box (Parent p) r ≡ (if meets p.envelope (node_box right_box r) then 1 else 0) + sum_by (λ (q : RTreeNode T E × RTreeNode U F). meet meets left_box right_box q.0 q.1) (product (children_of p) (opened_to r))
   unfolding meet
   meet-Parent p r =
       ap (λ (l : Shown T E). meet_shown meets left_box right_box l (shown r)) (shown-Parent p)
       ∙ meet-row p.envelope (children_of p) (shown r) (opened_to r) (shown-next r)
-      ∙ ap (λ (f : F). (if meets p.envelope f then 1 else 0) + sum_by (λ (q : RTreeNode T E P S X × RTreeNode U F Q R Y). meet meets left_box right_box q.0 q.1) (product (children_of p) (opened_to r))) (shown-box right_box r)
+      ∙ ap (λ (f : F). (if meets p.envelope f then 1 else 0) + sum_by (λ (q : RTreeNode T E × RTreeNode U F). meet meets left_box right_box q.0 q.1) (product (children_of p) (opened_to r))) (shown-box right_box r)
 
   -- two roots that have children
-  pub meet-roots : (e : E) (f : F) (ls : List (RTreeNode T E P S X)) (rs : List (RTreeNode U F Q R Y))
-      → meet_shown meets left_box right_box (parent e (row_of (map shown ls))) (parent f (row_of (map shown rs))) ≡ (if meets e f then 1 else 0) + sum_by (λ (q : RTreeNode T E P S X × RTreeNode U F Q R Y). meet meets left_box right_box q.0 q.1) (product ls rs)
+  pub meet-roots : (e : E) (f : F) (ls : List (RTreeNode T E)) (rs : List (RTreeNode U F))
+      → meet_shown meets left_box right_box (parent e (row_of (map shown ls))) (parent f (row_of (map shown rs))) ≡ (if meets e f then 1 else 0) + sum_by (λ (q : RTreeNode T E × RTreeNode U F). meet meets left_box right_box q.0 q.1) (product ls rs)
   meet-roots e f ls rs = meet-row e ls (parent f (row_of (map shown rs))) rs (nodes-row (map shown rs))
 
-steps-beside-Leaf : (U F Q R Y : Type 0) (u : U) → steps_beside {F = F} {Q = Q} {R = R} {Y = Y} (Leaf u) ≡ 1
+steps-beside-Leaf : (U F : Type 0) (u : U) → steps_beside {F = F} (Leaf u) ≡ 1
 unfolding steps_beside fold_tree
-steps-beside-Leaf U F Q R Y u = refl
+steps-beside-Leaf U F u = refl
 
-steps-beside-Parent : {U F Q R Y : Type 0} (q : ParentNode U F Q R Y) → steps_beside (Parent q) ≡ 3 + total (map (λ r. 1 + steps_beside r) (children_of q))
+steps-beside-Parent : {U F : Type 0} (q : ParentNode U F) → steps_beside (Parent q) ≡ 3 + total (map (λ r. 1 + steps_beside r) (children_of q))
 unfolding steps_beside
 steps-beside-Parent q = fold_tree-Parent _ _ q ∙ ap (λ n. 3 + n) (total-applied steps_beside (λ n. 1 + n) (children_of q))
 
-module _ (T E P S X U F Q R Y : Type 0) where
-  steps-at-Leaf : (t : T) (r : RTreeNode U F Q R Y) → steps_at {E = E} {P = P} {S = S} {X = X} (Leaf t) r ≡ steps_beside r
+module _ (T E U F : Type 0) where
+  steps-at-Leaf : (t : T) (r : RTreeNode U F) → steps_at {E = E} (Leaf t) r ≡ steps_beside r
   unfolding steps_at fold_tree
   steps-at-Leaf t r = refl
 
-module _ {T E P S X U F Q R Y : Type 0} where
-  steps-at-Parent : (p : ParentNode T E P S X) (r : RTreeNode U F Q R Y) → steps_at (Parent p) r ≡ 1 + all_steps steps_at (children_of p) (opened_to r)
+module _ {T E U F : Type 0} where
+  steps-at-Parent : (p : ParentNode T E) (r : RTreeNode U F) → steps_at (Parent p) r ≡ 1 + all_steps steps_at (children_of p) (opened_to r)
   unfolding steps_at
   steps-at-Parent p r =
-      ap (λ (f : RTreeNode U F Q R Y → ℕ). f r) (fold_tree-Parent {A = RTreeNode U F Q R Y → ℕ} _ _ p)
+      ap (λ (f : RTreeNode U F → ℕ). f r) (fold_tree-Parent {A = RTreeNode U F → ℕ} _ _ p)
       ∙ ap (λ n. 1 + n) (all_steps-applied steps_at (children_of p) (opened_to r))
 
 -- a list with one node
-pub opened-single : {T E P S X : Type 0} (ns rest : List (RTreeNode T E P S X)) (n : RTreeNode T E P S X) → ns ≡ n ∷ rest → length ns ≡ 1 → flat_map opened_to ns ≡ opened_to n
+pub opened-single : {T E : Type 0} (ns rest : List (RTreeNode T E)) (n : RTreeNode T E) → ns ≡ n ∷ rest → length ns ≡ 1 → flat_map opened_to ns ≡ opened_to n
 opened-single ns [] n is one = ap (flat_map opened_to) is ∙ append-nil (opened_to n)
 opened-single ns (m ∷ rest) n is one = let e = ap length is in absurd (omega arith)
 
@@ -232,12 +232,12 @@ sum_by-same f g same [] = refl
 sum_by-same f g same (x ∷ xs) = let a = sum_by-cons f x xs in let b = sum_by-cons g x xs in let c = same x in let d = sum_by-same f g same xs in omega arith
 
 -- two leaves by the test
-pub leaf-found : {T E P S X U F Q R Y : Type 0} (l : RTreeNode T E P S X) (r : RTreeNode U F Q R Y) → both_leaves l r ≡ true → (t : T) × (u : U) × (l ≡ Leaf t) × (r ≡ Leaf u)
-leaf-found {T} {E} {P} {S} {X} {U} {F} {Q} {R} {Y} l r both = by_cases (node-cases l) (node-cases r) where
-  by_cases : ((t : T) × (l ≡ Leaf t)) ⊎ ((p : ParentNode T E P S X) × (l ≡ Parent p)) → ((u : U) × (r ≡ Leaf u)) ⊎ ((q : ParentNode U F Q R Y) × (r ≡ Parent q)) → (t : T) × (u : U) × (l ≡ Leaf t) × (r ≡ Leaf u)
+pub leaf-found : {T E U F : Type 0} (l : RTreeNode T E) (r : RTreeNode U F) → both_leaves l r ≡ true → (t : T) × (u : U) × (l ≡ Leaf t) × (r ≡ Leaf u)
+leaf-found {T} {E} {U} {F} l r both = by_cases (node-cases l) (node-cases r) where
+  by_cases : ((t : T) × (l ≡ Leaf t)) ⊎ ((p : ParentNode T E) × (l ≡ Parent p)) → ((u : U) × (r ≡ Leaf u)) ⊎ ((q : ParentNode U F) × (r ≡ Parent q)) → (t : T) × (u : U) × (l ≡ Leaf t) × (r ≡ Leaf u)
   by_cases (inl a) (inl b) = (a.0, b.0, a.1, b.1)
   by_cases (inr a) b = absurd (true≢false (sym both ∙ ap (λ x. both_leaves x r) a.1 ∙ ap (λ c. if c then is_leaf_node r else false) (is_leaf-Parent a.0)))
-  by_cases (inl a) (inr b) = absurd (true≢false (sym both ∙ ap (λ x. both_leaves x r) a.1 ∙ ap (λ c. if c then is_leaf_node r else false) (is_leaf-Leaf T E P S X a.0) ∙ ap is_leaf_node b.1 ∙ is_leaf-Parent b.0))
+  by_cases (inl a) (inr b) = absurd (true≢false (sym both ∙ ap (λ x. both_leaves x r) a.1 ∙ ap (λ c. if c then is_leaf_node r else false) (is_leaf-Leaf T E a.0) ∙ ap is_leaf_node b.1 ∙ is_leaf-Parent b.0))
 
 -- ---- a pair that does not meet, and one that is opened
 
@@ -245,56 +245,56 @@ if-map : {A B : Type 0} (h : A → B) (b : Bool) (xs : List A) → map h (if b t
 if-map h true xs = refl
 if-map h false xs = refl
 
-steps-row : (T E P S X : Type 0) {U F Q R Y : Type 0} (t : T) (rs : List (RTreeNode U F Q R Y)) → total (map (λ r. 1 + steps_at {E = E} {P = P} {S = S} {X = X} (Leaf t) r) rs) ≡ total (map (λ r. 1 + steps_beside r) rs)
-steps-row T E P S X t [] = refl
-steps-row T E P S X {U} {F} {Q} {R} {Y} t (r ∷ rs) = let a = steps-at-Leaf T E P S X U F Q R Y t r in let b = steps-row T E P S X t rs in omega arith
+steps-row : (T E : Type 0) {U F : Type 0} (t : T) (rs : List (RTreeNode U F)) → total (map (λ r. 1 + steps_at {E = E} (Leaf t) r) rs) ≡ total (map (λ r. 1 + steps_beside r) rs)
+steps-row T E t [] = refl
+steps-row T E {U} {F} t (r ∷ rs) = let a = steps-at-Leaf T E U F t r in let b = steps-row T E t rs in omega arith
 
-module _ (T E P S X U F Q R Y : Type 0) (meets : E → F → Bool) (left_box : T → E) (right_box : U → F) where
+module _ (T E U F : Type 0) (meets : E → F → Bool) (left_box : T → E) (right_box : U → F) where
   -- all of it, of a leaf beside a parent
-  pairs-beside : (t : T) (q : ParentNode U F Q R Y) → pairs_at {P = P} {S = S} {X = X} meets left_box right_box (Leaf t) (Parent q)
-      ≡ (if meets (left_box t) q.envelope then all_pairs {P = P} {S = S} {X = X} meets left_box right_box (Leaf t ∷ []) (children_of q) else [])
+  pairs-beside : (t : T) (q : ParentNode U F) → pairs_at meets left_box right_box (Leaf t) (Parent q)
+      ≡ (if meets (left_box t) q.envelope then all_pairs meets left_box right_box (Leaf t ∷ []) (children_of q) else [])
   pairs-beside t q =
       let tagged : List U → List (T × U) = map (λ u. the_pair t u) in
-      let row = λ (r : RTreeNode U F Q R Y). pairs-Leaf T E P S X U F Q R Y meets left_box right_box t r in
-      let each : map (λ u. the_pair t u) (all_given (meets (left_box t)) (λ u. meets (left_box t) (right_box u)) (children_of q)) ≡ all_pairs {P = P} {S = S} {X = X} meets left_box right_box (Leaf t ∷ []) (children_of q) =
+      let row = λ (r : RTreeNode U F). pairs-Leaf T E U F meets left_box right_box t r in
+      let each : map (λ u. the_pair t u) (all_given (meets (left_box t)) (λ u. meets (left_box t) (right_box u)) (children_of q)) ≡ all_pairs meets left_box right_box (Leaf t ∷ []) (children_of q) =
       map-flat_map (λ u. the_pair t u) (given (meets (left_box t)) (λ u. meets (left_box t) (right_box u))) (children_of q)
-      ∙ flat_map-same (λ r. map (λ u. the_pair t u) (given (meets (left_box t)) (λ u. meets (left_box t) (right_box u)) r)) (pairs_at {P = P} {S = S} {X = X} meets left_box right_box (Leaf t)) (λ r. sym (row r)) (children_of q)
-      ∙ sym (flat_map-row (λ (p : RTreeNode T E P S X × RTreeNode U F Q R Y). pairs_at meets left_box right_box p.0 p.1) (Leaf t) (children_of q)) in
+      ∙ flat_map-same (λ r. map (λ u. the_pair t u) (given (meets (left_box t)) (λ u. meets (left_box t) (right_box u)) r)) (pairs_at meets left_box right_box (Leaf t)) (λ r. sym (row r)) (children_of q)
+      ∙ sym (flat_map-row (λ (p : RTreeNode T E × RTreeNode U F). pairs_at meets left_box right_box p.0 p.1) (Leaf t) (children_of q)) in
       row (Parent q) ∙ ap tagged (given-Parent (meets (left_box t)) (λ u. meets (left_box t) (right_box u)) q)
       ∙ if-map (λ u. the_pair t u) (meets (left_box t) q.envelope) _
       ∙ ap (λ (l : List (T × U)). if meets (left_box t) q.envelope then l else []) each
 
-  opens-beside : (t : T) (q : ParentNode U F Q R Y) → opens_at {P = P} {S = S} {X = X} meets left_box right_box (Leaf t) (Parent q)
-      ≡ (if meets (left_box t) q.envelope then 1 + all_opens {P = P} {S = S} {X = X} meets left_box right_box (Leaf t ∷ []) (children_of q) else 0)
+  opens-beside : (t : T) (q : ParentNode U F) → opens_at meets left_box right_box (Leaf t) (Parent q)
+      ≡ (if meets (left_box t) q.envelope then 1 + all_opens meets left_box right_box (Leaf t ∷ []) (children_of q) else 0)
   opens-beside t q =
-      let row = λ (r : RTreeNode U F Q R Y). opens-Leaf T E P S X U F Q R Y meets left_box right_box t r in
-      let each : all_reach (meets (left_box t)) (children_of q) ≡ all_opens {P = P} {S = S} {X = X} meets left_box right_box (Leaf t ∷ []) (children_of q) =
+      let row = λ (r : RTreeNode U F). opens-Leaf T E U F meets left_box right_box t r in
+      let each : all_reach (meets (left_box t)) (children_of q) ≡ all_opens meets left_box right_box (Leaf t ∷ []) (children_of q) =
       total-map (reach (meets (left_box t))) (children_of q)
-      ∙ sum_by-same (reach (meets (left_box t))) (opens_at {P = P} {S = S} {X = X} meets left_box right_box (Leaf t)) (λ r. sym (row r)) (children_of q)
-      ∙ sym (sum_by-row (λ (p : RTreeNode T E P S X × RTreeNode U F Q R Y). opens_at meets left_box right_box p.0 p.1) (Leaf t) (children_of q)) in
+      ∙ sum_by-same (reach (meets (left_box t))) (opens_at meets left_box right_box (Leaf t)) (λ r. sym (row r)) (children_of q)
+      ∙ sym (sum_by-row (λ (p : RTreeNode T E × RTreeNode U F). opens_at meets left_box right_box p.0 p.1) (Leaf t) (children_of q)) in
       row (Parent q) ∙ reach-Parent (meets (left_box t)) q ∙ ap (λ (n : ℕ). if meets (left_box t) q.envelope then 1 + n else 0) each
 
   -- two leaves
-  pub pairs-leaves : (t : T) (u : U) → pairs_at {P = P} {S = S} {X = X} {Q = Q} {R = R} {Y = Y} meets left_box right_box (Leaf t) (Leaf u) ≡ (if meets (left_box t) (right_box u) then the_pair t u ∷ [] else [])
+  pub pairs-leaves : (t : T) (u : U) → pairs_at meets left_box right_box (Leaf t) (Leaf u) ≡ (if meets (left_box t) (right_box u) then the_pair t u ∷ [] else [])
   pairs-leaves t u =
-      pairs-Leaf T E P S X U F Q R Y meets left_box right_box t (Leaf u)
-      ∙ ap (map (λ u. the_pair t u)) (given-Leaf U F Q R Y (meets (left_box t)) (λ u. meets (left_box t) (right_box u)) u)
+      pairs-Leaf T E U F meets left_box right_box t (Leaf u)
+      ∙ ap (map (λ u. the_pair t u)) (given-Leaf U F (meets (left_box t)) (λ u. meets (left_box t) (right_box u)) u)
       ∙ if-map (λ u. the_pair t u) (meets (left_box t) (right_box u)) (u ∷ [])
 
-  pub opens-leaves : (t : T) (u : U) → opens_at {P = P} {S = S} {X = X} {Q = Q} {R = R} {Y = Y} meets left_box right_box (Leaf t) (Leaf u) ≡ 0
-  opens-leaves t u = opens-Leaf T E P S X U F Q R Y meets left_box right_box t (Leaf u) ∙ reach-Leaf U F Q R Y (meets (left_box t)) u
+  pub opens-leaves : (t : T) (u : U) → opens_at meets left_box right_box (Leaf t) (Leaf u) ≡ 0
+  opens-leaves t u = opens-Leaf T E U F meets left_box right_box t (Leaf u) ∙ reach-Leaf U F (meets (left_box t)) u
 
-module _ {T E P S X U F Q R Y : Type 0} (meets : E → F → Bool) (left_box : T → E) (right_box : U → F) where
-  abbrev pub does_meet : RTreeNode T E P S X → RTreeNode U F Q R Y → Bool
+module _ {T E U F : Type 0} (meets : E → F → Bool) (left_box : T → E) (right_box : U → F) where
+  abbrev pub does_meet : RTreeNode T E → RTreeNode U F → Bool
   does_meet l r = meets (node_box left_box l) (node_box right_box r)
 
   -- a pair that is not of two leaves
-  pub record IsOpened (l : RTreeNode T E P S X) (r : RTreeNode U F Q R Y) : Type 0 where
+  pub record IsOpened (l : RTreeNode T E) (r : RTreeNode U F) : Type 0 where
     pub pairs : pairs_at meets left_box right_box l r ≡ (if does_meet l r then all_pairs meets left_box right_box (opened_to l) (opened_to r) else [])
     pub opens : opens_at meets left_box right_box l r ≡ (if does_meet l r then 1 + all_opens meets left_box right_box (opened_to l) (opened_to r) else 0)
     pub steps : steps_at l r ≡ 1 + all_steps steps_at (opened_to l) (opened_to r)
 
-  opened-from : (l : RTreeNode T E P S X) (r : RTreeNode U F Q R Y) (e : E) (f : F) (ls : List (RTreeNode T E P S X)) (rs : List (RTreeNode U F Q R Y))
+  opened-from : (l : RTreeNode T E) (r : RTreeNode U F) (e : E) (f : F) (ls : List (RTreeNode T E)) (rs : List (RTreeNode U F))
       → e ≡ node_box left_box l → f ≡ node_box right_box r → ls ≡ opened_to l → rs ≡ opened_to r
       → pairs_at meets left_box right_box l r ≡ (if meets e f then all_pairs meets left_box right_box ls rs else [])
       → opens_at meets left_box right_box l r ≡ (if meets e f then 1 + all_opens meets left_box right_box ls rs else 0)
@@ -305,27 +305,27 @@ module _ {T E P S X U F Q R Y : Type 0} (meets : E → F → Bool) (left_box : T
     steps = s ∙ (λ i. 1 + all_steps steps_at (is_ls i) (is_rs i));
   }
 
-  opened-Parent : (p : ParentNode T E P S X) (r : RTreeNode U F Q R Y) → IsOpened (Parent p) r
+  opened-Parent : (p : ParentNode T E) (r : RTreeNode U F) → IsOpened (Parent p) r
   opened-Parent p r =
       opened-from (Parent p) r p.envelope (node_box right_box r) (children_of p) (opened_to r) (sym (node_box-Parent left_box p)) refl (sym (opened_to-Parent p)) refl
       (pairs-Parent meets left_box right_box p r) (opens-Parent meets left_box right_box p r) (steps-at-Parent p r)
 
-  opened-beside : (t : T) (q : ParentNode U F Q R Y) → IsOpened (Leaf t) (Parent q)
+  opened-beside : (t : T) (q : ParentNode U F) → IsOpened (Leaf t) (Parent q)
   opened-beside t q =
-      let a = steps-at-Leaf T E P S X U F Q R Y t (Parent q) in let b = steps-beside-Parent q in let c = steps-row T E P S X t (children_of q) in
-      opened-from (Leaf t) (Parent q) (left_box t) q.envelope (Leaf t ∷ []) (children_of q) (sym (node_box-Leaf T E P S X left_box t)) (sym (node_box-Parent right_box q))
-      (sym (opened_to-Leaf T E P S X t)) (sym (opened_to-Parent q))
-      (pairs-beside T E P S X U F Q R Y meets left_box right_box t q) (opens-beside T E P S X U F Q R Y meets left_box right_box t q) (omega (arith, a, b, c))
+      let a = steps-at-Leaf T E U F t (Parent q) in let b = steps-beside-Parent q in let c = steps-row T E t (children_of q) in
+      opened-from (Leaf t) (Parent q) (left_box t) q.envelope (Leaf t ∷ []) (children_of q) (sym (node_box-Leaf T E left_box t)) (sym (node_box-Parent right_box q))
+      (sym (opened_to-Leaf T E t)) (sym (opened_to-Parent q))
+      (pairs-beside T E U F meets left_box right_box t q) (opens-beside T E U F meets left_box right_box t q) (omega (arith, a, b, c))
 
-  pub opened : (l : RTreeNode T E P S X) (r : RTreeNode U F Q R Y) → both_leaves l r ≡ false → IsOpened l r
+  pub opened : (l : RTreeNode T E) (r : RTreeNode U F) → both_leaves l r ≡ false → IsOpened l r
   opened l r apart = by_left (node-cases l) (node-cases r) where
-    by_left : ((t : T) × (l ≡ Leaf t)) ⊎ ((p : ParentNode T E P S X) × (l ≡ Parent p)) → ((u : U) × (r ≡ Leaf u)) ⊎ ((q : ParentNode U F Q R Y) × (r ≡ Parent q)) → IsOpened l r
+    by_left : ((t : T) × (l ≡ Leaf t)) ⊎ ((p : ParentNode T E) × (l ≡ Parent p)) → ((u : U) × (r ≡ Leaf u)) ⊎ ((q : ParentNode U F) × (r ≡ Parent q)) → IsOpened l r
     by_left (inr a) b = subst (λ x. IsOpened x r) (sym a.1) (opened-Parent a.0 r)
     by_left (inl a) (inr b) = subst (λ x. IsOpened x r) (sym a.1) (subst (λ x. IsOpened (Leaf a.0) x) (sym b.1) (opened-beside a.0 b.0))
-    by_left (inl a) (inl b) = absurd (true≢false (sym (ap (λ x. both_leaves x r) a.1 ∙ ap (λ c. if c then is_leaf_node r else false) (is_leaf-Leaf T E P S X a.0) ∙ ap is_leaf_node b.1 ∙ is_leaf-Leaf U F Q R Y b.0) ∙ apart))
+    by_left (inl a) (inl b) = absurd (true≢false (sym (ap (λ x. both_leaves x r) a.1 ∙ ap (λ c. if c then is_leaf_node r else false) (is_leaf-Leaf T E a.0) ∙ ap is_leaf_node b.1 ∙ is_leaf-Leaf U F b.0) ∙ apart))
 
   -- a pair that does not meet
-  pub passed : (l : RTreeNode T E P S X) (r : RTreeNode U F Q R Y) → does_meet l r ≡ false → (pairs_at meets left_box right_box l r ≡ []) × (opens_at meets left_box right_box l r ≡ 0)
+  pub passed : (l : RTreeNode T E) (r : RTreeNode U F) → does_meet l r ≡ false → (pairs_at meets left_box right_box l r ≡ []) × (opens_at meets left_box right_box l r ≡ 0)
   passed l r apart = by_test (both_leaves l r) refl where
     by_test : (b : Bool) → both_leaves l r ≡ b → (pairs_at meets left_box right_box l r ≡ []) × (opens_at meets left_box right_box l r ≡ 0)
     by_test false is = let o = opened l r is in (
@@ -333,32 +333,32 @@ module _ {T E P S X U F Q R Y : Type 0} (meets : E → F → Bool) (left_box : T
       o.opens ∙ ap (λ (b : Bool). if b then 1 + all_opens meets left_box right_box (opened_to l) (opened_to r) else 0) apart,
     )
     by_test true is = let a = leaf-found l r is in
-        let low : does_meet l r ≡ meets (left_box a.0) (right_box a.1) = (λ i. meets ((ap (node_box left_box) a.2 ∙ node_box-Leaf T E P S X left_box a.0) i) ((ap (node_box right_box) a.3 ∙ node_box-Leaf U F Q R Y right_box a.1) i)) in (
-          (λ i. pairs_at meets left_box right_box (a.2 i) (a.3 i)) ∙ pairs-leaves T E P S X U F Q R Y meets left_box right_box a.0 a.1
+        let low : does_meet l r ≡ meets (left_box a.0) (right_box a.1) = (λ i. meets ((ap (node_box left_box) a.2 ∙ node_box-Leaf T E left_box a.0) i) ((ap (node_box right_box) a.3 ∙ node_box-Leaf U F right_box a.1) i)) in (
+          (λ i. pairs_at meets left_box right_box (a.2 i) (a.3 i)) ∙ pairs-leaves T E U F meets left_box right_box a.0 a.1
               ∙ ap (λ (b : Bool). if b then the_pair a.0 a.1 ∷ [] else []) (sym low ∙ apart),
-          (λ i. opens_at meets left_box right_box (a.2 i) (a.3 i)) ∙ opens-leaves T E P S X U F Q R Y meets left_box right_box a.0 a.1,
+          (λ i. opens_at meets left_box right_box (a.2 i) (a.3 i)) ∙ opens-leaves T E U F meets left_box right_box a.0 a.1,
         )
 
   -- two leaves that meet
-  pub found : (l : RTreeNode T E P S X) (r : RTreeNode U F Q R Y) (t : T) (u : U) → l ≡ Leaf t → r ≡ Leaf u → does_meet l r ≡ true
+  pub found : (l : RTreeNode T E) (r : RTreeNode U F) (t : T) (u : U) → l ≡ Leaf t → r ≡ Leaf u → does_meet l r ≡ true
       → (pairs_at meets left_box right_box l r ≡ the_pair t u ∷ []) × (opens_at meets left_box right_box l r ≡ 0)
   found l r t u is is' meeting =
-      let low : does_meet l r ≡ meets (left_box t) (right_box u) = (λ i. meets ((ap (node_box left_box) is ∙ node_box-Leaf T E P S X left_box t) i) ((ap (node_box right_box) is' ∙ node_box-Leaf U F Q R Y right_box u) i)) in (
-        (λ i. pairs_at meets left_box right_box (is i) (is' i)) ∙ pairs-leaves T E P S X U F Q R Y meets left_box right_box t u
+      let low : does_meet l r ≡ meets (left_box t) (right_box u) = (λ i. meets ((ap (node_box left_box) is ∙ node_box-Leaf T E left_box t) i) ((ap (node_box right_box) is' ∙ node_box-Leaf U F right_box u) i)) in (
+        (λ i. pairs_at meets left_box right_box (is i) (is' i)) ∙ pairs-leaves T E U F meets left_box right_box t u
             ∙ ap (λ (b : Bool). if b then the_pair t u ∷ [] else []) (sym low ∙ meeting),
-        (λ i. opens_at meets left_box right_box (is i) (is' i)) ∙ opens-leaves T E P S X U F Q R Y meets left_box right_box t u,
+        (λ i. opens_at meets left_box right_box (is i) (is' i)) ∙ opens-leaves T E U F meets left_box right_box t u,
       )
 
-pub opened-none : {T E P S X : Type 0} (ns : List (RTreeNode T E P S X)) → length ns ≡ 0 → length ns ≡ 1 → ns ≡ flat_map opened_to ns
+pub opened-none : {T E : Type 0} (ns : List (RTreeNode T E)) → length ns ≡ 0 → length ns ≡ 1 → ns ≡ flat_map opened_to ns
 opened-none ns none one = absurd (omega (arith, none, one))
 
-pub opened-leaf : {T E P S X : Type 0} (ns rest : List (RTreeNode T E P S X)) (n : RTreeNode T E P S X) (t : T) → ns ≡ n ∷ rest → n ≡ Leaf t → length ns ≡ 1 → ns ≡ flat_map opened_to ns
-opened-leaf {T} {E} {P} {S} {X} ns [] n t is leaf one = is ∙ ap (λ x. x ∷ []) leaf ∙ sym (opened_to-Leaf T E P S X t) ∙ ap opened_to (sym leaf) ∙ sym (opened-single ns [] n is one)
+pub opened-leaf : {T E : Type 0} (ns rest : List (RTreeNode T E)) (n : RTreeNode T E) (t : T) → ns ≡ n ∷ rest → n ≡ Leaf t → length ns ≡ 1 → ns ≡ flat_map opened_to ns
+opened-leaf {T} {E} ns [] n t is leaf one = is ∙ ap (λ x. x ∷ []) leaf ∙ sym (opened_to-Leaf T E t) ∙ ap opened_to (sym leaf) ∙ sym (opened-single ns [] n is one)
 opened-leaf ns (m ∷ rest) n t is leaf one = let e = ap length is in absurd (omega arith)
 
-pub steps-positive : {T E P S X U F Q R Y : Type 0} (l : RTreeNode T E P S X) (r : RTreeNode U F Q R Y) → 1 ≤ steps_at l r
-steps-positive {T} {E} {P} {S} {X} {U} {F} {Q} {R} {Y} l r = by_cases (node-cases l) (node-cases r) where
-  by_cases : ((t : T) × (l ≡ Leaf t)) ⊎ ((p : ParentNode T E P S X) × (l ≡ Parent p)) → ((u : U) × (r ≡ Leaf u)) ⊎ ((q : ParentNode U F Q R Y) × (r ≡ Parent q)) → 1 ≤ steps_at l r
+pub steps-positive : {T E U F : Type 0} (l : RTreeNode T E) (r : RTreeNode U F) → 1 ≤ steps_at l r
+steps-positive {T} {E} {U} {F} l r = by_cases (node-cases l) (node-cases r) where
+  by_cases : ((t : T) × (l ≡ Leaf t)) ⊎ ((p : ParentNode T E) × (l ≡ Parent p)) → ((u : U) × (r ≡ Leaf u)) ⊎ ((q : ParentNode U F) × (r ≡ Parent q)) → 1 ≤ steps_at l r
   by_cases (inr a) b = let e = ap (λ x. steps_at x r) a.1 ∙ steps-at-Parent a.0 r in omega (arith, e)
-  by_cases (inl a) (inl b) = let e = ap (λ x. steps_at x r) a.1 ∙ steps-at-Leaf T E P S X U F Q R Y a.0 r ∙ ap steps_beside b.1 ∙ steps-beside-Leaf U F Q R Y b.0 in omega (arith, e)
-  by_cases (inl a) (inr b) = let e = ap (λ x. steps_at x r) a.1 ∙ steps-at-Leaf T E P S X U F Q R Y a.0 r ∙ ap steps_beside b.1 ∙ steps-beside-Parent b.0 in omega (arith, e)
+  by_cases (inl a) (inl b) = let e = ap (λ x. steps_at x r) a.1 ∙ steps-at-Leaf T E U F a.0 r ∙ ap steps_beside b.1 ∙ steps-beside-Leaf U F b.0 in omega (arith, e)
+  by_cases (inl a) (inr b) = let e = ap (λ x. steps_at x r) a.1 ∙ steps-at-Leaf T E U F a.0 r ∙ ap steps_beside b.1 ∙ steps-beside-Parent b.0 in omega (arith, e)

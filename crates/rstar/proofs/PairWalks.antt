@@ -26,7 +26,7 @@ use Rattle.rstar.proofs.Walks.{level-Parent}
 use Rattle.rstar.proofs.PairRows.{the_pair, product-none, node-cases, does_meet, opened, passed, steps-positive, opened_to-Leaf, opened_to-Parent, is_leaf-Leaf, is_leaf-Parent}
 use Rattle.rstar.proofs.Marked.{marked-zero}
 
-steps-after : {T E P S X U F Q R Y : Type 0} (xs ys : List (Frame T E P S X U F Q R Y)) → steps_of_frames (xs ++ ys) ≡ steps_of_frames xs + steps_of_frames ys
+steps-after : {T E U F : Type 0} (xs ys : List (Frame T E U F)) → steps_of_frames (xs ++ ys) ≡ steps_of_frames xs + steps_of_frames ys
 steps-after [] ys = omega arith
 steps-after (x ∷ xs) ys = let r = steps-after xs ys in omega (arith, r)
 
@@ -138,19 +138,19 @@ drop-nil zero = refl
 drop-nil (suc k) = refl
 
 -- a leaf lies on the lowest level
-level-Leaf : (T E P S X : Type 0) (h : ℕ) (t : T) → IsLevel {T = T} {E = E} {P = P} {S = S} {X = X} h (Leaf t) → h ≡ 0
-level-Leaf T E P S X zero t a = refl
-level-Leaf T E P S X (suc h) t a = absurd (no_parent _ t a)
+level-Leaf : (T E : Type 0) (h : ℕ) (t : T) → IsLevel {T = T} {E = E} h (Leaf t) → h ≡ 0
+level-Leaf T E zero t a = refl
+level-Leaf T E (suc h) t a = absurd (no_parent _ t a)
 
-module _ {T E P S X : Type 0} where
+module _ {T E : Type 0} where
   -- what comes after a node lies one level below it, but for a leaf
-  level-opened : (h : ℕ) (n : RTreeNode T E P S X) → IsLevel h n → (k : ℕ) × AllByRecursion (IsLevel k) (opened_to n) × (((is_leaf_node n ≡ true) × (h ≡ 0) × (k ≡ 0)) ⊎ ((is_leaf_node n ≡ false) × (h ≡ k + 1)))
+  level-opened : (h : ℕ) (n : RTreeNode T E) → IsLevel h n → (k : ℕ) × AllByRecursion (IsLevel k) (opened_to n) × (((is_leaf_node n ≡ true) × (h ≡ 0) × (k ≡ 0)) ⊎ ((is_leaf_node n ≡ false) × (h ≡ k + 1)))
   level-opened h n at = by_cases (node-cases n) where
-    by_cases : ((t : T) × (n ≡ Leaf t)) ⊎ ((p : ParentNode T E P S X) × (n ≡ Parent p)) → (k : ℕ) × AllByRecursion (IsLevel k) (opened_to n) × (((is_leaf_node n ≡ true) × (h ≡ 0) × (k ≡ 0)) ⊎ ((is_leaf_node n ≡ false) × (h ≡ k + 1)))
+    by_cases : ((t : T) × (n ≡ Leaf t)) ⊎ ((p : ParentNode T E) × (n ≡ Parent p)) → (k : ℕ) × AllByRecursion (IsLevel k) (opened_to n) × (((is_leaf_node n ≡ true) × (h ≡ 0) × (k ≡ 0)) ⊎ ((is_leaf_node n ≡ false) × (h ≡ k + 1)))
     by_cases (inl a) =
-        let low = level-Leaf T E P S X h a.0 (subst (IsLevel h) a.1 at) in
-        let alone : opened_to n ≡ n ∷ [] = ap opened_to a.1 ∙ opened_to-Leaf T E P S X a.0 ∙ ap (λ x. x ∷ []) (sym a.1) in
-        (0, subst (AllByRecursion (IsLevel 0)) (sym alone) (subst (λ k. IsLevel k n) low at, tt), inl (ap is_leaf_node a.1 ∙ is_leaf-Leaf T E P S X a.0, low, refl))
+        let low = level-Leaf T E h a.0 (subst (IsLevel h) a.1 at) in
+        let alone : opened_to n ≡ n ∷ [] = ap opened_to a.1 ∙ opened_to-Leaf T E a.0 ∙ ap (λ x. x ∷ []) (sym a.1) in
+        (0, subst (AllByRecursion (IsLevel 0)) (sym alone) (subst (λ k. IsLevel k n) low at, tt), inl (ap is_leaf_node a.1 ∙ is_leaf-Leaf T E a.0, low, refl))
     by_cases (inr a) =
         let down = level-Parent h a.0 (subst (IsLevel h) a.1 at) in
         (down.0, subst (AllByRecursion (IsLevel down.0)) (sym (ap opened_to a.1 ∙ opened_to-Parent a.0)) down.2, inr (ap is_leaf_node a.1 ∙ is_leaf-Parent a.0, down.1))
@@ -163,51 +163,51 @@ levels-lower b b' h k h' k' apart (inl a) (inr c) = omega (arith, a.1, a.2, c.1)
 levels-lower b b' h k h' k' apart (inr a) (inl c) = omega (arith, a.1, c.1, c.2)
 levels-lower b b' h k h' k' apart (inr a) (inr c) = omega (arith, a.1, c.1)
 
-module _ {T E P S X U F Q R Y : Type 0} (meets : E → F → Bool) (left_box : T → E) (right_box : U → F) where
+module _ {T E U F : Type 0} (meets : E → F → Bool) (left_box : T → E) (right_box : U → F) where
   -- ---- frames at the end
 
-  frames-after : (n m : ℕ) (xs ys : List (Frame T E P S X U F Q R Y)) → m + length xs ≡ n → AreFrames meets left_box right_box n xs → AreFrames meets left_box right_box m ys → AreFrames meets left_box right_box n (xs ++ ys)
+  frames-after : (n m : ℕ) (xs ys : List (Frame T E U F)) → m + length xs ≡ n → AreFrames meets left_box right_box n xs → AreFrames meets left_box right_box m ys → AreFrames meets left_box right_box n (xs ++ ys)
   frames-after n m [] ys e is more = let same : m ≡ n = omega (arith, e) in subst (λ k. AreFrames meets left_box right_box k ys) same more
   frames-after zero m (x ∷ xs) ys e is more = absurd is
   frames-after (suc n) m (x ∷ xs) ys e is more = (is.0, frames-after n m xs ys (omega (arith, e)) is.1 more)
 
-  pub frames-along : (n m : ℕ) → n ≡ m → (xs ys : List (Frame T E P S X U F Q R Y)) → xs ≡ ys → AreFrames meets left_box right_box n xs → AreFrames meets left_box right_box m ys
+  pub frames-along : (n m : ℕ) → n ≡ m → (xs ys : List (Frame T E U F)) → xs ≡ ys → AreFrames meets left_box right_box n xs → AreFrames meets left_box right_box m ys
   frames-along n m same xs ys is at = subst (λ k. AreFrames meets left_box right_box k ys) same (subst (AreFrames meets left_box right_box n) is at)
 
-  frames-last : (n : ℕ) (xs : List (Frame T E P S X U F Q R Y)) (x : Frame T E P S X U F Q R Y) → AreFrames meets left_box right_box n (xs ++ x ∷ []) → (k : ℕ) × (k + 1 + length xs ≡ n) × AreFrames meets left_box right_box n xs × IsFrame meets left_box right_box k x
+  frames-last : (n : ℕ) (xs : List (Frame T E U F)) (x : Frame T E U F) → AreFrames meets left_box right_box n (xs ++ x ∷ []) → (k : ℕ) × (k + 1 + length xs ≡ n) × AreFrames meets left_box right_box n xs × IsFrame meets left_box right_box k x
   frames-last zero [] x is = absurd is
   frames-last zero (y ∷ xs) x is = absurd is
   frames-last (suc n) [] x is = (n, omega arith, tt, is.0)
   frames-last (suc n) (y ∷ xs) x is = let r = frames-last n xs x is.1 in (r.0, omega (arith, r.1), (is.0, r.2), r.3)
 
-  pub one-frame : (n k : ℕ) (x : Frame T E P S X U F Q R Y) → n ≡ k + 1 → IsFrame meets left_box right_box k x → AreFrames meets left_box right_box n (x ∷ [])
+  pub one-frame : (n k : ℕ) (x : Frame T E U F) → n ≡ k + 1 → IsFrame meets left_box right_box k x → AreFrames meets left_box right_box n (x ∷ [])
   one-frame zero k x e at = absurd (omega (arith, e))
   one-frame (suc n) k x e at = let same : k ≡ n = omega (arith, e) in (subst (λ m. IsFrame meets left_box right_box m x) same at, tt)
 
-  two-frames : (n k : ℕ) (x y : Frame T E P S X U F Q R Y) → n ≡ k + 1 → 1 ≤ k → IsFrame meets left_box right_box k x → ((j : ℕ) → j + 1 ≡ k → IsFrame meets left_box right_box j y) → AreFrames meets left_box right_box n (x ∷ y ∷ [])
+  two-frames : (n k : ℕ) (x y : Frame T E U F) → n ≡ k + 1 → 1 ≤ k → IsFrame meets left_box right_box k x → ((j : ℕ) → j + 1 ≡ k → IsFrame meets left_box right_box j y) → AreFrames meets left_box right_box n (x ∷ y ∷ [])
   two-frames zero k x y e some at next = absurd (omega (arith, e))
   two-frames (suc zero) k x y e some at next = absurd (omega (arith, e, some))
   two-frames (suc (suc n)) k x y e some at next = let same : k ≡ suc n = omega (arith, e) in (subst (λ m. IsFrame meets left_box right_box m x) same at, (next n (omega (arith, e)), tt))
 
-  pairs-after : (xs ys : List (Frame T E P S X U F Q R Y)) → pairs_from_frames meets left_box right_box (xs ++ ys) ≡ pairs_from_frames meets left_box right_box ys ++ pairs_from_frames meets left_box right_box xs
+  pairs-after : (xs ys : List (Frame T E U F)) → pairs_from_frames meets left_box right_box (xs ++ ys) ≡ pairs_from_frames meets left_box right_box ys ++ pairs_from_frames meets left_box right_box xs
   pairs-after [] ys = sym (append-nil _)
   pairs-after (x ∷ xs) ys =
       let here = pairs_below meets left_box right_box (met_of x ++ unasked_of x) in
       ap (λ l. l ++ here) (pairs-after xs ys) ∙ append_assoc (pairs_from_frames meets left_box right_box ys) (pairs_from_frames meets left_box right_box xs) here
 
-  opens-after : (xs ys : List (Frame T E P S X U F Q R Y)) → opens_from_frames meets left_box right_box (xs ++ ys) ≡ opens_from_frames meets left_box right_box xs + opens_from_frames meets left_box right_box ys
+  opens-after : (xs ys : List (Frame T E U F)) → opens_from_frames meets left_box right_box (xs ++ ys) ≡ opens_from_frames meets left_box right_box xs + opens_from_frames meets left_box right_box ys
   opens-after [] ys = omega arith
   opens-after (x ∷ xs) ys = let r = opens-after xs ys in omega (arith, r)
 
   -- the last frame is replaced by others, which give the same but for what was given, and open the same but for what was opened
-  pub record IsMove (frame : Frame T E P S X U F Q R Y) (news : List (Frame T E P S X U F Q R Y)) (gives : List (T × U)) (opens : ℕ) : Type 0 where
+  pub record IsMove (frame : Frame T E U F) (news : List (Frame T E U F)) (gives : List (T × U)) (opens : ℕ) : Type 0 where
     pub pairs : pairs_below meets left_box right_box (met_of frame ++ unasked_of frame) ≡ gives ++ pairs_from_frames meets left_box right_box news
     pub opened : opens_below meets left_box right_box (met_of frame ++ unasked_of frame) ≡ opens + opens_from_frames meets left_box right_box news
     pub room : (k : ℕ) → IsFrame meets left_box right_box k frame → AreFrames meets left_box right_box (k + 1) news
     pub nearer : steps_of_frames news < steps_of_frame frame
 
-  module _ {frame : Frame T E P S X U F Q R Y} {news : List (Frame T E P S X U F Q R Y)} {gives : List (T × U)} {opens : ℕ} (move : IsMove frame news gives opens)
-      (left old new : List (Frame T E P S X U F Q R Y)) (was : old ≡ left ++ frame ∷ []) (is : new ≡ left ++ news) where
+  module _ {frame : Frame T E U F} {news : List (Frame T E U F)} {gives : List (T × U)} {opens : ℕ} (move : IsMove frame news gives opens)
+      (left old new : List (Frame T E U F)) (was : old ≡ left ++ frame ∷ []) (is : new ≡ left ++ news) where
     pub move-pairs : pairs_from_frames meets left_box right_box old ≡ gives ++ pairs_from_frames meets left_box right_box new
     move-pairs =
         ap (pairs_from_frames meets left_box right_box) was ∙ pairs-after left (frame ∷ [])
@@ -226,7 +226,7 @@ module _ {T E P S X U F Q R Y : Type 0} (meets : E → F → Bool) (left_box : T
         frames-along (n + 1) (m + 1) (ap (λ k. k + 1) (sym same)) (left ++ news) new (sym is)
         (frames-after (n + 1) (last.0 + 1) left news last.1 last.2 (move.room last.0 last.3))
 
-    pub move-count : (root : ParentNode T E P S X) (root' : ParentNode U F Q R Y) (count count' : ℕ) → count' ≡ min (count + opens) usize_max
+    pub move-count : (root : ParentNode T E) (root' : ParentNode U F) (count count' : ℕ) → count' ≡ min (count + opens) usize_max
         → CountsPairs meets left_box right_box root root' old count → CountsPairs meets left_box right_box root root' new count'
     move-count root root' count count' more h =
         let a = ap (opens_from_frames meets left_box right_box) was in let b = ap (opens_from_frames meets left_box right_box) is in
@@ -235,20 +235,20 @@ module _ {T E P S X U F Q R Y : Type 0} (meets : E → F → Bool) (left_box : T
 
   -- ---- pairs of nodes
 
-  abbrev pairs_of : RTreeNode T E P S X × RTreeNode U F Q R Y → List (T × U)
+  abbrev pairs_of : RTreeNode T E × RTreeNode U F → List (T × U)
   pairs_of p = pairs_at meets left_box right_box p.0 p.1
 
-  abbrev opens_of : RTreeNode T E P S X × RTreeNode U F Q R Y → ℕ
+  abbrev opens_of : RTreeNode T E × RTreeNode U F → ℕ
   opens_of p = opens_at meets left_box right_box p.0 p.1
 
-  abbrev asked_step : RTreeNode T E P S X × RTreeNode U F Q R Y → ℕ
+  abbrev asked_step : RTreeNode T E × RTreeNode U F → ℕ
   asked_step p = 1 + steps_of_pair p
 
-  abbrev pub meets_pair : RTreeNode T E P S X × RTreeNode U F Q R Y → Bool
+  abbrev pub meets_pair : RTreeNode T E × RTreeNode U F → Bool
   meets_pair p = does_meet meets left_box right_box p.0 p.1
 
   -- those that do not meet give nothing
-  kept-pairs : (ps : List (RTreeNode T E P S X × RTreeNode U F Q R Y)) → pairs_below meets left_box right_box ps ≡ pairs_below meets left_box right_box (filter meets_pair ps)
+  kept-pairs : (ps : List (RTreeNode T E × RTreeNode U F)) → pairs_below meets left_box right_box ps ≡ pairs_below meets left_box right_box (filter meets_pair ps)
   kept-pairs [] = refl
   kept-pairs (p ∷ ps) = by_test (meets_pair p) refl (kept-pairs ps) where
     by_test : (b : Bool) → meets_pair p ≡ b → pairs_below meets left_box right_box ps ≡ pairs_below meets left_box right_box (filter meets_pair ps)
@@ -256,7 +256,7 @@ module _ {T E P S X U F Q R Y : Type 0} (meets : E → F → Bool) (left_box : T
     by_test true is rest = ap (λ w. pairs_of p ++ w) rest
     by_test false is rest = ap (λ w. w ++ pairs_below meets left_box right_box ps) (passed meets left_box right_box p.0 p.1 is).0 ∙ rest
 
-  kept-opens : (ps : List (RTreeNode T E P S X × RTreeNode U F Q R Y)) → opens_below meets left_box right_box ps ≡ opens_below meets left_box right_box (filter meets_pair ps)
+  kept-opens : (ps : List (RTreeNode T E × RTreeNode U F)) → opens_below meets left_box right_box ps ≡ opens_below meets left_box right_box (filter meets_pair ps)
   kept-opens [] = refl
   kept-opens (p ∷ ps) = by_test (meets_pair p) refl (kept-opens ps) where
     by_test : (b : Bool) → meets_pair p ≡ b → opens_below meets left_box right_box ps ≡ opens_below meets left_box right_box (filter meets_pair ps)
@@ -265,7 +265,7 @@ module _ {T E P S X U F Q R Y : Type 0} (meets : E → F → Bool) (left_box : T
     by_test false is rest = let a = sum_by-cons opens_of p ps in let b = (passed meets left_box right_box p.0 p.1 is).1 in omega (arith, a, b, rest)
 
   -- each pair that was asked is a step
-  kept-steps : (ps : List (RTreeNode T E P S X × RTreeNode U F Q R Y)) → sum_by steps_of_pair (filter meets_pair ps) + length ps ≤ sum_by asked_step ps
+  kept-steps : (ps : List (RTreeNode T E × RTreeNode U F)) → sum_by steps_of_pair (filter meets_pair ps) + length ps ≤ sum_by asked_step ps
   kept-steps [] = omega arith
   kept-steps (p ∷ ps) = by_test (meets_pair p) (kept-steps ps) where
     by_test : (b : Bool) → sum_by steps_of_pair (filter meets_pair ps) + length ps ≤ sum_by asked_step ps
@@ -273,7 +273,7 @@ module _ {T E P S X U F Q R Y : Type 0} (meets : E → F → Bool) (left_box : T
     by_test true rest = let a = sum_by-cons steps_of_pair p (filter meets_pair ps) in let b = sum_by-cons asked_step p ps in omega (arith, a, b, rest)
     by_test false rest = let b = sum_by-cons asked_step p ps in omega (arith, b, rest)
 
-  kept-met : (h k : ℕ) (ps : List (RTreeNode T E P S X × RTreeNode U F Q R Y)) → AllByRecursion (λ p. IsLevel h p.0 × IsLevel k p.1) ps → AllByRecursion (IsMetPair meets left_box right_box h k) (filter meets_pair ps)
+  kept-met : (h k : ℕ) (ps : List (RTreeNode T E × RTreeNode U F)) → AllByRecursion (λ p. IsLevel h p.0 × IsLevel k p.1) ps → AllByRecursion (IsMetPair meets left_box right_box h k) (filter meets_pair ps)
   kept-met h k [] all = tt
   kept-met h k (p ∷ ps) all = by_test (meets_pair p) refl (kept-met h k ps all.1) where
     by_test : (b : Bool) → meets_pair p ≡ b → AllByRecursion (IsMetPair meets left_box right_box h k) (filter meets_pair ps)
@@ -283,7 +283,7 @@ module _ {T E P S X U F Q R Y : Type 0} (meets : E → F → Bool) (left_box : T
 
   -- ---- a frame of which nothing was asked
 
-  module _ (ls : Bor (List (RTreeNode T E P S X))) (asked rights : Bor (List (RTreeNode U F Q R Y))) where
+  module _ (ls : Bor (List (RTreeNode T E))) (asked rights : Bor (List (RTreeNode U F))) where
     fresh-met : met_of (frame_of ls asked 0 rights rights) ≡ []
     fresh-met = marked-zero (product (take (rows_beside rights.now) ls.now) asked.now)
 
@@ -301,7 +301,7 @@ module _ {T E P S X U F Q R Y : Type 0} (meets : E → F → Bool) (left_box : T
   -- ---- the moves of a step
 
   -- a frame with nothing left on the left
-  pub move-drop : (frame : Frame T E P S X U F Q R Y) → frame.lefts.now ≡ [] → IsMove frame [] [] 0
+  pub move-drop : (frame : Frame T E U F) → frame.lefts.now ≡ [] → IsMove frame [] [] 0
   move-drop frame none =
       let k = rows_beside frame.rights.now in
       let met : met_of frame ≡ [] = ap (λ l. marked_items frame.marks (product l frame.asked.now)) (ap (take k) none ∙ take-nil k) in
@@ -315,7 +315,7 @@ module _ {T E P S X U F Q R Y : Type 0} (meets : E → F → Bool) (left_box : T
       }
 
   -- those that were asked together are read
-  pub move-row : (ls more : Bor (List (RTreeNode T E P S X))) (asked later rights : Bor (List (RTreeNode U F Q R Y))) (marks : ℕ) → more.now ≡ drop (rows_beside rights.now) ls.now → 0 < length ls.now
+  pub move-row : (ls more : Bor (List (RTreeNode T E))) (asked later rights : Bor (List (RTreeNode U F))) (marks : ℕ) → more.now ≡ drop (rows_beside rights.now) ls.now → 0 < length ls.now
       → met_of (frame_of ls asked marks later rights) ≡ [] → later.now ≡ [] → IsMove (frame_of ls asked marks later rights) ((frame_of more asked 0 rights rights) ∷ []) [] 0
   move-row ls more asked later rights marks is some none over =
       let k = rows_beside rights.now in
@@ -344,7 +344,7 @@ module _ {T E P S X U F Q R Y : Type 0} (meets : E → F → Bool) (left_box : T
       }
 
   -- the next nodes on the right are asked
-  pub move-ask : (ls : Bor (List (RTreeNode T E P S X))) (asked later chunk rest rights : Bor (List (RTreeNode U F Q R Y))) (marks more : ℕ) → met_of (frame_of ls asked marks later rights) ≡ []
+  pub move-ask : (ls : Bor (List (RTreeNode T E))) (asked later chunk rest rights : Bor (List (RTreeNode U F))) (marks more : ℕ) → met_of (frame_of ls asked marks later rights) ≡ []
       → later.now ≡ chunk.now ++ rest.now → 0 < length chunk.now → 0 < length (take (rows_beside rights.now) ls.now) → (rest.now ≡ []) ⊎ (length (take (rows_beside rights.now) ls.now) ≤ 1)
       → marked_items more (product (take (rows_beside rights.now) ls.now) chunk.now) ≡ filter meets_pair (product (take (rows_beside rights.now) ls.now) chunk.now)
       → IsMove (frame_of ls asked marks later rights) ((frame_of ls chunk more rest rights) ∷ []) [] 0
@@ -395,12 +395,12 @@ module _ {T E P S X U F Q R Y : Type 0} (meets : E → F → Bool) (left_box : T
 
   -- ---- a pair that is read
 
-  module _ (ls : Bor (List (RTreeNode T E P S X))) (asked later rights : Bor (List (RTreeNode U F Q R Y))) (marks more : ℕ) (l : RTreeNode T E P S X) (r : RTreeNode U F Q R Y)
+  module _ (ls : Bor (List (RTreeNode T E))) (asked later rights : Bor (List (RTreeNode U F))) (marks more : ℕ) (l : RTreeNode T E) (r : RTreeNode U F)
       (first : met_of (frame_of ls asked marks later rights) ≡ the_pair l r ∷ met_of (frame_of ls asked more later rights)) where
-    abbrev read_old : Frame T E P S X U F Q R Y
+    abbrev read_old : Frame T E U F
     read_old = frame_of ls asked marks later rights
 
-    abbrev read_new : Frame T E P S X U F Q R Y
+    abbrev read_new : Frame T E U F
     read_new = frame_of ls asked more later rights
 
     -- it meets
@@ -455,8 +455,8 @@ module _ {T E P S X U F Q R Y : Type 0} (meets : E → F → Bool) (left_box : T
     open-room at inner = let low = lower at inner in omega (arith, at.fits, low.4)
 
     -- a pair that is opened
-    module _ (ls' : Bor (List (RTreeNode T E P S X))) (rs' : Bor (List (RTreeNode U F Q R Y))) (inner : both_leaves l r ≡ false) (down : ls'.now ≡ opened_to l) (down' : rs'.now ≡ opened_to r) where
-      abbrev below_frame : Frame T E P S X U F Q R Y
+    module _ (ls' : Bor (List (RTreeNode T E))) (rs' : Bor (List (RTreeNode U F))) (inner : both_leaves l r ≡ false) (down : ls'.now ≡ opened_to l) (down' : rs'.now ≡ opened_to r) where
+      abbrev below_frame : Frame T E U F
       below_frame = (frame_of ls' asked 0 rs' rs')
 
       below-pairs : does_meet meets left_box right_box l r ≡ true → pairs_at meets left_box right_box l r ≡ pairs_below meets left_box right_box (met_of below_frame ++ unasked_of below_frame)
@@ -496,15 +496,15 @@ module _ {T E P S X U F Q R Y : Type 0} (meets : E → F → Bool) (left_box : T
           }
 
   -- room for a push, where the frame that is read wants some
-  pub path-room : (room : ℕ) (xs : List (Frame T E P S X U F Q R Y)) (x : Frame T E P S X U F Q R Y) → AreFrames meets left_box right_box (room + 1) (xs ++ x ∷ []) → ((k : ℕ) → IsFrame meets left_box right_box k x → 1 ≤ k) → length xs < room
+  pub path-room : (room : ℕ) (xs : List (Frame T E U F)) (x : Frame T E U F) → AreFrames meets left_box right_box (room + 1) (xs ++ x ∷ []) → ((k : ℕ) → IsFrame meets left_box right_box k x → 1 ≤ k) → length xs < room
   path-room room xs x at wants = let last = frames-last (room + 1) xs x at in let k = wants last.0 last.3 in omega (arith, last.1, k)
 
   -- the frame that is read is one
-  pub last-frame : (room : ℕ) (xs : List (Frame T E P S X U F Q R Y)) (x : Frame T E P S X U F Q R Y) → AreFrames meets left_box right_box (room + 1) (xs ++ x ∷ []) → (k : ℕ) × IsFrame meets left_box right_box k x
+  pub last-frame : (room : ℕ) (xs : List (Frame T E U F)) (x : Frame T E U F) → AreFrames meets left_box right_box (room + 1) (xs ++ x ∷ []) → (k : ℕ) × IsFrame meets left_box right_box k x
   last-frame room xs x at = let last = frames-last (room + 1) xs x at in (last.0, last.3)
 
   -- a step after a move that gives nothing
-  pub step-after : (old mid new : IntersectionIterator T U E P S X F Q R Y) (r : PairStep T U) → mid.left.now ≡ old.left.now → mid.right.now ≡ old.right.now
+  pub step-after : (old mid new : IntersectionIterator T U E F) (r : PairStep T U) → mid.left.now ≡ old.left.now → mid.right.now ≡ old.right.now
       → pairs_by meets left_box right_box old ≡ pairs_by meets left_box right_box mid → steps_of_frames (frames_of mid) < steps_of_frames (frames_of old)
       → IsPairStep meets left_box right_box mid r new → IsPairStep meets left_box right_box old r new
   step-after old mid new r left right same less step = record {
@@ -527,14 +527,14 @@ module _ {T E P S X U F Q R Y : Type 0} (meets : E → F → Bool) (left_box : T
 
   -- ---- the count, of the same roots
 
-  module _ (left left' : ParentNode T E P S X) (right right' : ParentNode U F Q R Y) where
+  module _ (left left' : ParentNode T E) (right right' : ParentNode U F) where
     same-meet : left ≡ left' → right ≡ right' → meet_of_roots meets left_box right_box left right ≡ meet_of_roots meets left_box right_box left' right'
     same-meet e e' = (λ i. meet_of_roots meets left_box right_box (e i) (e' i))
 
-    pub count-at_most : {frames : List (Frame T E P S X U F Q R Y)} {opened : ℕ} → left ≡ left' → right ≡ right' → CountsPairs meets left_box right_box left right frames opened
+    pub count-at_most : {frames : List (Frame T E U F)} {opened : ℕ} → left ≡ left' → right ≡ right' → CountsPairs meets left_box right_box left right frames opened
         → opened ≤ meet_of_roots meets left_box right_box left' right'
     count-at_most e e' h = let same = same-meet e e' in omega (arith, h.all, h.counted)
 
-    pub count-ended : {frames : List (Frame T E P S X U F Q R Y)} {opened : ℕ} → left ≡ left' → right ≡ right' → opens_from_frames meets left_box right_box frames ≡ 0 → CountsPairs meets left_box right_box left right frames opened
+    pub count-ended : {frames : List (Frame T E U F)} {opened : ℕ} → left ≡ left' → right ≡ right' → opens_from_frames meets left_box right_box frames ≡ 0 → CountsPairs meets left_box right_box left right frames opened
         → opened ≡ min (meet_of_roots meets left_box right_box left' right') usize_max
     count-ended e e' nothing h = let same = same-meet e e' in omega (arith, h.all, h.counted, nothing)

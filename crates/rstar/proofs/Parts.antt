@@ -106,94 +106,94 @@ module _ {A : Type 0} where
   shorter_removed (x ∷ l) zero = omega arith
   shorter_removed (x ∷ l) (suc i) = let rest = shorter_removed l i in omega arith
 
-module _ {T E P S X : Type 0} where
-  pub elements_split : (l : List (RTreeNode T E P S X)) (i : ℕ) (n : RTreeNode T E P S X) → i < length l → n ≡ get_or l i n
+module _ {T E : Type 0} where
+  pub elements_split : (l : List (RTreeNode T E)) (i : ℕ) (n : RTreeNode T E) → i < length l → n ≡ get_or l i n
       → all_elements l ≡ all_elements (take i l) ++ (elements n ++ all_elements (drop (suc i) l))
   elements_split l i n within read = ap all_elements (split_at l i n within read) ∙ flat_map-append elements (take i l) (n ∷ drop (suc i) l)
 
-  pub elements_set : (l : List (RTreeNode T E P S X)) (i : ℕ) (m : RTreeNode T E P S X) → i < length l
+  pub elements_set : (l : List (RTreeNode T E)) (i : ℕ) (m : RTreeNode T E) → i < length l
       → all_elements (set l i m) ≡ all_elements (take i l) ++ (elements m ++ all_elements (drop (suc i) l))
   elements_set l i m within = ap all_elements (set_split l i m within) ∙ flat_map-append elements (take i l) (m ∷ drop (suc i) l)
 
-  pub elements_removed : (l : List (RTreeNode T E P S X)) (i : ℕ) → all_elements (remove l i) ≡ all_elements (take i l) ++ all_elements (drop (suc i) l)
+  pub elements_removed : (l : List (RTreeNode T E)) (i : ℕ) → all_elements (remove l i) ≡ all_elements (take i l) ++ all_elements (drop (suc i) l)
   elements_removed l i = flat_map-append elements (take i l) (drop (suc i) l)
 
 drop_none : {A : Type 0} (i : ℕ) → drop {A = A} i [] ≡ []
 drop_none zero = refl
 drop_none (suc i) = refl
 
-pub past_nothing : {T : Type 0} (E P S X : Type 0) (selects : T → Bool) (path : List ℕ) → IsPast {T = T} {E = E} {P = P} {S = S} {X = X} selects path []
-past_nothing E P S X selects [] = tt
-past_nothing {T} E P S X selects (i ∷ path) = (
-  subst (λ (ns : List (RTreeNode T E P S X)). NoneSelected selects (all_elements ns)) (sym (drop_none (0 - i))) tt,
-  subst (λ (ns : List (RTreeNode T E P S X)). IsPast selects path (first_children ns)) (sym (drop_none (0 - suc i))) (past_nothing E P S X selects path),
+pub past_nothing : {T : Type 0} (E : Type 0) (selects : T → Bool) (path : List ℕ) → IsPast {T = T} {E = E} selects path []
+past_nothing E selects [] = tt
+past_nothing {T} E selects (i ∷ path) = (
+  subst (λ (ns : List (RTreeNode T E)). NoneSelected selects (all_elements ns)) (sym (drop_none (0 - i))) tt,
+  subst (λ (ns : List (RTreeNode T E)). IsPast selects path (first_children ns)) (sym (drop_none (0 - suc i))) (past_nothing E selects path),
 )
 
-module _ {T E P S X : Type 0} where
+module _ {T E : Type 0} where
   module _ (selects : T → Bool) where
-    pub past_parts : (path : List ℕ) (ns : List (RTreeNode T E P S X)) → IsPast selects path ns
+    pub past_parts : (path : List ℕ) (ns : List (RTreeNode T E)) → IsPast selects path ns
         → NoneSelected selects (all_elements (drop (length ns - first_number path) ns)) × IsPast selects (lower_numbers path) (first_children (drop (length ns - suc (first_number path)) ns))
-    past_parts [] ns past = (subst (λ (l : List (RTreeNode T E P S X)). NoneSelected selects (all_elements l)) (sym (drop_all ns)) tt, tt)
+    past_parts [] ns past = (subst (λ (l : List (RTreeNode T E)). NoneSelected selects (all_elements l)) (sym (drop_all ns)) tt, tt)
     past_parts (i ∷ path) ns past = past
 
-    pub past_made : (path : List ℕ) (ns : List (RTreeNode T E P S X)) (i : ℕ) → NoneSelected selects (all_elements (drop (length ns - i) ns))
+    pub past_made : (path : List ℕ) (ns : List (RTreeNode T E)) (i : ℕ) → NoneSelected selects (all_elements (drop (length ns - i) ns))
         → IsPast selects (lower_numbers path) (first_children (drop (length ns - suc i) ns)) → IsPast selects (with_first path i) ns
     past_made [] ns i behind below = tt
     past_made (j ∷ path) ns i behind below = (behind, below)
 
-    pub past_zeros : (n : ℕ) (ns : List (RTreeNode T E P S X)) → IsPast selects (replicate n 0) ns
+    pub past_zeros : (n : ℕ) (ns : List (RTreeNode T E)) → IsPast selects (replicate n 0) ns
     past_zeros zero ns = tt
     past_zeros (suc n) ns = (
-      subst (λ (l : List (RTreeNode T E P S X)). NoneSelected selects (all_elements l)) (sym (drop_all ns)) tt,
+      subst (λ (l : List (RTreeNode T E)). NoneSelected selects (all_elements l)) (sym (drop_all ns)) tt,
       past_zeros n (first_children (drop (length ns - 1) ns)),
     )
 
 -- envelopes that are kept at a place: of no nodes
-rest_of_none : {T E : Type 0} (P S X : Type 0) (v : Boxes E) (o : Objects T E) (rest : Option (Rest E)) (i : ℕ) → IsRest {P = P} {S = S} {X = X} v o rest i []
-rest_of_none P S X v o None i = tt
-rest_of_none P S X v o (Some r) i = λ within. absurd (omega (arith, within))
+rest_of_none : {T E : Type 0} (v : Boxes E) (o : Objects T E) (rest : Option (Rest E)) (i : ℕ) → IsRest v o rest i []
+rest_of_none v o None i = tt
+rest_of_none v o (Some r) i = λ within. absurd (omega (arith, within))
 
-pub rest_nothing : {T E : Type 0} (P S X : Type 0) (v : Boxes E) (o : Objects T E) (rest : Option (Rest E)) (path : List ℕ) → IsRestAt {P = P} {S = S} {X = X} v o rest path []
-rest_nothing P S X v o rest [] = tt
-rest_nothing {T} {E} P S X v o rest (i ∷ path) = (
-  λ last. rest_of_none P S X v o rest i,
-  subst (λ (ns : List (RTreeNode T E P S X)). IsRestAt v o rest path (first_children ns)) (sym (drop_none (0 - suc i))) (rest_nothing P S X v o rest path),
+pub rest_nothing : {T E : Type 0} (v : Boxes E) (o : Objects T E) (rest : Option (Rest E)) (path : List ℕ) → IsRestAt v o rest path []
+rest_nothing v o rest [] = tt
+rest_nothing {T} {E} v o rest (i ∷ path) = (
+  λ last. rest_of_none v o rest i,
+  subst (λ (ns : List (RTreeNode T E)). IsRestAt v o rest path (first_children ns)) (sym (drop_none (0 - suc i))) (rest_nothing v o rest path),
 )
 
-module _ {T E P S X : Type 0} (v : Boxes E) (o : Objects T E) where
+module _ {T E : Type 0} (v : Boxes E) (o : Objects T E) where
   -- none is
-  pub rest_none : (path : List ℕ) (ns : List (RTreeNode T E P S X)) → IsRestAt v o None path ns
+  pub rest_none : (path : List ℕ) (ns : List (RTreeNode T E)) → IsRestAt v o None path ns
   rest_none [] ns = tt
   rest_none (i ∷ path) ns = (λ last. tt, rest_none path (first_children (drop (length ns - suc i) ns)))
 
-  pub rest_itself : (rest : Option (Rest E)) (path : List ℕ) (ns : List (RTreeNode T E P S X)) → IsRestAt v o rest path ns
+  pub rest_itself : (rest : Option (Rest E)) (path : List ℕ) (ns : List (RTreeNode T E)) → IsRestAt v o rest path ns
       → IsRestAt v o rest (with_first path (first_number path)) ns
   rest_itself rest [] ns at = tt
   rest_itself rest (i ∷ path) ns at = at
 
-  pub rest_lower : (rest : Option (Rest E)) (path : List ℕ) (i : ℕ) (ns : List (RTreeNode T E P S X)) → IsRestAt v o rest (with_first path i) ns
+  pub rest_lower : (rest : Option (Rest E)) (path : List ℕ) (i : ℕ) (ns : List (RTreeNode T E)) → IsRestAt v o rest (with_first path i) ns
       → IsRestAt v o rest (lower_numbers path) (first_children (drop (length ns - suc i) ns))
   rest_lower rest [] i ns at = tt
   rest_lower rest (j ∷ path) i ns at = at.1
 
-  pub rest_here : (rest : Option (Rest E)) (path : List ℕ) (i : ℕ) (ns : List (RTreeNode T E P S X)) → length path ≡ 1 → IsRestAt v o rest (with_first path i) ns → IsRest v o rest i ns
+  pub rest_here : (rest : Option (Rest E)) (path : List ℕ) (i : ℕ) (ns : List (RTreeNode T E)) → length path ≡ 1 → IsRestAt v o rest (with_first path i) ns → IsRest v o rest i ns
   rest_here rest [] i ns one at = absurd (omega (arith, one))
   rest_here rest (j ∷ path) i ns one at = at.0 (omega (arith, one))
 
-  pub rest_made : (rest : Option (Rest E)) (path : List ℕ) (i : ℕ) (ns : List (RTreeNode T E P S X)) → (length path ≡ 1 → IsRest v o rest i ns)
+  pub rest_made : (rest : Option (Rest E)) (path : List ℕ) (i : ℕ) (ns : List (RTreeNode T E)) → (length path ≡ 1 → IsRest v o rest i ns)
       → IsRestAt v o rest (lower_numbers path) (first_children (drop (length ns - suc i) ns)) → IsRestAt v o rest (with_first path i) ns
   rest_made rest [] i ns here below = tt
   rest_made rest (j ∷ path) i ns here below = (λ last. here (omega (arith, last)), below)
 
   -- it stays where the nodes in front do
-  pub rest_stays : (rest : Option (Rest E)) (i j k : ℕ) (ns ns' : List (RTreeNode T E P S X)) → i ≤ j → length ns' ≤ length ns → length ns' ≤ k + suc j → take k ns' ≡ take k ns
+  pub rest_stays : (rest : Option (Rest E)) (i j k : ℕ) (ns ns' : List (RTreeNode T E)) → i ≤ j → length ns' ≤ length ns → length ns' ≤ k + suc j → take k ns' ≡ take k ns
       → IsRest v o rest i ns → IsRest v o rest j ns'
   rest_stays None i j k ns ns' on short over same rest = tt
   rest_stays (Some r) i j k ns ns' on short over same rest = λ within.
       let before = rest (omega (arith, within)) in
       let front : take r.count ns' ≡ take r.count ns = take_less r.count k ns' ns (omega (arith, within)) same in
       record {
-        values = subst (λ (l : List (RTreeNode T E P S X)). AllByRecursion (λ n. v.IsValue (node_box o.box_of n)) l) (sym front) before.values;
+        values = subst (λ (l : List (RTreeNode T E)). AllByRecursion (λ n. v.IsValue (node_box o.box_of n)) l) (sym front) before.values;
         merged = before.merged ∙ ap (hull v (node_box o.box_of)) (sym front);
       }
 

@@ -18,19 +18,19 @@ use Rattle.rstar.specs.Neighbors.{Search, IsNeighbor, HasBegun, GivesNeighbor, s
 use Rattle.rstar.specs.Searches.{NodeSearch, Item, waiting_nodes, waiting_at, calls_at, waiting_of, held_by, calls_left, IsUnrefused, CountsOpenings, IsRunning, IsReady, IsReadyAt}
 use Rattle.rstar.proofs.Searches.{fresh-counted, all-far-fewer}
 
-module _ {T E P S X O : Type 0} where
-  many_at : (stage : Stage) (root : ParentNode T E P S X) (ws : List (Item T E P S X O)) → IsUnrefused stage → calls_at stage root ws ≡ length (all_elements (waiting_at stage root ws)) + 1
+module _ {T E S O : Type 0} where
+  many_at : (stage : Stage) (root : ParentNode T E) (ws : List (Item T E S O)) → IsUnrefused stage → calls_at stage root ws ≡ length (all_elements (waiting_at stage root ws)) + 1
   many_at Fresh root ws h = refl
   many_at Running root ws h = refl
   many_at Ended root ws h = absurd h
 
-  many : (s : NodeSearch T E P S X O) → IsUnrefused s.stage → size (calls_left s) ≡ length (all_elements (waiting_of s)) + 1
+  many : (s : NodeSearch T E S O) → IsUnrefused s.stage → size (calls_left s) ≡ length (all_elements (waiting_of s)) + 1
   many s = many_at s.stage s.root.now (held_by s)
 
-  none_at : (stage : Stage) (root : ParentNode T E P S X) (ws : List (Item T E P S X O)) → stage ≡ Ended → calls_at stage root ws ≡ 0
+  none_at : (stage : Stage) (root : ParentNode T E) (ws : List (Item T E S O)) → stage ≡ Ended → calls_at stage root ws ≡ 0
   none_at stage root ws e = ap (λ v. calls_at v root ws) e
 
-  module _ (v : Boxes E) (d : Distances T) (p : List ℤ) (s t : NodeSearch T E P S X O) where
+  module _ (v : Boxes E) (d : Distances T) (p : List ℤ) (s t : NodeSearch T E S O) where
     -- a neighbour more
     pub given-fewer : (x : T) → IsNeighbor v d p s.root.now (waiting_of s) (waiting_of t) x → t.stage ≡ Running → IsUnrefused s.stage → size (calls_left t) < size (calls_left s)
     given-fewer x gives on going =
@@ -47,18 +47,18 @@ module _ {T E P S X O : Type 0} where
         omega (arith, before, after)
 
 -- until a refusal, the parents opened are those that do not wait
-counted-at : {T E P S X O : Type 0} (v : Boxes E) (d : Distances T) (p : List ℤ) (compare : S → S → Ordering) (ties : RTreeNode T E P S X → RTreeNode T E P S X → Ordering) (value : S → ℤ) (o : Objects T E) (stage : Stage) (root : ParentNode T E P S X) (heap : Held (Item T E P S X O)) (opened : ℕ)
+counted-at : {T E S O : Type 0} (v : Boxes E) (d : Distances T) (p : List ℤ) (compare : S → S → Ordering) (ties : RTreeNode T E → RTreeNode T E → Ordering) (value : S → ℤ) (o : Objects T E) (stage : Stage) (root : ParentNode T E) (heap : Held (Item T E S O)) (opened : ℕ)
     → IsReadyAt v d p compare ties value o stage root heap opened → IsUnrefused stage → CountsOpenings root (waiting_at stage root (items_of heap)) opened
 counted-at v d p compare ties value o Fresh root heap opened ready going = subst (CountsOpenings root (Parent root ∷ [])) (sym ready.2) (fresh-counted root)
 counted-at v d p compare ties value o Running root heap opened ready going = ready.counted
 counted-at v d p compare ties value o Ended root heap opened ready going = absurd going
 
-pub counted : {T E P S X O : Type 0} (v : Boxes E) (d : Distances T) (p : List ℤ) (compare : S → S → Ordering) (ties : RTreeNode T E P S X → RTreeNode T E P S X → Ordering) (value : S → ℤ) (o : Objects T E) (s : NodeSearch T E P S X O) → IsReady v d p compare ties value o s → IsUnrefused s.stage
+pub counted : {T E S O : Type 0} (v : Boxes E) (d : Distances T) (p : List ℤ) (compare : S → S → Ordering) (ties : RTreeNode T E → RTreeNode T E → Ordering) (value : S → ℤ) (o : Objects T E) (s : NodeSearch T E S O) → IsReady v d p compare ties value o s → IsUnrefused s.stage
     → CountsOpenings s.root.now (waiting_of s) s.opened
 counted v d p compare ties value o s ready going = counted-at v d p compare ties value o s.stage s.root.now s.heap s.opened ready going
 
 -- the parents opened, and those farther than what was given, are no more than there are
-module _ {T E P S X O : Type 0} (v : Boxes E) (d : Distances T) (p : List ℤ) (compare : S → S → Ordering) (ties : RTreeNode T E P S X → RTreeNode T E P S X → Ordering) (value : S → ℤ) (o : Objects T E) (s t : NodeSearch T E P S X O)
+module _ {T E S O : Type 0} (v : Boxes E) (d : Distances T) (p : List ℤ) (compare : S → S → Ordering) (ties : RTreeNode T E → RTreeNode T E → Ordering) (value : S → ℤ) (o : Objects T E) (s t : NodeSearch T E S O)
     (ready : IsReady v d p compare ties value o t) (same : t.root.now ≡ s.root.now) where
   running : t.stage ≡ Running → IsRunning v d p compare ties value o t.root.now t.heap t.opened
   running on = subst (λ stage. IsReadyAt v d p compare ties value o stage t.root.now t.heap t.opened) on ready
@@ -97,25 +97,25 @@ ends stage (Some (Ok x)) h = tt
 ends stage (Some (Err x)) h = λ going. subst IsUnrefused h going
 
 -- what a call gives leaves fewer
-pub fewer-left : {T E P S X O Z : Type 0} (v : Boxes E) (d : Distances T) (p : List ℤ) (s t : NodeSearch T E P S X O) (r : Option (Result (Bor T × S) Z)) → IfSome r (λ x. IfOk x (λ y. IsNeighbor v d p s.root.now (waiting_of s) (waiting_of t) y.0.now))
+pub fewer-left : {T E S O Z : Type 0} (v : Boxes E) (d : Distances T) (p : List ℤ) (s t : NodeSearch T E S O) (r : Option (Result (Bor T × S) Z)) → IfSome r (λ x. IfOk x (λ y. IsNeighbor v d p s.root.now (waiting_of s) (waiting_of t) y.0.now))
     → IfSome r (λ x. IfOk x (λ _. t.stage ≡ Running)) → IfSome r (λ x. IfErr x (λ _. t.stage ≡ Ended)) → IfSome r (λ _. IsUnrefused s.stage) → OnSome r (size (calls_left t) < size (calls_left s))
 fewer-left v d p s t None gives on refused going = tt
 fewer-left v d p s t (Some (Ok y)) gives on refused going = given-fewer v d p s t y.0.now gives on going
 fewer-left v d p s t (Some (Err z)) gives on refused going = refused-fewer v d p s t refused going
 
 -- a search that was made has begun
-pub has-begun : {T E P S X O : Type 0} (s : NodeSearch T E P S X O) (root : ParentNode T E P S X) (point : P) → s.root.now ≡ root → s.stage ≡ Fresh → s.opened ≡ 0 → HasBegun root point (shown s point)
-has-begun {T} {E} {P} {S} {X} s root point same fresh none = record {
+pub has-begun : {T E P S O : Type 0} (s : NodeSearch T E S O) (root : ParentNode T E) (point : P) → s.root.now ≡ root → s.stage ≡ Fresh → s.opened ≡ 0 → HasBegun root point (shown s point)
+has-begun {T} {E} {P} {S} s root point same fresh none = record {
   root = same;
   point = refl;
-  waiting = ap (λ stage. waiting_at stage s.root.now (held_by s)) fresh ∙ ap (λ (q : ParentNode T E P S X). Parent q ∷ []) same;
+  waiting = ap (λ stage. waiting_at stage s.root.now (held_by s)) fresh ∙ ap (λ (q : ParentNode T E). Parent q ∷ []) same;
   opened = none;
   going_on = subst IsUnrefused (sym fresh) tt;
 }
 
 -- what a call of a search gives, as what it shows
-module _ {T E P S X O A Z : Type 0} (v : Boxes E) (d : Distances T) (axes : ℕ) (coord : P → ℕ → ℤ) (compare : S → S → Ordering) (ties : RTreeNode T E P S X → RTreeNode T E P S X → Ordering) (value : S → ℤ) (o : Objects T E)
-    (s t : NodeSearch T E P S X O) (point : P) (element : A → T) (r : Option (Result A Z)) where
+module _ {T E P S O A Z : Type 0} (v : Boxes E) (d : Distances T) (axes : ℕ) (coord : P → ℕ → ℤ) (compare : S → S → Ordering) (ties : RTreeNode T E → RTreeNode T E → Ordering) (value : S → ℤ) (o : Objects T E)
+    (s t : NodeSearch T E S O) (point : P) (element : A → T) (r : Option (Result A Z)) where
   pub gives-neighbor : t.root ≡ s.root → IsReady v d (table axes (coord point)) compare ties value o t → IfSome r (λ x. IfOk x (λ y. IsNeighbor v d (table axes (coord point)) s.root.now (waiting_of s) (waiting_of t) (element y)))
       → IfNone r (IsUnrefused s.stage → all_elements (waiting_of s) ≡ []) → IfNone r (IsUnrefused s.stage → waiting_of t ≡ []) → IfNone r (IsUnrefused s.stage → t.stage ≡ Running)
       → IfSome r (λ x. IfErr x (λ _. 0 < all_parents (waiting_of s))) → IfSome r (λ x. IfOk x (λ _. t.stage ≡ Running)) → IfSome r (λ x. IfErr x (λ _. t.stage ≡ Ended)) → IfSome r (λ _. IsUnrefused s.stage)
@@ -136,16 +136,16 @@ module _ {T E P S X O A Z : Type 0} (v : Boxes E) (d : Distances T) (axes : ℕ)
         ends = ends t.stage r last;
         once = once;
         stays_ended = ended;
-        opened = λ going. subst (λ (q : ParentNode T E P S X). t.opened ≡ min (parents_of q - all_parents (waiting_of t)) usize_max) root (count going).counts;
-        fewer = λ going. subst (λ (q : ParentNode T E P S X). all_parents (waiting_of t) ≤ parents_of q) root (count going).fewer;
+        opened = λ going. subst (λ (q : ParentNode T E). t.opened ≡ min (parents_of q - all_parents (waiting_of t)) usize_max) root (count going).counts;
+        fewer = λ going. subst (λ (q : ParentNode T E). all_parents (waiting_of t) ≤ parents_of q) root (count going).fewer;
       }
 
 -- the same of an iterator that gives the elements alone
-module _ {T E P S X Z : Type 0} (v : Boxes E) (d : Distances T) (axes : ℕ) (coord : P → ℕ → ℤ) (old new : Search T E P S X) where
+module _ {T E P Z : Type 0} (v : Boxes E) (d : Distances T) (axes : ℕ) (coord : P → ℕ → ℤ) (old new : Search T E P) where
   abbrev Gives : {A : Type 0} → (A → T) → Option (Result A Z) → Type 0
   Gives element r = GivesNeighbor v d axes coord element old r new
 
-  pub given-ok : (y : Bor T × S) → Gives (λ x. x.0.now) (Some (Ok y)) → Gives (λ x. x.now) (Some (Ok y.0))
+  pub given-ok : {S : Type 0} (y : Bor T × S) → Gives (λ x. x.0.now) (Some (Ok y)) → Gives (λ x. x.now) (Some (Ok y.0))
   given-ok y told = record {
     root = told.root;
     point = told.point;
@@ -163,7 +163,7 @@ module _ {T E P S X Z : Type 0} (v : Boxes E) (d : Distances T) (axes : ℕ) (co
     fewer = told.fewer;
   }
 
-  pub given-err : (z : Z) → Gives {A = Bor T × S} (λ x. x.0.now) (Some (Err z)) → Gives {A = Bor T} (λ x. x.now) (Some (Err z))
+  pub given-err : {S : Type 0} (z : Z) → Gives {A = Bor T × S} (λ x. x.0.now) (Some (Err z)) → Gives {A = Bor T} (λ x. x.now) (Some (Err z))
   given-err z told = record {
     root = told.root;
     point = told.point;
@@ -181,7 +181,7 @@ module _ {T E P S X Z : Type 0} (v : Boxes E) (d : Distances T) (axes : ℕ) (co
     fewer = told.fewer;
   }
 
-  pub given-none : Gives {A = Bor T × S} (λ x. x.0.now) None → Gives {A = Bor T} (λ x. x.now) None
+  pub given-none : {S : Type 0} → Gives {A = Bor T × S} (λ x. x.0.now) None → Gives {A = Bor T} (λ x. x.now) None
   given-none told = record {
     root = told.root;
     point = told.point;

@@ -44,12 +44,12 @@ lesser x y r a b h k e = e ∙ ap (λ w. int_min w y) h ∙ ap (λ w. int_min (p
 
 -- ---- items of the heap
 
-module _ {T E P S X O : Type 0} (w : Item T E P S X O) (ws us : List (Item T E P S X O)) (put : IsPermutation (w ∷ ws) us) where
+module _ {T E S O : Type 0} (w : Item T E S O) (ws us : List (Item T E S O)) (put : IsPermutation (w ∷ ws) us) where
   nodes : IsPermutation (w.node.now ∷ waiting_nodes ws) (waiting_nodes us)
-  nodes = IsPermutation-map (λ (v : Item T E P S X O). v.node.now) (w ∷ ws) us put
+  nodes = IsPermutation-map (λ (v : Item T E S O). v.node.now) (w ∷ ws) us put
 
   -- one more node waits
-  pub pushed-nodes : (rest : List (RTreeNode T E P S X)) → IsPermutation (w.node.now ∷ (waiting_nodes ws ++ rest)) (waiting_nodes us ++ rest)
+  pub pushed-nodes : (rest : List (RTreeNode T E)) → IsPermutation (w.node.now ∷ (waiting_nodes ws ++ rest)) (waiting_nodes us ++ rest)
   pushed-nodes rest = IsPermutation-append_left rest _ _ nodes
 
   pub pushed-parents : all_parents (waiting_nodes us) ≡ parents w.node.now + all_parents (waiting_nodes ws)
@@ -57,12 +57,12 @@ module _ {T E P S X O : Type 0} (w : Item T E P S X O) (ws us : List (Item T E P
 
 -- ---- the nodes that are left
 
-module _ {T E P S X : Type 0} (v : Boxes E) (o : Objects T E) (d : Distances T) (p : List ℤ) (value : S → ℤ) (all : List T) where
-  abbrev Pruned : List (RTreeNode T E P S X) → Option S → Type 0
+module _ {T E S : Type 0} (v : Boxes E) (o : Objects T E) (d : Distances T) (p : List ℤ) (value : S → ℤ) (all : List T) where
+  abbrev Pruned : List (RTreeNode T E) → Option S → Type 0
   Pruned = IsPruned v o d p value all
 
   -- their order does not matter
-  pub same-nodes : (ns ms : List (RTreeNode T E P S X)) (bound : Option S) → IsPermutation ns ms → Pruned ns bound → Pruned ms bound
+  pub same-nodes : (ns ms : List (RTreeNode T E)) (bound : Option S) → IsPermutation ns ms → Pruned ns bound → Pruned ms bound
   same-nodes ns ms bound same s =
       let flat = IsPermutation-flat_map elements ns ms same in
       record {
@@ -78,19 +78,19 @@ module _ {T E P S X : Type 0} (v : Boxes E) (o : Objects T E) (d : Distances T) 
       bounds cut (Some x) flat h = record { limit = h.limit; at = h.at; above = h.above; within = λ far. h.within (all_along (λ t. h.limit < d.distance_2 t p) _ _ (IsPermutation-sym _ _ flat) far) }
 
   -- where none is left, there was no element
-  pub pruned-none : (ns : List (RTreeNode T E P S X)) (bound : Option S) → ns ≡ [] → Pruned ns bound → all ≡ []
+  pub pruned-none : (ns : List (RTreeNode T E)) (bound : Option S) → ns ≡ [] → Pruned ns bound → all ≡ []
   pruned-none ns bound e s = nil-length all (sym (length_permutation _ _ s.bag) ∙ ap length (ap (λ l. all_elements l ++ s.cut) e ∙ none-cut s.cut bound s.bounded))
     where
       none-cut : (cut : List T) (b : Option S) → MatchOption b (cut ≡ []) (λ s. IsBound (λ t. d.distance_2 t p) (all_elements ns) cut (value s)) → cut ≡ []
       none-cut cut None h = h
       none-cut cut (Some x) h = absurd (h.within (subst (λ l. AllByRecursion (λ t. h.limit < d.distance_2 t p) (all_elements l)) (sym e) tt))
 
-module _ {T E : Type 0} {IsPoint : List ℤ → Type 0} {v : Boxes E} {o : Objects T E} {d : Distances T} {p : List ℤ} (law : IsMeasured IsPoint v o d p) {P S X : Type 0} (value : S → ℤ) (all : List T) where
-  abbrev Left : List (RTreeNode T E P S X) → Option S → Type 0
+module _ {T E : Type 0} {IsPoint : List ℤ → Type 0} {v : Boxes E} {o : Objects T E} {d : Distances T} {p : List ℤ} (law : IsMeasured IsPoint v o d p) {S : Type 0} (value : S → ℤ) (all : List T) where
+  abbrev Left : List (RTreeNode T E) → Option S → Type 0
   Left = IsPruned v o d p value all
 
   -- a node that does not lie above the bound lowers it to its own min-max distance, or leaves it
-  pub pruned-kept : (n : RTreeNode T E P S X) (ns : List (RTreeNode T E P S X)) (bound : Option S) (r new : S) → value r ≡ pos (v.min_max_dist_2 (node_box o.box_of n) p)
+  pub pruned-kept : (n : RTreeNode T E) (ns : List (RTreeNode T E)) (bound : Option S) (r new : S) → value r ≡ pos (v.min_max_dist_2 (node_box o.box_of n) p)
       → MatchOption bound (value new ≡ value r) (λ s. value new ≡ int_min (value s) (value r)) → Left (n ∷ ns) bound → Left (n ∷ ns) (Some new)
   pruned-kept n ns None r new at is s = record {
     parts = s.parts;
@@ -129,7 +129,7 @@ module _ {T E : Type 0} {IsPoint : List ℤ → Type 0} {v : Boxes E} {o : Objec
           }
 
   -- a node above the bound is cut
-  pub pruned-cut : (n : RTreeNode T E P S X) (ns : List (RTreeNode T E P S X)) (bound : Option S) → IsAbove value bound (distance_of v d p n) → Left (n ∷ ns) bound → Left ns bound
+  pub pruned-cut : (n : RTreeNode T E) (ns : List (RTreeNode T E)) (bound : Option S) → IsAbove value bound (distance_of v d p n) → Left (n ∷ ns) bound → Left ns bound
   pruned-cut n ns None is s = absurd is
   pruned-cut n ns (Some b) is s =
       let before = s.bounded.at in
@@ -149,7 +149,7 @@ module _ {T E : Type 0} {IsPoint : List ℤ → Type 0} {v : Boxes E} {o : Objec
       }
 
   -- a parent is opened
-  pub pruned-parent : (q : ParentNode T E P S X) (ns : List (RTreeNode T E P S X)) (bound : Option S) → Left (Parent q ∷ ns) bound → Left (ns ++ children_of q) bound
+  pub pruned-parent : (q : ParentNode T E) (ns : List (RTreeNode T E)) (bound : Option S) → Left (Parent q ∷ ns) bound → Left (ns ++ children_of q) bound
   pruned-parent q ns bound s =
       let i = part-Parent law q s.parts.0 in
       same-nodes v o d p value all (children_of q ++ ns) (ns ++ children_of q) bound (IsPermutation-append_comm (children_of q) ns) record {
@@ -163,14 +163,14 @@ module _ {T E : Type 0} {IsPoint : List ℤ → Type 0} {v : Boxes E} {o : Objec
       same = ap (λ (l : List T). l ++ all_elements ns) (elements-Parent q) ∙ sym (flat_map-append elements (children_of q) ns)
 
   -- an element that waits nearest of all is the nearest
-  pub pruned-leaf : (t : T) (ns : List (RTreeNode T E P S X)) (bound : Option S) → AllByRecursion (λ c. d.distance_2 t p ≤ distance_of v d p c) ns → Left (Leaf t ∷ ns) bound → IsNearest (λ t. d.distance_2 t p) all t
+  pub pruned-leaf : (t : T) (ns : List (RTreeNode T E)) (bound : Option S) → AllByRecursion (λ c. d.distance_2 t p ≤ distance_of v d p c) ns → Left (Leaf t ∷ ns) bound → IsNearest (λ t. d.distance_2 t p) all t
   pruned-leaf t ns bound least s = record {
     member = Contains-permutation (t ∷ (all_elements ns ++ s.cut)) all t (IsPermutation-sym _ _ bag) (0, omega arith, refl);
     least = all_along _ (t ∷ (all_elements ns ++ s.cut)) all (IsPermutation-sym _ _ bag) (omega arith, all-append _ (all_elements ns) s.cut waiting (cuts s.cut bound s.bounded));
   }
     where
       bag : IsPermutation all (t ∷ (all_elements ns ++ s.cut))
-      bag = subst (λ (l : List T). IsPermutation all ((l ++ all_elements ns) ++ s.cut)) (elements-Leaf T E P S X t) s.bag
+      bag = subst (λ (l : List T). IsPermutation all ((l ++ all_elements ns) ++ s.cut)) (elements-Leaf T E t) s.bag
 
       waiting : AllByRecursion (λ u. d.distance_2 t p ≤ d.distance_2 u p) (all_elements ns)
       waiting = above-all law (d.distance_2 t p) ns s.parts.1 least
@@ -183,12 +183,12 @@ module _ {T E : Type 0} {IsPoint : List ℤ → Type 0} {v : Boxes E} {o : Objec
           go true e = at-least (λ t. d.distance_2 t p) (d.distance_2 t p) h.limit cut (leb-true _ _ e) h.above
           go false e =
               let more = leb-false _ _ e in
-              absurd (h.within (subst (λ (l : List T). AllByRecursion (λ t. h.limit < d.distance_2 t p) (l ++ all_elements ns)) (sym (elements-Leaf T E P S X t)) (omega arith, over (λ t. d.distance_2 t p) h.limit (d.distance_2 t p) (all_elements ns) (omega arith) waiting)))
+              absurd (h.within (subst (λ (l : List T). AllByRecursion (λ t. h.limit < d.distance_2 t p) (l ++ all_elements ns)) (sym (elements-Leaf T E t)) (omega arith, over (λ t. d.distance_2 t p) h.limit (d.distance_2 t p) (all_elements ns) (omega arith) waiting)))
 
 -- before a child is asked, no element was cut
-pub pruned-start : {T E P S X O : Type 0} (v : Boxes E) (o : Objects T E) (d : Distances T) (p : List ℤ) (value : S → ℤ) (root : ParentNode T E P S X) (ws : List (Item T E P S X O)) → ws ≡ [] → IsWhole v o root
+pub pruned-start : {T E S O : Type 0} (v : Boxes E) (o : Objects T E) (d : Distances T) (p : List ℤ) (value : S → ℤ) (root : ParentNode T E) (ws : List (Item T E S O)) → ws ≡ [] → IsWhole v o root
     → IsPruned v o d p value (elements_of root) (waiting_nodes ws ++ children_of root) None
-pruned-start {T} {E} {P} {S} {X} {O} v o d p value root ws none whole = subst (λ (l : List (Item T E P S X O)). IsPruned v o d p value (elements_of root) (waiting_nodes l ++ children_of root) None) (sym none) record {
+pruned-start {T} {E} {S} {O} v o d p value root ws none whole = subst (λ (l : List (Item T E S O)). IsPruned v o d p value (elements_of root) (waiting_nodes l ++ children_of root) None) (sym none) record {
   parts = all_map _ _ (λ n w. (whole.height, w)) (children_of root) whole.below;
   cut = [];
   bag = subst (IsPermutation (elements_of root)) (sym (append-nil (elements_of root))) (IsPermutation-refl (elements_of root));
@@ -197,7 +197,7 @@ pruned-start {T} {E} {P} {S} {X} {O} v o d p value root ws none whole = subst (�
 
 -- ---- the nearest element, and its root's envelope
 
-module _ {T E : Type 0} {IsPoint : List ℤ → Type 0} {v : Boxes E} {o : Objects T E} {d : Distances T} {p : List ℤ} (law : IsMeasured IsPoint v o d p) {P S X : Type 0} (root : ParentNode T E P S X) (whole : IsWhole v o root)
+module _ {T E : Type 0} {IsPoint : List ℤ → Type 0} {v : Boxes E} {o : Objects T E} {d : Distances T} {p : List ℤ} (law : IsMeasured IsPoint v o d p) (root : ParentNode T E) (whole : IsWhole v o root)
     (t : T) (nearest : IsNearest (λ t. d.distance_2 t p) (elements_of root) t) where
   pub nearest-not-below : v.distance_2 (envelope_of root) p ≤ d.distance_2 t p
   nearest-not-below = All-contains (λ t. v.distance_2 (envelope_of root) p ≤ d.distance_2 t p) (elements_of root) t (All-from_recursion _ (elements_of root) (root-below law root whole)) nearest.member

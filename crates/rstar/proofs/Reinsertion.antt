@@ -18,29 +18,29 @@ use Rattle.rstar.proofs.Rows.{elements-Leaf, elements-Parent, is_leaf, leaf_of}
 use Rattle.rstar.proofs.Trees.{merged_is_hull}
 use Rattle.rstar.proofs.Insertion.{all_elements-append, all_elements-single, elements_along, bag_of_set, tree_of, whole_of_kept, inner_of_fit, parents-Leaf, all_parents-append, leaf_counted, parents_along}
 
-module _ {T E P S X : Type 0} where
+module _ {T E : Type 0} where
   -- the last leaf of a list leaves it and goes into the tree
-  pub taken_again : (start : List T) (handed rest : List (RTreeNode T E P S X)) (t : T) (old new : List T) → handed ≡ rest ++ Leaf t ∷ []
+  pub taken_again : (start : List T) (handed rest : List (RTreeNode T E)) (t : T) (old new : List T) → handed ≡ rest ++ Leaf t ∷ []
       → IsPermutation start (old ++ all_elements handed) → IsPermutation (t ∷ old) new → IsPermutation start (new ++ all_elements rest)
   taken_again start handed rest t old new is before step =
       let last : all_elements handed ≡ all_elements rest ++ t ∷ [] = ap all_elements is ∙ all_elements-append rest (Leaf t ∷ [])
-      ∙ ap (λ (ts : List T). all_elements rest ++ ts) (all_elements-single (Leaf t) ∙ elements-Leaf T E P S X t) in
+      ∙ ap (λ (ts : List T). all_elements rest ++ ts) (all_elements-single (Leaf t) ∙ elements-Leaf T E t) in
       let moved : old ++ all_elements handed ≡ (old ++ all_elements rest) ++ t ∷ [] = ap (λ (ts : List T). old ++ ts) last ∙ sym (append_assoc old (all_elements rest) (t ∷ [])) in
       IsPermutation-trans start ((old ++ all_elements rest) ++ t ∷ []) (new ++ all_elements rest) (subst (IsPermutation start) moved before)
       (IsPermutation-trans ((old ++ all_elements rest) ++ t ∷ []) (t ∷ old ++ all_elements rest) (new ++ all_elements rest) (IsPermutation-to_front (old ++ all_elements rest) t) (IsPermutation-append_left (all_elements rest) (t ∷ old) new step))
 
-module _ {T E P S X : Type 0} (Q : ParentNode T E P S X → Type 0) (R : T → Type 0) where
+module _ {T E : Type 0} (Q : ParentNode T E → Type 0) (R : T → Type 0) where
   -- leaves are no parents
-  pub no_parents : (ns : List (RTreeNode T E P S X)) → AreTrees Q R 0 ns → all_parents ns ≡ 0
+  pub no_parents : (ns : List (RTreeNode T E)) → AreTrees Q R 0 ns → all_parents ns ≡ 0
   no_parents [] trees = refl
   no_parents (n ∷ ns) trees =
       let leaf = is_leaf R n trees.0 in
-      let here = ap parents leaf.1 ∙ parents-Leaf T E P S X leaf.0 in
+      let here = ap parents leaf.1 ∙ parents-Leaf T E leaf.0 in
       let both = sum_by-cons parents n ns in
       let rest = no_parents ns trees.1 in omega (arith, here, both, rest)
 
   -- a lowest parent has none below it, after a leaf came in and some went
-  pub leaf_left : (h : ℕ) (t : T) (old new out : List (RTreeNode T E P S X)) → h ≡ 0 → AreTrees Q R h old → IsPermutation (old ++ Leaf t ∷ []) (new ++ out)
+  pub leaf_left : (h : ℕ) (t : T) (old new out : List (RTreeNode T E)) → h ≡ 0 → AreTrees Q R h old → IsPermutation (old ++ Leaf t ∷ []) (new ++ out)
       → all_parents new ≡ all_parents old
   leaf_left h t old new out low trees same =
       let none = no_parents old (subst (λ (n : ℕ). AreTrees Q R n old) low trees) in
@@ -48,24 +48,24 @@ module _ {T E P S X : Type 0} (Q : ParentNode T E P S X → Type 0) (R : T → T
       let along = parents_along (old ++ Leaf t ∷ []) (new ++ out) same in
       let both = all_parents-append new out in omega (arith, none, leaf, along, both)
 
-module _ {T E : Type 0} (v : Boxes E) (o : Objects T E) (max widest : ℕ) {P S X : Type 0} where
+module _ {T E : Type 0} (v : Boxes E) (o : Objects T E) (max widest : ℕ) where
   -- the last of some leaves
-  pub leaf_taken : (handed rest : List (RTreeNode T E P S X)) (t : T) → handed ≡ rest ++ Leaf t ∷ [] → AreKept v o max widest 0 handed
+  pub leaf_taken : (handed rest : List (RTreeNode T E)) (t : T) → handed ≡ rest ++ Leaf t ∷ [] → AreKept v o max widest 0 handed
       → AreKept v o max widest 0 rest × IsElement v o t
   leaf_taken handed rest t is all =
       let parts = subst (AreKept v o max widest 0) is all in (
         all_first (IsTree (IsKeptInner v o max widest) (IsElement v o) 0) rest (Leaf t ∷ []) parts,
-        leaf_of T E P S X (IsElement v o) t (all_second (IsTree (IsKeptInner v o max widest) (IsElement v o) 0) rest (Leaf t ∷ []) parts).0,
+        leaf_of T E (IsElement v o) t (all_second (IsTree (IsKeptInner v o max widest) (IsElement v o) 0) rest (Leaf t ∷ []) parts).0,
       )
 
-  pub last_leaf : (handed rest : List (RTreeNode T E P S X)) (n : RTreeNode T E P S X) → handed ≡ rest ++ n ∷ [] → AreKept v o max widest 0 handed → (t : T) × (n ≡ Leaf t) × IsElement v o t
+  pub last_leaf : (handed rest : List (RTreeNode T E)) (n : RTreeNode T E) → handed ≡ rest ++ n ∷ [] → AreKept v o max widest 0 handed → (t : T) × (n ≡ Leaf t) × IsElement v o t
   last_leaf handed rest n is all =
       let parts = subst (AreKept v o max widest 0) is all in
       is_leaf (IsElement v o) n (all_second (IsTree (IsKeptInner v o max widest) (IsElement v o) 0) rest (n ∷ []) parts).0
 
-module _ {T E : Type 0} {IsPoint : _} {v : Boxes E} {o : Objects T E} (laws : EnvelopeLaws IsPoint v) (ok : ObjectLaws v o) (max widest : ℕ) {P S X : Type 0} where
+module _ {T E : Type 0} {IsPoint : _} {v : Boxes E} {o : Objects T E} (laws : EnvelopeLaws IsPoint v) (ok : ObjectLaws v o) (max widest : ℕ) where
   -- a lowest parent took a leaf in, and handed some out
-  pub leaf_handed : (h : ℕ) (t : T) (old before out : List (RTreeNode T E P S X)) (p : ParentNode T E P S X) → h ≡ 0
+  pub leaf_handed : (h : ℕ) (t : T) (old before out : List (RTreeNode T E)) (p : ParentNode T E) → h ≡ 0
       → IsPermutation (t ∷ all_elements old) (all_elements before) → AreKept v o max widest h before → IsPermutation before (p.children.items ++ out) → HasMergedBox v o max widest p
       → IsPermutation (t ∷ all_elements old) (all_elements p.children.items ++ all_elements out) × IsKeptTree v o max widest h p × AreKept v o max widest 0 out
   leaf_handed h t old before out p low bag trees same fit =
@@ -78,7 +78,7 @@ module _ {T E : Type 0} {IsPoint : _} {v : Boxes E} {o : Objects T E} (laws : En
       )
 
   -- a child took an element in, and leaves were handed out below it
-  pub child_handed : (h : ℕ) (t : T) (old : List (RTreeNode T E P S X)) (i : ℕ) (a b : ParentNode T E P S X) (out : List (RTreeNode T E P S X))
+  pub child_handed : (h : ℕ) (t : T) (old : List (RTreeNode T E)) (i : ℕ) (a b : ParentNode T E) (out : List (RTreeNode T E))
       → 0 < h → i < length old → Parent a ≡ get_or old i (Parent a) → AreKept v o max widest h old
       → IsPermutation (t ∷ all_elements a.children.items) (all_elements b.children.items ++ all_elements out) → IsKeptTree v o max widest (h - 1) b
       → IsPermutation (t ∷ all_elements old) (all_elements (set old i (Parent b)) ++ all_elements out) × AreKept v o max widest h (set old i (Parent b))
@@ -88,12 +88,12 @@ module _ {T E : Type 0} {IsPoint : _} {v : Boxes E} {o : Objects T E} (laws : En
   )
 
   -- an envelope that was made anew from the children is the merge of the elements'
-  pub made_anew : (h : ℕ) (new : List (RTreeNode T E P S X)) (e : E) → AreKept v o max widest h new → e ≡ hull v (node_box o.box_of) new → e ≡ hull v o.box_of (all_elements new)
+  pub made_anew : (h : ℕ) (new : List (RTreeNode T E)) (e : E) → AreKept v o max widest h new → e ≡ hull v (node_box o.box_of) new → e ≡ hull v o.box_of (all_elements new)
   made_anew h new e trees is = is ∙ merged_is_hull laws ok h new (whole_of_kept laws ok max widest h new trees)
 
-module _ {T E P S X : Type 0} (min max : ℕ) where
+module _ {T E : Type 0} (min max : ℕ) where
   -- what is left of a lowest parent's list is sized
-  pub sized_kept : (h n : ℕ) (before out : List (RTreeNode T E P S X)) (p : ParentNode T E P S X) → AreTrees (HasSize min max) IsAny h before → IsPermutation before (p.children.items ++ out)
+  pub sized_kept : (h n : ℕ) (before out : List (RTreeNode T E)) (p : ParentNode T E) → AreTrees (HasSize min max) IsAny h before → IsPermutation before (p.children.items ++ out)
       → vec_len p.children ≤ max → (min ≤ n → min ≤ vec_len p.children) → IsSizedAfter min max h n p None
   sized_kept h n before out p trees same most least = record {
     below = all_first (IsTree (HasSize min max) IsAny h) p.children.items out (all_along (IsTree (HasSize min max) IsAny h) before (p.children.items ++ out) same trees);

@@ -44,25 +44,25 @@ bag_without xs ys (Some x) out =
     subst (λ (l : List _). IsPermutation l (x ∷ ys)) (sym out.was)
     (subst (λ (l : List _). IsPermutation (out.before ++ x ∷ out.after) (x ∷ l)) (sym out.is) (IsPermutation-middle out.before x out.after))
 
-module _ {T E P S X : Type 0} (v : Boxes E) (o : Objects T E) where
+module _ {T E : Type 0} (v : Boxes E) (o : Objects T E) where
   -- the levels of what is left of a list: those that there were, or none
-  levels_left : (m w h : ℕ) (old new : List (RTreeNode T E P S X)) (levels levels' : ℕ) → levels ≡ levels_below old → old ≢ [] → AreKept v o m w h old → AreKept v o m w h new
+  levels_left : (m w h : ℕ) (old new : List (RTreeNode T E)) (levels levels' : ℕ) → levels ≡ levels_below old → old ≢ [] → AreKept v o m w h old → AreKept v o m w h new
       → (new ≡ [] → levels' ≡ 0) → (new ≢ [] → levels' ≡ levels) → levels' ≡ levels_below new
   levels_left m w h old [] levels levels' is some k k' none_left some_left = none_left refl
   levels_left m w h old (n ∷ ns) levels levels' is some k k' none_left some_left =
       some_left (λ none. cc) ∙ is ∙ levels_kept h old some k ∙ sym (levels_kept h (n ∷ ns) (λ none. cc) k') where
-        levels_kept : (h : ℕ) (l : List (RTreeNode T E P S X)) → l ≢ [] → AreKept v o m w h l → levels_below l ≡ h
+        levels_kept : (h : ℕ) (l : List (RTreeNode T E)) → l ≢ [] → AreKept v o m w h l → levels_below l ≡ h
         levels_kept h l full kept = levels_are (IsKeptInner v o m w) (IsElement v o) (λ q one none. let long = ap length none in absurd (omega (arith, long, one.1))) h l full kept
 
-  low_left : (ns : List (RTreeNode T E P S X)) (levels levels' : ℕ) → levels < 2 ^ 64 → (ns ≡ [] → levels' ≡ 0) → (ns ≢ [] → levels' ≡ levels) → levels' < 2 ^ 64
+  low_left : (ns : List (RTreeNode T E)) (levels levels' : ℕ) → levels < 2 ^ 64 → (ns ≡ [] → levels' ≡ 0) → (ns ≢ [] → levels' ≡ levels) → levels' < 2 ^ 64
   low_left [] levels levels' low none_left some_left = let e = none_left refl in omega arith
   low_left (n ∷ ns) levels levels' low none_left some_left = let e = some_left (λ none. cc) in omega arith
 
-module _ {T D E P S X : Type 0} where
+module _ {T D E : Type 0} where
   -- where the root is as it was, so is the tree
-  pub same_tree : (tree : RTree T D E P S X) (root : ParentNode T E P S X) (r : Option T) → IfNone r (root ≡ tree.root)
+  pub same_tree : {P S X : Type 0} (tree : RTree T D E P S X) (root : ParentNode T E) (r : Option T) → IfNone r (root ≡ tree.root)
       → IfNone r (record { root = root; size = tree.size; levels = tree.levels; widest = tree.widest; spares = tree.spares; overfull = tree.overfull; params = tree.params } ≡ tree)
-  same_tree tree root None e = ap (λ (p : ParentNode T E P S X). record { root = p; size = tree.size; levels = tree.levels; widest = tree.widest; spares = tree.spares; overfull = tree.overfull; params = tree.params }) e
+  same_tree tree root None e = ap (λ (p : ParentNode T E). record { root = p; size = tree.size; levels = tree.levels; widest = tree.widest; spares = tree.spares; overfull = tree.overfull; params = tree.params }) e
   same_tree tree root (Some x) e = tt
 
 module _ {T E : Type 0} {IsPoint : List ℤ → Type 0} {v : Boxes E} {o : Objects T E} (laws : EnvelopeLaws IsPoint v) (ok : ObjectLaws v o) (max : ℕ) {D P S X : Type 0} where

@@ -18,131 +18,131 @@ pub total-map : {A : Type 0} (f : A → ℕ) (xs : List A) → total (map f xs) 
 total-map f [] = refl
 total-map f (x ∷ xs) = ap (λ n. f x + n) (total-map f xs) ∙ sym (sum_by-cons f x xs)
 
-module _ {T E P S X : Type 0} where
-  fold_row-items : {A : Type 0} {m : _} (leaf : T → A) (parent : E → List A → A) (row : Row_of-RTreeNode T E P S X m) →
-      fold_row leaf parent row ≡ map (fold_tree leaf parent) (items-the_row-RTreeNode T E P S X m row)
+module _ {T E : Type 0} where
+  fold_row-items : {A : Type 0} {m : _} (leaf : T → A) (parent : E → List A → A) (row : Row_of-RTreeNode T E m) →
+      fold_row leaf parent row ≡ map (fold_tree leaf parent) (items-the_row-RTreeNode T E m row)
   unfolding fold_row
   fold_row-items leaf parent end_of-RTreeNode = refl
   fold_row-items leaf parent (more_of-RTreeNode node rest) = ap (λ l. fold_tree leaf parent node ∷ l) (fold_row-items leaf parent rest)
 
   -- a fold at a parent, by the list of its children
-  pub fold_tree-Parent : {A : Type 0} (leaf : T → A) (parent : E → List A → A) (p : ParentNode T E P S X) →
+  pub fold_tree-Parent : {A : Type 0} (leaf : T → A) (parent : E → List A → A) (p : ParentNode T E) →
       fold_tree leaf parent (Parent p) ≡ parent p.envelope (map (fold_tree leaf parent) p.children.items)
   unfolding fold_tree
   fold_tree-Parent leaf parent p =
-      ap (parent p.envelope) (fold_row-items leaf parent (hidden-the_row-RTreeNode-0 T E P S X p.children) ∙ ap (map (fold_tree leaf parent)) (items_hidden-the_row-RTreeNode-0 T E P S X p.children))
+      ap (parent p.envelope) (fold_row-items leaf parent (hidden-the_row-RTreeNode-0 T E p.children) ∙ ap (map (fold_tree leaf parent)) (items_hidden-the_row-RTreeNode-0 T E p.children))
 
-  pub elements-Parent : (p : ParentNode T E P S X) → elements (Parent p) ≡ all_elements p.children.items
+  pub elements-Parent : (p : ParentNode T E) → elements (Parent p) ≡ all_elements p.children.items
   unfolding elements
   elements-Parent p = fold_tree-Parent _ _ p ∙ joined-map elements p.children.items
 
-  pub parents-Parent : (p : ParentNode T E P S X) → parents (Parent p) ≡ 1 + all_parents p.children.items
+  pub parents-Parent : (p : ParentNode T E) → parents (Parent p) ≡ 1 + all_parents p.children.items
   unfolding parents
   parents-Parent p = fold_tree-Parent _ _ p ∙ ap (λ n. 1 + n) (total-map parents p.children.items)
 
-  pub far-Parent : (dist : E → ℕ) (d : ℕ) (p : ParentNode T E P S X) → far dist d (Parent p) ≡ (if nat_lt d (dist p.envelope) then 1 else 0) + all_far dist d p.children.items
+  pub far-Parent : (dist : E → ℕ) (d : ℕ) (p : ParentNode T E) → far dist d (Parent p) ≡ (if nat_lt d (dist p.envelope) then 1 else 0) + all_far dist d p.children.items
   unfolding far
   far-Parent dist d p = fold_tree-Parent _ _ p ∙ ap (λ n. (if nat_lt d (dist p.envelope) then 1 else 0) + n) (total-map (far dist d) p.children.items)
 
-  pub leaf_element-Parent : (p : ParentNode T E P S X) → leaf_element (Parent p) ≡ None
+  pub leaf_element-Parent : (p : ParentNode T E) → leaf_element (Parent p) ≡ None
   unfolding leaf_element
   leaf_element-Parent p = fold_tree-Parent _ _ p
 
-  pub given-Parent : (accepts : E → Bool) (selects : T → Bool) (p : ParentNode T E P S X) → given accepts selects (Parent p) ≡ (if accepts p.envelope then all_given accepts selects (children_of p) else [])
+  pub given-Parent : (accepts : E → Bool) (selects : T → Bool) (p : ParentNode T E) → given accepts selects (Parent p) ≡ (if accepts p.envelope then all_given accepts selects (children_of p) else [])
   unfolding given
   given-Parent accepts selects p = fold_tree-Parent _ _ p ∙ ap (λ l. if accepts p.envelope then l else []) (joined-map (given accepts selects) p.children.items)
 
-  pub reach-Parent : (accepts : E → Bool) (p : ParentNode T E P S X) → reach accepts (Parent p) ≡ (if accepts p.envelope then 1 + all_reach accepts (children_of p) else 0)
+  pub reach-Parent : (accepts : E → Bool) (p : ParentNode T E) → reach accepts (Parent p) ≡ (if accepts p.envelope then 1 + all_reach accepts (children_of p) else 0)
   unfolding reach
   reach-Parent accepts p = fold_tree-Parent _ _ p
 
-  pub steps-Parent : (p : ParentNode T E P S X) → steps (Parent p) ≡ 2 + total (map steps (children_of p))
+  pub steps-Parent : (p : ParentNode T E) → steps (Parent p) ≡ 2 + total (map steps (children_of p))
   unfolding steps
   steps-Parent p = fold_tree-Parent _ _ p
 
-  pub shown-Parent : (p : ParentNode T E P S X) → shown (Parent p) ≡ shown_parent p.envelope (row_of (map shown (children_of p)))
+  pub shown-Parent : (p : ParentNode T E) → shown (Parent p) ≡ shown_parent p.envelope (row_of (map shown (children_of p)))
   unfolding shown
   shown-Parent p = fold_tree-Parent _ _ p
 
-  pub node_box-Parent : (box_of : T → E) (p : ParentNode T E P S X) → node_box box_of (Parent p) ≡ p.envelope
+  pub node_box-Parent : (box_of : T → E) (p : ParentNode T E) → node_box box_of (Parent p) ≡ p.envelope
   unfolding node_box
   node_box-Parent box_of p = fold_tree-Parent _ _ p
 
-  pub node_distance-Parent : (dist : E → ℕ) (element_dist : T → ℕ) (p : ParentNode T E P S X) → node_distance dist element_dist (Parent p) ≡ dist p.envelope
+  pub node_distance-Parent : (dist : E → ℕ) (element_dist : T → ℕ) (p : ParentNode T E) → node_distance dist element_dist (Parent p) ≡ dist p.envelope
   unfolding node_distance
   node_distance-Parent dist element_dist p = fold_tree-Parent _ _ p
 
-  pub parent_of : (Q : ParentNode T E P S X → Type 0) (p : ParentNode T E P S X) → IsParentOf Q (Parent p) → Q p
+  pub parent_of : (Q : ParentNode T E → Type 0) (p : ParentNode T E) → IsParentOf Q (Parent p) → Q p
   unfolding IsParentOf
   parent_of Q p h = subst (IsParentLayer Q) (outs-Parent p) h
 
-  pub IsParentOf-Parent : (Q : ParentNode T E P S X → Type 0) (p : ParentNode T E P S X) → Q p → IsParentOf Q (Parent p)
+  pub IsParentOf-Parent : (Q : ParentNode T E → Type 0) (p : ParentNode T E) → Q p → IsParentOf Q (Parent p)
   unfolding IsParentOf
   IsParentOf-Parent Q p h = subst (IsParentLayer Q) (sym (outs-Parent p)) h
 
-  pub no_leaf : (Q : T → Type 0) (p : ParentNode T E P S X) → IsLeafOf Q (Parent p) → ⊥
+  pub no_leaf : (Q : T → Type 0) (p : ParentNode T E) → IsLeafOf Q (Parent p) → ⊥
   unfolding IsLeafOf
   no_leaf Q p h = subst (IsLeafLayer Q) (outs-Parent p) h
 
-  pub no_parent : (Q : ParentNode T E P S X → Type 0) (t : T) → IsParentOf Q (Leaf t) → ⊥
+  pub no_parent : (Q : ParentNode T E → Type 0) (t : T) → IsParentOf Q (Leaf t) → ⊥
   unfolding IsParentOf
   no_parent Q t h = subst (IsParentLayer Q) (outs-Leaf t) h
 
-  pub is_parent : (Q : ParentNode T E P S X → Type 0) (n : RTreeNode T E P S X) → IsParentOf Q n → (p : ParentNode T E P S X) × (n ≡ Parent p) × Q p
+  pub is_parent : (Q : ParentNode T E → Type 0) (n : RTreeNode T E) → IsParentOf Q n → (p : ParentNode T E) × (n ≡ Parent p) × Q p
   unfolding IsParentOf
-  is_parent Q n h = by_layer (out-RTreeNode T E P S X n) (sym (roll-out-RTreeNode T E P S X n)) h where
-    by_layer : (w : Layer T E P S X) → n ≡ roll-RTreeNode T E P S X w → IsParentLayer Q w → (p : ParentNode T E P S X) × (n ≡ Parent p) × Q p
+  is_parent Q n h = by_layer (out-RTreeNode T E n) (sym (roll-out-RTreeNode T E n)) h where
+    by_layer : (w : Layer T E) → n ≡ roll-RTreeNode T E w → IsParentLayer Q w → (p : ParentNode T E) × (n ≡ Parent p) × Q p
     by_layer (layer.Leaf t) e h = absurd h
     by_layer (layer.Parent p) e h = (p, e ∙ rolls-Parent p, h)
 
-  pub is_leaf : (Q : T → Type 0) (n : RTreeNode T E P S X) → IsLeafOf Q n → (t : T) × (n ≡ Leaf t) × Q t
+  pub is_leaf : (Q : T → Type 0) (n : RTreeNode T E) → IsLeafOf Q n → (t : T) × (n ≡ Leaf t) × Q t
   unfolding IsLeafOf
-  is_leaf Q n h = by_layer (out-RTreeNode T E P S X n) (sym (roll-out-RTreeNode T E P S X n)) h where
-    by_layer : (w : Layer T E P S X) → n ≡ roll-RTreeNode T E P S X w → IsLeafLayer Q w → (t : T) × (n ≡ Leaf t) × Q t
+  is_leaf Q n h = by_layer (out-RTreeNode T E n) (sym (roll-out-RTreeNode T E n)) h where
+    by_layer : (w : Layer T E) → n ≡ roll-RTreeNode T E w → IsLeafLayer Q w → (t : T) × (n ≡ Leaf t) × Q t
     by_layer (layer.Leaf t) e h = (t, e ∙ rolls-Leaf t, h)
     by_layer (layer.Parent p) e h = absurd h
 
-module _ (T E P S X : Type 0) where
-  pub elements-Leaf : (t : T) → elements {E = E} {P = P} {S = S} {X = X} (Leaf t) ≡ t ∷ []
+module _ (T E : Type 0) where
+  pub elements-Leaf : (t : T) → elements {E = E} (Leaf t) ≡ t ∷ []
   unfolding elements fold_tree
   elements-Leaf t = refl
 
-  pub shown-Leaf : (t : T) → shown {E = E} {P = P} {S = S} {X = X} (Leaf t) ≡ shown_leaf t
+  pub shown-Leaf : (t : T) → shown {E = E} (Leaf t) ≡ shown_leaf t
   unfolding shown fold_tree
   shown-Leaf t = refl
 
-  pub node_box-Leaf : (box_of : T → E) (t : T) → node_box {P = P} {S = S} {X = X} box_of (Leaf t) ≡ box_of t
+  pub node_box-Leaf : (box_of : T → E) (t : T) → node_box box_of (Leaf t) ≡ box_of t
   unfolding node_box fold_tree
   node_box-Leaf box_of t = refl
 
-  pub far-Leaf : (dist : E → ℕ) (d : ℕ) (t : T) → far {P = P} {S = S} {X = X} dist d (Leaf t) ≡ 0
+  pub far-Leaf : (dist : E → ℕ) (d : ℕ) (t : T) → far dist d (Leaf t) ≡ 0
   unfolding far fold_tree
   far-Leaf dist d t = refl
 
-  pub node_distance-Leaf : (dist : E → ℕ) (element_dist : T → ℕ) (t : T) → node_distance {P = P} {S = S} {X = X} dist element_dist (Leaf t) ≡ element_dist t
+  pub node_distance-Leaf : (dist : E → ℕ) (element_dist : T → ℕ) (t : T) → node_distance dist element_dist (Leaf t) ≡ element_dist t
   unfolding node_distance fold_tree
   node_distance-Leaf dist element_dist t = refl
 
-  pub leaf_element-Leaf : (t : T) → leaf_element {E = E} {P = P} {S = S} {X = X} (Leaf t) ≡ Some t
+  pub leaf_element-Leaf : (t : T) → leaf_element {E = E} (Leaf t) ≡ Some t
   unfolding leaf_element fold_tree
   leaf_element-Leaf t = refl
 
-  pub IsLeafOf-Leaf : (Q : T → Type 0) (t : T) → Q t → IsLeafOf {E = E} {P = P} {S = S} {X = X} Q (Leaf t)
+  pub IsLeafOf-Leaf : (Q : T → Type 0) (t : T) → Q t → IsLeafOf {E = E} Q (Leaf t)
   unfolding IsLeafOf
   IsLeafOf-Leaf Q t h = subst (IsLeafLayer Q) (sym (outs-Leaf t)) h
 
-  pub leaf_of : (Q : T → Type 0) (t : T) → IsLeafOf {E = E} {P = P} {S = S} {X = X} Q (Leaf t) → Q t
+  pub leaf_of : (Q : T → Type 0) (t : T) → IsLeafOf {E = E} Q (Leaf t) → Q t
   unfolding IsLeafOf
   leaf_of Q t h = subst (IsLeafLayer Q) (outs-Leaf t) h
 
-  pub given-Leaf : (accepts : E → Bool) (selects : T → Bool) (t : T) → given {P = P} {S = S} {X = X} accepts selects (Leaf t) ≡ (if selects t then t ∷ [] else [])
+  pub given-Leaf : (accepts : E → Bool) (selects : T → Bool) (t : T) → given accepts selects (Leaf t) ≡ (if selects t then t ∷ [] else [])
   unfolding given fold_tree
   given-Leaf accepts selects t = refl
 
-  pub reach-Leaf : (accepts : E → Bool) (t : T) → reach {P = P} {S = S} {X = X} accepts (Leaf t) ≡ 0
+  pub reach-Leaf : (accepts : E → Bool) (t : T) → reach accepts (Leaf t) ≡ 0
   unfolding reach fold_tree
   reach-Leaf accepts t = refl
 
-  pub steps-Leaf : (t : T) → steps {E = E} {P = P} {S = S} {X = X} (Leaf t) ≡ 1
+  pub steps-Leaf : (t : T) → steps {E = E} (Leaf t) ≡ 1
   unfolding steps fold_tree
   steps-Leaf t = refl

@@ -28,16 +28,16 @@ use Rattle.rstar.proofs.Parts.{rest_none, rest_nothing, rest_itself, rest_lower,
 use Rattle.rstar.proofs.Parts.{drop_removed, drop_here, same_without, drop_set, drop_set_more, remove_set, without_middle, elements_split, elements_set, elements_removed, past_parts, past_made, past_zeros, past_nothing, all_take, all_drop, shorter_removed}
 
 -- all leaves of the node lie h levels below it, its parents are tight and have room
-abbrev pub IsKeptNode : {T E P S X : Type 0} → Boxes E → Objects T E → ℕ → ℕ → ℕ → RTreeNode T E P S X → Type 0
+abbrev pub IsKeptNode : {T E : Type 0} → Boxes E → Objects T E → ℕ → ℕ → ℕ → RTreeNode T E → Type 0
 IsKeptNode v o m w h n = IsTree (IsKeptInner v o m w) (IsElement v o) h n
 
-abbrev elements_in_layer : {T E P S X : Type 0} → Layer T E P S X → List T
+abbrev elements_in_layer : {T E : Type 0} → Layer T E → List T
 elements_in_layer (layer.Leaf t) = t ∷ []
 elements_in_layer (layer.Parent p) = all_elements (children_of p)
 
 -- so many nodes from the last on were passed over, and none was changed
-pub record Scanned {T E P S X : Type 0} (v : Boxes E) (o : Objects T E) (accepts : E → Bool) (selects : T → Bool)
-    (old : List (RTreeNode T E P S X)) (start : List ℕ) (rest0 : Option (Rest E)) (cur : List (RTreeNode T E P S X)) (path : List ℕ) (rest : Option (Rest E)) (p : ℕ) : Type 0 where
+pub record Scanned {T E : Type 0} (v : Boxes E) (o : Objects T E) (accepts : E → Bool) (selects : T → Bool)
+    (old : List (RTreeNode T E)) (start : List ℕ) (rest0 : Option (Rest E)) (cur : List (RTreeNode T E)) (path : List ℕ) (rest : Option (Rest E)) (p : ℕ) : Type 0 where
   pub same : cur ≡ old
   pub long : length path ≡ length start
   pub still : length start ≡ 0 → rest ≡ rest0
@@ -65,59 +65,59 @@ filter_none {T} selects (t ∷ ts) e = by_test (selects t) refl e (filter_none s
   by_test true is f rest = cc
   by_test false is f rest = (is, rest f)
 
-module _ {T E P S X : Type 0} where
+module _ {T E : Type 0} where
   -- a leaf's element, or those of a parent's children
-  pub elements_is : (n : RTreeNode T E P S X) → elements n ≡ elements_in_layer (out-RTreeNode T E P S X n)
-  elements_is n = by_layer (out-RTreeNode T E P S X n) (sym (roll-out-RTreeNode T E P S X n)) where
-    by_layer : (x : Layer T E P S X) → n ≡ roll-RTreeNode T E P S X x → elements n ≡ elements_in_layer x
-    by_layer (layer.Leaf t) e = ap elements (e ∙ rolls-Leaf t) ∙ elements-Leaf T E P S X t
+  pub elements_is : (n : RTreeNode T E) → elements n ≡ elements_in_layer (out-RTreeNode T E n)
+  elements_is n = by_layer (out-RTreeNode T E n) (sym (roll-out-RTreeNode T E n)) where
+    by_layer : (x : Layer T E) → n ≡ roll-RTreeNode T E x → elements n ≡ elements_in_layer x
+    by_layer (layer.Leaf t) e = ap elements (e ∙ rolls-Leaf t) ∙ elements-Leaf T E t
     by_layer (layer.Parent p) e = ap elements (e ∙ rolls-Parent p) ∙ elements-Parent p
 
-  opened_none : (selects : T → Bool) (x : Layer T E P S X) → selects_in selects x ≡ false → NoneSelected selects (all_elements (children_in x)) → NoneSelected selects (elements_in_layer x)
+  opened_none : (selects : T → Bool) (x : Layer T E) → selects_in selects x ≡ false → NoneSelected selects (all_elements (children_in x)) → NoneSelected selects (elements_in_layer x)
   opened_none selects (layer.Leaf t) chosen below = (chosen, tt)
   opened_none selects (layer.Parent p) chosen below = below
 
   -- nothing in a node is selected, where it is no selected leaf and nothing below it is selected
-  pub node_none : (selects : T → Bool) (n : RTreeNode T E P S X) → is_selected_leaf selects n ≡ false → NoneSelected selects (all_elements (node_children n)) → NoneSelected selects (elements n)
-  node_none selects n chosen below = subst (NoneSelected selects) (sym (elements_is n)) (opened_none selects (out-RTreeNode T E P S X n) chosen below)
+  pub node_none : (selects : T → Bool) (n : RTreeNode T E) → is_selected_leaf selects n ≡ false → NoneSelected selects (all_elements (node_children n)) → NoneSelected selects (elements n)
+  node_none selects n chosen below = subst (NoneSelected selects) (sym (elements_is n)) (opened_none selects (out-RTreeNode T E n) chosen below)
 
-  nil_none : (ns : List (RTreeNode T E P S X)) → is_nil ns ≡ true → all_elements ns ≡ []
+  nil_none : (ns : List (RTreeNode T E)) → is_nil ns ≡ true → all_elements ns ≡ []
   nil_none [] empty = refl
   nil_none (n ∷ ns) empty = cc
 
-  childless_none : (x : Layer T E P S X) → childless_in x ≡ true → elements_in_layer x ≡ []
+  childless_none : (x : Layer T E) → childless_in x ≡ true → elements_in_layer x ≡ []
   childless_none (layer.Leaf t) empty = cc
   childless_none (layer.Parent p) empty = nil_none (children_of p) empty
 
-  pub no_elements : (n : RTreeNode T E P S X) → is_childless n ≡ true → elements n ≡ []
-  no_elements n empty = elements_is n ∙ childless_none (out-RTreeNode T E P S X n) empty
+  pub no_elements : (n : RTreeNode T E) → is_childless n ≡ true → elements n ≡ []
+  no_elements n empty = elements_is n ∙ childless_none (out-RTreeNode T E n) empty
 
-  nil_some : (ns : List (RTreeNode T E P S X)) → is_nil ns ≡ false → 0 < length ns
+  nil_some : (ns : List (RTreeNode T E)) → is_nil ns ≡ false → 0 < length ns
   nil_some [] e = cc
   nil_some (n ∷ ns) e = omega arith
 
-  children_parent : (p : ParentNode T E P S X) → node_children (Parent p) ≡ p.children.items
+  children_parent : (p : ParentNode T E) → node_children (Parent p) ≡ p.children.items
   children_parent p = ap children_in (outs-Parent p)
 
-  pub children_leaf : (n : RTreeNode T E P S X) (t : T) → n ≡ Leaf t → node_children n ≡ []
+  pub children_leaf : (n : RTreeNode T E) (t : T) → n ≡ Leaf t → node_children n ≡ []
   children_leaf n t e = ap node_children e ∙ ap children_in (outs-Leaf t)
 
-  childless_parent : (p : ParentNode T E P S X) → is_childless (Parent p) ≡ is_nil p.children.items
+  childless_parent : (p : ParentNode T E) → is_childless (Parent p) ≡ is_nil p.children.items
   childless_parent p = ap childless_in (outs-Parent p)
 
   module _ (v : Boxes E) (o : Objects T E) (m w : ℕ) where
-    leaves_alone : (ns : List (RTreeNode T E P S X)) → AreKept v o m w 0 ns → first_children ns ≡ []
+    leaves_alone : (ns : List (RTreeNode T E)) → AreKept v o m w 0 ns → first_children ns ≡ []
     leaves_alone [] k = refl
     leaves_alone (n ∷ ns) k = let l = is_leaf (IsElement v o) n k.0 in children_leaf n l.0 l.1
 
-    leaf_no_parent : (h : ℕ) (n : RTreeNode T E P S X) (t : T) → n ≡ Leaf t → IsKeptNode v o m w (suc h) n → ⊥
+    leaf_no_parent : (h : ℕ) (n : RTreeNode T E) (t : T) → n ≡ Leaf t → IsKeptNode v o m w (suc h) n → ⊥
     leaf_no_parent h n t e k = no_parent _ t (subst (IsKeptNode v o m w (suc h)) e k)
 
-    pub below_then : (A : Type 0) (h : ℕ) (p : ParentNode T E P S X) → IsKeptNode v o m w h (Parent p) → ((h : ℕ) → IsKept v o m w p → AreKept v o m w h p.children.items → A) → A
+    pub below_then : (A : Type 0) (h : ℕ) (p : ParentNode T E) → IsKeptNode v o m w h (Parent p) → ((h : ℕ) → IsKept v o m w p → AreKept v o m w h p.children.items → A) → A
     below_then A zero p k f = absurd (no_leaf _ p k)
     below_then A (suc h) p k f = let a = parent_of _ p k in f h a.0.0 a.1
 
-    pub whole_again : (h : ℕ) (p q : ParentNode T E P S X) → ((h : ℕ) → IsKept v o m w p → AreKept v o m w h p.children.items → IsKept v o m w q × AreKept v o m w h q.children.items)
+    pub whole_again : (h : ℕ) (p q : ParentNode T E) → ((h : ℕ) → IsKept v o m w p → AreKept v o m w h p.children.items → IsKept v o m w q × AreKept v o m w h q.children.items)
         → IsKeptNode v o m w h (Parent p) → is_childless (Parent q) ≡ false → IsKeptNode v o m w h (Parent q)
     whole_again zero p q f k has = absurd (no_leaf _ p k)
     whole_again (suc h) p q f k has =
@@ -126,8 +126,8 @@ module _ {T E P S X : Type 0} where
 
 -- where a tight parent is not opened, nothing below it is selected
 module _ {T E : Type 0} {IsPoint : List ℤ → Type 0} {v : Boxes E} {o : Objects T E} (laws : EnvelopeLaws IsPoint v) (ok : ObjectLaws v o)
-    (accepts : E → Bool) (selects : T → Bool) {P S X : Type 0} where
-  pub refused : IsLawful v o accepts selects → (h : ℕ) (p : ParentNode T E P S X) → IsTight v o p → AreWhole v o h p.children.items → accepts p.envelope ≡ false
+    (accepts : E → Bool) (selects : T → Bool) where
+  pub refused : IsLawful v o accepts selects → (h : ℕ) (p : ParentNode T E) → IsTight v o p → AreWhole v o h p.children.items → accepts p.envelope ≡ false
       → NoneSelected selects (all_elements p.children.items)
   refused lawful h p tight below no_entry =
       let all = all_sound v o h p.children.items below in
@@ -135,9 +135,9 @@ module _ {T E : Type 0} {IsPoint : List ℤ → Type 0} {v : Boxes E} {o : Objec
       filter_none selects (elements_of p)
       (none-selected laws ok accepts selects lawful (elements_of p) v.empty all laws.empty_value (ap accepts (laws.merge_empty _ vm ∙ sym tight) ∙ no_entry))
 
-module _ {T E P S X : Type 0} (v : Boxes E) (o : Objects T E) (accepts : E → Bool) (selects : T → Bool) where
+module _ {T E : Type 0} (v : Boxes E) (o : Objects T E) (accepts : E → Bool) (selects : T → Bool) where
   -- a parent that was opened
-  pub entered : (p q : ParentNode T E P S X) (path path' : List ℕ) (rest rest' : Option (Rest E)) (r : Option T)
+  pub entered : (p q : ParentNode T E) (path path' : List ℕ) (rest rest' : Option (Rest E)) (r : Option T)
       → Takes v o accepts selects p.children.items path rest r q.children.items path' rest'
       → ((m w h : ℕ) → IsKept v o m w p → AreKept v o m w h p.children.items → IsRestAt v o rest path p.children.items → IsKept v o m w q) → IfNone r (q ≡ p)
       → TakesInside v o accepts selects (Parent p) path rest r (Parent q) path' rest'
@@ -160,12 +160,12 @@ module _ {T E P S X : Type 0} (v : Boxes E) (o : Objects T E) (accepts : E → B
     missed = if_none r (λ (missed : IsLawful v o accepts selects → (m w h : ℕ) → AreKept v o m w h p.children.items → IsPast selects path p.children.items → NoneSelected selects (all_elements p.children.items)).
         λ lawful m w h k past.
         let before : IsPast selects path p.children.items = subst (IsPast selects path) (children_parent p) past in
-        subst (λ (ns : List (RTreeNode T E P S X)). NoneSelected selects (all_elements ns)) (sym (children_parent p))
+        subst (λ (ns : List (RTreeNode T E)). NoneSelected selects (all_elements ns)) (sym (children_parent p))
         (below_then v o m w (NoneSelected selects (all_elements p.children.items)) h p k (λ h' a b. missed lawful m w h' b before))) takes.missed;
   }
 
   -- a parent that was not opened
-  pub not_entered : {IsPoint : List ℤ → Type 0} (laws : EnvelopeLaws IsPoint v) (ok : ObjectLaws v o) (p : ParentNode T E P S X) (path : List ℕ) (rest : Option (Rest E)) → accepts p.envelope ≡ false
+  pub not_entered : {IsPoint : List ℤ → Type 0} (laws : EnvelopeLaws IsPoint v) (ok : ObjectLaws v o) (p : ParentNode T E) (path : List ℕ) (rest : Option (Rest E)) → accepts p.envelope ≡ false
       → TakesInside v o accepts selects (Parent p) path rest None (Parent p) path rest
   not_entered laws ok p path rest no_entry = record {
     taken = refl;
@@ -175,23 +175,23 @@ module _ {T E P S X : Type 0} (v : Boxes E) (o : Objects T E) (accepts : E → B
     still = λ none. refl;
     kept = refl;
     past = λ lawful m w h k past. past;
-    missed = λ lawful m w h k past. subst (λ (ns : List (RTreeNode T E P S X)). NoneSelected selects (all_elements ns)) (sym (children_parent p))
+    missed = λ lawful m w h k past. subst (λ (ns : List (RTreeNode T E)). NoneSelected selects (all_elements ns)) (sym (children_parent p))
         (below_then v o m w (NoneSelected selects (all_elements p.children.items)) h p k (λ h' a b. refused laws ok accepts selects lawful h' p a.tight (whole_of_kept laws ok m w h' p.children.items b) no_entry));
   }
 
   -- below a place that ends, or where no envelope is kept
-  rest_below : (path : List ℕ) (rest : Option (Rest E)) → (1 < length path → rest ≡ None) → (ns : List (RTreeNode T E P S X)) → IsRestAt v o rest (lower_numbers path) ns
+  rest_below : (path : List ℕ) (rest : Option (Rest E)) → (1 < length path → rest ≡ None) → (ns : List (RTreeNode T E)) → IsRestAt v o rest (lower_numbers path) ns
   rest_below [] rest gone ns = tt
   rest_below (i ∷ []) rest gone ns = tt
   rest_below (i ∷ (j ∷ path)) rest gone ns = subst (λ (z : Option (Rest E)). IsRestAt v o z (j ∷ path) ns) (sym (gone (omega arith))) (rest_none v o (j ∷ path) ns)
 
   -- where all were passed over
-  rest_past : (rest : Option (Rest E)) (e : ℕ) (ns : List (RTreeNode T E P S X)) → length ns ≤ e → IsRest v o rest e ns
+  rest_past : (rest : Option (Rest E)) (e : ℕ) (ns : List (RTreeNode T E)) → length ns ≤ e → IsRest v o rest e ns
   rest_past None e ns over = tt
   rest_past (Some r) e ns over = λ within. absurd (omega (arith, within, over))
 
   -- before the last node
-  pub begins : (ns : List (RTreeNode T E P S X)) (path : List ℕ) (rest : Option (Rest E)) (p : ℕ) → p ≡ first_number path → Scanned v o accepts selects ns path rest ns path rest p
+  pub begins : (ns : List (RTreeNode T E)) (path : List ℕ) (rest : Option (Rest E)) (p : ℕ) → p ≡ first_number path → Scanned v o accepts selects ns path rest ns path rest p
   begins ns path rest p e = record {
     same = refl;
     long = refl;
@@ -201,7 +201,7 @@ module _ {T E P S X : Type 0} (v : Boxes E) (o : Objects T E) (accepts : E → B
         subst (λ (q : ℕ). NoneSelected selects (all_elements (drop (length ns - q) ns)) × IsPast selects (lower_numbers path) (first_children (drop (length ns - suc q) ns))) (sym e) (past_parts selects path ns past);
   }
 
-  module _ (old : List (RTreeNode T E P S X)) (start : List ℕ) (rest0 : Option (Rest E)) (cur : List (RTreeNode T E P S X)) (path : List ℕ) (rest : Option (Rest E)) (p : ℕ)
+  module _ (old : List (RTreeNode T E)) (start : List ℕ) (rest0 : Option (Rest E)) (cur : List (RTreeNode T E)) (path : List ℕ) (rest : Option (Rest E)) (p : ℕ)
       (s : Scanned v o accepts selects old start rest0 cur path rest p) where
     same_length : length cur ≡ length old
     same_length = ap length s.same
@@ -217,7 +217,7 @@ module _ {T E P S X : Type 0} (v : Boxes E) (o : Objects T E) (accepts : E → B
       without_one : (m w h : ℕ) → AreKept v o m w h cur → AreKept v o m w h (remove cur i)
       without_one m w h k = all-append (IsKeptNode v o m w h) (take i cur) (drop (suc i) cur) (all_take (IsKeptNode v o m w h) i cur k) (all_drop (IsKeptNode v o m w h) (suc i) cur k)
 
-      here_whole : (m w h : ℕ) (n : RTreeNode T E P S X) → n ≡ get_or cur i n → AreKept v o m w h cur → IsKeptNode v o m w h n
+      here_whole : (m w h : ℕ) (n : RTreeNode T E) → n ≡ get_or cur i n → AreKept v o m w h cur → IsKeptNode v o m w h n
       here_whole m w h n here k = subst (IsKeptNode v o m w h) (sym here) (all_get (IsKeptNode v o m w h) cur i n within k)
 
       -- beside a leaf stand leaves alone
@@ -236,7 +236,7 @@ module _ {T E P S X : Type 0} (v : Boxes E) (o : Objects T E) (accepts : E → B
           let long = length-remove cur i within in
           let at : length (remove cur i) - p ≡ i = omega (arith, next, long) in
           subst (λ (j : ℕ). NoneSelected selects (all_elements (drop j (remove cur i)))) (sym at)
-          (subst (λ (ns : List (RTreeNode T E P S X)). NoneSelected selects (all_elements ns)) (sym (drop_removed cur i within)) none)
+          (subst (λ (ns : List (RTreeNode T E)). NoneSelected selects (all_elements ns)) (sym (drop_removed cur i within)) none)
 
       -- the nodes in front of i stay, and so what is kept of them
       rest_removed : (rest' : Option (Rest E)) → IsRest v o rest' p cur → IsRest v o rest' p (remove cur i)
@@ -244,7 +244,7 @@ module _ {T E P S X : Type 0} (v : Boxes E) (o : Objects T E) (accepts : E → B
           let long = length-remove cur i within in
           rest_stays v o rest' p p i cur (remove cur i) (omega arith) (omega (arith, long)) (omega (arith, long, next)) (take_removed cur i within) kept
 
-      rest_set : (rest' : Option (Rest E)) (n' : RTreeNode T E P S X) (j : ℕ) → p ≤ j → IsRest v o rest' p cur → IsRest v o rest' j (set cur i n')
+      rest_set : (rest' : Option (Rest E)) (n' : RTreeNode T E) (j : ℕ) → p ≤ j → IsRest v o rest' p cur → IsRest v o rest' j (set cur i n')
       rest_set rest' n' j on kept =
           let long = length-set cur i n' in
           rest_stays v o rest' p j i cur (set cur i n') on (omega (arith, long)) (omega (arith, long, next)) (take_set cur i n' within) kept
@@ -254,22 +254,22 @@ module _ {T E P S X : Type 0} (v : Boxes E) (o : Objects T E) (accepts : E → B
           → Takes v o accepts selects old start rest0 (Some t) (remove cur i) (with_first path p) rest
       gives_leaf t here chosen =
           let parts : all_elements cur ≡ all_elements (take i cur) ++ ((t ∷ []) ++ all_elements (drop (suc i) cur)) =
-          elements_split cur i (Leaf t) within here ∙ ap (λ (z : List T). all_elements (take i cur) ++ (z ++ all_elements (drop (suc i) cur))) (elements-Leaf T E P S X t) in
+          elements_split cur i (Leaf t) within here ∙ ap (λ (z : List T). all_elements (take i cur) ++ (z ++ all_elements (drop (suc i) cur))) (elements-Leaf T E t) in
           let short = shorter_removed cur i in let len = same_length in
           record {
             taken = record { before = all_elements (take i cur); after = all_elements (drop (suc i) cur); was = sym (ap all_elements s.same) ∙ parts; is = elements_removed cur i };
             selected = chosen;
             whole = λ m w h k at. without_one m w h (kept_now m w h k);
             rests = λ m w h k at. rest_made v o rest path p (remove cur i) (λ one. rest_removed rest (rest_here v o rest path p cur one (s.rests m w h k at)))
-                (subst (IsRestAt v o rest (lower_numbers path)) (sym (beside_leaf m w h (length (remove cur i) - suc p) t here (kept_now m w h k))) (rest_nothing P S X v o rest (lower_numbers path)));
+                (subst (IsRestAt v o rest (lower_numbers path)) (sym (beside_leaf m w h (length (remove cur i) - suc p) t here (kept_now m w h k))) (rest_nothing v o rest (lower_numbers path)));
             still = s.still;
             shorter = omega arith;
             past = λ lawful m w h k past. past_made selects path (remove cur i) p (none_behind (behind_here lawful m w h k past))
-                (subst (IsPast selects (lower_numbers path)) (sym (beside_leaf m w h (length (remove cur i) - suc p) t here (kept_now m w h k))) (past_nothing E P S X selects (lower_numbers path)));
+                (subst (IsPast selects (lower_numbers path)) (sym (beside_leaf m w h (length (remove cur i) - suc p) t here (kept_now m w h k))) (past_nothing E selects (lower_numbers path)));
             missed = tt;
           }
 
-      module _ (n n' : RTreeNode T E P S X) (path' : List ℕ) (rest' : Option (Rest E)) (r : Option T) (here : n ≡ get_or cur i n)
+      module _ (n n' : RTreeNode T E) (path' : List ℕ) (rest' : Option (Rest E)) (r : Option T) (here : n ≡ get_or cur i n)
           (ins : TakesInside v o accepts selects n (lower_numbers path) rest r n' (lower_numbers path') rest') (levels : length path' ≡ length path) where
         -- where the place ends here, what is kept is left
         same_rest : length path ≤ 1 → rest' ≡ rest
@@ -281,7 +281,7 @@ module _ {T E P S X : Type 0} (v : Boxes E) (o : Objects T E) (accepts : E → B
         at_here : (m w h : ℕ) → AreKept v o m w h old → IsRestAt v o rest0 start old → IsRestAt v o rest (lower_numbers path) (node_children n)
         at_here m w h k at =
             let spot : length cur - suc p ≡ i = omega (arith, next) in
-            subst (λ (ns : List (RTreeNode T E P S X)). IsRestAt v o rest (lower_numbers path) (first_children ns)) (drop_here cur i n within here)
+            subst (λ (ns : List (RTreeNode T E)). IsRestAt v o rest (lower_numbers path) (first_children ns)) (drop_here cur i n within here)
             (subst (λ (j : ℕ). IsRestAt v o rest (lower_numbers path) (first_children (drop j cur))) spot (rest_lower v o rest path p cur (s.rests m w h k at)))
 
         kept_here : (m w h : ℕ) → AreKept v o m w h old → IsRestAt v o rest0 start old → length path ≡ 1 → IsRest v o rest' p cur
@@ -299,7 +299,7 @@ module _ {T E P S X : Type 0} (v : Boxes E) (o : Objects T E) (accepts : E → B
         below_here : IsLawful v o accepts selects → (m w h : ℕ) → AreKept v o m w h old → IsPast selects start old → IsPast selects (lower_numbers path) (node_children n)
         below_here lawful m w h k past =
             let at : length cur - suc p ≡ i = omega (arith, next) in
-            subst (λ (ns : List (RTreeNode T E P S X)). IsPast selects (lower_numbers path) (first_children ns)) (drop_here cur i n within here)
+            subst (λ (ns : List (RTreeNode T E)). IsPast selects (lower_numbers path) (first_children ns)) (drop_here cur i n within here)
             (subst (λ (j : ℕ). IsPast selects (lower_numbers path) (first_children (drop j cur))) at (s.past lawful m w h k past).1)
 
         -- something below it was given, and it stays
@@ -314,15 +314,15 @@ module _ {T E P S X : Type 0} (v : Boxes E) (o : Objects T E) (accepts : E → B
               whole = λ m w h k kept. all_set (IsKeptNode v o m w h) cur i n' (kept_now m w h k) (ins.whole m w h (here_whole m w h n here (kept_now m w h k)) (at_here m w h k kept) has);
               rests = λ m w h k kept. rest_made v o rest' path' p (set cur i n') (λ one. rest_set rest' n' p (omega arith) (kept_here m w h k kept (omega (arith, one, levels))))
                   (subst (λ (j : ℕ). IsRestAt v o rest' (lower_numbers path') (first_children (drop j (set cur i n')))) (sym spot)
-                  (subst (λ (ns : List (RTreeNode T E P S X)). IsRestAt v o rest' (lower_numbers path') (first_children ns)) (sym (drop_set cur i n' within))
+                  (subst (λ (ns : List (RTreeNode T E)). IsRestAt v o rest' (lower_numbers path') (first_children ns)) (sym (drop_set cur i n' within))
                   (ins.rests m w h (here_whole m w h n here (kept_now m w h k)) (at_here m w h k kept))));
               still = still_here;
               shorter = omega arith;
               past = λ lawful m w h k past. past_made selects path' (set cur i n') p
                   (subst (λ (j : ℕ). NoneSelected selects (all_elements (drop j (set cur i n')))) (sym at)
-                  (subst (λ (ns : List (RTreeNode T E P S X)). NoneSelected selects (all_elements ns)) (sym (drop_set_more cur i n' within)) (behind_here lawful m w h k past)))
+                  (subst (λ (ns : List (RTreeNode T E)). NoneSelected selects (all_elements ns)) (sym (drop_set_more cur i n' within)) (behind_here lawful m w h k past)))
                   (subst (λ (j : ℕ). IsPast selects (lower_numbers path') (first_children (drop j (set cur i n')))) (sym spot)
-                  (subst (λ (ns : List (RTreeNode T E P S X)). IsPast selects (lower_numbers path') (first_children ns)) (sym (drop_set cur i n' within))
+                  (subst (λ (ns : List (RTreeNode T E)). IsPast selects (lower_numbers path') (first_children ns)) (sym (drop_set cur i n' within))
                   (ins.past lawful m w h (here_whole m w h n here (kept_now m w h k)) (below_here lawful m w h k past))));
               missed = some_one _ r some;
             }
@@ -354,13 +354,13 @@ module _ {T E P S X : Type 0} (v : Boxes E) (o : Objects T E) (accepts : E → B
               still = cleared_still rest'' stay;
               shorter = omega arith;
               past = λ lawful m w h k past. past_made selects path'' (remove (set cur i n') i) p
-                  (subst (λ (ns : List (RTreeNode T E P S X)). NoneSelected selects (all_elements (drop (length ns - p) ns))) (sym (remove_set cur i n' within)) (none_behind (behind_here lawful m w h k past)))
+                  (subst (λ (ns : List (RTreeNode T E)). NoneSelected selects (all_elements (drop (length ns - p) ns))) (sym (remove_set cur i n' within)) (none_behind (behind_here lawful m w h k past)))
                   (subst (λ (q : List ℕ). IsPast selects q (first_children (drop (length (remove (set cur i n') i) - suc p) (remove (set cur i n') i)))) (sym cleared)
                   (past_zeros selects d (first_children (drop (length (remove (set cur i n') i) - suc p) (remove (set cur i n') i)))));
               missed = some_one _ r some;
             }
 
-      module _ (n n' : RTreeNode T E P S X) (path' : List ℕ) (rest' : Option (Rest E)) (here : n ≡ get_or cur i n)
+      module _ (n n' : RTreeNode T E) (path' : List ℕ) (rest' : Option (Rest E)) (here : n ≡ get_or cur i n)
           (ins : TakesInside v o accepts selects n (lower_numbers path) rest None n' (lower_numbers path') rest') (levels : length path' ≡ length path) where
         -- it is passed over
         passes : is_selected_leaf selects n ≡ false → (path'' : List ℕ) (rest'' : Option (Rest E)) (d : ℕ) → lower_numbers path'' ≡ replicate d 0
@@ -378,7 +378,7 @@ module _ {T E P S X : Type 0} (v : Boxes E) (o : Objects T E) (accepts : E → B
                   (rest_below path'' rest'' (λ more. gone (omega (arith, more, levels''))) (first_children (drop (length (set cur i n') - suc (p + 1)) (set cur i n'))));
               past = λ lawful m w h k past. (
                 subst (λ (j : ℕ). NoneSelected selects (all_elements (drop j (set cur i n')))) (sym at)
-                    (subst (λ (ns : List (RTreeNode T E P S X)). NoneSelected selects (all_elements ns)) (sym (drop_set cur i n' within))
+                    (subst (λ (ns : List (RTreeNode T E)). NoneSelected selects (all_elements ns)) (sym (drop_set cur i n' within))
                     (all-append (λ t. selects t ≡ false) (elements n') (all_elements (drop (suc i) cur))
                     (subst (NoneSelected selects) (sym ins.taken)
                     (node_none selects n chosen (ins.missed lawful m w h (here_whole m w h n here (kept_now m w h k)) (below_here n n' path' rest' None here ins levels lawful m w h k past))))
@@ -388,7 +388,7 @@ module _ {T E P S X : Type 0} (v : Boxes E) (o : Objects T E) (accepts : E → B
               );
             }
 
-      pub passes_any : (n n' : RTreeNode T E P S X) (path' : List ℕ) (rest' : Option (Rest E)) (r : Option T) → is_some r ≡ false → n ≡ get_or cur i n
+      pub passes_any : (n n' : RTreeNode T E) (path' : List ℕ) (rest' : Option (Rest E)) (r : Option T) → is_some r ≡ false → n ≡ get_or cur i n
           → TakesInside v o accepts selects n (lower_numbers path) rest r n' (lower_numbers path') rest' → length path' ≡ length path → is_selected_leaf selects n ≡ false
           → (path'' : List ℕ) (rest'' : Option (Rest E)) (d : ℕ) → lower_numbers path'' ≡ replicate d 0 → length path'' ≡ length path' → (length path' ≤ 1 → rest'' ≡ rest')
           → (1 < length path' → rest'' ≡ None) → Scanned v o accepts selects old start rest0 (set cur i n') path'' rest'' (p + 1)
@@ -419,7 +419,7 @@ module _ {T E P S X : Type 0} (v : Boxes E) (o : Objects T E) (accepts : E → B
         }
 
 -- a step after which what is kept was written once more
-pub along : {T E P S X : Type 0} (v : Boxes E) (o : Objects T E) (accepts : E → Bool) (selects : T → Bool) (old new : List (RTreeNode T E P S X)) (path path' : List ℕ)
+pub along : {T E : Type 0} (v : Boxes E) (o : Objects T E) (accepts : E → Bool) (selects : T → Bool) (old new : List (RTreeNode T E)) (path path' : List ℕ)
     (rest rest' rest'' : Option (Rest E)) (r : Option T) → Takes v o accepts selects old path rest r new path' rest' → length path' ≡ length path
     → (IsRestAt v o rest' path' new → IsRestAt v o rest'' path' new) → (length path' ≡ 0 → rest'' ≡ rest')
     → Takes v o accepts selects old path rest r new path' rest''
@@ -435,22 +435,22 @@ along v o accepts selects old new path path' rest rest' rest'' r takes levels re
 }
 
 -- what is kept, where the next node is none of those that were merged
-pub left_front : {T E P S X : Type 0} (v : Boxes E) (o : Objects T E) (old : Option (Rest E)) (rest : Rest E) (ns : List (RTreeNode T E P S X)) (left passed : ℕ) → old ≡ Some rest
+pub left_front : {T E : Type 0} (v : Boxes E) (o : Objects T E) (old : Option (Rest E)) (rest : Rest E) (ns : List (RTreeNode T E)) (left passed : ℕ) → old ≡ Some rest
     → rest.count < left → left ≡ length ns - passed → IsRest v o old passed ns → IsMerged v o rest ns
 left_front v o old rest ns left passed is less many at = (subst (λ z. IsRest v o z passed ns) is at) (omega (arith, less, many))
 
 -- the merge of the envelopes of nodes, in two parts
-module _ {T E : Type 0} {IsPoint : List ℤ → Type 0} {v : Boxes E} (laws : EnvelopeLaws IsPoint v) (o : Objects T E) {P S X : Type 0} where
-  pub merged_parts : (rest : Rest E) (ns back : List (RTreeNode T E P S X)) (x : E) → back ≡ drop rest.count ns → IsMerged v o rest ns
+module _ {T E : Type 0} {IsPoint : List ℤ → Type 0} {v : Boxes E} (laws : EnvelopeLaws IsPoint v) (o : Objects T E) where
+  pub merged_parts : (rest : Rest E) (ns back : List (RTreeNode T E)) (x : E) → back ≡ drop rest.count ns → IsMerged v o rest ns
       → AllByRecursion (λ n. v.IsValue (node_box o.box_of n)) back → x ≡ v.merge rest.envelope (hull v (node_box o.box_of) back) → x ≡ hull v (node_box o.box_of) ns
   merged_parts rest ns back x behind front values made =
       made ∙ ap (λ (e : E). v.merge e (hull v (node_box o.box_of) back)) front.merged
       ∙ sym (hull-append laws (node_box o.box_of) (take rest.count ns) back front.values values)
-      ∙ ap (hull v (node_box o.box_of)) (ap (λ (l : List (RTreeNode T E P S X)). take rest.count ns ++ l) behind ∙ take-append-drop rest.count ns)
+      ∙ ap (hull v (node_box o.box_of)) (ap (λ (l : List (RTreeNode T E)). take rest.count ns ++ l) behind ∙ take-append-drop rest.count ns)
 
 -- a parent whose list lost some children, and whose envelope was made anew, is kept
-module _ {T E : Type 0} {IsPoint : List ℤ → Type 0} {v : Boxes E} {o : Objects T E} (laws : EnvelopeLaws IsPoint v) (ok : ObjectLaws v o) (m w : ℕ) {P S X : Type 0} where
-  pub kept_anew : (h : ℕ) (p q : ParentNode T E P S X) → IsKept v o m w p → AreKept v o m w h q.children.items → length q.children.items ≤ length p.children.items
+module _ {T E : Type 0} {IsPoint : List ℤ → Type 0} {v : Boxes E} {o : Objects T E} (laws : EnvelopeLaws IsPoint v) (ok : ObjectLaws v o) (m w : ℕ) where
+  pub kept_anew : (h : ℕ) (p q : ParentNode T E) → IsKept v o m w p → AreKept v o m w h q.children.items → length q.children.items ≤ length p.children.items
       → vec_len q.children ≡ length q.children.items → vec_len p.children ≡ length p.children.items → vec_capacity q.children ≡ vec_capacity p.children
       → q.envelope ≡ hull v (node_box o.box_of) q.children.items → IsKept v o m w q
   kept_anew h p q kept below short ql pl same made =
@@ -461,7 +461,7 @@ module _ {T E : Type 0} {IsPoint : List ℤ → Type 0} {v : Boxes E} {o : Objec
       }
 
   -- so is one whose envelope stayed, where the merge of its children's is what it was
-  pub kept_still : (h : ℕ) (p q : ParentNode T E P S X) → IsKept v o m w p → AreKept v o m w h p.children.items → AreKept v o m w h q.children.items
+  pub kept_still : (h : ℕ) (p q : ParentNode T E) → IsKept v o m w p → AreKept v o m w h p.children.items → AreKept v o m w h q.children.items
       → length q.children.items ≤ length p.children.items → vec_len q.children ≡ length q.children.items → vec_len p.children ≡ length p.children.items
       → vec_capacity q.children ≡ vec_capacity p.children → q.envelope ≡ p.envelope
       → hull v (node_box o.box_of) q.children.items ≡ hull v (node_box o.box_of) p.children.items → IsKept v o m w q

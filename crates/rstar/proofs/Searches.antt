@@ -23,22 +23,22 @@ use Rattle.rstar.specs.Searches.{Item, nearest_on_top, waiting_nodes, distance_o
 use Rattle.rstar.proofs.Nearness.{IsMeasured, IsPart, lower, above-node, above-Parent, parts}
 use Rattle.rstar.proofs.Rows.{elements-Parent, parents-Parent, far-Parent, elements-Leaf, far-Leaf, node_distance-Leaf, node_distance-Parent}
 
-module _ {T E P S X O : Type 0} where
+module _ {T E S O : Type 0} where
   -- one more item, at its distance
-  pub at-push : (v : Boxes E) (d : Distances T) (p : List ℤ) (value : S → ℤ) (w : Item T E P S X O) (ws us : List (Item T E P S X O)) → IsPermutation (w ∷ ws) us → value w.distance ≡ pos (distance_of v d p w.node.now)
-      → AllByRecursion (λ (w : Item T E P S X O). value w.distance ≡ pos (distance_of v d p w.node.now)) ws → AllByRecursion (λ (w : Item T E P S X O). value w.distance ≡ pos (distance_of v d p w.node.now)) us
-  at-push v d p value w ws us put e h = all_along (λ (w : Item T E P S X O). value w.distance ≡ pos (distance_of v d p w.node.now)) (w ∷ ws) us put (e, h)
+  pub at-push : (v : Boxes E) (d : Distances T) (p : List ℤ) (value : S → ℤ) (w : Item T E S O) (ws us : List (Item T E S O)) → IsPermutation (w ∷ ws) us → value w.distance ≡ pos (distance_of v d p w.node.now)
+      → AllByRecursion (λ (w : Item T E S O). value w.distance ≡ pos (distance_of v d p w.node.now)) ws → AllByRecursion (λ (w : Item T E S O). value w.distance ≡ pos (distance_of v d p w.node.now)) us
+  at-push v d p value w ws us put e h = all_along (λ (w : Item T E S O). value w.distance ≡ pos (distance_of v d p w.node.now)) (w ∷ ws) us put (e, h)
 
-  pub added-push : (old xs : List (RTreeNode T E P S X)) (w : Item T E P S X O) (ws us : List (Item T E P S X O)) → IsPermutation (old ++ xs) (waiting_nodes ws) → IsPermutation (w ∷ ws) us → IsPermutation (old ++ (xs ++ w.node.now ∷ [])) (waiting_nodes us)
+  pub added-push : (old xs : List (RTreeNode T E)) (w : Item T E S O) (ws us : List (Item T E S O)) → IsPermutation (old ++ xs) (waiting_nodes ws) → IsPermutation (w ∷ ws) us → IsPermutation (old ++ (xs ++ w.node.now ∷ [])) (waiting_nodes us)
   added-push old xs w ws us h put =
       let front = IsPermutation-to_front (old ++ xs) w.node.now in
-      let step = IsPermutation-map (λ (v : Item T E P S X O). v.node.now) (w ∷ ws) us put in
+      let step = IsPermutation-map (λ (v : Item T E S O). v.node.now) (w ∷ ws) us put in
       let all = IsPermutation-trans _ _ _ front (IsPermutation-trans _ _ _ (IsPermutation-cons w.node.now _ _ h) step) in
       subst (λ l. IsPermutation l (waiting_nodes us)) (append_assoc old xs (w.node.now ∷ [])) all
 
-pub parents-Leaf : (T E P S X : Type 0) (t : T) → parents {E = E} {P = P} {S = S} {X = X} (Leaf t) ≡ 0
+pub parents-Leaf : (T E : Type 0) (t : T) → parents {E = E} (Leaf t) ≡ 0
 unfolding parents fold_tree
-parents-Leaf T E P S X t = refl
+parents-Leaf T E t = refl
 
 first : {X : Type 0} (x : X) (xs : List X) → Contains (x ∷ xs) x
 first x xs = (0, omega arith, refl)
@@ -65,14 +65,14 @@ same-cmp : (a b : ℕ) → a ≡ b → int_cmp (pos a) (pos b) ≡ Equal
 same-cmp a b e = by_ranked (pos a <ℤ pos b) (pos a ≡ pos b) (pos b <ℤ pos a) (int_cmp (pos a) (pos b)) (int_ranked (pos a) (pos b) (int_cmp (pos a) (pos b)) refl)
     (λ is less. absurd (omega (arith, ints))) (λ is _. is) (λ is more. absurd (omega (arith, ints)))
 
-module _ {T E P S X O : Type 0} (v : Boxes E) (d : Distances T) (p : List ℤ) (value : S → ℤ) (compare : S → S → Ordering) (ties : RTreeNode T E P S X → RTreeNode T E P S X → Ordering) (order : (a b : S) → compare a b ≡ int_cmp (value a) (value b)) where
-  cmp-as : (w u : Item T E P S X O) → value w.distance ≡ pos (distance_of v d p w.node.now) → value u.distance ≡ pos (distance_of v d p u.node.now)
+module _ {T E S O : Type 0} (v : Boxes E) (d : Distances T) (p : List ℤ) (value : S → ℤ) (compare : S → S → Ordering) (ties : RTreeNode T E → RTreeNode T E → Ordering) (order : (a b : S) → compare a b ≡ int_cmp (value a) (value b)) where
+  cmp-as : (w u : Item T E S O) → value w.distance ≡ pos (distance_of v d p w.node.now) → value u.distance ≡ pos (distance_of v d p u.node.now)
       → compare u.distance w.distance ≡ int_cmp (pos (distance_of v d p u.node.now)) (pos (distance_of v d p w.node.now))
   cmp-as w u e h = order u.distance w.distance ∙ ap (λ z. int_cmp z (value w.distance)) h ∙ ap (int_cmp (pos (distance_of v d p u.node.now))) e
 
   -- the greatest of a heap is the nearest
-  pub least-nodes : (w : Item T E P S X O) (us : List (Item T E P S X O)) → value w.distance ≡ pos (distance_of v d p w.node.now) → AllByRecursion (λ (w : Item T E P S X O). value w.distance ≡ pos (distance_of v d p w.node.now)) us
-      → AllByRecursion (λ (y : Item T E P S X O). is_lt (nearest_on_top compare ties w y) ≡ false) us → AllByRecursion (λ c. distance_of v d p w.node.now ≤ distance_of v d p c) (waiting_nodes us)
+  pub least-nodes : (w : Item T E S O) (us : List (Item T E S O)) → value w.distance ≡ pos (distance_of v d p w.node.now) → AllByRecursion (λ (w : Item T E S O). value w.distance ≡ pos (distance_of v d p w.node.now)) us
+      → AllByRecursion (λ (y : Item T E S O). is_lt (nearest_on_top compare ties w y) ≡ false) us → AllByRecursion (λ c. distance_of v d p w.node.now ≤ distance_of v d p c) (waiting_nodes us)
   least-nodes w [] e h k = tt
   least-nodes w (u ∷ us) e h k = (
     not-above (distance_of v d p u.node.now) (distance_of v d p w.node.now) (sym (ap is_lt (cmp-as w u e h.0)) ∙ then-first (compare u.distance w.distance) (ties u.node.now w.node.now) k.0),
@@ -80,8 +80,8 @@ module _ {T E P S X O : Type 0} (v : Boxes E) (d : Distances T) (p : List ℤ) (
   )
 
   -- and no other at its distance comes before it
-  pub first-nodes : (w : Item T E P S X O) (us : List (Item T E P S X O)) → value w.distance ≡ pos (distance_of v d p w.node.now) → AllByRecursion (λ (w : Item T E P S X O). value w.distance ≡ pos (distance_of v d p w.node.now)) us
-      → AllByRecursion (λ (y : Item T E P S X O). is_lt (nearest_on_top compare ties w y) ≡ false) us
+  pub first-nodes : (w : Item T E S O) (us : List (Item T E S O)) → value w.distance ≡ pos (distance_of v d p w.node.now) → AllByRecursion (λ (w : Item T E S O). value w.distance ≡ pos (distance_of v d p w.node.now)) us
+      → AllByRecursion (λ (y : Item T E S O). is_lt (nearest_on_top compare ties w y) ≡ false) us
       → AllByRecursion (λ c. distance_of v d p c ≡ distance_of v d p w.node.now → is_lt (ties c w.node.now) ≡ false) (waiting_nodes us)
   first-nodes w [] e h k = tt
   first-nodes w (u ∷ us) e h k = (
@@ -94,20 +94,20 @@ one-more true x y le = omega (arith, le)
 one-more false x y le = omega (arith, le)
 
 -- of the parents, those that are farther than some distance are no more than all
-module _ {T E P S X : Type 0} (dist : E → ℕ) (m : ℕ) where
+module _ {T E : Type 0} (dist : E → ℕ) (m : ℕ) where
   mutual
     unfolding far parents fold_tree
 
-    far-fewer : (n : RTreeNode T E P S X) → far dist m n ≤ parents n
+    far-fewer : (n : RTreeNode T E) → far dist m n ≤ parents n
     far-fewer (Leaf t) = omega arith
     far-fewer (Parent' shape children envelope) = one-more (nat_lt m (dist envelope)) _ _ (far-row children)
 
-    far-row : {k : _} (row : Row_of-RTreeNode T E P S X k)
+    far-row : {k : _} (row : Row_of-RTreeNode T E k)
         → total (fold_row (λ t. 0) (λ e below. (if nat_lt m (dist e) then 1 else 0) + total below) row) ≤ total (fold_row (λ t. 0) (λ e below. 1 + total below) row)
     far-row end_of-RTreeNode = omega arith
     far-row (more_of-RTreeNode node rest) = let one = far-fewer node in let others = far-row rest in omega (arith, one, others)
 
-  pub all-far-fewer : (ns : List (RTreeNode T E P S X)) → all_far dist m ns ≤ all_parents ns
+  pub all-far-fewer : (ns : List (RTreeNode T E)) → all_far dist m ns ≤ all_parents ns
   all-far-fewer [] = omega arith
   all-far-fewer (n ∷ ns) =
       let one = far-fewer n in
@@ -117,30 +117,30 @@ module _ {T E P S X : Type 0} (dist : E → ℕ) (m : ℕ) where
       omega (arith, one, rest, a, b)
 
 -- the root alone
-pub fresh-counted : {T E P S X : Type 0} (root : ParentNode T E P S X) → CountsOpenings root (Parent root ∷ []) 0
+pub fresh-counted : {T E : Type 0} (root : ParentNode T E) → CountsOpenings root (Parent root ∷ []) 0
 fresh-counted root =
     let one = parents-Parent root in
     record { fewer = omega arith; counts = omega arith }
 
-pub fresh-far : {T E P S X : Type 0} (v : Boxes E) (d : Distances T) (p : List ℤ) (root : ParentNode T E P S X) → IsFarKept v d p root (Parent root ∷ [])
+pub fresh-far : {T E : Type 0} (v : Boxes E) (d : Distances T) (p : List ℤ) (root : ParentNode T E) → IsFarKept v d p root (Parent root ∷ [])
 fresh-far v d p root = λ n far in' le. let all = far-Parent (λ e. v.distance_2 e p) far root in omega arith
 
 module _ {T E : Type 0} {IsPoint : List ℤ → Type 0} {v : Boxes E} {o : Objects T E} {d : Distances T} {p : List ℤ} (law : IsMeasured IsPoint v o d p) where
   abbrev dist : E → ℕ
   dist e = v.distance_2 e p
 
-module _ {T E : Type 0} {IsPoint : List ℤ → Type 0} {v : Boxes E} {o : Objects T E} {d : Distances T} {p : List ℤ} (law : IsMeasured IsPoint v o d p) {P S X : Type 0} where
-  abbrev at : RTreeNode T E P S X → ℕ
+module _ {T E : Type 0} {IsPoint : List ℤ → Type 0} {v : Boxes E} {o : Objects T E} {d : Distances T} {p : List ℤ} (law : IsMeasured IsPoint v o d p) where
+  abbrev at : RTreeNode T E → ℕ
   at = distance_of v d p
 
   -- where no waiting node is nearer than m, no element is
-  pub above-all : (m : ℕ) (ns : List (RTreeNode T E P S X)) → AreWholeNodes v o ns → AllByRecursion (λ c. m ≤ at c) ns → AllByRecursion (λ t. m ≤ d.distance_2 t p) (all_elements ns)
+  pub above-all : (m : ℕ) (ns : List (RTreeNode T E)) → AreWholeNodes v o ns → AllByRecursion (λ c. m ≤ at c) ns → AllByRecursion (λ t. m ≤ d.distance_2 t p) (all_elements ns)
   above-all m [] h k = tt
   above-all m (n ∷ ns) h k = all-append (λ t. m ≤ d.distance_2 t p) (elements n) (all_elements ns) (lower (λ t. d.distance_2 t p) m _ (elements n) k.0 (above-node law n h.0)) (above-all m ns h.1 k.1)
 
-  module _ (root : ParentNode T E P S X) (old rest : List (RTreeNode T E P S X)) where
+  module _ (root : ParentNode T E) (old rest : List (RTreeNode T E)) where
     -- a parent that waited is opened
-    module _ (q : ParentNode T E P S X) (new : List (RTreeNode T E P S X)) (popped : IsPermutation old (Parent q ∷ rest)) (put : IsPermutation (rest ++ children_of q) new) where
+    module _ (q : ParentNode T E) (new : List (RTreeNode T E)) (popped : IsPermutation old (Parent q ∷ rest)) (put : IsPermutation (rest ++ children_of q) new) where
       pub fewer-parents : 1 + all_parents new ≡ all_parents old
       fewer-parents =
           let a = sum_by_popped parents (Parent q) old rest popped in
@@ -195,21 +195,21 @@ module _ {T E : Type 0} {IsPoint : List ℤ → Type 0} {v : Boxes E} {o : Objec
     -- an element that waited is given
     module _ (t : T) (popped : IsPermutation old (Leaf t ∷ rest)) where
       mine : at (Leaf t) ≡ d.distance_2 t p
-      mine = node_distance-Leaf T E P S X (dist law) (λ t. d.distance_2 t p) t
+      mine = node_distance-Leaf T E (dist law) (λ t. d.distance_2 t p) t
 
       far-leaf : (m : ℕ) → all_far (dist law) m rest ≡ all_far (dist law) m old
-      far-leaf m = let a = sum_by_popped (far (dist law) m) (Leaf t) old rest popped in let b = far-Leaf T E P S X (dist law) m t in omega arith
+      far-leaf m = let a = sum_by_popped (far (dist law) m) (Leaf t) old rest popped in let b = far-Leaf T E (dist law) m t in omega arith
 
       pub far-given : IsFarKept v d p root old → all_far (dist law) (d.distance_2 t p) rest ≡ far_of (dist law) (d.distance_2 t p) root
       far-given s = far-leaf (d.distance_2 t p) ∙ s (Leaf t) (d.distance_2 t p) (Contains-permutation (Leaf t ∷ rest) old (Leaf t) (IsPermutation-sym _ _ popped) (first (Leaf t) rest)) (omega (arith, mine))
 
       pub bag-given : IsPermutation (all_elements old) (t ∷ all_elements rest)
-      bag-given = subst (λ (l : List T). IsPermutation (all_elements old) (l ++ all_elements rest)) (elements-Leaf T E P S X t) (IsPermutation-flat_map elements old (Leaf t ∷ rest) popped)
+      bag-given = subst (λ (l : List T). IsPermutation (all_elements old) (l ++ all_elements rest)) (elements-Leaf T E t) (IsPermutation-flat_map elements old (Leaf t ∷ rest) popped)
 
       pub counted-leaf : (opened : ℕ) → CountsOpenings root old opened → CountsOpenings root rest opened
       counted-leaf opened s =
           let same = sum_by_popped parents (Leaf t) old rest popped in
-          let none = parents-Leaf T E P S X t in
+          let none = parents-Leaf T E t in
           let before = s.fewer in
           let count = s.counts in
           record { fewer = omega arith; counts = omega arith }

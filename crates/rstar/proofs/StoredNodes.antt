@@ -25,30 +25,30 @@ use Rattle.rstar.proofs.Rows.{elements-Leaf, elements-Parent, shown-Leaf, shown-
 use Rattle.rstar.proofs.Insertion.{trees_map, inner_of_fit, all_elements-append, all_elements-single}
 use Rattle.rstar.proofs.PairRows.{shown-box, folded-row}
 
-module _ {T E P S X : Type 0} (v : Boxes E) (o : Objects T E) (max : ℕ) where
-  pub kept_wider : (w w' h : ℕ) (ns : List (RTreeNode T E P S X)) → w ≤ w' → AreKept v o max w h ns → AreKept v o max w' h ns
+module _ {T E : Type 0} (v : Boxes E) (o : Objects T E) (max : ℕ) where
+  pub kept_wider : (w w' h : ℕ) (ns : List (RTreeNode T E)) → w ≤ w' → AreKept v o max w h ns → AreKept v o max w' h ns
   kept_wider w w' h ns le = trees_map (λ p k. (record { tight = k.0.tight; roomy = record { narrow = let few = k.0.roomy.narrow in omega (arith, few, le); room = k.0.roomy.room } }, k.1)) (λ t k. k) h ns
 
   -- one node more
-  pub kept_push : (w w' h : ℕ) (old new : List (RTreeNode T E P S X)) (n : RTreeNode T E P S X) → w ≤ w' → new ≡ old ++ n ∷ [] → AreKept v o max w h old → AreKept v o max w' h (n ∷ []) → AreKept v o max w' h new
+  pub kept_push : (w w' h : ℕ) (old new : List (RTreeNode T E)) (n : RTreeNode T E) → w ≤ w' → new ≡ old ++ n ∷ [] → AreKept v o max w h old → AreKept v o max w' h (n ∷ []) → AreKept v o max w' h new
   kept_push w w' h old new n le is before one = subst (λ ns. AreKept v o max w' h ns) (sym is) (all-append (IsTree (IsKeptInner v o max w') (IsElement v o) h) old (n ∷ []) (kept_wider w w' h old le before) one)
 
 -- one node more, and its elements
-pub points_push : {T E P S X : Type 0} (old new : List (RTreeNode T E P S X)) (n : RTreeNode T E P S X) (was now next : ℕ) → new ≡ old ++ n ∷ [] → now ≡ was + length (all_elements old) → next ≡ now + length (elements n) → next ≡ was + length (all_elements new)
+pub points_push : {T E : Type 0} (old new : List (RTreeNode T E)) (n : RTreeNode T E) (was now next : ℕ) → new ≡ old ++ n ∷ [] → now ≡ was + length (all_elements old) → next ≡ now + length (elements n) → next ≡ was + length (all_elements new)
 points_push old new n was now next is before one =
     let all : length (all_elements new) ≡ length (all_elements old) + length (elements n) = ap (λ ns. length (all_elements ns)) is ∙ ap length (all_elements-append old (n ∷ []) ∙ ap (λ ts. all_elements old ++ ts) (all_elements-single n)) ∙ length-append (all_elements old) (elements n) in
     omega (arith, all, before, one)
 
 -- a leaf counts one
-pub leaf_counts : (T E P S X : Type 0) (t : T) (n : ℕ) → n + 1 ≡ n + length (elements {T = T} {E = E} {P = P} {S = S} {X = X} (Leaf t))
-leaf_counts T E P S X t n = let one = ap length (elements-Leaf T E P S X t) in omega (arith, one)
+pub leaf_counts : (T E : Type 0) (t : T) (n : ℕ) → n + 1 ≡ n + length (elements {T = T} {E = E} (Leaf t))
+leaf_counts T E t n = let one = ap length (elements-Leaf T E t) in omega (arith, one)
 
 -- what a list of nodes shows, with one more
-pub shown_push : {T E P S X : Type 0} (old new : List (RTreeNode T E P S X)) (n : RTreeNode T E P S X) → new ≡ old ++ n ∷ [] → map shown new ≡ map shown old ++ shown n ∷ []
+pub shown_push : {T E : Type 0} (old new : List (RTreeNode T E)) (n : RTreeNode T E) → new ≡ old ++ n ∷ [] → map shown new ≡ map shown old ++ shown n ∷ []
 shown_push old new n is = ap (map shown) is ∙ map_push shown old n
 
 -- the merge of what nodes show is that of the nodes
-pub merge_same : {T E P S X : Type 0} (v : Boxes E) (box_of : T → E) (ns : List (RTreeNode T E P S X)) → hull v (shown_box box_of) (map shown ns) ≡ hull v (node_box box_of) ns
+pub merge_same : {T E : Type 0} (v : Boxes E) (box_of : T → E) (ns : List (RTreeNode T E)) → hull v (shown_box box_of) (map shown ns) ≡ hull v (node_box box_of) ns
 merge_same v box_of [] = refl
 merge_same v box_of (n ∷ ns) = ap (λ e. v.merge e (hull v (shown_box box_of) (map shown ns))) (shown-box box_of n) ∙ ap (v.merge (node_box box_of n)) (merge_same v box_of ns)
 
@@ -76,14 +76,14 @@ pub place_laws : ObjectLaws boxes places
 place_laws = λ t h. h
 
 -- what reading gives for a leaf
-pub leaf_read : (P S X : Type 0) (h : ℕ) (bytes : List ℕ) (p : Place) (rest : List ℕ) → h ≡ 0 → point_at bytes ≡ Ok (p, rest) → node_at h bytes ≡ Ok (shown {E = Box} {P = P} {S = S} {X = X} (Leaf p), rest)
+pub leaf_read : (h : ℕ) (bytes : List ℕ) (p : Place) (rest : List ℕ) → h ≡ 0 → point_at bytes ≡ Ok (p, rest) → node_at h bytes ≡ Ok (shown {E = Box} (Leaf p), rest)
 unfolding node_at leaf_at
-leaf_read P S X zero bytes p rest none e = rw (e, shown-Leaf Place Box P S X p) refl
-leaf_read P S X (suc h) bytes p rest none e = absurd (omega (arith, none))
+leaf_read zero bytes p rest none e = rw (e, shown-Leaf Place Box p) refl
+leaf_read (suc h) bytes p rest none e = absurd (omega (arith, none))
 
-module _ {P S X : Type 0} where
+module _ where
   -- a parent of such nodes, under the merge of their boxes
-  pub parent_kept : (max w w' h : ℕ) (p : ParentNode Place Box P S X) → w ≤ w' → length p.children.items ≤ w' → 0 < length p.children.items → p.envelope ≡ hull boxes (node_box places.box_of) p.children.items
+  pub parent_kept : (max w w' h : ℕ) (p : ParentNode Place Box) → w ≤ w' → length p.children.items ≤ w' → 0 < length p.children.items → p.envelope ≡ hull boxes (node_box places.box_of) p.children.items
       → HasRoom max p.children → AreKept boxes places max w h p.children.items → IsKeptTree boxes places max w' h p
   parent_kept max w w' h p le few some merged room trees =
       let kept = kept_wider boxes places max w w' h p.children.items le trees in
@@ -91,7 +91,7 @@ module _ {P S X : Type 0} where
 
   -- ---- what reading gives
 
-  pub parent_read : (h : ℕ) (bytes : List ℕ) (p : ParentNode Place Box P S X) (rest : List ℕ) → 0 < h → parent_at (node_at (h - 1)) bytes ≡ Ok (shown_root p, rest) → node_at h bytes ≡ Ok (shown (Parent p), rest)
+  pub parent_read : (h : ℕ) (bytes : List ℕ) (p : ParentNode Place Box) (rest : List ℕ) → 0 < h → parent_at (node_at (h - 1)) bytes ≡ Ok (shown_root p, rest) → node_at h bytes ≡ Ok (shown (Parent p), rest)
   unfolding node_at
   parent_read zero bytes p rest some e = absurd (omega (arith, some))
   parent_read (suc h) bytes p rest some e =
@@ -110,7 +110,7 @@ parent_by child bytes r0 r1 r2 rest count lower upper ns e0 some long e1 e2 e3 =
     rw (e0, a, b, e1, e2, e3) refl
 
 -- the same, by nodes that show what was read
-pub parent_shown : {P S X : Type 0} (child : List ℕ → Read Tree) (bytes r0 r1 r2 rest : List ℕ) (count : ℕ) (lower upper : Place) (ns : List (RTreeNode Place Box P S X)) (merged : Box) (b : Bool) → number_at bytes ≡ Ok (count, r0) → 0 < count → 32 + 16 * count ≤ length r0
+pub parent_shown : (child : List ℕ → Read Tree) (bytes r0 r1 r2 rest : List ℕ) (count : ℕ) (lower upper : Place) (ns : List (RTreeNode Place Box)) (merged : Box) (b : Bool) → number_at bytes ≡ Ok (count, r0) → 0 < count → 32 + 16 * count ≤ length r0
     → point_at r0 ≡ Ok (lower, r1) → point_at r1 ≡ Ok (upper, r2) → each_at child count r2 ≡ Ok (map shown ns, rest)
     → merged ≡ hull boxes (node_box places.box_of) ns → has_corners lower upper merged ≡ b
     → parent_at child bytes ≡ (if b then Ok (parent merged (row_of (map shown ns)), rest) else Err BadBox)
@@ -121,31 +121,31 @@ parent_shown child bytes r0 r1 r2 rest count lower upper ns merged b e0 some lon
 
 -- ---- how many points
 
-module _ {P S X : Type 0} (Q : ParentNode Place Box P S X → Type 0) (R : Place → Type 0) where
-  all_points : (h : ℕ) → ((n : RTreeNode Place Box P S X) → IsTree Q R h n → points_of (shown n) ≡ elements n)
-      → (ns : List (RTreeNode Place Box P S X)) → AreTrees Q R h ns → joined (map points_of (map shown ns)) ≡ all_elements ns
+module _ (Q : ParentNode Place Box → Type 0) (R : Place → Type 0) where
+  all_points : (h : ℕ) → ((n : RTreeNode Place Box) → IsTree Q R h n → points_of (shown n) ≡ elements n)
+      → (ns : List (RTreeNode Place Box)) → AreTrees Q R h ns → joined (map points_of (map shown ns)) ≡ all_elements ns
   all_points h one [] w = refl
   all_points h one (n ∷ ns) w = ap (λ (ps : List Place). ps ++ joined (map points_of (map shown ns))) (one n w.0) ∙ ap (λ (ps : List Place). elements n ++ ps) (all_points h one ns w.1)
 
-  parent_points : (h : ℕ) → ((n : RTreeNode Place Box P S X) → IsTree Q R h n → points_of (shown n) ≡ elements n)
-      → (p : ParentNode Place Box P S X) → AreTrees Q R h (children_of p) → points_of (shown_root p) ≡ elements_of p
+  parent_points : (h : ℕ) → ((n : RTreeNode Place Box) → IsTree Q R h n → points_of (shown n) ≡ elements n)
+      → (p : ParentNode Place Box) → AreTrees Q R h (children_of p) → points_of (shown_root p) ≡ elements_of p
   parent_points h one p w = ap joined (folded-row (λ (q : Place). q ∷ []) (λ b below. joined below) (map shown (children_of p))) ∙ all_points h one (children_of p) w
 
-  node_points : (h : ℕ) (n : RTreeNode Place Box P S X) → IsTree Q R h n → points_of (shown n) ≡ elements n
+  node_points : (h : ℕ) (n : RTreeNode Place Box) → IsTree Q R h n → points_of (shown n) ≡ elements n
   node_points zero n w =
       let l = is_leaf R n w in
-      ap (λ m. points_of (shown m)) l.1 ∙ ap points_of (shown-Leaf Place Box P S X l.0) ∙ sym (ap elements l.1 ∙ elements-Leaf Place Box P S X l.0)
+      ap (λ m. points_of (shown m)) l.1 ∙ ap points_of (shown-Leaf Place Box l.0) ∙ sym (ap elements l.1 ∙ elements-Leaf Place Box l.0)
   node_points (suc h) n w =
       let p = is_parent _ n w in
       ap (λ m. points_of (shown m)) p.1 ∙ ap points_of (shown-Parent p.0) ∙ parent_points h (node_points h) p.0 p.2.1 ∙ sym (ap elements p.1 ∙ elements-Parent p.0)
 
   -- the points that a root shows are its elements
-  pub root_points : (h : ℕ) (p : ParentNode Place Box P S X) → AreTrees Q R h (children_of p) → points_of (shown_root p) ≡ elements_of p
+  pub root_points : (h : ℕ) (p : ParentNode Place Box) → AreTrees Q R h (children_of p) → points_of (shown_root p) ≡ elements_of p
   root_points h = parent_points h (node_points h)
 
-module _ {P S X : Type 0} where
+module _ where
   -- the answer for a root that was read
-  pub root_by : (below count points : ℕ) (bytes rest : List ℕ) (p : ParentNode Place Box P S X) → parent_at (node_at below) bytes ≡ Ok (shown_root p, rest) → points_of (shown_root p) ≡ elements_of p → points ≡ 0 + length (elements_of p)
+  pub root_by : (below count points : ℕ) (bytes rest : List ℕ) (p : ParentNode Place Box) → parent_at (node_at below) bytes ≡ Ok (shown_root p, rest) → points_of (shown_root p) ≡ elements_of p → points ≡ 0 + length (elements_of p)
       → root_at (suc below) count bytes ≡ (if points == count then ended (shown_root p) rest else Err BadCount)
   unfolding root_at node_at
   root_by below count points bytes rest p e same counted =
@@ -154,5 +154,5 @@ module _ {P S X : Type 0} where
       rw (e, size) refl
 
 -- a root without children
-pub root_shows_none : {P S X : Type 0} (p : ParentNode Place Box P S X) → children_of p ≡ [] → p.envelope ≡ boxes.empty → shown_root p ≡ parent boxes.empty end
+pub root_shows_none : (p : ParentNode Place Box) → children_of p ≡ [] → p.envelope ≡ boxes.empty → shown_root p ≡ parent boxes.empty end
 root_shows_none p none empty = ap (λ ns. parent p.envelope (row_of (map shown ns))) none ∙ ap (λ e. parent e end) empty

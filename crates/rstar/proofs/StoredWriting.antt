@@ -75,28 +75,28 @@ head_put start a b d count e lower upper long_l long_u is_l is_u put_a put_b put
     ∙ append_assoc start (number count ++ point (map (λ x. x.0) e)) (point (map (λ x. x.1) e))
     ∙ sym (append-nil (start ++ head_of count e))
 
-module _ {P S X : Type 0} where
-  pub leaf_spelled : (n : RTreeNode Place Box P S X) (p : Place) → n ≡ Leaf p → spelling (shown n) ≡ point p
-  leaf_spelled n p is = ap (λ m. spelling (shown m)) is ∙ ap spelling (shown-Leaf Place Box P S X p)
+module _ where
+  pub leaf_spelled : (n : RTreeNode Place Box) (p : Place) → n ≡ Leaf p → spelling (shown n) ≡ point p
+  leaf_spelled n p is = ap (λ m. spelling (shown m)) is ∙ ap spelling (shown-Leaf Place Box p)
 
-  pub parent_spelled : (n : RTreeNode Place Box P S X) (p : ParentNode Place Box P S X) → n ≡ Parent p → spelling (shown n) ≡ spelling (shown_root p)
+  pub parent_spelled : (n : RTreeNode Place Box) (p : ParentNode Place Box) → n ≡ Parent p → spelling (shown n) ≡ spelling (shown_root p)
   parent_spelled n p is = ap (λ m. spelling (shown m)) is ∙ ap spelling (shown-Parent p)
 
-  pub leaf_stored : (h : ℕ) (n : RTreeNode Place Box P S X) (p : Place) → n ≡ Leaf p → IsPoint low high 2 p → IsTree (IsInner boxes places) (IsElement boxes places) h n → IsStored h (shown n)
-  leaf_stored zero n p is place w = subst (IsStored 0) (sym (ap shown is ∙ shown-Leaf Place Box P S X p)) place
+  pub leaf_stored : (h : ℕ) (n : RTreeNode Place Box) (p : Place) → n ≡ Leaf p → IsPoint low high 2 p → IsTree (IsInner boxes places) (IsElement boxes places) h n → IsStored h (shown n)
+  leaf_stored zero n p is place w = subst (IsStored 0) (sym (ap shown is ∙ shown-Leaf Place Box p)) place
   leaf_stored (suc h) n p is place w = absurd (no_parent _ p (subst (IsTree (IsInner boxes places) (IsElement boxes places) (suc h)) is w))
 
-  pub parent_stored : (h : ℕ) (n : RTreeNode Place Box P S X) (p : ParentNode Place Box P S X) → n ≡ Parent p → ((k : ℕ) → IsParentTree (IsInner boxes places) (IsElement boxes places) k p → IsStored (suc k) (shown_root p)) → IsTree (IsInner boxes places) (IsElement boxes places) h n → IsStored h (shown n)
+  pub parent_stored : (h : ℕ) (n : RTreeNode Place Box) (p : ParentNode Place Box) → n ≡ Parent p → ((k : ℕ) → IsParentTree (IsInner boxes places) (IsElement boxes places) k p → IsStored (suc k) (shown_root p)) → IsTree (IsInner boxes places) (IsElement boxes places) h n → IsStored h (shown n)
   parent_stored zero n p is one w = absurd (no_leaf _ p (subst (IsTree (IsInner boxes places) (IsElement boxes places) 0) is w))
   parent_stored (suc h) n p is one w = subst (IsStored (suc h)) (sym (ap shown is ∙ shown-Parent p)) (one h (parent_of _ p (subst (IsTree (IsInner boxes places) (IsElement boxes places) (suc h)) is w)))
 
-  next_taken : (ns items : List (RTreeNode Place Box P S X)) (k : ℕ) (n : RTreeNode Place Box P S X) → items ≡ ns → k < length items → n ≡ get_or items k n → map shown (take (k + 1) ns) ≡ map shown (take k ns) ++ shown n ∷ []
+  next_taken : (ns items : List (RTreeNode Place Box)) (k : ℕ) (n : RTreeNode Place Box) → items ≡ ns → k < length items → n ≡ get_or items k n → map shown (take (k + 1) ns) ≡ map shown (take k ns) ++ shown n ∷ []
   next_taken ns items k n same below is =
       let here : k < length ns = rw same at below in
       let at : n ≡ get_or ns k n = rw same at is in
       ap (map shown) (take_more ns k n here ∙ ap (λ u. take k ns ++ u ∷ []) (sym at)) ∙ map_push shown (take k ns) n
 
-  pub push_spelled : (ns items : List (RTreeNode Place Box P S X)) (k : ℕ) (n : RTreeNode Place Box P S X) (start out new : List ℕ) → items ≡ ns → k < length items → n ≡ get_or items k n
+  pub push_spelled : (ns items : List (RTreeNode Place Box)) (k : ℕ) (n : RTreeNode Place Box) (start out new : List ℕ) → items ≡ ns → k < length items → n ≡ get_or items k n
       → out ≡ start ++ joined (map spelling (map shown (take k ns))) → new ≡ out ++ spelling (shown n) → new ≡ start ++ joined (map spelling (map shown (take (k + 1) ns)))
   push_spelled ns items k n start out new same below is so_far put =
       put ∙ ap (λ t. t ++ spelling (shown n)) so_far ∙ append_assoc start (joined (map spelling (map shown (take k ns)))) (spelling (shown n))
@@ -105,18 +105,18 @@ module _ {P S X : Type 0} where
         joined_push [] y = append-nil y
         joined_push (x ∷ xs) y = ap (λ t. x ++ t) (joined_push xs y) ∙ sym (append_assoc x (joined xs) y)
 
-  pub push_stored : (h : ℕ) (ns items : List (RTreeNode Place Box P S X)) (k : ℕ) (n : RTreeNode Place Box P S X) → items ≡ ns → k < length items → n ≡ get_or items k n
+  pub push_stored : (h : ℕ) (ns items : List (RTreeNode Place Box)) (k : ℕ) (n : RTreeNode Place Box) → items ≡ ns → k < length items → n ≡ get_or items k n
       → AllByRecursion (IsStored h) (map shown (take k ns)) → IsStored h (shown n) → AllByRecursion (IsStored h) (map shown (take (k + 1) ns))
   push_stored h ns items k n same below is so_far one = subst (AllByRecursion (IsStored h)) (sym (next_taken ns items k n same below is)) (all-append (IsStored h) (map shown (take k ns)) (shown n ∷ []) so_far (one, tt))
 
-  pub whole_spelled : (p : ParentNode Place Box P S X) (items : List (RTreeNode Place Box P S X)) (k : ℕ) (start out : List ℕ) → items ≡ children_of p → length items ≤ k
+  pub whole_spelled : (p : ParentNode Place Box) (items : List (RTreeNode Place Box)) (k : ℕ) (start out : List ℕ) → items ≡ children_of p → length items ≤ k
       → out ≡ (start ++ head_of (length (children_of p)) p.envelope) ++ joined (map spelling (map shown (take k (children_of p)))) → out ≡ start ++ spelling (shown_root p)
   whole_spelled p items k start out same ended so_far =
       so_far ∙ ap (λ ns. (start ++ head_of (length (children_of p)) p.envelope) ++ joined (map spelling (map shown ns))) (all_taken (children_of p) items k same ended)
       ∙ append_assoc start (head_of (length (children_of p)) p.envelope) (joined (map spelling (map shown (children_of p))))
       ∙ ap (λ t. start ++ t) (ap (λ m. head_of m p.envelope ++ joined (map spelling (map shown (children_of p)))) (sym (length-map (children_of p) shown)) ∙ sym (spelling-parent p.envelope (map shown (children_of p))))
 
-  pub whole_stored : (h : ℕ) (p : ParentNode Place Box P S X) (items : List (RTreeNode Place Box P S X)) (k : ℕ) → items ≡ children_of p → length items ≤ k
+  pub whole_stored : (h : ℕ) (p : ParentNode Place Box) (items : List (RTreeNode Place Box)) (k : ℕ) → items ≡ children_of p → length items ≤ k
       → IsParentTree (IsInner boxes places) (IsElement boxes places) h p → AllByRecursion (IsStored h) (map shown (take k (children_of p))) → IsStored (suc h) (shown_root p)
   whole_stored h p items k same ended w so_far =
       let cs = children_of p in
@@ -125,6 +125,6 @@ module _ {P S X : Type 0} where
       let merged : p.envelope ≡ merge_of (map shown cs) = w.0.0 ∙ sym (merged_is_hull point_laws place_laws h cs w.1) ∙ sym (merge_same boxes places.box_of cs) in
       subst (λ (ns : List Tree). (0 < length ns) × (length ns < 2 ^ 64) × (p.envelope ≡ merge_of ns) × AllByRecursion (IsStored h) ns) (sym (nodes-row (map shown cs)))
       (let s = some_item cs w.0.1 in omega (arith, s, long), let few = p.children.ok.0 in omega (arith, few, long), merged, all) where
-        some_item : (ns : List (RTreeNode Place Box P S X)) → ns ≢ [] → 0 < length ns
+        some_item : (ns : List (RTreeNode Place Box)) → ns ≢ [] → 0 < length ns
         some_item [] full = absurd (full refl)
         some_item (n ∷ ns) full = omega arith

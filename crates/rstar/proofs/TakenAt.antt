@@ -26,27 +26,27 @@ read_at l i a d within is = get_or_default l i d a within ∙ sym is
 
 -- ---- leaves and parents
 
-module _ {T E P S X : Type 0} where
+module _ {T E : Type 0} where
   -- the two tests of a leaf
-  pub leaf_is : (n : RTreeNode T E P S X) → is_leaf_node n ≡ is_a_leaf n
+  pub leaf_is : (n : RTreeNode T E) → is_leaf_node n ≡ is_a_leaf n
   unfolding is_leaf_node fold_tree
-  leaf_is n = by_layer (out-RTreeNode T E P S X n) (sym (roll-out-RTreeNode T E P S X n)) where
-    by_layer : (x : Layer T E P S X) → n ≡ roll-RTreeNode T E P S X x → is_leaf_node n ≡ is_a_leaf n
+  leaf_is n = by_layer (out-RTreeNode T E n) (sym (roll-out-RTreeNode T E n)) where
+    by_layer : (x : Layer T E) → n ≡ roll-RTreeNode T E x → is_leaf_node n ≡ is_a_leaf n
     by_layer (layer.Leaf t) e = let is = e ∙ rolls-Leaf t in ap is_leaf_node is ∙ sym (ap leaf_in (outs-Leaf t)) ∙ sym (ap is_a_leaf is)
     by_layer (layer.Parent p) e = let is = e ∙ rolls-Parent p in ap is_leaf_node is ∙ sym (ap leaf_in (outs-Parent p)) ∙ sym (ap is_a_leaf is)
 
-  pub no_leaf_here : (n : RTreeNode T E P S X) (t : T) → n ≡ Leaf t → is_leaf_node n ≡ false → ⊥
+  pub no_leaf_here : (n : RTreeNode T E) (t : T) → n ≡ Leaf t → is_leaf_node n ≡ false → ⊥
   no_leaf_here n t e parent = let is : is_a_leaf n ≡ true = ap is_a_leaf e ∙ ap leaf_in (outs-Leaf t) in let two = leaf_is n in cc
 
   -- a leaf below which something is given is selected, and a parent is accepted
   module _ (accepts : E → Bool) (selects : T → Bool) where
-    pub leaf_selected : (n : RTreeNode T E P S X) (t : T) → n ≡ Leaf t → given accepts selects n ≢ [] → selects t ≡ true
+    pub leaf_selected : (n : RTreeNode T E) (t : T) → n ≡ Leaf t → given accepts selects n ≢ [] → selects t ≡ true
     leaf_selected n t leaf some = by_test (selects t) refl where
       by_test : (b : Bool) → selects t ≡ b → selects t ≡ true
       by_test true is = is
-      by_test false is = absurd (some (ap (given accepts selects) leaf ∙ given-Leaf T E P S X accepts selects t ∙ ap (λ b. if b then t ∷ [] else []) is))
+      by_test false is = absurd (some (ap (given accepts selects) leaf ∙ given-Leaf T E accepts selects t ∙ ap (λ b. if b then t ∷ [] else []) is))
 
-    pub given_below : (p : ParentNode T E P S X) → given accepts selects (Parent p) ≢ [] → given accepts selects (Parent p) ≡ all_given accepts selects (children_of p)
+    pub given_below : (p : ParentNode T E) → given accepts selects (Parent p) ≢ [] → given accepts selects (Parent p) ≡ all_given accepts selects (children_of p)
     given_below p some = by_test (accepts p.envelope) refl where
       by_test : (b : Bool) → accepts p.envelope ≡ b → given accepts selects (Parent p) ≡ all_given accepts selects (children_of p)
       by_test true is = given-Parent accepts selects p ∙ ap (λ b. if b then all_given accepts selects (children_of p) else []) is
@@ -54,8 +54,8 @@ module _ {T E P S X : Type 0} where
 
 -- ---- what is left
 
-module _ {T E P S X : Type 0} (v : Boxes E) (o : Objects T E) (accepts : E → Bool) (selects : T → Bool) where
-  module _ (ns : List (RTreeNode T E P S X)) (i : ℕ) (within : i < length ns) where
+module _ {T E : Type 0} (v : Boxes E) (o : Objects T E) (accepts : E → Bool) (selects : T → Bool) where
+  module _ (ns : List (RTreeNode T E)) (i : ℕ) (within : i < length ns) where
     without_one : (m w h : ℕ) → AreKept v o m w h ns → AreKept v o m w h (remove ns i)
     without_one m w h k = all-append (IsKeptNode v o m w h) (take i ns) (drop (suc i) ns) (all_take (IsKeptNode v o m w h) i ns k) (all_drop (IsKeptNode v o m w h) (suc i) ns k)
 
@@ -65,7 +65,7 @@ module _ {T E P S X : Type 0} (v : Boxes E) (o : Objects T E) (accepts : E → B
       taken = record {
         before = all_elements (take i ns);
         after = all_elements (drop (suc i) ns);
-        was = elements_split ns i (Leaf t) within here ∙ ap (λ (z : List T). all_elements (take i ns) ++ (z ++ all_elements (drop (suc i) ns))) (elements-Leaf T E P S X t);
+        was = elements_split ns i (Leaf t) within here ∙ ap (λ (z : List T). all_elements (take i ns) ++ (z ++ all_elements (drop (suc i) ns))) (elements-Leaf T E t);
         is = elements_removed ns i;
       };
       selected = chosen;
@@ -78,7 +78,7 @@ module _ {T E P S X : Type 0} (v : Boxes E) (o : Objects T E) (accepts : E → B
     }
 
     -- something below a parent was taken
-    module _ (n n' : RTreeNode T E P S X) (r : Option T) (here : n ≡ get_or ns i n) (ins : TakesInside v o accepts selects n [] None r n' [] None) (some : is_some r ≡ true) where
+    module _ (n n' : RTreeNode T E) (r : Option T) (here : n ≡ get_or ns i n) (ins : TakesInside v o accepts selects n [] None r n' [] None) (some : is_some r ≡ true) where
       -- the parent stays
       pub takes_below : is_childless n' ≡ false → Takes v o accepts selects ns [] None r (set ns i n') [] None
       takes_below has = record {
@@ -111,7 +111,7 @@ module _ {T E P S X : Type 0} (v : Boxes E) (o : Objects T E) (accepts : E → B
       }
 
   -- nothing is given
-  pub takes_nothing : {IsPoint : List ℤ → Type 0} (laws : EnvelopeLaws IsPoint v) (ok : ObjectLaws v o) (ns : List (RTreeNode T E P S X)) → all_given accepts selects ns ≡ []
+  pub takes_nothing : {IsPoint : List ℤ → Type 0} (laws : EnvelopeLaws IsPoint v) (ok : ObjectLaws v o) (ns : List (RTreeNode T E)) → all_given accepts selects ns ≡ []
       → Takes v o accepts selects ns [] None None ns [] None
   takes_nothing laws ok ns nothing = record {
     taken = refl;

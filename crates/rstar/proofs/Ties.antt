@@ -108,12 +108,12 @@ pub far-by : (x y : ℤ) (m d : ℕ) (b : Bool) → x ≡ pos m → y ≡ pos d 
 far-by x y m d b h k e t = let le : int_le (pos m) (pos d) ≡ false = sym (ap (λ z. int_le z y) h ∙ ap (int_le (pos m)) k) ∙ sym e ∙ t in grind (arith, ints)
 
 -- a search that was made holds all elements
-pub fresh-elements : {T E P S X O : Type 0} (s : NodeSearch T E P S X O) (root : ParentNode T E P S X) → s.stage ≡ Fresh → s.root.now ≡ root → all_elements (waiting_of s) ≡ elements_of root
-fresh-elements {T} {E} {P} {S} {X} {O} s root fresh is =
+pub fresh-elements : {T E S O : Type 0} (s : NodeSearch T E S O) (root : ParentNode T E) → s.stage ≡ Fresh → s.root.now ≡ root → all_elements (waiting_of s) ≡ elements_of root
+fresh-elements {T} {E} {S} {O} s root fresh is =
     ap (λ stage. all_elements (waiting_at stage s.root.now (held_by s))) fresh
-    ∙ append-nil (elements (Parent s.root.now)) ∙ elements-Parent s.root.now ∙ ap (λ (r : ParentNode T E P S X). elements_of r) is
+    ∙ append-nil (elements (Parent s.root.now)) ∙ elements-Parent s.root.now ∙ ap (λ (r : ParentNode T E). elements_of r) is
 
 -- a search that is ready for any point is so for this one
-pub ready_at : {T E P S X O : Type 0} (v : Boxes E) (d : Distances T) (p : List ℤ) (compare : S → S → Ordering) (ties : RTreeNode T E P S X → RTreeNode T E P S X → Ordering) (value : S → ℤ) (o : Objects T E) (s : NodeSearch T E P S X O)
+pub ready_at : {T E S O : Type 0} (v : Boxes E) (d : Distances T) (p : List ℤ) (compare : S → S → Ordering) (ties : RTreeNode T E → RTreeNode T E → Ordering) (value : S → ℤ) (o : Objects T E) (s : NodeSearch T E S O)
     → ((q : List ℤ) → IsReady v d q compare ties value o s) → IsReady v d p compare ties value o s
 ready_at v d p compare ties value o s ready = ready p

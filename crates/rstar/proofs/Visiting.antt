@@ -13,19 +13,19 @@ use Rattle.rstar.proofs.Rows.{given-Leaf, given-Parent, steps-Leaf, steps-Parent
 
 -- ---- the first node
 
-module _ {T E P S X : Type 0} (accepts : E → Bool) (selects : T → Bool) where
+module _ {T E : Type 0} (accepts : E → Bool) (selects : T → Bool) where
   -- a leaf
-  pub look-leaf : (ns rest : List (RTreeNode T E P S X)) (n : RTreeNode T E P S X) (t : T) (b : Bool) → ns ≡ n ∷ rest → n ≡ Leaf t → selects t ≡ b
+  pub look-leaf : (ns rest : List (RTreeNode T E)) (n : RTreeNode T E) (t : T) (b : Bool) → ns ≡ n ∷ rest → n ≡ Leaf t → selects t ≡ b
       → (all_given accepts selects ns ≡ (if b then t ∷ [] else []) ++ all_given accepts selects rest) × (total (map steps rest) < total (map steps ns))
   look-leaf ns rest n t b is leaf says =
-      let e = ap (λ l. total (map steps l)) is in let f = ap steps leaf ∙ steps-Leaf T E P S X t in (
+      let e = ap (λ l. total (map steps l)) is in let f = ap steps leaf ∙ steps-Leaf T E t in (
         ap (all_given accepts selects) is
-            ∙ ap (λ l. l ++ all_given accepts selects rest) (ap (given accepts selects) leaf ∙ given-Leaf T E P S X accepts selects t ∙ ap (λ (b : Bool). if b then t ∷ [] else []) says),
+            ∙ ap (λ l. l ++ all_given accepts selects rest) (ap (given accepts selects) leaf ∙ given-Leaf T E accepts selects t ∙ ap (λ (b : Bool). if b then t ∷ [] else []) says),
         omega arith,
       )
 
   -- a parent
-  pub look-parent : (ns rest : List (RTreeNode T E P S X)) (n : RTreeNode T E P S X) (p : ParentNode T E P S X) (b : Bool) → ns ≡ n ∷ rest → n ≡ Parent p → accepts p.envelope ≡ b
+  pub look-parent : (ns rest : List (RTreeNode T E)) (n : RTreeNode T E) (p : ParentNode T E) (b : Bool) → ns ≡ n ∷ rest → n ≡ Parent p → accepts p.envelope ≡ b
       → (all_given accepts selects ns ≡ (if b then all_given accepts selects (children_of p) else []) ++ all_given accepts selects rest)
       × (total (map steps rest) < total (map steps ns)) × (total (map steps (children_of p)) < total (map steps ns))
   look-parent ns rest n p b is parent says =
@@ -81,7 +81,7 @@ module _ {V A T B : Type 0} (now : A → T) (step : V → A → ControlFlow B (U
 
 -- ---- from a root
 
-module _ {T E P S X : Type 0} (accepts : E → Bool) (selects : T → Bool) (root : ParentNode T E P S X) where
+module _ {T E : Type 0} (accepts : E → Bool) (selects : T → Bool) (root : ParentNode T E) where
   -- a root without children, or one that is refused
   pub gives_none : (children_of root ≡ []) ⊎ (accepts (envelope_of root) ≡ false) → given_of accepts selects root ≡ []
   gives_none (inl none) = ap (λ ns. if accepts (envelope_of root) then all_given accepts selects ns else []) none ∙ either (accepts (envelope_of root))

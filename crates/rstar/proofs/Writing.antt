@@ -47,15 +47,15 @@ Writes-none step v (m ∷ ms) = (without_marks ms, refl, Writes-none step v ms)
 
 -- ---- a root, or a parent
 
-module _ {T E P S X : Type 0} (accepts : E → Bool) (selects : T → Bool) where
+module _ {T E : Type 0} (accepts : E → Bool) (selects : T → Bool) where
   -- nothing happens where a parent is refused
-  pub refused-writes : {V B : Type 0} (step : Step V T B) (v : V) (p : ParentNode T E P S X) → accepts p.envelope ≡ false → Writes step v (marked_of accepts selects p) (Continue tt) v (all_elements (children_of p))
+  pub refused-writes : {V B : Type 0} (step : Step V T B) (v : V) (p : ParentNode T E) → accepts p.envelope ≡ false → Writes step v (marked_of accepts selects p) (Continue tt) v (all_elements (children_of p))
   refused-writes step v p refused =
       subst (λ l. Writes step v l (Continue tt) v (all_elements (children_of p))) (sym (ap (λ (b : Bool). if b then all_marked accepts selects (children_of p) else unmarked (all_marked accepts selects (children_of p))) refused))
       (subst (λ l. Writes step v (unmarked (all_marked accepts selects (children_of p))) (Continue tt) v l) (all-marks accepts selects (children_of p)) (Writes-none step v (all_marked accepts selects (children_of p))))
 
   -- nor below one without children
-  empty-writes : {V B : Type 0} (step : Step V T B) (v : V) (p : ParentNode T E P S X) → children_of p ≡ [] → Writes step v (marked_of accepts selects p) (Continue tt) v (all_elements (children_of p))
+  empty-writes : {V B : Type 0} (step : Step V T B) (v : V) (p : ParentNode T E) → children_of p ≡ [] → Writes step v (marked_of accepts selects p) (Continue tt) v (all_elements (children_of p))
   empty-writes step v p none =
       subst (λ l. Writes step v l (Continue tt) v (all_elements (children_of p))) (sym (ap (λ ns. if accepts p.envelope then all_marked accepts selects ns else unmarked (all_marked accepts selects ns)) none ∙ either (accepts p.envelope)))
       (refl, refl, ap all_elements none)
@@ -64,12 +64,12 @@ module _ {T E P S X : Type 0} (accepts : E → Bool) (selects : T → Bool) wher
       either true = refl
       either false = refl
 
-  pub passed-writes : {V B : Type 0} (step : Step V T B) (v : V) (p : ParentNode T E P S X) → (children_of p ≡ []) ⊎ (accepts p.envelope ≡ false) → Writes step v (marked_of accepts selects p) (Continue tt) v (all_elements (children_of p))
+  pub passed-writes : {V B : Type 0} (step : Step V T B) (v : V) (p : ParentNode T E) → (children_of p ≡ []) ⊎ (accepts p.envelope ≡ false) → Writes step v (marked_of accepts selects p) (Continue tt) v (all_elements (children_of p))
   passed-writes step v p (inl none) = empty-writes step v p none
   passed-writes step v p (inr refused) = refused-writes step v p refused
 
   -- below a parent that is accepted, what its children tell
-  pub parent-writes : {V B : Type 0} (step : Step V T B) (v : V) (p : ParentNode T E P S X) (r : ControlFlow B (Unit {0})) (w : V) (us : List T) → accepts p.envelope ≡ true
+  pub parent-writes : {V B : Type 0} (step : Step V T B) (v : V) (p : ParentNode T E) (r : ControlFlow B (Unit {0})) (w : V) (us : List T) → accepts p.envelope ≡ true
       → Writes step v (all_marked accepts selects (children_of p)) r w us → Writes step v (marked_of accepts selects p) r w us
   parent-writes step v p r w us accepted a =
       subst (λ l. Writes step v l r w us) (sym (ap (λ (b : Bool). if b then all_marked accepts selects (children_of p) else unmarked (all_marked accepts selects (children_of p))) accepted)) a
@@ -92,7 +92,7 @@ all-middle : {A : Type 0} (Q : A → Type 0) (xs : List A) (n : A) (ys : List A)
 all-middle Q [] n ys w = (w.0, w.1)
 all-middle Q (x ∷ xs) n ys w = all-middle Q xs n ys w.1
 
-total-split : {T E P S X : Type 0} (xs : List (RTreeNode T E P S X)) (n : RTreeNode T E P S X) (ys : List (RTreeNode T E P S X)) → steps n ≤ total (map steps (xs ++ n ∷ ys))
+total-split : {T E : Type 0} (xs : List (RTreeNode T E)) (n : RTreeNode T E) (ys : List (RTreeNode T E)) → steps n ≤ total (map steps (xs ++ n ∷ ys))
 total-split [] n ys = omega arith
 total-split (x ∷ xs) n ys = let e = total-split xs n ys in omega arith
 
@@ -100,29 +100,29 @@ total-split (x ∷ xs) n ys = let e = total-split xs n ys in omega arith
 pub refilled : {A : Type 0} (list : Vec A Global) (ns : List A) → length ns ≡ length list.items → (with_items list ns).items ≡ ns
 refilled list ns long = with_items_is list ns (long ∙ sym list.ok.0)
 
-module _ {V T E B P S X : Type 0} (o : Objects T E) (accepts : E → Bool) (selects : T → Bool) (step : Step V T B) where
+module _ {V T E B : Type 0} (o : Objects T E) (accepts : E → Bool) (selects : T → Bool) (step : Step V T B) where
   -- the nodes before the index are done: a visit of the rest makes one of all
-  pub record IsHalfway (first now : V) (index : ℕ) (old new : List (RTreeNode T E P S X)) : Type 0 where
-    pub before : List (RTreeNode T E P S X)
-    pub done : List (RTreeNode T E P S X)
-    pub rest : List (RTreeNode T E P S X)
+  pub record IsHalfway (first now : V) (index : ℕ) (old new : List (RTreeNode T E)) : Type 0 where
+    pub before : List (RTreeNode T E)
+    pub done : List (RTreeNode T E)
+    pub rest : List (RTreeNode T E)
     pub was : old ≡ before ++ rest
     pub is : new ≡ done ++ rest
     pub at : length done ≡ index
     pub go : (r : ControlFlow B (Unit {0})) (w : V) (us : List T) → Writes step now (all_marked accepts selects rest) r w us → Writes step first (all_marked accepts selects old) r w (all_elements done ++ us)
     pub changed : Keeps o step → (h : ℕ) → AreTrees IsAny IsAny h old → AllZip (IsChanged (KeepsBox o) h) before done
 
-  pub halfway-start : (v : V) (ns : List (RTreeNode T E P S X)) → IsHalfway v v 0 ns ns
+  pub halfway-start : (v : V) (ns : List (RTreeNode T E)) → IsHalfway v v 0 ns ns
   halfway-start v ns = record { before = []; done = []; rest = ns; was = refl; is = refl; at = refl; go = λ r w us a. a; changed = λ k h a. tt }
 
   -- the node at the index
-  pub record IsHere (first now : V) (index : ℕ) (old new : List (RTreeNode T E P S X)) (n : RTreeNode T E P S X) : Type 0 where
+  pub record IsHere (first now : V) (index : ℕ) (old new : List (RTreeNode T E)) (n : RTreeNode T E) : Type 0 where
     pub half : IsHalfway first now index old new
-    pub more : List (RTreeNode T E P S X)
+    pub more : List (RTreeNode T E)
     pub rest_is : half.rest ≡ n ∷ more
 
-  here-at : {first now : V} {index : ℕ} {old new : List (RTreeNode T E P S X)} (half : IsHalfway first now index old new) (d : RTreeNode T E P S X) → index < length new
-      → (rest : List (RTreeNode T E P S X)) → half.rest ≡ rest → IsHere first now index old new (slice_index_or new index d)
+  here-at : {first now : V} {index : ℕ} {old new : List (RTreeNode T E)} (half : IsHalfway first now index old new) (d : RTreeNode T E) → index < length new
+      → (rest : List (RTreeNode T E)) → half.rest ≡ rest → IsHere first now index old new (slice_index_or new index d)
   here-at {index = index} {new = new} half d lt [] e =
       let a = ap length (half.is ∙ ap (λ l. half.done ++ l) e ∙ append-nil half.done) in let b = half.at in absurd (omega arith)
   here-at {index = index} {new = new} half d lt (n ∷ more) e = record {
@@ -131,10 +131,10 @@ module _ {V T E B P S X : Type 0} (o : Objects T E) (accepts : E → Bool) (sele
     rest_is = e ∙ ap (λ m. m ∷ more) (sym (ap (λ l. slice_index_or l index d) (half.is ∙ ap (λ l. half.done ++ l) e) ∙ at-split half.done n more index d half.at));
   }
 
-  pub here : {first now : V} {index : ℕ} {old new : List (RTreeNode T E P S X)} → IsHalfway first now index old new → (d : RTreeNode T E P S X) → index < length new → IsHere first now index old new (slice_index_or new index d)
+  pub here : {first now : V} {index : ℕ} {old new : List (RTreeNode T E)} → IsHalfway first now index old new → (d : RTreeNode T E) → index < length new → IsHere first now index old new (slice_index_or new index d)
   here half d lt = here-at half d lt half.rest refl
 
-  module _ {first now : V} {index : ℕ} {old new : List (RTreeNode T E P S X)} {n : RTreeNode T E P S X} (at : IsHere first now index old new n) (m : RTreeNode T E P S X) where
+  module _ {first now : V} {index : ℕ} {old new : List (RTreeNode T E)} {n : RTreeNode T E} (at : IsHere first now index old new n) (m : RTreeNode T E) where
     set-here : slice_set new index m ≡ (at.half.done ++ m ∷ []) ++ at.more
     set-here = ap (λ l. slice_set l index m) (at.half.is ∙ ap (λ l. at.half.done ++ l) at.rest_is) ∙ set-split at.half.done n m at.more index at.half.at
 
@@ -179,12 +179,12 @@ module _ {V T E B P S X : Type 0} (o : Objects T E) (accepts : E → Bool) (sele
         (one k h mid.0, changed-refl (KeepsBox o) (λ t. (refl, λ is. is)) IsAny IsAny h at.more mid.1)))
 
   -- all are done
-  none-left : {first now : V} {index : ℕ} {old new : List (RTreeNode T E P S X)} (half : IsHalfway first now index old new) → length new ≤ index → (rest : List (RTreeNode T E P S X)) → half.rest ≡ rest → half.rest ≡ []
+  none-left : {first now : V} {index : ℕ} {old new : List (RTreeNode T E)} (half : IsHalfway first now index old new) → length new ≤ index → (rest : List (RTreeNode T E)) → half.rest ≡ rest → half.rest ≡ []
   none-left half le [] e = e
   none-left half le (n ∷ more) e =
       let a = ap length (half.is ∙ ap (λ l. half.done ++ l) e) in let b = length-append half.done (n ∷ more) in let c = half.at in absurd (omega arith)
 
-  pub halfway-end : {first now : V} {index : ℕ} {old new : List (RTreeNode T E P S X)} → IsHalfway first now index old new → length new ≤ index
+  pub halfway-end : {first now : V} {index : ℕ} {old new : List (RTreeNode T E)} → IsHalfway first now index old new → length new ≤ index
       → Writes step first (all_marked accepts selects old) (Continue tt) now (all_elements new)
       × (Keeps o step → (h : ℕ) → AreTrees IsAny IsAny h old → AllZip (IsChanged (KeepsBox o) h) old new)
   halfway-end {first} {now} {index} {old} {new} half le =
@@ -198,27 +198,27 @@ module _ {V T E B P S X : Type 0} (o : Objects T E) (accepts : E → Bool) (sele
 
   -- ---- a writing visit of one node
 
-  pub leaf-called : (v : V) (n m : RTreeNode T E P S X) (t : T) (x y : MutBor T) (r : ControlFlow B (Unit {0})) (w : V) → n ≡ Leaf t → m ≡ Leaf y.now → x.now ≡ t → selects t ≡ true → step v x r y w
+  pub leaf-called : (v : V) (n m : RTreeNode T E) (t : T) (x y : MutBor T) (r : ControlFlow B (Unit {0})) (w : V) → n ≡ Leaf t → m ≡ Leaf y.now → x.now ≡ t → selects t ≡ true → step v x r y w
       → Writes step v (marked accepts selects n) r w (elements m)
   leaf-called v n m t x y r w is left from says s =
-      subst (λ l. Writes step v l r w (elements m)) (sym (ap (marked accepts selects) is ∙ marked-Leaf T E P S X accepts selects t ∙ ap (λ b. (t, b) ∷ []) says))
-      (subst (λ l. Writes step v ((t, true) ∷ []) r w l) (sym (ap elements left ∙ elements-Leaf T E P S X y.now)) (either r s))
+      subst (λ l. Writes step v l r w (elements m)) (sym (ap (marked accepts selects) is ∙ marked-Leaf T E accepts selects t ∙ ap (λ b. (t, b) ∷ []) says))
+      (subst (λ l. Writes step v ((t, true) ∷ []) r w l) (sym (ap elements left ∙ elements-Leaf T E y.now)) (either r s))
     where
       either : (r : ControlFlow B (Unit {0})) → step v x r y w → Writes step v ((t, true) ∷ []) r w (y.now ∷ [])
       either (Continue u) s = inr (x, y, w, [], from, s, refl, (refl, refl, refl))
       either (Break b) s = inl (x, y, b, from, refl, s, refl)
 
-  pub leaf-passed : (v : V) (n : RTreeNode T E P S X) (t : T) → n ≡ Leaf t → selects t ≡ false → Writes step v (marked accepts selects n) (Continue tt) v (elements n)
+  pub leaf-passed : (v : V) (n : RTreeNode T E) (t : T) → n ≡ Leaf t → selects t ≡ false → Writes step v (marked accepts selects n) (Continue tt) v (elements n)
   leaf-passed v n t is says =
-      subst (λ l. Writes step v l (Continue tt) v (elements n)) (sym (ap (marked accepts selects) is ∙ marked-Leaf T E P S X accepts selects t ∙ ap (λ b. (t, b) ∷ []) says))
-      (subst (λ l. Writes step v ((t, false) ∷ []) (Continue tt) v l) (sym (ap elements is ∙ elements-Leaf T E P S X t)) ([], refl, (refl, refl, refl)))
+      subst (λ l. Writes step v l (Continue tt) v (elements n)) (sym (ap (marked accepts selects) is ∙ marked-Leaf T E accepts selects t ∙ ap (λ b. (t, b) ∷ []) says))
+      (subst (λ l. Writes step v ((t, false) ∷ []) (Continue tt) v l) (sym (ap elements is ∙ elements-Leaf T E t)) ([], refl, (refl, refl, refl)))
 
-  pub leaf-changed : (n m : RTreeNode T E P S X) (t u : T) → n ≡ Leaf t → m ≡ Leaf u → KeepsBox o t u → (h : ℕ) → IsTree IsAny IsAny h n → IsChanged (KeepsBox o) h n m
+  pub leaf-changed : (n m : RTreeNode T E) (t u : T) → n ≡ Leaf t → m ≡ Leaf u → KeepsBox o t u → (h : ℕ) → IsTree IsAny IsAny h n → IsChanged (KeepsBox o) h n m
   leaf-changed n m t u is left k zero w =
-      subst (λ a. IsChanged (KeepsBox o) 0 a m) (sym is) (subst (λ a. IsChanged (KeepsBox o) 0 (Leaf t) a) (sym left) (IsLeafOf-Leaf T E P S X _ t (IsLeafOf-Leaf T E P S X _ u k)))
+      subst (λ a. IsChanged (KeepsBox o) 0 a m) (sym is) (subst (λ a. IsChanged (KeepsBox o) 0 (Leaf t) a) (sym left) (IsLeafOf-Leaf T E _ t (IsLeafOf-Leaf T E _ u k)))
   leaf-changed n m t u is left k (suc h) w = absurd (no_parent _ t (subst (IsTree IsAny IsAny (suc h)) is w))
 
-  pub parent-changed : (n m : RTreeNode T E P S X) (p q : ParentNode T E P S X) → n ≡ Parent p → m ≡ Parent q → q.envelope ≡ p.envelope → vec_capacity q.children ≡ vec_capacity p.children
+  pub parent-changed : (n m : RTreeNode T E) (p q : ParentNode T E) → n ≡ Parent p → m ≡ Parent q → q.envelope ≡ p.envelope → vec_capacity q.children ≡ vec_capacity p.children
       → ((h : ℕ) → AreTrees IsAny IsAny h (children_of p) → AllZip (IsChanged (KeepsBox o) h) (children_of p) (children_of q))
       → (h : ℕ) → IsTree IsAny IsAny h n → IsChanged (KeepsBox o) h n m
   parent-changed n m p q is left envelope capacity below zero w = absurd (no_leaf _ p (subst (IsTree IsAny IsAny 0) is w))
@@ -226,23 +226,23 @@ module _ {V T E B P S X : Type 0} (o : Objects T E) (accepts : E → Bool) (sele
       subst (λ a. IsChanged (KeepsBox o) (suc h) a m) (sym is) (subst (λ a. IsChanged (KeepsBox o) (suc h) (Parent p) a) (sym left)
       (IsParentOf-Parent _ p (IsParentOf-Parent _ q (record { envelope = envelope; capacity = capacity; children = below h (parent_of _ p (subst (IsTree IsAny IsAny (suc h)) is w)).1 }))))
 
-  pub parent-written : (v : V) (n m : RTreeNode T E P S X) (p q : ParentNode T E P S X) (r : ControlFlow B (Unit {0})) (w : V) → n ≡ Parent p → m ≡ Parent q → accepts p.envelope ≡ true
+  pub parent-written : (v : V) (n m : RTreeNode T E) (p q : ParentNode T E) (r : ControlFlow B (Unit {0})) (w : V) → n ≡ Parent p → m ≡ Parent q → accepts p.envelope ≡ true
       → Writes step v (all_marked accepts selects (children_of p)) r w (all_elements (children_of q)) → Writes step v (marked accepts selects n) r w (elements m)
   parent-written v n m p q r w is left accepted a =
       subst (λ l. Writes step v l r w (elements m)) (sym (ap (marked accepts selects) is ∙ marked-Parent accepts selects p))
       (parent-writes accepts selects step v p r w (elements m) accepted
       (subst (λ l. Writes step v (all_marked accepts selects (children_of p)) r w l) (sym (ap elements left ∙ elements-Parent q)) a))
 
-  pub parent-refused : (v : V) (n : RTreeNode T E P S X) (p : ParentNode T E P S X) → n ≡ Parent p → accepts p.envelope ≡ false → Writes step v (marked accepts selects n) (Continue tt) v (elements n)
+  pub parent-refused : (v : V) (n : RTreeNode T E) (p : ParentNode T E) → n ≡ Parent p → accepts p.envelope ≡ false → Writes step v (marked accepts selects n) (Continue tt) v (elements n)
   parent-refused v n p is refused =
       subst (λ l. Writes step v l (Continue tt) v (elements n)) (sym (ap (marked accepts selects) is ∙ marked-Parent accepts selects p))
       (subst (λ l. Writes step v (marked_of accepts selects p) (Continue tt) v l) (sym (ap elements is ∙ elements-Parent p)) (refused-writes accepts selects step v p refused))
 
   -- no change
-  pub node-unchanged : (n : RTreeNode T E P S X) → (h : ℕ) → IsTree IsAny IsAny h n → IsChanged (KeepsBox o) h n n
+  pub node-unchanged : (n : RTreeNode T E) → (h : ℕ) → IsTree IsAny IsAny h n → IsChanged (KeepsBox o) h n n
   node-unchanged n h w = (changed-refl (KeepsBox o) (λ t. (refl, λ is. is)) IsAny IsAny h (n ∷ []) (w, tt)).0
 
-  pub here-steps : {first now : V} {index : ℕ} {old new : List (RTreeNode T E P S X)} {n : RTreeNode T E P S X} → IsHere first now index old new n → steps n ≤ total (map steps old)
+  pub here-steps : {first now : V} {index : ℕ} {old new : List (RTreeNode T E)} {n : RTreeNode T E} → IsHere first now index old new n → steps n ≤ total (map steps old)
   here-steps {n = n} at = subst (λ l. steps n ≤ total (map steps l)) (sym (at.half.was ∙ ap (λ l. at.half.before ++ l) at.rest_is)) (total-split at.half.before n at.more)
 
 -- ---- a lawful selection

@@ -58,7 +58,7 @@ module _ {D P S X : Type 0} (max : ℕ) (tree : RTree Place D Box P S X) where
             ∙ ap (λ (k : ℕ). magic ++ number k ++ suc levels ∷ spelling (shown_root tree.root)) (sym points);
       }
 
-module _ {D P S X : Type 0} (max : ℕ) (tree : RTree Place D Box P S X) (whole : IsWholeTree boxes places max tree) (root : ParentNode Place Box P S X) (is : root ≡ tree.root) where
+module _ {D P S X : Type 0} (max : ℕ) (tree : RTree Place D Box P S X) (whole : IsWholeTree boxes places max tree) (root : ParentNode Place Box) (is : root ≡ tree.root) where
   pub empty_root_written : vec_len root.children ≡ 0 → (start a b d : List ℕ) (count : ℕ) → start ≡ [] → a ≡ start ++ magic → b ≡ a ++ number count → d ≡ b ++ 0 ∷ [] → count ≡ length (elements_in tree)
       → Spells d (shown_root tree.root)
   empty_root_written length_0 =

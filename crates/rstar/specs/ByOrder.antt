@@ -1,5 +1,5 @@
 -- What an iterator over neighbours in the stated order gives, and what it costs. All distances are squared.
--- T is the element's type, E its envelope's, P its point's, S its scalar's, X what a scalar's text is refused with.
+-- T is the element's type, E its envelope's, P its point's, S its scalar's.
 use Rattle.std.specs.Prelude.{◌≡◌, ℕ, ◌-◌, min, ℤ, pos, List, Option, Result, IfSome, IfOk}
 use Rattle.std.specs.Borrow.{Bor}
 use Rattle.std.specs.Iterator.{Count}
@@ -19,36 +19,36 @@ use Rattle.rstar.specs.Nodes.{parents_of, far_of}
 use Rattle.rstar.specs.Searches.{parents_first, calls_left, IsReady}
 
 -- the iterator over the nodes of a tree
-abbrev pub NearestNeighborByOrderIterator : (T E P S X : Type 0) → Type 0
-NearestNeighborByOrderIterator T E P S X = NeighborsByOrder (ParentNode T E P S X) (RTreeNode T E P S X) S P
+abbrev pub NearestNeighborByOrderIterator : (T E P S : Type 0) → Type 0
+NearestNeighborByOrderIterator T E P S = NeighborsByOrder (ParentNode T E) (RTreeNode T E) S P
 
-module _ {T E P S X : Type 0} where
+module _ {T E P S : Type 0} where
   -- what it shows
-  abbrev pub search_by_order : NearestNeighborByOrderIterator T E P S X → Search T E P S X
+  abbrev pub search_by_order : NearestNeighborByOrderIterator T E P S → Search T E P
   search_by_order it = shown it.search it.point
 
   -- how many calls of `next` may give something
-  abbrev pub neighbors_left : NearestNeighborByOrderIterator T E P S X → Count
+  abbrev pub neighbors_left : NearestNeighborByOrderIterator T E P S → Count
   neighbors_left it = calls_left it.search
 
 -- after an element was given: nothing that waits comes before it, and just the parents that are no farther were opened
-pub record IsNextInOrder {T E P S X : Type 0} (v : Boxes E) (d : Distances T) (p : List ℤ) (order : T → T → Ordering)
-    (s : Search T E P S X) (t : T) : Type 0 where
+pub record IsNextInOrder {T E P : Type 0} (v : Boxes E) (d : Distances T) (p : List ℤ) (order : T → T → Ordering)
+    (s : Search T E P) (t : T) : Type 0 where
   pub first : AllByRecursion (IsNotLater (λ u. d.distance_2 u p) order t) (elements_waiting s)
   pub opened : s.opened
       ≡ min (parents_of s.root - far_of (λ e. v.distance_2 e p) (d.distance_2 t p) s.root) usize_max
 
 -- `order` is the elements' own, scalars compare by `compare` and mean `value`
-module _ {T E P S X : Type 0} (v : Boxes E) (o : Objects T E) (d : Distances T) (order : T → T → Ordering) (axes : ℕ)
+module _ {T E P S : Type 0} (v : Boxes E) (o : Objects T E) (d : Distances T) (order : T → T → Ordering) (axes : ℕ)
     (coord : P → ℕ → ℤ) (compare : S → S → Ordering) (value : S → ℤ) where
   -- what it keeps, so that `next` may be called
-  unfoldable pub IsSearchingByOrder : NearestNeighborByOrderIterator T E P S X → Type 0
+  unfoldable pub IsSearchingByOrder : NearestNeighborByOrderIterator T E P S → Type 0
   IsSearchingByOrder it = IsReady v d (table axes (coord it.point)) compare (parents_first order) value o it.search
 
   -- until a refusal, a call of `next` gives the first of what waits in the stated order, with its distance, and `None`
   -- where nothing waits; it may be called again, also after `None`
-  abbrev pub GivesByOrder : NearestNeighborByOrderIterator T E P S X → Option (Result (Bor T × S) AllocError)
-      → NearestNeighborByOrderIterator T E P S X → Type 0
+  abbrev pub GivesByOrder : NearestNeighborByOrderIterator T E P S → Option (Result (Bor T × S) AllocError)
+      → NearestNeighborByOrderIterator T E P S → Type 0
   GivesByOrder old r new =
       GivesNeighbor v d axes coord (λ x. x.0.now) (search_by_order old) r (search_by_order new)
       × IfSome r (λ y. IfOk y (λ x. IsNextInOrder v d (table axes (coord new.point)) order (search_by_order new) x.0.now))

@@ -14,14 +14,14 @@ abbrev pub KeepsBox : {T E : Type 0} → Objects T E → T → T → Type 0
 KeepsBox o t u = (o.box_of u ≡ o.box_of t) × (o.IsValue t → o.IsValue u)
 
 -- q is p, its children changed as K allows
-pub record IsChangedParent {T E P S X : Type 0} (K : RTreeNode T E P S X → RTreeNode T E P S X → Type 0)
-    (p q : ParentNode T E P S X) : Type 0 where
+pub record IsChangedParent {T E : Type 0} (K : RTreeNode T E → RTreeNode T E → Type 0)
+    (p q : ParentNode T E) : Type 0 where
   pub envelope : q.envelope ≡ p.envelope
   pub capacity : vec_capacity q.children ≡ vec_capacity p.children
   pub children : AllZip K p.children.items q.children.items
 
 -- the second node is the first, whose leaves lie this many levels below, its elements changed as K allows
-abbrev pub IsChanged : {T E P S X : Type 0} → (T → T → Type 0) → ℕ → RTreeNode T E P S X → RTreeNode T E P S X
+abbrev pub IsChanged : {T E : Type 0} → (T → T → Type 0) → ℕ → RTreeNode T E → RTreeNode T E
     → Type 0
 IsChanged K zero n m = IsLeafOf (λ t. IsLeafOf (K t) m) n
 IsChanged K (suc h) n m = IsParentOf (λ p. IsParentOf (IsChangedParent (IsChanged K h) p) m) n

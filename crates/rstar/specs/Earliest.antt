@@ -1,5 +1,5 @@
 -- The earliest of some elements, by an order of their own.
--- T is the element's type, E its envelope's, P its point's, S its scalar's, X what a scalar's text is refused with.
+-- T is the element's type, E its envelope's.
 use Rattle.std.specs.Prelude.{◌≡◌, ◌≢◌, ℕ, ◌<◌, Bool, List, [], ◌∷◌, length, slice_index_or, if◌then◌else◌}
 use Rattle.std.specs.Prelude.{Option, Some, None, option_map}
 use Rattle.std.specs.Borrow.{Bor}
@@ -31,20 +31,20 @@ earlier_at compare (Some found) i (Some t) = if is_lt (compare t.now found.1.now
 
 -- ---- nodes, from which a walk gives elements
 
-module _ {T E P S X : Type 0} (accepts : E → Bool) (selects : T → Bool) where
+module _ {T E : Type 0} (accepts : E → Bool) (selects : T → Bool) where
   -- something is given below the node at this place
-  pub record IsGivenAt (ns : List (RTreeNode T E P S X)) (i : ℕ) : Type 0 where
+  pub record IsGivenAt (ns : List (RTreeNode T E)) (i : ℕ) : Type 0 where
     pub within : i < length ns
-    pub some : (d : RTreeNode T E P S X) → given accepts selects (slice_index_or ns i d) ≢ []
+    pub some : (d : RTreeNode T E) → given accepts selects (slice_index_or ns i d) ≢ []
 
   module _ (compare : T → T → Ordering) where
     -- t is the earliest of all that is given, and lies below the node at this place
-    pub record IsEarliestAt (ns : List (RTreeNode T E P S X)) (i : ℕ) (t : T) : Type 0 where
+    pub record IsEarliestAt (ns : List (RTreeNode T E)) (i : ℕ) (t : T) : Type 0 where
       pub within : i < length ns
-      pub here : (d : RTreeNode T E P S X) → earliest compare (given accepts selects (slice_index_or ns i d)) ≡ Some t
+      pub here : (d : RTreeNode T E) → earliest compare (given accepts selects (slice_index_or ns i d)) ≡ Some t
       pub all : earliest compare (all_given accepts selects ns) ≡ Some t
 
     -- the place and the earliest of what is given, and none where nothing is
-    abbrev pub IsEarliestOf : List (RTreeNode T E P S X) → Option (ℕ × Bor T) → Type 0
+    abbrev pub IsEarliestOf : List (RTreeNode T E) → Option (ℕ × Bor T) → Type 0
     IsEarliestOf ns None = all_given accepts selects ns ≡ []
     IsEarliestOf ns (Some found) = IsEarliestAt ns found.0 found.1.now

@@ -1,5 +1,5 @@
 -- What a search for the first few elements keeps: those found so far, and the parents that wait.
--- T is the element's type, E its envelope's, P its point's, S its scalar's, X what a scalar's text is refused with.
+-- T is the element's type, E its envelope's, S its scalar's.
 use Rattle.std.specs.Prelude.{◌≡◌, ℕ, ◌<◌, ◌≤◌, ◌⊎◌, ℤ, pos, true, false, List, [], ◌∷◌, ◌++◌, length, map}
 use Rattle.std.specs.Borrow.{Bor}
 use Rattle.std.specs.List.{AllByRecursion, insert}
@@ -53,16 +53,16 @@ abbrev pub found_elements : {T S O : Type 0} → List (Found T S O) → List T
 found_elements ws = map (λ w. w.node.now) ws
 
 -- the parents that wait in a heap, as nodes
-abbrev pub waiting_parents : {T E P S X O : Type 0} → List (Waiting (Bor (ParentNode T E P S X)) S O) → List (RTreeNode T E P S X)
+abbrev pub waiting_parents : {T E S O : Type 0} → List (Waiting (Bor (ParentNode T E)) S O) → List (RTreeNode T E)
 waiting_parents ws = map (λ w. Parent w.node.now) ws
 
 -- each waits at its own distance
-abbrev pub WaitAtDistance : {T E P S X O : Type 0} → Boxes E → Distances T → List ℤ → (S → ℤ) → List (Waiting (Bor (ParentNode T E P S X)) S O) → Type 0
+abbrev pub WaitAtDistance : {T E S O : Type 0} → Boxes E → Distances T → List ℤ → (S → ℤ) → List (Waiting (Bor (ParentNode T E)) S O) → Type 0
 WaitAtDistance v d p value ws = AllByRecursion (λ w. value w.distance ≡ pos (distance_of v d p (Parent w.node.now))) ws
 
 -- all elements are those of the nodes that wait and those that were seen, of which the first so many, or all, are found
-pub record AreFoundSoFar {T E P S X O : Type 0} (v : Boxes E) (o : Objects T E) (d : Distances T) (p : List ℤ)
-    (compare : T → T → Ordering) (value : S → ℤ) (most : ℕ) (all : List T) (nodes : List (RTreeNode T E P S X))
+pub record AreFoundSoFar {T E S O : Type 0} (v : Boxes E) (o : Objects T E) (d : Distances T) (p : List ℤ)
+    (compare : T → T → Ordering) (value : S → ℤ) (most : ℕ) (all : List T) (nodes : List (RTreeNode T E))
     (found : List (Found T S O)) : Type 0 where
   pub parts : AreWholeNodes v o nodes
   pub seen : List T

@@ -27,9 +27,9 @@ pub record IsSwappedOut {A : Type 0} (xs : List A) (i : ℕ) (ys : List A) : Typ
   pub others : (k : ℕ) (d : A) → k ≢ i → k + 1 < length xs → slice_index_or ys k d ≡ slice_index_or xs k d
 
 -- m and w are the bounds of the nodes' lists, h the levels below
-module _ {T E P S X : Type 0} (v : Boxes E) (o : Objects T E) (accepts : E → Bool) (selects : T → Bool) (most : ℕ) where
+module _ {T E : Type 0} (v : Boxes E) (o : Objects T E) (accepts : E → Bool) (selects : T → Bool) (most : ℕ) where
   -- they left a list of nodes, which has no selected element any more where the other list is not full
-  pub record GathersAmong (old : List (RTreeNode T E P S X)) (held : List T) (new : List (RTreeNode T E P S X))
+  pub record GathersAmong (old : List (RTreeNode T E)) (held : List T) (new : List (RTreeNode T E))
       (held' : List T) : Type 0 where
     pub moved : Gathers selects most (all_elements old) held (all_elements new) held'
     pub shorter : length new ≤ length old
@@ -38,7 +38,7 @@ module _ {T E P S X : Type 0} (v : Boxes E) (o : Objects T E) (accepts : E → B
         → NoneSelected selects (all_elements new)
 
   -- they left one node, which may be left without children
-  pub record GathersInside (old : RTreeNode T E P S X) (held : List T) (new : RTreeNode T E P S X) (held' : List T)
+  pub record GathersInside (old : RTreeNode T E) (held : List T) (new : RTreeNode T E) (held' : List T)
       : Type 0 where
     pub moved : Gathers selects most (elements old) held (elements new) held'
     pub kept : (m w h : ℕ) → IsTree (IsKeptInner v o m w) (IsElement v o) h old → is_childless new ≡ false

@@ -10,15 +10,15 @@ first_of [] = 0
 first_of (n ∷ rest) = n
 
 -- the levels of parents down to the first leaf, the node's own among them; in a whole tree all leaves lie as deep
-unfoldable pub levels : {T E P S X : Type 0} → RTreeNode T E P S X → ℕ
+unfoldable pub levels : {T E : Type 0} → RTreeNode T E → ℕ
 levels n = fold_tree (λ t. 0) (λ e below. 1 + first_of below) n
 
 -- the same below a parent
-abbrev pub levels_below : {T E P S X : Type 0} → List (RTreeNode T E P S X) → ℕ
+abbrev pub levels_below : {T E : Type 0} → List (RTreeNode T E) → ℕ
 levels_below ns = first_of (map levels ns)
 
 -- the number of levels of parents; an empty root counts 1
-abbrev pub height_of : {T E P S X : Type 0} → ParentNode T E P S X → ℕ
+abbrev pub height_of : {T E : Type 0} → ParentNode T E → ℕ
 height_of root = 1 + levels_below (children_of root)
 
 -- the spare child lists for an insertion into a tree of that height, where an overflow inserts `reinserted` children

@@ -7,29 +7,29 @@ use Rattle.rstar.specs.Nodes.{all_elements}
 use Rattle.rstar.specs.Walks.{IsLevel}
 
 -- the lists of nodes that are not given yet, the one that is being given last
-abbrev pub lists_of : {T E P S X : Type 0} → IntoIter T E P S X → List (List (RTreeNode T E P S X))
+abbrev pub lists_of : {T E : Type 0} → IntoIter T E → List (List (RTreeNode T E))
 lists_of it = map (λ v. v.items) it.path.items ++ it.nodes.items ∷ []
 
 -- the elements in them
-abbrev pub elements_held : {T E P S X : Type 0} → List (List (RTreeNode T E P S X)) → List T
+abbrev pub elements_held : {T E : Type 0} → List (List (RTreeNode T E)) → List T
 elements_held lists = flat_map all_elements lists
 
 -- the elements that it still gives, in order
-unfoldable pub left_to_give : {T E P S X : Type 0} → IntoIter T E P S X → List T
+unfoldable pub left_to_give : {T E : Type 0} → IntoIter T E → List T
 left_to_give it = reverse (elements_held (lists_of it))
 
 -- each list holds nodes one level below those of the list before it, from level h - 1 on
-abbrev pub AreLists : {T E P S X : Type 0} → ℕ → List (List (RTreeNode T E P S X)) → Type 0
+abbrev pub AreLists : {T E : Type 0} → ℕ → List (List (RTreeNode T E)) → Type 0
 AreLists h [] = ⊤
 AreLists zero (nodes ∷ lists) = ⊥
 AreLists (suc h) (nodes ∷ lists) = AllByRecursion (IsLevel h) nodes × AreLists h lists
 
 -- such lists, with room for those above the lowest leaves
-pub record HasItsLists {T E P S X : Type 0} (room : ℕ) (lists : List (List (RTreeNode T E P S X))) : Type 0 where
+pub record HasItsLists {T E : Type 0} (room : ℕ) (lists : List (List (RTreeNode T E))) : Type 0 where
   pub height : ℕ
   pub fits : height ≤ room + 1
   pub levels : AreLists height lists
 
 -- what it keeps, so that `next` may be called
-unfoldable pub IsGiving : {T E P S X : Type 0} → IntoIter T E P S X → Type 0
+unfoldable pub IsGiving : {T E : Type 0} → IntoIter T E → Type 0
 IsGiving it = HasItsLists (vec_capacity it.path) (lists_of it)

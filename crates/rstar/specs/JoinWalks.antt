@@ -41,8 +41,8 @@ with_marks (b ∷ bs) marks = (if b then 1 else 0) + 2 * with_marks bs marks
 
 -- nodes on the left, and those on the right; of the pairs of the first on the left, so many as are asked together, with
 -- those on the right, some were asked, with marks for those that meet and are still to be read, and some are asked later
-abbrev pub Frame : (T E P S X U F Q R Y : Type 0) → Type 0
-Frame T E P S X U F Q R Y = Kept (Bor (List (RTreeNode T E P S X))) (Bor (List (RTreeNode U F Q R Y)))
+abbrev pub Frame : (T E U F : Type 0) → Type 0
+Frame T E U F = Kept (Bor (List (RTreeNode T E))) (Bor (List (RTreeNode U F)))
 
 abbrev pub frame_of : {L R : Type 0} → L → R → ℕ → R → R → Kept L R
 frame_of lefts asked marks later rights =
@@ -56,31 +56,31 @@ rows_beside rights = if nat_le (length rights) 8 then 8 else 1
 abbrev pub IsSingle : {A : Type 0} → List A → Type 0
 IsSingle xs = length xs ≡ 1
 
-module _ {T E P S X U F Q R Y : Type 0} where
+module _ {T E U F : Type 0} where
   -- the pairs that meet and are still to be read, and those that are asked later
-  abbrev pub met_of : Frame T E P S X U F Q R Y → List (RTreeNode T E P S X × RTreeNode U F Q R Y)
+  abbrev pub met_of : Frame T E U F → List (RTreeNode T E × RTreeNode U F)
   met_of frame = marked_items frame.marks (product (take (rows_beside frame.rights.now) frame.lefts.now) frame.asked.now)
 
-  abbrev pub unasked_of : Frame T E P S X U F Q R Y → List (RTreeNode T E P S X × RTreeNode U F Q R Y)
+  abbrev pub unasked_of : Frame T E U F → List (RTreeNode T E × RTreeNode U F)
   unasked_of frame = product (take (rows_beside frame.rights.now) frame.lefts.now) frame.later.now
       ++ product (drop (rows_beside frame.rights.now) frame.lefts.now) frame.rights.now
 
   -- the frames of an iterator: those that are left, and behind them the one that is being read
-  abbrev pub in_hand : IntersectionIterator T U E P S X F Q R Y → Frame T E P S X U F Q R Y
+  abbrev pub in_hand : IntersectionIterator T U E F → Frame T E U F
   in_hand it = frame_of it.lefts it.asked it.marks it.later it.rights
 
-  abbrev pub frames_of : IntersectionIterator T U E P S X F Q R Y → List (Frame T E P S X U F Q R Y)
+  abbrev pub frames_of : IntersectionIterator T U E F → List (Frame T E U F)
   frames_of it = it.path.items ++ in_hand it ∷ []
 
-module _ {T E P S X U F Q R Y : Type 0} (meets : E → F → Bool) (left_box : T → E) (right_box : U → F) where
+module _ {T E U F : Type 0} (meets : E → F → Bool) (left_box : T → E) (right_box : U → F) where
   -- two nodes on these levels that meet
-  pub record IsMetPair (left_height right_height : ℕ) (p : RTreeNode T E P S X × RTreeNode U F Q R Y) : Type 0 where
+  pub record IsMetPair (left_height right_height : ℕ) (p : RTreeNode T E × RTreeNode U F) : Type 0 where
     pub left : IsLevel left_height p.0
     pub right : IsLevel right_height p.1
     pub meeting : meets (node_box left_box p.0) (node_box right_box p.1) ≡ true
 
   -- no more than `room` frames come after a frame, one for each level of the higher side
-  pub record IsFrame (room : ℕ) (frame : Frame T E P S X U F Q R Y) : Type 0 where
+  pub record IsFrame (room : ℕ) (frame : Frame T E U F) : Type 0 where
     pub left_height : ℕ
     pub right_height : ℕ
     pub lefts : AllByRecursion (IsLevel left_height) frame.lefts.now
@@ -91,41 +91,41 @@ module _ {T E P S X U F Q R Y : Type 0} (meets : E → F → Bool) (left_box : T
     pub fits : max left_height right_height ≤ room
 
   -- each frame has the room that those before it leave
-  abbrev pub AreFrames : ℕ → List (Frame T E P S X U F Q R Y) → Type 0
+  abbrev pub AreFrames : ℕ → List (Frame T E U F) → Type 0
   AreFrames n [] = ⊤
   AreFrames zero (frame ∷ frames) = ⊥
   AreFrames (suc n) (frame ∷ frames) = IsFrame n frame × AreFrames n frames
 
   -- what pairs of nodes give, and how many pairs are opened from there
-  abbrev pub pairs_below : List (RTreeNode T E P S X × RTreeNode U F Q R Y) → List (T × U)
+  abbrev pub pairs_below : List (RTreeNode T E × RTreeNode U F) → List (T × U)
   pairs_below ps = flat_map (λ p. pairs_at meets left_box right_box p.0 p.1) ps
 
-  abbrev pub opens_below : List (RTreeNode T E P S X × RTreeNode U F Q R Y) → ℕ
+  abbrev pub opens_below : List (RTreeNode T E × RTreeNode U F) → ℕ
   opens_below ps = sum_by (λ p. opens_at meets left_box right_box p.0 p.1) ps
 
   -- the same of frames, the last frame first
-  abbrev pub pairs_from_frames : List (Frame T E P S X U F Q R Y) → List (T × U)
+  abbrev pub pairs_from_frames : List (Frame T E U F) → List (T × U)
   pairs_from_frames [] = []
   pairs_from_frames (frame ∷ frames) = pairs_from_frames frames ++ pairs_below (met_of frame ++ unasked_of frame)
 
-  abbrev pub opens_from_frames : List (Frame T E P S X U F Q R Y) → ℕ
+  abbrev pub opens_from_frames : List (Frame T E U F) → ℕ
   opens_from_frames [] = 0
   opens_from_frames (frame ∷ frames) = opens_from_frames frames + opens_below (met_of frame ++ unasked_of frame)
 
   -- the pairs opened and those still to be opened are all that Meet counts
-  pub record CountsPairs (left : ParentNode T E P S X) (right : ParentNode U F Q R Y)
-      (frames : List (Frame T E P S X U F Q R Y)) (opened : ℕ) : Type 0 where
+  pub record CountsPairs (left : ParentNode T E) (right : ParentNode U F)
+      (frames : List (Frame T E U F)) (opened : ℕ) : Type 0 where
     pub count : ℕ
     pub counted : opened ≡ min count usize_max
     pub all : count + opens_from_frames frames ≡ meet_of_roots meets left_box right_box left right
 
   -- what a join on its way keeps: room for all frames that may come, and the count
-  pub record HasItsPaths (it : IntersectionIterator T U E P S X F Q R Y) : Type 0 where
+  pub record HasItsPaths (it : IntersectionIterator T U E F) : Type 0 where
     pub frames : AreFrames (it.path.capacity + 1) (frames_of it)
     pub count : CountsPairs it.left.now it.right.now (frames_of it) it.opened
 
   -- the pairs that it still gives, in order
-  abbrev pub pairs_by : IntersectionIterator T U E P S X F Q R Y → List (T × U)
+  abbrev pub pairs_by : IntersectionIterator T U E F → List (T × U)
   pairs_by it = pairs_from_frames (frames_of it)
 
 -- ---- steps
@@ -139,24 +139,24 @@ abbrev pub all_steps : {A B : Type 0} → (A → B → ℕ) → List A → List 
 all_steps f as' bs = 1 + total (map (λ a. row_steps f a bs) as')
 
 -- how many steps a leaf beside a node takes
-unfoldable pub steps_beside : {U F Q R Y : Type 0} → RTreeNode U F Q R Y → ℕ
+unfoldable pub steps_beside : {U F : Type 0} → RTreeNode U F → ℕ
 steps_beside r = fold_tree (λ u. 1) (λ e below. 3 + total (map (λ n. 1 + n) below)) r
 
 -- how many steps a pair of nodes takes: one, and those of what comes after it
-unfoldable pub steps_at : {T E P S X U F Q R Y : Type 0} → RTreeNode T E P S X → RTreeNode U F Q R Y → ℕ
-steps_at {U = U} {F = F} {Q = Q} {R = R} {Y = Y} l r = fold_tree {A = RTreeNode U F Q R Y → ℕ} (λ t r. steps_beside r)
+unfoldable pub steps_at : {T E U F : Type 0} → RTreeNode T E → RTreeNode U F → ℕ
+steps_at {U = U} {F = F} l r = fold_tree {A = RTreeNode U F → ℕ} (λ t r. steps_beside r)
     (λ e below r. 1 + all_steps (λ b n. b n) below (opened_to r)) l r
 
 -- how many steps frames take: those of the pairs that are to be read, and of those that are to be asked one more for each
 -- pair and one for each row
-abbrev pub steps_of_pair : {T E P S X U F Q R Y : Type 0} → RTreeNode T E P S X × RTreeNode U F Q R Y → ℕ
+abbrev pub steps_of_pair : {T E U F : Type 0} → RTreeNode T E × RTreeNode U F → ℕ
 steps_of_pair p = steps_at p.0 p.1
 
-abbrev pub steps_of_frame : {T E P S X U F Q R Y : Type 0} → Frame T E P S X U F Q R Y → ℕ
+abbrev pub steps_of_frame : {T E U F : Type 0} → Frame T E U F → ℕ
 steps_of_frame frame = 1 + length frame.lefts.now + sum_by steps_of_pair (met_of frame)
     + sum_by (λ p. 1 + steps_of_pair p) (unasked_of frame)
 
-abbrev pub steps_of_frames : {T E P S X U F Q R Y : Type 0} → List (Frame T E P S X U F Q R Y) → ℕ
+abbrev pub steps_of_frames : {T E U F : Type 0} → List (Frame T E U F) → ℕ
 steps_of_frames [] = 0
 steps_of_frames (frame ∷ frames) = steps_of_frames frames + steps_of_frame frame
 
@@ -179,9 +179,9 @@ IsPairsOver Passed left = Unit {0}
 IsPairsOver Ended left = left ≡ 0
 
 -- a step keeps the join and its roots, and goes on
-pub record IsPairStep {T E P S X U F Q R Y : Type 0} (meets : E → F → Bool) (left_box : T → E) (right_box : U → F)
-    (old : IntersectionIterator T U E P S X F Q R Y) (r : PairStep T U)
-    (new : IntersectionIterator T U E P S X F Q R Y) : Type 0 where
+pub record IsPairStep {T E U F : Type 0} (meets : E → F → Bool) (left_box : T → E) (right_box : U → F)
+    (old : IntersectionIterator T U E F) (r : PairStep T U)
+    (new : IntersectionIterator T U E F) : Type 0 where
   pub joining : HasItsPaths meets left_box right_box new
   pub left : new.left.now ≡ old.left.now
   pub right : new.right.now ≡ old.right.now

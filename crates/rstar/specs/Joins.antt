@@ -31,32 +31,32 @@ join meets left_box right_box ts us = filter (λ p. meets (left_box p.0) (right_
 
 -- ---- what an iterator shows: its roots, and how many pairs of nodes it has opened
 
-module _ {T E P S X U F Q R Y : Type 0} where
-  abbrev pub left_root : IntersectionIterator T U E P S X F Q R Y → ParentNode T E P S X
+module _ {T E U F : Type 0} where
+  abbrev pub left_root : IntersectionIterator T U E F → ParentNode T E
   left_root it = it.left.now
 
-  abbrev pub right_root : IntersectionIterator T U E P S X F Q R Y → ParentNode U F Q R Y
+  abbrev pub right_root : IntersectionIterator T U E F → ParentNode U F
   right_root it = it.right.now
 
-  abbrev pub pairs_opened : IntersectionIterator T U E P S X F Q R Y → ℕ
+  abbrev pub pairs_opened : IntersectionIterator T U E F → ℕ
   pairs_opened it = it.opened
 
-module _ {T E P S X U F Q R Y : Type 0} (meets : E → F → Bool) (left_box : T → E) (right_box : U → F) where
+module _ {T E U F : Type 0} (meets : E → F → Bool) (left_box : T → E) (right_box : U → F) where
   -- the pairs that it still gives, in order
-  unfoldable pub pairs_to_come : IntersectionIterator T U E P S X F Q R Y → List (T × U)
+  unfoldable pub pairs_to_come : IntersectionIterator T U E F → List (T × U)
   pairs_to_come it = pairs_by meets left_box right_box it
 
   -- what it keeps, so that `next` may be called
-  unfoldable pub IsJoining : IntersectionIterator T U E P S X F Q R Y → Type 0
+  unfoldable pub IsJoining : IntersectionIterator T U E F → Type 0
   IsJoining it = HasItsPaths meets left_box right_box it
 
   -- how many pairs Meet counts of its roots
-  abbrev pub meet_by : IntersectionIterator T U E P S X F Q R Y → ℕ
+  abbrev pub meet_by : IntersectionIterator T U E F → ℕ
   meet_by it = meet_of_roots meets left_box right_box (left_root it) (right_root it)
 
   -- an iterator as it is made: over these roots, with the pair of roots opened or nothing, and no more than Meet counts
-  pub record IsJoinMade (left : ParentNode T E P S X) (right : ParentNode U F Q R Y)
-      (it : IntersectionIterator T U E P S X F Q R Y) : Type 0 where
+  pub record IsJoinMade (left : ParentNode T E) (right : ParentNode U F)
+      (it : IntersectionIterator T U E F) : Type 0 where
     pub left_over : left_root it ≡ left
     pub right_over : right_root it ≡ right
     pub opened : pairs_opened it ≤ 1
@@ -64,8 +64,8 @@ module _ {T E P S X U F Q R Y : Type 0} (meets : E → F → Bool) (left_box : T
 
   -- a call of `next` gives the first pair that is to come, of the same roots, and another may follow; at the end all
   -- that Meet counts was opened, and never more
-  pub record GivesPair (old : IntersectionIterator T U E P S X F Q R Y) (r : Option (Bor T × Bor U))
-      (new : IntersectionIterator T U E P S X F Q R Y) : Type 0 where
+  pub record GivesPair (old : IntersectionIterator T U E F) (r : Option (Bor T × Bor U))
+      (new : IntersectionIterator T U E F) : Type 0 where
     pub gives : YieldsFirstBy (λ p. (p.0.now, p.1.now)) pairs_to_come old r new
     pub left : left_root new ≡ left_root old
     pub right : right_root new ≡ right_root old

@@ -30,7 +30,7 @@ abbrev pub HasRoom : {A : Type 0} → ℕ → Vec A Global → Type 0
 HasRoom max v = max ≤ vec_capacity v
 
 -- at most `widest` children, and room for `max`
-pub record IsRoomy {T E P S X : Type 0} (max widest : ℕ) (p : ParentNode T E P S X) : Type 0 where
+pub record IsRoomy {T E : Type 0} (max widest : ℕ) (p : ParentNode T E) : Type 0 where
   pub narrow : length p.children.items ≤ widest
   pub room : HasRoom max p.children
 
@@ -40,43 +40,43 @@ IsSpare count v = (v.items ≡ []) × (count ≤ vec_capacity v)
 
 -- ---- a parent while an element goes in
 
-module _ {T E P S X : Type 0} (v : Boxes E) (o : Objects T E) (max widest : ℕ) where
+module _ {T E : Type 0} (v : Boxes E) (o : Objects T E) (max widest : ℕ) where
   -- tight, and roomy
-  pub record IsKept (p : ParentNode T E P S X) : Type 0 where
+  pub record IsKept (p : ParentNode T E) : Type 0 where
     pub tight : IsTight v o p
     pub roomy : IsRoomy max widest p
 
   -- the same of a parent that is not the root
-  abbrev pub IsKeptInner : ParentNode T E P S X → Type 0
+  abbrev pub IsKeptInner : ParentNode T E → Type 0
   IsKeptInner p = IsKept p × (0 < length p.children.items)
 
   -- a parent whose envelope is the merge of its children's, with a child
-  pub record HasMergedBox (p : ParentNode T E P S X) : Type 0 where
+  pub record HasMergedBox (p : ParentNode T E) : Type 0 where
     pub merged : p.envelope ≡ hull v (node_box o.box_of) p.children.items
     pub some : 0 < length p.children.items
     pub roomy : IsRoomy max widest p
 
-module _ {T E P S X : Type 0} (v : Boxes E) (o : Objects T E) (max widest : ℕ) where
+module _ {T E : Type 0} (v : Boxes E) (o : Objects T E) (max widest : ℕ) where
   -- trees of such parents over elements
-  abbrev pub AreKept : ℕ → List (RTreeNode T E P S X) → Type 0
+  abbrev pub AreKept : ℕ → List (RTreeNode T E) → Type 0
   AreKept h ns = AreTrees (IsKeptInner v o max widest) (IsElement v o) h ns
 
-  abbrev pub IsKeptTree : ℕ → ParentNode T E P S X → Type 0
+  abbrev pub IsKeptTree : ℕ → ParentNode T E → Type 0
   IsKeptTree h p = IsParentTree (IsKeptInner v o max widest) (IsElement v o) h p
 
 -- the children of a parent that may be there
-abbrev pub second_children : {T E P S X : Type 0} → Option (ParentNode T E P S X) → List (RTreeNode T E P S X)
+abbrev pub second_children : {T E : Type 0} → Option (ParentNode T E) → List (RTreeNode T E)
 second_children None = []
 second_children (Some p) = p.children.items
 
 -- a parent that may be there, as a list of nodes
-abbrev pub as_node : {T E P S X : Type 0} → Option (ParentNode T E P S X) → List (RTreeNode T E P S X)
+abbrev pub as_node : {T E : Type 0} → Option (ParentNode T E) → List (RTreeNode T E)
 as_node None = []
 as_node (Some p) = Parent p ∷ []
 
 -- the sizes after an insertion that began at a parent of n children, and cut off the second parent where there is one
-pub record IsSizedAfter {T E P S X : Type 0} (min max h n : ℕ) (p : ParentNode T E P S X)
-    (second : Option (ParentNode T E P S X)) : Type 0 where
+pub record IsSizedAfter {T E : Type 0} (min max h n : ℕ) (p : ParentNode T E)
+    (second : Option (ParentNode T E)) : Type 0 where
   pub below : AreTrees (HasSize min max) IsAny h p.children.items
   pub most : length p.children.items ≤ max
   pub still_least : min ≤ n → min ≤ length p.children.items

@@ -1,5 +1,5 @@
 -- What a loaded tree looks like, and how deep it goes, after Lee and Lee (2003).
--- T is the element's type, E its envelope's, P its point's, S its scalar's, X what a scalar's text is refused with.
+-- T is the element's type, E its envelope's.
 use Rattle.std.specs.Prelude.{◌≡◌, ℕ, ℤ, zero, suc, ◌<◌, ◌≤◌, ◌+◌, ◌-◌, ◌*◌, ◌^◌, length, min, max, All, AllPairs, ⊤}
 use Rattle.std.specs.Int.{div_ceil}
 use Rattle.std.specs.List.{AllByRecursion, Contains}
@@ -45,34 +45,34 @@ pub record IsLoadDepth (most axes n levels : ℕ) : Type 0 where
 
 -- ---- how its parents are cut
 
-module _ {T E P S X : Type 0} (key : T → ℕ → ℤ) where
+module _ {T E : Type 0} (key : T → ℕ → ℤ) where
   -- there is an axis on which no element of the second node has a greater key than any of the first
-  abbrev pub IsParted : ℕ → RTreeNode T E P S X → RTreeNode T E P S X → Type 0
+  abbrev pub IsParted : ℕ → RTreeNode T E → RTreeNode T E → Type 0
   IsParted axes m n = (axis : ℕ) × (axis < axes) × NoneAbove (λ t. key t axis) (elements n) (elements m)
 
   -- a parent whose children are parents: more elements than one parent holds, at most half of them (rounded up) below
   -- each child, few children, and any two of them parted
-  pub record IsCut (most axes : ℕ) (p : ParentNode T E P S X) : Type 0 where
+  pub record IsCut (most axes : ℕ) (p : ParentNode T E) : Type 0 where
     pub many : most < length (elements_of p)
     pub halves : All (λ n. 2 * length (elements n) ≤ length (elements_of p) + 1) (children_of p)
     pub few : length (children_of p) ≤ max most (2 ^ axes)
     pub parted : AllPairs (IsParted axes) (children_of p)
 
   -- each parent of parents is cut so, from this one down to the parents of leaves, so many levels below
-  abbrev pub IsCutAbove : ℕ → ℕ → ℕ → ParentNode T E P S X → Type 0
+  abbrev pub IsCutAbove : ℕ → ℕ → ℕ → ParentNode T E → Type 0
   IsCutAbove most axes zero p = AllByRecursion (IsLeafOf IsAny) (children_of p)
   IsCutAbove most axes (suc h) p =
       IsCut most axes p × AllByRecursion (IsParentOf (IsCutAbove most axes h)) (children_of p)
 
 -- some parent of leaves, so many levels below, has at most `most` children
-abbrev pub HasSmallParent : {T E P S X : Type 0} → ℕ → ℕ → ParentNode T E P S X → Type 0
+abbrev pub HasSmallParent : {T E : Type 0} → ℕ → ℕ → ParentNode T E → Type 0
 HasSmallParent most zero p = length (children_of p) ≤ most
-HasSmallParent {T} {E} {P} {S} {X} most (suc h) p =
-    (n : RTreeNode T E P S X) × Contains (children_of p) n × IsParentOf (HasSmallParent most h) n
+HasSmallParent {T} {E} most (suc h) p =
+    (n : RTreeNode T E) × Contains (children_of p) n × IsParentOf (HasSmallParent most h) n
 
 -- A loaded root, by the keys of the elements' envelopes: cut down to its leaves, which lie as deep as the number of
 -- elements says, with some parent of leaves that is not too wide.
-pub record IsLoaded {T E P S X : Type 0} (v : Boxes E) (o : Objects T E) (most axes : ℕ) (root : ParentNode T E P S X)
+pub record IsLoaded {T E : Type 0} (v : Boxes E) (o : Objects T E) (most axes : ℕ) (root : ParentNode T E)
     : Type 0 where
   pub levels : ℕ
   pub cut : IsCutAbove (λ t axis. v.axis_key (o.box_of t) axis) most axes levels root

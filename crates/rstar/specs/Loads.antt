@@ -33,13 +33,13 @@ part_bound zero c n = n
 part_bound (suc axes) c n = div_ceil n c
 
 -- one of the nodes has m elements
-abbrev pub HasNodeOf : {T E P S X : Type 0} → ℕ → List (RTreeNode T E P S X) → Type 0
-HasNodeOf {T} {E} {P} {S} {X} m ns = (n : RTreeNode T E P S X) × Contains ns n × (length (elements n) ≡ m)
+abbrev pub HasNodeOf : {T E : Type 0} → ℕ → List (RTreeNode T E) → Type 0
+HasNodeOf {T} {E} m ns = (n : RTreeNode T E) × Contains ns n × (length (elements n) ≡ m)
 
-module _ {T E P S X : Type 0} (key : T → ℕ → ℤ) (Good : RTreeNode T E P S X → Type 0) where
+module _ {T E : Type 0} (key : T → ℕ → ℤ) (Good : RTreeNode T E → Type 0) where
   -- nodes of just these elements, in c slabs along each of the first axes: each node as `Good` says, any two parted on
   -- one of these axes, with a node of each size that a part has
-  pub record AreParts (c axes : ℕ) (ts : List T) (ns : List (RTreeNode T E P S X)) : Type 0 where
+  pub record AreParts (c axes : ℕ) (ts : List T) (ns : List (RTreeNode T E)) : Type 0 where
     pub same : IsPermutation ts (all_elements ns)
     pub good : AllByRecursion Good ns
     pub parted : AllPairs (IsParted key axes) ns
@@ -48,15 +48,15 @@ module _ {T E P S X : Type 0} (key : T → ℕ → ℤ) (Good : RTreeNode T E P 
     pub each : (m : ℕ) → IsPartSize c axes (length ts) m → HasNodeOf m ns
 
   -- such nodes were put at the end of a list
-  pub record AddsParts (c axes : ℕ) (ts : List T) (old new : List (RTreeNode T E P S X)) : Type 0 where
-    pub added : List (RTreeNode T E P S X)
+  pub record AddsParts (c axes : ℕ) (ts : List T) (old new : List (RTreeNode T E)) : Type 0 where
+    pub added : List (RTreeNode T E)
     pub is : new ≡ old ++ added
     pub parts : AreParts c axes ts added
 
   -- the same while the slabs of one axis are taken: the elements that remain have no greater key on it than those
   -- put in
-  pub record IsUnderway (c axis : ℕ) (ts remaining : List T) (old new : List (RTreeNode T E P S X)) : Type 0 where
-    pub added : List (RTreeNode T E P S X)
+  pub record IsUnderway (c axis : ℕ) (ts remaining : List T) (old new : List (RTreeNode T E)) : Type 0 where
+    pub added : List (RTreeNode T E)
     pub is : new ≡ old ++ added
     pub same : IsPermutation ts (remaining ++ all_elements added)
     pub good : AllByRecursion Good added
@@ -72,13 +72,13 @@ module _ {T E P S X : Type 0} (key : T → ℕ → ℤ) (Good : RTreeNode T E P 
         → HasNodeOf m added
 
 -- a parent that a load made: whole, with room, cut, and not too wide at each of the parts where a way down ends
-pub record IsFresh {T E P S X : Type 0} (v : Boxes E) (o : Objects T E) (most widest axes h : ℕ)
-    (p : ParentNode T E P S X) : Type 0 where
+pub record IsFresh {T E : Type 0} (v : Boxes E) (o : Objects T E) (most widest axes h : ℕ)
+    (p : ParentNode T E) : Type 0 where
   pub whole : IsParentTree (IsInner v o) (IsElement v o) h p
   pub roomy : IsParentTree (IsRoomy most widest) IsAny h p
   pub cut : IsCutAbove (λ t axis. v.axis_key (o.box_of t) axis) most axes h p
   pub small : EndsAt most axes h (length (elements_of p)) → HasSmallParent most h p
 
 -- such a parent as a node
-abbrev pub IsFreshNode : {T E P S X : Type 0} → Boxes E → Objects T E → ℕ → ℕ → ℕ → ℕ → RTreeNode T E P S X → Type 0
+abbrev pub IsFreshNode : {T E : Type 0} → Boxes E → Objects T E → ℕ → ℕ → ℕ → ℕ → RTreeNode T E → Type 0
 IsFreshNode v o most widest axes h n = IsParentOf (IsFresh v o most widest axes h) n

@@ -47,50 +47,50 @@ module _ {T E U F : Type 0} (meets : E → F → Bool) (left_box : T → E) (rig
 -- ---- the same of nodes
 
 -- the nodes that come after a node: a parent's children, and a leaf itself
-abbrev pub next_nodes : {T E P S X : Type 0} → RTreeNode T E P S X → Layer T E P S X → List (RTreeNode T E P S X)
+abbrev pub next_nodes : {T E : Type 0} → RTreeNode T E → Layer T E → List (RTreeNode T E)
 next_nodes n (layer.Leaf t) = n ∷ []
 next_nodes n (layer.Parent p) = children_of p
 
-unfoldable pub opened_to : {T E P S X : Type 0} → RTreeNode T E P S X → List (RTreeNode T E P S X)
+unfoldable pub opened_to : {T E : Type 0} → RTreeNode T E → List (RTreeNode T E)
 opened_to n = next_nodes n (layer_of n)
 
 -- whether two nodes are both leaves
-abbrev pub both_leaves : {T E P S X U F Q R Y : Type 0} → RTreeNode T E P S X → RTreeNode U F Q R Y → Bool
+abbrev pub both_leaves : {T E U F : Type 0} → RTreeNode T E → RTreeNode U F → Bool
 both_leaves l r = if is_leaf_node l then is_leaf_node r else false
 
-unfoldable pub count_parents : {T E P S X : Type 0} → (E → Bool) → RTreeNode T E P S X → ℕ
+unfoldable pub count_parents : {T E : Type 0} → (E → Bool) → RTreeNode T E → ℕ
 count_parents accepts n = count_shown accepts (shown n)
 
-module _ {T E P S X U F Q R Y : Type 0} (meets : E → F → Bool) (left_box : T → E) (right_box : U → F) where
-  unfoldable pub meet : RTreeNode T E P S X → RTreeNode U F Q R Y → ℕ
+module _ {T E U F : Type 0} (meets : E → F → Bool) (left_box : T → E) (right_box : U → F) where
+  unfoldable pub meet : RTreeNode T E → RTreeNode U F → ℕ
   meet l r = meet_shown meets left_box right_box (shown l) (shown r)
 
-  abbrev pub meet_of_roots : ParentNode T E P S X → ParentNode U F Q R Y → ℕ
+  abbrev pub meet_of_roots : ParentNode T E → ParentNode U F → ℕ
   meet_of_roots left right = meet_of_shown meets left_box right_box (shown_root left) (shown_root right)
 
   -- ---- what a walk gives that goes below the pairs that meet alone, and how many pairs it opens
 
-  unfoldable pub pairs_at : RTreeNode T E P S X → RTreeNode U F Q R Y → List (T × U)
-  pairs_at l r = fold_tree {A = RTreeNode U F Q R Y → List (T × U)}
+  unfoldable pub pairs_at : RTreeNode T E → RTreeNode U F → List (T × U)
+  pairs_at l r = fold_tree {A = RTreeNode U F → List (T × U)}
       (λ t r. map (λ u. (t, u)) (given (meets (left_box t)) (λ u. meets (left_box t) (right_box u)) r))
       (λ e below r. if meets e (node_box right_box r) then flat_map (λ p. p.0 p.1) (product below (opened_to r))
       else [])
       l r
 
-  unfoldable pub opens_at : RTreeNode T E P S X → RTreeNode U F Q R Y → ℕ
-  opens_at l r = fold_tree {A = RTreeNode U F Q R Y → ℕ}
+  unfoldable pub opens_at : RTreeNode T E → RTreeNode U F → ℕ
+  opens_at l r = fold_tree {A = RTreeNode U F → ℕ}
       (λ t r. reach (meets (left_box t)) r)
       (λ e below r. if meets e (node_box right_box r) then 1 + sum_by (λ p. p.0 p.1) (product below (opened_to r))
       else 0)
       l r
 
   -- the same of all pairs of two lists of nodes
-  abbrev pub all_pairs : List (RTreeNode T E P S X) → List (RTreeNode U F Q R Y) → List (T × U)
+  abbrev pub all_pairs : List (RTreeNode T E) → List (RTreeNode U F) → List (T × U)
   all_pairs ls rs = flat_map (λ p. pairs_at p.0 p.1) (product ls rs)
 
-  abbrev pub all_opens : List (RTreeNode T E P S X) → List (RTreeNode U F Q R Y) → ℕ
+  abbrev pub all_opens : List (RTreeNode T E) → List (RTreeNode U F) → ℕ
   all_opens ls rs = sum_by (λ p. opens_at p.0 p.1) (product ls rs)
 
-  abbrev pub pairs_from_roots : ParentNode T E P S X → ParentNode U F Q R Y → List (T × U)
+  abbrev pub pairs_from_roots : ParentNode T E → ParentNode U F → List (T × U)
   pairs_from_roots left right =
       if meets (envelope_of left) (envelope_of right) then all_pairs (children_of left) (children_of right) else []

@@ -1,5 +1,5 @@
 -- What a search for neighbours shows, what an iterator over it gives, and what it costs. All distances are squared.
--- T is the element's type, E its envelope's, P its point's, S its scalar's, X what a scalar's text is refused with.
+-- T is the element's type, E its envelope's, P its point's, S its scalar's.
 use Rattle.std.specs.Prelude.{◌≡◌, ℕ, ◌+◌, ◌-◌, ◌<◌, ◌≤◌, min, ℤ, pos, List, [], ◌∷◌, Option, Result, IfSome, IfNone, IfOk, IfErr}
 use Rattle.std.specs.Borrow.{Bor}
 use Rattle.std.specs.Iterator.{Count}
@@ -20,34 +20,34 @@ use Rattle.rstar_base.specs.Counts.{usize_max}
 use Rattle.rstar.specs.Searches.{NodeSearch, any_first, IsUnrefused, waiting_of, calls_left, IsReady}
 
 -- the two iterators over the nodes of a tree
-abbrev pub NearestNeighborDistance2Iterator : (T E P S X : Type 0) → Type 0
-NearestNeighborDistance2Iterator T E P S X = NeighborsWithDistance (ParentNode T E P S X) (RTreeNode T E P S X) S P
+abbrev pub NearestNeighborDistance2Iterator : (T E P S : Type 0) → Type 0
+NearestNeighborDistance2Iterator T E P S = NeighborsWithDistance (ParentNode T E) (RTreeNode T E) S P
 
-abbrev pub NearestNeighborIterator : (T E P S X : Type 0) → Type 0
-NearestNeighborIterator T E P S X = Neighbors (ParentNode T E P S X) (RTreeNode T E P S X) S P
+abbrev pub NearestNeighborIterator : (T E P S : Type 0) → Type 0
+NearestNeighborIterator T E P S = Neighbors (ParentNode T E) (RTreeNode T E) S P
 
 -- ---- what a search shows
 
 -- its root and its point; the nodes that wait: the root until it is opened, then what it has come upon and neither
 -- opened nor given; how many parents it has opened, and how far it has come
-pub record Search (T E P S X : Type 0) : Type 0 where
-  pub root : ParentNode T E P S X
+pub record Search (T E P : Type 0) : Type 0 where
+  pub root : ParentNode T E
   pub point : P
-  pub waiting : List (RTreeNode T E P S X)
+  pub waiting : List (RTreeNode T E)
   pub opened : ℕ
   pub stage : Stage
 
-module _ {T E P S X : Type 0} where
+module _ {T E P : Type 0} where
   -- the elements that it has not given
-  abbrev pub elements_waiting : Search T E P S X → List T
+  abbrev pub elements_waiting : Search T E P → List T
   elements_waiting s = all_elements s.waiting
 
   -- no memory was refused to it yet
-  abbrev pub IsGoingOn : Search T E P S X → Type 0
+  abbrev pub IsGoingOn : Search T E P → Type 0
   IsGoingOn s = IsUnrefused s.stage
 
   -- what a search at a point shows, in whichever order it breaks ties
-  abbrev pub shown : {O : Type 0} → NodeSearch T E P S X O → P → Search T E P S X
+  abbrev pub shown : {S O : Type 0} → NodeSearch T E S O → P → Search T E P
   shown s point = record {
     root = s.root.now;
     point = point;
@@ -57,25 +57,25 @@ module _ {T E P S X : Type 0} where
   }
 
   -- what an iterator shows
-  abbrev pub search_of : NearestNeighborDistance2Iterator T E P S X → Search T E P S X
+  abbrev pub search_of : {S : Type 0} → NearestNeighborDistance2Iterator T E P S → Search T E P
   search_of it = shown it.search it.point
 
   -- one that gives the elements alone, as the iterator with distances
-  abbrev pub with_distances : NearestNeighborIterator T E P S X → NearestNeighborDistance2Iterator T E P S X
+  abbrev pub with_distances : {S : Type 0} → NearestNeighborIterator T E P S → NearestNeighborDistance2Iterator T E P S
   with_distances it = record { search = it.search; point = it.point }
 
   -- how many calls of `next` may give something
-  abbrev pub neighbors_left : NearestNeighborDistance2Iterator T E P S X → Count
+  abbrev pub neighbors_left : {S : Type 0} → NearestNeighborDistance2Iterator T E P S → Count
   neighbors_left it = calls_left it.search
 
   -- what it keeps, so that `next` may be called
-  unfoldable pub IsSearching : Boxes E → Objects T E → Distances T → ℕ → (P → ℕ → ℤ) → (S → S → Ordering) → (S → ℤ)
-      → NearestNeighborDistance2Iterator T E P S X → Type 0
+  unfoldable pub IsSearching : {S : Type 0} → Boxes E → Objects T E → Distances T → ℕ → (P → ℕ → ℤ) → (S → S → Ordering) → (S → ℤ)
+      → NearestNeighborDistance2Iterator T E P S → Type 0
   IsSearching v o d axes coord compare value it =
       IsReady v d (table axes (coord it.point)) compare any_first value o it.search
 
 -- a search that has begun: over this root and this point, with the root waiting, and nothing opened
-pub record HasBegun {T E P S X : Type 0} (over : ParentNode T E P S X) (at : P) (s : Search T E P S X) : Type 0 where
+pub record HasBegun {T E P : Type 0} (over : ParentNode T E) (at : P) (s : Search T E P) : Type 0 where
   pub root : s.root ≡ over
   pub point : s.point ≡ at
   pub waiting : s.waiting ≡ Parent over ∷ []
@@ -84,9 +84,9 @@ pub record HasBegun {T E P S X : Type 0} (over : ParentNode T E P S X) (at : P) 
 
 -- ---- what a call of `next` gives
 
-module _ {T E P S X : Type 0} (v : Boxes E) (d : Distances T) (p : List ℤ) where
+module _ {T E : Type 0} (v : Boxes E) (d : Distances T) (p : List ℤ) where
   -- t is taken from what waits, and none that is left is nearer; all parents farther than t still wait
-  pub record IsNeighbor (root : ParentNode T E P S X) (before after : List (RTreeNode T E P S X)) (t : T) : Type 0 where
+  pub record IsNeighbor (root : ParentNode T E) (before after : List (RTreeNode T E)) (t : T) : Type 0 where
     pub bag : IsPermutation (all_elements before) (t ∷ all_elements after)
     pub least : AllByRecursion (λ u. d.distance_2 t p ≤ d.distance_2 u p) (all_elements after)
     pub still_far : all_far (λ e. v.distance_2 e p) (d.distance_2 t p) after
@@ -94,14 +94,14 @@ module _ {T E P S X : Type 0} (v : Boxes E) (d : Distances T) (p : List ℤ) whe
 
   -- the parents opened and those farther than t are no more than there are: none was opened twice, and none that is
   -- farther than t
-  abbrev pub HasCost : Search T E P S X → T → Type 0
+  abbrev pub HasCost : {P : Type 0} → Search T E P → T → Type 0
   HasCost s t = s.opened + far_of (λ e. v.distance_2 e p) (d.distance_2 t p) s.root ≤ parents_of s.root
 
 -- until a refusal, a call gives the nearest element that waits, and `None` where none does; a refusal comes once, only
 -- where a parent waits that could be opened, and then `None` for good. The parents opened are those of the root that
 -- do not wait, nor lie below what waits.
-pub record GivesNeighbor {T E P S X A Z : Type 0} (v : Boxes E) (d : Distances T) (axes : ℕ) (coord : P → ℕ → ℤ)
-    (element : A → T) (old : Search T E P S X) (r : Option (Result A Z)) (new : Search T E P S X) : Type 0 where
+pub record GivesNeighbor {T E P A Z : Type 0} (v : Boxes E) (d : Distances T) (axes : ℕ) (coord : P → ℕ → ℤ)
+    (element : A → T) (old : Search T E P) (r : Option (Result A Z)) (new : Search T E P) : Type 0 where
   pub root : new.root ≡ old.root
   pub point : new.point ≡ old.point
   pub gives : IfSome r (λ x. IfOk x (λ y. IsNeighbor v d (table axes (coord old.point)) old.root
@@ -120,17 +120,17 @@ pub record GivesNeighbor {T E P S X A Z : Type 0} (v : Boxes E) (d : Distances T
 
 -- ---- a call of `next` of each iterator; `next` may be called again, also after `None`
 
-module _ {T E P S X : Type 0} (v : Boxes E) (o : Objects T E) (d : Distances T) (axes : ℕ) (coord : P → ℕ → ℤ)
+module _ {T E P S : Type 0} (v : Boxes E) (o : Objects T E) (d : Distances T) (axes : ℕ) (coord : P → ℕ → ℤ)
     (compare : S → S → Ordering) (value : S → ℤ) where
-  abbrev pub GivesElement : NearestNeighborIterator T E P S X → Option (Result (Bor T) AllocError)
-      → NearestNeighborIterator T E P S X → Type 0
+  abbrev pub GivesElement : NearestNeighborIterator T E P S → Option (Result (Bor T) AllocError)
+      → NearestNeighborIterator T E P S → Type 0
   GivesElement old r new =
       GivesNeighbor v d axes coord (λ x. x.now) (search_of (with_distances old)) r (search_of (with_distances new))
       × IsSearching v o d axes coord compare value (with_distances new)
 
   -- with its distance
-  abbrev pub GivesWithDistance : NearestNeighborDistance2Iterator T E P S X
-      → Option (Result (Bor T × S) AllocError) → NearestNeighborDistance2Iterator T E P S X → Type 0
+  abbrev pub GivesWithDistance : NearestNeighborDistance2Iterator T E P S
+      → Option (Result (Bor T × S) AllocError) → NearestNeighborDistance2Iterator T E P S → Type 0
   GivesWithDistance old r new =
       GivesNeighbor v d axes coord (λ x. x.0.now) (search_of old) r (search_of new)
       × IfSome r (λ y. IfOk y (λ x. value x.1 ≡ pos (d.distance_2 x.0.now (table axes (coord old.point)))))

@@ -27,20 +27,20 @@ abbrev pub LendsData : (R D : RattleType) → MutBor (R.Denot × D.Denot) → Mu
 LendsData R D t r = Lends (geom_row R D) D t r (λ d. (t.now.0, d))
 
 -- the payload of the element at the end of the way
-abbrev pub IsAtPayload : {R D E P S X : Type 0} → (ParentNode (R × D) E P S X → ℕ) → ℕ → Layer (R × D) E P S X → D
+abbrev pub IsAtPayload : {R D E : Type 0} → (ParentNode (R × D) E → ℕ) → ℕ → Layer (R × D) E → D
     → Type 0
 IsAtPayload {R} way d n w = (g : R) × IsAt way d n (g, w)
 
-module _ (R D E P S X : RattleType) where
-  abbrev pub LendsPayload : (ParentNode (R.Denot × D.Denot) E.Denot P.Denot S.Denot X.Denot → ℕ)
-      → MutBor (RTreeNode (R.Denot × D.Denot) E.Denot P.Denot S.Denot X.Denot) → ℕ → MutBor D.Denot → Fml
+module _ (R D E : RattleType) where
+  abbrev pub LendsPayload : (ParentNode (R.Denot × D.Denot) E.Denot → ℕ)
+      → MutBor (RTreeNode (R.Denot × D.Denot) E.Denot) → ℕ → MutBor D.Denot → Fml
   LendsPayload way n depth r =
-      Lends (node_row (geom_row R D) E P S X) D n r (λ d. change_at way (with_data d) depth (layer_of n.now))
+      Lends (node_row (geom_row R D) E) D n r (λ d. change_at way (with_data d) depth (layer_of n.now))
 
-  abbrev pub LendsBelow : (ParentNode (R.Denot × D.Denot) E.Denot P.Denot S.Denot X.Denot → ℕ)
-      → MutBor (ParentNode (R.Denot × D.Denot) E.Denot P.Denot S.Denot X.Denot) → ℕ → MutBor D.Denot → Fml
+  abbrev pub LendsBelow : (ParentNode (R.Denot × D.Denot) E.Denot → ℕ)
+      → MutBor (ParentNode (R.Denot × D.Denot) E.Denot) → ℕ → MutBor D.Denot → Fml
   LendsBelow way p depth r =
-      Lends (parent_row (geom_row R D) E P S X) D p r (λ d. change_below way (with_data d) depth p.now)
+      Lends (parent_row (geom_row R D) E) D p r (λ d. change_below way (with_data d) depth p.now)
 
 -- ---- a payload of a tree
 

@@ -1,5 +1,5 @@
 -- What a search for one neighbour keeps, which leaves out what lies above a bound.
--- T is the element's type, E its envelope's, P its point's, S its scalar's, X what a scalar's text is refused with.
+-- T is the element's type, E its envelope's, S its scalar's.
 use Rattle.std.specs.Prelude.{◌≡◌, ℕ, ◌<◌, ◌<ℤ◌, ℤ, pos, List, [], ◌++◌, Option, Some, None, MatchOption}
 use Rattle.std.specs.List.{AllByRecursion}
 use Rattle.std.specs.List.Sorted.{IsPermutation}
@@ -22,8 +22,8 @@ IsAbove value None distance = ⊥
 IsAbove value (Some s) distance = value s <ℤ pos distance
 
 -- all elements are those of the nodes that are left and those that were cut, which are none where there is no bound
-pub record IsPruned {T E P S X : Type 0} (v : Boxes E) (o : Objects T E) (d : Distances T) (p : List ℤ) (value : S → ℤ)
-    (all : List T) (nodes : List (RTreeNode T E P S X)) (bound : Option S) : Type 0 where
+pub record IsPruned {T E S : Type 0} (v : Boxes E) (o : Objects T E) (d : Distances T) (p : List ℤ) (value : S → ℤ)
+    (all : List T) (nodes : List (RTreeNode T E)) (bound : Option S) : Type 0 where
   pub parts : AreWholeNodes v o nodes
   pub cut : List T
   pub bag : IsPermutation all (all_elements nodes ++ cut)

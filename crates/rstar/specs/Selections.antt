@@ -5,7 +5,7 @@ use Rattle.std.specs.Prelude.{◌≡◌, ℕ, ◌≤◌, min, Bool, List, [], �
 use Rattle.std.specs.Borrow.{Bor}
 use Rattle.std.specs.Iterator.{YieldsFirstRef}
 use Rattle.rstar.specs.declared.node.ParentNode.{ParentNode}
-use Rattle.rstar.specs.declared.iterators.SelectionIterator.{SelectionIterator}
+use Rattle.rstar.specs.declared.iterators.selection.SelectionIterator.{SelectionIterator}
 use Rattle.rstar.specs.Nodes.{reach_of}
 use Rattle.rstar_base.specs.Counts.{usize_max}
 use Rattle.rstar.specs.Walks.{given_by, HasItsWay}
@@ -18,32 +18,32 @@ IsPartOf {A} xs (y ∷ ys) = IsPartOf xs ys ⊎ ((rest : List A) × (xs ≡ y �
 -- ---- what an iterator shows
 
 -- its root, its question, and how many parents it has opened
-abbrev pub root_walked : {T F E P S X : Type 0} → SelectionIterator T F E P S X → ParentNode T E P S X
+abbrev pub root_walked : {T F E : Type 0} → SelectionIterator T F E → ParentNode T E
 root_walked it = it.root.now
 
-abbrev pub question_of : {T F E P S X : Type 0} → SelectionIterator T F E P S X → F
+abbrev pub question_of : {T F E : Type 0} → SelectionIterator T F E → F
 question_of it = it.func
 
-abbrev pub opened_by : {T F E P S X : Type 0} → SelectionIterator T F E P S X → ℕ
+abbrev pub opened_by : {T F E : Type 0} → SelectionIterator T F E → ℕ
 opened_by it = it.opened
 
 -- how many parents its question reaches below its root
-abbrev pub reach_by : {T F E P S X : Type 0} → (F → E → Bool) → SelectionIterator T F E P S X → ℕ
+abbrev pub reach_by : {T F E : Type 0} → (F → E → Bool) → SelectionIterator T F E → ℕ
 reach_by accepts it = reach_of (accepts (question_of it)) (root_walked it)
 
 -- the elements that it still gives, in order
-unfoldable pub to_come : {T F E P S X : Type 0}
-    → (F → E → Bool) → (F → T → Bool) → SelectionIterator T F E P S X → List T
+unfoldable pub to_come : {T F E : Type 0}
+    → (F → E → Bool) → (F → T → Bool) → SelectionIterator T F E → List T
 to_come accepts selects it = given_by accepts selects it
 
 -- what it keeps, so that `next` may be called
-unfoldable pub IsWalking : {T F E P S X : Type 0} → (F → E → Bool) → SelectionIterator T F E P S X → Type 0
+unfoldable pub IsWalking : {T F E : Type 0} → (F → E → Bool) → SelectionIterator T F E → Type 0
 IsWalking accepts it = HasItsWay accepts it
 
 -- an iterator as it is made: over this root, with a question that accepts these envelopes, with the root opened or
 -- nothing, and no more than the question reaches
-pub record IsMade {T F E P S X : Type 0} (accepts : F → E → Bool) (over : ParentNode T E P S X) (asked : E → Bool)
-    (it : SelectionIterator T F E P S X) : Type 0 where
+pub record IsMade {T F E : Type 0} (accepts : F → E → Bool) (over : ParentNode T E) (asked : E → Bool)
+    (it : SelectionIterator T F E) : Type 0 where
   pub root : root_walked it ≡ over
   pub question : accepts (question_of it) ≡ asked
   pub opened : opened_by it ≤ 1
@@ -51,8 +51,8 @@ pub record IsMade {T F E P S X : Type 0} (accepts : F → E → Bool) (over : Pa
 
 -- a call of `next` gives the first of what is to come, of the same root and question, and another may follow; at the
 -- end all that is reached was opened, and never more
-pub record GivesNext {T F E P S X : Type 0} (accepts : F → E → Bool) (selects : F → T → Bool)
-    (old : SelectionIterator T F E P S X) (r : Option (Bor T)) (new : SelectionIterator T F E P S X) : Type 0 where
+pub record GivesNext {T F E : Type 0} (accepts : F → E → Bool) (selects : F → T → Bool)
+    (old : SelectionIterator T F E) (r : Option (Bor T)) (new : SelectionIterator T F E) : Type 0 where
   pub gives : YieldsFirstRef (to_come accepts selects) old r new
   pub root : root_walked new ≡ root_walked old
   pub question : question_of new ≡ question_of old

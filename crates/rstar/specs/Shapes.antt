@@ -6,13 +6,13 @@ use Rattle.rstar.specs.declared.node.ParentNode.{ParentNode}
 use Rattle.rstar.specs.Nodes.{children_of, IsTree}
 
 -- trees whose parents meet Q and whose elements meet R, with their leaves this many levels below
-abbrev pub AreTrees : {T E P S X : Type 0} → (ParentNode T E P S X → Type 0) → (T → Type 0) → ℕ
-    → List (RTreeNode T E P S X) → Type 0
+abbrev pub AreTrees : {T E : Type 0} → (ParentNode T E → Type 0) → (T → Type 0) → ℕ
+    → List (RTreeNode T E) → Type 0
 AreTrees Q R h ns = AllByRecursion (IsTree Q R h) ns
 
 -- a parent that meets Q, above such trees
-abbrev pub IsParentTree : {T E P S X : Type 0} → (ParentNode T E P S X → Type 0) → (T → Type 0) → ℕ
-    → ParentNode T E P S X → Type 0
+abbrev pub IsParentTree : {T E : Type 0} → (ParentNode T E → Type 0) → (T → Type 0) → ℕ
+    → ParentNode T E → Type 0
 IsParentTree Q R h p = Q p × AreTrees Q R h (children_of p)
 
 -- no claim on an element
@@ -22,19 +22,19 @@ IsAny t = ⊤
 -- ---- node sizes
 
 -- between `min` and `max` children, as each parent but the root has
-abbrev pub HasSize : {T E P S X : Type 0} → ℕ → ℕ → ParentNode T E P S X → Type 0
+abbrev pub HasSize : {T E : Type 0} → ℕ → ℕ → ParentNode T E → Type 0
 HasSize min max p = (min ≤ length (children_of p)) × (length (children_of p) ≤ max)
 
 -- trees whose parents have such sizes, with their leaves this many levels below
-abbrev pub AreSized : {T E P S X : Type 0} → ℕ → ℕ → ℕ → List (RTreeNode T E P S X) → Type 0
+abbrev pub AreSized : {T E : Type 0} → ℕ → ℕ → ℕ → List (RTreeNode T E) → Type 0
 AreSized min max h ns = AreTrees (HasSize min max) IsAny h ns
 
 -- a root with at most `max` children, above such trees
-abbrev pub IsSizedTree : {T E P S X : Type 0} → ℕ → ℕ → ℕ → ParentNode T E P S X → Type 0
+abbrev pub IsSizedTree : {T E : Type 0} → ℕ → ℕ → ℕ → ParentNode T E → Type 0
 IsSizedTree min max h root = AreSized min max h (children_of root) × (vec_len root.children ≤ max)
 
 -- every parent has at most `max` children, and every parent but the root at least `min`
-pub record IsSized {T E P S X : Type 0} (min max : ℕ) (root : ParentNode T E P S X) : Type 0 where
+pub record IsSized {T E : Type 0} (min max : ℕ) (root : ParentNode T E) : Type 0 where
   pub height : ℕ
   pub most : length (children_of root) ≤ max
   pub below : AreTrees (HasSize min max) IsAny height (children_of root)

@@ -1,5 +1,5 @@
 -- What nodes show: leaves with their elements, parents with their envelopes and children; nothing of how they are kept.
--- T is the element's type, E its envelope's, P its point's, S its scalar's, X what a scalar's text is refused with.
+-- T is the element's type, E its envelope's.
 use Rattle.std.specs.Prelude.{List, [], ◌∷◌, map}
 use Rattle.rstar.specs.declared.node.RTreeNode.{RTreeNode}
 use Rattle.rstar.specs.declared.node.ParentNode.{ParentNode}
@@ -37,11 +37,11 @@ abbrev mutual
       fold_shown at_leaf at_parent n ∷ fold_shown_row at_leaf at_parent ns
 
 -- what a node shows
-unfoldable pub shown : {T E P S X : Type 0} → RTreeNode T E P S X → Shown T E
+unfoldable pub shown : {T E : Type 0} → RTreeNode T E → Shown T E
 shown n = fold_tree leaf (λ e below. parent e (row_of below)) n
 
 -- what a root shows
-abbrev pub shown_root : {T E P S X : Type 0} → ParentNode T E P S X → Shown T E
+abbrev pub shown_root : {T E : Type 0} → ParentNode T E → Shown T E
 shown_root root = parent (envelope_of root) (row_of (map shown (children_of root)))
 
 -- ---- the same without the elements: leaves in their places, parents with their envelopes

@@ -19,32 +19,32 @@ use Rattle.rstar.specs.Removals.{IsWithout}
 -- ---- nodes, by one layer
 
 -- the children of a parent, none of a leaf
-abbrev pub children_in : {T E P S X : Type 0} → Layer T E P S X → List (RTreeNode T E P S X)
+abbrev pub children_in : {T E : Type 0} → Layer T E → List (RTreeNode T E)
 children_in (layer.Leaf t) = []
 children_in (layer.Parent p) = children_of p
 
-abbrev pub node_children : {T E P S X : Type 0} → RTreeNode T E P S X → List (RTreeNode T E P S X)
+abbrev pub node_children : {T E : Type 0} → RTreeNode T E → List (RTreeNode T E)
 node_children n = children_in (layer_of n)
 
 -- the children of the first node
-abbrev pub first_children : {T E P S X : Type 0} → List (RTreeNode T E P S X) → List (RTreeNode T E P S X)
+abbrev pub first_children : {T E : Type 0} → List (RTreeNode T E) → List (RTreeNode T E)
 first_children [] = []
 first_children (n ∷ ns) = node_children n
 
 -- whether it is a leaf that is selected
-abbrev pub selects_in : {T E P S X : Type 0} → (T → Bool) → Layer T E P S X → Bool
+abbrev pub selects_in : {T E : Type 0} → (T → Bool) → Layer T E → Bool
 selects_in selects (layer.Leaf t) = selects t
 selects_in selects (layer.Parent p) = false
 
-abbrev pub is_selected_leaf : {T E P S X : Type 0} → (T → Bool) → RTreeNode T E P S X → Bool
+abbrev pub is_selected_leaf : {T E : Type 0} → (T → Bool) → RTreeNode T E → Bool
 is_selected_leaf selects n = selects_in selects (layer_of n)
 
 -- whether it is a leaf
-abbrev pub leaf_in : {T E P S X : Type 0} → Layer T E P S X → Bool
+abbrev pub leaf_in : {T E : Type 0} → Layer T E → Bool
 leaf_in (layer.Leaf t) = true
 leaf_in (layer.Parent p) = false
 
-abbrev pub is_a_leaf : {T E P S X : Type 0} → RTreeNode T E P S X → Bool
+abbrev pub is_a_leaf : {T E : Type 0} → RTreeNode T E → Bool
 is_a_leaf n = leaf_in (layer_of n)
 
 abbrev pub is_nil : {A : Type 0} → List A → Bool
@@ -52,17 +52,17 @@ is_nil [] = true
 is_nil (x ∷ xs) = false
 
 -- whether it is a parent without children
-abbrev pub childless_in : {T E P S X : Type 0} → Layer T E P S X → Bool
+abbrev pub childless_in : {T E : Type 0} → Layer T E → Bool
 childless_in (layer.Leaf t) = false
 childless_in (layer.Parent p) = is_nil (children_of p)
 
-abbrev pub is_childless : {T E P S X : Type 0} → RTreeNode T E P S X → Bool
+abbrev pub is_childless : {T E : Type 0} → RTreeNode T E → Bool
 is_childless n = childless_in (layer_of n)
 
 -- ---- places
 
 -- no element right of this place is selected: at each level, the number of children to the right, which were passed over
-abbrev pub IsPast : {T E P S X : Type 0} → (T → Bool) → List ℕ → List (RTreeNode T E P S X) → Type 0
+abbrev pub IsPast : {T E : Type 0} → (T → Bool) → List ℕ → List (RTreeNode T E) → Type 0
 IsPast selects [] ns = ⊤
 IsPast selects (i ∷ path) ns =
     NoneSelected selects (all_elements (drop (length ns - i) ns))
@@ -84,29 +84,29 @@ lower_numbers (p ∷ path) = path
 
 -- ---- an envelope that is kept at a place
 
-module _ {T E P S X : Type 0} (v : Boxes E) (o : Objects T E) where
+module _ {T E : Type 0} (v : Boxes E) (o : Objects T E) where
   -- it is the merge of the first nodes' envelopes, of as many as are counted
-  pub record IsMerged (rest : Rest E) (ns : List (RTreeNode T E P S X)) : Type 0 where
+  pub record IsMerged (rest : Rest E) (ns : List (RTreeNode T E)) : Type 0 where
     pub values : AllByRecursion (λ n. v.IsValue (node_box o.box_of n)) (take rest.count ns)
     pub merged : rest.envelope ≡ hull v (node_box o.box_of) (take rest.count ns)
 
   -- so it is where the next node, with so many to its right, is none of them
-  abbrev pub IsRest : Option (Rest E) → ℕ → List (RTreeNode T E P S X) → Type 0
+  abbrev pub IsRest : Option (Rest E) → ℕ → List (RTreeNode T E) → Type 0
   IsRest None passed ns = ⊤
   IsRest (Some rest) passed ns = rest.count + passed < length ns → IsMerged rest ns
 
   -- and that at the last number of a place
-  abbrev pub IsRestAt : Option (Rest E) → List ℕ → List (RTreeNode T E P S X) → Type 0
+  abbrev pub IsRestAt : Option (Rest E) → List ℕ → List (RTreeNode T E) → Type 0
   IsRestAt rest [] ns = ⊤
   IsRestAt rest (i ∷ path) ns =
       (length path ≡ 0 → IsRest rest i ns) × IsRestAt rest path (first_children (drop (length ns - suc i) ns))
 
 -- ---- one step; m and w are the bounds of the nodes' lists, h the levels below
 
-module _ {T E P S X : Type 0} (v : Boxes E) (o : Objects T E) (accepts : E → Bool) (selects : T → Bool) where
+module _ {T E : Type 0} (v : Boxes E) (o : Objects T E) (accepts : E → Bool) (selects : T → Bool) where
   -- what it does to a list of nodes, to the place in it and to the envelope that is kept there
-  pub record Takes (old : List (RTreeNode T E P S X)) (path : List ℕ) (rest : Option (Rest E)) (given : Option T)
-      (new : List (RTreeNode T E P S X)) (path' : List ℕ) (rest' : Option (Rest E)) : Type 0 where
+  pub record Takes (old : List (RTreeNode T E)) (path : List ℕ) (rest : Option (Rest E)) (given : Option T)
+      (new : List (RTreeNode T E)) (path' : List ℕ) (rest' : Option (Rest E)) : Type 0 where
     pub taken : IsWithout (all_elements old) given (all_elements new)
     pub selected : IfSome given (λ x. selects x ≡ true)
     pub whole : (m w h : ℕ) → AreKept v o m w h old → IsRestAt v o rest path old → AreKept v o m w h new
@@ -119,8 +119,8 @@ module _ {T E P S X : Type 0} (v : Boxes E) (o : Objects T E) (accepts : E → B
         → IsPast selects path old → NoneSelected selects (all_elements old))
 
   -- what it does below one node, which may be left without children
-  pub record TakesInside (old : RTreeNode T E P S X) (path : List ℕ) (rest : Option (Rest E)) (given : Option T)
-      (new : RTreeNode T E P S X) (path' : List ℕ) (rest' : Option (Rest E)) : Type 0 where
+  pub record TakesInside (old : RTreeNode T E) (path : List ℕ) (rest : Option (Rest E)) (given : Option T)
+      (new : RTreeNode T E) (path' : List ℕ) (rest' : Option (Rest E)) : Type 0 where
     pub taken : IsWithout (elements old) given (elements new)
     pub selected : IfSome given (λ x. selects x ≡ true)
     pub whole : (m w h : ℕ) → IsTree (IsKeptInner v o m w) (IsElement v o) h old

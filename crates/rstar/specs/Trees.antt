@@ -14,7 +14,7 @@ use Rattle.rstar.specs.Heights.{levels_below}
 use Rattle.rstar.specs.Kept.{HasRoom, IsRoomy, IsSpare}
 
 -- what `root` shows
-abbrev pub root_of : {T D E P S X : Type 0} → RTree T D E P S X → ParentNode T E P S X
+abbrev pub root_of : {T D E P S X : Type 0} → RTree T D E P S X → ParentNode T E
 root_of tree = tree.root
 
 -- what `size` shows

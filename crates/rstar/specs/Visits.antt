@@ -118,16 +118,16 @@ Keeps {V} {T} {E} {B} o step = (v : V) (x : MutBor T) (r : ControlFlow B (Unit {
     → step v x r y w → KeepsBox o x.now y.now
 
 -- the elements below a node, each marked where a walk below the accepted parents comes to it and selects it
-unfoldable pub marked : {T E P S X : Type 0} → (E → Bool) → (T → Bool) → RTreeNode T E P S X → List (Marked T)
+unfoldable pub marked : {T E : Type 0} → (E → Bool) → (T → Bool) → RTreeNode T E → List (Marked T)
 marked accepts selects n = fold_tree (λ t. (t, selects t) ∷ [])
     (λ e below. if accepts e then joined below else unmarked (joined below)) n
 
-abbrev pub all_marked : {T E P S X : Type 0} → (E → Bool) → (T → Bool) → List (RTreeNode T E P S X)
+abbrev pub all_marked : {T E : Type 0} → (E → Bool) → (T → Bool) → List (RTreeNode T E)
     → List (Marked T)
 all_marked accepts selects ns = flat_map (marked accepts selects) ns
 
 -- the same below a root
-abbrev pub marked_of : {T E P S X : Type 0} → (E → Bool) → (T → Bool) → ParentNode T E P S X → List (Marked T)
+abbrev pub marked_of : {T E : Type 0} → (E → Bool) → (T → Bool) → ParentNode T E → List (Marked T)
 marked_of accepts selects root =
     if accepts (envelope_of root) then all_marked accepts selects (children_of root)
     else unmarked (all_marked accepts selects (children_of root))
@@ -135,7 +135,7 @@ marked_of accepts selects root =
 -- ---- the first of some nodes
 
 -- what a walk does there, by what the nodes give
-abbrev pub IsLook : {T E P S X L N : Type 0} → (E → Bool) → (T → Bool) → (N → List (RTreeNode T E P S X)) → (L → T)
+abbrev pub IsLook : {T E L N : Type 0} → (E → Bool) → (T → Bool) → (N → List (RTreeNode T E)) → (L → T)
     → N → Look L N → Type 0
 IsLook accepts selects nodes element n End = nodes n ≡ []
 IsLook accepts selects nodes element n (Give leaf rest) =

@@ -1,62 +1,23 @@
 //! Iterators over what a tree holds: walks that open the parents that a question accepts, and no other.
 
-ghost use Rattle.std.specs.Prelude.{◌≡◌, ◌≤◌, if◌then◌else◌, true, false, [], ◌∷◌, IsOk, IfOk};
-ghost use Rattle.std.specs.Iterator.{item_count};
-ghost use Rattle.rstar.specs.Heights.{levels_below};
-ghost use Rattle.rstar.specs.Nodes.{children_of, given_of, IsWhole};
-ghost use Rattle.rstar.specs.Selections.{question_of, opened_by, to_come, IsMade, IsWalking, GivesNext};
-ghost use Rattle.rstar.specs.Walks.{HasItsWay, IsStep, IsOver};
-ghost use Rattle.rstar.specs.declared.node.RTreeNode.{Leaf, Parent};
-
 mod drain;
 mod into_iter;
 mod joins;
+mod selection;
 
 pub use crate::algorithm::nearest_neighbor::{
     NearestNeighborDistance2Iterator, NearestNeighborIterator,
 };
 pub use crate::iterators::drain::DrainIterator;
 pub use crate::iterators::into_iter::IntoIter;
+pub(crate) use crate::iterators::joins::Meets;
 pub use crate::iterators::joins::{InEnvelope, IntersectionIterator};
-use crate::node::{ParentNode, RTreeNode};
-use crate::path::Path;
+pub use crate::iterators::selection::SelectionIterator;
 pub use crate::visits::{select_nodes, select_nodes_mut};
 use rstar_base::algorithm::selection_functions::{
     SelectAllFunc, SelectAtPointFunction, SelectInEnvelopeFuncIntersecting,
-    SelectInEnvelopeFunction, SelectWithinDistanceFunction, SelectionFunction,
+    SelectInEnvelopeFunction, SelectWithinDistanceFunction,
 };
-use rstar_base::object::RTreeObject;
-use std::alloc::AllocError;
-
-/// The selected elements of a tree, each once, in some order, and then `None`: all of them where the selection
-/// function is lawful, as those of this library are, and never another element.
-///
-/// A parent is opened where the selection function accepts its envelope and those of all above it, and a leaf is asked
-/// only when the walk comes to it. `next` takes no memory: the path was reserved when the iterator was made.
-///
-/// ```rust
-/// pub fn walked<'a, T: RTreeObject, Func: SelectionFunction<T>>(
-///     alloc: Global,
-///     mut walk: SelectionIterator<'a, T, Func>,
-/// ) -> Result<Walked<'a, T>, AllocError>
-///     // ..
-/// {
-///     match drained(alloc, &mut walk) {
-///         Ok(all) => Ok((all, walk.opened())),
-///         Err(refused) => Err(refused),
-///     }
-/// }
-/// ```
-/// *`crates/rstar_vectors/src/payloads.rt`*
-#[derive(Drop)]
-pub struct SelectionIterator<'a, T: RTreeObject, Func: SelectionFunction<T>> {
-    root: &'a ParentNode<T>,
-    func: Func,
-    // The nodes that are being read, and below them in the path those that were left for them.
-    nodes: &'a [RTreeNode<T>],
-    path: Path<&'a [RTreeNode<T>]>,
-    opened: usize,
-}
 
 /// All elements of a tree.
 ///
@@ -120,129 +81,3 @@ pub type LocateWithinDistanceIterator<'a, T> = SelectionIterator<
     T,
     SelectWithinDistanceFunction<T>,
 >;
-
-impl<'a, T: RTreeObject, Func: SelectionFunction<T>> SelectionIterator<'a, T, Func> {
-    /// A selection below a root, with so many levels of parents below it.
-    #[tactic(auto, unfolding(crate::specs::Selections::to_come, crate::specs::Selections::IsWalking))]
-    pub(crate) fn new(
-        root: &'a ParentNode<T>,
-        levels: usize,
-        func: Func,
-    ) -> Result<Self, AllocError>
-        requires whole { IsWhole T.Envelope.boxes T.object root.now }
-        requires levels { levels ≡ levels_below (children_of root.now) }
-        ensures gives { IfOk result (λ it. to_come Func.accepts Func.selects it
-            ≡ given_of (Func.accepts func) (Func.selects func) root.now) }
-        ensures question { IfOk result (λ it. question_of it ≡ func) }
-        ensures made { IfOk result (λ it. IsMade Func.accepts root.now (Func.accepts func) it) }
-        ensures walking { IfOk result (λ it. IsWalking Func.accepts it) }
-        ensures near { levels ≤ 12 → IsOk result }
-    {
-        let none = &root.children[..0];
-        let path = Path::with_room(*root.children.allocator(), none, levels)?;
-        if root.children.is_empty() || !func.should_unpack_parent(&root.envelope) {
-            return Ok(SelectionIterator {
-                root,
-                func,
-                nodes: none,
-                path,
-                opened: 0,
-            });
-        }
-        Ok(SelectionIterator {
-            root,
-            func,
-            nodes: root.children.as_slice(),
-            path,
-            opened: 1,
-        })
-    }
-
-    /// How many parents were opened so far, the root among them, held at the greatest `usize`. At the end these are the
-    /// parents that the question reaches; an empty root is never asked.
-    ///
-    /// ```rust
-    /// match drained(alloc, &mut walk) {
-    ///     Ok(all) => Ok((all, walk.opened())),
-    ///     Err(refused) => Err(refused),
-    /// }
-    /// ```
-    /// *`crates/rstar_vectors/src/payloads.rt`*
-    pub fn opened(&self) -> usize
-        ensures { result ≡ opened_by self.now }
-    {
-        self.opened
-    }
-
-    /// Leaves a leaf behind, and says whether it is selected.
-    fn leave(&mut self, t: &'a T, rest: &'a [RTreeNode<T>]) -> bool
-        requires way { HasItsWay Func.accepts self.old }
-        requires first { self.old.nodes.now ≡ Leaf t.now ∷ rest.now }
-        ensures { IsStep Func.accepts Func.selects self.old (if result then t.now ∷ [] else []) self.new }
-    {
-        self.nodes = rest;
-        self.func.should_unpack_leaf(t)
-    }
-
-    /// Enters a parent whose envelope the question accepts, and leaves the nodes behind it for later.
-    fn enter(&mut self, parent: &'a ParentNode<T>, rest: &'a [RTreeNode<T>])
-        requires way { HasItsWay Func.accepts self.old }
-        requires first { self.old.nodes.now ≡ Parent parent.now ∷ rest.now }
-        ensures { IsStep Func.accepts Func.selects self.old [] self.new }
-    {
-        if !self.func.should_unpack_parent(&parent.envelope) {
-            self.nodes = rest;
-            return;
-        }
-        self.opened = self.opened.saturating_add(1);
-        if !rest.is_empty() {
-            self.path.push_reserved(rest);
-        }
-        self.nodes = parent.children.as_slice();
-    }
-
-    /// Goes back to the nodes that were left last, if there are any.
-    fn back(&mut self) -> bool
-        requires way { HasItsWay Func.accepts self.old }
-        requires none { self.old.nodes.now ≡ [] }
-        ensures more { result ≡ true → IsStep Func.accepts Func.selects self.old [] self.new }
-        ensures over { result ≡ false → IsOver Func.accepts Func.selects self.old self.new }
-    {
-        match self.path.pop() {
-            Some(above) => {
-                self.nodes = above;
-                true
-            }
-            None => false,
-        }
-    }
-}
-
-impl<'a, T: RTreeObject, Func: SelectionFunction<T>> Iterator for SelectionIterator<'a, T, Func> {
-    type Item = &'a T;
-
-    ghost can_next = { IsWalking Func.accepts };
-
-    ghost next_gives = { GivesNext Func.accepts Func.selects };
-
-    ghost remaining = { item_count (to_come Func.accepts Func.selects) };
-
-    #[tactic(auto, unfolding(crate::specs::Selections::to_come, crate::specs::Selections::IsWalking))]
-    fn next(&mut self) -> Option<&'a T> {
-        loop {
-            match self.nodes.split_first() {
-                Some((RTreeNode::Leaf(t), rest)) => {
-                    if self.leave(t, rest) {
-                        return Some(t);
-                    }
-                }
-                Some((RTreeNode::Parent(parent), rest)) => self.enter(parent, rest),
-                None => {
-                    if !self.back() {
-                        return None;
-                    }
-                }
-            }
-        }
-    }
-}

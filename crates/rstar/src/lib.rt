@@ -3,6 +3,7 @@
 
 pub mod algorithm;
 pub mod iterators;
+mod needs;
 pub mod node;
 pub mod params;
 mod path;

@@ -1,11 +1,13 @@
 //! The nodes of a tree: leaves, and parents with the merge of what is below them.
 
+ghost use Rattle.std.specs.List.{AllByRecursion};
 ghost use Rattle.std.specs.Prelude.{◌≡◌};
 ghost use Rattle.rstar_base.specs.Hulls.{hull};
 ghost use Rattle.rstar.specs.Nodes.{node_box, is_leaf_node, children_of, envelope_of};
 
+use crate::needs::{Covered, Merges};
 use rstar_base::envelope::{Envelope, copied_envelope};
-use rstar_base::object::{Distance, RTreeObject, envelope_of_all};
+use rstar_base::object::{Distance, RTreeObject};
 
 /// A node of a tree: one element, or a parent.
 ///
@@ -22,14 +24,14 @@ use rstar_base::object::{Distance, RTreeObject, envelope_of_all};
 /// *`crates/rstar_vectors/src/scenarios.rt`*
 #[cycle(node)]
 #[derive(Debug, Drop)]
-pub enum RTreeNode<T: RTreeObject> {
+pub enum RTreeNode<T: Covered> {
     /// One element.
     Leaf(T),
     /// A list of nodes, with the merge of the envelopes of all elements below.
     Parent(ParentNode<T>),
 }
 
-impl<T: RTreeObject> RTreeNode<T> {
+impl<T: Covered> RTreeNode<T> {
     /// Whether the node is a leaf, and so holds one element.
     #[tactic(auto, unfolding(crate::specs::Nodes::is_leaf_node, crate::specs::Nodes::fold_tree))]
     pub fn is_leaf(&self) -> bool
@@ -60,12 +62,12 @@ impl<T: RTreeObject> RTreeNode<T> {
 /// *`crates/rstar_vectors/src/insertion.rt`*
 #[cycle(node)]
 #[derive(Debug, Drop)]
-pub struct ParentNode<T: RTreeObject> {
+pub struct ParentNode<T: Covered> {
     pub(crate) children: Vec<RTreeNode<T>>,
-    pub(crate) envelope: T::Envelope,
+    pub(crate) envelope: T::Cover,
 }
 
-impl<T: RTreeObject> ParentNode<T> {
+impl<T: Covered> ParentNode<T> {
     /// Its children, left to right.
     ///
     /// ```rust
@@ -92,10 +94,24 @@ impl<T: RTreeObject> ParentNode<T> {
     /// }
     /// ```
     /// *`crates/rstar_vectors/src/counted.rt`*
-    pub fn envelope(&self) -> &T::Envelope
+    pub fn envelope(&self) -> &T::Cover
         ensures { result.now ≡ envelope_of self.now }
     {
         &self.envelope
+    }
+}
+
+impl<T: Covered> RTreeNode<T> {
+    /// The envelope of its element, or the one that the parent keeps.
+    #[tactic(auto, unfolding(crate::specs::Nodes::node_box, crate::specs::Nodes::fold_tree))]
+    pub(crate) fn cover(&self) -> T::Cover
+        ensures value { result ≡ node_box T.object.box_of self.now }
+        ensures own { T.Cover.boxes.IsValue (node_box T.object.box_of self.now) }
+    {
+        match self {
+            RTreeNode::Leaf(t) => t.envelope(),
+            RTreeNode::Parent(parent) => parent.envelope.copied(),
+        }
     }
 }
 
@@ -137,8 +153,13 @@ impl<T: RTreeObject> RTreeObject for RTreeNode<T> {
 /// }
 /// ```
 /// *`crates/rstar_vectors/src/insertion.rt`*
-pub fn envelope_for_children<T: RTreeObject>(children: &[RTreeNode<T>]) -> T::Envelope
-    ensures { result ≡ hull T.Envelope.boxes (node_box T.object.box_of) children.now }
+pub fn envelope_for_children<T: Covered>(children: &[RTreeNode<T>]) -> T::Cover
+    ensures hull { result ≡ hull T.Cover.boxes (node_box T.object.box_of) children.now }
+    ensures own { AllByRecursion (λ n. T.Cover.boxes.IsValue (node_box T.object.box_of n)) children.now }
 {
-    envelope_of_all(children)
+    let mut all = T::Cover::new_empty();
+    for node in children {
+        all.merge(&node.cover());
+    }
+    all
 }

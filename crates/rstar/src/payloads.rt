@@ -51,8 +51,7 @@ pub(crate) fn first_finding<T: PointDistance>(nodes: &[RTreeNode<T>], point: &Po
 /// The element of a leaf.
 fn leaf_in<'a, T: RTreeObject>(node: &'a mut RTreeNode<T>) -> &'a mut T
     requires { IsLeaf (layer_of node.old) }
-    ensures* writes_back { sem 𝓛 (LendsLeaf T.row T.Envelope.row T.Envelope.Point.row T.Envelope.Point.Scalar.row
-        T.Envelope.Point.Scalar.FromStrRadixErr.row node.entry result) }
+    ensures* writes_back { sem 𝓛 (LendsLeaf T.row T.Envelope.row node.entry result) }
     ensures value { Leaf result.now ≡ node.old }
 {
     match node {
@@ -64,8 +63,7 @@ fn leaf_in<'a, T: RTreeObject>(node: &'a mut RTreeNode<T>) -> &'a mut T
 /// The parent that a node is.
 fn parent_in<'a, T: RTreeObject>(node: &'a mut RTreeNode<T>) -> &'a mut ParentNode<T>
     requires { IsParent (layer_of node.old) }
-    ensures* writes_back { sem 𝓛 (LendsParent T.row T.Envelope.row T.Envelope.Point.row T.Envelope.Point.Scalar.row
-        T.Envelope.Point.Scalar.FromStrRadixErr.row node.entry result) }
+    ensures* writes_back { sem 𝓛 (LendsParent T.row T.Envelope.row node.entry result) }
     ensures value { Parent result.now ≡ node.old }
 {
     match node {
@@ -77,8 +75,7 @@ fn parent_in<'a, T: RTreeObject>(node: &'a mut RTreeNode<T>) -> &'a mut ParentNo
 /// The child at a place.
 fn child_of<'a, T: RTreeObject>(parent: &'a mut ParentNode<T>, index: usize) -> &'a mut RTreeNode<T>
     requires { index < length parent.old.children.items }
-    ensures* writes_back { sem 𝓛 (LendsChild T.row T.Envelope.row T.Envelope.Point.row T.Envelope.Point.Scalar.row
-        T.Envelope.Point.Scalar.FromStrRadixErr.row parent.entry index result) }
+    ensures* writes_back { sem 𝓛 (LendsChild T.row T.Envelope.row parent.entry index result) }
     ensures value { result.now ≡ child_at parent.old index }
 {
     &mut parent.children[index]
@@ -92,8 +89,7 @@ fn child_with<'a, T: PointDistance>(
     requires { way_to T.Envelope.boxes T.distances
         (table T.Envelope.Point.DIMENSIONS (T.Envelope.Point.coord point.now)) parent.old
         < length parent.old.children.items }
-    ensures* writes_back { sem 𝓛 (LendsChild T.row T.Envelope.row T.Envelope.Point.row T.Envelope.Point.Scalar.row
-        T.Envelope.Point.Scalar.FromStrRadixErr.row parent.entry (way_to T.Envelope.boxes T.distances
+    ensures* writes_back { sem 𝓛 (LendsChild T.row T.Envelope.row parent.entry (way_to T.Envelope.boxes T.distances
         (table T.Envelope.Point.DIMENSIONS (T.Envelope.Point.coord point.now)) parent.old) result) }
     ensures value { result.now ≡ child_at parent.old (way_to T.Envelope.boxes T.distances
         (table T.Envelope.Point.DIMENSIONS (T.Envelope.Point.coord point.now)) parent.old) }
@@ -110,8 +106,7 @@ fn element_with<'a, T: PointDistance>(
 ) -> &'a mut T
     requires { Leads (way_to T.Envelope.boxes T.distances
         (table T.Envelope.Point.DIMENSIONS (T.Envelope.Point.coord point.now))) depth (layer_of node.old) }
-    ensures* writes_back { sem 𝓛 (LendsElement T.row T.Envelope.row T.Envelope.Point.row T.Envelope.Point.Scalar.row
-        T.Envelope.Point.Scalar.FromStrRadixErr.row (way_to T.Envelope.boxes T.distances
+    ensures* writes_back { sem 𝓛 (LendsElement T.row T.Envelope.row (way_to T.Envelope.boxes T.distances
         (table T.Envelope.Point.DIMENSIONS (T.Envelope.Point.coord point.now))) node.entry depth result) }
     ensures value { IsAt (way_to T.Envelope.boxes T.distances
         (table T.Envelope.Point.DIMENSIONS (T.Envelope.Point.coord point.now))) depth (layer_of node.old) result.now }
@@ -139,8 +134,7 @@ fn payload_with<'a, R: PointDistance, D: Drop>(
 ) -> &'a mut D
     requires { Leads (way_to R.Envelope.boxes ⟦<GeomWithData<R, D> as PointDistance>⟧.distances
         (table R.Envelope.Point.DIMENSIONS (R.Envelope.Point.coord point.now))) depth (layer_of node.old) }
-    ensures* writes_back { sem 𝓛 (LendsPayload R.row D.row R.Envelope.row R.Envelope.Point.row
-        R.Envelope.Point.Scalar.row R.Envelope.Point.Scalar.FromStrRadixErr.row
+    ensures* writes_back { sem 𝓛 (LendsPayload R.row D.row R.Envelope.row
         (way_to R.Envelope.boxes ⟦<GeomWithData<R, D> as PointDistance>⟧.distances
         (table R.Envelope.Point.DIMENSIONS (R.Envelope.Point.coord point.now))) node.entry depth result) }
     ensures value { IsAtPayload (way_to R.Envelope.boxes ⟦<GeomWithData<R, D> as PointDistance>⟧.distances
@@ -161,8 +155,7 @@ pub(crate) fn payload_below<'a, R: PointDistance, D: Drop>(
         (table R.Envelope.Point.DIMENSIONS (R.Envelope.Point.coord point.now)) parent.old }
     requires leads { LeadsBelow (way_to R.Envelope.boxes ⟦<GeomWithData<R, D> as PointDistance>⟧.distances
         (table R.Envelope.Point.DIMENSIONS (R.Envelope.Point.coord point.now))) depth parent.old }
-    ensures* writes_back { sem 𝓛 (LendsBelow R.row D.row R.Envelope.row R.Envelope.Point.row
-        R.Envelope.Point.Scalar.row R.Envelope.Point.Scalar.FromStrRadixErr.row
+    ensures* writes_back { sem 𝓛 (LendsBelow R.row D.row R.Envelope.row
         (way_to R.Envelope.boxes ⟦<GeomWithData<R, D> as PointDistance>⟧.distances
         (table R.Envelope.Point.DIMENSIONS (R.Envelope.Point.coord point.now))) parent.entry depth result) }
     ensures value { IsAtPayload (way_to R.Envelope.boxes ⟦<GeomWithData<R, D> as PointDistance>⟧.distances

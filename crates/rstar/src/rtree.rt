@@ -268,7 +268,7 @@ impl<T: RTreeObject, Params: RTreeParams> RTree<T, Params> {
         ensures made { vec_len self.old.spares + parents_of (root_of self.old)
             ≡ vec_len self.new.spares + parents_of (root_of self.new) }
     {
-        self.levels = insert_with_reinsertion::<T, Params>(
+        self.levels = insert_with_reinsertion::<_, Params>(
             &mut self.root,
             t,
             self.levels,

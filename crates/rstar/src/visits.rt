@@ -8,6 +8,7 @@ ghost use Rattle.rstar.specs.Nodes.{all_given, given_of, children_of, elements, 
 ghost use Rattle.rstar.specs.Shapes.{AreTrees, IsAny};
 ghost use Rattle.rstar.specs.Visits.{IsFirst, Visits, VisitsWithin, Writes, WritesWithin, Keeps, marked, all_marked};
 
+use crate::needs::{Covered, Merges, Question};
 use crate::node::{ParentNode, RTreeNode};
 use rstar_base::algorithm::selection_functions::SelectionFunction;
 use rstar_base::envelope::Envelope;
@@ -28,7 +29,7 @@ pub enum Look<L, N> {
 }
 
 /// A reference to some nodes. Its lifetime stands in no bound, so that a recursion may take it.
-pub trait NodesRef<T: RTreeObject, F: SelectionFunction<T>>: Copy + Drop {
+pub trait NodesRef<T: Covered, F: Question<T>>: Copy + Drop {
     /// A reference to an element.
     type Leaf;
 
@@ -36,8 +37,7 @@ pub trait NodesRef<T: RTreeObject, F: SelectionFunction<T>>: Copy + Drop {
     ghost use Rattle.rstar.specs.declared.node.RTreeNode.{RTreeNode};
     ghost use Rattle.rstar.specs.Visits.{IsLook};
 
-    ghost nodes: { Self → List (RTreeNode T T.Envelope T.Envelope.Point T.Envelope.Point.Scalar
-        T.Envelope.Point.Scalar.FromStrRadixErr) };
+    ghost nodes: { Self → List (RTreeNode T T.Cover) };
 
     ghost element: { Self.Leaf → T };
 
@@ -46,7 +46,7 @@ pub trait NodesRef<T: RTreeObject, F: SelectionFunction<T>>: Copy + Drop {
         ensures { IsLook (F.accepts func.now) (F.selects func.now) nodes element self result };
 }
 
-impl<'a, T: RTreeObject, F: SelectionFunction<T>> NodesRef<T, F> for &'a [RTreeNode<T>] {
+impl<'a, T: Covered, F: Question<T>> NodesRef<T, F> for &'a [RTreeNode<T>] {
     type Leaf = &'a T;
 
     ghost nodes = { λ s. s.now };
@@ -77,10 +77,7 @@ impl<'a, T: RTreeObject, F: SelectionFunction<T>> NodesRef<T, F> for &'a [RTreeN
 }
 
 /// The first element that a walk over some nodes gives.
-fn first_below<'a, T: RTreeObject, F: SelectionFunction<T>>(
-    nodes: &'a [RTreeNode<T>],
-    func: &F,
-) -> Option<&'a T>
+fn first_below<'a, T: Covered, F: Question<T>>(nodes: &'a [RTreeNode<T>], func: &F) -> Option<&'a T>
     ensures { IsFirst (all_given (F.accepts func.now) (F.selects func.now) nodes.now) result }
 {
     let mut left = nodes;
@@ -114,8 +111,8 @@ pub(crate) fn first_selected<'a, T: RTreeObject, F: SelectionFunction<T>>(
 
 /// Calls the visitor at what a walk over some nodes gives, until a call breaks.
 fn visit_nodes<
-    T: RTreeObject,
-    F: SelectionFunction<T>,
+    T: Covered,
+    F: Question<T>,
     N: NodesRef<T, F>,
     V: FnMut(N::Leaf) -> ControlFlow<B>,
     B: Drop,
@@ -180,12 +177,11 @@ pub fn select_nodes<
 
 /// Calls the visitor at what a walk below a node gives, and lets it write there.
 #[cycle(writing)]
-fn visit_node_mut<
-    T: RTreeObject,
-    F: SelectionFunction<T>,
-    V: FnMut(&mut T) -> ControlFlow<B>,
-    B: Drop,
->(node: &mut RTreeNode<T>, func: &F, visitor: &mut V) -> ControlFlow<B>
+fn visit_node_mut<T: Covered, F: Question<T>, V: FnMut(&mut T) -> ControlFlow<B>, B: Drop>(
+    node: &mut RTreeNode<T>,
+    func: &F,
+    visitor: &mut V,
+) -> ControlFlow<B>
     requires { (state : V) (x : _) → V.pre state x }
     ensures written { Writes V.step visitor.old (marked (F.accepts func.now) (F.selects func.now) node.old)
         result visitor.new (elements node.new) }
@@ -212,12 +208,11 @@ fn visit_node_mut<
 
 /// The same below each of some nodes, until a call breaks.
 #[cycle(writing)]
-fn visit_nodes_mut<
-    T: RTreeObject,
-    F: SelectionFunction<T>,
-    V: FnMut(&mut T) -> ControlFlow<B>,
-    B: Drop,
->(nodes: &mut [RTreeNode<T>], func: &F, visitor: &mut V) -> ControlFlow<B>
+fn visit_nodes_mut<T: Covered, F: Question<T>, V: FnMut(&mut T) -> ControlFlow<B>, B: Drop>(
+    nodes: &mut [RTreeNode<T>],
+    func: &F,
+    visitor: &mut V,
+) -> ControlFlow<B>
     requires { (state : V) (x : _) → V.pre state x }
     ensures written { Writes V.step visitor.old (all_marked (F.accepts func.now) (F.selects func.now) nodes.old)
         result visitor.new (all_elements nodes.new) }

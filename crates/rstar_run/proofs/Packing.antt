@@ -28,7 +28,7 @@ use Rattle.rstar_run.specs.declared.stored.Fault.TheVariants as fault
 -- ---- trees of points
 
 -- what a tree gives that is taken apart
-pub all_given : {T E P S X : Type 0} (it : IntoIter T E P S X) → YieldsList (λ s r t. YieldsFirst left_to_give s r t × IsGiving t) (λ x. x) it (left_to_give it)
+pub all_given : {T E : Type 0} (it : IntoIter T E) → YieldsList (λ s r t. YieldsFirst left_to_give s r t × IsGiving t) (λ x. x) it (left_to_give it)
 all_given it = YieldsList-from_shown (λ s r t. YieldsFirst left_to_give s r t × IsGiving t) (λ x. x) left_to_give (λ s t h. ap length h.0.0) (λ s x t h. h.0) it
 
 whole_root : {D P S X : Type 0} (most : ℕ) (tree : RTree Place D Box P S X) → IsWholeTree boxes places most tree → IsWhole boxes places (root_of tree)

@@ -84,7 +84,7 @@ SpellsTreeOf points bytes = (t : Tree) × Spells bytes t × IsPermutation points
 -- the lines of an input are points, and a load of them, in nodes of at most 6, has more than 64 levels of parents
 pub record LoadsTooHigh (input : Option (List ℕ)) : Type 0 where
   pub points : List Point
-  pub root : ParentNode Point Box Point ℤ ParseIntError
+  pub root : ParentNode Point Box
   pub read : IfSome input (λ text. points_in (lines_of text) ≡ Some points)
   pub just_those : IsPermutation points (elements_of root)
   pub whole : IsWhole boxes places root

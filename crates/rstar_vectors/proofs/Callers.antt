@@ -4,7 +4,7 @@ use Rattle.std.specs.List.Sorted.{IsPermutation}
 use Rattle.rstar.specs.declared.iterators.joins.IntersectionIterator.{IntersectionIterator}
 use Rattle.rstar.specs.Joins.{meet_by, right_root, IsJoinMade}
 use Rattle.rstar.specs.Meets.{meet_of_roots}
-use Rattle.rstar.specs.declared.iterators.SelectionIterator.{SelectionIterator}
+use Rattle.rstar.specs.declared.iterators.selection.SelectionIterator.{SelectionIterator}
 use Rattle.rstar.specs.declared.node.ParentNode.{ParentNode}
 use Rattle.rstar.specs.declared.rtree.RTree.{RTree}
 use Rattle.rstar.specs.Nodes.{envelope_of, reach_of}
@@ -16,17 +16,17 @@ use Rattle.rstar_base.specs.laws.CountedLaws.{hull_count}
 use Rattle.rstar.specs.Selections.{IsMade, reach_by, root_walked}
 
 -- how many parents a selection has opened in the end, by the question that it was made with
-pub reached : {T F E P S X : Type 0} {accepts : F → E → Bool} {over : ParentNode T E P S X} {asked : E → Bool} {it : SelectionIterator T F E P S X}
+pub reached : {T F E : Type 0} {accepts : F → E → Bool} {over : ParentNode T E} {asked : E → Bool} {it : SelectionIterator T F E}
     → IsMade accepts over asked it → reach_by accepts it ≡ reach_of asked over
 reached {asked = asked} {it = it} made = ap (λ a. reach_of a (root_walked it)) made.question ∙ ap (reach_of asked) made.root
 
 -- the same, as far as a number goes
-pub opened-in : {T F E P S X : Type 0} {accepts : F → E → Bool} {over : ParentNode T E P S X} {asked : E → Bool} {it : SelectionIterator T F E P S X} {n : ℕ}
+pub opened-in : {T F E : Type 0} {accepts : F → E → Bool} {over : ParentNode T E} {asked : E → Bool} {it : SelectionIterator T F E} {n : ℕ}
     → n ≡ min (reach_by accepts it) usize_max → IsMade accepts over asked it → n ≡ min (reach_of asked over) usize_max
 opened-in opened made = opened ∙ ap (λ m. min m usize_max) (reached made)
 
 -- how many pairs of nodes a join has opened in the end, by the roots that it was made with
-pub met : {T E P S X U F Q R Y : Type 0} {meets : E → F → Bool} {left_box : T → E} {right_box : U → F} {left : ParentNode T E P S X} {right : ParentNode U F Q R Y} {it : IntersectionIterator T U E P S X F Q R Y}
+pub met : {T E U F : Type 0} {meets : E → F → Bool} {left_box : T → E} {right_box : U → F} {left : ParentNode T E} {right : ParentNode U F} {it : IntersectionIterator T U E F}
     → IsJoinMade meets left_box right_box left right it → meet_by meets left_box right_box it ≡ meet_of_roots meets left_box right_box left right
 met {meets = meets} {left_box} {right_box} {left} {right} {it} made =
     ap (λ root. meet_of_roots meets left_box right_box root (right_root it)) made.left_over ∙ ap (meet_of_roots meets left_box right_box left) made.right_over

@@ -7,7 +7,7 @@ use Rattle.std.proofs.lemmas.List.{map-append}
 use Rattle.rstar.specs.declared.iterators.joins.IntersectionIterator.{IntersectionIterator}
 use Rattle.rstar.specs.declared.node.ParentNode.{ParentNode}
 use Rattle.rstar.specs.Joins.{pairs_opened, meet_by, GivesPair}
-use Rattle.rstar.specs.declared.iterators.SelectionIterator.{SelectionIterator}
+use Rattle.rstar.specs.declared.iterators.selection.SelectionIterator.{SelectionIterator}
 use Rattle.rstar.specs.Selections.{opened_by, reach_by, GivesNext}
 use Rattle.rstar.specs.Nodes.{reach_of}
 use Rattle.rstar.specs.Meets.{meet_of_roots}
@@ -32,24 +32,24 @@ module _ {S A Z : Type 0} (steps : S → Option (Result A Z) → S → Type 0) w
   pub one-more-taken : (all more : List A) (x : A) (s t u : S) → more ≡ all ++ x ∷ [] → Yields steps s (map Ok all) t → steps t (Some (Ok x)) u → Yields steps s (map Ok more) u
   one-more-taken all more x s t u m y e = one-more-yielded steps (map Ok all) (map Ok more) (Ok x) s t u (ap (map Ok) m ∙ map-append Ok all (x ∷ [])) y e
 
-module _ {T E P S X U F Q R Y : Type 0} (meets : E → F → Bool) (left_box : T → E) (right_box : U → F) where
+module _ {T E U F : Type 0} (meets : E → F → Bool) (left_box : T → E) (right_box : U → F) where
   -- all that meet were opened then
-  pub all-opened : (xs : List (Bor T × Bor U)) (it end : IntersectionIterator T U E P S X F Q R Y)
+  pub all-opened : (xs : List (Bor T × Bor U)) (it end : IntersectionIterator T U E F)
       → YieldsThen (GivesPair meets left_box right_box) it xs None end
       → pairs_opened end ≡ min (meet_by meets left_box right_box it) usize_max
-  all-opened [] it end y = y.2.ended ∙ ap (λ (i : IntersectionIterator T U E P S X F Q R Y). min (meet_by meets left_box right_box i) usize_max) (sym y.1)
+  all-opened [] it end y = y.2.ended ∙ ap (λ (i : IntersectionIterator T U E F). min (meet_by meets left_box right_box i) usize_max) (sym y.1)
   all-opened (x ∷ xs) it end y =
       let step = y.1.1 in
       all-opened xs y.1.0 end (y.0, y.1.2, y.2)
-      ∙ ap₂ (λ (l : ParentNode T E P S X) (r : ParentNode U F Q R Y). min (meet_of_roots meets left_box right_box l r) usize_max) step.left step.right
+      ∙ ap₂ (λ (l : ParentNode T E) (r : ParentNode U F). min (meet_of_roots meets left_box right_box l r) usize_max) step.left step.right
 
-module _ {T F E P S X : Type 0} (accepts : F → E → Bool) (selects : F → T → Bool) where
+module _ {T F E : Type 0} (accepts : F → E → Bool) (selects : F → T → Bool) where
   -- all that the question reaches were opened then
-  pub all-reached : (xs : List (Bor T)) (it end : SelectionIterator T F E P S X)
+  pub all-reached : (xs : List (Bor T)) (it end : SelectionIterator T F E)
       → YieldsThen (GivesNext accepts selects) it xs None end
       → opened_by end ≡ min (reach_by accepts it) usize_max
-  all-reached [] it end y = y.2.ended ∙ ap (λ (i : SelectionIterator T F E P S X). min (reach_by accepts i) usize_max) (sym y.1)
+  all-reached [] it end y = y.2.ended ∙ ap (λ (i : SelectionIterator T F E). min (reach_by accepts i) usize_max) (sym y.1)
   all-reached (x ∷ xs) it end y =
       let step = y.1.1 in
       all-reached xs y.1.0 end (y.0, y.1.2, y.2)
-      ∙ ap₂ (λ (q : F) (r : ParentNode T E P S X). min (reach_of (accepts q) r) usize_max) step.question step.root
+      ∙ ap₂ (λ (q : F) (r : ParentNode T E). min (reach_of (accepts q) r) usize_max) step.question step.root

@@ -10,6 +10,7 @@ ghost use Rattle.rstar.specs.Loads.{IsFresh};
 
 pub(crate) mod depth;
 pub(crate) mod parts;
+mod slabs;
 
 use crate::algorithm::bulk_load::depth::load_depth;
 use crate::algorithm::bulk_load::parts::load_node;
@@ -75,7 +76,7 @@ pub(crate) fn load_root<T: RTreeObject, Params: RTreeParams>(
 {
     let mut list = elements;
     let len = list.len();
-    load_node::<T, Params>(&mut list, len, levels, widest)
+    load_node::<_, Params>(&mut list, len, levels, widest)
 }
 
 /// Whether no element has an empty envelope, as loads ask. It looks at each until one has.

@@ -8,10 +8,8 @@ ghost use Rattle.rstar.specs.Nodes.{children_of};
 ghost use Rattle.rstar.specs.Taking.{is_a_leaf};
 
 use crate::algorithm::removal::{element_of, is_childless, is_selected_leaf};
+use crate::needs::{Covered, Merges, Question};
 use crate::node::{ParentNode, RTreeNode, envelope_for_children};
-use rstar_base::algorithm::selection_functions::SelectionFunction;
-use rstar_base::envelope::Envelope;
-use rstar_base::object::RTreeObject;
 
 /// Moves selected elements from below a parent to the end of a list, until the list holds `most` of them or none is
 /// left below an accepted parent. The envelope is made anew, once, where an element went.
@@ -19,18 +17,18 @@ use rstar_base::object::RTreeObject;
 /// It tests each child of the accepted parents once and merges each child of a parent that lost an element once, so
 /// that a wide node costs no more than its width.
 #[cycle(gather)]
-pub(crate) fn gather_below<T: RTreeObject, R: SelectionFunction<T>>(
+pub(crate) fn gather_below<T: Covered, R: Question<T>>(
     node: &mut ParentNode<T>,
     func: &R,
     most: usize,
     taken: &mut Vec<T>,
 )
     requires room { most ≤ vec_capacity taken.old }
-    ensures gathers { GathersAmong T.Envelope.boxes T.object (R.accepts func.now) (R.selects func.now) most
+    ensures gathers { GathersAmong T.Cover.boxes T.object (R.accepts func.now) (R.selects func.now) most
         (children_of node.old) taken.old.items (children_of node.new) taken.new.items }
-    ensures kept { (m w h : ℕ) → IsKept T.Envelope.boxes T.object m w node.old
-        → AreKept T.Envelope.boxes T.object m w h (children_of node.old)
-        → IsKept T.Envelope.boxes T.object m w node.new }
+    ensures kept { (m w h : ℕ) → IsKept T.Cover.boxes T.object m w node.old
+        → AreKept T.Cover.boxes T.object m w h (children_of node.old)
+        → IsKept T.Cover.boxes T.object m w node.new }
     ensures capacity { vec_capacity taken.new ≡ vec_capacity taken.old }
 {
     let before = taken.len();
@@ -45,14 +43,14 @@ pub(crate) fn gather_below<T: RTreeObject, R: SelectionFunction<T>>(
 /// They are looked at from the last to the first, and the last one takes the place of one that goes: it was looked at
 /// before, and nothing is shifted.
 #[cycle(gather)]
-fn gather_among<T: RTreeObject, R: SelectionFunction<T>>(
+fn gather_among<T: Covered, R: Question<T>>(
     children: &mut Vec<RTreeNode<T>>,
     func: &R,
     most: usize,
     taken: &mut Vec<T>,
 )
     requires room { most ≤ vec_capacity taken.old }
-    ensures gathers { GathersAmong T.Envelope.boxes T.object (R.accepts func.now) (R.selects func.now) most
+    ensures gathers { GathersAmong T.Cover.boxes T.object (R.accepts func.now) (R.selects func.now) most
         children.old.items taken.old.items children.new.items taken.new.items }
     ensures room { vec_capacity children.new ≡ vec_capacity children.old }
     ensures capacity { vec_capacity taken.new ≡ vec_capacity taken.old }
@@ -74,14 +72,14 @@ fn gather_among<T: RTreeObject, R: SelectionFunction<T>>(
 
 /// The same below one node, unless it is a leaf or is not opened.
 #[cycle(gather)]
-fn gather_inside<T: RTreeObject, R: SelectionFunction<T>>(
+fn gather_inside<T: Covered, R: Question<T>>(
     child: &mut RTreeNode<T>,
     func: &R,
     most: usize,
     taken: &mut Vec<T>,
 )
     requires room { most ≤ vec_capacity taken.old }
-    ensures gathers { GathersInside T.Envelope.boxes T.object (R.accepts func.now) (R.selects func.now) most
+    ensures gathers { GathersInside T.Cover.boxes T.object (R.accepts func.now) (R.selects func.now) most
         child.old taken.old.items child.new taken.new.items }
     ensures capacity { vec_capacity taken.new ≡ vec_capacity taken.old }
 {
@@ -96,7 +94,7 @@ fn gather_inside<T: RTreeObject, R: SelectionFunction<T>>(
 }
 
 /// Takes the leaf at this place out; the last node takes its place.
-fn swap_leaf_out<T: RTreeObject>(children: &mut Vec<RTreeNode<T>>, index: usize) -> T
+fn swap_leaf_out<T: Covered>(children: &mut Vec<RTreeNode<T>>, index: usize) -> T
     requires within { index < vec_len children.old }
     requires leaf { (n : _) → is_a_leaf (slice_index_or children.old.items index n) ≡ true }
     ensures node { Leaf result ≡ slice_index_or children.old.items index (Leaf result) }
@@ -108,7 +106,7 @@ fn swap_leaf_out<T: RTreeObject>(children: &mut Vec<RTreeNode<T>>, index: usize)
 
 /// Drops the node at this place; the last one takes its place.
 #[inline(never)]
-fn swap_out<T: RTreeObject>(children: &mut Vec<RTreeNode<T>>, index: usize)
+fn swap_out<T: Covered>(children: &mut Vec<RTreeNode<T>>, index: usize)
     requires { index < vec_len children.old }
     ensures out { IsSwappedOut children.old.items index children.new.items }
     ensures room { vec_capacity children.new ≡ vec_capacity children.old }

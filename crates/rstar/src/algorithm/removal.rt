@@ -15,10 +15,8 @@ ghost use Rattle.rstar.specs.Taking.{is_selected_leaf, is_a_leaf, is_childless};
 
 pub(crate) mod earliest;
 
+use crate::needs::{Covered, Merges, Question};
 use crate::node::{ParentNode, RTreeNode, envelope_for_children};
-use rstar_base::algorithm::selection_functions::SelectionFunction;
-use rstar_base::envelope::Envelope;
-use rstar_base::object::{RTreeObject, envelope_of_all};
 
 /// The merge of the envelopes of the first children of a node, and how many they are.
 ///
@@ -37,53 +35,42 @@ pub struct Rest<E> {
 /// number of children passed over, those to the right, a number for each level. Where there are fewer numbers the
 /// search begins at the last child of the levels below. `rest` is of the node that the last number stands in.
 #[cycle(take)]
-pub(crate) fn take_below<T: RTreeObject, R: SelectionFunction<T>>(
+pub(crate) fn take_below<T: Covered, R: Question<T>>(
     node: &mut ParentNode<T>,
     path: &mut [usize],
-    rest: &mut Option<Rest<T::Envelope>>,
+    rest: &mut Option<Rest<T::Cover>>,
     changed: &mut bool,
     func: &R,
 ) -> Option<T>
-    ensures takes { Takes T.Envelope.boxes T.object (R.accepts func.now) (R.selects func.now)
+    ensures takes { Takes T.Cover.boxes T.object (R.accepts func.now) (R.selects func.now)
         node.old.children.items path.old rest.old result node.new.children.items path.new rest.new }
-    ensures kept { (m w h : ℕ) → IsKept T.Envelope.boxes T.object m w node.old
-        → AreKept T.Envelope.boxes T.object m w h node.old.children.items
-        → IsRestAt T.Envelope.boxes T.object rest.old path.old node.old.children.items
-        → IsKept T.Envelope.boxes T.object m w node.new }
+    ensures kept { (m w h : ℕ) → IsKept T.Cover.boxes T.object m w node.old
+        → AreKept T.Cover.boxes T.object m w h node.old.children.items
+        → IsRestAt T.Cover.boxes T.object rest.old path.old node.old.children.items
+        → IsKept T.Cover.boxes T.object m w node.new }
     ensures same { IfNone result (node.new ≡ node.old) }
     ensures unchanged { changed.new ≡ false → node.new.envelope ≡ node.old.envelope }
 {
     let taken = take_among(&mut node.children, path, rest, changed, func);
     if taken.is_some() && *changed {
         let merged = merge_along(&node.children, path, rest);
-        *changed = differ(&merged, &node.envelope);
+        *changed = merged.differs(&node.envelope);
         node.envelope = merged;
     }
     taken
 }
 
-/// Whether two envelopes are not the same, by `==`.
-#[inline(always)]
-fn differ<E: Envelope>(one: &E, other: &E) -> bool
-    ensures { result ≡ false → one.now ≡ other.now }
-{
-    // Each call attests its envelope, so that `==` is equality, and costs nothing where no one asks for its answer.
-    let _one = one.is_empty();
-    let _other = other.is_empty();
-    *one != *other
-}
-
 /// The merge of the envelopes of these nodes, by what is kept at the place.
 #[inline(always)]
-fn merge_along<T: RTreeObject>(
+fn merge_along<T: Covered>(
     children: &[RTreeNode<T>],
     path: &[usize],
-    rest: &mut Option<Rest<T::Envelope>>,
-) -> T::Envelope
-    ensures merged { IsRestAt T.Envelope.boxes T.object rest.old path.now children.now
-        → result ≡ hull T.Envelope.boxes (node_box T.object.box_of) children.now }
-    ensures rests { IsRestAt T.Envelope.boxes T.object rest.old path.now children.now
-        → IsRestAt T.Envelope.boxes T.object rest.new path.now children.now }
+    rest: &mut Option<Rest<T::Cover>>,
+) -> T::Cover
+    ensures merged { IsRestAt T.Cover.boxes T.object rest.old path.now children.now
+        → result ≡ hull T.Cover.boxes (node_box T.object.box_of) children.now }
+    ensures rests { IsRestAt T.Cover.boxes T.object rest.old path.now children.now
+        → IsRestAt T.Cover.boxes T.object rest.new path.now children.now }
     ensures still { length path.now ≡ 0 → rest.new ≡ rest.old }
 {
     if path.len() == 1 {
@@ -98,15 +85,15 @@ fn merge_along<T: RTreeObject>(
 /// Where a drain takes all of n nodes, it so merges n for each root of n that are taken, and some root of n for each
 /// one. A few nodes are merged at once.
 #[inline(always)]
-fn merge_at<T: RTreeObject>(
+fn merge_at<T: Covered>(
     children: &[RTreeNode<T>],
     passed: usize,
-    rest: &mut Option<Rest<T::Envelope>>,
-) -> T::Envelope
-    ensures merged { IsRest T.Envelope.boxes T.object rest.old passed children.now
-        → result ≡ hull T.Envelope.boxes (node_box T.object.box_of) children.now }
-    ensures rest { IsRest T.Envelope.boxes T.object rest.old passed children.now
-        → IsRest T.Envelope.boxes T.object rest.new passed children.now }
+    rest: &mut Option<Rest<T::Cover>>,
+) -> T::Cover
+    ensures merged { IsRest T.Cover.boxes T.object rest.old passed children.now
+        → result ≡ hull T.Cover.boxes (node_box T.object.box_of) children.now }
+    ensures rest { IsRest T.Cover.boxes T.object rest.old passed children.now
+        → IsRest T.Cover.boxes T.object rest.new passed children.now }
 {
     let left = children.len().saturating_sub(passed);
     if left < 32 {
@@ -115,30 +102,30 @@ fn merge_at<T: RTreeObject>(
     let front = front_of(children, left, rest);
     let merged = front
         .envelope
-        .merged(&envelope_of_all(&children[front.count..]));
+        .merged(&envelope_for_children(&children[front.count..]));
     *rest = Some(front);
     merged
 }
 
 /// What is kept of the first nodes, made anew where the next one, the last of those that are left, is among them.
 #[inline(never)]
-fn front_of<T: RTreeObject>(
+fn front_of<T: Covered>(
     children: &[RTreeNode<T>],
     left: usize,
-    rest: &mut Option<Rest<T::Envelope>>,
-) -> Rest<T::Envelope>
+    rest: &mut Option<Rest<T::Cover>>,
+) -> Rest<T::Cover>
     requires { left ≤ length children.now }
     ensures within { result.count ≤ length children.now }
     ensures merged { (passed : ℕ) → left ≡ length children.now - passed
-        → IsRest T.Envelope.boxes T.object rest.old passed children.now
-        → IsMerged T.Envelope.boxes T.object result children.now }
+        → IsRest T.Cover.boxes T.object rest.old passed children.now
+        → IsMerged T.Cover.boxes T.object result children.now }
 {
     match rest.take() {
         Some(kept) if kept.count < left => kept,
         _ => {
             let count = left - left.isqrt();
             Rest {
-                envelope: envelope_of_all(&children[..count]),
+                envelope: envelope_for_children(&children[..count]),
                 count,
             }
         }
@@ -148,19 +135,19 @@ fn front_of<T: RTreeObject>(
 /// Takes out the next selected element of these nodes, and drops a parent that lost its last child; `changed` tells whether
 /// one of them went, or changed its envelope.
 #[cycle(take)]
-fn take_among<T: RTreeObject, R: SelectionFunction<T>>(
+fn take_among<T: Covered, R: Question<T>>(
     children: &mut Vec<RTreeNode<T>>,
     path: &mut [usize],
-    rest: &mut Option<Rest<T::Envelope>>,
+    rest: &mut Option<Rest<T::Cover>>,
     changed: &mut bool,
     func: &R,
 ) -> Option<T>
-    ensures takes { Takes T.Envelope.boxes T.object (R.accepts func.now) (R.selects func.now)
+    ensures takes { Takes T.Cover.boxes T.object (R.accepts func.now) (R.selects func.now)
         children.old.items path.old rest.old result children.new.items path.new rest.new }
     ensures capacity { vec_capacity children.new ≡ vec_capacity children.old }
     ensures same { IfNone result (children.new ≡ children.old) }
-    ensures unchanged { changed.new ≡ false → hull T.Envelope.boxes (node_box T.object.box_of) children.new.items
-        ≡ hull T.Envelope.boxes (node_box T.object.box_of) children.old.items }
+    ensures unchanged { changed.new ≡ false → hull T.Cover.boxes (node_box T.object.box_of) children.new.items
+        ≡ hull T.Cover.boxes (node_box T.object.box_of) children.old.items }
 {
     for passed in first_number(path)..children.len() {
         let i = children.len() - 1 - passed;
@@ -188,14 +175,14 @@ fn take_among<T: RTreeObject, R: SelectionFunction<T>>(
 
 /// Takes out the next selected element below a child, unless it is a leaf or is not opened.
 #[cycle(take)]
-fn take_inside<T: RTreeObject, R: SelectionFunction<T>>(
+fn take_inside<T: Covered, R: Question<T>>(
     child: &mut RTreeNode<T>,
     path: &mut [usize],
-    rest: &mut Option<Rest<T::Envelope>>,
+    rest: &mut Option<Rest<T::Cover>>,
     changed: &mut bool,
     func: &R,
 ) -> Option<T>
-    ensures takes { TakesInside T.Envelope.boxes T.object (R.accepts func.now) (R.selects func.now)
+    ensures takes { TakesInside T.Cover.boxes T.object (R.accepts func.now) (R.selects func.now)
         child.old (lower_numbers path.old) rest.old result child.new (lower_numbers path.new) rest.new }
     ensures unchanged { changed.new ≡ false
         → node_box T.object.box_of child.new ≡ node_box T.object.box_of child.old }
@@ -214,10 +201,7 @@ fn take_inside<T: RTreeObject, R: SelectionFunction<T>>(
 }
 
 /// Whether the node is a leaf that is selected.
-pub(super) fn is_selected_leaf<T: RTreeObject, R: SelectionFunction<T>>(
-    node: &RTreeNode<T>,
-    func: &R,
-) -> bool
+pub(super) fn is_selected_leaf<T: Covered, R: Question<T>>(node: &RTreeNode<T>, func: &R) -> bool
     ensures { result ≡ is_selected_leaf (R.selects func.now) node.now }
 {
     match node {
@@ -227,7 +211,7 @@ pub(super) fn is_selected_leaf<T: RTreeObject, R: SelectionFunction<T>>(
 }
 
 /// Whether the node is a parent without children.
-pub(super) fn is_childless<T: RTreeObject>(node: &RTreeNode<T>) -> bool
+pub(super) fn is_childless<T: Covered>(node: &RTreeNode<T>) -> bool
     ensures { result ≡ is_childless node.now }
 {
     match node {
@@ -237,7 +221,7 @@ pub(super) fn is_childless<T: RTreeObject>(node: &RTreeNode<T>) -> bool
 }
 
 /// Takes the leaf at this place out.
-fn take_leaf<T: RTreeObject>(children: &mut Vec<RTreeNode<T>>, index: usize) -> T
+fn take_leaf<T: Covered>(children: &mut Vec<RTreeNode<T>>, index: usize) -> T
     requires within { index < vec_len children.old }
     requires leaf { (n : _) → is_a_leaf (slice_index_or children.old.items index n) ≡ true }
     ensures node { Leaf result ≡ slice_index_or children.old.items index (Leaf result) }
@@ -248,7 +232,7 @@ fn take_leaf<T: RTreeObject>(children: &mut Vec<RTreeNode<T>>, index: usize) -> 
 }
 
 /// The element of a leaf.
-pub(super) fn element_of<T: RTreeObject>(leaf: RTreeNode<T>) -> T
+pub(super) fn element_of<T: Covered>(leaf: RTreeNode<T>) -> T
     requires { is_a_leaf leaf ≡ true }
     ensures { Leaf result ≡ leaf }
 {
@@ -260,7 +244,7 @@ pub(super) fn element_of<T: RTreeObject>(leaf: RTreeNode<T>) -> T
 
 /// Drops the node at this place.
 #[inline(never)]
-fn drop_child<T: RTreeObject>(children: &mut Vec<RTreeNode<T>>, index: usize)
+fn drop_child<T: Covered>(children: &mut Vec<RTreeNode<T>>, index: usize)
     requires { index < vec_len children.old }
     ensures items { children.new.items ≡ remove children.old.items index }
     ensures capacity { vec_capacity children.new ≡ vec_capacity children.old }

@@ -6,6 +6,7 @@ ghost use Rattle.rstar.specs.Nodes.{node_box};
 
 mod choose;
 mod insertion;
+mod placing;
 pub(crate) mod preparation;
 pub(crate) mod reinsertion;
 mod split;

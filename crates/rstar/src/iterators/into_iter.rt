@@ -6,9 +6,8 @@ ghost use Rattle.rstar.specs.Heights.{levels_below};
 ghost use Rattle.rstar.specs.IntoIters.{left_to_give, IsGiving};
 ghost use Rattle.rstar.specs.Nodes.{children_of, elements_of, IsWhole};
 
+use crate::needs::{Covered, Merges};
 use crate::node::{ParentNode, RTreeNode};
-use rstar_base::envelope::Envelope;
-use rstar_base::object::RTreeObject;
 use std::mem::replace;
 
 /// All elements of a tree that is taken apart, each once, in some order, and then `None`.
@@ -24,17 +23,17 @@ use std::mem::replace;
 /// ```
 /// *`crates/rstar_vectors/src/removal.rt`*
 #[derive(Drop)]
-pub struct IntoIter<T: RTreeObject> {
+pub struct IntoIter<T: Covered> {
     // The nodes that are being given, from the last on, and in the path those that were left for them, the lowest last.
     nodes: Vec<RTreeNode<T>>,
     path: Vec<Vec<RTreeNode<T>>>,
 }
 
-impl<T: RTreeObject> IntoIter<T> {
+impl<T: Covered> IntoIter<T> {
     /// All elements below a root, with an empty path that has room for the levels of parents below it.
     #[tactic(auto, unfolding(crate::specs::IntoIters::left_to_give, crate::specs::IntoIters::IsGiving))]
     pub(crate) fn new(root: ParentNode<T>, path: Vec<Vec<RTreeNode<T>>>) -> Self
-        requires whole { IsWhole T.Envelope.boxes T.object root }
+        requires whole { IsWhole T.Cover.boxes T.object root }
         requires empty { path.items ≡ [] }
         requires room { levels_below (children_of root) ≤ vec_capacity path }
         ensures all { left_to_give result ≡ reverse (elements_of root) }
@@ -66,7 +65,7 @@ impl<T: RTreeObject> IntoIter<T> {
     }
 }
 
-impl<T: RTreeObject> Iterator for IntoIter<T> {
+impl<T: Covered> Iterator for IntoIter<T> {
     type Item = T;
 
     ghost can_next = { IsGiving };

@@ -1,6 +1,6 @@
 //! Joins: the pairs of elements of two trees whose envelopes intersect, by a walk through both trees together.
 
-ghost use Rattle.std.specs.Prelude.{◌≡◌, ◌+◌, ◌-◌, ◌*◌, ◌^◌, ◌<◌, ◌≤◌, [], max, false, refl, IsOk, IfOk, IfSome, IfNone, filter, map, flat_map, length, take, if◌then◌else◌};
+ghost use Rattle.std.specs.Prelude.{Bool, ◌≡◌, ◌+◌, ◌-◌, ◌*◌, ◌^◌, ◌<◌, ◌≤◌, [], max, false, refl, IsOk, IfOk, IfSome, IfNone, filter, map, flat_map, length, take, if◌then◌else◌};
 ghost use Rattle.std.specs.Iterator.{item_count};
 ghost use Rattle.rstar.specs.declared.node.RTreeNode.{Leaf};
 ghost use Rattle.rstar.specs.Heights.{levels_below};
@@ -10,6 +10,7 @@ ghost use Rattle.rstar.specs.Meets.{opened_to, both_leaves, pairs_from_roots};
 ghost use Rattle.rstar.specs.JoinWalks.{marked_items, with_marks, rows_beside, IsFirstPair, IsSingle, HasItsPaths, IsPairStep};
 ghost use Rattle.rstar.specs.Joins.{SeenLaws, meets_by, pairs_opened, pairs_to_come, IsJoinMade, IsJoining, GivesPair};
 
+use crate::needs::{Covered, Merges};
 use crate::node::{ParentNode, RTreeNode};
 use crate::path::Path;
 use rstar_base::envelope::Envelope;
@@ -59,6 +60,23 @@ impl<T: RTreeObject> InEnvelope<T::Envelope> for T {
     } };
 }
 
+/// What a walk of two trees asks of the elements of the second: whether an envelope of the first intersects one of theirs.
+pub trait Meets<T: Covered>: Covered {
+    ghost meets: { T.Cover → Self.Cover → Bool };
+
+    /// Whether they intersect.
+    fn meet(envelope: &T::Cover, other: &Self::Cover) -> bool
+        ensures { result ≡ meets envelope.now other.now };
+}
+
+impl<T: RTreeObject, U: InEnvelope<T::Envelope>> Meets<T> for U {
+    ghost meets = { meets_by T.Envelope.boxes U.seen };
+
+    fn meet(envelope: &T::Envelope, other: &U::Envelope) -> bool {
+        envelope.intersects(U::seen(other))
+    }
+}
+
 /// How many pairs are asked at once, with a mark for each.
 const MARKS: usize = 64;
 
@@ -83,7 +101,7 @@ const NARROW: usize = 8;
 /// ```
 /// *`crates/rstar_vectors/src/joins.rt`*
 #[derive(Drop)]
-pub struct IntersectionIterator<'a, T: RTreeObject, U: InEnvelope<T::Envelope> = T> {
+pub struct IntersectionIterator<'a, T: Covered, U: Meets<T> = T> {
     left: &'a ParentNode<T>,
     right: &'a ParentNode<U>,
     // The nodes that are being read: for the first on the left, eight or one, those on the right that were asked, with
@@ -133,7 +151,7 @@ fn first_alone<L>(items: &[L]) -> &[L]
 }
 
 /// The children of a single node, or the node alone where it is a leaf.
-fn opened_nodes<'a, T: RTreeObject>(nodes: &'a [RTreeNode<T>]) -> &'a [RTreeNode<T>]
+fn opened_nodes<'a, T: Covered>(nodes: &'a [RTreeNode<T>]) -> &'a [RTreeNode<T>]
     requires { IsSingle nodes.now }
     ensures { result.now ≡ flat_map opened_to nodes.now }
 {
@@ -148,12 +166,12 @@ fn opened_nodes<'a, T: RTreeObject>(nodes: &'a [RTreeNode<T>]) -> &'a [RTreeNode
 
 /// Whether an envelope intersects that of a node.
 #[tactic(auto, unfolding(crate::specs::Nodes::node_box, crate::specs::Nodes::fold_tree))]
-fn meets_node<E: Envelope, U: InEnvelope<E>>(envelope: &E, node: &RTreeNode<U>) -> bool
-    ensures { result ≡ meets_by E.boxes U.seen envelope.now (node_box U.object.box_of node.now) }
+fn meets_node<T: Covered, U: Meets<T>>(envelope: &T::Cover, node: &RTreeNode<U>) -> bool
+    ensures { result ≡ U.meets envelope.now (node_box U.object.box_of node.now) }
 {
     match node {
-        RTreeNode::Leaf(u) => envelope.intersects(U::seen(&u.envelope())),
-        RTreeNode::Parent(q) => envelope.intersects(U::seen(&q.envelope)),
+        RTreeNode::Leaf(u) => U::meet(envelope, &u.envelope()),
+        RTreeNode::Parent(q) => U::meet(envelope, &q.envelope),
     }
 }
 
@@ -168,13 +186,13 @@ fn with_mark(marks: u64, mark: bool) -> u64
 /// Marks with one for each node in front of them, whether an envelope meets it, where there is room for them.
 //
 // The room is a premise of the clauses of marks, and no `requires`: `step` would have to state it in a goal of its own.
-fn row_marks<E: Envelope, U: InEnvelope<E>>(
-    envelope: &E,
+fn row_marks<T: Covered, U: Meets<T>>(
+    envelope: &T::Cover,
     nodes: &[RTreeNode<U>],
     others: u64,
 ) -> u64
     ensures { length nodes.now ≤ 64 → others < 2 ^ (64 - length nodes.now) → result ≡ with_marks
-        (map (λ n. meets_by E.boxes U.seen envelope.now (node_box U.object.box_of n)) nodes.now) others }
+        (map (λ n. U.meets envelope.now (node_box U.object.box_of n)) nodes.now) others }
 {
     let mut marks = others;
     let mut rest = nodes;
@@ -186,18 +204,15 @@ fn row_marks<E: Envelope, U: InEnvelope<E>>(
 }
 
 /// Marks for those pairs of nodes that meet, where they are at most 64.
-fn marks_of<T: RTreeObject, U: InEnvelope<T::Envelope>>(
-    lefts: &[RTreeNode<T>],
-    rights: &[RTreeNode<U>],
-) -> u64
+fn marks_of<T: Covered, U: Meets<T>>(lefts: &[RTreeNode<T>], rights: &[RTreeNode<U>]) -> u64
     ensures { length lefts.now * length rights.now ≤ 64 → marked_items result (product lefts.now rights.now)
-        ≡ filter (λ p. meets_by T.Envelope.boxes U.seen (node_box T.object.box_of p.0) (node_box U.object.box_of p.1))
+        ≡ filter (λ p. U.meets (node_box T.object.box_of p.0) (node_box U.object.box_of p.1))
         (product lefts.now rights.now) }
 {
     let mut marks = 0;
     let mut rest = lefts;
     while let Some((left, before)) = rest.split_last() {
-        marks = row_marks(&left.envelope(), rights, marks);
+        marks = row_marks(&left.cover(), rights, marks);
         rest = before;
     }
     marks
@@ -236,7 +251,7 @@ fn rows_beside<R>(rights: &[R]) -> usize
 
 /// The elements of two leaves.
 #[tactic(auto, unfolding(crate::specs::Nodes::is_leaf_node, crate::specs::Nodes::fold_tree))]
-fn two_leaves<'a, T: RTreeObject, U: RTreeObject>(
+fn two_leaves<'a, T: Covered, U: Covered>(
     left: &'a RTreeNode<T>,
     right: &'a RTreeNode<U>,
 ) -> Option<(&'a T, &'a U)>
@@ -310,7 +325,9 @@ impl<'a, T: RTreeObject, U: InEnvelope<T::Envelope>> IntersectionIterator<'a, T,
             opened: 1,
         })
     }
+}
 
+impl<'a, T: Covered, U: Meets<T>> IntersectionIterator<'a, T, U> {
     /// How many pairs of nodes were opened so far, the pair of roots among them, held at the greatest `usize`. At the
     /// end these are the pairs of nodes that meet, those of two leaves left out; an empty root is never asked.
     pub fn opened(&self) -> usize
@@ -322,8 +339,8 @@ impl<'a, T: RTreeObject, U: InEnvelope<T::Envelope>> IntersectionIterator<'a, T,
     /// Reads a pair that meets, or asks the next ones; or goes on with the next nodes on the left; or goes back to what
     /// was left last.
     fn step(&mut self) -> PairStep<'a, T, U>
-        requires { HasItsPaths (meets_by T.Envelope.boxes U.seen) T.object.box_of U.object.box_of self.old }
-        ensures { IsPairStep (meets_by T.Envelope.boxes U.seen) T.object.box_of U.object.box_of
+        requires { HasItsPaths U.meets T.object.box_of U.object.box_of self.old }
+        ensures { IsPairStep U.meets T.object.box_of U.object.box_of
             self.old result self.new }
     {
         if self.lefts.is_empty() {
@@ -354,10 +371,10 @@ impl<'a, T: RTreeObject, U: InEnvelope<T::Envelope>> IntersectionIterator<'a, T,
         rights: &'a [RTreeNode<U>],
         marks: u64,
     ) -> PairStep<'a, T, U>
-        requires paths { HasItsPaths (meets_by T.Envelope.boxes U.seen) T.object.box_of U.object.box_of self.old }
+        requires paths { HasItsPaths U.meets T.object.box_of U.object.box_of self.old }
         requires met { IsFirstPair (take (rows_beside self.old.rights.now) self.old.lefts.now) self.old.asked.now
             self.old.marks lefts.now rights.now marks }
-        ensures { IsPairStep (meets_by T.Envelope.boxes U.seen) T.object.box_of U.object.box_of
+        ensures { IsPairStep U.meets T.object.box_of U.object.box_of
             self.old result self.new }
     {
         let Some((left, _under)) = lefts.split_first() else {
@@ -387,9 +404,9 @@ impl<'a, T: RTreeObject, U: InEnvelope<T::Envelope>> IntersectionIterator<'a, T,
 
     /// Goes back to what was left last, where nothing is left in hand.
     fn go_back(&mut self) -> PairStep<'a, T, U>
-        requires paths { HasItsPaths (meets_by T.Envelope.boxes U.seen) T.object.box_of U.object.box_of self.old }
+        requires paths { HasItsPaths U.meets T.object.box_of U.object.box_of self.old }
         requires none { self.old.lefts.now ≡ [] }
-        ensures { IsPairStep (meets_by T.Envelope.boxes U.seen) T.object.box_of U.object.box_of
+        ensures { IsPairStep U.meets T.object.box_of U.object.box_of
             self.old result self.new }
     {
         let Some(frame) = self.path.pop() else {
@@ -404,14 +421,14 @@ impl<'a, T: RTreeObject, U: InEnvelope<T::Envelope>> IntersectionIterator<'a, T,
     }
 }
 
-impl<'a, T: RTreeObject, U: InEnvelope<T::Envelope>> Iterator for IntersectionIterator<'a, T, U> {
+impl<'a, T: Covered, U: Meets<T>> Iterator for IntersectionIterator<'a, T, U> {
     type Item = (&'a T, &'a U);
 
-    ghost can_next = { IsJoining (meets_by T.Envelope.boxes U.seen) T.object.box_of U.object.box_of };
+    ghost can_next = { IsJoining U.meets T.object.box_of U.object.box_of };
 
-    ghost next_gives = { GivesPair (meets_by T.Envelope.boxes U.seen) T.object.box_of U.object.box_of };
+    ghost next_gives = { GivesPair U.meets T.object.box_of U.object.box_of };
 
-    ghost remaining = { item_count (pairs_to_come (meets_by T.Envelope.boxes U.seen) T.object.box_of
+    ghost remaining = { item_count (pairs_to_come U.meets T.object.box_of
         U.object.box_of) };
 
     #[tactic(auto, unfolding(crate::specs::Joins::pairs_to_come, crate::specs::Joins::IsJoining))]

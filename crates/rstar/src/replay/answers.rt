@@ -6,11 +6,14 @@ ghost use Rattle.rstar_base.specs.Points.{table};
 ghost use Rattle.rstar_base.specs.Selections.{IsLawful};
 ghost use Rattle.rstar.specs.declared.replay.Command.TheVariants.{Ask, Contains, Nearest, Neighbours, Join};
 ghost use Rattle.rstar.specs.Clones.{ClonesEqual};
-ghost use Rattle.rstar.specs.Joins.{join};
+ghost use Rattle.rstar.specs.Joins.{join, IsJoining, pairs_to_come as to_join};
+ghost use Rattle.rstar.specs.Selections.{IsWalking, to_come};
 ghost use Rattle.rstar.specs.Lists.{NoneEmpty};
 ghost use Rattle.rstar.specs.Steps.{selects, IsNearestWith, AreNearestWith, Step};
 ghost use Rattle.rstar.specs.Trees.{elements_in, IsWholeTree};
 
+use crate::iterators::{IntersectionIterator, Meets, SelectionIterator};
+use crate::needs::{Covered, Question};
 use crate::replay::{Query, Reply, Scanned};
 use crate::rtree::RTree;
 use rstar_base::algorithm::selection_functions::{
@@ -21,7 +24,7 @@ use rstar_base::envelope::Envelope;
 use rstar_base::object::{Distance, EqualEnvelopes, PointDistance, PointOf, RTreeObject};
 use rstar_base::params::RTreeParams;
 use rstar_base::point::{Point, RTreeNum};
-use std::alloc::AllocError;
+use std::alloc::{AllocError, Global};
 
 /// The elements that are asked for.
 #[tactic(auto, using(crate::proofs::Replays::same_bag))]
@@ -70,8 +73,23 @@ fn clones_of<T: RTreeObject + Clone, Func: SelectionFunction<T>, Params: RTreePa
     requires lawful { IsLawful T.Envelope.boxes T.object (Func.accepts func) (Func.selects func) }
     ensures { IfOk result (λ found. found.items ≡ filter (Func.selects func) (elements_in tree.now)) }
 {
-    let mut found = Vec::new(*tree.root().children.allocator());
-    let mut items = tree.locate_with_selection_function(func)?;
+    clones_to_come(
+        *tree.root().children.allocator(),
+        tree.locate_with_selection_function(func)?,
+    )
+}
+
+/// The clones of the elements that a walk has not given.
+fn clones_to_come<'a, T: Covered + Clone, Func: Question<T>>(
+    alloc: Global,
+    walk: SelectionIterator<'a, T, Func>,
+) -> Result<Vec<T>, AllocError>
+    requires walking { IsWalking Func.accepts walk }
+    requires clones { ClonesEqual T.is_clone }
+    ensures { IfOk result (λ found. found.items ≡ to_come Func.accepts Func.selects walk.entry) }
+{
+    let mut found = Vec::new(alloc);
+    let mut items = walk;
     while let Some(t) = items.next() {
         found.push(t.clone()?)?;
     }
@@ -157,9 +175,9 @@ fn first_clones<T: PointDistance + Clone, Params: RTreeParams>(
 }
 
 /// The clones of elements that are lent, each with its distance.
-pub(super) fn clones_of_lent<T: PointDistance + Clone>(
-    lent: &Vec<(&T, Distance<T>)>,
-) -> Result<Vec<(T, Distance<T>)>, AllocError>
+pub(super) fn clones_of_lent<T: Clone, S: Copy>(
+    lent: &Vec<(&T, S)>,
+) -> Result<Vec<(T, S)>, AllocError>
     requires { ClonesEqual T.is_clone }
     ensures { IfOk result (λ found. found.items ≡ map (λ n. (n.0.now, n.1)) lent.now.items) }
 {
@@ -202,9 +220,23 @@ fn pairs_with<T: RTreeObject + Clone, Params: RTreeParams>(
         (join T.Envelope.boxes.intersects T.object.box_of T.object.box_of (elements_in tree.now) list.items)
         pairs.items) }
 {
-    let mut pairs = Vec::new(*list.allocator());
+    let alloc = *list.allocator();
     let other = RTree::bulk_load(list)?;
-    let mut items = tree.intersection_candidates_with_other_tree(&other)?;
+    pairs_to_come(alloc, tree.intersection_candidates_with_other_tree(&other)?)
+}
+
+/// The clones of the pairs that a walk of two trees has not given.
+fn pairs_to_come<'a, T: Covered + Clone, U: Meets<T> + Clone>(
+    alloc: Global,
+    walk: IntersectionIterator<'a, T, U>,
+) -> Result<Vec<(T, U)>, AllocError>
+    requires joining { IsJoining U.meets T.object.box_of U.object.box_of walk }
+    requires left { ClonesEqual T.is_clone }
+    requires right { ClonesEqual U.is_clone }
+    ensures { IfOk result (λ pairs. pairs.items ≡ to_join U.meets T.object.box_of U.object.box_of walk.entry) }
+{
+    let mut pairs = Vec::new(alloc);
+    let mut items = walk;
     while let Some((t, u)) = items.next() {
         let left = t.clone()?;
         pairs.push((left, u.clone()?))?;

@@ -95,7 +95,7 @@ fn cloned_parent<T: RTreeObject + Clone, Params: RTreeParams>(
     for node in parent.children.as_slice() {
         children.push(cloned_node::<T, Params>(node)?)?;
     }
-    make_room::<T, Params>(&mut children)?;
+    make_room::<_, Params>(&mut children)?;
     Ok(ParentNode {
         children,
         envelope: copied_envelope(&parent.envelope),

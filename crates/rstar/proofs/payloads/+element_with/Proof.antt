@@ -67,7 +67,7 @@ unfolding tables_of
     let En = f.ended X E P S R g0 d0 g1 d1 g2 d2 g3 d3 g4 d4 g5 d5 g6 d6 g7 d7 g8 d8 g9 d9 g10 d10 g11 d11 g12 d12 g13 d13 g14 d14 g15 d15 g16 d16 g17 d17 g18 d18 g19 d19 g20 d20 g21 d21 g22 d22 g23 d23 g24 d24 g25 d25 g26 d26 g27 d27 g28 d28 g29 d29 g30 d30 g31 d31 g32 d32 g33 d33 d34 d35 d36 d37 in let S' = En.signature in
     let c = f.clauses X E P S R g0 d0 g1 d1 g2 d2 g3 d3 g4 d4 g5 d5 g6 d6 g7 d7 g8 d8 g9 d9 g10 d10 g11 d11 g12 d12 g13 d13 g14 d14 g15 d15 g16 d16 g17 d17 g18 d18 g19 d19 g20 d20 g21 d21 g22 d22 g23 d23 g24 d24 g25 d25 g26 d26 g27 d27 g28 d28 g29 d29 g30 d30 g31 d31 g32 d32 g33 d33 d34 d35 d36 d37 𝓛 𝓜.mem 𝓡.returns in
     let TX = param 0 X in let TE = param 1 E in let TP = param 2 P in let TS = copied 3 S in let TR = param 4 R in
-    let Node : RattleType = node_row TX TE TP TS TR in
+    let Node : RattleType = node_row TX TE in
     let s0 = RefMutOf {n = 7} (0 ∷ []) tt (plain (λ _. Node)) (λ κs. tt) in let s1 = RefOf {n = 7} (1 ∷ []) tt (plain (λ _. TP)) (λ κs. tt) in let s2 = plain {n = 7} (λ _. usize) in
     let hs : Stays S'.params En.kept = (stay_dropped s0 no, (stay_dropped s1 yes, (stay_dropped s2 yes, tt))) in
     let spec = f.spec X E P S R g0 d0 g1 d1 g2 d2 g3 d3 g4 d4 g5 d5 g6 d6 g7 d7 g8 d8 g9 d9 g10 d10 g11 d11 g12 d12 g13 d13 g14 d14 g15 d15 g16 d16 g17 d17 g18 d18 g19 d19 g20 d20 g21 d21 g22 d22 g23 d23 g24 d24 g25 d25 g26 d26 g27 d27 g28 d28 g29 d29 g30 d30 g31 d31 g32 d32 g33 d33 d34 d35 d36 d37 𝓛 𝓜.mem 𝓡.returns in
@@ -86,7 +86,7 @@ unfolding tables_of
     let Post : Val → SProp 𝓤 = (walk_of 𝓛 En hs c).post z in
     let vs : List Val = vptr b o ∷ vptr point.ref_ptr.0 point.ref_ptr.1 ∷ vint w64 depth ∷ [] in
     let Out = MutRef (named 0) κ0 TX in let Point = ShrRef (named 1) κ1 TP in
-    let way : ParentNode X.Denot E.Denot P.Denot S.Denot R.Denot → ℕ = way_to g2.boxes g0.distances (table g6.DIMENSIONS (g6.coord point.now)) in
+    let way : ParentNode X.Denot E.Denot → ℕ = way_to g2.boxes g0.distances (table g6.DIMENSIONS (g6.coord point.now)) in
     let opened_node = layer_of node.now in
     let Φ : Type 0 = Leads way depth opened_node in
     qed 𝓛 (((‵ (flft κ0 q0) ⊛ ‵ (flft κ1 q1) ⊛ ‵ (flft κ2 q2) ⊛ ‵ (flft κ3 q3) ⊛ ‵ (flft κ4 q4) ⊛ ‵ (flft κ5 q5) ⊛ ‵ (flft κ6 q6) ⊛ ‵ ftrue) ⊛
@@ -110,7 +110,7 @@ unfolding tables_of
     use1 𝓛 (raw (Gl.pre zl)) (id⊢ 𝓤 _) $
     calls_at_last ! (framed 𝓤 H 𝓜 𝓣) Gl (leaf_met 𝓤 𝓛 𝓜 𝓡 (code.calls-rstar::payloads::leaf_in 𝓡.env wired) X E P S R LX LE LP LS LR copyS g1 d1 g2 d2 g3 d3 g4 d4 g5 d5 g6 d6 g7 d7 g8 d8 g9 d9 g10 d10 g11 d11 g12 d12 g13 d13 g14 d14 g15 d15 g16 d16 g17 d17 g18 d18 g19 d19 g20 d20 g21 d21 g22 d22 g23 d23 g24 d24 g25 d25 g26 d26 g27 d27 g28 d28 g29 d29 g30 d30 g31 d31 g32 d32 g33 d33 d34 d35 d36 d37 m1 m2 m3 m4 m5 m6 m7 m8 m9 m10 m11 m12 m13 m14 m15 m16 m17 m18 m19 m20 m21 m22 m23 m24 m25 m26 m27 m28 m29 m30 m31 m32 m33 m34 m35 m36 m37) zl (and_then ! (get ! refl) (no_more !)) (λ v.
     use1 𝓛 (later (some (λ (r : MutBor X.Denot). ((‵ (flft κ0 q0) ⊛ ‵ (flft κ2 q2) ⊛ ‵ (flft κ3 q3) ⊛ ‵ (flft κ4 q4) ⊛ ‵ (flft κ5 q5) ⊛ ‵ (flft κ6 q6) ⊛ ‵ ftrue) ⊛ ‵ (Out.own_val r (v ∷ []))) ⊛
-    some (λ (ws : _). ‵ (lasts (leaf.ended X E P S R g1 d1 g2 d2 g3 d3 g4 d4 g5 d5 g6 d6 g7 d7 g8 d8 g9 d9 g10 d10 g11 d11 g12 d12 g13 d13 g14 d14 g15 d15 g16 d16 g17 d17 g18 d18 g19 d19 g20 d20 g21 d21 g22 d22 g23 d23 g24 d24 g25 d25 g26 d26 g27 d27 g28 d28 g29 d29 g30 d30 g31 d31 g32 d32 g33 d33 d34 d35 d36 d37) zl.0.0 zl.0.3 ws) ⊛ ‵ (LendsLeaf TX TE TP TS TR node r) ⊛ raw (fact 𝓤 (Leaf r.now ≡ node.now)))))) (id⊢ 𝓤 _) $
+    some (λ (ws : _). ‵ (lasts (leaf.ended X E P S R g1 d1 g2 d2 g3 d3 g4 d4 g5 d5 g6 d6 g7 d7 g8 d8 g9 d9 g10 d10 g11 d11 g12 d12 g13 d13 g14 d14 g15 d15 g16 d16 g17 d17 g18 d18 g19 d19 g20 d20 g21 d21 g22 d22 g23 d23 g24 d24 g25 d25 g26 d26 g27 d27 g28 d28 g29 d29 g30 d30 g31 d31 g32 d32 g33 d33 d34 d35 d36 d37) zl.0.0 zl.0.3 ws) ⊛ ‵ (LendsLeaf TX TE node r) ⊛ raw (fact 𝓤 (Leaf r.now ≡ node.now)))))) (id⊢ 𝓤 _) $
     await ! tt $ pick ! (λ r. split ! $ split ! $ move ! (2 ∷ []) $ pick ! (λ ws. split ! $ drop ! $ split ! $ move ! (1 ∷ []) $ heard ! (Leaf r.now ≡ node.now) (λ same.
     let At : Type 0 = IsAt way depth opened_node r.now in
     move ! (2 ∷ []) $ peeks ! Out (Is Out) (shows 𝓛 Out) r (v ∷ []) (λ said. let e : v ≡ vptr r.ref_ptr.0 r.ref_ptr.1 = ap only said.0 in
@@ -118,7 +118,7 @@ unfolding tables_of
     lands_last ! refl (fits_ref erased (ty_param 0) v _ _ e) $
     exec ! 𝓣.C 𝓣.Λ L (after 2 fn.body) (at_ret L Post) $ sets ! (of_opd ! (get ! refl)) refl (fits_ref (named 0) (ty_param 0) v _ _ e) $
     returns ! (look_at ! 0 refl) $ free_all ! refl $
-    rewrite ! 1 (λ (F : X.Denot → RTreeNode X.Denot E.Denot P.Denot S.Denot R.Denot). ‵ (follows Node TX node.ghost_name r.ghost_name F)) (leaf_put way depth opened_node at_end) refl $
+    rewrite ! 1 (λ (F : X.Denot → RTreeNode X.Denot E.Denot). ‵ (follows Node TX node.ghost_name r.ghost_name F)) (leaf_put way depth opened_node at_end) refl $
     keep ! (2 ∷ 0 ∷ 1 ∷ 4 ∷ []) $ split ! $ move ! (1 ∷ []) $ split ! $ move ! (1 ∷ []) $ split ! $ move ! (1 ∷ []) $ split ! $ move ! (1 ∷ []) $ split ! $ move ! (1 ∷ []) $ split ! $ move ! (6 ∷ 9 ∷ 5 ∷ 4 ∷ 3 ∷ 2 ∷ 0 ∷ 1 ∷ []) $ group ! 8 $
     use0 𝓛 (raw (fact 𝓤 At)) (fact_i 𝓤 At (emp 𝓤) (leaf_at way depth node.now r.now at_end same)) $ move ! (3 ∷ 0 ∷ []) $ join ! $ move ! (1 ∷ 2 ∷ 0 ∷ []) $
     nothing ! $ nothing ! $ fjoin ! $ nothing ! $ fjoin ! $ nothing ! $ fjoin ! $ move ! (1 ∷ 0 ∷ []) $
@@ -126,7 +126,7 @@ unfolding tables_of
     (λ inside.
     let D : Down way depth node.now = down way depth node.now inside leads in let m : ℕ = D.below in
     let fits : m < 2 ^ 64 = lt_trans D.less are.1.1.0.1 in
-    let Row = parent_row TX TE TP TS TR in let In = MutRef (named 0) κ0 Row in let On = MutRef (named 0) κ0 Node in
+    let Row = parent_row TX TE in let In = MutRef (named 0) κ0 Row in let On = MutRef (named 0) κ0 Node in
     sets ! (addr ! (through ! refl (stop !))) refl (tt, tt) $
     let Gp = triple_of 𝓛 (parent.signature X E P S R) (parent.spec X E P S R g1 d1 g2 d2 g3 d3 g4 d4 g5 d5 g6 d6 g7 d7 g8 d8 g9 d9 g10 d10 g11 d11 g12 d12 g13 d13 g14 d14 g15 d15 g16 d16 g17 d17 g18 d18 g19 d19 g20 d20 g21 d21 g22 d22 g23 d23 g24 d24 g25 d25 g26 d26 g27 d27 g28 d28 g29 d29 g30 d30 g31 d31 g32 d32 g33 d33 d34 d35 d36 d37 𝓛 𝓜.mem 𝓡.returns) in
     let zp : Gp.Ghost = (((κ0, (κ2, (κ3, (κ4, (κ5, (κ6, tt)))))), (q0, (q2, (q3, (q4, (q5, (q6, tt)))))), (y.0.2.0, tt), (node, tt), (mut_vals node, tt)), tt) in
@@ -135,8 +135,8 @@ unfolding tables_of
     nothing ! $ move ! (2 ∷ 0 ∷ []) $ join ! $ nothing ! $ move ! (4 ∷ 6 ∷ 7 ∷ 8 ∷ 9 ∷ 10 ∷ 0 ∷ []) $ group ! 7 $ join ! $ join ! $
     use1 𝓛 (raw (Gp.pre zp)) (id⊢ 𝓤 _) $
     calls_at ! (framed 𝓤 H 𝓜 𝓣) Gp (parent_met 𝓤 𝓛 𝓜 𝓡 (code.calls-rstar::payloads::parent_in 𝓡.env wired) X E P S R LX LE LP LS LR copyS g1 d1 g2 d2 g3 d3 g4 d4 g5 d5 g6 d6 g7 d7 g8 d8 g9 d9 g10 d10 g11 d11 g12 d12 g13 d13 g14 d14 g15 d15 g16 d16 g17 d17 g18 d18 g19 d19 g20 d20 g21 d21 g22 d22 g23 d23 g24 d24 g25 d25 g26 d26 g27 d27 g28 d28 g29 d29 g30 d30 g31 d31 g32 d32 g33 d33 d34 d35 d36 d37 m1 m2 m3 m4 m5 m6 m7 m8 m9 m10 m11 m12 m13 m14 m15 m16 m17 m18 m19 m20 m21 m22 m23 m24 m25 m26 m27 m28 m29 m30 m31 m32 m33 m34 m35 m36 m37) zp (and_then ! (get ! refl) (no_more !)) (λ v1.
-    use1 𝓛 (later (some (λ (r1 : MutBor (ParentNode X.Denot E.Denot P.Denot S.Denot R.Denot)). ((‵ (flft κ0 q0) ⊛ ‵ (flft κ2 q2) ⊛ ‵ (flft κ3 q3) ⊛ ‵ (flft κ4 q4) ⊛ ‵ (flft κ5 q5) ⊛ ‵ (flft κ6 q6) ⊛ ‵ ftrue) ⊛ ‵ (In.own_val r1 (v1 ∷ []))) ⊛
-    some (λ (ws : _). ‵ (lasts (parent.ended X E P S R g1 d1 g2 d2 g3 d3 g4 d4 g5 d5 g6 d6 g7 d7 g8 d8 g9 d9 g10 d10 g11 d11 g12 d12 g13 d13 g14 d14 g15 d15 g16 d16 g17 d17 g18 d18 g19 d19 g20 d20 g21 d21 g22 d22 g23 d23 g24 d24 g25 d25 g26 d26 g27 d27 g28 d28 g29 d29 g30 d30 g31 d31 g32 d32 g33 d33 d34 d35 d36 d37) zp.0.0 zp.0.3 ws) ⊛ ‵ (LendsParent TX TE TP TS TR node r1) ⊛ raw (fact 𝓤 (Parent r1.now ≡ node.now)))))) (id⊢ 𝓤 _) $
+    use1 𝓛 (later (some (λ (r1 : MutBor (ParentNode X.Denot E.Denot)). ((‵ (flft κ0 q0) ⊛ ‵ (flft κ2 q2) ⊛ ‵ (flft κ3 q3) ⊛ ‵ (flft κ4 q4) ⊛ ‵ (flft κ5 q5) ⊛ ‵ (flft κ6 q6) ⊛ ‵ ftrue) ⊛ ‵ (In.own_val r1 (v1 ∷ []))) ⊛
+    some (λ (ws : _). ‵ (lasts (parent.ended X E P S R g1 d1 g2 d2 g3 d3 g4 d4 g5 d5 g6 d6 g7 d7 g8 d8 g9 d9 g10 d10 g11 d11 g12 d12 g13 d13 g14 d14 g15 d15 g16 d16 g17 d17 g18 d18 g19 d19 g20 d20 g21 d21 g22 d22 g23 d23 g24 d24 g25 d25 g26 d26 g27 d27 g28 d28 g29 d29 g30 d30 g31 d31 g32 d32 g33 d33 d34 d35 d36 d37) zp.0.0 zp.0.3 ws) ⊛ ‵ (LendsParent TX TE node r1) ⊛ raw (fact 𝓤 (Parent r1.now ≡ node.now)))))) (id⊢ 𝓤 _) $
     await ! tt $ pick ! (λ r1. split ! $ split ! $ move ! (2 ∷ []) $ pick ! (λ ws1. split ! $ drop ! $ split ! $
     move ! (1 ∷ []) $ heard ! (Parent r1.now ≡ node.now) (λ same1.
     move ! (2 ∷ []) $ peeks ! In (Is In) (shows 𝓛 In) r1 (v1 ∷ []) (λ said1.
@@ -153,9 +153,9 @@ unfolding tables_of
     use0 𝓛 (raw (fact 𝓤 (κ6 ⊑ R.lives))) (fact_i 𝓤 (κ6 ⊑ R.lives) (emp 𝓤) in_R) $ use0 𝓛 (raw (fact 𝓤 (κ5 ⊑ S.lives))) (fact_i 𝓤 (κ5 ⊑ S.lives) (emp 𝓤) in_S) $ use0 𝓛 (raw (fact 𝓤 (κ4 ⊑ P.lives))) (fact_i 𝓤 (κ4 ⊑ P.lives) (emp 𝓤) in_P) $ use0 𝓛 (raw (fact 𝓤 (κ3 ⊑ E.lives))) (fact_i 𝓤 (κ3 ⊑ E.lives) (emp 𝓤) in_E) $ use0 𝓛 (raw (fact 𝓤 (κ2 ⊑ X.lives))) (fact_i 𝓤 (κ2 ⊑ X.lives) (emp 𝓤) in_X) $ group ! 6 $
     move ! (1 ∷ 0 ∷ []) $ join ! $ use1 𝓛 (raw (Gc.pre zc)) (id⊢ 𝓤 _) $
     calls_at ! (framed 𝓤 H 𝓜 𝓣) Gc (child_met 𝓤 𝓛 𝓜 𝓡 (code.calls-rstar::payloads::child_with 𝓡.env wired) X E P S R LX LE LP LS LR copyS g0 d0 g1 d1 g2 d2 g3 d3 g4 d4 g5 d5 g6 d6 g7 d7 g8 d8 g9 d9 g10 d10 g11 d11 g12 d12 g13 d13 g14 d14 g15 d15 g16 d16 g17 d17 g18 d18 g19 d19 g20 d20 g21 d21 g22 d22 g23 d23 g24 d24 g25 d25 g26 d26 g27 d27 g28 d28 g29 d29 g30 d30 g31 d31 g32 d32 g33 d33 d34 d35 d36 d37 m0 m1 m2 m3 m4 m5 m6 m7 m8 m9 m10 m11 m12 m13 m14 m15 m16 m17 m18 m19 m20 m21 m22 m23 m24 m25 m26 m27 m28 m29 m30 m31 m32 m33 m34 m35 m36 m37) zc (and_then ! (get ! refl) (and_then ! (get ! refl) (no_more !))) (λ v2.
-    let Same : RTreeNode X.Denot E.Denot P.Denot S.Denot R.Denot → Type 0 = λ k. k ≡ child_at r1.now place in
-    use1 𝓛 (later (some (λ (r2 : MutBor (RTreeNode X.Denot E.Denot P.Denot S.Denot R.Denot)). ((‵ (flft κ0 q0) ⊛ ‵ (flft κ1 q1) ⊛ ‵ (flft κ2 q2) ⊛ ‵ (flft κ3 q3) ⊛ ‵ (flft κ4 q4) ⊛ ‵ (flft κ5 q5) ⊛ ‵ (flft κ6 q6) ⊛ ‵ ftrue) ⊛ ‵ (On.own_val r2 (v2 ∷ []))) ⊛
-    some (λ (ws : _). ‵ (lasts (child.ended X E P S R g0 d0 g1 d1 g2 d2 g3 d3 g4 d4 g5 d5 g6 d6 g7 d7 g8 d8 g9 d9 g10 d10 g11 d11 g12 d12 g13 d13 g14 d14 g15 d15 g16 d16 g17 d17 g18 d18 g19 d19 g20 d20 g21 d21 g22 d22 g23 d23 g24 d24 g25 d25 g26 d26 g27 d27 g28 d28 g29 d29 g30 d30 g31 d31 g32 d32 g33 d33 d34 d35 d36 d37) zc.0.0 zc.0.3 ws) ⊛ ‵ (LendsChild TX TE TP TS TR r1 place r2) ⊛ raw (fact 𝓤 (Same r2.now)))))) (id⊢ 𝓤 _) $
+    let Same : RTreeNode X.Denot E.Denot → Type 0 = λ k. k ≡ child_at r1.now place in
+    use1 𝓛 (later (some (λ (r2 : MutBor (RTreeNode X.Denot E.Denot)). ((‵ (flft κ0 q0) ⊛ ‵ (flft κ1 q1) ⊛ ‵ (flft κ2 q2) ⊛ ‵ (flft κ3 q3) ⊛ ‵ (flft κ4 q4) ⊛ ‵ (flft κ5 q5) ⊛ ‵ (flft κ6 q6) ⊛ ‵ ftrue) ⊛ ‵ (On.own_val r2 (v2 ∷ []))) ⊛
+    some (λ (ws : _). ‵ (lasts (child.ended X E P S R g0 d0 g1 d1 g2 d2 g3 d3 g4 d4 g5 d5 g6 d6 g7 d7 g8 d8 g9 d9 g10 d10 g11 d11 g12 d12 g13 d13 g14 d14 g15 d15 g16 d16 g17 d17 g18 d18 g19 d19 g20 d20 g21 d21 g22 d22 g23 d23 g24 d24 g25 d25 g26 d26 g27 d27 g28 d28 g29 d29 g30 d30 g31 d31 g32 d32 g33 d33 d34 d35 d36 d37) zc.0.0 zc.0.3 ws) ⊛ ‵ (LendsChild TX TE r1 place r2) ⊛ raw (fact 𝓤 (Same r2.now)))))) (id⊢ 𝓤 _) $
     await ! tt $ pick ! (λ r2. split ! $ split ! $ move ! (2 ∷ []) $ pick ! (λ ws2. split ! $ drop ! $ split ! $
     move ! (1 ∷ []) $ heard ! (Same r2.now) (λ same2.
     move ! (2 ∷ []) $ peeks ! On (Is On) (shows 𝓛 On) r2 (v2 ∷ []) (λ said2.
@@ -173,7 +173,7 @@ unfolding tables_of
     move ! (1 ∷ 0 ∷ []) $ join ! $ use1 𝓛 (raw (G.pre zs)) (id⊢ 𝓤 _) $
     calls_from_last ! (framed 𝓤 H 𝓜 𝓣) (raw (G.pre zs)) (G.args zs) (G.post zs) (below m (subst (λ (k : ℕ). m < k) is_t D.less) zs refl) (and_then ! (get ! refl) (and_then ! (get ! refl) (and_then ! (get ! refl) (no_more !)))) (λ v.
     use1 𝓛 (later (some (λ (r : MutBor X.Denot). ((‵ (flft κ0 q0) ⊛ ‵ (flft κ1 q1) ⊛ ‵ (flft κ2 q2) ⊛ ‵ (flft κ3 q3) ⊛ ‵ (flft κ4 q4) ⊛ ‵ (flft κ5 q5) ⊛ ‵ (flft κ6 q6) ⊛ ‵ ftrue) ⊛ ‵ (Out.own_val r (v ∷ []))) ⊛
-    some (λ (ws : _). ‵ (lasts En zs.0.0 zs.0.3 ws) ⊛ ‵ (LendsElement TX TE TP TS TR way r2 m r) ⊛ raw (fact 𝓤 (IsAt way m (layer_of r2.now) r.now)))))) (id⊢ 𝓤 _) $
+    some (λ (ws : _). ‵ (lasts En zs.0.0 zs.0.3 ws) ⊛ ‵ (LendsElement TX TE way r2 m r) ⊛ raw (fact 𝓤 (IsAt way m (layer_of r2.now) r.now)))))) (id⊢ 𝓤 _) $
     await ! tt $ pick ! (λ r. split ! $ split ! $ move ! (2 ∷ []) $ pick ! (λ ws. split ! $ drop ! $ split ! $ move ! (1 ∷ []) $ heard ! (IsAt way m (layer_of r2.now) r.now) (λ below_at.
     let At : Type 0 = IsAt way depth opened_node r.now in
     move ! (2 ∷ []) $ peeks ! Out (Is Out) (shows 𝓛 Out) r (v ∷ []) (λ said. let e : v ≡ vptr r.ref_ptr.0 r.ref_ptr.1 = ap only said.0 in
@@ -184,7 +184,7 @@ unfolding tables_of
     let put = put_at way m (layer_of r2.now) in
     move ! (3 ∷ 1 ∷ []) $ use2 𝓛 (‵ (follows Node TX node.ghost_name r.ghost_name (λ u. with_parent opened_node (with_child r1.now place (put u)))))
     (follows_then 𝓛 Node Node TX (λ w. with_parent opened_node (with_child r1.now place w)) put node.ghost_name r2.ghost_name r.ghost_name) $
-    rewrite ! 0 (λ (F : X.Denot → RTreeNode X.Denot E.Denot P.Denot S.Denot R.Denot). ‵ (follows Node TX node.ghost_name r.ghost_name F)) (D.put r1.now r2.now same1 same2) refl $
+    rewrite ! 0 (λ (F : X.Denot → RTreeNode X.Denot E.Denot). ‵ (follows Node TX node.ghost_name r.ghost_name F)) (D.put r1.now r2.now same1 same2) refl $
     use0 𝓛 (raw (fact 𝓤 At)) (fact_i 𝓤 At (emp 𝓤) (D.at r1.now r2.now r.now same1 same2 below_at)) $ move ! (1 ∷ 0 ∷ []) $ join ! $
     nothing ! $ nothing ! $ fjoin ! $ nothing ! $ fjoin ! $ nothing ! $ fjoin ! $ move ! (3 ∷ 0 ∷ 2 ∷ 1 ∷ []) $
     by ! (leaves 𝓛 En hs c z v r (tt, (tt, (tt, tt))) (tt, (tt, (tt, tt)))))))))))))))))))))))))))))))

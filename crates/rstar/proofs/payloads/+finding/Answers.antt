@@ -17,7 +17,7 @@ finds-first_finding-requires g t c κs within =
 pub finds-returns-in-Leaf : goal.finds-returns-in-Leaf
 finds-returns-in-Leaf g t c =
     let p = table g.T.Envelope.Point.Point.DIMENSIONS (g.T.Envelope.Point.Point.coord c.args.point.now) in
-    c.contains_point.ensures ∙ sym (ap (finds_at g.T.Envelope.Envelope.boxes g.T.PointDistance.distances p) c.in-Leaf.is ∙ finds-Leaf _ _ _ _ _ _ _ c.in-Leaf.t)
+    c.contains_point.ensures ∙ sym (ap (finds_at g.T.Envelope.Envelope.boxes g.T.PointDistance.distances p) c.in-Leaf.is ∙ finds-Leaf _ _ _ _ c.in-Leaf.t)
 
 pub finds-returns-then-contains_point : goal.finds-returns-then-contains_point
 finds-returns-then-contains_point g t c =
@@ -30,7 +30,7 @@ finds-returns-then-contains_point g t c =
     ap (λ n. nat_lt n c.len.result) first
     ∙ ap (λ n. nat_lt (first_at v d p (children_of parent)) n) long
     ∙ ap (λ b. b && nat_lt (first_at v d p (children_of parent)) (length (children_of parent))) (sym (sym c.contains_point-in-Parent.ensures.test ∙ c.if-contains_point.true))
-    ∙ sym (ap (finds_at v d p) c.in-Parent.is ∙ finds-Parent _ _ _ _ _ _ _ parent)
+    ∙ sym (ap (finds_at v d p) c.in-Parent.is ∙ finds-Parent _ _ _ _ parent)
 
 pub finds-returns-else-contains_point : goal.finds-returns-else-contains_point
 finds-returns-else-contains_point g t c =
@@ -40,4 +40,4 @@ finds-returns-else-contains_point g t c =
     let parent = c.in-Parent.parent in
     c.if-contains_point.false
     ∙ ap (λ b. b && nat_lt (first_at v d p (children_of parent)) (length (children_of parent))) (sym (sym c.contains_point-in-Parent.ensures.test ∙ c.if-contains_point.false))
-    ∙ sym (ap (finds_at v d p) c.in-Parent.is ∙ finds-Parent _ _ _ _ _ _ _ parent)
+    ∙ sym (ap (finds_at v d p) c.in-Parent.is ∙ finds-Parent _ _ _ _ parent)

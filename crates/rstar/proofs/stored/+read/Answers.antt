@@ -36,7 +36,7 @@ children_at-returns-clause-read g t c =
     is_done (node_at c.args.below) (map shown c.loop.children.items) c.args.count c.loop.counter c.loop.rest.now _ c.loop-test.false c.loop.invariant.read
 
 pub node_at-returns-then-height-eq0-clause-read : goal.node_at-returns-then-height-eq0-clause-read
-node_at-returns-then-height-eq0-clause-read g t c = leaf_read _ _ _ c.args.height c.args.bytes.now c.in_ok-point.point c.in_ok-point.rest.now c.if-height-eq0.true c.in_ok-point.ensures.read
+node_at-returns-then-height-eq0-clause-read g t c = leaf_read c.args.height c.args.bytes.now c.in_ok-point.point c.in_ok-point.rest.now c.if-height-eq0.true c.in_ok-point.ensures.read
 
 pub node_at-returns-then-height-eq0-clause-kept : goal.node_at-returns-then-height-eq0-clause-kept
 node_at-returns-then-height-eq0-clause-kept g t c = (
@@ -46,7 +46,7 @@ node_at-returns-then-height-eq0-clause-kept g t c = (
 )
 
 pub node_at-returns-then-height-eq0-clause-points : goal.node_at-returns-then-height-eq0-clause-points
-node_at-returns-then-height-eq0-clause-points g t c = leaf_counts _ _ _ _ _ c.in_ok-point.point c.args.points.now
+node_at-returns-then-height-eq0-clause-points g t c = leaf_counts _ _ c.in_ok-point.point c.args.points.now
 
 pub node_at-returns-clause-read : goal.node_at-returns-clause-read
 node_at-returns-clause-read g t c = parent_read c.args.height c.args.bytes.now c.in_ok-parent.parent c.in_ok-parent.rest.now (omega (arith, c.if-height-eq0.false)) c.in_ok-parent.ensures.read
@@ -61,13 +61,13 @@ node_at-returns-clause-points g t c = let one = ap length (elements-Parent c.in_
 pub parent_at-returns-then-not-has_corners-clause-read : goal.parent_at-returns-then-not-has_corners-clause-read
 parent_at-returns-then-not-has_corners-clause-read g t c =
     inr (parent_shown (node_at c.args.below) c.args.bytes.now c.in_ok-count.rest.now c.in_ok-lower.rest.now c.in_ok-upper.rest.now c.in_ok-children.rest.now c.in_ok-count.count c.in_ok-lower.lower c.in_ok-upper.upper c.in_ok-children.children.items c.envelope_for_children-envelope.result false
-    c.in_ok-count.ensures.read (search rules) (search rules) c.in_ok-lower.ensures.read c.in_ok-upper.ensures.read c.in_ok-children.ensures.read (rw c.deref.ensures.value at c.envelope_for_children-envelope.ensures) (search rules))
+    c.in_ok-count.ensures.read (search rules) (search rules) c.in_ok-lower.ensures.read c.in_ok-upper.ensures.read c.in_ok-children.ensures.read (rw c.deref.ensures.value at c.envelope_for_children-envelope.ensures.hull) (search rules))
 
 pub parent_at-returns-clause-read : goal.parent_at-returns-clause-read
 parent_at-returns-clause-read g t c =
     parent_shown (node_at c.args.below) c.args.bytes.now c.in_ok-count.rest.now c.in_ok-lower.rest.now c.in_ok-upper.rest.now c.in_ok-children.rest.now c.in_ok-count.count c.in_ok-lower.lower c.in_ok-upper.upper c.in_ok-children.children.items c.envelope_for_children-envelope.result true
-    c.in_ok-count.ensures.read (search rules) (search rules) c.in_ok-lower.ensures.read c.in_ok-upper.ensures.read c.in_ok-children.ensures.read (rw c.deref.ensures.value at c.envelope_for_children-envelope.ensures) (search rules)
+    c.in_ok-count.ensures.read (search rules) (search rules) c.in_ok-lower.ensures.read c.in_ok-upper.ensures.read c.in_ok-children.ensures.read (rw c.deref.ensures.value at c.envelope_for_children-envelope.ensures.hull) (search rules)
 
 pub parent_at-returns-clause-kept : goal.parent_at-returns-clause-kept
 parent_at-returns-clause-kept g t c =
-    parent_kept g.Params.RTreeParams.MAX_SIZE c.children_at.new.widest _ c.args.below _ (search rules) (search rules) (search rules) (rw c.deref.ensures.value at c.envelope_for_children-envelope.ensures) c.in_ok-children.ensures.room c.in_ok-children.ensures.kept
+    parent_kept g.Params.RTreeParams.MAX_SIZE c.children_at.new.widest _ c.args.below _ (search rules) (search rules) (search rules) (rw c.deref.ensures.value at c.envelope_for_children-envelope.ensures.hull) c.in_ok-children.ensures.room c.in_ok-children.ensures.kept

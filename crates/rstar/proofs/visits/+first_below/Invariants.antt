@@ -10,8 +10,8 @@ decreases-first_below g l = total (map steps l.nodes.now)
 abbrev pub invariant-loop-leaf : goal.invariant-loop-leaf
 invariant-loop-leaf g l = record {
   less : total (map steps l.left) ≤ total (map steps l.fn.nodes);
-  same : all_given (g.F.SelectionFunction.accepts l.func) (g.F.SelectionFunction.selects l.func) l.fn.nodes
-      ≡ all_given (g.F.SelectionFunction.accepts l.func) (g.F.SelectionFunction.selects l.func) l.left;
+  same : all_given (g.F.Question.accepts l.func) (g.F.Question.selects l.func) l.fn.nodes
+      ≡ all_given (g.F.Question.accepts l.func) (g.F.Question.selects l.func) l.left;
 }
 
 abbrev pub decreases-loop-leaf : goal.decreases-loop-leaf

@@ -12,8 +12,8 @@ abbrev pub invariant-loop-leaf : goal.invariant-loop-leaf
 invariant-loop-leaf g l = record {
   less : total (map steps (g.N.NodesRef.nodes l.left)) ≤ total (map steps (g.N.NodesRef.nodes l.fn.nodes));
   come : (r : _) (w : _) →
-      Visits g.N.NodesRef.element (goal.V-step g) l.visitor (all_given (g.F.SelectionFunction.accepts l.func) (g.F.SelectionFunction.selects l.func) (g.N.NodesRef.nodes l.left)) r w →
-      Visits g.N.NodesRef.element (goal.V-step g) l.fn.visitor (all_given (g.F.SelectionFunction.accepts l.func) (g.F.SelectionFunction.selects l.func) (g.N.NodesRef.nodes l.fn.nodes)) r w;
+      Visits g.N.NodesRef.element (goal.V-step g) l.visitor (all_given (g.F.Question.accepts l.func) (g.F.Question.selects l.func) (g.N.NodesRef.nodes l.left)) r w →
+      Visits g.N.NodesRef.element (goal.V-step g) l.fn.visitor (all_given (g.F.Question.accepts l.func) (g.F.Question.selects l.func) (g.N.NodesRef.nodes l.fn.nodes)) r w;
 }
 
 abbrev pub decreases-loop-leaf : goal.decreases-loop-leaf

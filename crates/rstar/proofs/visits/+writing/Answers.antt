@@ -27,9 +27,9 @@ visit_node_mut-visit_nodes_mut-requires g t c κs within =
 
 pub visit_node_mut-returns-then-should_unpack_leaf : goal.visit_node_mut-returns-then-should_unpack_leaf
 visit_node_mut-returns-then-should_unpack_leaf g t c =
-    let o = g.T.RTreeObject.object in
-    let accepts = g.F.SelectionFunction.accepts c.args.func.now in
-    let selects = g.F.SelectionFunction.selects c.args.func.now in
+    let o = g.T.Covered.object in
+    let accepts = g.F.Question.accepts c.args.func.now in
+    let selects = g.F.Question.selects c.args.func.now in
     record {
       written = simp (c.in-Leaf.is, outs-Leaf) (leaf-called o accepts selects (goal.V-step g) c.args.visitor.now (Leaf c.in-Leaf.t) (Leaf c.visitor.new.arg2) c.in-Leaf.t _ _ c.visitor.result c.visitor.new.self refl refl refl (sym (rw c.in-Leaf.t-is at c.should_unpack_leaf.ensures) ∙ c.if-should_unpack_leaf.true) (rw c.in-Leaf.t-is at c.visitor.ensures));
       changed = simp (c.in-Leaf.is, outs-Leaf) (λ k. leaf-changed o accepts selects (goal.V-step g) (Leaf c.in-Leaf.t) (Leaf c.visitor.new.arg2) c.in-Leaf.t c.visitor.new.arg2 refl refl (k c.args.visitor.now _ c.visitor.result _ c.visitor.new.self (rw c.in-Leaf.t-is at c.visitor.ensures)));
@@ -37,9 +37,9 @@ visit_node_mut-returns-then-should_unpack_leaf g t c =
 
 pub visit_node_mut-returns-else-should_unpack_leaf : goal.visit_node_mut-returns-else-should_unpack_leaf
 visit_node_mut-returns-else-should_unpack_leaf g t c =
-    let o = g.T.RTreeObject.object in
-    let accepts = g.F.SelectionFunction.accepts c.args.func.now in
-    let selects = g.F.SelectionFunction.selects c.args.func.now in
+    let o = g.T.Covered.object in
+    let accepts = g.F.Question.accepts c.args.func.now in
+    let selects = g.F.Question.selects c.args.func.now in
     record {
       written = simp (c.in-Leaf.is, outs-Leaf) (leaf-passed o accepts selects (goal.V-step g) c.args.visitor.now (Leaf c.in-Leaf.t) c.in-Leaf.t refl (sym (rw c.in-Leaf.t-is at c.should_unpack_leaf.ensures) ∙ c.if-should_unpack_leaf.false));
       changed = simp (c.in-Leaf.is, outs-Leaf) (λ k. node-unchanged o accepts selects (goal.V-step g) (Leaf c.in-Leaf.t));
@@ -47,9 +47,9 @@ visit_node_mut-returns-else-should_unpack_leaf g t c =
 
 pub visit_node_mut-returns-then-should_unpack_parent : goal.visit_node_mut-returns-then-should_unpack_parent
 visit_node_mut-returns-then-should_unpack_parent g t c =
-    let o = g.T.RTreeObject.object in
-    let accepts = g.F.SelectionFunction.accepts c.args.func.now in
-    let selects = g.F.SelectionFunction.selects c.args.func.now in
+    let o = g.T.Covered.object in
+    let accepts = g.F.Question.accepts c.args.func.now in
+    let selects = g.F.Question.selects c.args.func.now in
     let p = c.in-Parent.parent in
     let new = c.visit_nodes_mut.new.nodes in
     let value = rw c.in-Parent.parent-is at c.as_mut_slice.ensures.value in
@@ -68,9 +68,9 @@ visit_node_mut-returns-then-should_unpack_parent g t c =
 
 pub visit_node_mut-returns-else-should_unpack_parent : goal.visit_node_mut-returns-else-should_unpack_parent
 visit_node_mut-returns-else-should_unpack_parent g t c =
-    let o = g.T.RTreeObject.object in
-    let accepts = g.F.SelectionFunction.accepts c.args.func.now in
-    let selects = g.F.SelectionFunction.selects c.args.func.now in
+    let o = g.T.Covered.object in
+    let accepts = g.F.Question.accepts c.args.func.now in
+    let selects = g.F.Question.selects c.args.func.now in
     record {
       written = simp (c.in-Parent.is, outs-Parent) (parent-refused o accepts selects (goal.V-step g) c.args.visitor.now (Parent c.in-Parent.parent) c.in-Parent.parent refl (sym (rw c.in-Parent.parent-is at c.should_unpack_parent.ensures) ∙ c.if-should_unpack_parent.false));
       changed = simp (c.in-Parent.is, outs-Parent) (λ k. node-unchanged o accepts selects (goal.V-step g) (Parent c.in-Parent.parent));
@@ -80,21 +80,21 @@ visit_node_mut-returns-else-should_unpack_parent g t c =
 
 pub visit_nodes_mut-loop-index-init : goal.visit_nodes_mut-loop-index-init
 visit_nodes_mut-loop-index-init g t c =
-    halfway-start g.T.RTreeObject.object (g.F.SelectionFunction.accepts c.args.func.now) (g.F.SelectionFunction.selects c.args.func.now) (goal.V-step g) c.args.visitor.now c.args.nodes.now
+    halfway-start g.T.Covered.object (g.F.Question.accepts c.args.func.now) (g.F.Question.selects c.args.func.now) (goal.V-step g) c.args.visitor.now c.args.nodes.now
 
 pub visit_nodes_mut-offset_bounds-nodes-index : goal.visit_nodes_mut-offset_bounds-nodes-index
 visit_nodes_mut-offset_bounds-nodes-index g t c = search rules
 
 pub visit_nodes_mut-visit_node_mut-requires : goal.visit_nodes_mut-visit_node_mut-requires
 visit_nodes_mut-visit_node_mut-requires g t c κs within =
-    let less = λ (d : RTreeNode g.row.T.Denot g.row.T-Envelope.Denot g.row.T-Envelope-Point.Denot g.row.T-Envelope-Point-Scalar.Denot g.row.T-Envelope-Point-Scalar-FromStrRadixErr.Denot). here-steps g.T.RTreeObject.object (g.F.SelectionFunction.accepts c.args.func.now) (g.F.SelectionFunction.selects c.args.func.now) (goal.V-step g) (here g.T.RTreeObject.object (g.F.SelectionFunction.accepts c.args.func.now) (g.F.SelectionFunction.selects c.args.func.now) (goal.V-step g) c.loop-index.invariant d c.loop-index-test.true) in
+    let less = λ (d : RTreeNode g.row.T.Denot g.row.T-Cover.Denot). here-steps g.T.Covered.object (g.F.Question.accepts c.args.func.now) (g.F.Question.selects c.args.func.now) (goal.V-step g) (here g.T.Covered.object (g.F.Question.accepts c.args.func.now) (g.F.Question.selects c.args.func.now) (goal.V-step g) c.loop-index.invariant d c.loop-index-test.true) in
     (below_nodes _ (total (map steps c.args.nodes.now)) t c.decreases (less _), search (rules, within))
 
 pub visit_nodes_mut-returns-in-Break : goal.visit_nodes_mut-returns-in-Break
 visit_nodes_mut-returns-in-Break g t c =
-    let o = g.T.RTreeObject.object in
-    let accepts = g.F.SelectionFunction.accepts c.args.func.now in
-    let selects = g.F.SelectionFunction.selects c.args.func.now in
+    let o = g.T.Covered.object in
+    let accepts = g.F.Question.accepts c.args.func.now in
+    let selects = g.F.Question.selects c.args.func.now in
     record {
       written = halfway-break o accepts selects (goal.V-step g) (here o accepts selects (goal.V-step g) c.loop-index.invariant _ c.loop-index-test.true) c.visit_node_mut.new.node c.in-Break.b c.visit_node_mut.new.visitor c.in-Break.ensures.written;
       changed = halfway-break-changed o accepts selects (goal.V-step g) (here o accepts selects (goal.V-step g) c.loop-index.invariant _ c.loop-index-test.true) c.visit_node_mut.new.node c.visit_node_mut.ensures.changed;
@@ -102,16 +102,16 @@ visit_nodes_mut-returns-in-Break g t c =
 
 pub visit_nodes_mut-loop-index-preserved : goal.visit_nodes_mut-loop-index-preserved
 visit_nodes_mut-loop-index-preserved g t c =
-    let o = g.T.RTreeObject.object in
-    let accepts = g.F.SelectionFunction.accepts c.args.func.now in
-    let selects = g.F.SelectionFunction.selects c.args.func.now in
+    let o = g.T.Covered.object in
+    let accepts = g.F.Question.accepts c.args.func.now in
+    let selects = g.F.Question.selects c.args.func.now in
     halfway-next o accepts selects (goal.V-step g) (here o accepts selects (goal.V-step g) c.loop-index.invariant _ c.loop-index-test.true) c.visit_node_mut.new.node c.visit_node_mut.new.visitor c.in_default.ensures.written c.visit_node_mut.ensures.changed
 
 pub visit_nodes_mut-returns : goal.visit_nodes_mut-returns
 visit_nodes_mut-returns g t c =
-    let o = g.T.RTreeObject.object in
-    let accepts = g.F.SelectionFunction.accepts c.args.func.now in
-    let selects = g.F.SelectionFunction.selects c.args.func.now in
+    let o = g.T.Covered.object in
+    let accepts = g.F.Question.accepts c.args.func.now in
+    let selects = g.F.Question.selects c.args.func.now in
     let over = halfway-end o accepts selects (goal.V-step g) c.loop-index.invariant c.loop-index-test.false in
     record {
       written = over.0;

@@ -13,7 +13,7 @@ decreases-visit_nodes_mut g l = 1 + total (map steps l.nodes.now)
 -- the nodes before the index are done
 abbrev pub invariant-visit_nodes_mut-loop-index : goal.invariant-visit_nodes_mut-loop-index
 invariant-visit_nodes_mut-loop-index g l =
-    IsHalfway g.T.RTreeObject.object (g.F.SelectionFunction.accepts l.func) (g.F.SelectionFunction.selects l.func) (goal.V-step g) l.fn.visitor l.visitor l.index l.fn.nodes l.nodes
+    IsHalfway g.T.Covered.object (g.F.Question.accepts l.func) (g.F.Question.selects l.func) (goal.V-step g) l.fn.visitor l.visitor l.index l.fn.nodes l.nodes
 
 abbrev pub decreases-visit_nodes_mut-loop-index : goal.decreases-visit_nodes_mut-loop-index
 decreases-visit_nodes_mut-loop-index g l = length l.initial.nodes - l.index

@@ -5,6 +5,8 @@ ghost use Rattle.rstar_base.specs.Clusters.{IsClusterNumber};
 ghost use Rattle.rstar.specs.Loaded.{IsPartSize, IsLoadDepth, GoesDeep, EndsAt};
 ghost use Rattle.rstar.specs.Loads.{part_bound};
 
+use crate::algorithm::bulk_load::slabs::InSlabs;
+use crate::needs::Merges;
 use rstar_base::clusters::calculate_number_of_clusters_on_axis;
 use rstar_base::envelope::Envelope;
 use rstar_base::object::RTreeObject;
@@ -23,34 +25,34 @@ pub(crate) fn slabs_on_axis<T: RTreeObject, Params: RTreeParams>(n: usize) -> us
 
 /// How many levels of parents a load of `n` elements has below its root.
 #[cycle(depth)]
-pub(crate) fn load_depth<T: RTreeObject, Params: RTreeParams>(n: usize) -> usize
-    requires axes { 2 ≤ T.Envelope.Point.DIMENSIONS }
+pub(crate) fn load_depth<T: InSlabs, Params: RTreeParams>(n: usize) -> usize
+    requires axes { 2 ≤ T.axes }
     ensures bound { result ≤ n }
-    ensures depth { IsLoadDepth Params.MAX_SIZE T.Envelope.Point.DIMENSIONS n result }
+    ensures depth { IsLoadDepth Params.MAX_SIZE T.axes n result }
 {
     if n <= Params::MAX_SIZE {
         return 0;
     }
-    let clusters = slabs_on_axis::<T, Params>(n);
-    let axes = <<T::Envelope as Envelope>::Point as Point>::DIMENSIONS;
+    let clusters = T::slabs_on_axis::<Params>(n);
+    let axes = T::axes();
     1 + least_depth_of_parts::<T, Params>(n, clusters, axes)
 }
 
 /// The least depth of the parts of `n` elements, in so many slabs along each of the first axes.
 #[cycle(depth)]
-fn least_depth_of_parts<T: RTreeObject, Params: RTreeParams>(
+fn least_depth_of_parts<T: InSlabs, Params: RTreeParams>(
     n: usize,
     clusters: usize,
     axes: usize,
 ) -> usize
-    requires dimensions { 2 ≤ T.Envelope.Point.DIMENSIONS }
+    requires dimensions { 2 ≤ T.axes }
     requires some { 0 < n }
     requires clusters { 2 ≤ clusters }
     ensures bound { result ≤ part_bound axes clusters n }
     ensures deep { (m : ℕ) → IsPartSize clusters axes n m
-        → GoesDeep Params.MAX_SIZE T.Envelope.Point.DIMENSIONS result m }
+        → GoesDeep Params.MAX_SIZE T.axes result m }
     ensures ends { (m : ℕ) × IsPartSize clusters axes n m
-        × EndsAt Params.MAX_SIZE T.Envelope.Point.DIMENSIONS result m }
+        × EndsAt Params.MAX_SIZE T.axes result m }
 {
     if axes == 0 {
         return load_depth::<T, Params>(n);

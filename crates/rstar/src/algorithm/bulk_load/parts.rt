@@ -12,16 +12,17 @@ ghost use Rattle.rstar.specs.Lists.{NoneEmpty};
 ghost use Rattle.rstar.specs.Loaded.{IsPartSize, GoesDeep};
 ghost use Rattle.rstar.specs.Loads.{AddsParts, CutsSlab, IsFresh, IsFreshNode, front_of, last_of};
 
-use crate::algorithm::bulk_load::depth::slabs_on_axis;
+use crate::algorithm::bulk_load::slabs::InSlabs;
+use crate::needs::{Covered, Merges};
 use crate::node::{ParentNode, RTreeNode, envelope_for_children};
 use rstar_base::envelope::Envelope;
-use rstar_base::object::{RTreeObject, envelope_of_all, partition_envelopes};
+use rstar_base::object::{RTreeObject, partition_envelopes};
 use rstar_base::params::RTreeParams;
 use rstar_base::point::Point;
 use std::alloc::AllocError;
 
 /// Each element as a leaf.
-fn leaves<T: RTreeObject>(elements: Vec<T>, room: usize) -> Result<Vec<RTreeNode<T>>, AllocError>
+fn leaves<T: Covered>(elements: Vec<T>, room: usize) -> Result<Vec<RTreeNode<T>>, AllocError>
     ensures { IfOk result (λ nodes. nodes.items ≡ map Leaf elements.items) }
 {
     let mut leaves = Vec::with_capacity(*elements.allocator(), room)?;
@@ -32,9 +33,7 @@ fn leaves<T: RTreeObject>(elements: Vec<T>, room: usize) -> Result<Vec<RTreeNode
 }
 
 /// Room for `MAX_SIZE` children.
-pub(crate) fn make_room<T: RTreeObject, Params: RTreeParams>(
-    nodes: &mut Vec<RTreeNode<T>>,
-) -> Result<(), AllocError>
+pub(crate) fn make_room<A, Params: RTreeParams>(nodes: &mut Vec<A>) -> Result<(), AllocError>
     ensures same { nodes.new.items ≡ nodes.old.items }
     ensures room { OnOk result (HasRoom Params.MAX_SIZE nodes.new) }
 {
@@ -42,8 +41,8 @@ pub(crate) fn make_room<T: RTreeObject, Params: RTreeParams>(
 }
 
 /// The same; `widest` grows to the number of children.
-fn make_wide_room<T: RTreeObject, Params: RTreeParams>(
-    nodes: &mut Vec<RTreeNode<T>>,
+fn make_wide_room<A, Params: RTreeParams>(
+    nodes: &mut Vec<A>,
     widest: &mut usize,
 ) -> Result<(), AllocError>
     requires counted { widest.old + 1 < 2 ^ 64 }
@@ -53,7 +52,7 @@ fn make_wide_room<T: RTreeObject, Params: RTreeParams>(
     ensures wider { OnOk result (widest.old ≤ widest.new) }
     ensures counted { OnOk result (widest.new + 1 < 2 ^ 64) }
 {
-    make_room::<T, Params>(nodes)?;
+    make_room::<A, Params>(nodes)?;
     *widest = nodes.len().max(*widest);
     Ok(())
 }
@@ -61,7 +60,7 @@ fn make_wide_room<T: RTreeObject, Params: RTreeParams>(
 /// A parent of the last `len` elements of a list, which are taken off it, with so many levels of parents below it.
 /// `widest` grows to its number of children, and to that of each parent below.
 #[cycle(load)]
-pub(crate) fn load_node<T: RTreeObject, Params: RTreeParams>(
+pub(crate) fn load_node<T: InSlabs, Params: RTreeParams>(
     list: &mut Vec<T>,
     len: usize,
     below: usize,
@@ -69,14 +68,14 @@ pub(crate) fn load_node<T: RTreeObject, Params: RTreeParams>(
 ) -> Result<ParentNode<T>, AllocError>
     requires some { 0 < len }
     requires within { len ≤ length list.old.items }
-    requires elements { NoneEmpty T.Envelope.boxes.is_empty T.object.box_of list.old.items }
-    requires dimensions { 2 ≤ T.Envelope.Point.DIMENSIONS }
-    requires deep { GoesDeep Params.MAX_SIZE T.Envelope.Point.DIMENSIONS below len }
+    requires elements { NoneEmpty T.Cover.boxes.is_empty T.object.box_of list.old.items }
+    requires dimensions { 2 ≤ T.axes }
+    requires deep { GoesDeep Params.MAX_SIZE T.axes below len }
     requires counted { widest.old + 1 < 2 ^ 64 }
     ensures left { OnOk result (list.new.items ≡ front_of len list.old.items) }
     ensures same { IfOk result (λ parent. IsPermutation (last_of len list.old.items) (elements_of parent)) }
     ensures fresh { IfOk result
-        (IsFresh T.Envelope.boxes T.object Params.MAX_SIZE widest.new T.Envelope.Point.DIMENSIONS below) }
+        (IsFresh T.Cover.boxes T.object Params.MAX_SIZE widest.new T.axes below) }
     ensures wider { OnOk result (widest.old ≤ widest.new) }
     ensures counted { OnOk result (widest.new + 1 < 2 ^ 64) }
 {
@@ -84,10 +83,10 @@ pub(crate) fn load_node<T: RTreeObject, Params: RTreeParams>(
         return leaf_parent::<T, Params>(list, len, widest);
     }
     let mut nodes = Vec::with_capacity(*list.allocator(), Params::MAX_SIZE)?;
-    let clusters = slabs_on_axis::<T, Params>(len);
-    let axes = <<T::Envelope as Envelope>::Point as Point>::DIMENSIONS;
+    let clusters = T::slabs_on_axis::<Params>(len);
+    let axes = T::axes();
     load_parts::<T, Params>(list, len, axes, clusters, below - 1, &mut nodes, widest)?;
-    make_wide_room::<T, Params>(&mut nodes, widest)?;
+    make_wide_room::<_, Params>(&mut nodes, widest)?;
     let envelope = envelope_for_children(&nodes);
     Ok(ParentNode {
         children: nodes,
@@ -96,33 +95,38 @@ pub(crate) fn load_node<T: RTreeObject, Params: RTreeParams>(
 }
 
 /// A parent of the last elements of a list as leaves.
-fn leaf_parent<T: RTreeObject, Params: RTreeParams>(
+fn leaf_parent<T: InSlabs, Params: RTreeParams>(
     list: &mut Vec<T>,
     len: usize,
     widest: &mut usize,
 ) -> Result<ParentNode<T>, AllocError>
     requires some { 0 < len }
     requires within { len ≤ length list.old.items }
-    requires elements { NoneEmpty T.Envelope.boxes.is_empty T.object.box_of list.old.items }
+    requires elements { NoneEmpty T.Cover.boxes.is_empty T.object.box_of list.old.items }
     requires counted { widest.old + 1 < 2 ^ 64 }
     ensures left { OnOk result (list.new.items ≡ front_of len list.old.items) }
     ensures same { IfOk result (λ parent. IsPermutation (last_of len list.old.items) (elements_of parent)) }
     ensures fresh { IfOk result
-        (IsFresh T.Envelope.boxes T.object Params.MAX_SIZE widest.new T.Envelope.Point.DIMENSIONS 0) }
+        (IsFresh T.Cover.boxes T.object Params.MAX_SIZE widest.new T.axes 0) }
     ensures wider { OnOk result (widest.old ≤ widest.new) }
     ensures counted { OnOk result (widest.new + 1 < 2 ^ 64) }
 {
     let elements = list.split_off(list.len() - len)?;
-    let envelope = envelope_of_all(&elements);
+    let envelope = T::envelope_of_all(&elements);
     let room = len.max(Params::MAX_SIZE).saturating_add(1);
     let mut children = leaves(elements, room)?;
-    make_wide_room::<T, Params>(&mut children, widest)?;
+    make_wide_room::<_, Params>(&mut children, widest)?;
     Ok(ParentNode { children, envelope })
 }
 
 /// Puts those of the last `rest` elements of a list that have the greatest keys behind the others: `size` of them, or all
 /// where there are fewer; and gives how many.
-fn cut_slab<T: RTreeObject>(axis: usize, list: &mut Vec<T>, rest: usize, size: usize) -> usize
+pub(super) fn cut_slab<T: RTreeObject>(
+    axis: usize,
+    list: &mut Vec<T>,
+    rest: usize,
+    size: usize,
+) -> usize
     requires axis { axis < T.Envelope.Point.DIMENSIONS }
     requires some { 0 < size }
     requires within { rest ≤ length list.old.items }
@@ -141,7 +145,7 @@ fn cut_slab<T: RTreeObject>(axis: usize, list: &mut Vec<T>, rest: usize, size: u
 /// Takes off the last `len` elements of a list, cuts them into slabs along each of the first axes, and puts a node for each
 /// part at the end of the nodes.
 #[cycle(load)]
-fn load_parts<T: RTreeObject, Params: RTreeParams>(
+fn load_parts<T: InSlabs, Params: RTreeParams>(
     list: &mut Vec<T>,
     len: usize,
     axes: usize,
@@ -152,16 +156,16 @@ fn load_parts<T: RTreeObject, Params: RTreeParams>(
 ) -> Result<(), AllocError>
     requires some { 0 < len }
     requires within { len ≤ length list.old.items }
-    requires elements { NoneEmpty T.Envelope.boxes.is_empty T.object.box_of list.old.items }
-    requires dimensions { 2 ≤ T.Envelope.Point.DIMENSIONS }
-    requires axes { axes ≤ T.Envelope.Point.DIMENSIONS }
+    requires elements { NoneEmpty T.Cover.boxes.is_empty T.object.box_of list.old.items }
+    requires dimensions { 2 ≤ T.axes }
+    requires axes { axes ≤ T.axes }
     requires clusters { 2 ≤ clusters }
     requires deep { (m : ℕ) → IsPartSize clusters axes len m
-        → GoesDeep Params.MAX_SIZE T.Envelope.Point.DIMENSIONS below m }
+        → GoesDeep Params.MAX_SIZE T.axes below m }
     requires counted { widest.old + 1 < 2 ^ 64 }
     ensures left { OnOk result (list.new.items ≡ front_of len list.old.items) }
-    ensures adds { OnOk result (AddsParts (λ t axis. T.Envelope.boxes.axis_key (T.object.box_of t) axis)
-        (IsFreshNode T.Envelope.boxes T.object Params.MAX_SIZE widest.new T.Envelope.Point.DIMENSIONS below)
+    ensures adds { OnOk result (AddsParts (λ t axis. T.Cover.boxes.axis_key (T.object.box_of t) axis)
+        (IsFreshNode T.Cover.boxes T.object Params.MAX_SIZE widest.new T.axes below)
         clusters axes (last_of len list.old.items) nodes.old.items nodes.new.items) }
     ensures wider { OnOk result (widest.old ≤ widest.new) }
     ensures counted { OnOk result (widest.new + 1 < 2 ^ 64) }
@@ -174,7 +178,7 @@ fn load_parts<T: RTreeObject, Params: RTreeParams>(
     let size = len.div_ceil(clusters);
     let mut rest = len;
     while 0 < rest {
-        let slab = cut_slab(axes - 1, list, rest, size);
+        let slab = T::cut_slab(axes - 1, list, rest, size);
         load_parts::<T, Params>(list, slab, axes - 1, clusters, below, nodes, widest)?;
         rest -= slab;
     }

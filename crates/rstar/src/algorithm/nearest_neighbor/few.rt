@@ -147,8 +147,7 @@ fn offer<'a, T: PointDistance, E: TieOrder<T>>(
     ensures fewer { OnOk result (all_parents (waiting_parents (items_of heap.new))
         ≤ all_parents (waiting_parents (items_of heap.old)) + parents node.now) }
     ensures first { OnOk result ((all : List T)
-        (rest : List (RTreeNode T T.Envelope T.Envelope.Point T.Envelope.Point.Scalar
-        T.Envelope.Point.Scalar.FromStrRadixErr))
+        (rest : List (RTreeNode T T.Envelope))
         → AreFoundSoFar T.Envelope.boxes T.object T.distances
         (table T.Envelope.Point.DIMENSIONS (T.Envelope.Point.coord point.now)) E.order T.Envelope.Point.Scalar.value most
         all (waiting_parents (items_of heap.old) ++ node.now ∷ rest) found.old.items

@@ -122,8 +122,7 @@ fn offer<'a, T: PointDistance>(
     ensures fewer { OnOk result (all_parents (waiting_nodes (items_of heap.new))
         ≤ all_parents (waiting_nodes (items_of heap.old)) + parents node.now) }
     ensures pruned { IfOk result (λ b. (all : List T)
-        (rest : List (RTreeNode T T.Envelope T.Envelope.Point T.Envelope.Point.Scalar
-        T.Envelope.Point.Scalar.FromStrRadixErr))
+        (rest : List (RTreeNode T T.Envelope))
         → IsPruned T.Envelope.boxes T.object T.distances
         (table T.Envelope.Point.DIMENSIONS (T.Envelope.Point.coord point.now)) T.Envelope.Point.Scalar.value all
         (waiting_nodes (items_of heap.old) ++ node.now ∷ rest) bound

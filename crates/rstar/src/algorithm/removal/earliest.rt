@@ -10,15 +10,13 @@ ghost use Rattle.rstar.specs.Kept.{IsKept, AreKept};
 ghost use Rattle.rstar.specs.Nodes.{node_box, given, all_given, is_leaf_node};
 ghost use Rattle.rstar.specs.Taking.{Takes, TakesInside};
 
-use crate::algorithm::removal::{differ, drop_child, is_childless, take_leaf};
+use crate::algorithm::removal::{drop_child, is_childless, take_leaf};
+use crate::needs::{Covered, Merges, Question};
 use crate::node::{ParentNode, RTreeNode, envelope_for_children};
-use rstar_base::algorithm::selection_functions::SelectionFunction;
-use rstar_base::envelope::Envelope;
-use rstar_base::object::RTreeObject;
 
 /// The earliest, by `Ord`, of the selected elements below a node; the leftmost of those before which none comes.
 #[cycle(earliest)]
-fn earliest_in<'a, T: RTreeObject + Ord, R: SelectionFunction<T>>(
+fn earliest_in<'a, T: Covered + Ord, R: Question<T>>(
     node: &'a RTreeNode<T>,
     func: &R,
 ) -> Option<&'a T>
@@ -47,7 +45,7 @@ fn earliest_in<'a, T: RTreeObject + Ord, R: SelectionFunction<T>>(
 
 /// The same below some nodes, with the place of the node that it lies below.
 #[cycle(earliest)]
-fn earliest_below<'a, T: RTreeObject + Ord, R: SelectionFunction<T>>(
+fn earliest_below<'a, T: Covered + Ord, R: Question<T>>(
     nodes: &'a [RTreeNode<T>],
     func: &R,
 ) -> Option<(usize, &'a T)>
@@ -88,18 +86,18 @@ fn earlier<'a, T: Ord>(
 ///
 /// At each level it reads once what is accepted there, and it changes one path.
 #[cycle(take_earliest)]
-pub(crate) fn take_earliest<T: RTreeObject + Ord, R: SelectionFunction<T>>(
+pub(crate) fn take_earliest<T: Covered + Ord, R: Question<T>>(
     node: &mut ParentNode<T>,
     changed: &mut bool,
     func: &R,
 ) -> Option<T>
-    ensures takes { Takes T.Envelope.boxes T.object (R.accepts func.now) (R.selects func.now)
+    ensures takes { Takes T.Cover.boxes T.object (R.accepts func.now) (R.selects func.now)
         node.old.children.items [] None result node.new.children.items [] None }
     ensures first { result ≡ earliest T.cmp
         (all_given (R.accepts func.now) (R.selects func.now) node.old.children.items) }
-    ensures kept { (m w h : ℕ) → IsKept T.Envelope.boxes T.object m w node.old
-        → AreKept T.Envelope.boxes T.object m w h node.old.children.items
-        → IsKept T.Envelope.boxes T.object m w node.new }
+    ensures kept { (m w h : ℕ) → IsKept T.Cover.boxes T.object m w node.old
+        → AreKept T.Cover.boxes T.object m w h node.old.children.items
+        → IsKept T.Cover.boxes T.object m w node.new }
     ensures same { IfNone result (node.new ≡ node.old) }
     ensures unchanged { changed.new ≡ false → node.new.envelope ≡ node.old.envelope }
 {
@@ -110,7 +108,7 @@ pub(crate) fn take_earliest<T: RTreeObject + Ord, R: SelectionFunction<T>>(
     let taken = take_at(&mut node.children, place, changed, func);
     if *changed {
         let merged = envelope_for_children(&node.children);
-        *changed = differ(&merged, &node.envelope);
+        *changed = merged.differs(&node.envelope);
         node.envelope = merged;
     }
     taken
@@ -119,20 +117,20 @@ pub(crate) fn take_earliest<T: RTreeObject + Ord, R: SelectionFunction<T>>(
 /// Takes out the earliest of the selected elements below the node at this place, and drops a parent that lost its last
 /// child; `changed` tells whether a node went, or changed its envelope.
 #[cycle(take_earliest)]
-fn take_at<T: RTreeObject + Ord, R: SelectionFunction<T>>(
+fn take_at<T: Covered + Ord, R: Question<T>>(
     children: &mut Vec<RTreeNode<T>>,
     place: usize,
     changed: &mut bool,
     func: &R,
 ) -> Option<T>
     requires { IsGivenAt (R.accepts func.now) (R.selects func.now) children.old.items place }
-    ensures takes { Takes T.Envelope.boxes T.object (R.accepts func.now) (R.selects func.now)
+    ensures takes { Takes T.Cover.boxes T.object (R.accepts func.now) (R.selects func.now)
         children.old.items [] None result children.new.items [] None }
     ensures first { (d : _) → result ≡ earliest T.cmp
         (given (R.accepts func.now) (R.selects func.now) (slice_index_or children.old.items place d)) }
     ensures capacity { vec_capacity children.new ≡ vec_capacity children.old }
-    ensures unchanged { changed.new ≡ false → hull T.Envelope.boxes (node_box T.object.box_of) children.new.items
-        ≡ hull T.Envelope.boxes (node_box T.object.box_of) children.old.items }
+    ensures unchanged { changed.new ≡ false → hull T.Cover.boxes (node_box T.object.box_of) children.new.items
+        ≡ hull T.Cover.boxes (node_box T.object.box_of) children.old.items }
 {
     if children[place].is_leaf() {
         *changed = true;
@@ -148,14 +146,14 @@ fn take_at<T: RTreeObject + Ord, R: SelectionFunction<T>>(
 
 /// Takes out the earliest of the selected elements below a parent, which may be left without children.
 #[cycle(take_earliest)]
-fn take_inside<T: RTreeObject + Ord, R: SelectionFunction<T>>(
+fn take_inside<T: Covered + Ord, R: Question<T>>(
     child: &mut RTreeNode<T>,
     changed: &mut bool,
     func: &R,
 ) -> Option<T>
     requires parent { is_leaf_node child.old ≡ false }
     requires some { given (R.accepts func.now) (R.selects func.now) child.old ≢ [] }
-    ensures takes { TakesInside T.Envelope.boxes T.object (R.accepts func.now) (R.selects func.now)
+    ensures takes { TakesInside T.Cover.boxes T.object (R.accepts func.now) (R.selects func.now)
         child.old [] None result child.new [] None }
     ensures first { result ≡ earliest T.cmp (given (R.accepts func.now) (R.selects func.now) child.old) }
     ensures unchanged { changed.new ≡ false

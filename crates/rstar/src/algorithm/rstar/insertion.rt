@@ -9,16 +9,15 @@ ghost use Rattle.rstar.specs.Nodes.{node_box, all_elements, all_parents, parents
 ghost use Rattle.rstar.specs.Shapes.{AreSized, IsSizedTree};
 ghost use Rattle.rstar.specs.Kept.{HasRoom, IsRoomy, IsSpare, IsKept, HasMergedBox, AreKept, IsKeptTree, IsSizedAfter, second_children, as_node};
 
-use crate::algorithm::rstar::choose::choose_subtree;
-use crate::algorithm::rstar::split::{move_all, split_in_place};
+use crate::algorithm::rstar::placing::Placed;
+use crate::algorithm::rstar::split::move_all;
+use crate::needs::{Covered, Merges};
 use crate::node::{ParentNode, RTreeNode, envelope_for_children};
-use rstar_base::envelope::Envelope;
-use rstar_base::object::RTreeObject;
 use rstar_base::params::RTreeParams;
 use std::mem;
 
 /// Adds a child that the node's envelope covers already. An overflow is cut in two, and the second part handed out.
-fn add_child<T: RTreeObject, Params: RTreeParams>(
+fn add_child<T: Placed, Params: RTreeParams>(
     node: &mut ParentNode<T>,
     child: RTreeNode<T>,
     widest: usize,
@@ -26,7 +25,7 @@ fn add_child<T: RTreeObject, Params: RTreeParams>(
     overfull: &mut Vec<RTreeNode<T>>,
 ) -> Option<ParentNode<T>>
     requires covered { node.old.envelope
-        ≡ hull T.Envelope.boxes (node_box T.object.box_of) (node.old.children.items ++ child ∷ []) }
+        ≡ hull T.Cover.boxes (node_box T.object.box_of) (node.old.children.items ++ child ∷ []) }
     requires roomy { IsRoomy Params.MAX_SIZE widest node.old }
     requires wide { Params.MAX_SIZE ≤ widest }
     requires spares { AllByRecursion (IsSpare widest) spares.old.items }
@@ -38,8 +37,8 @@ fn add_child<T: RTreeObject, Params: RTreeParams>(
         (node.new.children.items ++ second_children result) }
 
     // Each part has room, and the merge of its children's envelopes.
-    ensures first { HasMergedBox T.Envelope.boxes T.object Params.MAX_SIZE widest node.new }
-    ensures second { IfSome result (HasMergedBox T.Envelope.boxes T.object Params.MAX_SIZE widest) }
+    ensures first { HasMergedBox T.Cover.boxes T.object Params.MAX_SIZE widest node.new }
+    ensures second { IfSome result (HasMergedBox T.Cover.boxes T.object Params.MAX_SIZE widest) }
 
     // Only an overflow is cut, and each part then has at least the least number.
     ensures whole { IfNone result (vec_len node.new.children ≡ vec_len node.old.children + 1) }
@@ -64,7 +63,7 @@ fn add_child<T: RTreeObject, Params: RTreeParams>(
     let mut second = spares.take_last();
     move_all(&mut node.children, overfull);
     overfull.push_reserved(child);
-    split_in_place::<_, Params>(overfull, &mut second);
+    T::split_in_place::<Params>(overfull, &mut second);
     move_all(overfull, &mut node.children);
     node.envelope = envelope_for_children(&node.children);
     let envelope = envelope_for_children(&second);
@@ -77,7 +76,7 @@ fn add_child<T: RTreeObject, Params: RTreeParams>(
 /// Inserts an element below the node, whose children are trees of `levels` levels of parents. A second part that the
 /// node's parent has to take in is handed out.
 #[cycle(insert)]
-fn insert_below<T: RTreeObject, Params: RTreeParams>(
+fn insert_below<T: Placed, Params: RTreeParams>(
     node: &mut ParentNode<T>,
     t: T,
     levels: usize,
@@ -85,18 +84,18 @@ fn insert_below<T: RTreeObject, Params: RTreeParams>(
     spares: &mut Vec<Vec<RTreeNode<T>>>,
     overfull: &mut Vec<RTreeNode<T>>,
 ) -> Option<ParentNode<T>>
-    requires node { IsKept T.Envelope.boxes T.object Params.MAX_SIZE widest node.old }
-    requires below { AreKept T.Envelope.boxes T.object Params.MAX_SIZE widest levels node.old.children.items }
+    requires node { IsKept T.Cover.boxes T.object Params.MAX_SIZE widest node.old }
+    requires below { AreKept T.Cover.boxes T.object Params.MAX_SIZE widest levels node.old.children.items }
     requires some { 0 < levels → 0 < vec_len node.old.children }
-    requires element { T.Envelope.boxes.is_empty (T.object.box_of t) ≡ false }
+    requires element { T.Cover.boxes.is_empty (T.object.box_of t) ≡ false }
     requires wide { Params.MAX_SIZE ≤ widest }
     requires spares { AllByRecursion (IsSpare widest) spares.old.items }
     requires enough { levels < vec_len spares.old }
     requires overfull { IsSpare (widest + 1) overfull.old }
     ensures bag { IsPermutation (t ∷ all_elements node.old.children.items)
         (all_elements (node.new.children.items ++ second_children result)) }
-    ensures first { IsKeptTree T.Envelope.boxes T.object Params.MAX_SIZE widest levels node.new }
-    ensures second { IfSome result (IsKeptTree T.Envelope.boxes T.object Params.MAX_SIZE widest levels) }
+    ensures first { IsKeptTree T.Cover.boxes T.object Params.MAX_SIZE widest levels node.new }
+    ensures second { IfSome result (IsKeptTree T.Cover.boxes T.object Params.MAX_SIZE widest levels) }
     ensures sized { IsSizedTree Params.MIN_SIZE Params.MAX_SIZE levels node.old
         → IsSizedAfter Params.MIN_SIZE Params.MAX_SIZE levels (vec_len node.old.children) node.new result }
     ensures spares { AllByRecursion (IsSpare widest) spares.new.items }
@@ -114,7 +113,7 @@ fn insert_below<T: RTreeObject, Params: RTreeParams>(
     if levels == 0 {
         return add_child::<T, Params>(node, RTreeNode::Leaf(t), widest, spares, overfull);
     }
-    let index = choose_subtree(&node.children, &envelope, levels == 1);
+    let index = T::choose_subtree(&node.children, &envelope, levels == 1);
     match insert_in_child::<T, Params>(
         &mut node.children,
         index,
@@ -133,7 +132,7 @@ fn insert_below<T: RTreeObject, Params: RTreeParams>(
 
 /// Inserts an element into one of some trees of `levels` levels of parents, and hands out its second part.
 #[cycle(insert)]
-fn insert_in_child<T: RTreeObject, Params: RTreeParams>(
+fn insert_in_child<T: Placed, Params: RTreeParams>(
     children: &mut Vec<RTreeNode<T>>,
     index: usize,
     t: T,
@@ -144,15 +143,15 @@ fn insert_in_child<T: RTreeObject, Params: RTreeParams>(
 ) -> Option<ParentNode<T>>
     requires index { index < vec_len children.old }
     requires above { 0 < levels }
-    requires below { AreKept T.Envelope.boxes T.object Params.MAX_SIZE widest levels children.old.items }
-    requires element { T.Envelope.boxes.is_empty (T.object.box_of t) ≡ false }
+    requires below { AreKept T.Cover.boxes T.object Params.MAX_SIZE widest levels children.old.items }
+    requires element { T.Cover.boxes.is_empty (T.object.box_of t) ≡ false }
     requires wide { Params.MAX_SIZE ≤ widest }
     requires spares { AllByRecursion (IsSpare widest) spares.old.items }
     requires enough { levels ≤ vec_len spares.old }
     requires overfull { IsSpare (widest + 1) overfull.old }
     ensures bag { IsPermutation (t ∷ all_elements children.old.items)
         (all_elements (children.new.items ++ as_node result)) }
-    ensures below { AreKept T.Envelope.boxes T.object Params.MAX_SIZE widest levels
+    ensures below { AreKept T.Cover.boxes T.object Params.MAX_SIZE widest levels
         (children.new.items ++ as_node result) }
     ensures sized { AreSized Params.MIN_SIZE Params.MAX_SIZE levels children.old.items
         → AreSized Params.MIN_SIZE Params.MAX_SIZE levels (children.new.items ++ as_node result) }
@@ -175,7 +174,7 @@ fn insert_in_child<T: RTreeObject, Params: RTreeParams>(
 }
 
 /// Puts a new root above the old one and a second part.
-fn grow_root<T: RTreeObject, Params: RTreeParams>(
+fn grow_root<T: Placed, Params: RTreeParams>(
     root: &mut ParentNode<T>,
     second: ParentNode<T>,
     widest: usize,
@@ -185,7 +184,7 @@ fn grow_root<T: RTreeObject, Params: RTreeParams>(
     requires spares { AllByRecursion (IsSpare widest) spares.old.items }
     requires enough { 0 < vec_len spares.old }
     ensures children { root.new.children.items ≡ Parent root.old ∷ Parent second ∷ [] }
-    ensures envelope { root.new.envelope ≡ T.Envelope.boxes.merge root.old.envelope second.envelope }
+    ensures envelope { root.new.envelope ≡ T.Cover.boxes.merge root.old.envelope second.envelope }
     ensures room { HasRoom Params.MAX_SIZE root.new.children }
     ensures spares { AllByRecursion (IsSpare widest) spares.new.items }
     ensures used { vec_len spares.old ≡ vec_len spares.new + 1 }
@@ -200,7 +199,7 @@ fn grow_root<T: RTreeObject, Params: RTreeParams>(
 
 /// Inserts an element from the root, whose children are trees of `levels` levels of parents. The root grows a level
 /// where it is split. The answer is the number of levels afterwards.
-pub(crate) fn insert_at_root<T: RTreeObject, Params: RTreeParams>(
+pub(crate) fn insert_at_root<T: Placed, Params: RTreeParams>(
     root: &mut ParentNode<T>,
     t: T,
     levels: usize,
@@ -208,16 +207,16 @@ pub(crate) fn insert_at_root<T: RTreeObject, Params: RTreeParams>(
     spares: &mut Vec<Vec<RTreeNode<T>>>,
     overfull: &mut Vec<RTreeNode<T>>,
 ) -> usize
-    requires root { IsKept T.Envelope.boxes T.object Params.MAX_SIZE widest root.old }
-    requires below { AreKept T.Envelope.boxes T.object Params.MAX_SIZE widest levels root.old.children.items }
+    requires root { IsKept T.Cover.boxes T.object Params.MAX_SIZE widest root.old }
+    requires below { AreKept T.Cover.boxes T.object Params.MAX_SIZE widest levels root.old.children.items }
     requires some { 0 < levels → 0 < vec_len root.old.children }
-    requires element { T.Envelope.boxes.is_empty (T.object.box_of t) ≡ false }
+    requires element { T.Cover.boxes.is_empty (T.object.box_of t) ≡ false }
     requires wide { Params.MAX_SIZE ≤ widest }
     requires spares { AllByRecursion (IsSpare widest) spares.old.items }
     requires enough { levels + 1 < vec_len spares.old }
     requires overfull { IsSpare (widest + 1) overfull.old }
     ensures bag { IsPermutation (t ∷ all_elements root.old.children.items) (all_elements root.new.children.items) }
-    ensures kept { IsKeptTree T.Envelope.boxes T.object Params.MAX_SIZE widest result root.new }
+    ensures kept { IsKeptTree T.Cover.boxes T.object Params.MAX_SIZE widest result root.new }
     ensures sized { IsSizedTree Params.MIN_SIZE Params.MAX_SIZE levels root.old
         → IsSizedTree Params.MIN_SIZE Params.MAX_SIZE result root.new }
     ensures grown { result ≤ levels + 1 }

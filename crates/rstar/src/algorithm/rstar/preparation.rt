@@ -5,8 +5,6 @@ ghost use Rattle.std.specs.List.{AllByRecursion};
 ghost use Rattle.rstar.specs.Heights.{spare_lists};
 ghost use Rattle.rstar.specs.Kept.{IsSpare};
 
-use crate::node::RTreeNode;
-use rstar_base::object::RTreeObject;
 use rstar_base::params::RTreeParams;
 use std::alloc::{AllocError, Global};
 
@@ -23,8 +21,8 @@ pub(crate) fn lists_wanted<Params: RTreeParams>(levels: usize) -> Option<usize>
 }
 
 /// Tops the spare lists up to so many. Each can hold `widest` children.
-pub(crate) fn top_up<T: RTreeObject>(
-    spares: &mut Vec<Vec<RTreeNode<T>>>,
+pub(crate) fn top_up<A: Drop>(
+    spares: &mut Vec<Vec<A>>,
     wanted: usize,
     widest: usize,
     alloc: Global,

@@ -11,9 +11,10 @@ ghost use Rattle.rstar.specs.Nodes.{node_box, all_elements, all_parents, parents
 ghost use Rattle.rstar.specs.Shapes.{AreSized, IsSizedTree};
 ghost use Rattle.rstar.specs.Kept.{IsRoomy, IsSpare, IsKept, HasMergedBox, AreKept, IsKeptTree, IsSizedAfter};
 
-use crate::algorithm::rstar::choose::choose_subtree;
 use crate::algorithm::rstar::insertion::insert_at_root;
+use crate::algorithm::rstar::placing::Placed;
 use crate::algorithm::rstar::split::{cut_at, move_all};
+use crate::needs::{Covered, Merges};
 use crate::node::{ParentNode, RTreeNode, envelope_for_children};
 use rstar_base::envelope::Envelope;
 use rstar_base::object::{Distance, PointDistance, PointOf, RTreeObject};
@@ -31,7 +32,7 @@ fn compare_centres<T: RTreeObject>(point: &PointOf<T>, a: &T, b: &T) -> Ordering
 }
 
 /// Puts the elements in an order that rises by the distance from their centres to a point. It takes no memory.
-fn sort_by_distance<T: RTreeObject>(list: &mut [T], point: &PointOf<T>)
+pub(super) fn sort_by_distance<T: RTreeObject>(list: &mut [T], point: &PointOf<T>)
     ensures { IsPermutation list.old list.new }
 {
     list.sort_unstable_by(|a: &T, b: &T| -> Ordering { compare_centres(point, a, b) });
@@ -39,7 +40,7 @@ fn sort_by_distance<T: RTreeObject>(list: &mut [T], point: &PointOf<T>)
 
 /// Takes a child in that a node has no room for, and hands out the `REINSERTION_COUNT` children whose centres lie farthest
 /// from the node's centre, the farthest one last.
-fn hand_out<T: RTreeObject, Params: RTreeParams>(
+fn hand_out<T: Placed, Params: RTreeParams>(
     node: &mut ParentNode<T>,
     child: RTreeNode<T>,
     handed: &mut Vec<RTreeNode<T>>,
@@ -52,7 +53,7 @@ fn hand_out<T: RTreeObject, Params: RTreeParams>(
     requires room { Params.REINSERTION_COUNT ≤ vec_capacity handed.old }
     ensures same { IsPermutation (node.old.children.items ++ child ∷ [])
         (node.new.children.items ++ handed.new.items) }
-    ensures merged { node.new.envelope ≡ hull T.Envelope.boxes (node_box T.object.box_of) node.new.children.items }
+    ensures merged { node.new.envelope ≡ hull T.Cover.boxes (node_box T.object.box_of) node.new.children.items }
     ensures count { vec_len handed.new ≡ Params.REINSERTION_COUNT }
     ensures lengths { vec_len node.new.children + Params.REINSERTION_COUNT ≡ vec_len node.old.children + 1 }
     ensures capacity { vec_capacity node.old.children ≤ vec_capacity node.new.children }
@@ -61,8 +62,7 @@ fn hand_out<T: RTreeObject, Params: RTreeParams>(
 {
     move_all(&mut node.children, overfull);
     overfull.push_reserved(child);
-    let centre = node.envelope.center();
-    sort_by_distance(overfull, &centre);
+    T::sort_by_distance(overfull, &node.envelope);
     let kept = overfull.len() - Params::REINSERTION_COUNT;
     cut_at(overfull, kept, handed);
     move_all(overfull, &mut node.children);
@@ -70,7 +70,7 @@ fn hand_out<T: RTreeObject, Params: RTreeParams>(
 }
 
 /// Adds a leaf that the node's envelope covers already. An overflow hands children out.
-fn add_leaf<T: RTreeObject, Params: RTreeParams>(
+fn add_leaf<T: Placed, Params: RTreeParams>(
     node: &mut ParentNode<T>,
     t: T,
     widest: usize,
@@ -78,7 +78,7 @@ fn add_leaf<T: RTreeObject, Params: RTreeParams>(
     overfull: &mut Vec<RTreeNode<T>>,
 )
     requires covered { node.old.envelope
-        ≡ hull T.Envelope.boxes (node_box T.object.box_of) (node.old.children.items ++ Leaf t ∷ []) }
+        ≡ hull T.Cover.boxes (node_box T.object.box_of) (node.old.children.items ++ Leaf t ∷ []) }
     requires roomy { IsRoomy Params.MAX_SIZE widest node.old }
     requires wide { Params.MAX_SIZE ≤ widest }
     requires reinserts { 0 < Params.REINSERTION_COUNT }
@@ -86,7 +86,7 @@ fn add_leaf<T: RTreeObject, Params: RTreeParams>(
     requires overfull { IsSpare (widest + 1) overfull.old }
     ensures same { IsPermutation (node.old.children.items ++ Leaf t ∷ [])
         (node.new.children.items ++ handed.new.items) }
-    ensures fit { HasMergedBox T.Envelope.boxes T.object Params.MAX_SIZE widest node.new }
+    ensures fit { HasMergedBox T.Cover.boxes T.object Params.MAX_SIZE widest node.new }
     ensures count { vec_len handed.new ≤ Params.REINSERTION_COUNT }
     ensures least { Params.MIN_SIZE ≤ vec_len node.old.children → Params.MIN_SIZE ≤ vec_len node.new.children }
     ensures most { vec_len node.old.children ≤ Params.MAX_SIZE → vec_len node.new.children ≤ Params.MAX_SIZE }
@@ -104,7 +104,7 @@ fn add_leaf<T: RTreeObject, Params: RTreeParams>(
 /// Inserts an element below the node, whose children are trees of `levels` levels of parents, and splits none: where
 /// the lowest parent has too many children then, it hands some out.
 #[cycle(first)]
-fn insert_first<T: RTreeObject, Params: RTreeParams>(
+fn insert_first<T: Placed, Params: RTreeParams>(
     node: &mut ParentNode<T>,
     t: T,
     levels: usize,
@@ -112,18 +112,18 @@ fn insert_first<T: RTreeObject, Params: RTreeParams>(
     handed: &mut Vec<RTreeNode<T>>,
     overfull: &mut Vec<RTreeNode<T>>,
 )
-    requires node { IsKept T.Envelope.boxes T.object Params.MAX_SIZE widest node.old }
-    requires below { AreKept T.Envelope.boxes T.object Params.MAX_SIZE widest levels node.old.children.items }
+    requires node { IsKept T.Cover.boxes T.object Params.MAX_SIZE widest node.old }
+    requires below { AreKept T.Cover.boxes T.object Params.MAX_SIZE widest levels node.old.children.items }
     requires some { 0 < levels → 0 < vec_len node.old.children }
-    requires element { T.Envelope.boxes.is_empty (T.object.box_of t) ≡ false }
+    requires element { T.Cover.boxes.is_empty (T.object.box_of t) ≡ false }
     requires wide { Params.MAX_SIZE ≤ widest }
     requires reinserts { 0 < Params.REINSERTION_COUNT }
     requires spare { IsSpare widest handed.old }
     requires overfull { IsSpare (widest + 1) overfull.old }
     ensures bag { IsPermutation (t ∷ all_elements node.old.children.items)
         (all_elements node.new.children.items ++ all_elements handed.new.items) }
-    ensures kept { IsKeptTree T.Envelope.boxes T.object Params.MAX_SIZE widest levels node.new }
-    ensures leaves { AreKept T.Envelope.boxes T.object Params.MAX_SIZE widest 0 handed.new.items }
+    ensures kept { IsKeptTree T.Cover.boxes T.object Params.MAX_SIZE widest levels node.new }
+    ensures leaves { AreKept T.Cover.boxes T.object Params.MAX_SIZE widest 0 handed.new.items }
     ensures count { vec_len handed.new ≤ Params.REINSERTION_COUNT }
     ensures sized { IsSizedTree Params.MIN_SIZE Params.MAX_SIZE levels node.old
         → IsSizedAfter Params.MIN_SIZE Params.MAX_SIZE levels (vec_len node.old.children) node.new None }
@@ -139,7 +139,7 @@ fn insert_first<T: RTreeObject, Params: RTreeParams>(
         add_leaf::<T, Params>(node, t, widest, handed, overfull);
         return;
     }
-    let index = choose_subtree(&node.children, &envelope, levels == 1);
+    let index = T::choose_subtree(&node.children, &envelope, levels == 1);
     insert_first_in_child::<T, Params>(
         &mut node.children,
         index,
@@ -156,7 +156,7 @@ fn insert_first<T: RTreeObject, Params: RTreeParams>(
 
 /// Inserts an element into one of some trees of `levels` levels of parents, and splits none.
 #[cycle(first)]
-fn insert_first_in_child<T: RTreeObject, Params: RTreeParams>(
+fn insert_first_in_child<T: Placed, Params: RTreeParams>(
     children: &mut Vec<RTreeNode<T>>,
     index: usize,
     t: T,
@@ -167,16 +167,16 @@ fn insert_first_in_child<T: RTreeObject, Params: RTreeParams>(
 )
     requires index { index < vec_len children.old }
     requires above { 0 < levels }
-    requires below { AreKept T.Envelope.boxes T.object Params.MAX_SIZE widest levels children.old.items }
-    requires element { T.Envelope.boxes.is_empty (T.object.box_of t) ≡ false }
+    requires below { AreKept T.Cover.boxes T.object Params.MAX_SIZE widest levels children.old.items }
+    requires element { T.Cover.boxes.is_empty (T.object.box_of t) ≡ false }
     requires wide { Params.MAX_SIZE ≤ widest }
     requires reinserts { 0 < Params.REINSERTION_COUNT }
     requires spare { IsSpare widest handed.old }
     requires overfull { IsSpare (widest + 1) overfull.old }
     ensures bag { IsPermutation (t ∷ all_elements children.old.items)
         (all_elements children.new.items ++ all_elements handed.new.items) }
-    ensures below { AreKept T.Envelope.boxes T.object Params.MAX_SIZE widest levels children.new.items }
-    ensures leaves { AreKept T.Envelope.boxes T.object Params.MAX_SIZE widest 0 handed.new.items }
+    ensures below { AreKept T.Cover.boxes T.object Params.MAX_SIZE widest levels children.new.items }
+    ensures leaves { AreKept T.Cover.boxes T.object Params.MAX_SIZE widest 0 handed.new.items }
     ensures count { vec_len handed.new ≤ Params.REINSERTION_COUNT }
     ensures sized { AreSized Params.MIN_SIZE Params.MAX_SIZE levels children.old.items
         → AreSized Params.MIN_SIZE Params.MAX_SIZE levels children.new.items }
@@ -196,7 +196,7 @@ fn insert_first_in_child<T: RTreeObject, Params: RTreeParams>(
 
 /// Inserts each leaf of a list from the root, whose children are trees of `levels` levels of parents: the last leaf
 /// first. The list is empty then. The answer is the number of levels afterwards.
-fn insert_again<T: RTreeObject, Params: RTreeParams>(
+fn insert_again<T: Placed, Params: RTreeParams>(
     root: &mut ParentNode<T>,
     handed: &mut Vec<RTreeNode<T>>,
     levels: usize,
@@ -204,15 +204,15 @@ fn insert_again<T: RTreeObject, Params: RTreeParams>(
     spares: &mut Vec<Vec<RTreeNode<T>>>,
     overfull: &mut Vec<RTreeNode<T>>,
 ) -> usize
-    requires root { IsKeptTree T.Envelope.boxes T.object Params.MAX_SIZE widest levels root.old }
-    requires leaves { AreKept T.Envelope.boxes T.object Params.MAX_SIZE widest 0 handed.old.items }
+    requires root { IsKeptTree T.Cover.boxes T.object Params.MAX_SIZE widest levels root.old }
+    requires leaves { AreKept T.Cover.boxes T.object Params.MAX_SIZE widest 0 handed.old.items }
     requires wide { Params.MAX_SIZE ≤ widest }
     requires spares { AllByRecursion (IsSpare widest) spares.old.items }
     requires enough { vec_len handed.old * (levels + vec_len handed.old + 1) ≤ vec_len spares.old }
     requires overfull { IsSpare (widest + 1) overfull.old }
     ensures bag { IsPermutation (all_elements root.old.children.items ++ all_elements handed.old.items)
         (all_elements root.new.children.items) }
-    ensures kept { IsKeptTree T.Envelope.boxes T.object Params.MAX_SIZE widest result root.new }
+    ensures kept { IsKeptTree T.Cover.boxes T.object Params.MAX_SIZE widest result root.new }
     ensures sized { IsSizedTree Params.MIN_SIZE Params.MAX_SIZE levels root.old
         → IsSizedTree Params.MIN_SIZE Params.MAX_SIZE result root.new }
     ensures spares { AllByRecursion (IsSpare widest) spares.new.items }
@@ -236,7 +236,7 @@ fn insert_again<T: RTreeObject, Params: RTreeParams>(
 /// Inserts an element from the root, whose children are trees of `levels` levels of parents. With `REINSERTION_COUNT`
 /// above 0 the first overflow hands children of its parent out, which then go in again; every other overflow is split.
 /// The answer is the number of levels afterwards.
-pub(crate) fn insert_with_reinsertion<T: RTreeObject, Params: RTreeParams>(
+pub(crate) fn insert_with_reinsertion<T: Placed, Params: RTreeParams>(
     root: &mut ParentNode<T>,
     t: T,
     levels: usize,
@@ -244,16 +244,16 @@ pub(crate) fn insert_with_reinsertion<T: RTreeObject, Params: RTreeParams>(
     spares: &mut Vec<Vec<RTreeNode<T>>>,
     overfull: &mut Vec<RTreeNode<T>>,
 ) -> usize
-    requires root { IsKept T.Envelope.boxes T.object Params.MAX_SIZE widest root.old }
-    requires below { AreKept T.Envelope.boxes T.object Params.MAX_SIZE widest levels root.old.children.items }
+    requires root { IsKept T.Cover.boxes T.object Params.MAX_SIZE widest root.old }
+    requires below { AreKept T.Cover.boxes T.object Params.MAX_SIZE widest levels root.old.children.items }
     requires some { 0 < levels → 0 < vec_len root.old.children }
-    requires element { T.Envelope.boxes.is_empty (T.object.box_of t) ≡ false }
+    requires element { T.Cover.boxes.is_empty (T.object.box_of t) ≡ false }
     requires wide { Params.MAX_SIZE ≤ widest }
     requires spares { AllByRecursion (IsSpare widest) spares.old.items }
     requires enough { spare_lists Params.REINSERTION_COUNT (1 + levels) ≤ vec_len spares.old }
     requires overfull { IsSpare (widest + 1) overfull.old }
     ensures bag { IsPermutation (t ∷ all_elements root.old.children.items) (all_elements root.new.children.items) }
-    ensures kept { IsKeptTree T.Envelope.boxes T.object Params.MAX_SIZE widest result root.new }
+    ensures kept { IsKeptTree T.Cover.boxes T.object Params.MAX_SIZE widest result root.new }
     ensures sized { IsSizedTree Params.MIN_SIZE Params.MAX_SIZE levels root.old
         → IsSizedTree Params.MIN_SIZE Params.MAX_SIZE result root.new }
     ensures spares { AllByRecursion (IsSpare widest) spares.new.items }

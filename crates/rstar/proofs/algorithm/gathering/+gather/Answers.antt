@@ -26,7 +26,7 @@ not_longer len n m before k l short e f e' f' = omega arith
 
 pub gather_among-loop-i-init : goal.gather_among-loop-i-init
 gather_among-loop-i-init g t c = record {
-  gathering = gathering_begins g.T.Envelope.Envelope.boxes g.T.RTreeObject.object (g.R.SelectionFunction.accepts c.args.func.now) (g.R.SelectionFunction.selects c.args.func.now) c.args.most c.args.children.now.items c.args.taken.now.items c.len-i.result (c.len-i.ensures ∙ c.args.children.now.ok.0);
+  gathering = gathering_begins g.T.Cover.Merges.boxes g.T.Covered.object (g.R.Question.accepts c.args.func.now) (g.R.Question.selects c.args.func.now) c.args.most c.args.children.now.items c.args.taken.now.items c.len-i.result (c.len-i.ensures ∙ c.args.children.now.ok.0);
   unvisited = λ k d lt. refl;
   room = refl;
   capacity = refl;
@@ -35,23 +35,23 @@ gather_among-loop-i-init g t c = record {
 pub gather_among-returns-then-len-most-clause-gathers :
     goal.gather_among-returns-then-len-most-clause-gathers
 gather_among-returns-then-len-most-clause-gathers g t c =
-    gathering_ends g.T.Envelope.Envelope.boxes g.T.RTreeObject.object (g.R.SelectionFunction.accepts c.args.func.now) (g.R.SelectionFunction.selects c.args.func.now) c.args.most c.args.children.now.items c.args.taken.now.items c.loop-i.children.items c.loop-i.taken.items c.loop-i.i c.loop-i.invariant.gathering
+    gathering_ends g.T.Cover.Merges.boxes g.T.Covered.object (g.R.Question.accepts c.args.func.now) (g.R.Question.selects c.args.func.now) c.args.most c.args.children.now.items c.args.taken.now.items c.loop-i.children.items c.loop-i.taken.items c.loop-i.i c.loop-i.invariant.gathering
     (no_room c.len.result _ _ c.args.most c.if-len-most.true c.len.ensures c.loop-i.taken.ok.0)
 
 pub gather_among-returns-clause-gathers : goal.gather_among-returns-clause-gathers
 gather_among-returns-clause-gathers g t c =
     let ended = c.loop-i-test.false in
-    gathering_ends g.T.Envelope.Envelope.boxes g.T.RTreeObject.object (g.R.SelectionFunction.accepts c.args.func.now) (g.R.SelectionFunction.selects c.args.func.now) c.args.most c.args.children.now.items c.args.taken.now.items c.loop-i.children.items c.loop-i.taken.items c.loop-i.i c.loop-i.invariant.gathering (λ less. omega (arith, ended))
+    gathering_ends g.T.Cover.Merges.boxes g.T.Covered.object (g.R.Question.accepts c.args.func.now) (g.R.Question.selects c.args.func.now) c.args.most c.args.children.now.items c.args.taken.now.items c.loop-i.children.items c.loop-i.taken.items c.loop-i.i c.loop-i.invariant.gathering (λ less. omega (arith, ended))
 
 pub gather_among-loop-i-preserved-then-is_selected_leaf :
     goal.gather_among-loop-i-preserved-then-is_selected_leaf
 gather_among-loop-i-preserved-then-is_selected_leaf g t c =
-    let selects = g.R.SelectionFunction.selects c.args.func.now in
+    let selects = g.R.Question.selects c.args.func.now in
     let next = next_is c.loop-i.i c.loop-i-test.true in
     let within = inside (c.loop-i.i - 1) c.loop-i.i _ next c.loop-i.invariant.gathering.within in
     let here = same_read c.loop-i.children.items (c.loop-i.i - 1) c.index.result.now (Leaf c.swap_leaf_out.result) within c.index.ensures c.swap_leaf_out.ensures.node in
     let chosen = sym (ap (selects_in selects) (outs-Leaf _)) ∙ ap (is_selected_leaf selects) (sym here) ∙ sym c.is_selected_leaf.ensures ∙ c.if-is_selected_leaf.true in
-    let after = takes_leaf g.T.Envelope.Envelope.boxes g.T.RTreeObject.object (g.R.SelectionFunction.accepts c.args.func.now) (g.R.SelectionFunction.selects c.args.func.now) c.args.most c.args.children.now.items c.args.taken.now.items c.loop-i.children.items c.loop-i.taken.items c.loop-i.i (c.loop-i.i - 1) c.loop-i.invariant.gathering next c.swap_leaf_out.result c.swap_leaf_out.new.children.items c.swap_leaf_out.ensures.node chosen
+    let after = takes_leaf g.T.Cover.Merges.boxes g.T.Covered.object (g.R.Question.accepts c.args.func.now) (g.R.Question.selects c.args.func.now) c.args.most c.args.children.now.items c.args.taken.now.items c.loop-i.children.items c.loop-i.taken.items c.loop-i.i (c.loop-i.i - 1) c.loop-i.invariant.gathering next c.swap_leaf_out.result c.swap_leaf_out.new.children.items c.swap_leaf_out.ensures.node chosen
     (has_room c.len.result _ _ c.args.most c.if-len-most.false c.len.ensures c.loop-i.taken.ok.0) c.swap_leaf_out.ensures.out in
     record {
       gathering = rw c.push_reserved.ensures.items after;
@@ -65,9 +65,9 @@ gather_among-loop-i-preserved g t c =
     let next = next_is c.loop-i.i c.loop-i-test.true in
     let within = inside (c.loop-i.i - 1) c.loop-i.i _ next c.loop-i.invariant.gathering.within in
     let here = same_read c.loop-i.children.items (c.loop-i.i - 1) c.index.result.now c.index_mut.result.now within c.index.ensures c.index_mut.ensures.value in
-    let leaf = sym (ap (is_selected_leaf (g.R.SelectionFunction.selects c.args.func.now)) here) ∙ sym c.is_selected_leaf.ensures ∙ c.if-is_selected_leaf.false in
+    let leaf = sym (ap (is_selected_leaf (g.R.Question.selects c.args.func.now)) here) ∙ sym c.is_selected_leaf.ensures ∙ c.if-is_selected_leaf.false in
     let written = c.index-else-is_selected_leaf.ensures ∙ get_or-set_same _ _ _ _ within in
-    let after = goes_inside g.T.Envelope.Envelope.boxes g.T.RTreeObject.object (g.R.SelectionFunction.accepts c.args.func.now) (g.R.SelectionFunction.selects c.args.func.now) c.args.most c.args.children.now.items c.args.taken.now.items c.loop-i.children.items c.loop-i.taken.items c.loop-i.i (c.loop-i.i - 1) c.loop-i.invariant.gathering next c.index_mut.result.now c.gather_inside.new.child c.gather_inside.new.taken.items c.index_mut.ensures.value c.gather_inside.ensures.gathers leaf
+    let after = goes_inside g.T.Cover.Merges.boxes g.T.Covered.object (g.R.Question.accepts c.args.func.now) (g.R.Question.selects c.args.func.now) c.args.most c.args.children.now.items c.args.taken.now.items c.loop-i.children.items c.loop-i.taken.items c.loop-i.i (c.loop-i.i - 1) c.loop-i.invariant.gathering next c.index_mut.result.now c.gather_inside.new.child c.gather_inside.new.taken.items c.index_mut.ensures.value c.gather_inside.ensures.gathers leaf
     (sym (ap is_childless written) ∙ sym c.is_childless.ensures ∙ c.if-is_childless.false) in
     record {
       gathering = after;
@@ -81,9 +81,9 @@ gather_among-loop-i-preserved-then-is_childless g t c =
     let next = next_is c.loop-i.i c.loop-i-test.true in
     let within = inside (c.loop-i.i - 1) c.loop-i.i _ next c.loop-i.invariant.gathering.within in
     let here = same_read c.loop-i.children.items (c.loop-i.i - 1) c.index.result.now c.index_mut.result.now within c.index.ensures c.index_mut.ensures.value in
-    let leaf = sym (ap (is_selected_leaf (g.R.SelectionFunction.selects c.args.func.now)) here) ∙ sym c.is_selected_leaf.ensures ∙ c.if-is_selected_leaf.false in
+    let leaf = sym (ap (is_selected_leaf (g.R.Question.selects c.args.func.now)) here) ∙ sym c.is_selected_leaf.ensures ∙ c.if-is_selected_leaf.false in
     let written = c.index-else-is_selected_leaf.ensures ∙ get_or-set_same _ _ _ _ within in
-    let after = drops_childless g.T.Envelope.Envelope.boxes g.T.RTreeObject.object (g.R.SelectionFunction.accepts c.args.func.now) (g.R.SelectionFunction.selects c.args.func.now) c.args.most c.args.children.now.items c.args.taken.now.items c.loop-i.children.items c.loop-i.taken.items c.loop-i.i (c.loop-i.i - 1) c.loop-i.invariant.gathering next c.index_mut.result.now c.gather_inside.new.child c.gather_inside.new.taken.items c.index_mut.ensures.value c.gather_inside.ensures.gathers leaf
+    let after = drops_childless g.T.Cover.Merges.boxes g.T.Covered.object (g.R.Question.accepts c.args.func.now) (g.R.Question.selects c.args.func.now) c.args.most c.args.children.now.items c.args.taken.now.items c.loop-i.children.items c.loop-i.taken.items c.loop-i.i (c.loop-i.i - 1) c.loop-i.invariant.gathering next c.index_mut.result.now c.gather_inside.new.child c.gather_inside.new.taken.items c.index_mut.ensures.value c.gather_inside.ensures.gathers leaf
     (sym (ap is_childless written) ∙ sym c.is_childless.ensures ∙ c.if-is_childless.true) c.swap_out.new.children.items c.swap_out.ensures.out in
     record {
       gathering = after;
@@ -95,19 +95,19 @@ gather_among-loop-i-preserved-then-is_childless g t c =
 pub gather_below-returns-then-len-before-clause-kept : goal.gather_below-returns-then-len-before-clause-kept
 gather_below-returns-then-len-before-clause-kept g t c m w h kept below =
     let gathers = c.gather_among.ensures.gathers in
-    kept_anew g.met.T.Envelope.Envelope.envelope_laws g.met.T.RTreeObject.object_law m w h c.args.node.now _ kept (gathers.kept m w h below) gathers.shorter c.gather_among.new.children.ok.0 c.args.node.now.children.ok.0 c.gather_among.ensures.room
-    (rw c.deref.ensures.value at c.envelope_for_children.ensures)
+    kept_anew g.met.T.Cover.Merges.merge_laws g.met.T.Covered.cover_law m w h c.args.node.now _ kept (gathers.kept m w h below) gathers.shorter c.gather_among.new.children.ok.0 c.args.node.now.children.ok.0 c.gather_among.ensures.room
+    (rw c.deref.ensures.value at c.envelope_for_children.ensures.hull)
 
 pub gather_below-returns-else-len-before-clause-kept : goal.gather_below-returns-else-len-before-clause-kept
 gather_below-returns-else-len-before-clause-kept g t c m w h kept below =
     let gathers = c.gather_among.ensures.gathers in
-    kept_alike g.met.T.Envelope.Envelope.envelope_laws g.met.T.RTreeObject.object_law m w h c.args.node.now _ kept below (gathers.kept m w h below) gathers.shorter c.gather_among.new.children.ok.0 c.args.node.now.children.ok.0 c.gather_among.ensures.room refl
-    (same_elements (g.R.SelectionFunction.selects c.args.func.now) c.args.most _ _ _ _ gathers.moved
+    kept_alike g.met.T.Cover.Merges.merge_laws g.met.T.Covered.cover_law m w h c.args.node.now _ kept below (gathers.kept m w h below) gathers.shorter c.gather_among.new.children.ok.0 c.args.node.now.children.ok.0 c.gather_among.ensures.room refl
+    (same_elements (g.R.Question.selects c.args.func.now) c.args.most _ _ _ _ gathers.moved
     (not_longer c.len.result _ _ c.len-before.result _ _ c.if-len-before.false c.len.ensures c.gather_among.new.taken.ok.0 c.len-before.ensures c.args.taken.now.ok.0))
 
 pub gather_inside-returns-in-Leaf-clause-gathers : goal.gather_inside-returns-in-Leaf-clause-gathers
 gather_inside-returns-in-Leaf-clause-gathers g t c =
-    leaf_stays g.T.Envelope.Envelope.boxes g.T.RTreeObject.object (g.R.SelectionFunction.accepts c.args.func.now) (g.R.SelectionFunction.selects c.args.func.now) c.args.most c.args.child.now c.in-Leaf.field-0 c.args.taken.now.items c.in-Leaf.is
+    leaf_stays g.T.Cover.Merges.boxes g.T.Covered.object (g.R.Question.accepts c.args.func.now) (g.R.Question.selects c.args.func.now) c.args.most c.args.child.now c.in-Leaf.field-0 c.args.taken.now.items c.in-Leaf.is
 
 pub gather_inside-returns-then-should_unpack_parent-clause-gathers :
     goal.gather_inside-returns-then-should_unpack_parent-clause-gathers
@@ -115,11 +115,11 @@ gather_inside-returns-then-should_unpack_parent-clause-gathers g t c =
     let gathers = rw c.in-Parent.parent-is at c.gather_below.ensures.gathers in
     let kept = rw c.in-Parent.parent-is at c.gather_below.ensures.kept in
     rw (c.in-Parent.is, outs-Parent c.in-Parent.parent)
-    (opened g.T.Envelope.Envelope.boxes g.T.RTreeObject.object (g.R.SelectionFunction.accepts c.args.func.now) (g.R.SelectionFunction.selects c.args.func.now) c.args.most c.in-Parent.parent c.gather_below.new.node c.args.taken.now.items c.gather_below.new.taken.items gathers kept)
+    (opened g.T.Cover.Merges.boxes g.T.Covered.object (g.R.Question.accepts c.args.func.now) (g.R.Question.selects c.args.func.now) c.args.most c.in-Parent.parent c.gather_below.new.node c.args.taken.now.items c.gather_below.new.taken.items gathers kept)
 
 pub gather_inside-returns-else-should_unpack_parent-clause-gathers :
     goal.gather_inside-returns-else-should_unpack_parent-clause-gathers
 gather_inside-returns-else-should_unpack_parent-clause-gathers g t c =
     let refused = rw c.in-Parent.parent-is at c.should_unpack_parent.ensures in
     rw (c.in-Parent.is, outs-Parent c.in-Parent.parent)
-    (not_opened g.T.Envelope.Envelope.boxes g.T.RTreeObject.object (g.R.SelectionFunction.accepts c.args.func.now) (g.R.SelectionFunction.selects c.args.func.now) c.args.most g.met.T.Envelope.Envelope.envelope_laws g.met.T.RTreeObject.object_law c.in-Parent.parent c.args.taken.now.items (sym refused ∙ c.if-should_unpack_parent.false))
+    (not_opened g.T.Cover.Merges.boxes g.T.Covered.object (g.R.Question.accepts c.args.func.now) (g.R.Question.selects c.args.func.now) c.args.most g.met.T.Cover.Merges.merge_laws g.met.T.Covered.cover_law c.in-Parent.parent c.args.taken.now.items (sym refused ∙ c.if-should_unpack_parent.false))

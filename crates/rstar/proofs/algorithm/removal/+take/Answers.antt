@@ -33,7 +33,7 @@ told_none told = cc
 
 pub take_among-loop-passed-init : goal.take_among-loop-passed-init
 take_among-loop-passed-init g t c = record {
-  scanned = begins g.T.Envelope.Envelope.boxes g.T.RTreeObject.object (g.R.SelectionFunction.accepts c.args.func.now) (g.R.SelectionFunction.selects c.args.func.now) c.args.children.now.items c.args.path.now c.args.rest.now c.first_number-passed.result c.first_number-passed.ensures;
+  scanned = begins g.T.Cover.Merges.boxes g.T.Covered.object (g.R.Question.accepts c.args.func.now) (g.R.Question.selects c.args.func.now) c.args.children.now.items c.args.path.now c.args.rest.now c.first_number-passed.result c.first_number-passed.ensures;
   unvisited = λ k d. refl;
   same = refl;
 }
@@ -47,12 +47,12 @@ take_among-returns-then-is_some-clause-takes g t c =
     elim c.if-is_childless.branch [
       | take_among-then-is_childless w ↦
           rw (c.set_first-then-is_some.ensures, w.path-is, w.rest-is, w.children-is, w.drop_child.ensures.items)
-          (gives_last g.T.Envelope.Envelope.boxes g.T.RTreeObject.object (g.R.SelectionFunction.accepts c.args.func.now) (g.R.SelectionFunction.selects c.args.func.now) c.args.children.now.items c.args.path.now c.args.rest.now c.loop-passed.children.items c.loop-passed.path c.loop-passed.rest c.loop-passed.passed c.loop-passed.invariant.scanned i next c.index_mut.result.now c.take_inside-taken.new.child c.take_inside-taken.new.path c.take_inside-taken.new.rest c.take_inside-taken.result c.index_mut.ensures.value c.take_inside-taken.ensures.takes c.take_inside-taken.auto.path
+          (gives_last g.T.Cover.Merges.boxes g.T.Covered.object (g.R.Question.accepts c.args.func.now) (g.R.Question.selects c.args.func.now) c.args.children.now.items c.args.path.now c.args.rest.now c.loop-passed.children.items c.loop-passed.path c.loop-passed.rest c.loop-passed.passed c.loop-passed.invariant.scanned i next c.index_mut.result.now c.take_inside-taken.new.child c.take_inside-taken.new.path c.take_inside-taken.new.rest c.take_inside-taken.result c.index_mut.ensures.value c.take_inside-taken.ensures.takes c.take_inside-taken.auto.path
           (sym c.is_some.ensures ∙ c.if-is_some.true) (sym (ap is_childless written) ∙ sym c.is_childless.ensures ∙ w.if-is_childless.true) w.clear_lower.new.path w.clear_lower.new.rest (length (lower_numbers c.take_inside-taken.new.path)) w.clear_lower.ensures.numbers
           w.clear_lower.auto.path w.clear_lower.ensures.still w.clear_lower.ensures.none)
       | take_among-else-is_childless w ↦
           rw (c.set_first-then-is_some.ensures, w.path-is, w.rest-is, w.children-is)
-          (gives_inside g.T.Envelope.Envelope.boxes g.T.RTreeObject.object (g.R.SelectionFunction.accepts c.args.func.now) (g.R.SelectionFunction.selects c.args.func.now) c.args.children.now.items c.args.path.now c.args.rest.now c.loop-passed.children.items c.loop-passed.path c.loop-passed.rest c.loop-passed.passed c.loop-passed.invariant.scanned i next c.index_mut.result.now c.take_inside-taken.new.child c.take_inside-taken.new.path c.take_inside-taken.new.rest c.take_inside-taken.result c.index_mut.ensures.value c.take_inside-taken.ensures.takes c.take_inside-taken.auto.path
+          (gives_inside g.T.Cover.Merges.boxes g.T.Covered.object (g.R.Question.accepts c.args.func.now) (g.R.Question.selects c.args.func.now) c.args.children.now.items c.args.path.now c.args.rest.now c.loop-passed.children.items c.loop-passed.path c.loop-passed.rest c.loop-passed.passed c.loop-passed.invariant.scanned i next c.index_mut.result.now c.take_inside-taken.new.child c.take_inside-taken.new.path c.take_inside-taken.new.rest c.take_inside-taken.result c.index_mut.ensures.value c.take_inside-taken.ensures.takes c.take_inside-taken.auto.path
           (sym c.is_some.ensures ∙ c.if-is_some.true)
           (sym (ap is_childless written) ∙ sym c.is_childless.ensures ∙ w.if-is_childless.false))
     ]
@@ -65,9 +65,9 @@ take_among-loop-passed-preserved g t c =
     let here = same_read c.loop-passed.children.items i c.index.result.now c.index_mut.result.now within c.index.ensures c.index_mut.ensures.value in
     let unchanged = same_item c.loop-passed.children i c.take_inside-taken.new.child _ (none_gives c.take_inside-taken.result (sym c.is_some.ensures ∙ c.if-is_some.false) c.take_inside-taken.ensures.takes.kept ∙ c.index_mut.ensures.value) ∙ c.loop-passed.invariant.same in
     record {
-      scanned = passes_any g.T.Envelope.Envelope.boxes g.T.RTreeObject.object (g.R.SelectionFunction.accepts c.args.func.now) (g.R.SelectionFunction.selects c.args.func.now) c.args.children.now.items c.args.path.now c.args.rest.now c.loop-passed.children.items c.loop-passed.path c.loop-passed.rest c.loop-passed.passed c.loop-passed.invariant.scanned i next c.index_mut.result.now c.take_inside-taken.new.child c.take_inside-taken.new.path c.take_inside-taken.new.rest c.take_inside-taken.result (sym c.is_some.ensures ∙ c.if-is_some.false) c.index_mut.ensures.value
+      scanned = passes_any g.T.Cover.Merges.boxes g.T.Covered.object (g.R.Question.accepts c.args.func.now) (g.R.Question.selects c.args.func.now) c.args.children.now.items c.args.path.now c.args.rest.now c.loop-passed.children.items c.loop-passed.path c.loop-passed.rest c.loop-passed.passed c.loop-passed.invariant.scanned i next c.index_mut.result.now c.take_inside-taken.new.child c.take_inside-taken.new.path c.take_inside-taken.new.rest c.take_inside-taken.result (sym c.is_some.ensures ∙ c.if-is_some.false) c.index_mut.ensures.value
           c.take_inside-taken.ensures.takes c.take_inside-taken.auto.path
-          (sym (ap (is_selected_leaf (g.R.SelectionFunction.selects c.args.func.now)) here) ∙ sym c.is_selected_leaf.ensures ∙ c.if-is_selected_leaf.false) c.clear_lower-in-loop-passed.new.path c.clear_lower-in-loop-passed.new.rest (length (lower_numbers c.take_inside-taken.new.path))
+          (sym (ap (is_selected_leaf (g.R.Question.selects c.args.func.now)) here) ∙ sym c.is_selected_leaf.ensures ∙ c.if-is_selected_leaf.false) c.clear_lower-in-loop-passed.new.path c.clear_lower-in-loop-passed.new.rest (length (lower_numbers c.take_inside-taken.new.path))
           c.clear_lower-in-loop-passed.ensures.numbers c.clear_lower-in-loop-passed.auto.path c.clear_lower-in-loop-passed.ensures.still c.clear_lower-in-loop-passed.ensures.none;
       unvisited = λ k d. ap (λ (v : Vec _ _). get_or v.items k d) unchanged;
       same = unchanged;
@@ -80,14 +80,14 @@ take_inside-returns-then-should_unpack_parent-clause-takes g t c =
     let kept = rw (c.in-Parent.parent-is, lower_lent c.args.path.now c.min-lower.result c.min-lower.ensures) at c.take_below.ensures.kept in
     let same = rw c.in-Parent.parent-is at c.take_below.ensures.same in
     let len = c.take_below.auto.path in
-    rw (c.in-Parent.is, outs-Parent c.in-Parent.parent, lower_left c.args.path.now c.take_below.new.path c.min-lower.result c.min-lower.ensures len) (entered g.T.Envelope.Envelope.boxes g.T.RTreeObject.object (g.R.SelectionFunction.accepts c.args.func.now) (g.R.SelectionFunction.selects c.args.func.now) c.in-Parent.parent c.take_below.new.node (lower_numbers c.args.path.now) c.take_below.new.path c.args.rest.now c.take_below.new.rest c.take_below.result takes kept same)
+    rw (c.in-Parent.is, outs-Parent c.in-Parent.parent, lower_left c.args.path.now c.take_below.new.path c.min-lower.result c.min-lower.ensures len) (entered g.T.Cover.Merges.boxes g.T.Covered.object (g.R.Question.accepts c.args.func.now) (g.R.Question.selects c.args.func.now) c.in-Parent.parent c.take_below.new.node (lower_numbers c.args.path.now) c.take_below.new.path c.args.rest.now c.take_below.new.rest c.take_below.result takes kept same)
 
 pub take_inside-returns-else-should_unpack_parent-clause-takes :
     goal.take_inside-returns-else-should_unpack_parent-clause-takes
 take_inside-returns-else-should_unpack_parent-clause-takes g t c =
     let refused = rw c.in-Parent.parent-is at c.should_unpack_parent.ensures in
     rw (c.in-Parent.is, outs-Parent c.in-Parent.parent)
-    (not_entered g.T.Envelope.Envelope.boxes g.T.RTreeObject.object (g.R.SelectionFunction.accepts c.args.func.now) (g.R.SelectionFunction.selects c.args.func.now) g.met.T.Envelope.Envelope.envelope_laws g.met.T.RTreeObject.object_law c.in-Parent.parent (lower_numbers c.args.path.now) c.args.rest.now (sym refused ∙ c.if-should_unpack_parent.false))
+    (not_entered g.T.Cover.Merges.boxes g.T.Covered.object (g.R.Question.accepts c.args.func.now) (g.R.Question.selects c.args.func.now) g.met.T.Cover.Merges.merge_laws g.met.T.Covered.cover_law c.in-Parent.parent (lower_numbers c.args.path.now) c.args.rest.now (sym refused ∙ c.if-should_unpack_parent.false))
 
 pub take_among-returns-then-is_selected_leaf : goal.take_among-returns-then-is_selected_leaf
 take_among-returns-then-is_selected_leaf g t c = record {
@@ -95,10 +95,10 @@ take_among-returns-then-is_selected_leaf g t c = record {
       let next : length c.loop-passed.children.items ≡ suc (i + c.loop-passed.passed) = next_is (length c.loop-passed.children.items) c.len.result c.len-passed-end.result c.loop-passed.passed (vec_len c.loop-passed.children) (vec_len c.args.children.now) c.len.ensures (ap vec_len c.loop-passed.invariant.same) c.len-passed-end.ensures c.loop-passed-test.true c.loop-passed.children.ok.0 in
       let within : i < length c.loop-passed.children.items = one_of i c.loop-passed.passed (length c.loop-passed.children.items) next in
       let here = same_read c.loop-passed.children.items i c.index.result.now (Leaf c.take_leaf-taken.result) within c.index.ensures c.take_leaf-taken.ensures.node in
-      let chosen = ap (is_selected_leaf (g.R.SelectionFunction.selects c.args.func.now)) (sym here) in
+      let chosen = ap (is_selected_leaf (g.R.Question.selects c.args.func.now)) (sym here) in
       rw (c.set_first.ensures, c.take_leaf-taken.ensures.items)
-      (gives_leaf g.T.Envelope.Envelope.boxes g.T.RTreeObject.object (g.R.SelectionFunction.accepts c.args.func.now) (g.R.SelectionFunction.selects c.args.func.now) c.args.children.now.items c.args.path.now c.args.rest.now c.loop-passed.children.items c.loop-passed.path c.loop-passed.rest c.loop-passed.passed c.loop-passed.invariant.scanned i next c.take_leaf-taken.result c.take_leaf-taken.ensures.node
-      (sym (ap (selects_in (g.R.SelectionFunction.selects c.args.func.now)) (outs-Leaf _)) ∙ chosen ∙ sym c.is_selected_leaf.ensures ∙ c.if-is_selected_leaf.true));
+      (gives_leaf g.T.Cover.Merges.boxes g.T.Covered.object (g.R.Question.accepts c.args.func.now) (g.R.Question.selects c.args.func.now) c.args.children.now.items c.args.path.now c.args.rest.now c.loop-passed.children.items c.loop-passed.path c.loop-passed.rest c.loop-passed.passed c.loop-passed.invariant.scanned i next c.take_leaf-taken.result c.take_leaf-taken.ensures.node
+      (sym (ap (selects_in (g.R.Question.selects c.args.func.now)) (outs-Leaf _)) ∙ chosen ∙ sym c.is_selected_leaf.ensures ∙ c.if-is_selected_leaf.true));
   capacity = c.take_leaf-taken.ensures.capacity ∙ ap vec_capacity c.loop-passed.invariant.same;
   same = tt;
   unchanged = λ told. told_none told;
@@ -107,38 +107,38 @@ take_among-returns-then-is_selected_leaf g t c = record {
 pub take_among-returns : goal.take_among-returns
 take_among-returns g t c = record {
   takes = rw c.set_first-2.ensures
-      (finishes g.T.Envelope.Envelope.boxes g.T.RTreeObject.object (g.R.SelectionFunction.accepts c.args.func.now) (g.R.SelectionFunction.selects c.args.func.now) c.args.children.now.items c.args.path.now c.args.rest.now c.loop-passed.children.items c.loop-passed.path c.loop-passed.rest c.loop-passed.passed c.loop-passed.invariant.scanned (omega (arith, c.args.children.now.ok.0, ap length c.loop-passed.invariant.scanned.same)) c.len-2.result (c.len-2.ensures ∙ c.loop-passed.children.ok.0));
+      (finishes g.T.Cover.Merges.boxes g.T.Covered.object (g.R.Question.accepts c.args.func.now) (g.R.Question.selects c.args.func.now) c.args.children.now.items c.args.path.now c.args.rest.now c.loop-passed.children.items c.loop-passed.path c.loop-passed.rest c.loop-passed.passed c.loop-passed.invariant.scanned (omega (arith, c.args.children.now.ok.0, ap length c.loop-passed.invariant.scanned.same)) c.len-2.result (c.len-2.ensures ∙ c.loop-passed.children.ok.0));
   capacity = ap vec_capacity c.loop-passed.invariant.same;
   same = c.loop-passed.invariant.same;
-  unchanged = λ told. ap (λ (v : Vec _ _). hull g.T.Envelope.Envelope.boxes (node_box g.T.RTreeObject.object.box_of) v.items) c.loop-passed.invariant.same;
+  unchanged = λ told. ap (λ (v : Vec _ _). hull g.T.Cover.Merges.boxes (node_box g.T.Covered.object.box_of) v.items) c.loop-passed.invariant.same;
 }
 
 pub take_below-returns-then-changed-clause-takes : goal.take_below-returns-then-changed-clause-takes
 take_below-returns-then-changed-clause-takes g t c =
-    along g.T.Envelope.Envelope.boxes g.T.RTreeObject.object (g.R.SelectionFunction.accepts c.args.func.now) (g.R.SelectionFunction.selects c.args.func.now) c.args.node.now.children.items c.take_among-taken.new.children.items c.args.path.now c.take_among-taken.new.path c.args.rest.now c.take_among-taken.new.rest c.merge_along-merged.new.rest c.take_among-taken.result
+    along g.T.Cover.Merges.boxes g.T.Covered.object (g.R.Question.accepts c.args.func.now) (g.R.Question.selects c.args.func.now) c.args.node.now.children.items c.take_among-taken.new.children.items c.args.path.now c.take_among-taken.new.path c.args.rest.now c.take_among-taken.new.rest c.merge_along-merged.new.rest c.take_among-taken.result
     c.take_among-taken.ensures.takes c.take_among-taken.auto.path (rw c.deref.ensures.value at c.merge_along-merged.ensures.rests) c.merge_along-merged.ensures.still
 
 pub take_below-returns-then-changed-clause-kept : goal.take_below-returns-then-changed-clause-kept
 take_below-returns-then-changed-clause-kept g t c m w h kept below at =
     let takes = c.take_among-taken.ensures.takes in
     let made = (rw c.deref.ensures.value at c.merge_along-merged.ensures.merged) (takes.rests m w h below at) in
-    kept_anew g.met.T.Envelope.Envelope.envelope_laws g.met.T.RTreeObject.object_law m w h c.args.node.now _ kept (takes.whole m w h below at) takes.shorter c.take_among-taken.new.children.ok.0 c.args.node.now.children.ok.0 c.take_among-taken.ensures.capacity made
+    kept_anew g.met.T.Cover.Merges.merge_laws g.met.T.Covered.cover_law m w h c.args.node.now _ kept (takes.whole m w h below at) takes.shorter c.take_among-taken.new.children.ok.0 c.args.node.now.children.ok.0 c.take_among-taken.ensures.capacity made
 
 pub take_below-returns-else-is_some-clause-kept : goal.take_below-returns-else-is_some-clause-kept
 take_below-returns-else-is_some-clause-kept g t c m w h kept below at =
     let takes = c.take_among-taken.ensures.takes in
-    let box = node_box g.T.RTreeObject.object.box_of in
-    let hulls : hull g.T.Envelope.Envelope.boxes box c.take_among-taken.new.children.items ≡ hull g.T.Envelope.Envelope.boxes box c.args.node.now.children.items = elim c.else-is_some.branch [
+    let box = node_box g.T.Covered.object.box_of in
+    let hulls : hull g.T.Cover.Merges.boxes box c.take_among-taken.new.children.items ≡ hull g.T.Cover.Merges.boxes box c.args.node.now.children.items = elim c.else-is_some.branch [
       | take_below-else-is_some-via-then-is_some+else-changed w ↦ c.take_among-taken.ensures.unchanged w.if-changed.false
-      | take_below-else-is_some-via-else-is_some w ↦ ap (λ (v : Vec _ _). hull g.T.Envelope.Envelope.boxes box v.items) (none_gives c.take_among-taken.result (sym c.is_some.ensures ∙ w.if-is_some.false) c.take_among-taken.ensures.same)
+      | take_below-else-is_some-via-else-is_some w ↦ ap (λ (v : Vec _ _). hull g.T.Cover.Merges.boxes box v.items) (none_gives c.take_among-taken.result (sym c.is_some.ensures ∙ w.if-is_some.false) c.take_among-taken.ensures.same)
     ] in
-    kept_still g.met.T.Envelope.Envelope.envelope_laws g.met.T.RTreeObject.object_law m w h c.args.node.now _ kept below (takes.whole m w h below at) takes.shorter c.take_among-taken.new.children.ok.0 c.args.node.now.children.ok.0 c.take_among-taken.ensures.capacity refl hulls
+    kept_still g.met.T.Cover.Merges.merge_laws g.met.T.Covered.cover_law m w h c.args.node.now _ kept below (takes.whole m w h below at) takes.shorter c.take_among-taken.new.children.ok.0 c.args.node.now.children.ok.0 c.take_among-taken.ensures.capacity refl hulls
 
 pub take_inside-returns-then-should_unpack_parent-clause-unchanged :
     goal.take_inside-returns-then-should_unpack_parent-clause-unchanged
 take_inside-returns-then-should_unpack_parent-clause-unchanged g t c =
     let unchanged = rw c.in-Parent.parent-is at c.take_below.ensures.unchanged in
-    let box = g.T.RTreeObject.object.box_of in
+    let box = g.T.Covered.object.box_of in
     rw (c.in-Parent.is, outs-Parent c.in-Parent.parent) (λ told. node_box-Parent box c.take_below.new.node ∙ unchanged told ∙ sym (node_box-Parent box c.in-Parent.parent))
 
 pub take_among-returns-then-is_some-clause-unchanged : goal.take_among-returns-then-is_some-clause-unchanged
@@ -149,8 +149,8 @@ take_among-returns-then-is_some-clause-unchanged g t c =
     elim c.if-is_childless.branch [
       | take_among-then-is_childless w ↦ rw w.changed-is (λ told. told_none told)
       | take_among-else-is_childless w ↦ rw (w.changed-is, w.children-is) (λ told.
-          hull_set g.T.Envelope.Envelope.boxes (node_box g.T.RTreeObject.object.box_of) c.loop-passed.children.items i c.index_mut.result.now c.take_inside-taken.new.child within c.index_mut.ensures.value (c.take_inside-taken.ensures.unchanged told)
-          ∙ ap (λ (v : Vec _ _). hull g.T.Envelope.Envelope.boxes (node_box g.T.RTreeObject.object.box_of) v.items) c.loop-passed.invariant.same)
+          hull_set g.T.Cover.Merges.boxes (node_box g.T.Covered.object.box_of) c.loop-passed.children.items i c.index_mut.result.now c.take_inside-taken.new.child within c.index_mut.ensures.value (c.take_inside-taken.ensures.unchanged told)
+          ∙ ap (λ (v : Vec _ _). hull g.T.Cover.Merges.boxes (node_box g.T.Covered.object.box_of) v.items) c.loop-passed.invariant.same)
     ]
 
 pub take_among-overflow_sub-i : goal.take_among-overflow_sub-i

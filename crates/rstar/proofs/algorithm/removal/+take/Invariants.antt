@@ -6,7 +6,7 @@ use Rattle.rstar.proofs.algorithm.removal.+take.Given as goal
 -- the nodes behind were passed over, and all are as they were
 abbrev pub invariant-take_among-loop-passed : goal.invariant-take_among-loop-passed
 invariant-take_among-loop-passed g l = record {
-  scanned : Scanned g.T.Envelope.Envelope.boxes g.T.RTreeObject.object (g.R.SelectionFunction.accepts l.func) (g.R.SelectionFunction.selects l.func) l.initial.children.items l.initial.path l.initial.rest l.children.items l.path l.rest l.passed;
-  unvisited : (k : ℕ) (d : RTreeNode g.row.T.Denot g.row.T-Envelope.Denot g.row.T-Envelope-Point.Denot g.row.T-Envelope-Point-Scalar.Denot g.row.T-Envelope-Point-Scalar-FromStrRadixErr.Denot) → get_or l.children.items k d ≡ get_or l.initial.children.items k d;
+  scanned : Scanned g.T.Cover.Merges.boxes g.T.Covered.object (g.R.Question.accepts l.func) (g.R.Question.selects l.func) l.initial.children.items l.initial.path l.initial.rest l.children.items l.path l.rest l.passed;
+  unvisited : (k : ℕ) (d : RTreeNode g.row.T.Denot g.row.T-Cover.Denot) → get_or l.children.items k d ≡ get_or l.initial.children.items k d;
   same : l.children ≡ l.initial.children;
 }

@@ -21,7 +21,7 @@ room_for : (len max read cap : ℕ) → read ≡ max → len + read ≤ cap → 
 room_for len max read cap e h = omega arith
 
 -- a tree with the same children and envelope at its root, and with other spare lists
-module _ {T D E P S X : Type 0} (tree : RTree T D E P S X) (root : ParentNode T E P S X) (spares : Vec (Vec (RTreeNode T E P S X) Global) Global) (overfull : Vec (RTreeNode T E P S X) Global)
+module _ {T D E P S X : Type 0} (tree : RTree T D E P S X) (root : ParentNode T E) (spares : Vec (Vec (RTreeNode T E) Global) Global) (overfull : Vec (RTreeNode T E) Global)
     (items : children_of root ≡ children_of tree.root) (box : envelope_of root ≡ envelope_of tree.root) where
   abbrev prepared : RTree T D E P S X
   prepared = record { root = root; size = tree.size; levels = tree.levels; widest = tree.widest; spares = spares; overfull = overfull; params = tree.params }

@@ -70,32 +70,32 @@ ended n h = omega arith
 
 pub load_node-slabs_on_axis-clusters-requires-clause-large : goal.load_node-slabs_on_axis-clusters-requires-clause-large
 load_node-slabs_on_axis-clusters-requires-clause-large g t c =
-    deep_large g.Params.RTreeParams.MAX_SIZE g.T.Envelope.Point.Point.DIMENSIONS (c.args.below - 1) c.args.below c.args.len c.requires.deep (previous c.args.below c.if-below-eq0.false)
+    deep_large g.Params.RTreeParams.MAX_SIZE g.T.InSlabs.axes (c.args.below - 1) c.args.below c.args.len c.requires.deep (previous c.args.below c.if-below-eq0.false)
 
 pub load_node-load_parts-requires : goal.load_node-load_parts-requires
 load_node-load_parts-requires g t c κs within =
-    let deep : (m : ℕ) → IsPartSize c.slabs_on_axis-clusters.result c.DIMENSIONS-axes.result c.args.len m → GoesDeep g.Params.RTreeParams.MAX_SIZE g.T.Envelope.Point.Point.DIMENSIONS (c.args.below - 1) m =
-    deep_parts g.Params.RTreeParams.MAX_SIZE g.T.Envelope.Point.Point.DIMENSIONS c.DIMENSIONS-axes.result (c.args.below - 1) c.args.below c.args.len c.args.len c.slabs_on_axis-clusters.result c.slabs_on_axis-clusters.ensures.number.0
-    c.requires.deep (previous c.args.below c.if-below-eq0.false) refl c.DIMENSIONS-axes.ensures c.slabs_on_axis-clusters.ensures.number.1 c.slabs_on_axis-clusters.ensures.number.2 in
-    let all : c.DIMENSIONS-axes.result ≤ g.T.Envelope.Point.Point.DIMENSIONS = within_same c.DIMENSIONS-axes.result g.T.Envelope.Point.Point.DIMENSIONS c.DIMENSIONS-axes.ensures in
-    (parts_below c.args.below g.T.Envelope.Point.Point.DIMENSIONS c.DIMENSIONS-axes.result t c.decreases c.if-below-eq0.false c.DIMENSIONS-axes.ensures, (within.0, (within.1.0, (within.1.1.0, (within.1.1.1.0, (within.1.1.1.1.0, (within.1.1.1.1.1, (c.requires.some, (c.requires.within, (c.requires.elements, (c.requires.dimensions, (all, (c.slabs_on_axis-clusters.ensures.least, (deep, c.requires.counted))))))))))))))
+    let deep : (m : ℕ) → IsPartSize c.slabs_on_axis-clusters.result c.axes-axes.result c.args.len m → GoesDeep g.Params.RTreeParams.MAX_SIZE g.T.InSlabs.axes (c.args.below - 1) m =
+    deep_parts g.Params.RTreeParams.MAX_SIZE g.T.InSlabs.axes c.axes-axes.result (c.args.below - 1) c.args.below c.args.len c.args.len c.slabs_on_axis-clusters.result c.slabs_on_axis-clusters.ensures.number.0
+    c.requires.deep (previous c.args.below c.if-below-eq0.false) refl c.axes-axes.ensures c.slabs_on_axis-clusters.ensures.number.1 c.slabs_on_axis-clusters.ensures.number.2 in
+    let all : c.axes-axes.result ≤ g.T.InSlabs.axes = within_same c.axes-axes.result g.T.InSlabs.axes c.axes-axes.ensures in
+    (parts_below c.args.below g.T.InSlabs.axes c.axes-axes.result t c.decreases c.if-below-eq0.false c.axes-axes.ensures, (within.0, (within.1.0, (within.1.1, (c.requires.some, (c.requires.within, (c.requires.elements, (c.requires.dimensions, (all, (c.slabs_on_axis-clusters.ensures.least, (deep, c.requires.counted)))))))))))
 
 pub load_node-returns-clause-fresh : goal.load_node-returns-clause-fresh
 load_node-returns-clause-fresh g t c =
     let ts = last_of c.args.len c.args.list.now.items in
     let long : length ts ≡ c.args.len = length_last c.args.len c.args.list.now.items c.requires.within in
-    parts_parent g.met.T.Envelope.Envelope.envelope_laws g.met.T.RTreeObject.object_law g.Params.RTreeParams.MAX_SIZE c.make_wide_room.new.widest g.T.Envelope.Point.Point.DIMENSIONS c.slabs_on_axis-clusters.result
+    parts_parent g.met.T.Cover.Merges.merge_laws g.met.T.Covered.cover_law g.Params.RTreeParams.MAX_SIZE c.make_wide_room.new.widest g.T.InSlabs.axes c.slabs_on_axis-clusters.result
     (c.args.below - 1) c.args.below c.load_parts.new.widest c.slabs_on_axis-clusters.ensures.number.0 ts c.load_parts.new.nodes.items (record { children = c.make_wide_room.new.nodes; envelope = c.envelope_for_children-envelope.result })
     (some_last c.args.len c.args.list.now.items c.requires.some c.requires.within)
-    (subst (λ n. g.Params.RTreeParams.MAX_SIZE < n) (sym long) (deep_large g.Params.RTreeParams.MAX_SIZE g.T.Envelope.Point.Point.DIMENSIONS (c.args.below - 1) c.args.below c.args.len c.requires.deep (previous c.args.below c.if-below-eq0.false))) c.slabs_on_axis-clusters.ensures.least
-    (rw c.slabs_on_axis-clusters.ensures.number.2 (cluster_bound g.Params.RTreeParams.MAX_SIZE g.T.Envelope.Point.Point.DIMENSIONS c.args.len c.slabs_on_axis-clusters.ensures.number.0 (omega (arith, g.Params.RTreeParams.max_at_least_four)) c.slabs_on_axis-clusters.ensures.number.1)) (two_some g.T.Envelope.Point.Point.DIMENSIONS c.requires.dimensions)
-    (subst (λ n. IsClusterNumber g.Params.RTreeParams.MAX_SIZE g.T.Envelope.Point.Point.DIMENSIONS n c.slabs_on_axis-clusters.ensures.number.0) (sym long) c.slabs_on_axis-clusters.ensures.number.1) c.slabs_on_axis-clusters.ensures.number.2 c.in_ok-make_wide_room.ensures.wider
-    (rw (c.in_ok-nodes.ensures.items, c.DIMENSIONS-axes.ensures) at c.in_ok-load_parts.ensures.adds) c.make_wide_room.ensures.same (previous c.args.below c.if-below-eq0.false) (rw c.deref.ensures.value at c.envelope_for_children-envelope.ensures)
+    (subst (λ n. g.Params.RTreeParams.MAX_SIZE < n) (sym long) (deep_large g.Params.RTreeParams.MAX_SIZE g.T.InSlabs.axes (c.args.below - 1) c.args.below c.args.len c.requires.deep (previous c.args.below c.if-below-eq0.false))) c.slabs_on_axis-clusters.ensures.least
+    (rw c.slabs_on_axis-clusters.ensures.number.2 (cluster_bound g.Params.RTreeParams.MAX_SIZE g.T.InSlabs.axes c.args.len c.slabs_on_axis-clusters.ensures.number.0 (omega (arith, g.Params.RTreeParams.max_at_least_four)) c.slabs_on_axis-clusters.ensures.number.1)) (two_some g.T.InSlabs.axes c.requires.dimensions)
+    (subst (λ n. IsClusterNumber g.Params.RTreeParams.MAX_SIZE g.T.InSlabs.axes n c.slabs_on_axis-clusters.ensures.number.0) (sym long) c.slabs_on_axis-clusters.ensures.number.1) c.slabs_on_axis-clusters.ensures.number.2 c.in_ok-make_wide_room.ensures.wider
+    (rw (c.in_ok-nodes.ensures.items, c.axes-axes.ensures) at c.in_ok-load_parts.ensures.adds) c.make_wide_room.ensures.same (previous c.args.below c.if-below-eq0.false) (rw c.deref.ensures.value at c.envelope_for_children-envelope.ensures.hull)
     c.in_ok-make_wide_room.ensures.room (narrow_as c.make_wide_room.new.nodes.len (length c.make_wide_room.new.nodes.items) c.make_wide_room.new.widest c.make_wide_room.new.nodes.ok.0 c.in_ok-make_wide_room.ensures.narrow)
 
 pub load_parts-returns-then-axes-eq0-clause-adds : goal.load_parts-returns-then-axes-eq0-clause-adds
 load_parts-returns-then-axes-eq0-clause-adds g t c =
-    one_part g.T.Envelope.Envelope.boxes g.T.RTreeObject.object g.Params.RTreeParams.MAX_SIZE c.load_node.new.widest g.T.Envelope.Point.Point.DIMENSIONS c.args.below c.args.clusters c.args.axes (last_of c.args.len c.args.list.now.items)
+    one_part g.T.Cover.Merges.boxes g.T.Covered.object g.Params.RTreeParams.MAX_SIZE c.load_node.new.widest g.T.InSlabs.axes c.args.below c.args.clusters c.args.axes (last_of c.args.len c.args.list.now.items)
     c.args.nodes.now.items c.push.new.self.items c.in_ok-node.node c.if-axes-eq0.true c.in_ok-push.ensures.items c.in_ok-node.ensures.same c.in_ok-node.ensures.fresh
 
 pub load_parts-loop-rest-init : goal.load_parts-loop-rest-init
@@ -105,7 +105,7 @@ load_parts-loop-rest-init g t c = record {
   each = c.requires.elements;
   wider = itself c.args.widest.now;
   counted = c.requires.counted;
-  parts = underway_start (λ t' k. g.T.Envelope.Envelope.boxes.axis_key (g.T.RTreeObject.object.box_of t') k) (IsFreshNode g.T.Envelope.Envelope.boxes g.T.RTreeObject.object g.Params.RTreeParams.MAX_SIZE c.args.widest.now g.T.Envelope.Point.Point.DIMENSIONS c.args.below) c.args.clusters (c.args.axes - 1) (last_of c.args.len c.args.list.now.items) c.args.nodes.now.items
+  parts = underway_start (λ t' k. g.T.Cover.Merges.boxes.axis_key (g.T.Covered.object.box_of t') k) (IsFreshNode g.T.Cover.Merges.boxes g.T.Covered.object g.Params.RTreeParams.MAX_SIZE c.args.widest.now g.T.InSlabs.axes c.args.below) c.args.clusters (c.args.axes - 1) (last_of c.args.len c.args.list.now.items) c.args.nodes.now.items
       (some_last c.args.len c.args.list.now.items c.requires.some c.requires.within);
 }
 
@@ -118,34 +118,25 @@ load_parts-load_parts-requires g t c κs within =
     let cut = c.cut_slab-slab.ensures in
     let held : 0 < c.div_ceil-size.result = slab_positive c.args.len c.args.clusters c.div_ceil-size.result c.requires.clusters c.requires.some c.div_ceil-size.ensures in
     let fits : slab ≤ length new = fits_slab slab c.div_ceil-size.result c.loop-rest.rest (length old) (length new) cut.count c.loop-rest.invariant.within (sym (length_permutation old new cut.same)) in
-    let each = All-permutation (λ t'. g.T.Envelope.Envelope.boxes.is_empty (g.T.RTreeObject.object.box_of t') ≡ false) old new cut.same c.loop-rest.invariant.each in
+    let each = All-permutation (λ t'. g.T.Cover.Merges.boxes.is_empty (g.T.Covered.object.box_of t') ≡ false) old new cut.same c.loop-rest.invariant.each in
     let long : length ts ≡ c.args.len = length_last c.args.len c.args.list.now.items c.requires.within in
     let size : c.div_ceil-size.result ≡ div_ceil (length ts) c.args.clusters = c.div_ceil-size.ensures ∙ ap (λ n. div_ceil n c.args.clusters) (sym long) in
     let next : IsSlabSize c.args.clusters (length ts) (length (last_of slab new)) =
-    next_size (λ t' k. g.T.Envelope.Envelope.boxes.axis_key (g.T.RTreeObject.object.box_of t') k) (IsFreshNode g.T.Envelope.Envelope.boxes g.T.RTreeObject.object g.Params.RTreeParams.MAX_SIZE c.loop-rest.widest g.T.Envelope.Point.Point.DIMENSIONS c.args.below) c.args.clusters (c.args.axes - 1) ts (last_of c.loop-rest.rest old) (last_of slab new) (last_of (c.loop-rest.rest - slab) (front_of slab new)) c.args.nodes.now.items c.loop-rest.nodes.items c.loop-rest.invariant.parts
-    (subst (λ n. IsSlabOf (λ t'. g.T.Envelope.Envelope.boxes.axis_key (g.T.RTreeObject.object.box_of t') (c.args.axes - 1)) n (last_of c.loop-rest.rest old) (last_of slab new) (last_of (c.loop-rest.rest - slab) (front_of slab new))) size cut.cut)
+    next_size (λ t' k. g.T.Cover.Merges.boxes.axis_key (g.T.Covered.object.box_of t') k) (IsFreshNode g.T.Cover.Merges.boxes g.T.Covered.object g.Params.RTreeParams.MAX_SIZE c.loop-rest.widest g.T.InSlabs.axes c.args.below) c.args.clusters (c.args.axes - 1) ts (last_of c.loop-rest.rest old) (last_of slab new) (last_of (c.loop-rest.rest - slab) (front_of slab new)) c.args.nodes.now.items c.loop-rest.nodes.items c.loop-rest.invariant.parts
+    (subst (λ n. IsSlabOf (λ t'. g.T.Cover.Merges.boxes.axis_key (g.T.Covered.object.box_of t') (c.args.axes - 1)) n (last_of c.loop-rest.rest old) (last_of slab new) (last_of (c.loop-rest.rest - slab) (front_of slab new))) size cut.cut)
     (some_last c.loop-rest.rest old c.loop-rest-test.true c.loop-rest.invariant.within) in
-    let deep : (m : ℕ) → IsPartSize c.args.clusters (c.args.axes - 1) slab m → GoesDeep g.Params.RTreeParams.MAX_SIZE g.T.Envelope.Point.Point.DIMENSIONS c.args.below m =
-    deep_slab g.Params.RTreeParams.MAX_SIZE g.T.Envelope.Point.Point.DIMENSIONS c.args.below c.args.clusters c.args.axes (c.args.axes - 1) c.args.len slab (previous c.args.axes c.if-axes-eq0.false) c.requires.deep
+    let deep : (m : ℕ) → IsPartSize c.args.clusters (c.args.axes - 1) slab m → GoesDeep g.Params.RTreeParams.MAX_SIZE g.T.InSlabs.axes c.args.below m =
+    deep_slab g.Params.RTreeParams.MAX_SIZE g.T.InSlabs.axes c.args.below c.args.clusters c.args.axes (c.args.axes - 1) c.args.len slab (previous c.args.axes c.if-axes-eq0.false) c.requires.deep
     (subst (λ n. IsSlabSize c.args.clusters n slab) long (subst (IsSlabSize c.args.clusters (length ts)) (length_last slab new fits) next)) in
-    let axes : c.args.axes - 1 ≤ g.T.Envelope.Point.Point.DIMENSIONS = fewer_axes c.args.axes g.T.Envelope.Point.Point.DIMENSIONS c.requires.axes in (
-      slab_below (c.args.below * (g.T.Envelope.Point.Point.DIMENSIONS + 2)) c.args.axes t c.decreases c.if-axes-eq0.false,
+    let axes : c.args.axes - 1 ≤ g.T.InSlabs.axes = fewer_axes c.args.axes g.T.InSlabs.axes c.requires.axes in (
+      slab_below (c.args.below * (g.T.InSlabs.axes + 2)) c.args.axes t c.decreases c.if-axes-eq0.false,
       (
         within.0,
         (
           within.1.0,
           (
-            within.1.1.0,
-            (
-              within.1.1.1.0,
-              (
-                within.1.1.1.1.0,
-                (
-                  within.1.1.1.1.1,
-                  (some_slab slab c.div_ceil-size.result c.loop-rest.rest cut.count held c.loop-rest-test.true, (fits, (each, (c.requires.dimensions, (axes, (c.requires.clusters, (deep, c.loop-rest.invariant.counted))))))),
-                ),
-              ),
-            ),
+            within.1.1,
+            (some_slab slab c.div_ceil-size.result c.loop-rest.rest cut.count held c.loop-rest-test.true, (fits, (each, (c.requires.dimensions, (axes, (c.requires.clusters, (deep, c.loop-rest.invariant.counted))))))),
           ),
         ),
       ),
@@ -162,27 +153,27 @@ load_parts-loop-rest-preserved g t c =
     let same_long = sym (length_permutation old new cut.same) in
     let less = less_slab slab c.div_ceil-size.result c.loop-rest.rest cut.count in
     let rests : c.loop-rest.rest ≤ length new = subst (λ n. c.loop-rest.rest ≤ n) same_long c.loop-rest.invariant.within in
-    let each = All-permutation (λ t'. g.T.Envelope.Envelope.boxes.is_empty (g.T.RTreeObject.object.box_of t') ≡ false) old new cut.same c.loop-rest.invariant.each in
+    let each = All-permutation (λ t'. g.T.Cover.Merges.boxes.is_empty (g.T.Covered.object.box_of t') ≡ false) old new cut.same c.loop-rest.invariant.each in
     let long : length ts ≡ c.args.len = length_last c.args.len c.args.list.now.items c.requires.within in
     let size : c.div_ceil-size.result ≡ div_ceil (length ts) c.args.clusters = c.div_ceil-size.ensures ∙ ap (λ n. div_ceil n c.args.clusters) (sym long) in
     let le : c.loop-rest.widest ≤ c.load_parts.new.widest = c.in_ok-load_parts.ensures.wider in
-    let before = underway_better (λ t' k. g.T.Envelope.Envelope.boxes.axis_key (g.T.RTreeObject.object.box_of t') k)
-    (IsFreshNode g.T.Envelope.Envelope.boxes g.T.RTreeObject.object g.Params.RTreeParams.MAX_SIZE c.loop-rest.widest g.T.Envelope.Point.Point.DIMENSIONS c.args.below)
-    (IsFreshNode g.T.Envelope.Envelope.boxes g.T.RTreeObject.object g.Params.RTreeParams.MAX_SIZE c.load_parts.new.widest g.T.Envelope.Point.Point.DIMENSIONS c.args.below)
-    (fresh_wider g.T.Envelope.Envelope.boxes g.T.RTreeObject.object g.Params.RTreeParams.MAX_SIZE c.loop-rest.widest c.load_parts.new.widest g.T.Envelope.Point.Point.DIMENSIONS c.args.below le) c.args.clusters (c.args.axes - 1) ts (last_of c.loop-rest.rest old) c.args.nodes.now.items c.loop-rest.nodes.items c.loop-rest.invariant.parts in
+    let before = underway_better (λ t' k. g.T.Cover.Merges.boxes.axis_key (g.T.Covered.object.box_of t') k)
+    (IsFreshNode g.T.Cover.Merges.boxes g.T.Covered.object g.Params.RTreeParams.MAX_SIZE c.loop-rest.widest g.T.InSlabs.axes c.args.below)
+    (IsFreshNode g.T.Cover.Merges.boxes g.T.Covered.object g.Params.RTreeParams.MAX_SIZE c.load_parts.new.widest g.T.InSlabs.axes c.args.below)
+    (fresh_wider g.T.Cover.Merges.boxes g.T.Covered.object g.Params.RTreeParams.MAX_SIZE c.loop-rest.widest c.load_parts.new.widest g.T.InSlabs.axes c.args.below le) c.args.clusters (c.args.axes - 1) ts (last_of c.loop-rest.rest old) c.args.nodes.now.items c.loop-rest.nodes.items c.loop-rest.invariant.parts in
     record {
       within = left_slab slab c.div_ceil-size.result c.loop-rest.rest (length old) (length new) (length c.load_parts.new.list.items) cut.count c.loop-rest.invariant.within same_long (ap length left ∙ length_front slab new);
       front = ap (front_of (c.loop-rest.rest - slab)) left ∙ front_front slab c.loop-rest.rest new less rests ∙ cut.front ∙ c.loop-rest.invariant.front;
-      each = subst (λ l. NoneEmpty g.T.Envelope.Envelope.boxes.is_empty g.T.RTreeObject.object.box_of l) (sym left) (front_has (λ t'. g.T.Envelope.Envelope.boxes.is_empty (g.T.RTreeObject.object.box_of t') ≡ false) slab new each);
+      each = subst (λ l. NoneEmpty g.T.Cover.Merges.boxes.is_empty g.T.Covered.object.box_of l) (sym left) (front_has (λ t'. g.T.Cover.Merges.boxes.is_empty (g.T.Covered.object.box_of t') ≡ false) slab new each);
       wider = up_to c.args.widest.now c.loop-rest.widest c.load_parts.new.widest c.loop-rest.invariant.wider le;
       counted = c.in_ok-load_parts.ensures.counted;
-      parts = subst (λ l. IsUnderway (λ t' k. g.T.Envelope.Envelope.boxes.axis_key (g.T.RTreeObject.object.box_of t') k) (IsFreshNode g.T.Envelope.Envelope.boxes g.T.RTreeObject.object g.Params.RTreeParams.MAX_SIZE c.load_parts.new.widest g.T.Envelope.Point.Point.DIMENSIONS c.args.below) c.args.clusters (c.args.axes - 1) ts (last_of (c.loop-rest.rest - slab) l) c.args.nodes.now.items c.load_parts.new.nodes.items) (sym left)
-          (underway_more (λ t' k. g.T.Envelope.Envelope.boxes.axis_key (g.T.RTreeObject.object.box_of t') k) (IsFreshNode g.T.Envelope.Envelope.boxes g.T.RTreeObject.object g.Params.RTreeParams.MAX_SIZE c.load_parts.new.widest g.T.Envelope.Point.Point.DIMENSIONS c.args.below) c.args.clusters (c.args.axes - 1) ts (last_of c.loop-rest.rest old) (last_of slab new) (last_of (c.loop-rest.rest - slab) (front_of slab new)) c.args.nodes.now.items c.loop-rest.nodes.items c.load_parts.new.nodes.items before
-          (subst (λ n. IsSlabOf (λ t'. g.T.Envelope.Envelope.boxes.axis_key (g.T.RTreeObject.object.box_of t') (c.args.axes - 1)) n (last_of c.loop-rest.rest old) (last_of slab new) (last_of (c.loop-rest.rest - slab) (front_of slab new))) size cut.cut)
+      parts = subst (λ l. IsUnderway (λ t' k. g.T.Cover.Merges.boxes.axis_key (g.T.Covered.object.box_of t') k) (IsFreshNode g.T.Cover.Merges.boxes g.T.Covered.object g.Params.RTreeParams.MAX_SIZE c.load_parts.new.widest g.T.InSlabs.axes c.args.below) c.args.clusters (c.args.axes - 1) ts (last_of (c.loop-rest.rest - slab) l) c.args.nodes.now.items c.load_parts.new.nodes.items) (sym left)
+          (underway_more (λ t' k. g.T.Cover.Merges.boxes.axis_key (g.T.Covered.object.box_of t') k) (IsFreshNode g.T.Cover.Merges.boxes g.T.Covered.object g.Params.RTreeParams.MAX_SIZE c.load_parts.new.widest g.T.InSlabs.axes c.args.below) c.args.clusters (c.args.axes - 1) ts (last_of c.loop-rest.rest old) (last_of slab new) (last_of (c.loop-rest.rest - slab) (front_of slab new)) c.args.nodes.now.items c.loop-rest.nodes.items c.load_parts.new.nodes.items before
+          (subst (λ n. IsSlabOf (λ t'. g.T.Cover.Merges.boxes.axis_key (g.T.Covered.object.box_of t') (c.args.axes - 1)) n (last_of c.loop-rest.rest old) (last_of slab new) (last_of (c.loop-rest.rest - slab) (front_of slab new))) size cut.cut)
           (some_last c.loop-rest.rest old c.loop-rest-test.true c.loop-rest.invariant.within) c.in_ok-load_parts.ensures.adds);
     }
 
 pub load_parts-returns-clause-adds : goal.load_parts-returns-clause-adds
 load_parts-returns-clause-adds g t c =
-    underway_end (λ t' k. g.T.Envelope.Envelope.boxes.axis_key (g.T.RTreeObject.object.box_of t') k) (IsFreshNode g.T.Envelope.Envelope.boxes g.T.RTreeObject.object g.Params.RTreeParams.MAX_SIZE c.loop-rest.widest g.T.Envelope.Point.Point.DIMENSIONS c.args.below) c.args.clusters (c.args.axes - 1) c.args.axes (last_of c.args.len c.args.list.now.items) (last_of c.loop-rest.rest c.loop-rest.list.items) c.args.nodes.now.items c.loop-rest.nodes.items (two_some c.args.clusters c.requires.clusters) c.loop-rest.invariant.parts
+    underway_end (λ t' k. g.T.Cover.Merges.boxes.axis_key (g.T.Covered.object.box_of t') k) (IsFreshNode g.T.Cover.Merges.boxes g.T.Covered.object g.Params.RTreeParams.MAX_SIZE c.loop-rest.widest g.T.InSlabs.axes c.args.below) c.args.clusters (c.args.axes - 1) c.args.axes (last_of c.args.len c.args.list.now.items) (last_of c.loop-rest.rest c.loop-rest.list.items) c.args.nodes.now.items c.loop-rest.nodes.items (two_some c.args.clusters c.requires.clusters) c.loop-rest.invariant.parts
     (ap (λ n. last_of n c.loop-rest.list.items) (ended c.loop-rest.rest c.loop-rest-test.false) ∙ last_none c.loop-rest.list.items) (previous c.args.axes c.if-axes-eq0.false)

@@ -21,8 +21,8 @@ returns-clause-same g c =
 
 pub returns-clause-fresh : goal.returns-clause-fresh
 returns-clause-fresh g c =
-    leaves_parent g.T.Envelope.Envelope.boxes g.T.RTreeObject.object g.Params.RTreeParams.MAX_SIZE c.make_wide_room.new.widest g.T.Envelope.Point.Point.DIMENSIONS c.in_ok-elements.elements.items _
+    leaves_parent g.T.Cover.Merges.boxes g.T.Covered.object g.Params.RTreeParams.MAX_SIZE c.make_wide_room.new.widest g.T.InSlabs.axes c.in_ok-elements.elements.items _
     (rw c.deref.ensures.value at c.envelope_of_all-envelope.ensures.own)
-    (subst (NoneEmpty g.T.Envelope.Envelope.boxes.is_empty g.T.RTreeObject.object.box_of) (sym (last g c)) (last_has (λ t. g.T.Envelope.Envelope.boxes.is_empty (g.T.RTreeObject.object.box_of t) ≡ false) c.args.len c.args.list.now.items c.requires.elements))
+    (subst (NoneEmpty g.T.Cover.Merges.boxes.is_empty g.T.Covered.object.box_of) (sym (last g c)) (last_has (λ t. g.T.Cover.Merges.boxes.is_empty (g.T.Covered.object.box_of t) ≡ false) c.args.len c.args.list.now.items c.requires.elements))
     (λ none. some_last c.args.len c.args.list.now.items c.requires.some c.requires.within (sym (last g c) ∙ none)) (c.make_wide_room.ensures.same ∙ c.in_ok-children.ensures)
     (rw c.deref.ensures.value at c.envelope_of_all-envelope.ensures.hull) c.in_ok-make_wide_room.ensures.room (omega (arith, c.make_wide_room.new.nodes.ok.0, c.in_ok-make_wide_room.ensures.narrow))

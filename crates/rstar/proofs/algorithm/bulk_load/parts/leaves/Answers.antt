@@ -4,4 +4,4 @@ use Rattle.rstar.specs.declared.node.RTreeNode.{RTreeNode, Leaf}
 use Rattle.rstar.proofs.algorithm.bulk_load.parts.leaves.Goals as goal
 
 pub loop-t-preserved : goal.loop-t-preserved
-loop-t-preserved g c = rw (map-append {B = RTreeNode g.row.T.Denot g.row.T-Envelope.Denot g.row.T-Envelope-Point.Denot g.row.T-Envelope-Point-Scalar.Denot g.row.T-Envelope-Point-Scalar-FromStrRadixErr.Denot} Leaf c.loop-t.yielded (c.in-Some.t ∷ []), ← c.loop-t.invariant) c.in_ok-push.ensures.items
+loop-t-preserved g c = rw (map-append {B = RTreeNode g.row.T.Denot g.row.T-Cover.Denot} Leaf c.loop-t.yielded (c.in-Some.t ∷ []), ← c.loop-t.invariant) c.in_ok-push.ensures.items

@@ -33,7 +33,7 @@ returns-in-None-clause-steps g c =
     let told = c.in-None.ensures in
     let all = progress.gives-neighbor g.T.Envelope.Envelope.boxes g.T.PointDistance.distances g.T.Envelope.Point.Point.DIMENSIONS g.T.Envelope.Point.Point.coord g.T.Envelope.Point.Scalar.Ord.cmp any_first g.T.Envelope.Point.Scalar.Number.value g.T.RTreeObject.object
     old.search new old.point (λ x. x.0.now) (None) told.root told.ready told.gives told.none told.over told.stays told.refused told.goes_on told.ends told.once told.ended in
-    (progress.given-none g.T.Envelope.Envelope.boxes g.T.PointDistance.distances g.T.Envelope.Point.Point.DIMENSIONS g.T.Envelope.Point.Point.coord (shown old.search old.point) (shown new old.point) all, told.ready)
+    (progress.given-none g.T.Envelope.Envelope.boxes g.T.PointDistance.distances g.T.Envelope.Point.Point.DIMENSIONS g.T.Envelope.Point.Point.coord (shown old.search old.point) (shown new old.point) {S = g.row.T-Envelope-Point-Scalar.Denot} all, told.ready)
 
 pub returns-in-Ok-clause-goes : goal.returns-in-Ok-clause-goes
 unfolding IsSearching

@@ -45,7 +45,7 @@ returns-in_ok-keep-in-Leaf-clause-first g c = λ all rest s.
     let front = few.so-far-same g.T.Envelope.Envelope.boxes g.T.RTreeObject.object g.T.PointDistance.distances p g.E.TieOrder.order value c.args.most all (ws ++ c.args.node.now ∷ rest) (c.args.node.now ∷ (ws ++ rest)) found (IsPermutation-middle ws c.args.node.now rest) s in
     let at : value c.distance_to-distance.result ≡ pos (g.T.PointDistance.distances.distance_2 t p) =
     c.distance_to-distance.ensures ∙ ap (λ n. pos (distance_of g.T.Envelope.Envelope.boxes g.T.PointDistance.distances p n)) c.in-Leaf.is
-    ∙ ap pos (node_distance-Leaf g.row.T.Denot g.row.T-Envelope.Denot g.row.T-Envelope-Point.Denot g.row.T-Envelope-Point-Scalar.Denot g.row.T-Envelope-Point-Scalar-FromStrRadixErr.Denot (λ e. g.T.Envelope.Envelope.boxes.distance_2 e p) (λ u. g.T.PointDistance.distances.distance_2 u p) t) in
+    ∙ ap pos (node_distance-Leaf g.row.T.Denot g.row.T-Envelope.Denot (λ e. g.T.Envelope.Envelope.boxes.distance_2 e p) (λ u. g.T.PointDistance.distances.distance_2 u p) t) in
     few.so-far-leaf g.T.Envelope.Envelope.boxes g.T.RTreeObject.object g.T.PointDistance.distances p g.E.TieOrder.order value c.args.most all g.T.Envelope.Point.Scalar.Ord.cmp (order g) g.met.E.TieOrder.total _ (ws ++ rest) found c.keep.new.found.items
     at c.in_ok-keep-in-Leaf.ensures.kept c.keep.ensures.falls (subst (λ n. AreFoundSoFar g.T.Envelope.Envelope.boxes g.T.RTreeObject.object g.T.PointDistance.distances p g.E.TieOrder.order value c.args.most all (n ∷ (ws ++ rest)) found) c.in-Leaf.is front)
 

@@ -17,47 +17,47 @@ take_at-take_leaf-requires-clause-leaf g t c = λ n.
 
 pub take_at-returns-then-is_leaf-clause-takes : goal.take_at-returns-then-is_leaf-clause-takes
 take_at-returns-then-is_leaf-clause-takes g t c =
-    let accepts = g.R.SelectionFunction.accepts c.args.func.now in
-    let selects = g.R.SelectionFunction.selects c.args.func.now in
+    let accepts = g.R.Question.accepts c.args.func.now in
+    let selects = g.R.Question.selects c.args.func.now in
     let here = c.take_leaf.ensures.node in
     rw c.take_leaf.ensures.items
-    (takes_leaf g.T.Envelope.Envelope.boxes g.T.RTreeObject.object accepts selects c.args.children.now.items c.args.place c.requires.within c.take_leaf.result here
+    (takes_leaf g.T.Cover.Merges.boxes g.T.Covered.object accepts selects c.args.children.now.items c.args.place c.requires.within c.take_leaf.result here
     (leaf_selected accepts selects _ c.take_leaf.result (sym here) (c.requires.some (Leaf c.take_leaf.result))))
 
 pub take_at-returns-then-is_leaf-clause-first : goal.take_at-returns-then-is_leaf-clause-first
 take_at-returns-then-is_leaf-clause-first g t c = λ d.
-    let accepts = g.R.SelectionFunction.accepts c.args.func.now in
-    let selects = g.R.SelectionFunction.selects c.args.func.now in
+    let accepts = g.R.Question.accepts c.args.func.now in
+    let selects = g.R.Question.selects c.args.func.now in
     let here = c.take_leaf.ensures.node in
     sym (earliest-leaf accepts selects g.met.T.Ord.total (get_or c.args.children.now.items c.args.place d) c.take_leaf.result true (read_at c.args.children.now.items c.args.place (Leaf c.take_leaf.result) d c.requires.within here)
     (leaf_selected accepts selects _ c.take_leaf.result (sym here) (c.requires.some (Leaf c.take_leaf.result))))
 
 pub take_at-returns-then-is_childless-clause-takes : goal.take_at-returns-then-is_childless-clause-takes
 take_at-returns-then-is_childless-clause-takes g t c =
-    let accepts = g.R.SelectionFunction.accepts c.args.func.now in
-    let selects = g.R.SelectionFunction.selects c.args.func.now in
+    let accepts = g.R.Question.accepts c.args.func.now in
+    let selects = g.R.Question.selects c.args.func.now in
     let n = c.index_mut.result.now in
     let here = c.index_mut.ensures.value in
     let written = c.index-2.ensures ∙ get_or-set_same _ _ _ _ c.requires.within in
     rw c.drop_child.ensures.items
-    (takes_last g.T.Envelope.Envelope.boxes g.T.RTreeObject.object accepts selects c.args.children.now.items c.args.place c.requires.within n c.take_inside-taken.new.child c.take_inside-taken.result here c.take_inside-taken.ensures.takes
+    (takes_last g.T.Cover.Merges.boxes g.T.Covered.object accepts selects c.args.children.now.items c.args.place c.requires.within n c.take_inside-taken.new.child c.take_inside-taken.result here c.take_inside-taken.ensures.takes
     (earliest-some g.T.Ord.cmp (given accepts selects n) c.take_inside-taken.result c.take_inside-taken.ensures.first (λ none. c.requires.some n (ap (given accepts selects) (sym here) ∙ none)))
     (sym (ap is_childless written) ∙ sym c.is_childless.ensures ∙ c.if-is_childless.true))
 
 pub take_at-returns-else-is_childless-clause-takes : goal.take_at-returns-else-is_childless-clause-takes
 take_at-returns-else-is_childless-clause-takes g t c =
-    let accepts = g.R.SelectionFunction.accepts c.args.func.now in
-    let selects = g.R.SelectionFunction.selects c.args.func.now in
+    let accepts = g.R.Question.accepts c.args.func.now in
+    let selects = g.R.Question.selects c.args.func.now in
     let n = c.index_mut.result.now in
     let here = c.index_mut.ensures.value in
     let written = c.index-2.ensures ∙ get_or-set_same _ _ _ _ c.requires.within in
-    takes_below g.T.Envelope.Envelope.boxes g.T.RTreeObject.object accepts selects c.args.children.now.items c.args.place c.requires.within n c.take_inside-taken.new.child c.take_inside-taken.result here c.take_inside-taken.ensures.takes
+    takes_below g.T.Cover.Merges.boxes g.T.Covered.object accepts selects c.args.children.now.items c.args.place c.requires.within n c.take_inside-taken.new.child c.take_inside-taken.result here c.take_inside-taken.ensures.takes
     (earliest-some g.T.Ord.cmp (given accepts selects n) c.take_inside-taken.result c.take_inside-taken.ensures.first (λ none. c.requires.some n (ap (given accepts selects) (sym here) ∙ none)))
     (sym (ap is_childless written) ∙ sym c.is_childless.ensures ∙ c.if-is_childless.false)
 
 pub take_at-returns-else-is_childless-clause-unchanged : goal.take_at-returns-else-is_childless-clause-unchanged
 take_at-returns-else-is_childless-clause-unchanged g t c = λ told.
-    hull_set g.T.Envelope.Envelope.boxes (node_box g.T.RTreeObject.object.box_of) c.args.children.now.items c.args.place c.index_mut.result.now c.take_inside-taken.new.child c.requires.within c.index_mut.ensures.value (c.take_inside-taken.ensures.unchanged told)
+    hull_set g.T.Cover.Merges.boxes (node_box g.T.Covered.object.box_of) c.args.children.now.items c.args.place c.index_mut.result.now c.take_inside-taken.new.child c.requires.within c.index_mut.ensures.value (c.take_inside-taken.ensures.unchanged told)
 
 pub take_inside-unreachable-requires : goal.take_inside-unreachable-requires
 take_inside-unreachable-requires g t c = no_leaf_here c.args.child.now _ c.in-Leaf.is c.requires.parent
@@ -68,13 +68,13 @@ take_inside-returns-clause-takes g t c =
     let kept = rw c.in-Parent.parent-is at c.take_earliest.ensures.kept in
     let same = rw c.in-Parent.parent-is at c.take_earliest.ensures.same in
     rw (c.in-Parent.is, outs-Parent c.in-Parent.parent)
-    (entered g.T.Envelope.Envelope.boxes g.T.RTreeObject.object (g.R.SelectionFunction.accepts c.args.func.now) (g.R.SelectionFunction.selects c.args.func.now) c.in-Parent.parent c.take_earliest.new.node [] [] None None c.take_earliest.result
+    (entered g.T.Cover.Merges.boxes g.T.Covered.object (g.R.Question.accepts c.args.func.now) (g.R.Question.selects c.args.func.now) c.in-Parent.parent c.take_earliest.new.node [] [] None None c.take_earliest.result
     takes (λ m w h k below at. kept m w h k below) same)
 
 pub take_inside-returns-clause-first : goal.take_inside-returns-clause-first
 take_inside-returns-clause-first g t c =
-    let accepts = g.R.SelectionFunction.accepts c.args.func.now in
-    let selects = g.R.SelectionFunction.selects c.args.func.now in
+    let accepts = g.R.Question.accepts c.args.func.now in
+    let selects = g.R.Question.selects c.args.func.now in
     let first = rw c.in-Parent.parent-is at c.take_earliest.ensures.first in
     let is = ap (given accepts selects) c.in-Parent.is in
     first ∙ sym (ap (earliest g.T.Ord.cmp) (is ∙ given_below accepts selects c.in-Parent.parent (λ none. c.requires.some (is ∙ none))))
@@ -82,43 +82,43 @@ take_inside-returns-clause-first g t c =
 pub take_inside-returns-clause-unchanged : goal.take_inside-returns-clause-unchanged
 take_inside-returns-clause-unchanged g t c =
     let unchanged = rw c.in-Parent.parent-is at c.take_earliest.ensures.unchanged in
-    let box = g.T.RTreeObject.object.box_of in
+    let box = g.T.Covered.object.box_of in
     rw (c.in-Parent.is, outs-Parent c.in-Parent.parent) (λ told. node_box-Parent box c.take_earliest.new.node ∙ unchanged told ∙ sym (node_box-Parent box c.in-Parent.parent))
 
 pub take_earliest-returns-in-None-clause-takes : goal.take_earliest-returns-in-None-clause-takes
 take_earliest-returns-in-None-clause-takes g t c =
-    let accepts = g.R.SelectionFunction.accepts c.args.func.now in
-    let selects = g.R.SelectionFunction.selects c.args.func.now in
-    takes_nothing g.T.Envelope.Envelope.boxes g.T.RTreeObject.object accepts selects g.met.T.Envelope.Envelope.envelope_laws g.met.T.RTreeObject.object_law c.args.node.now.children.items
+    let accepts = g.R.Question.accepts c.args.func.now in
+    let selects = g.R.Question.selects c.args.func.now in
+    takes_nothing g.T.Cover.Merges.boxes g.T.Covered.object accepts selects g.met.T.Cover.Merges.merge_laws g.met.T.Covered.cover_law c.args.node.now.children.items
     (sym (ap (all_given accepts selects) c.as_slice.ensures.value) ∙ c.in-None.ensures)
 
 pub take_earliest-returns-then-changed-clause-first : goal.take_earliest-returns-then-changed-clause-first
 take_earliest-returns-then-changed-clause-first g t c =
-    (earliest-there (g.R.SelectionFunction.accepts c.args.func.now) (g.R.SelectionFunction.selects c.args.func.now) g.met.T.Ord.total c.args.node.now.children.items c.as_slice.result.now c.in-Some.found.0 c.in-Some.found.1.now c.take_at-taken.result (Parent c.args.node.now)
+    (earliest-there (g.R.Question.accepts c.args.func.now) (g.R.Question.selects c.args.func.now) g.met.T.Ord.total c.args.node.now.children.items c.as_slice.result.now c.in-Some.found.0 c.in-Some.found.1.now c.take_at-taken.result (Parent c.args.node.now)
     c.as_slice.ensures.value c.in-Some.ensures (c.take_at-taken.ensures.first (Parent c.args.node.now))).0
 
 pub take_earliest-returns-then-changed-clause-kept : goal.take_earliest-returns-then-changed-clause-kept
 take_earliest-returns-then-changed-clause-kept g t c m w h kept below =
     let takes = c.take_at-taken.ensures.takes in
-    let made = rw c.deref.ensures.value at c.envelope_for_children-merged.ensures in
-    kept_anew g.met.T.Envelope.Envelope.envelope_laws g.met.T.RTreeObject.object_law m w h c.args.node.now _ kept (takes.whole m w h below tt) takes.shorter c.take_at-taken.new.children.ok.0 c.args.node.now.children.ok.0 c.take_at-taken.ensures.capacity made
+    let made = rw c.deref.ensures.value at c.envelope_for_children-merged.ensures.hull in
+    kept_anew g.met.T.Cover.Merges.merge_laws g.met.T.Covered.cover_law m w h c.args.node.now _ kept (takes.whole m w h below tt) takes.shorter c.take_at-taken.new.children.ok.0 c.args.node.now.children.ok.0 c.take_at-taken.ensures.capacity made
 
 pub take_earliest-returns-then-changed-clause-same : goal.take_earliest-returns-then-changed-clause-same
 take_earliest-returns-then-changed-clause-same g t c =
-    some_one _ c.take_at-taken.result (earliest-there (g.R.SelectionFunction.accepts c.args.func.now) (g.R.SelectionFunction.selects c.args.func.now) g.met.T.Ord.total c.args.node.now.children.items c.as_slice.result.now c.in-Some.found.0 c.in-Some.found.1.now c.take_at-taken.result (Parent c.args.node.now)
+    some_one _ c.take_at-taken.result (earliest-there (g.R.Question.accepts c.args.func.now) (g.R.Question.selects c.args.func.now) g.met.T.Ord.total c.args.node.now.children.items c.as_slice.result.now c.in-Some.found.0 c.in-Some.found.1.now c.take_at-taken.result (Parent c.args.node.now)
     c.as_slice.ensures.value c.in-Some.ensures (c.take_at-taken.ensures.first (Parent c.args.node.now))).1
 
 pub take_earliest-returns-else-changed-clause-first : goal.take_earliest-returns-else-changed-clause-first
 take_earliest-returns-else-changed-clause-first g t c =
-    (earliest-there (g.R.SelectionFunction.accepts c.args.func.now) (g.R.SelectionFunction.selects c.args.func.now) g.met.T.Ord.total c.args.node.now.children.items c.as_slice.result.now c.in-Some.found.0 c.in-Some.found.1.now c.take_at-taken.result (Parent c.args.node.now)
+    (earliest-there (g.R.Question.accepts c.args.func.now) (g.R.Question.selects c.args.func.now) g.met.T.Ord.total c.args.node.now.children.items c.as_slice.result.now c.in-Some.found.0 c.in-Some.found.1.now c.take_at-taken.result (Parent c.args.node.now)
     c.as_slice.ensures.value c.in-Some.ensures (c.take_at-taken.ensures.first (Parent c.args.node.now))).0
 
 pub take_earliest-returns-else-changed-clause-kept : goal.take_earliest-returns-else-changed-clause-kept
 take_earliest-returns-else-changed-clause-kept g t c m w h kept below =
     let takes = c.take_at-taken.ensures.takes in
-    kept_still g.met.T.Envelope.Envelope.envelope_laws g.met.T.RTreeObject.object_law m w h c.args.node.now _ kept below (takes.whole m w h below tt) takes.shorter c.take_at-taken.new.children.ok.0 c.args.node.now.children.ok.0 c.take_at-taken.ensures.capacity refl (c.take_at-taken.ensures.unchanged c.if-changed.false)
+    kept_still g.met.T.Cover.Merges.merge_laws g.met.T.Covered.cover_law m w h c.args.node.now _ kept below (takes.whole m w h below tt) takes.shorter c.take_at-taken.new.children.ok.0 c.args.node.now.children.ok.0 c.take_at-taken.ensures.capacity refl (c.take_at-taken.ensures.unchanged c.if-changed.false)
 
 pub take_earliest-returns-else-changed-clause-same : goal.take_earliest-returns-else-changed-clause-same
 take_earliest-returns-else-changed-clause-same g t c =
-    some_one _ c.take_at-taken.result (earliest-there (g.R.SelectionFunction.accepts c.args.func.now) (g.R.SelectionFunction.selects c.args.func.now) g.met.T.Ord.total c.args.node.now.children.items c.as_slice.result.now c.in-Some.found.0 c.in-Some.found.1.now c.take_at-taken.result (Parent c.args.node.now)
+    some_one _ c.take_at-taken.result (earliest-there (g.R.Question.accepts c.args.func.now) (g.R.Question.selects c.args.func.now) g.met.T.Ord.total c.args.node.now.children.items c.as_slice.result.now c.in-Some.found.0 c.in-Some.found.1.now c.take_at-taken.result (Parent c.args.node.now)
     c.as_slice.ensures.value c.in-Some.ensures (c.take_at-taken.ensures.first (Parent c.args.node.now))).1

@@ -27,7 +27,7 @@ one_more old new l h = omega arith
 level_below : (old new l : ℕ) → 0 < l → old ≤ new + (l - 1) + 1 → old ≤ new + l
 level_below old new l h k = omega arith
 
-at_most_one : {T E P S X : Type 0} (r : Option (ParentNode T E P S X)) → length (as_node r) ≤ 1
+at_most_one : {T E : Type 0} (r : Option (ParentNode T E)) → length (as_node r) ≤ 1
 at_most_one None = omega arith
 at_most_one (Some p) = omega arith
 
@@ -41,13 +41,13 @@ used_more old mid new n l h e k = omega arith
 
 pub insert_below-add_child-requires-clause-covered : goal.insert_below-add_child-requires-clause-covered
 insert_below-add_child-requires-clause-covered g t c =
-    let grown = leaf_added g.met.T.Envelope.Envelope.envelope_laws g.met.T.RTreeObject.object_law g.Params.RTreeParams.MAX_SIZE c.args.widest c.args.levels c.args.t c.args.node.now.children.items c.if-levels-eq0.true (c.envelope-envelope.ensures.own, c.requires.element) c.requires.below in
-    (hull_grown g.met.T.Envelope.Envelope.envelope_laws g.met.T.RTreeObject.object_law g.Params.RTreeParams.MAX_SIZE c.args.widest c.args.levels c.args.t c.args.node.now.children.items (c.args.node.now.children.items ++ Leaf c.args.t ∷ []) c.args.node.now.envelope c.merge.new.self c.requires.below c.requires.node.tight c.envelope-envelope.ensures.own (c.merge.ensures.merged ∙ ap (g.T.Envelope.Envelope.boxes.merge c.args.node.now.envelope) c.envelope-envelope.ensures.value) grown.0 grown.1).1
+    let grown = leaf_added g.met.T.Cover.Merges.merge_laws g.met.T.Covered.cover_law g.Params.RTreeParams.MAX_SIZE c.args.widest c.args.levels c.args.t c.args.node.now.children.items c.if-levels-eq0.true (c.envelope-envelope.ensures.own, c.requires.element) c.requires.below in
+    (hull_grown g.met.T.Cover.Merges.merge_laws g.met.T.Covered.cover_law g.Params.RTreeParams.MAX_SIZE c.args.widest c.args.levels c.args.t c.args.node.now.children.items (c.args.node.now.children.items ++ Leaf c.args.t ∷ []) c.args.node.now.envelope c.merge.new.self c.requires.below c.requires.node.tight c.envelope-envelope.ensures.own (c.merge.ensures.merged ∙ ap (g.T.Cover.Merges.boxes.merge c.args.node.now.envelope) c.envelope-envelope.ensures.value) grown.0 grown.1).1
 
 pub insert_below-returns-then-levels-eq0 : goal.insert_below-returns-then-levels-eq0
 insert_below-returns-then-levels-eq0 g t c =
-    let grown = leaf_added g.met.T.Envelope.Envelope.envelope_laws g.met.T.RTreeObject.object_law g.Params.RTreeParams.MAX_SIZE c.args.widest c.args.levels c.args.t c.args.node.now.children.items c.if-levels-eq0.true (c.envelope-envelope.ensures.own, c.requires.element) c.requires.below in
-    let parts = added g.met.T.Envelope.Envelope.envelope_laws g.met.T.RTreeObject.object_law g.Params.RTreeParams.MAX_SIZE c.args.widest c.args.levels c.args.t c.args.node.now.children.items (c.args.node.now.children.items ++ Leaf c.args.t ∷ []) c.add_child.new.node c.add_child.result grown.0 grown.1 c.add_child.ensures.same c.add_child.ensures.first c.add_child.ensures.second in
+    let grown = leaf_added g.met.T.Cover.Merges.merge_laws g.met.T.Covered.cover_law g.Params.RTreeParams.MAX_SIZE c.args.widest c.args.levels c.args.t c.args.node.now.children.items c.if-levels-eq0.true (c.envelope-envelope.ensures.own, c.requires.element) c.requires.below in
+    let parts = added g.met.T.Cover.Merges.merge_laws g.met.T.Covered.cover_law g.Params.RTreeParams.MAX_SIZE c.args.widest c.args.levels c.args.t c.args.node.now.children.items (c.args.node.now.children.items ++ Leaf c.args.t ∷ []) c.add_child.new.node c.add_child.result grown.0 grown.1 c.add_child.ensures.same c.add_child.ensures.first c.add_child.ensures.second in
     record {
       bag = parts.0;
       first = parts.1;
@@ -68,7 +68,7 @@ insert_below-returns-then-levels-eq0 g t c =
 pub insert_below-returns-in-None-clause-first : goal.insert_below-returns-in-None-clause-first
 insert_below-returns-in-None-clause-first g t c =
     let below = rw append-nil at c.in-None.ensures.below in
-    let hull = hull_grown g.met.T.Envelope.Envelope.envelope_laws g.met.T.RTreeObject.object_law g.Params.RTreeParams.MAX_SIZE c.args.widest c.args.levels c.args.t c.args.node.now.children.items c.insert_in_child.new.children.items c.args.node.now.envelope c.merge.new.self c.requires.below c.requires.node.tight c.envelope-envelope.ensures.own (c.merge.ensures.merged ∙ ap (g.T.Envelope.Envelope.boxes.merge c.args.node.now.envelope) c.envelope-envelope.ensures.value) (rw append-nil at c.in-None.ensures.bag) below in
+    let hull = hull_grown g.met.T.Cover.Merges.merge_laws g.met.T.Covered.cover_law g.Params.RTreeParams.MAX_SIZE c.args.widest c.args.levels c.args.t c.args.node.now.children.items c.insert_in_child.new.children.items c.args.node.now.envelope c.merge.new.self c.requires.below c.requires.node.tight c.envelope-envelope.ensures.own (c.merge.ensures.merged ∙ ap (g.T.Cover.Merges.boxes.merge c.args.node.now.envelope) c.envelope-envelope.ensures.value) (rw append-nil at c.in-None.ensures.bag) below in
     let roomy = c.requires.node.roomy in
     let length = c.in-None.ensures.length in
     let capacity = c.in-None.ensures.capacity in
@@ -88,11 +88,11 @@ insert_below-returns-in-None-clause-first g t c =
 
 pub insert_below-add_child-requires-in-Some-clause-covered : goal.insert_below-add_child-requires-in-Some-clause-covered
 insert_below-add_child-requires-in-Some-clause-covered g t c =
-    (hull_grown g.met.T.Envelope.Envelope.envelope_laws g.met.T.RTreeObject.object_law g.Params.RTreeParams.MAX_SIZE c.args.widest c.args.levels c.args.t c.args.node.now.children.items (c.insert_in_child.new.children.items ++ Parent c.in-Some.second ∷ []) c.args.node.now.envelope c.merge.new.self c.requires.below c.requires.node.tight c.envelope-envelope.ensures.own (c.merge.ensures.merged ∙ ap (g.T.Envelope.Envelope.boxes.merge c.args.node.now.envelope) c.envelope-envelope.ensures.value) c.in-Some.ensures.bag c.in-Some.ensures.below).1
+    (hull_grown g.met.T.Cover.Merges.merge_laws g.met.T.Covered.cover_law g.Params.RTreeParams.MAX_SIZE c.args.widest c.args.levels c.args.t c.args.node.now.children.items (c.insert_in_child.new.children.items ++ Parent c.in-Some.second ∷ []) c.args.node.now.envelope c.merge.new.self c.requires.below c.requires.node.tight c.envelope-envelope.ensures.own (c.merge.ensures.merged ∙ ap (g.T.Cover.Merges.boxes.merge c.args.node.now.envelope) c.envelope-envelope.ensures.value) c.in-Some.ensures.bag c.in-Some.ensures.below).1
 
 pub insert_below-returns : goal.insert_below-returns
 insert_below-returns g t c =
-    let parts = added g.met.T.Envelope.Envelope.envelope_laws g.met.T.RTreeObject.object_law g.Params.RTreeParams.MAX_SIZE c.args.widest c.args.levels c.args.t c.args.node.now.children.items (c.insert_in_child.new.children.items ++ Parent c.in-Some.second ∷ []) c.add_child-in-Some.new.node c.add_child-in-Some.result c.in-Some.ensures.bag c.in-Some.ensures.below c.add_child-in-Some.ensures.same c.add_child-in-Some.ensures.first c.add_child-in-Some.ensures.second in
+    let parts = added g.met.T.Cover.Merges.merge_laws g.met.T.Covered.cover_law g.Params.RTreeParams.MAX_SIZE c.args.widest c.args.levels c.args.t c.args.node.now.children.items (c.insert_in_child.new.children.items ++ Parent c.in-Some.second ∷ []) c.add_child-in-Some.new.node c.add_child-in-Some.result c.in-Some.ensures.bag c.in-Some.ensures.below c.add_child-in-Some.ensures.same c.add_child-in-Some.ensures.first c.add_child-in-Some.ensures.second in
     record {
       bag = parts.0;
       first = parts.1;
@@ -128,18 +128,18 @@ insert_below-returns-in-None-clause-made g t c =
 
 pub insert_in_child-insert_below-requires : goal.insert_in_child-insert_below-requires
 insert_in_child-insert_below-requires g t c κs within =
-    let tree = child_at (IsKeptInner g.T.Envelope.Envelope.boxes g.T.RTreeObject.object g.Params.RTreeParams.MAX_SIZE c.args.widest) (IsElement g.T.Envelope.Envelope.boxes g.T.RTreeObject.object) c.args.levels c.args.children.now.items c.args.index (Parent c.in-Parent.child) (subst (λ n. c.args.index < n) c.args.children.now.ok.0 c.requires.index) (rw c.in-Parent.is at c.index_mut.ensures.value) c.requires.below in
-    let at = tree_at (IsKeptInner g.T.Envelope.Envelope.boxes g.T.RTreeObject.object g.Params.RTreeParams.MAX_SIZE c.args.widest) (IsElement g.T.Envelope.Envelope.boxes g.T.RTreeObject.object) c.args.levels c.in-Parent.child c.requires.above tree in
-    rw c.in-Parent.child-is (omega arith, (within.0, (within.1.0, (within.1.1.0, (within.1.1.1.0, (within.1.1.1.1.0, (within.1.1.1.1.1, (at.0.0, (at.1, (λ _. omega (arith, at.0.1, c.in-Parent.child.children.ok.0), (c.requires.element, (c.requires.wide, (c.requires.spares, (omega arith, c.requires.overfull))))))))))))))
+    let tree = child_at (IsKeptInner g.T.Cover.Merges.boxes g.T.Covered.object g.Params.RTreeParams.MAX_SIZE c.args.widest) (IsElement g.T.Cover.Merges.boxes g.T.Covered.object) c.args.levels c.args.children.now.items c.args.index (Parent c.in-Parent.child) (subst (λ n. c.args.index < n) c.args.children.now.ok.0 c.requires.index) (rw c.in-Parent.is at c.index_mut.ensures.value) c.requires.below in
+    let at = tree_at (IsKeptInner g.T.Cover.Merges.boxes g.T.Covered.object g.Params.RTreeParams.MAX_SIZE c.args.widest) (IsElement g.T.Cover.Merges.boxes g.T.Covered.object) c.args.levels c.in-Parent.child c.requires.above tree in
+    rw c.in-Parent.child-is (omega arith, (within.0, (within.1.0, (within.1.1, (at.0.0, (at.1, (λ _. omega (arith, at.0.1, c.in-Parent.child.children.ok.0), (c.requires.element, (c.requires.wide, (c.requires.spares, (omega arith, c.requires.overfull)))))))))))
 
 pub insert_in_child-unreachable-requires : goal.insert_in_child-unreachable-requires
 insert_in_child-unreachable-requires g t c =
-    no_leaf_above (IsKeptInner g.T.Envelope.Envelope.boxes g.T.RTreeObject.object g.Params.RTreeParams.MAX_SIZE c.args.widest) (IsElement g.T.Envelope.Envelope.boxes g.T.RTreeObject.object) c.args.levels c.in-Leaf.field-0 c.requires.above
-    (child_at (IsKeptInner g.T.Envelope.Envelope.boxes g.T.RTreeObject.object g.Params.RTreeParams.MAX_SIZE c.args.widest) (IsElement g.T.Envelope.Envelope.boxes g.T.RTreeObject.object) c.args.levels c.args.children.now.items c.args.index (Leaf c.in-Leaf.field-0) (subst (λ n. c.args.index < n) c.args.children.now.ok.0 c.requires.index) (rw c.in-Leaf.is at c.index_mut.ensures.value) c.requires.below)
+    no_leaf_above (IsKeptInner g.T.Cover.Merges.boxes g.T.Covered.object g.Params.RTreeParams.MAX_SIZE c.args.widest) (IsElement g.T.Cover.Merges.boxes g.T.Covered.object) c.args.levels c.in-Leaf.field-0 c.requires.above
+    (child_at (IsKeptInner g.T.Cover.Merges.boxes g.T.Covered.object g.Params.RTreeParams.MAX_SIZE c.args.widest) (IsElement g.T.Cover.Merges.boxes g.T.Covered.object) c.args.levels c.args.children.now.items c.args.index (Leaf c.in-Leaf.field-0) (subst (λ n. c.args.index < n) c.args.children.now.ok.0 c.requires.index) (rw c.in-Leaf.is at c.index_mut.ensures.value) c.requires.below)
 
 pub insert_in_child-returns : goal.insert_in_child-returns
 insert_in_child-returns g t c =
-    let grown = child_grown g.met.T.Envelope.Envelope.envelope_laws g.met.T.RTreeObject.object_law g.Params.RTreeParams.MAX_SIZE c.args.widest c.args.levels c.args.t c.args.children.now.items c.args.index c.in-Parent.child c.insert_below.new.node c.insert_below.result c.requires.above (subst (λ n. c.args.index < n) c.args.children.now.ok.0 c.requires.index) (rw c.in-Parent.is at c.index_mut.ensures.value) c.requires.below
+    let grown = child_grown g.met.T.Cover.Merges.merge_laws g.met.T.Covered.cover_law g.Params.RTreeParams.MAX_SIZE c.args.widest c.args.levels c.args.t c.args.children.now.items c.args.index c.in-Parent.child c.insert_below.new.node c.insert_below.result c.requires.above (subst (λ n. c.args.index < n) c.args.children.now.ok.0 c.requires.index) (rw c.in-Parent.is at c.index_mut.ensures.value) c.requires.below
     (rw c.in-Parent.child-is at c.insert_below.ensures.bag) c.insert_below.ensures.first c.insert_below.ensures.second in
     record {
       bag = simp (c.in-Parent.is, outs-Parent) grown.0;

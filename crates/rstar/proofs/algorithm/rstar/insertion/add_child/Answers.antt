@@ -39,7 +39,7 @@ move_all-requires-2-clause-room g c =
 
 pub returns-clause-same : goal.returns-clause-same
 returns-clause-same g c =
-    rw (← c.move_all.ensures.moved, ← c.push_reserved-2.ensures.items, c.move_all-2.ensures.moved) c.split_in_place.ensures.arranged.same
+    rw (← c.move_all.ensures.moved, ← c.push_reserved-2.ensures.items, c.move_all-2.ensures.moved) c.split_in_place.ensures.same
 
 pub returns-clause-first : goal.returns-clause-first
 returns-clause-first g c =
@@ -51,7 +51,7 @@ returns-clause-first g c =
     let over = c.move_all.ensures.length in
     let one = c.push_reserved-2.ensures.len in
     record {
-      merged = rw (← c.deref.ensures.value) c.envelope_for_children.ensures;
+      merged = rw (← c.deref.ensures.value) c.envelope_for_children.ensures.hull;
       some = omega (arith, positive, long, moved, c.move_all-2.new.empty.ok.0);
       roomy = record {
         narrow = omega (arith, positive, all, least, moved, over, one, c.requires.roomy.narrow, c.args.node.now.children.ok.0, c.move_all-2.new.empty.ok.0);
@@ -69,7 +69,7 @@ returns-clause-second g c =
     let over = c.move_all.ensures.length in
     let one = c.push_reserved-2.ensures.len in
     record {
-      merged = rw (← c.deref-2.ensures.value) c.envelope_for_children-envelope.ensures;
+      merged = rw (← c.deref-2.ensures.value) c.envelope_for_children-envelope.ensures.hull;
       some = omega (arith, positive, long, c.split_in_place.new.spare.ok.0);
       roomy = record {
         narrow = omega (arith, positive, all, least, over, one, c.requires.roomy.narrow, c.args.node.now.children.ok.0, c.split_in_place.new.spare.ok.0);

@@ -10,7 +10,7 @@ returns-in-Some-clause-bag g c =
 
 pub returns-in-Some-clause-kept : goal.returns-in-Some-clause-kept
 returns-in-Some-clause-kept g c =
-    root_grown g.met.T.Envelope.Envelope.envelope_laws g.met.T.RTreeObject.object_law g.Params.RTreeParams.MAX_SIZE c.args.widest c.args.levels c.insert_below.new.node c.in-Some.second c.grow_root.new.root
+    root_grown g.met.T.Cover.Merges.merge_laws g.met.T.Covered.cover_law g.Params.RTreeParams.MAX_SIZE c.args.widest c.args.levels c.insert_below.new.node c.in-Some.second c.grow_root.new.root
     c.in-Some.ensures.first c.in-Some.ensures.second c.grow_root.ensures.children c.grow_root.ensures.envelope c.grow_root.ensures.room (omega (arith, g.Params.RTreeParams.max_at_least_four))
 
 pub returns-in-Some-clause-sized : goal.returns-in-Some-clause-sized

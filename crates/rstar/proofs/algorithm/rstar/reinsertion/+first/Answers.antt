@@ -12,13 +12,13 @@ use Rattle.rstar.proofs.algorithm.rstar.reinsertion.+first.Goals as goal
 
 pub insert_first-add_leaf-requires-clause-covered : goal.insert_first-add_leaf-requires-clause-covered
 insert_first-add_leaf-requires-clause-covered g t c =
-    let grown = leaf_added g.met.T.Envelope.Envelope.envelope_laws g.met.T.RTreeObject.object_law g.Params.RTreeParams.MAX_SIZE c.args.widest c.args.levels c.args.t c.args.node.now.children.items c.if-levels-eq0.true (c.envelope-envelope.ensures.own, c.requires.element) c.requires.below in
-    (hull_grown g.met.T.Envelope.Envelope.envelope_laws g.met.T.RTreeObject.object_law g.Params.RTreeParams.MAX_SIZE c.args.widest c.args.levels c.args.t c.args.node.now.children.items _ c.args.node.now.envelope c.merge.new.self c.requires.below c.requires.node.tight c.envelope-envelope.ensures.own (c.merge.ensures.merged ∙ ap (g.T.Envelope.Envelope.boxes.merge c.args.node.now.envelope) c.envelope-envelope.ensures.value) grown.0 grown.1).1
+    let grown = leaf_added g.met.T.Cover.Merges.merge_laws g.met.T.Covered.cover_law g.Params.RTreeParams.MAX_SIZE c.args.widest c.args.levels c.args.t c.args.node.now.children.items c.if-levels-eq0.true (c.envelope-envelope.ensures.own, c.requires.element) c.requires.below in
+    (hull_grown g.met.T.Cover.Merges.merge_laws g.met.T.Covered.cover_law g.Params.RTreeParams.MAX_SIZE c.args.widest c.args.levels c.args.t c.args.node.now.children.items _ c.args.node.now.envelope c.merge.new.self c.requires.below c.requires.node.tight c.envelope-envelope.ensures.own (c.merge.ensures.merged ∙ ap (g.T.Cover.Merges.boxes.merge c.args.node.now.envelope) c.envelope-envelope.ensures.value) grown.0 grown.1).1
 
 pub insert_first-returns-then-levels-eq0 : goal.insert_first-returns-then-levels-eq0
 insert_first-returns-then-levels-eq0 g t c =
-    let grown = leaf_added g.met.T.Envelope.Envelope.envelope_laws g.met.T.RTreeObject.object_law g.Params.RTreeParams.MAX_SIZE c.args.widest c.args.levels c.args.t c.args.node.now.children.items c.if-levels-eq0.true (c.envelope-envelope.ensures.own, c.requires.element) c.requires.below in
-    let handed = leaf_handed g.met.T.Envelope.Envelope.envelope_laws g.met.T.RTreeObject.object_law g.Params.RTreeParams.MAX_SIZE c.args.widest c.args.levels c.args.t c.args.node.now.children.items (c.args.node.now.children.items ++ Leaf c.args.t ∷ []) c.add_leaf.new.handed.items c.add_leaf.new.node c.if-levels-eq0.true grown.0 grown.1 c.add_leaf.ensures.same c.add_leaf.ensures.fit in
+    let grown = leaf_added g.met.T.Cover.Merges.merge_laws g.met.T.Covered.cover_law g.Params.RTreeParams.MAX_SIZE c.args.widest c.args.levels c.args.t c.args.node.now.children.items c.if-levels-eq0.true (c.envelope-envelope.ensures.own, c.requires.element) c.requires.below in
+    let handed = leaf_handed g.met.T.Cover.Merges.merge_laws g.met.T.Covered.cover_law g.Params.RTreeParams.MAX_SIZE c.args.widest c.args.levels c.args.t c.args.node.now.children.items (c.args.node.now.children.items ++ Leaf c.args.t ∷ []) c.add_leaf.new.handed.items c.add_leaf.new.node c.if-levels-eq0.true grown.0 grown.1 c.add_leaf.ensures.same c.add_leaf.ensures.fit in
     record {
       bag = handed.0;
       kept = handed.1;
@@ -29,7 +29,7 @@ insert_first-returns-then-levels-eq0 g t c =
           (sized_leaf g.Params.RTreeParams.MIN_SIZE g.Params.RTreeParams.MAX_SIZE g.Params.RTreeParams.min_positive c.args.levels c.args.t c.args.node.now.children.items c.if-levels-eq0.true sized.0) c.add_leaf.ensures.same (c.add_leaf.ensures.most sized.1) c.add_leaf.ensures.least;
       capacity = c.add_leaf.ensures.capacity;
       overfull = c.add_leaf.ensures.overfull;
-      parents = leaf_left (IsKeptInner g.T.Envelope.Envelope.boxes g.T.RTreeObject.object g.Params.RTreeParams.MAX_SIZE c.args.widest) (IsElement g.T.Envelope.Envelope.boxes g.T.RTreeObject.object) c.args.levels c.args.t c.args.node.now.children.items c.add_leaf.new.node.children.items c.add_leaf.new.handed.items
+      parents = leaf_left (IsKeptInner g.T.Cover.Merges.boxes g.T.Covered.object g.Params.RTreeParams.MAX_SIZE c.args.widest) (IsElement g.T.Cover.Merges.boxes g.T.Covered.object) c.args.levels c.args.t c.args.node.now.children.items c.add_leaf.new.node.children.items c.add_leaf.new.handed.items
           c.if-levels-eq0.true c.requires.below c.add_leaf.ensures.same;
     }
 
@@ -39,8 +39,8 @@ insert_first-returns-then-not-is_empty-clause-kept g t c =
     let length = c.insert_first_in_child.ensures.length in
     let capacity = c.insert_first_in_child.ensures.capacity in
     let some = c.requires.some (omega arith) in
-    let is = rw c.deref-then-not-is_empty.ensures.value at c.envelope_for_children.ensures in
-    let tight = made_anew g.met.T.Envelope.Envelope.envelope_laws g.met.T.RTreeObject.object_law g.Params.RTreeParams.MAX_SIZE c.args.widest c.args.levels c.insert_first_in_child.new.children.items c.envelope_for_children.result c.insert_first_in_child.ensures.below is in
+    let is = rw c.deref-then-not-is_empty.ensures.value at c.envelope_for_children.ensures.hull in
+    let tight = made_anew g.met.T.Cover.Merges.merge_laws g.met.T.Covered.cover_law g.Params.RTreeParams.MAX_SIZE c.args.widest c.args.levels c.insert_first_in_child.new.children.items c.envelope_for_children.result c.insert_first_in_child.ensures.below is in
     ((record { tight = tight; roomy = record { narrow = omega (arith, c.insert_first_in_child.new.children.ok.0, c.args.node.now.children.ok.0); room = omega arith } }, omega (arith, c.insert_first_in_child.new.children.ok.0)), c.insert_first_in_child.ensures.below)
 
 pub insert_first-returns-clause-kept : goal.insert_first-returns-clause-kept
@@ -52,24 +52,24 @@ insert_first-returns-clause-kept g t c =
     let zero : vec_len c.insert_first_in_child.new.handed ≡ 0 = search rules in
     let none = nil_from_length c.insert_first_in_child.new.handed.items (omega (arith, zero, c.insert_first_in_child.new.handed.ok.0)) in
     let bag = rw (none, append-nil) at c.insert_first_in_child.ensures.bag in
-    let tight = (hull_grown g.met.T.Envelope.Envelope.envelope_laws g.met.T.RTreeObject.object_law g.Params.RTreeParams.MAX_SIZE c.args.widest c.args.levels c.args.t c.args.node.now.children.items c.insert_first_in_child.new.children.items c.args.node.now.envelope c.merge.new.self c.requires.below c.requires.node.tight c.envelope-envelope.ensures.own (c.merge.ensures.merged ∙ ap (g.T.Envelope.Envelope.boxes.merge c.args.node.now.envelope) c.envelope-envelope.ensures.value) bag c.insert_first_in_child.ensures.below).0 in
+    let tight = (hull_grown g.met.T.Cover.Merges.merge_laws g.met.T.Covered.cover_law g.Params.RTreeParams.MAX_SIZE c.args.widest c.args.levels c.args.t c.args.node.now.children.items c.insert_first_in_child.new.children.items c.args.node.now.envelope c.merge.new.self c.requires.below c.requires.node.tight c.envelope-envelope.ensures.own (c.merge.ensures.merged ∙ ap (g.T.Cover.Merges.boxes.merge c.args.node.now.envelope) c.envelope-envelope.ensures.value) bag c.insert_first_in_child.ensures.below).0 in
     ((record { tight = tight; roomy = record { narrow = omega (arith, c.insert_first_in_child.new.children.ok.0, c.args.node.now.children.ok.0); room = omega arith } }, omega (arith, c.insert_first_in_child.new.children.ok.0)), c.insert_first_in_child.ensures.below)
 
 -- ---- in a child
 
 pub insert_first_in_child-insert_first-requires : goal.insert_first_in_child-insert_first-requires
 insert_first_in_child-insert_first-requires g t c κs within =
-    let tree = child_at (IsKeptInner g.T.Envelope.Envelope.boxes g.T.RTreeObject.object g.Params.RTreeParams.MAX_SIZE c.args.widest) (IsElement g.T.Envelope.Envelope.boxes g.T.RTreeObject.object) c.args.levels c.args.children.now.items c.args.index (Parent c.in-Parent.child) (subst (λ n. c.args.index < n) c.args.children.now.ok.0 c.requires.index) (rw c.in-Parent.is at c.index_mut.ensures.value) c.requires.below in
-    let at = tree_at (IsKeptInner g.T.Envelope.Envelope.boxes g.T.RTreeObject.object g.Params.RTreeParams.MAX_SIZE c.args.widest) (IsElement g.T.Envelope.Envelope.boxes g.T.RTreeObject.object) c.args.levels c.in-Parent.child c.requires.above tree in
-    rw c.in-Parent.child-is (omega arith, (within.0, (within.1.0, (within.1.1.0, (within.1.1.1.0, (within.1.1.1.1.0, (within.1.1.1.1.1, (at.0.0, (at.1, (λ _. omega (arith, at.0.1, c.in-Parent.child.children.ok.0), (c.requires.element, (c.requires.wide, (c.requires.reinserts, (c.requires.spare, c.requires.overfull))))))))))))))
+    let tree = child_at (IsKeptInner g.T.Cover.Merges.boxes g.T.Covered.object g.Params.RTreeParams.MAX_SIZE c.args.widest) (IsElement g.T.Cover.Merges.boxes g.T.Covered.object) c.args.levels c.args.children.now.items c.args.index (Parent c.in-Parent.child) (subst (λ n. c.args.index < n) c.args.children.now.ok.0 c.requires.index) (rw c.in-Parent.is at c.index_mut.ensures.value) c.requires.below in
+    let at = tree_at (IsKeptInner g.T.Cover.Merges.boxes g.T.Covered.object g.Params.RTreeParams.MAX_SIZE c.args.widest) (IsElement g.T.Cover.Merges.boxes g.T.Covered.object) c.args.levels c.in-Parent.child c.requires.above tree in
+    rw c.in-Parent.child-is (omega arith, (within.0, (within.1.0, (within.1.1, (at.0.0, (at.1, (λ _. omega (arith, at.0.1, c.in-Parent.child.children.ok.0), (c.requires.element, (c.requires.wide, (c.requires.reinserts, (c.requires.spare, c.requires.overfull)))))))))))
 
 pub insert_first_in_child-unreachable-requires : goal.insert_first_in_child-unreachable-requires
 insert_first_in_child-unreachable-requires g t c =
-    no_leaf_above (IsKeptInner g.T.Envelope.Envelope.boxes g.T.RTreeObject.object g.Params.RTreeParams.MAX_SIZE c.args.widest) (IsElement g.T.Envelope.Envelope.boxes g.T.RTreeObject.object) c.args.levels c.in-Leaf.field-0 c.requires.above (child_at (IsKeptInner g.T.Envelope.Envelope.boxes g.T.RTreeObject.object g.Params.RTreeParams.MAX_SIZE c.args.widest) (IsElement g.T.Envelope.Envelope.boxes g.T.RTreeObject.object) c.args.levels c.args.children.now.items c.args.index (Leaf c.in-Leaf.field-0) (subst (λ n. c.args.index < n) c.args.children.now.ok.0 c.requires.index) (rw c.in-Leaf.is at c.index_mut.ensures.value) c.requires.below)
+    no_leaf_above (IsKeptInner g.T.Cover.Merges.boxes g.T.Covered.object g.Params.RTreeParams.MAX_SIZE c.args.widest) (IsElement g.T.Cover.Merges.boxes g.T.Covered.object) c.args.levels c.in-Leaf.field-0 c.requires.above (child_at (IsKeptInner g.T.Cover.Merges.boxes g.T.Covered.object g.Params.RTreeParams.MAX_SIZE c.args.widest) (IsElement g.T.Cover.Merges.boxes g.T.Covered.object) c.args.levels c.args.children.now.items c.args.index (Leaf c.in-Leaf.field-0) (subst (λ n. c.args.index < n) c.args.children.now.ok.0 c.requires.index) (rw c.in-Leaf.is at c.index_mut.ensures.value) c.requires.below)
 
 pub insert_first_in_child-returns : goal.insert_first_in_child-returns
 insert_first_in_child-returns g t c =
-    let grown = child_handed g.met.T.Envelope.Envelope.envelope_laws g.met.T.RTreeObject.object_law g.Params.RTreeParams.MAX_SIZE c.args.widest c.args.levels c.args.t c.args.children.now.items c.args.index c.in-Parent.child c.insert_first.new.node c.insert_first.new.handed.items c.requires.above (subst (λ n. c.args.index < n) c.args.children.now.ok.0 c.requires.index) (rw c.in-Parent.is at c.index_mut.ensures.value) c.requires.below (rw c.in-Parent.child-is at c.insert_first.ensures.bag) c.insert_first.ensures.kept in
+    let grown = child_handed g.met.T.Cover.Merges.merge_laws g.met.T.Covered.cover_law g.Params.RTreeParams.MAX_SIZE c.args.widest c.args.levels c.args.t c.args.children.now.items c.args.index c.in-Parent.child c.insert_first.new.node c.insert_first.new.handed.items c.requires.above (subst (λ n. c.args.index < n) c.args.children.now.ok.0 c.requires.index) (rw c.in-Parent.is at c.index_mut.ensures.value) c.requires.below (rw c.in-Parent.child-is at c.insert_first.ensures.bag) c.insert_first.ensures.kept in
     record {
       bag = simp (c.in-Parent.is, outs-Parent) grown.0;
       below = simp (c.in-Parent.is, outs-Parent) grown.1;

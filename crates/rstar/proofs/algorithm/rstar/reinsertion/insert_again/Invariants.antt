@@ -9,8 +9,8 @@ use Rattle.rstar.proofs.algorithm.rstar.reinsertion.insert_again.Given as goal
 abbrev pub invariant-loop-leaf : goal.invariant-loop-leaf
 invariant-loop-leaf g l = record {
   bag : IsPermutation (all_elements l.initial.root.children.items ++ all_elements l.initial.handed.items) (all_elements l.root.children.items ++ all_elements l.handed.items);
-  kept : IsKeptTree g.T.Envelope.Envelope.boxes g.T.RTreeObject.object g.Params.RTreeParams.MAX_SIZE l.widest l.current l.root;
-  leaves : AreKept g.T.Envelope.Envelope.boxes g.T.RTreeObject.object g.Params.RTreeParams.MAX_SIZE l.widest 0 l.handed.items;
+  kept : IsKeptTree g.T.Cover.Merges.boxes g.T.Covered.object g.Params.RTreeParams.MAX_SIZE l.widest l.current l.root;
+  leaves : AreKept g.T.Cover.Merges.boxes g.T.Covered.object g.Params.RTreeParams.MAX_SIZE l.widest 0 l.handed.items;
   sized : IsSizedTree g.Params.RTreeParams.MIN_SIZE g.Params.RTreeParams.MAX_SIZE l.levels l.initial.root
       → IsSizedTree g.Params.RTreeParams.MIN_SIZE g.Params.RTreeParams.MAX_SIZE l.current l.root;
   spares : AllByRecursion (IsSpare l.widest) l.spares.items;

@@ -6,9 +6,9 @@ use Rattle.rstar.proofs.iterators.joins.IntersectionIterator.go_back.Goals as go
 
 pub returns-in_default : goal.returns-in_default
 returns-in_default g c =
-    let meets = meets_by g.T.Envelope.Envelope.boxes g.U.InEnvelope.seen in
-    let left_box = g.T.RTreeObject.object.box_of in
-    let right_box = g.U.RTreeObject.object.box_of in
+    let meets = g.U.Meets.meets in
+    let left_box = g.T.Covered.object.box_of in
+    let right_box = g.U.Covered.object.box_of in
     let self = c.args.self.now in
     let frame = in_hand self in
     let none = c.in_default.ensures.none in
@@ -33,9 +33,9 @@ returns-in_default g c =
 
 pub returns : goal.returns
 returns g c =
-    let meets = meets_by g.T.Envelope.Envelope.boxes g.U.InEnvelope.seen in
-    let left_box = g.T.RTreeObject.object.box_of in
-    let right_box = g.U.RTreeObject.object.box_of in
+    let meets = g.U.Meets.meets in
+    let left_box = g.T.Covered.object.box_of in
+    let right_box = g.U.Covered.object.box_of in
     let self = c.args.self.now in
     let frame = in_hand self in
     let move = move-drop meets left_box right_box frame c.requires.none in

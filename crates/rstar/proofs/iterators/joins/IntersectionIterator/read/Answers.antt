@@ -17,9 +17,9 @@ returns-in_default-split_first g c = let long = ap length c.requires.met.right_b
 
 pub returns-in-Some-two_leaves : goal.returns-in-Some-two_leaves
 returns-in-Some-two_leaves g c =
-    let meets = meets_by g.T.Envelope.Envelope.boxes g.U.InEnvelope.seen in
-    let left_box = g.T.RTreeObject.object.box_of in
-    let right_box = g.U.RTreeObject.object.box_of in
+    let meets = g.U.Meets.meets in
+    let left_box = g.T.Covered.object.box_of in
+    let right_box = g.U.Covered.object.box_of in
     let self = c.args.self.now in
     let met = c.requires.met in
     let left = met.left in
@@ -47,9 +47,9 @@ returns-in-Some-two_leaves g c =
 
 pub push_reserved-requires : goal.push_reserved-requires
 push_reserved-requires g c =
-    let meets = meets_by g.T.Envelope.Envelope.boxes g.U.InEnvelope.seen in
-    let left_box = g.T.RTreeObject.object.box_of in
-    let right_box = g.U.RTreeObject.object.box_of in
+    let meets = g.U.Meets.meets in
+    let left_box = g.T.Covered.object.box_of in
+    let right_box = g.U.Covered.object.box_of in
     let self = c.args.self.now in
     let met = c.requires.met in
     let left = met.left in
@@ -64,9 +64,9 @@ push_reserved-requires g c =
 
 pub returns : goal.returns
 returns g c =
-    let meets = meets_by g.T.Envelope.Envelope.boxes g.U.InEnvelope.seen in
-    let left_box = g.T.RTreeObject.object.box_of in
-    let right_box = g.U.RTreeObject.object.box_of in
+    let meets = g.U.Meets.meets in
+    let left_box = g.T.Covered.object.box_of in
+    let right_box = g.U.Covered.object.box_of in
     let self = c.args.self.now in
     let met = c.requires.met in
     let left = met.left in

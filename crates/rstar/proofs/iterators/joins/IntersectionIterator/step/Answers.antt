@@ -16,9 +16,9 @@ read-requires-clause-met g c =
 
 pub returns-then-is_empty-2 : goal.returns-then-is_empty-2
 returns-then-is_empty-2 g c =
-    let meets = meets_by g.T.Envelope.Envelope.boxes g.U.InEnvelope.seen in
-    let left_box = g.T.RTreeObject.object.box_of in
-    let right_box = g.U.RTreeObject.object.box_of in
+    let meets = g.U.Meets.meets in
+    let left_box = g.T.Covered.object.box_of in
+    let right_box = g.U.Covered.object.box_of in
     let self = c.args.self.now in
     let above = self.path.items in
     let k = rows_beside self.rights.now in
@@ -41,9 +41,9 @@ returns-then-is_empty-2 g c =
 
 pub returns : goal.returns
 returns g c =
-    let meets = meets_by g.T.Envelope.Envelope.boxes g.U.InEnvelope.seen in
-    let left_box = g.T.RTreeObject.object.box_of in
-    let right_box = g.U.RTreeObject.object.box_of in
+    let meets = g.U.Meets.meets in
+    let left_box = g.T.Covered.object.box_of in
+    let right_box = g.U.Covered.object.box_of in
     let self = c.args.self.now in
     let above = self.path.items in
     let k = rows_beside self.rights.now in

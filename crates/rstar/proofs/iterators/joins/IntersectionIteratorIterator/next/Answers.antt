@@ -6,9 +6,9 @@ use Rattle.rstar.proofs.iterators.joins.IntersectionIteratorIterator.next.Goals 
 pub returns-in-Ended-clause-steps : goal.returns-in-Ended-clause-steps
 unfolding IsJoining pairs_to_come
 returns-in-Ended-clause-steps g c =
-    let meets = meets_by g.T.Envelope.Envelope.boxes g.U.InEnvelope.seen in
-    let left_box = g.T.RTreeObject.object.box_of in
-    let right_box = g.U.RTreeObject.object.box_of in
+    let meets = g.U.Meets.meets in
+    let left_box = g.T.Covered.object.box_of in
+    let right_box = g.U.Covered.object.box_of in
     let left = c.in-Ended.ensures.left ∙ c.loop-t.invariant.left in
     let right = c.in-Ended.ensures.right ∙ c.loop-t.invariant.right in
     record {
@@ -23,9 +23,9 @@ returns-in-Ended-clause-steps g c =
 pub returns-in-Found-clause-steps : goal.returns-in-Found-clause-steps
 unfolding IsJoining pairs_to_come
 returns-in-Found-clause-steps g c =
-    let meets = meets_by g.T.Envelope.Envelope.boxes g.U.InEnvelope.seen in
-    let left_box = g.T.RTreeObject.object.box_of in
-    let right_box = g.U.RTreeObject.object.box_of in
+    let meets = g.U.Meets.meets in
+    let left_box = g.T.Covered.object.box_of in
+    let right_box = g.U.Covered.object.box_of in
     let left = c.in-Found.ensures.left ∙ c.loop-t.invariant.left in
     let right = c.in-Found.ensures.right ∙ c.loop-t.invariant.right in
     record {

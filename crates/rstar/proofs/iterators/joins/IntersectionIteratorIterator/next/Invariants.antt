@@ -6,9 +6,9 @@ use Rattle.rstar.proofs.iterators.joins.IntersectionIteratorIterator.next.Given 
 -- the same join, with the same to come
 abbrev pub invariant-loop-t : goal.invariant-loop-t
 invariant-loop-t g l =
-    let meets = meets_by g.T.Envelope.Envelope.boxes g.U.InEnvelope.seen in
-    let left_box = g.T.RTreeObject.object.box_of in
-    let right_box = g.U.RTreeObject.object.box_of in
+    let meets = g.U.Meets.meets in
+    let left_box = g.T.Covered.object.box_of in
+    let right_box = g.U.Covered.object.box_of in
     record {
       joining : HasItsPaths meets left_box right_box l.self;
       same : pairs_by meets left_box right_box l.initial.self ≡ pairs_by meets left_box right_box l.self;

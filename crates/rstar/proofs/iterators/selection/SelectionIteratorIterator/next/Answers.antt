@@ -1,13 +1,13 @@
 use Rattle.std.proofs.Common.{◌≡◌, ◌∙◌, ◌∷◌, [], Bool, true, false, Some, None, if◌then◌else◌, sym, arith}
 use Rattle.std.proofs.lemmas.Bool.{true≢false}
 use Rattle.std.specs.Borrow.{Bor}
-use Rattle.rstar.specs.declared.iterators.SelectionIterator.{SelectionIterator}
+use Rattle.rstar.specs.declared.iterators.selection.SelectionIterator.{SelectionIterator}
 use Rattle.rstar.specs.Nodes.{reach_of}
 use Rattle.rstar.specs.Selections.{IsWalking, to_come, root_walked, question_of, reach_by, GivesNext}
 use Rattle.rstar.specs.Walks.{given_by, IsStep, IsOver}
-use Rattle.rstar.proofs.iterators.SelectionIteratorIterator.next.Goals as goal
+use Rattle.rstar.proofs.iterators.selection.SelectionIteratorIterator.next.Goals as goal
 
-module _ {T F E P S X : Type 0} (accepts : F → E → Bool) (selects : F → T → Bool) (old mid new : SelectionIterator T F E P S X)
+module _ {T F E : Type 0} (accepts : F → E → Bool) (selects : F → T → Bool) (old mid new : SelectionIterator T F E)
     (same : given_by accepts selects old ≡ given_by accepts selects mid) (root : root_walked mid ≡ root_walked old) (question : question_of mid ≡ question_of old) where
   same-reach : root_walked new ≡ root_walked mid → question_of new ≡ question_of mid → reach_by accepts new ≡ reach_by accepts old
   same-reach e e' = λ i. reach_of (accepts ((e' ∙ question) i)) ((e ∙ root) i)
@@ -43,21 +43,21 @@ module _ {T F E P S X : Type 0} (accepts : F → E → Bool) (selects : F → T 
 
 pub returns-then-leave-clause-steps : goal.returns-then-leave-clause-steps
 returns-then-leave-clause-steps g c =
-    gave g.Func.SelectionFunction.accepts g.Func.SelectionFunction.selects c.args.self.now c.loop-t.self c.leave.new.self c.loop-t.invariant.same c.loop-t.invariant.root c.loop-t.invariant.question
+    gave g.Func.Question.accepts g.Func.Question.selects c.args.self.now c.loop-t.self c.leave.new.self c.loop-t.invariant.same c.loop-t.invariant.root c.loop-t.invariant.question
     _ c.leave.result c.if-leave.true c.leave.ensures
 
 pub returns-then-not-back-clause-steps : goal.returns-then-not-back-clause-steps
 returns-then-not-back-clause-steps g c =
-    over g.Func.SelectionFunction.accepts g.Func.SelectionFunction.selects c.args.self.now c.loop-t.self c.back.new.self c.loop-t.invariant.same c.loop-t.invariant.root c.loop-t.invariant.question
+    over g.Func.Question.accepts g.Func.Question.selects c.args.self.now c.loop-t.self c.back.new.self c.loop-t.invariant.same c.loop-t.invariant.root c.loop-t.invariant.question
     (c.back.ensures.over c.if-not-back.true)
 
-passed : {T F E P S X : Type 0} (accepts : F → E → Bool) (selects : F → T → Bool) (mid new : SelectionIterator T F E P S X) (t : T) (b : Bool) → b ≡ false
+passed : {T F E : Type 0} (accepts : F → E → Bool) (selects : F → T → Bool) (mid new : SelectionIterator T F E) (t : T) (b : Bool) → b ≡ false
     → IsStep accepts selects mid (if b then t ∷ [] else []) new → IsStep accepts selects mid [] new
 passed accepts selects mid new t b h step = rw h at step
 
 pub loop-t-preserved-else-leave : goal.loop-t-preserved-else-leave
 loop-t-preserved-else-leave g c =
-    let step = passed g.Func.SelectionFunction.accepts g.Func.SelectionFunction.selects c.loop-t.self c.leave.new.self _ c.leave.result c.if-leave.false c.leave.ensures in
+    let step = passed g.Func.Question.accepts g.Func.Question.selects c.loop-t.self c.leave.new.self _ c.leave.result c.if-leave.false c.leave.ensures in
     let before = c.loop-t.invariant in
     record { walking = step.walking; same = before.same ∙ step.given; root = step.root ∙ before.root; question = step.question ∙ before.question }
 
@@ -75,7 +75,7 @@ loop-t-preserved g c =
 
 pub loop-t-smaller-else-leave : goal.loop-t-smaller-else-leave
 loop-t-smaller-else-leave g c =
-    (passed g.Func.SelectionFunction.accepts g.Func.SelectionFunction.selects c.loop-t.self c.leave.new.self _ c.leave.result c.if-leave.false c.leave.ensures).nearer
+    (passed g.Func.Question.accepts g.Func.Question.selects c.loop-t.self c.leave.new.self _ c.leave.result c.if-leave.false c.leave.ensures).nearer
 
 pub loop-t-smaller-in-Some-Parent-default : goal.loop-t-smaller-in-Some-Parent-default
 loop-t-smaller-in-Some-Parent-default g c = c.enter.ensures.nearer

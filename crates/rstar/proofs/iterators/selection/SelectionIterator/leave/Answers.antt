@@ -1,11 +1,11 @@
 use Rattle.std.proofs.Common.{refl, sym}
 use Rattle.rstar.proofs.Walks.{first-taken, way-take, given-leaf, reach-leaf, nearer-leaf}
-use Rattle.rstar.proofs.iterators.SelectionIterator.leave.Goals as goal
+use Rattle.rstar.proofs.iterators.selection.SelectionIterator.leave.Goals as goal
 
 pub returns : goal.returns
 returns g c =
-    let accepts = g.Func.SelectionFunction.accepts c.args.self.now.func in
-    let selects = g.Func.SelectionFunction.selects c.args.self.now.func in
+    let accepts = g.Func.Question.accepts c.args.self.now.func in
+    let selects = g.Func.Question.selects c.args.self.now.func in
     let t = c.args.t.now in
     let taken = first-taken c.args.self.now.path.items c.args.self.now.nodes c.args.rest c.requires.first in
     record {

@@ -6,13 +6,13 @@ use Rattle.rstar.specs.Walks.{IsLevel}
 use Rattle.rstar_base.proofs.Lists.{all_map}
 use Rattle.rstar.proofs.Heights.{levels_are}
 use Rattle.rstar.proofs.Walks.{tree-weaker, way-none, way-start, given-start, given-empty, given-refused, reach-asked, reach-refused, no-items, some-items}
-use Rattle.rstar.proofs.iterators.SelectionIterator.new.Goals as goal
-use Rattle.rstar.proofs.iterators.SelectionIterator.new.Goals.{then-is_empty-via-then-is_empty, then-is_empty-via-else-is_empty+then-not-should_unpack_parent}
+use Rattle.rstar.proofs.iterators.selection.SelectionIterator.new.Goals as goal
+use Rattle.rstar.proofs.iterators.selection.SelectionIterator.new.Goals.{then-is_empty-via-then-is_empty, then-is_empty-via-else-is_empty+then-not-should_unpack_parent}
 
 pub returns-then-is_empty-clause-walking : goal.returns-then-is_empty-clause-walking
 unfolding IsWalking
 returns-then-is_empty-clause-walking g c =
-    let accepts = g.Func.SelectionFunction.accepts c.args.func in
+    let accepts = g.Func.Question.accepts c.args.func in
     let root = c.args.root.now in
     let nothing : reach_of accepts root ≡ 0 = elim c.then-is_empty.branch [
       | then-is_empty-via-then-is_empty w ↦
@@ -25,9 +25,9 @@ returns-then-is_empty-clause-walking g c =
 pub returns-clause-walking : goal.returns-clause-walking
 unfolding IsWalking
 returns-clause-walking g c =
-    let accepts = g.Func.SelectionFunction.accepts c.args.func in
-    let v = g.T.Envelope.Envelope.boxes in
-    let o = g.T.RTreeObject.object in
+    let accepts = g.Func.Question.accepts c.args.func in
+    let v = g.T.Cover.Merges.boxes in
+    let o = g.T.Covered.object in
     let root = c.args.root.now in
     let h = c.requires.whole.height in
     let some = some-items (children_of root) _ _ c.is_empty.ensures c.if-is_empty.false root.children.ok.0 in
@@ -39,7 +39,7 @@ returns-clause-walking g c =
 
 pub returns-clause-made : goal.returns-clause-made
 returns-clause-made g c =
-    let accepts = g.Func.SelectionFunction.accepts c.args.func in
+    let accepts = g.Func.Question.accepts c.args.func in
     let root = c.args.root.now in
     let some = some-items (children_of root) _ _ c.is_empty.ensures c.if-is_empty.false root.children.ok.0 in
     let asked = reach-asked accepts (envelope_of root) (children_of root) some (sym c.should_unpack_parent.ensures ∙ c.if-not-should_unpack_parent.false) in
@@ -48,8 +48,8 @@ returns-clause-made g c =
 pub returns-then-is_empty-clause-gives : goal.returns-then-is_empty-clause-gives
 unfolding to_come
 returns-then-is_empty-clause-gives g c =
-    let accepts = g.Func.SelectionFunction.accepts c.args.func in
-    let selects = g.Func.SelectionFunction.selects c.args.func in
+    let accepts = g.Func.Question.accepts c.args.func in
+    let selects = g.Func.Question.selects c.args.func in
     let root = c.args.root.now in
     let nothing : given_of accepts selects root ≡ [] = elim c.then-is_empty.branch [
       | then-is_empty-via-then-is_empty w ↦

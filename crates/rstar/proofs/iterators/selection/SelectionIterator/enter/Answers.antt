@@ -1,12 +1,12 @@
 use Rattle.std.proofs.Common.{◌∷◌, [], ◌∙◌, sym, refl, arith, inl, inr, length-append}
 use Rattle.rstar.proofs.Walks.{IsKept, first-taken, no-items, way-take, way-opened, given-passed, given-opened, reach-passed, nearer-passed, nearer-opened, room-opened}
-use Rattle.rstar.proofs.iterators.SelectionIterator.enter.Goals as goal
-use Rattle.rstar.proofs.iterators.SelectionIterator.enter.Goals.{then-not-is_empty, else-not-is_empty}
+use Rattle.rstar.proofs.iterators.selection.SelectionIterator.enter.Goals as goal
+use Rattle.rstar.proofs.iterators.selection.SelectionIterator.enter.Goals.{then-not-is_empty, else-not-is_empty}
 
 pub returns-then-not-should_unpack_parent : goal.returns-then-not-should_unpack_parent
 returns-then-not-should_unpack_parent g c =
-    let accepts = g.Func.SelectionFunction.accepts c.args.self.now.func in
-    let selects = g.Func.SelectionFunction.selects c.args.self.now.func in
+    let accepts = g.Func.Question.accepts c.args.self.now.func in
+    let selects = g.Func.Question.selects c.args.self.now.func in
     let p = c.args.parent.now in
     let taken = first-taken c.args.self.now.path.items c.args.self.now.nodes c.args.rest c.requires.first in
     let refused = sym c.should_unpack_parent.ensures ∙ c.if-not-should_unpack_parent.true in
@@ -20,7 +20,7 @@ returns-then-not-should_unpack_parent g c =
 
 pub push_reserved-requires : goal.push_reserved-requires
 push_reserved-requires g c =
-    let accepts = g.Func.SelectionFunction.accepts c.args.self.now.func in
+    let accepts = g.Func.Question.accepts c.args.self.now.func in
     let taken = first-taken c.args.self.now.path.items c.args.self.now.nodes c.args.rest c.requires.first in
     let room = room-opened accepts c.args.self.now.root.now c.args.parent.now taken refl c.requires.way in
     let long = length-append c.args.self.now.path.items (c.args.rest ∷ []) in
@@ -28,8 +28,8 @@ push_reserved-requires g c =
 
 pub returns : goal.returns
 returns g c =
-    let accepts = g.Func.SelectionFunction.accepts c.args.self.now.func in
-    let selects = g.Func.SelectionFunction.selects c.args.self.now.func in
+    let accepts = g.Func.Question.accepts c.args.self.now.func in
+    let selects = g.Func.Question.selects c.args.self.now.func in
     let path = c.args.self.now.path.items in
     let p = c.args.parent.now in
     let children = c.as_slice-self.result in

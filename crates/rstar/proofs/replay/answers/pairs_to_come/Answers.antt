@@ -1,0 +1,27 @@
+use Rattle.std.proofs.Common.{◌≡◌, ◌∙◌, ◌∷◌, [], ◌++◌, ap, append_assoc, append-nil, arith, length, sym}
+use Rattle.rstar.specs.Joins.{pairs_to_come}
+use Rattle.rstar.proofs.replay.answers.pairs_to_come.Goals as goal
+
+pub loop-t-init : goal.loop-t-init
+loop-t-init g c = record {
+  joining = c.requires.joining;
+  rest = ap (λ ps. ps ++ pairs_to_come g.U.Meets.meets g.T.Covered.object.box_of g.U.Covered.object.box_of c.args.walk) c.new-pairs.ensures.items;
+}
+
+pub loop-t-smaller : goal.loop-t-smaller
+loop-t-smaller g c = let less = ap length c.in-Some.ensures.steps.gives in omega arith
+
+pub loop-t-preserved : goal.loop-t-preserved
+loop-t-preserved g c =
+    let left : c.in_ok-left.left ≡ c.in-Some.t.now = c.requires.left _ _ c.in_ok-left.ensures.cases in
+    let right : c.in_ok-clone.field-0 ≡ c.in-Some.u.now = c.requires.right _ _ c.in_ok-clone.ensures.cases in
+    let more = pairs_to_come g.U.Meets.meets g.T.Covered.object.box_of g.U.Covered.object.box_of c.next.new.self in
+    record {
+      joining = c.in-Some.ensures.steps.joining;
+      rest = ap (λ ps. ps ++ more) c.in_ok-push.ensures.items ∙ append_assoc c.loop-t.pairs.items ((c.in_ok-left.left, c.in_ok-clone.field-0) ∷ []) more
+          ∙ ap (λ t. c.loop-t.pairs.items ++ (t, c.in_ok-clone.field-0) ∷ more) left ∙ ap (λ u. c.loop-t.pairs.items ++ (c.in-Some.t.now, u) ∷ more) right
+          ∙ ap (λ ps. c.loop-t.pairs.items ++ ps) (sym c.in-Some.ensures.steps.gives) ∙ c.loop-t.invariant.rest;
+    }
+
+pub returns : goal.returns
+returns g c = sym (append-nil c.loop-t.pairs.items) ∙ ap (λ ps. c.loop-t.pairs.items ++ ps) (sym c.in_default.ensures.steps.gives.0) ∙ c.loop-t.invariant.rest

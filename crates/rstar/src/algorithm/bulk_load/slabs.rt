@@ -1,0 +1,63 @@
+//! What a load asks of its elements, beside their envelopes: it cuts them along the axes of their points.
+
+ghost use Rattle.std.specs.List.{AllByRecursion};
+ghost use Rattle.std.specs.Prelude.{◌≡◌, ℕ, ◌<◌, ◌≤◌, max, length};
+ghost use Rattle.rstar_base.specs.Clusters.{IsClusterNumber};
+ghost use Rattle.rstar_base.specs.Hulls.{hull};
+ghost use Rattle.rstar.specs.Loads.{CutsSlab};
+
+use crate::algorithm::bulk_load::{depth, parts};
+use crate::needs::{Covered, Merges};
+use rstar_base::envelope::Envelope;
+use rstar_base::object::{self, RTreeObject};
+use rstar_base::params::RTreeParams;
+use rstar_base::point::Point;
+
+/// An element that a load cuts off in slabs.
+pub trait InSlabs: Covered {
+    ghost axes: { ℕ };
+
+    /// How many axes there are.
+    fn axes() -> usize
+        ensures { result ≡ axes };
+
+    /// The merge of the envelopes of all elements, each asked once; of none, the empty envelope.
+    fn envelope_of_all(list: &[Self]) -> Self::Cover
+        ensures hull { result ≡ hull Self.Cover.boxes Self.object.box_of list.now }
+        ensures own { AllByRecursion Self.object.IsValue list.now };
+
+    /// Brings the next slab of the last `rest` elements to the end of the list.
+    fn cut_slab(axis: usize, list: &mut Vec<Self>, rest: usize, size: usize) -> usize
+        requires axis { axis < axes }
+        requires some { 0 < size }
+        requires within { rest ≤ length list.old.items }
+        ensures { CutsSlab (λ t. Self.Cover.boxes.axis_key (Self.object.box_of t) axis) size rest list.old.items result
+            list.new.items };
+
+    /// How many slabs so many elements are cut in on each axis.
+    fn slabs_on_axis<Params: RTreeParams>(n: usize) -> usize
+        requires large { Params.MAX_SIZE < n }
+        requires axes { 2 ≤ axes }
+        ensures least { 2 ≤ result }
+        ensures number { (c : ℕ) × IsClusterNumber Params.MAX_SIZE axes n c × (result ≡ max c 2) };
+}
+
+impl<T: RTreeObject> InSlabs for T {
+    ghost axes = { T.Envelope.Point.DIMENSIONS };
+
+    fn axes() -> usize {
+        <<T::Envelope as Envelope>::Point as Point>::DIMENSIONS
+    }
+
+    fn envelope_of_all(list: &[T]) -> T::Envelope {
+        object::envelope_of_all(list)
+    }
+
+    fn cut_slab(axis: usize, list: &mut Vec<T>, rest: usize, size: usize) -> usize {
+        parts::cut_slab(axis, list, rest, size)
+    }
+
+    fn slabs_on_axis<Params: RTreeParams>(n: usize) -> usize {
+        depth::slabs_on_axis::<T, Params>(n)
+    }
+}

@@ -1,0 +1,64 @@
+//! What an insertion asks of its elements, beside their envelopes: the measures by which it chooses among nodes, and sorts
+//! and cuts them, go by their points.
+
+ghost use Rattle.std.specs.Prelude.{◌≡◌, ◌+◌, ◌<◌, ◌≤◌, [], ◌++◌, length, vec_len, vec_capacity};
+ghost use Rattle.std.specs.List.Sorted.{IsPermutation};
+
+use crate::algorithm::rstar::{choose, reinsertion, split};
+use crate::needs::Covered;
+use crate::node::RTreeNode;
+use rstar_base::envelope::Envelope;
+use rstar_base::object::RTreeObject;
+use rstar_base::params::RTreeParams;
+
+/// An element that an insertion places.
+pub trait Placed: Covered {
+    /// The place of the child that an element with this envelope goes into.
+    fn choose_subtree(
+        children: &[RTreeNode<Self>],
+        envelope: &Self::Cover,
+        above_leaves: bool,
+    ) -> usize
+        requires { 0 < length children.now }
+        ensures { result < length children.now };
+
+    /// Cuts a list of nodes in two, each part with at least the least number.
+    fn split_in_place<Params: RTreeParams>(
+        list: &mut Vec<RTreeNode<Self>>,
+        spare: &mut Vec<RTreeNode<Self>>,
+    )
+        requires many { Params.MAX_SIZE < vec_len list.old }
+        requires empty { spare.old.items ≡ [] }
+        requires room { vec_len list.old ≤ vec_capacity spare.old + Params.MIN_SIZE }
+        ensures same { IsPermutation list.old.items (list.new.items ++ spare.new.items) }
+        ensures lengths { vec_len list.new + vec_len spare.new ≡ vec_len list.old }
+        ensures first { Params.MIN_SIZE ≤ vec_len list.new }
+        ensures second { Params.MIN_SIZE ≤ vec_len spare.new }
+        ensures first_capacity { vec_capacity list.new ≡ vec_capacity list.old }
+        ensures second_capacity { vec_capacity spare.old ≤ vec_capacity spare.new };
+
+    /// Sorts nodes by the distances of their envelopes' centers from that of an envelope.
+    fn sort_by_distance(list: &mut [RTreeNode<Self>], envelope: &Self::Cover)
+        ensures { IsPermutation list.old list.new };
+}
+
+impl<T: RTreeObject> Placed for T {
+    fn choose_subtree(
+        children: &[RTreeNode<T>],
+        envelope: &T::Envelope,
+        above_leaves: bool,
+    ) -> usize {
+        choose::choose_subtree(children, envelope, above_leaves)
+    }
+
+    fn split_in_place<Params: RTreeParams>(
+        list: &mut Vec<RTreeNode<T>>,
+        spare: &mut Vec<RTreeNode<T>>,
+    ) {
+        split::split_in_place::<_, Params>(list, spare);
+    }
+
+    fn sort_by_distance(list: &mut [RTreeNode<T>], envelope: &T::Envelope) {
+        reinsertion::sort_by_distance(list, &envelope.center());
+    }
+}

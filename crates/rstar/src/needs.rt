@@ -1,0 +1,135 @@
+//! What the steps of a tree ask of the types that they go through: of an envelope, of an element, and of a question.
+//!
+//! An element type brings the traits of its envelope, its point and its scalar, some sixty, and a check of a function
+//! carries all of them through each of its steps. So what goes through nodes asks for these alone; each public type has
+//! them by what it is.
+
+ghost use Rattle.std.specs.Prelude.{◌≡◌, ℤ, List, Bool, false};
+ghost use Rattle.rstar_base.specs.Elements.{Objects, ObjectLaws};
+ghost use Rattle.rstar_base.specs.Envelopes.{Boxes, EnvelopeLaws};
+ghost use Rattle.rstar_base.specs.Points.{IsPoint};
+
+use rstar_base::algorithm::selection_functions::SelectionFunction;
+use rstar_base::envelope::{Envelope, copied_envelope};
+use rstar_base::object::RTreeObject;
+use std::fmt::Debug;
+
+/// An envelope that is merged and compared.
+pub trait Merges: Debug + Drop {
+    ghost boxes: { Boxes Self };
+
+    // Which lists of numbers are points.
+    ghost is_point: { List ℤ → Type 0 };
+
+    /// The envelope of nothing.
+    fn new_empty() -> Self
+        ensures { result ≡ boxes.empty };
+
+    /// Takes another envelope into this one.
+    fn merge(&mut self, other: &Self)
+        ensures merged { self.new ≡ boxes.merge self.old other.now }
+        ensures own { boxes.IsValue self.old × boxes.IsValue other.now };
+
+    /// The merge of two envelopes.
+    fn merged(&self, other: &Self) -> Self
+        ensures merged { result ≡ boxes.merge self.now other.now }
+        ensures own { boxes.IsValue self.now × boxes.IsValue other.now };
+
+    /// A copy.
+    fn copied(&self) -> Self
+        ensures same { result ≡ self.now }
+        ensures own { boxes.IsValue self.now };
+
+    /// Whether two envelopes are not the same.
+    fn differs(&self, other: &Self) -> bool
+        ensures { result ≡ false → self.now ≡ other.now };
+
+    ghost merge_laws: { EnvelopeLaws is_point boxes };
+}
+
+impl<E: Envelope> Merges for E {
+    ghost boxes = { E.boxes };
+
+    ghost is_point = { IsPoint E.Point.Scalar.low E.Point.Scalar.high E.Point.DIMENSIONS };
+
+    fn new_empty() -> E {
+        <E as Envelope>::new_empty()
+    }
+
+    fn merge(&mut self, other: &E) {
+        Envelope::merge(self, other)
+    }
+
+    fn merged(&self, other: &E) -> E {
+        Envelope::merged(self, other)
+    }
+
+    fn copied(&self) -> E {
+        copied_envelope(self)
+    }
+
+    fn differs(&self, other: &E) -> bool {
+        // Each call attests its envelope, so that `==` is equality, and costs nothing where no one asks for its answer.
+        let _one = self.is_empty();
+        let _other = other.is_empty();
+        *self != *other
+    }
+
+    ghost merge_laws = { E.envelope_laws };
+}
+
+/// An element with an envelope.
+pub trait Covered: Drop {
+    /// The type of its envelope.
+    type Cover: Merges;
+
+    ghost object: { Objects Self Self.Cover };
+
+    /// Its envelope.
+    fn envelope(&self) -> Self::Cover
+        ensures value { result ≡ object.box_of self.now }
+        ensures own { object.IsValue self.now };
+
+    ghost cover_law: { ObjectLaws Self.Cover.boxes object };
+}
+
+impl<T: RTreeObject> Covered for T {
+    type Cover = T::Envelope;
+
+    ghost object = { T.object };
+
+    fn envelope(&self) -> T::Envelope {
+        RTreeObject::envelope(self)
+    }
+
+    ghost cover_law = { T.object_law };
+}
+
+/// A question that a walk is asked.
+pub trait Question<T: Covered>: Drop {
+    ghost accepts: { Self → T.Cover → Bool };
+
+    ghost selects: { Self → T → Bool };
+
+    /// Whether the children of a parent with this envelope are looked at.
+    fn should_unpack_parent(&self, envelope: &T::Cover) -> bool
+        ensures { result ≡ accepts self.now envelope.now };
+
+    /// Whether the element is given.
+    fn should_unpack_leaf(&self, leaf: &T) -> bool
+        ensures { result ≡ selects self.now leaf.now };
+}
+
+impl<T: RTreeObject, F: SelectionFunction<T>> Question<T> for F {
+    ghost accepts = { F.accepts };
+
+    ghost selects = { F.selects };
+
+    fn should_unpack_parent(&self, envelope: &T::Envelope) -> bool {
+        SelectionFunction::should_unpack_parent(self, envelope)
+    }
+
+    fn should_unpack_leaf(&self, leaf: &T) -> bool {
+        SelectionFunction::should_unpack_leaf(self, leaf)
+    }
+}
