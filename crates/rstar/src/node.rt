@@ -6,7 +6,7 @@ ghost use Rattle.rstar_base.specs.Hulls.{hull};
 ghost use Rattle.rstar.specs.Nodes.{node_box, is_leaf_node, children_of, envelope_of};
 
 use crate::needs::{Covered, Merges};
-use rstar_base::envelope::{Envelope, copied_envelope};
+use rstar_base::envelope::Envelope;
 use rstar_base::object::{Distance, RTreeObject};
 
 /// A node of a tree: one element, or a parent.
@@ -40,6 +40,18 @@ impl<T: Covered> RTreeNode<T> {
         match self {
             RTreeNode::Leaf(_) => true,
             RTreeNode::Parent(_) => false,
+        }
+    }
+
+    /// The envelope of its element, or the one that the parent keeps.
+    #[tactic(auto, unfolding(crate::specs::Nodes::node_box, crate::specs::Nodes::fold_tree))]
+    pub(crate) fn cover(&self) -> T::Cover
+        ensures value { result ≡ node_box T.object.box_of self.now }
+        ensures own { T.Cover.boxes.IsValue (node_box T.object.box_of self.now) }
+    {
+        match self {
+            RTreeNode::Leaf(t) => t.envelope(),
+            RTreeNode::Parent(parent) => parent.envelope.copied(),
         }
     }
 }
@@ -101,20 +113,6 @@ impl<T: Covered> ParentNode<T> {
     }
 }
 
-impl<T: Covered> RTreeNode<T> {
-    /// The envelope of its element, or the one that the parent keeps.
-    #[tactic(auto, unfolding(crate::specs::Nodes::node_box, crate::specs::Nodes::fold_tree))]
-    pub(crate) fn cover(&self) -> T::Cover
-        ensures value { result ≡ node_box T.object.box_of self.now }
-        ensures own { T.Cover.boxes.IsValue (node_box T.object.box_of self.now) }
-    {
-        match self {
-            RTreeNode::Leaf(t) => t.envelope(),
-            RTreeNode::Parent(parent) => parent.envelope.copied(),
-        }
-    }
-}
-
 impl<T: RTreeObject> RTreeObject for RTreeNode<T> {
     type Envelope = T::Envelope;
 
@@ -126,12 +124,8 @@ impl<T: RTreeObject> RTreeObject for RTreeNode<T> {
       box_of = node_box T.object.box_of;
     } };
 
-    #[tactic(auto, unfolding(crate::specs::Nodes::node_box, crate::specs::Nodes::fold_tree))]
     fn envelope(&self) -> T::Envelope {
-        match self {
-            RTreeNode::Leaf(t) => t.envelope(),
-            RTreeNode::Parent(parent) => copied_envelope(&parent.envelope),
-        }
+        self.cover()
     }
 
     #[tactic(auto, unfolding(crate::specs::Nodes::node_box, crate::specs::Nodes::fold_tree))]

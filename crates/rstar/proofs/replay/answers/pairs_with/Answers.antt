@@ -11,6 +11,6 @@ pub returns : goal.returns
 returns g c =
     let meets = g.T.Envelope.Envelope.boxes.intersects in
     let box = g.T.RTreeObject.object.box_of in
-    IfOk-weaker c.pairs_to_come.result _ _ (λ pairs given.
+    IfOk-weaker c.clones_of_pairs.result _ _ (λ pairs given.
     subst (IsPermutation (join meets box box (elements_in c.args.tree.now) c.args.list.items)) (sym given)
-    (IsPermutation-trans _ _ _ (join-along meets box box (elements_in c.args.tree.now) c.args.list.items (elements_in c.in_ok-other.other) c.in_ok-other.ensures.same) (IsPermutation-sym _ _ c.in_ok-intersection_candidates_with_other_tree.ensures.all))) c.pairs_to_come.ensures
+    (IsPermutation-trans _ _ _ (join-along meets box box (elements_in c.args.tree.now) c.args.list.items (elements_in c.in_ok-other.other) c.in_ok-other.ensures.same) (IsPermutation-sym _ _ c.in_ok-intersection_candidates_with_other_tree.ensures.all))) c.clones_of_pairs.ensures

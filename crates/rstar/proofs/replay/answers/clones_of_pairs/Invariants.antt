@@ -1,6 +1,6 @@
 use Rattle.std.proofs.Common.{◌≡◌, ◌++◌, length}
 use Rattle.rstar.specs.Joins.{pairs_to_come, IsJoining}
-use Rattle.rstar.proofs.replay.answers.pairs_to_come.Given as goal
+use Rattle.rstar.proofs.replay.answers.clones_of_pairs.Given as goal
 
 -- clones of what was given, and what is still to come
 abbrev pub invariant-loop-t : goal.invariant-loop-t

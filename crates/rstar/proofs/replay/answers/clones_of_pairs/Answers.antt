@@ -1,6 +1,6 @@
 use Rattle.std.proofs.Common.{◌≡◌, ◌∙◌, ◌∷◌, [], ◌++◌, ap, append_assoc, append-nil, arith, length, sym}
 use Rattle.rstar.specs.Joins.{pairs_to_come}
-use Rattle.rstar.proofs.replay.answers.pairs_to_come.Goals as goal
+use Rattle.rstar.proofs.replay.answers.clones_of_pairs.Goals as goal
 
 pub loop-t-init : goal.loop-t-init
 loop-t-init g c = record {
