@@ -13,7 +13,6 @@ use crate::node::{ParentNode, RTreeNode};
 use rstar_base::algorithm::selection_functions::SelectionFunction;
 use rstar_base::envelope::Envelope;
 use rstar_base::object::RTreeObject;
-use rstar_base::point::{Point, RTreeNum};
 use std::ops::ControlFlow;
 
 /// What a walk does at the first of some nodes.

@@ -6,7 +6,6 @@ ghost use Rattle.rstar.specs.Loaded.{IsPartSize, IsLoadDepth, GoesDeep, EndsAt};
 ghost use Rattle.rstar.specs.Loads.{part_bound};
 
 use crate::algorithm::bulk_load::slabs::InSlabs;
-use crate::needs::Merges;
 use rstar_base::clusters::calculate_number_of_clusters_on_axis;
 use rstar_base::envelope::Envelope;
 use rstar_base::object::RTreeObject;
