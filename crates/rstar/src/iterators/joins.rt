@@ -10,7 +10,7 @@ ghost use Rattle.rstar.specs.Meets.{opened_to, both_leaves, pairs_from_roots};
 ghost use Rattle.rstar.specs.JoinWalks.{marked_items, with_marks, rows_beside, IsFirstPair, IsSingle, HasItsPaths, IsPairStep};
 ghost use Rattle.rstar.specs.Joins.{SeenLaws, meets_by, pairs_opened, pairs_to_come, IsJoinMade, IsJoining, GivesPair};
 
-use crate::needs::{Covered, Merges};
+use crate::needs::Covered;
 use crate::node::{ParentNode, RTreeNode};
 use crate::path::Path;
 use rstar_base::envelope::Envelope;

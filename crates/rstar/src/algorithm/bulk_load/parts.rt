@@ -13,7 +13,7 @@ ghost use Rattle.rstar.specs.Loaded.{IsPartSize, GoesDeep};
 ghost use Rattle.rstar.specs.Loads.{AddsParts, CutsSlab, IsFresh, IsFreshNode, front_of, last_of};
 
 use crate::algorithm::bulk_load::slabs::InSlabs;
-use crate::needs::{Covered, Merges};
+use crate::needs::Covered;
 use crate::node::{ParentNode, RTreeNode, envelope_for_children};
 use rstar_base::envelope::Envelope;
 use rstar_base::object::{RTreeObject, partition_envelopes};
