@@ -7,10 +7,8 @@ ghost use Rattle.rstar.specs.Loads.{part_bound};
 
 use crate::algorithm::bulk_load::slabs::InSlabs;
 use rstar_base::clusters::calculate_number_of_clusters_on_axis;
-use rstar_base::envelope::Envelope;
 use rstar_base::object::RTreeObject;
 use rstar_base::params::RTreeParams;
-use rstar_base::point::Point;
 
 /// Into how many slabs a node of `n` elements is cut along each axis.
 pub(crate) fn slabs_on_axis<T: RTreeObject, Params: RTreeParams>(n: usize) -> usize

@@ -15,10 +15,8 @@ ghost use Rattle.rstar.specs.Loads.{AddsParts, CutsSlab, IsFresh, IsFreshNode, f
 use crate::algorithm::bulk_load::slabs::InSlabs;
 use crate::needs::Covered;
 use crate::node::{ParentNode, RTreeNode, envelope_for_children};
-use rstar_base::envelope::Envelope;
 use rstar_base::object::{RTreeObject, partition_envelopes};
 use rstar_base::params::RTreeParams;
-use rstar_base::point::Point;
 use std::alloc::AllocError;
 
 /// Each element as a leaf.
