@@ -27,12 +27,14 @@ LEFT_OUT = {
     "Covered": "its module is private",
     "InSlabs": "its module is private",
     "Look": "its module is private",
+    "Measured": "its module is private",
     "Meets": "its module is private",
     "Merges": "its module is private",
     "NodesRef": "its module is private",
     "Placed": "its module is private",
     "Question": "its module is private",
     "Rest": "its module is private",
+    "SquaredDistance": "its module is private",
     "OrderedDistances": "a law alone, which no other file names",
 }
 

@@ -1,6 +1,6 @@
 //! Joins: the pairs of elements of two trees whose envelopes intersect, by a walk through both trees together.
 
-ghost use Rattle.std.specs.Prelude.{Bool, ◌≡◌, ◌+◌, ◌-◌, ◌*◌, ◌^◌, ◌<◌, ◌≤◌, [], max, false, refl, IsOk, IfOk, IfSome, IfNone, filter, map, flat_map, length, take, if◌then◌else◌};
+ghost use Rattle.std.specs.Prelude.{◌≡◌, ◌+◌, ◌-◌, ◌*◌, ◌^◌, ◌<◌, ◌≤◌, [], max, false, refl, IsOk, IfOk, IfSome, IfNone, filter, map, flat_map, length, take, if◌then◌else◌};
 ghost use Rattle.std.specs.Iterator.{item_count};
 ghost use Rattle.rstar.specs.declared.node.RTreeNode.{Leaf};
 ghost use Rattle.rstar.specs.Heights.{levels_below};
@@ -62,19 +62,24 @@ impl<T: RTreeObject> InEnvelope<T::Envelope> for T {
 
 /// What a walk of two trees asks of the elements of the second: whether an envelope of the first intersects one of theirs.
 pub trait Meets<T: Covered>: Covered {
-    ghost meets: { T.Cover → Self.Cover → Bool };
+    // The envelope, as one of the first's type.
+    ghost seen: { Self.Cover → T.Cover };
 
     /// Whether they intersect.
     fn meet(envelope: &T::Cover, other: &Self::Cover) -> bool
-        ensures { result ≡ meets envelope.now other.now };
+        ensures { result ≡ meets_by T.Cover.boxes seen envelope.now other.now };
+
+    ghost seen_laws: { SeenLaws Self.Cover.boxes T.Cover.boxes seen };
 }
 
 impl<T: RTreeObject, U: InEnvelope<T::Envelope>> Meets<T> for U {
-    ghost meets = { meets_by T.Envelope.boxes U.seen };
+    ghost seen = { U.seen };
 
     fn meet(envelope: &T::Envelope, other: &U::Envelope) -> bool {
         envelope.intersects(U::seen(other))
     }
+
+    ghost seen_laws = { U.seen_laws };
 }
 
 /// How many pairs are asked at once, with a mark for each.
@@ -167,7 +172,7 @@ fn opened_nodes<'a, T: Covered>(nodes: &'a [RTreeNode<T>]) -> &'a [RTreeNode<T>]
 /// Whether an envelope intersects that of a node.
 #[tactic(auto, unfolding(crate::specs::Nodes::node_box, crate::specs::Nodes::fold_tree))]
 fn meets_node<T: Covered, U: Meets<T>>(envelope: &T::Cover, node: &RTreeNode<U>) -> bool
-    ensures { result ≡ U.meets envelope.now (node_box U.object.box_of node.now) }
+    ensures { result ≡ meets_by T.Cover.boxes U.seen envelope.now (node_box U.object.box_of node.now) }
 {
     match node {
         RTreeNode::Leaf(u) => U::meet(envelope, &u.envelope()),
@@ -192,7 +197,7 @@ fn row_marks<T: Covered, U: Meets<T>>(
     others: u64,
 ) -> u64
     ensures { length nodes.now ≤ 64 → others < 2 ^ (64 - length nodes.now) → result ≡ with_marks
-        (map (λ n. U.meets envelope.now (node_box U.object.box_of n)) nodes.now) others }
+        (map (λ n. meets_by T.Cover.boxes U.seen envelope.now (node_box U.object.box_of n)) nodes.now) others }
 {
     let mut marks = others;
     let mut rest = nodes;
@@ -206,7 +211,7 @@ fn row_marks<T: Covered, U: Meets<T>>(
 /// Marks for those pairs of nodes that meet, where they are at most 64.
 fn marks_of<T: Covered, U: Meets<T>>(lefts: &[RTreeNode<T>], rights: &[RTreeNode<U>]) -> u64
     ensures { length lefts.now * length rights.now ≤ 64 → marked_items result (product lefts.now rights.now)
-        ≡ filter (λ p. U.meets (node_box T.object.box_of p.0) (node_box U.object.box_of p.1))
+        ≡ filter (λ p. meets_by T.Cover.boxes U.seen (node_box T.object.box_of p.0) (node_box U.object.box_of p.1))
         (product lefts.now rights.now) }
 {
     let mut marks = 0;
@@ -267,7 +272,7 @@ fn two_leaves<'a, T: Covered, U: Covered>(
     }
 }
 
-impl<'a, T: RTreeObject, U: InEnvelope<T::Envelope>> IntersectionIterator<'a, T, U> {
+impl<'a, T: Covered, U: Meets<T>> IntersectionIterator<'a, T, U> {
     /// A join of what is below two roots, where the higher has so many levels of parents below it.
     #[tactic(auto, unfolding(crate::specs::Joins::pairs_to_come, crate::specs::Joins::IsJoining))]
     pub(crate) fn new(
@@ -275,17 +280,15 @@ impl<'a, T: RTreeObject, U: InEnvelope<T::Envelope>> IntersectionIterator<'a, T,
         right: &'a ParentNode<U>,
         levels: usize,
     ) -> Result<Self, AllocError>
-        requires left { IsWhole T.Envelope.boxes T.object left.now }
-        requires right { IsWhole U.Envelope.boxes U.object right.now }
+        requires left { IsWhole T.Cover.boxes T.object left.now }
+        requires right { IsWhole U.Cover.boxes U.object right.now }
         requires levels { levels ≡ max (levels_below (children_of left.now)) (levels_below (children_of right.now)) }
-        ensures gives { IfOk result (λ it. pairs_to_come (meets_by T.Envelope.boxes U.seen)
-            T.object.box_of U.object.box_of it
-            ≡ pairs_from_roots (meets_by T.Envelope.boxes U.seen)
-            T.object.box_of U.object.box_of left.now right.now) }
-        ensures made { IfOk result (λ it. IsJoinMade (meets_by T.Envelope.boxes U.seen)
-            T.object.box_of U.object.box_of left.now right.now it) }
-        ensures joining { IfOk result (λ it. IsJoining (meets_by T.Envelope.boxes U.seen)
-            T.object.box_of U.object.box_of it) }
+        ensures gives { IfOk result (λ it. pairs_to_come (meets_by T.Cover.boxes U.seen) T.object.box_of U.object.box_of
+            it ≡ pairs_from_roots (meets_by T.Cover.boxes U.seen) T.object.box_of U.object.box_of left.now right.now) }
+        ensures made { IfOk result (λ it. IsJoinMade (meets_by T.Cover.boxes U.seen) T.object.box_of U.object.box_of
+            left.now right.now it) }
+        ensures joining { IfOk result (λ it. IsJoining (meets_by T.Cover.boxes U.seen) T.object.box_of U.object.box_of
+            it) }
         ensures near { levels ≤ 12 → IsOk result }
     {
         let lefts = &left.children[..0];
@@ -299,7 +302,7 @@ impl<'a, T: RTreeObject, U: InEnvelope<T::Envelope>> IntersectionIterator<'a, T,
         };
         let path = Path::with_room(*left.children.allocator(), blank, levels)?;
         let empty = left.children.is_empty() || right.children.is_empty();
-        if empty || !left.envelope.intersects(U::seen(&right.envelope)) {
+        if empty || !U::meet(&left.envelope, &right.envelope) {
             return Ok(IntersectionIterator {
                 left,
                 right,
@@ -325,9 +328,6 @@ impl<'a, T: RTreeObject, U: InEnvelope<T::Envelope>> IntersectionIterator<'a, T,
             opened: 1,
         })
     }
-}
-
-impl<'a, T: Covered, U: Meets<T>> IntersectionIterator<'a, T, U> {
     /// How many pairs of nodes were opened so far, the pair of roots among them, held at the greatest `usize`. At the
     /// end these are the pairs of nodes that meet, those of two leaves left out; an empty root is never asked.
     pub fn opened(&self) -> usize
@@ -339,9 +339,8 @@ impl<'a, T: Covered, U: Meets<T>> IntersectionIterator<'a, T, U> {
     /// Reads a pair that meets, or asks the next ones; or goes on with the next nodes on the left; or goes back to what
     /// was left last.
     fn step(&mut self) -> PairStep<'a, T, U>
-        requires { HasItsPaths U.meets T.object.box_of U.object.box_of self.old }
-        ensures { IsPairStep U.meets T.object.box_of U.object.box_of
-            self.old result self.new }
+        requires { HasItsPaths (meets_by T.Cover.boxes U.seen) T.object.box_of U.object.box_of self.old }
+        ensures { IsPairStep (meets_by T.Cover.boxes U.seen) T.object.box_of U.object.box_of self.old result self.new }
     {
         if self.lefts.is_empty() {
             return self.go_back();
@@ -371,11 +370,10 @@ impl<'a, T: Covered, U: Meets<T>> IntersectionIterator<'a, T, U> {
         rights: &'a [RTreeNode<U>],
         marks: u64,
     ) -> PairStep<'a, T, U>
-        requires paths { HasItsPaths U.meets T.object.box_of U.object.box_of self.old }
+        requires paths { HasItsPaths (meets_by T.Cover.boxes U.seen) T.object.box_of U.object.box_of self.old }
         requires met { IsFirstPair (take (rows_beside self.old.rights.now) self.old.lefts.now) self.old.asked.now
             self.old.marks lefts.now rights.now marks }
-        ensures { IsPairStep U.meets T.object.box_of U.object.box_of
-            self.old result self.new }
+        ensures { IsPairStep (meets_by T.Cover.boxes U.seen) T.object.box_of U.object.box_of self.old result self.new }
     {
         let Some((left, _under)) = lefts.split_first() else {
             return PairStep::Ended;
@@ -404,10 +402,9 @@ impl<'a, T: Covered, U: Meets<T>> IntersectionIterator<'a, T, U> {
 
     /// Goes back to what was left last, where nothing is left in hand.
     fn go_back(&mut self) -> PairStep<'a, T, U>
-        requires paths { HasItsPaths U.meets T.object.box_of U.object.box_of self.old }
+        requires paths { HasItsPaths (meets_by T.Cover.boxes U.seen) T.object.box_of U.object.box_of self.old }
         requires none { self.old.lefts.now ≡ [] }
-        ensures { IsPairStep U.meets T.object.box_of U.object.box_of
-            self.old result self.new }
+        ensures { IsPairStep (meets_by T.Cover.boxes U.seen) T.object.box_of U.object.box_of self.old result self.new }
     {
         let Some(frame) = self.path.pop() else {
             return PairStep::Ended;
@@ -424,11 +421,11 @@ impl<'a, T: Covered, U: Meets<T>> IntersectionIterator<'a, T, U> {
 impl<'a, T: Covered, U: Meets<T>> Iterator for IntersectionIterator<'a, T, U> {
     type Item = (&'a T, &'a U);
 
-    ghost can_next = { IsJoining U.meets T.object.box_of U.object.box_of };
+    ghost can_next = { IsJoining (meets_by T.Cover.boxes U.seen) T.object.box_of U.object.box_of };
 
-    ghost next_gives = { GivesPair U.meets T.object.box_of U.object.box_of };
+    ghost next_gives = { GivesPair (meets_by T.Cover.boxes U.seen) T.object.box_of U.object.box_of };
 
-    ghost remaining = { item_count (pairs_to_come U.meets T.object.box_of
+    ghost remaining = { item_count (pairs_to_come (meets_by T.Cover.boxes U.seen) T.object.box_of
         U.object.box_of) };
 
     #[tactic(auto, unfolding(crate::specs::Joins::pairs_to_come, crate::specs::Joins::IsJoining))]

@@ -6,7 +6,7 @@ ghost use Rattle.rstar_base.specs.Points.{table};
 ghost use Rattle.rstar_base.specs.Selections.{IsLawful};
 ghost use Rattle.rstar.specs.declared.replay.Command.TheVariants.{Ask, Contains, Nearest, Neighbours, Join};
 ghost use Rattle.rstar.specs.Clones.{ClonesEqual};
-ghost use Rattle.rstar.specs.Joins.{join, pairs_to_come, IsJoining};
+ghost use Rattle.rstar.specs.Joins.{join, meets_by, pairs_to_come, IsJoining};
 ghost use Rattle.rstar.specs.Selections.{IsWalking, to_come};
 ghost use Rattle.rstar.specs.Lists.{NoneEmpty};
 ghost use Rattle.rstar.specs.Steps.{selects, IsNearestWith, AreNearestWith, Step};
@@ -230,10 +230,10 @@ fn clones_of_pairs<'a, T: Covered + Clone, U: Meets<T> + Clone>(
     alloc: Global,
     walk: IntersectionIterator<'a, T, U>,
 ) -> Result<Vec<(T, U)>, AllocError>
-    requires joining { IsJoining U.meets T.object.box_of U.object.box_of walk }
+    requires joining { IsJoining (meets_by T.Cover.boxes U.seen) T.object.box_of U.object.box_of walk }
     requires left { ClonesEqual T.is_clone }
     requires right { ClonesEqual U.is_clone }
-    ensures { IfOk result (λ pairs. pairs.items ≡ pairs_to_come U.meets T.object.box_of U.object.box_of walk.entry) }
+    ensures { IfOk result (λ pairs. pairs.items ≡ pairs_to_come (meets_by T.Cover.boxes U.seen) T.object.box_of U.object.box_of walk.entry) }
 {
     let mut pairs = Vec::new(alloc);
     let mut items = walk;

@@ -4,7 +4,6 @@
 ghost use Rattle.std.specs.Prelude.{◌≡◌, ◌≤◌, ◌<ℤ◌, ◌+◌, ◌++◌, ◌∷◌, [], List, ℕ, true, false, length, pos, map, OnOk, IfOk};
 ghost use Rattle.std.specs.List.{AllByRecursion, insert};
 ghost use Rattle.std.specs.Ordering.{flip_args, is_lt};
-ghost use Rattle.rstar_base.specs.Points.{table, IsPoint};
 ghost use Rattle.rstar_base.specs.SmallHeaps.{items_of, IsOrdered, Rises};
 ghost use Rattle.rstar.specs.declared.node.RTreeNode.{RTreeNode};
 ghost use Rattle.rstar.specs.Few.{AreFoundSoFar, Keeps, WaitAtDistance, waiting_parents};
@@ -12,43 +11,39 @@ ghost use Rattle.rstar.specs.Lists.{IsNotLater, AreFirstOf};
 ghost use Rattle.rstar.specs.Nodes.{all_parents, elements_of, parents, IsWhole};
 ghost use Rattle.rstar.specs.Searches.{any_first, nearest_on_top};
 
+use crate::algorithm::nearest_neighbor::measures::{Measured, SquaredDistance};
 use crate::algorithm::nearest_neighbor::search::{distance_to, fits};
 use crate::algorithm::nearest_neighbor::waiting::{AnyFirst, TieOrder, Waiting};
 use crate::node::{ParentNode, RTreeNode};
-use rstar_base::envelope::Envelope;
 use rstar_base::heap::SmallHeap;
-use rstar_base::object::{Distance, PointDistance, PointOf, RTreeObject};
-use rstar_base::point::{Point, RTreeNum, known};
 use std::alloc::AllocError;
 use std::marker::PhantomData;
 
 /// The parents that wait, the nearest on top.
-type Parents<'a, T> = SmallHeap<Waiting<&'a ParentNode<T>, Distance<T>, AnyFirst>>;
+type Parents<'a, T> = SmallHeap<Waiting<&'a ParentNode<T>, <T as Measured>::Distance, AnyFirst>>;
 
 /// The elements found so far, the nearest first.
-type Found<'a, T, E> = Vec<Waiting<&'a T, Distance<T>, E>>;
+type Found<'a, T, E> = Vec<Waiting<&'a T, <T as Measured>::Distance, E>>;
 
 /// So many elements, the nearest to a point first, with their squared distances; all where there are fewer. Of several at
 /// equal distance those come first that `E` says. A list of those found so far is sorted as each goes in, so it costs less
 /// than a heap of all that wait only where few are asked for. It has room for a number of them before the first is looked
 /// for.
-pub(crate) fn first_few<'a, T: PointDistance, E: TieOrder<T>>(
+pub(crate) fn first_few<'a, T: Measured, E: TieOrder<T>>(
     root: &'a ParentNode<T>,
-    point: &PointOf<T>,
+    point: &T::Place,
     most: usize,
     room: usize,
-) -> Result<Vec<(&'a T, Distance<T>)>, AllocError>
-    requires { IsWhole T.Envelope.boxes T.object root.now }
-    ensures first { IfOk result (λ found. AreFirstOf (IsNotLater (λ t. T.distances.distance_2 t
-        (table T.Envelope.Point.DIMENSIONS (T.Envelope.Point.coord point.now))) E.order) (elements_of root.now) most
-        (map (λ n. n.0.now) found.items)) }
-    ensures distances { IfOk result (λ found. AllByRecursion (λ n. T.Envelope.Point.Scalar.value n.1
-        ≡ pos (T.distances.distance_2 n.0.now
-        (table T.Envelope.Point.DIMENSIONS (T.Envelope.Point.coord point.now)))) found.items) }
+) -> Result<Vec<(&'a T, T::Distance)>, AllocError>
+    requires { IsWhole T.Cover.boxes T.object root.now }
+    ensures first { IfOk result (λ found. AreFirstOf (IsNotLater (λ t. T.distances.distance_2 t (T.at point.now))
+        E.order) (elements_of root.now) most (map (λ n. n.0.now) found.items)) }
+    ensures distances { IfOk result (λ found. AllByRecursion (λ n. T.Distance.number n.1 ≡ pos (T.distances.distance_2
+        n.0.now (T.at point.now))) found.items) }
 {
     // Does nothing but tell that the point's coordinates are in their range.
-    known(point);
-    fits::<Distance<T>>();
+    T::known(point);
+    fits::<T::Distance>();
     let alloc = *root.children.allocator();
     let mut heap: Parents<'a, T> = SmallHeap::new(alloc);
     let mut found: Found<'a, T, E> = Vec::with_capacity(alloc, room)?;
@@ -74,14 +69,14 @@ fn lent<'a, T, S: Copy, E>(found: &Vec<Waiting<&'a T, S, E>>) -> Result<Vec<(&'a
 }
 
 /// Whether a list has as many as asked for, each nearer than a distance.
-fn is_beyond<'a, T, S: RTreeNum, E: TieOrder<T>>(
+fn is_beyond<'a, T, S: SquaredDistance, E: TieOrder<T>>(
     found: &[Waiting<&'a T, S, E>],
     most: usize,
     distance: S,
 ) -> bool
     ensures full { result ≡ true → most ≤ length found.now }
-    ensures beyond { result ≡ true → Rises (flip_args (nearest_on_top S.cmp E.order)) found.now
-        → AllByRecursion (λ w. S.value w.distance <ℤ S.value distance) found.now }
+    ensures beyond { result ≡ true → Rises (flip_args (nearest_on_top S.cmp E.order)) found.now → AllByRecursion
+        (λ w. S.number w.distance <ℤ S.number distance) found.now }
 {
     match found.last() {
         Some(last) => most <= found.len() && last.distance.cmp(&distance).is_lt(),
@@ -90,33 +85,26 @@ fn is_beyond<'a, T, S: RTreeNum, E: TieOrder<T>>(
 }
 
 /// Opens nodes: parents wait, and elements are found, but for those that are beyond what was found.
-fn open<'a, T: PointDistance, E: TieOrder<T>>(
+fn open<'a, T: Measured, E: TieOrder<T>>(
     heap: &mut Parents<'a, T>,
     found: &mut Found<'a, T, E>,
     children: &'a [RTreeNode<T>],
-    point: &PointOf<T>,
+    point: &T::Place,
     most: usize,
 ) -> Result<(), AllocError>
-    requires point { IsPoint T.Envelope.Point.Scalar.low T.Envelope.Point.Scalar.high T.Envelope.Point.DIMENSIONS
-        (table T.Envelope.Point.DIMENSIONS (T.Envelope.Point.coord point.now)) }
-    requires ordered { IsOrdered (nearest_on_top T.Envelope.Point.Scalar.cmp any_first) heap.old }
-    requires falls { Rises (flip_args (nearest_on_top T.Envelope.Point.Scalar.cmp E.order)) found.old.items }
-    ensures ordered { IsOrdered (nearest_on_top T.Envelope.Point.Scalar.cmp any_first) heap.new }
-    ensures falls { Rises (flip_args (nearest_on_top T.Envelope.Point.Scalar.cmp E.order)) found.new.items }
-    ensures waiting { OnOk result (WaitAtDistance T.Envelope.boxes T.distances
-        (table T.Envelope.Point.DIMENSIONS (T.Envelope.Point.coord point.now)) T.Envelope.Point.Scalar.value
-        (items_of heap.old)
-        → WaitAtDistance T.Envelope.boxes T.distances
-        (table T.Envelope.Point.DIMENSIONS (T.Envelope.Point.coord point.now)) T.Envelope.Point.Scalar.value
-        (items_of heap.new)) }
-    ensures fewer { OnOk result (all_parents (waiting_parents (items_of heap.new))
-        ≤ all_parents (waiting_parents (items_of heap.old)) + all_parents children.now) }
-    ensures first { OnOk result ((all : List T) → AreFoundSoFar T.Envelope.boxes T.object T.distances
-        (table T.Envelope.Point.DIMENSIONS (T.Envelope.Point.coord point.now)) E.order T.Envelope.Point.Scalar.value most
-        all (waiting_parents (items_of heap.old) ++ children.now) found.old.items
-        → AreFoundSoFar T.Envelope.boxes T.object T.distances
-        (table T.Envelope.Point.DIMENSIONS (T.Envelope.Point.coord point.now)) E.order T.Envelope.Point.Scalar.value most
-        all (waiting_parents (items_of heap.new)) found.new.items) }
+    requires point { T.Cover.is_point (T.at point.now) }
+    requires ordered { IsOrdered (nearest_on_top T.Distance.cmp any_first) heap.old }
+    requires falls { Rises (flip_args (nearest_on_top T.Distance.cmp E.order)) found.old.items }
+    ensures ordered { IsOrdered (nearest_on_top T.Distance.cmp any_first) heap.new }
+    ensures falls { Rises (flip_args (nearest_on_top T.Distance.cmp E.order)) found.new.items }
+    ensures waiting { OnOk result (WaitAtDistance T.Cover.boxes T.distances (T.at point.now) T.Distance.number (items_of
+        heap.old) → WaitAtDistance T.Cover.boxes T.distances (T.at point.now) T.Distance.number (items_of heap.new)) }
+    ensures fewer { OnOk result (all_parents (waiting_parents (items_of heap.new)) ≤ all_parents (waiting_parents
+        (items_of heap.old)) + all_parents children.now) }
+    ensures first { OnOk result ((all : List T) → AreFoundSoFar T.Cover.boxes T.object T.distances (T.at point.now)
+        E.order T.Distance.number most all (waiting_parents (items_of heap.old) ++ children.now) found.old.items
+        → AreFoundSoFar T.Cover.boxes T.object T.distances (T.at point.now) E.order T.Distance.number most all
+        (waiting_parents (items_of heap.new)) found.new.items) }
 {
     for child in children {
         offer(heap, found, child, point, most)?;
@@ -125,35 +113,26 @@ fn open<'a, T: PointDistance, E: TieOrder<T>>(
 }
 
 /// Opens one node.
-fn offer<'a, T: PointDistance, E: TieOrder<T>>(
+fn offer<'a, T: Measured, E: TieOrder<T>>(
     heap: &mut Parents<'a, T>,
     found: &mut Found<'a, T, E>,
     node: &'a RTreeNode<T>,
-    point: &PointOf<T>,
+    point: &T::Place,
     most: usize,
 ) -> Result<(), AllocError>
-    requires point { IsPoint T.Envelope.Point.Scalar.low T.Envelope.Point.Scalar.high T.Envelope.Point.DIMENSIONS
-        (table T.Envelope.Point.DIMENSIONS (T.Envelope.Point.coord point.now)) }
-    requires ordered { IsOrdered (nearest_on_top T.Envelope.Point.Scalar.cmp any_first) heap.old }
-    requires falls { Rises (flip_args (nearest_on_top T.Envelope.Point.Scalar.cmp E.order)) found.old.items }
-    ensures ordered { IsOrdered (nearest_on_top T.Envelope.Point.Scalar.cmp any_first) heap.new }
-    ensures falls { Rises (flip_args (nearest_on_top T.Envelope.Point.Scalar.cmp E.order)) found.new.items }
-    ensures waiting { OnOk result (WaitAtDistance T.Envelope.boxes T.distances
-        (table T.Envelope.Point.DIMENSIONS (T.Envelope.Point.coord point.now)) T.Envelope.Point.Scalar.value
-        (items_of heap.old)
-        → WaitAtDistance T.Envelope.boxes T.distances
-        (table T.Envelope.Point.DIMENSIONS (T.Envelope.Point.coord point.now)) T.Envelope.Point.Scalar.value
-        (items_of heap.new)) }
-    ensures fewer { OnOk result (all_parents (waiting_parents (items_of heap.new))
-        ≤ all_parents (waiting_parents (items_of heap.old)) + parents node.now) }
-    ensures first { OnOk result ((all : List T)
-        (rest : List (RTreeNode T T.Envelope))
-        → AreFoundSoFar T.Envelope.boxes T.object T.distances
-        (table T.Envelope.Point.DIMENSIONS (T.Envelope.Point.coord point.now)) E.order T.Envelope.Point.Scalar.value most
-        all (waiting_parents (items_of heap.old) ++ node.now ∷ rest) found.old.items
-        → AreFoundSoFar T.Envelope.boxes T.object T.distances
-        (table T.Envelope.Point.DIMENSIONS (T.Envelope.Point.coord point.now)) E.order T.Envelope.Point.Scalar.value most
-        all (waiting_parents (items_of heap.new) ++ rest) found.new.items) }
+    requires point { T.Cover.is_point (T.at point.now) }
+    requires ordered { IsOrdered (nearest_on_top T.Distance.cmp any_first) heap.old }
+    requires falls { Rises (flip_args (nearest_on_top T.Distance.cmp E.order)) found.old.items }
+    ensures ordered { IsOrdered (nearest_on_top T.Distance.cmp any_first) heap.new }
+    ensures falls { Rises (flip_args (nearest_on_top T.Distance.cmp E.order)) found.new.items }
+    ensures waiting { OnOk result (WaitAtDistance T.Cover.boxes T.distances (T.at point.now) T.Distance.number (items_of
+        heap.old) → WaitAtDistance T.Cover.boxes T.distances (T.at point.now) T.Distance.number (items_of heap.new)) }
+    ensures fewer { OnOk result (all_parents (waiting_parents (items_of heap.new)) ≤ all_parents (waiting_parents
+        (items_of heap.old)) + parents node.now) }
+    ensures first { OnOk result ((all : List T) (rest : List (RTreeNode T T.Cover)) → AreFoundSoFar T.Cover.boxes
+        T.object T.distances (T.at point.now) E.order T.Distance.number most all (waiting_parents (items_of heap.old) ++
+        node.now ∷ rest) found.old.items → AreFoundSoFar T.Cover.boxes T.object T.distances (T.at point.now) E.order
+        T.Distance.number most all (waiting_parents (items_of heap.new) ++ rest) found.new.items) }
 {
     let distance = distance_to(node, point);
     if is_beyond(found, most, distance) {

@@ -3,19 +3,16 @@
 ghost use Rattle.std.specs.Prelude.{◌≡◌, pos, map, IfOk};
 ghost use Rattle.std.specs.List.{AllByRecursion};
 ghost use Rattle.std.specs.declared.cmp.Ordering.{Ordering};
-ghost use Rattle.rstar_base.specs.Points.{table};
 ghost use Rattle.rstar.specs.declared.algorithm.nearest_neighbor.search.Stage.TheVariants.{Fresh};
 ghost use Rattle.rstar.specs.Lists.{IsNotLater, AreFirstOf};
 ghost use Rattle.rstar.specs.Nodes.{all_elements, elements_of, IsWhole};
 ghost use Rattle.rstar.specs.Searches.{waiting_of, IsReady, TiesBy};
 
 use crate::algorithm::nearest_neighbor::few::first_few;
+use crate::algorithm::nearest_neighbor::measures::{Measured, SquaredDistance};
 use crate::algorithm::nearest_neighbor::search::{NeighborSearch, NodeSearch, fits};
 use crate::algorithm::nearest_neighbor::waiting::TieOrder;
 use crate::node::{ParentNode, RTreeNode};
-use rstar_base::envelope::Envelope;
-use rstar_base::object::{Distance, PointDistance, PointOf, RTreeObject};
-use rstar_base::point::{Point, RTreeNum, known};
 use std::alloc::{AllocError, Global};
 
 /// Up to so many are found by a list that is sorted as each goes in.
@@ -24,49 +21,45 @@ const FEW: usize = 32;
 /// So many elements, the nearest to a point first, with their squared distances; all where there are fewer. Of several
 /// at equal distance those come first that `E` says, by which the ties of `O` go. The list has room for a number of them
 /// before the first is looked for.
-pub(crate) fn first_nearest<'a, T: PointDistance, O: TieOrder<RTreeNode<T>>, E: TieOrder<T>>(
+pub(crate) fn first_nearest<'a, T: Measured, O: TieOrder<RTreeNode<T>>, E: TieOrder<T>>(
     root: &'a ParentNode<T>,
-    point: &PointOf<T>,
+    point: &T::Place,
     most: usize,
     room: usize,
-) -> Result<Vec<(&'a T, Distance<T>)>, AllocError>
-    requires { IsWhole T.Envelope.boxes T.object root.now }
+) -> Result<Vec<(&'a T, T::Distance)>, AllocError>
+    requires { IsWhole T.Cover.boxes T.object root.now }
     ensures first { TiesBy O.order E.order → IfOk result (λ found. AreFirstOf (IsNotLater (λ t. T.distances.distance_2 t
-        (table T.Envelope.Point.DIMENSIONS (T.Envelope.Point.coord point.now))) E.order) (elements_of root.now) most
-        (map (λ n. n.0.now) found.items)) }
-    ensures distances { IfOk result (λ found. AllByRecursion (λ n. T.Envelope.Point.Scalar.value n.1
-        ≡ pos (T.distances.distance_2 n.0.now
-        (table T.Envelope.Point.DIMENSIONS (T.Envelope.Point.coord point.now)))) found.items) }
+        (T.at point.now)) E.order) (elements_of root.now) most (map (λ n. n.0.now) found.items)) }
+    ensures distances { IfOk result (λ found. AllByRecursion (λ n. T.Distance.number n.1 ≡ pos (T.distances.distance_2
+        n.0.now (T.at point.now))) found.items) }
 {
     if most <= FEW {
         return first_few::<T, E>(root, point, most, room);
     }
-    fits::<Distance<T>>();
+    fits::<T::Distance>();
     let mut search: NodeSearch<'_, T, O> = NeighborSearch::new(root);
     take_first(&mut search, *root.children.allocator(), point, most, room)
 }
 
 /// Takes so many of the elements that wait, as `first_nearest` does.
-fn take_first<'a, T: PointDistance, O: TieOrder<RTreeNode<T>>>(
+fn take_first<'a, T: Measured, O: TieOrder<RTreeNode<T>>>(
     search: &mut NodeSearch<'a, T, O>,
     alloc: Global,
-    point: &PointOf<T>,
+    point: &T::Place,
     most: usize,
     room: usize,
-) -> Result<Vec<(&'a T, Distance<T>)>, AllocError>
+) -> Result<Vec<(&'a T, T::Distance)>, AllocError>
     requires fresh { search.old.stage ≡ Fresh }
-    requires ready { (p : _) → IsReady T.Envelope.boxes T.distances p T.Envelope.Point.Scalar.cmp O.order
-        T.Envelope.Point.Scalar.value T.object search.old }
-    ensures first { (order : T → T → Ordering) → TiesBy O.order order → IfOk result (λ found. AreFirstOf
-        (IsNotLater (λ t. T.distances.distance_2 t
-        (table T.Envelope.Point.DIMENSIONS (T.Envelope.Point.coord point.now))) order)
-        (all_elements (waiting_of search.old)) most (map (λ n. n.0.now) found.items)) }
-    ensures distances { IfOk result (λ found. AllByRecursion (λ n. T.Envelope.Point.Scalar.value n.1
-        ≡ pos (T.distances.distance_2 n.0.now
-        (table T.Envelope.Point.DIMENSIONS (T.Envelope.Point.coord point.now)))) found.items) }
+    requires ready { (p : _) → IsReady T.Cover.boxes T.distances p T.Distance.cmp O.order T.Distance.number T.object
+        search.old }
+    ensures first { (order : T → T → Ordering) → TiesBy O.order order → IfOk result (λ found. AreFirstOf (IsNotLater (λ
+        t. T.distances.distance_2 t (T.at point.now)) order) (all_elements (waiting_of search.old)) most (map
+        (λ n. n.0.now) found.items)) }
+    ensures distances { IfOk result (λ found. AllByRecursion (λ n. T.Distance.number n.1 ≡ pos (T.distances.distance_2
+        n.0.now (T.at point.now))) found.items) }
 {
     // Does nothing but tell that the point's coordinates are in their range.
-    known(point);
+    T::known(point);
     let mut found = Vec::with_capacity(alloc, room)?;
     for _turn in 0..most {
         let Some(next) = search.next_neighbor(point) else {

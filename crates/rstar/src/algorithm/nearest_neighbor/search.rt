@@ -3,7 +3,6 @@
 ghost use Rattle.std.specs.Prelude.{◌≡◌, ◌<◌, ◌≤◌, ◌∷◌, ◌++◌, [], pos, OnOk, OnErr, IfOk, IfErr, IfSome, IfNone};
 ghost use Rattle.std.specs.List.Sorted.{IsPermutation};
 ghost use Rattle.std.specs.Mem.{FitsInMemory};
-ghost use Rattle.rstar_base.specs.Points.{table};
 ghost use Rattle.rstar_base.specs.SmallHeaps.{items_of, IsOrdered};
 ghost use Rattle.rstar.specs.Fits.{heap_row, search_row};
 ghost use Rattle.rstar.specs.declared.node.RTreeNode.{Parent};
@@ -12,20 +11,18 @@ ghost use Rattle.rstar.specs.Nodes.{all_elements, all_parents, IsWhole};
 ghost use Rattle.rstar.specs.Neighbors.{IsNeighbor};
 ghost use Rattle.rstar.specs.Searches.{nearest_on_top, waiting_nodes, distance_of, ComesFirst, AreWaiting, IsRunning, IsReady, IsReadyAt, IsUnrefused, held_by, waiting_of};
 
+use crate::algorithm::nearest_neighbor::measures::{Measured, SquaredDistance};
 use crate::algorithm::nearest_neighbor::waiting::{TieOrder, Waiting};
 use crate::node::{ParentNode, RTreeNode};
-use rstar_base::envelope::Envelope;
 use rstar_base::heap::SmallHeap;
-use rstar_base::object::{Distance, PointDistance, PointOf, RTreeObject};
-use rstar_base::point::{Point, RTreeNum, known};
 use std::alloc::AllocError;
 use std::marker::PhantomData;
 
 /// The nodes that wait, the nearest on top.
-pub(crate) type Heap<'a, T, O> = SmallHeap<Waiting<&'a RTreeNode<T>, Distance<T>, O>>;
+pub(crate) type Heap<'a, T, O> = SmallHeap<Waiting<&'a RTreeNode<T>, <T as Measured>::Distance, O>>;
 
 /// Does nothing but tell that a search which is held by value fits in memory.
-pub(crate) fn fits<S: RTreeNum>()
+pub(crate) fn fits<S: SquaredDistance>()
     ensures heap { FitsInMemory (heap_row S.row) }
     ensures search { FitsInMemory (search_row S.row) }
 {}
@@ -33,13 +30,12 @@ pub(crate) fn fits<S: RTreeNum>()
 /// The distance at which a node waits: an element's own, and a parent's envelope's.
 #[tactic(auto, unfolding(crate::specs::Nodes::node_distance, crate::specs::Nodes::fold_tree))]
 #[inline(always)]
-pub(crate) fn distance_to<T: PointDistance>(node: &RTreeNode<T>, point: &PointOf<T>) -> Distance<T>
-    ensures { T.Envelope.Point.Scalar.value result ≡ pos (distance_of T.Envelope.boxes T.distances
-        (table T.Envelope.Point.DIMENSIONS (T.Envelope.Point.coord point.now)) node.now) }
+pub(crate) fn distance_to<T: Measured>(node: &RTreeNode<T>, point: &T::Place) -> T::Distance
+    ensures { T.Distance.number result ≡ pos (distance_of T.Cover.boxes T.distances (T.at point.now) node.now) }
 {
     match node {
         RTreeNode::Leaf(t) => t.distance_2(point),
-        RTreeNode::Parent(parent) => parent.envelope.distance_2(point),
+        RTreeNode::Parent(parent) => T::cover_distance_2(&parent.envelope, point),
     }
 }
 
@@ -71,25 +67,25 @@ pub(crate) type NodeSearch<'a, T, O> = NeighborSearch<
     'a,
     ParentNode<T>,
     RTreeNode<T>,
-    Distance<T>,
+    <T as Measured>::Distance,
     O,
 >;
 
-impl<'a, T: PointDistance, O: TieOrder<RTreeNode<T>>> NeighborSearch<
+impl<'a, T: Measured, O: TieOrder<RTreeNode<T>>> NeighborSearch<
     'a,
     ParentNode<T>,
     RTreeNode<T>,
-    Distance<T>,
+    T::Distance,
     O,
 > {
     /// A search in which the root waits. It takes no memory.
     pub(crate) fn new(root: &'a ParentNode<T>) -> Self
-        requires { IsWhole T.Envelope.boxes T.object root.now }
+        requires { IsWhole T.Cover.boxes T.object root.now }
         ensures root { result.root ≡ root.entry }
         ensures stage { result.stage ≡ Fresh }
         ensures opened { result.opened ≡ 0 }
-        ensures ready { (p : _) → IsReady T.Envelope.boxes T.distances p T.Envelope.Point.Scalar.cmp O.order
-            T.Envelope.Point.Scalar.value T.object result }
+        ensures ready { (p : _) → IsReady T.Cover.boxes T.distances p T.Distance.cmp O.order T.Distance.number T.object
+            result }
     {
         NeighborSearch {
             root,
@@ -102,23 +98,19 @@ impl<'a, T: PointDistance, O: TieOrder<RTreeNode<T>>> NeighborSearch<
     /// The nearest element that was not given yet, with its distance.
     pub(crate) fn next_neighbor(
         &mut self,
-        point: &PointOf<T>,
-    ) -> Option<Result<(&'a T, Distance<T>), AllocError>>
-        requires { IsReady T.Envelope.boxes T.distances
-            (table T.Envelope.Point.DIMENSIONS (T.Envelope.Point.coord point.now)) T.Envelope.Point.Scalar.cmp O.order
-            T.Envelope.Point.Scalar.value T.object self.old }
+        point: &T::Place,
+    ) -> Option<Result<(&'a T, T::Distance), AllocError>>
+        requires { IsReady T.Cover.boxes T.distances (T.at point.now) T.Distance.cmp O.order T.Distance.number T.object
+            self.old }
         ensures root { self.new.root ≡ self.old.root }
-        ensures ready { IsReady T.Envelope.boxes T.distances
-            (table T.Envelope.Point.DIMENSIONS (T.Envelope.Point.coord point.now)) T.Envelope.Point.Scalar.cmp O.order
-            T.Envelope.Point.Scalar.value T.object self.new }
-        ensures gives { IfSome result (λ r. IfOk r (λ x. IsNeighbor T.Envelope.boxes T.distances
-            (table T.Envelope.Point.DIMENSIONS (T.Envelope.Point.coord point.now)) self.old.root.now
-            (waiting_of self.old) (waiting_of self.new) x.0.now)) }
-        ensures distance { IfSome result (λ r. IfOk r (λ x. T.Envelope.Point.Scalar.value x.1 ≡ pos
-            (T.distances.distance_2 x.0.now (table T.Envelope.Point.DIMENSIONS (T.Envelope.Point.coord point.now))))) }
-        ensures first { IfSome result (λ r. IfOk r (λ x. ComesFirst T.Envelope.boxes T.distances
-            (table T.Envelope.Point.DIMENSIONS (T.Envelope.Point.coord point.now)) O.order (waiting_of self.new)
-            x.0.now)) }
+        ensures ready { IsReady T.Cover.boxes T.distances (T.at point.now) T.Distance.cmp O.order T.Distance.number
+            T.object self.new }
+        ensures gives { IfSome result (λ r. IfOk r (λ x. IsNeighbor T.Cover.boxes T.distances (T.at point.now)
+            self.old.root.now (waiting_of self.old) (waiting_of self.new) x.0.now)) }
+        ensures distance { IfSome result (λ r. IfOk r (λ x. T.Distance.number x.1 ≡ pos (T.distances.distance_2 x.0.now
+            (T.at point.now)))) }
+        ensures first { IfSome result (λ r. IfOk r (λ x. ComesFirst T.Cover.boxes T.distances (T.at point.now) O.order
+            (waiting_of self.new) x.0.now)) }
         ensures none { IfNone result (IsUnrefused self.old.stage → all_elements (waiting_of self.old) ≡ []) }
         ensures over { IfNone result (IsUnrefused self.old.stage → waiting_of self.new ≡ []) }
         ensures stays { IfNone result (IsUnrefused self.old.stage → self.new.stage ≡ Running) }
@@ -146,20 +138,18 @@ impl<'a, T: PointDistance, O: TieOrder<RTreeNode<T>>> NeighborSearch<
     }
 
     /// Opens the root where it waits.
-    fn begin(&mut self, point: &PointOf<T>) -> Result<(), AllocError>
+    fn begin(&mut self, point: &T::Place) -> Result<(), AllocError>
         requires unrefused { IsUnrefused self.old.stage }
-        requires ready { IsReady T.Envelope.boxes T.distances
-            (table T.Envelope.Point.DIMENSIONS (T.Envelope.Point.coord point.now)) T.Envelope.Point.Scalar.cmp O.order
-            T.Envelope.Point.Scalar.value T.object self.old }
+        requires ready { IsReady T.Cover.boxes T.distances (T.at point.now) T.Distance.cmp O.order T.Distance.number
+            T.object self.old }
         ensures root { self.new.root ≡ self.old.root }
         ensures stage { OnOk result (self.new.stage ≡ Running) }
-        ensures running { OnOk result (IsRunning T.Envelope.boxes T.distances
-            (table T.Envelope.Point.DIMENSIONS (T.Envelope.Point.coord point.now)) T.Envelope.Point.Scalar.cmp O.order
-            T.Envelope.Point.Scalar.value T.object self.new.root.now self.new.heap self.new.opened) }
-        ensures bag { OnOk result (IsPermutation (all_elements (waiting_of self.old))
-            (all_elements (waiting_nodes (held_by self.new)))) }
-        ensures fewer { OnOk result (all_parents (waiting_nodes (held_by self.new))
-            ≤ all_parents (waiting_of self.old)) }
+        ensures running { OnOk result (IsRunning T.Cover.boxes T.distances (T.at point.now) T.Distance.cmp O.order
+            T.Distance.number T.object self.new.root.now self.new.heap self.new.opened) }
+        ensures bag { OnOk result (IsPermutation (all_elements (waiting_of self.old)) (all_elements (waiting_nodes
+            (held_by self.new)))) }
+        ensures fewer { OnOk result (all_parents (waiting_nodes (held_by self.new)) ≤ all_parents (waiting_of self.old))
+            }
         ensures refused { OnErr result (0 < all_parents (waiting_of self.old)) }
     {
         match self.stage {
@@ -174,21 +164,19 @@ impl<'a, T: PointDistance, O: TieOrder<RTreeNode<T>>> NeighborSearch<
     }
 
     /// Opens the root.
-    fn open_root(&mut self, point: &PointOf<T>) -> Result<(), AllocError>
-        requires { IsReadyAt T.Envelope.boxes T.distances
-            (table T.Envelope.Point.DIMENSIONS (T.Envelope.Point.coord point.now)) T.Envelope.Point.Scalar.cmp O.order
-            T.Envelope.Point.Scalar.value T.object Fresh self.old.root.now self.old.heap self.old.opened }
+    fn open_root(&mut self, point: &T::Place) -> Result<(), AllocError>
+        requires { IsReadyAt T.Cover.boxes T.distances (T.at point.now) T.Distance.cmp O.order T.Distance.number
+            T.object Fresh self.old.root.now self.old.heap self.old.opened }
         ensures root { self.new.root ≡ self.old.root }
-        ensures running { OnOk result (IsRunning T.Envelope.boxes T.distances
-            (table T.Envelope.Point.DIMENSIONS (T.Envelope.Point.coord point.now)) T.Envelope.Point.Scalar.cmp O.order
-            T.Envelope.Point.Scalar.value T.object self.new.root.now self.new.heap self.new.opened) }
-        ensures bag { OnOk result (IsPermutation (all_elements (Parent self.old.root.now ∷ []))
-            (all_elements (waiting_nodes (held_by self.new)))) }
-        ensures fewer { OnOk result (all_parents (waiting_nodes (held_by self.new))
-            ≤ all_parents (Parent self.old.root.now ∷ [])) }
+        ensures running { OnOk result (IsRunning T.Cover.boxes T.distances (T.at point.now) T.Distance.cmp O.order
+            T.Distance.number T.object self.new.root.now self.new.heap self.new.opened) }
+        ensures bag { OnOk result (IsPermutation (all_elements (Parent self.old.root.now ∷ [])) (all_elements
+            (waiting_nodes (held_by self.new)))) }
+        ensures fewer { OnOk result (all_parents (waiting_nodes (held_by self.new)) ≤ all_parents (Parent
+            self.old.root.now ∷ [])) }
     {
         // Does nothing but tell that the point's coordinates are in their range.
-        known(point);
+        T::known(point);
         self.opened = 1;
         let root = self.root;
         self.add_children(&root.children, point)?;
@@ -196,28 +184,24 @@ impl<'a, T: PointDistance, O: TieOrder<RTreeNode<T>>> NeighborSearch<
     }
 
     /// Opens the nearest waiting parents until an element is nearest.
-    fn advance(&mut self, point: &PointOf<T>) -> Result<Option<(&'a T, Distance<T>)>, AllocError>
-        requires { IsRunning T.Envelope.boxes T.distances
-            (table T.Envelope.Point.DIMENSIONS (T.Envelope.Point.coord point.now)) T.Envelope.Point.Scalar.cmp O.order
-            T.Envelope.Point.Scalar.value T.object self.old.root.now self.old.heap self.old.opened }
+    fn advance(&mut self, point: &T::Place) -> Result<Option<(&'a T, T::Distance)>, AllocError>
+        requires { IsRunning T.Cover.boxes T.distances (T.at point.now) T.Distance.cmp O.order T.Distance.number
+            T.object self.old.root.now self.old.heap self.old.opened }
         ensures root { self.new.root ≡ self.old.root }
         ensures stage { self.new.stage ≡ self.old.stage }
-        ensures running { OnOk result (IsRunning T.Envelope.boxes T.distances
-            (table T.Envelope.Point.DIMENSIONS (T.Envelope.Point.coord point.now)) T.Envelope.Point.Scalar.cmp O.order
-            T.Envelope.Point.Scalar.value T.object self.old.root.now self.new.heap self.new.opened) }
-        ensures gives { IfOk result (λ r. IfSome r (λ x. IsNeighbor T.Envelope.boxes T.distances
-            (table T.Envelope.Point.DIMENSIONS (T.Envelope.Point.coord point.now)) self.old.root.now
-            (waiting_nodes (held_by self.old)) (waiting_nodes (held_by self.new)) x.0.now)) }
-        ensures distance { IfOk result (λ r. IfSome r (λ x. T.Envelope.Point.Scalar.value x.1 ≡ pos
-            (T.distances.distance_2 x.0.now (table T.Envelope.Point.DIMENSIONS (T.Envelope.Point.coord point.now))))) }
-        ensures first { IfOk result (λ r. IfSome r (λ x. ComesFirst T.Envelope.boxes T.distances
-            (table T.Envelope.Point.DIMENSIONS (T.Envelope.Point.coord point.now)) O.order
+        ensures running { OnOk result (IsRunning T.Cover.boxes T.distances (T.at point.now) T.Distance.cmp O.order
+            T.Distance.number T.object self.old.root.now self.new.heap self.new.opened) }
+        ensures gives { IfOk result (λ r. IfSome r (λ x. IsNeighbor T.Cover.boxes T.distances (T.at point.now)
+            self.old.root.now (waiting_nodes (held_by self.old)) (waiting_nodes (held_by self.new)) x.0.now)) }
+        ensures distance { IfOk result (λ r. IfSome r (λ x. T.Distance.number x.1 ≡ pos (T.distances.distance_2 x.0.now
+            (T.at point.now)))) }
+        ensures first { IfOk result (λ r. IfSome r (λ x. ComesFirst T.Cover.boxes T.distances (T.at point.now) O.order
             (waiting_nodes (held_by self.new)) x.0.now)) }
         ensures none { IfOk result (λ r. IfNone r (all_elements (waiting_nodes (held_by self.old)) ≡ [])) }
         ensures over { IfOk result (λ r. IfNone r (waiting_nodes (held_by self.new) ≡ [])) }
         ensures refused { OnErr result (0 < all_parents (waiting_nodes (held_by self.old))) }
     {
-        known(point);
+        T::known(point);
         while let Some(current) = self.heap.pop() {
             match current.node {
                 RTreeNode::Leaf(t) => return Ok(Some((t, current.distance))),
@@ -234,20 +218,17 @@ impl<'a, T: PointDistance, O: TieOrder<RTreeNode<T>>> NeighborSearch<
     fn add_children(
         &mut self,
         children: &'a [RTreeNode<T>],
-        point: &PointOf<T>,
+        point: &T::Place,
     ) -> Result<(), AllocError>
-        requires { IsOrdered (nearest_on_top T.Envelope.Point.Scalar.cmp O.order) self.old.heap }
+        requires { IsOrdered (nearest_on_top T.Distance.cmp O.order) self.old.heap }
         ensures root { self.new.root ≡ self.old.root }
         ensures opened { self.new.opened ≡ self.old.opened }
         ensures stage { self.new.stage ≡ self.old.stage }
-        ensures waiting { AreWaiting T.Envelope.boxes T.distances
-            (table T.Envelope.Point.DIMENSIONS (T.Envelope.Point.coord point.now)) T.Envelope.Point.Scalar.cmp O.order
-            T.Envelope.Point.Scalar.value self.old.heap
-            → AreWaiting T.Envelope.boxes T.distances
-            (table T.Envelope.Point.DIMENSIONS (T.Envelope.Point.coord point.now)) T.Envelope.Point.Scalar.cmp O.order
-            T.Envelope.Point.Scalar.value self.new.heap }
-        ensures added { OnOk result (IsPermutation (waiting_nodes (held_by self.old) ++ children.now)
-            (waiting_nodes (held_by self.new))) }
+        ensures waiting { AreWaiting T.Cover.boxes T.distances (T.at point.now) T.Distance.cmp O.order T.Distance.number
+            self.old.heap → AreWaiting T.Cover.boxes T.distances (T.at point.now) T.Distance.cmp O.order
+            T.Distance.number self.new.heap }
+        ensures added { OnOk result (IsPermutation (waiting_nodes (held_by self.old) ++ children.now) (waiting_nodes
+            (held_by self.new))) }
     {
         for node in children {
             let distance = distance_to(node, point);

@@ -1,35 +1,30 @@
 //! All elements of least distance.
 
 ghost use Rattle.std.specs.Prelude.{◌≡◌, ℕ, List, [], pos, map, IfOk, IfSome, IfNone, OnOk};
-ghost use Rattle.rstar_base.specs.Points.{table};
 ghost use Rattle.rstar.specs.Lists.{AreSomeNearest};
 ghost use Rattle.rstar.specs.Nodes.{all_elements, elements_of, IsWhole};
 ghost use Rattle.rstar.specs.Searches.{any_first, waiting_of, IsReady, IsUnrefused};
 ghost use Rattle.rstar.specs.Ties.{IsTied};
 
+use crate::algorithm::nearest_neighbor::measures::{Measured, SquaredDistance};
 use crate::algorithm::nearest_neighbor::search::{NeighborSearch, NodeSearch, fits};
 use crate::algorithm::nearest_neighbor::waiting::AnyFirst;
 use crate::node::ParentNode;
-use rstar_base::envelope::Envelope;
-use rstar_base::object::{Distance, PointDistance, PointOf, RTreeObject};
-use rstar_base::point::{Point, RTreeNum, not_above};
 use std::alloc::AllocError;
 
 /// All elements of least squared distance to a point, one at least, with that distance; `None` exactly where there is no
 /// element.
 #[tactic(auto, using(crate::proofs::Ties::ready_at))]
-pub(crate) fn all_nearest<'a, T: PointDistance>(
+pub(crate) fn all_nearest<'a, T: Measured>(
     root: &'a ParentNode<T>,
-    point: &PointOf<T>,
-) -> Result<Option<(Vec<&'a T>, Distance<T>)>, AllocError>
-    requires { IsWhole T.Envelope.boxes T.object root.now }
+    point: &T::Place,
+) -> Result<Option<(Vec<&'a T>, T::Distance)>, AllocError>
+    requires { IsWhole T.Cover.boxes T.object root.now }
     ensures none { IfOk result (λ r. IfNone r (elements_of root.now ≡ [])) }
-    ensures nearest { IfOk result (λ r. IfSome r (λ x. (d : ℕ) × (T.Envelope.Point.Scalar.value x.1 ≡ pos d)
-        × AreSomeNearest (λ t. T.distances.distance_2 t
-        (table T.Envelope.Point.DIMENSIONS (T.Envelope.Point.coord point.now))) (elements_of root.now) d
-        (map (λ t. t.now) x.0.items))) }
+    ensures nearest { IfOk result (λ r. IfSome r (λ x. (d : ℕ) × (T.Distance.number x.1 ≡ pos d) × AreSomeNearest
+        (λ t. T.distances.distance_2 t (T.at point.now)) (elements_of root.now) d (map (λ t. t.now) x.0.items))) }
 {
-    fits::<Distance<T>>();
+    fits::<T::Distance>();
     let mut search: NodeSearch<'_, T, AnyFirst> = NeighborSearch::new(root);
     let Some(found) = search.next_neighbor(point) else {
         return Ok(None);
@@ -42,27 +37,23 @@ pub(crate) fn all_nearest<'a, T: PointDistance>(
 }
 
 /// Takes the elements at a distance that is the least of those that wait, or less than it.
-fn take_ties<'a, T: PointDistance>(
+fn take_ties<'a, T: Measured>(
     search: &mut NodeSearch<'a, T, AnyFirst>,
-    point: &PointOf<T>,
-    least: Distance<T>,
+    point: &T::Place,
+    least: T::Distance,
     all: &mut Vec<&'a T>,
 ) -> Result<(), AllocError>
-    requires ready { IsReady T.Envelope.boxes T.distances
-        (table T.Envelope.Point.DIMENSIONS (T.Envelope.Point.coord point.now)) T.Envelope.Point.Scalar.cmp any_first
-        T.Envelope.Point.Scalar.value T.object search.old }
+    requires ready { IsReady T.Cover.boxes T.distances (T.at point.now) T.Distance.cmp any_first T.Distance.number
+        T.object search.old }
     requires unrefused { IsUnrefused search.old.stage }
-    ensures { OnOk result ((whole : List T) (d : ℕ) → T.Envelope.Point.Scalar.value least ≡ pos d
-        → IsTied (λ t. T.distances.distance_2 t
-        (table T.Envelope.Point.DIMENSIONS (T.Envelope.Point.coord point.now))) whole d (map (λ t. t.now) all.old.items)
-        (all_elements (waiting_of search.old))
-        → AreSomeNearest (λ t. T.distances.distance_2 t
-        (table T.Envelope.Point.DIMENSIONS (T.Envelope.Point.coord point.now))) whole d
-        (map (λ t. t.now) all.new.items)) }
+    ensures { OnOk result ((whole : List T) (d : ℕ) → T.Distance.number least ≡ pos d → IsTied
+        (λ t. T.distances.distance_2 t (T.at point.now)) whole d (map (λ t. t.now) all.old.items) (all_elements
+        (waiting_of search.old)) → AreSomeNearest (λ t. T.distances.distance_2 t (T.at point.now)) whole d (map
+        (λ t. t.now) all.new.items)) }
 {
     while let Some(found) = search.next_neighbor(point) {
         let (t, distance) = found?;
-        if not_above(distance, least) {
+        if distance.is_within(least) {
             all.push(t)?;
         } else {
             return Ok(());

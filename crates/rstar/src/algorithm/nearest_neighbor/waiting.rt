@@ -8,8 +8,8 @@ ghost use Rattle.std.specs.Prelude.{◌≡◌};
 ghost use Rattle.std.specs.declared.cmp.Ordering.{Ordering};
 ghost use Rattle.rstar.specs.Searches.{any_first, parents_first, nearest_on_top};
 
+use crate::needs::Covered;
 use crate::node::RTreeNode;
-use rstar_base::object::PointDistance;
 use std::cmp::Ordering;
 use std::marker::PhantomData;
 
@@ -53,7 +53,7 @@ impl<T: Ord> TieOrder<T> for OwnOrder {
 /// A parent comes before an element, and elements come by their own order.
 pub(crate) struct ParentsFirst;
 
-impl<T: PointDistance + Ord> TieOrder<RTreeNode<T>> for ParentsFirst {
+impl<T: Covered + Ord> TieOrder<RTreeNode<T>> for ParentsFirst {
     ghost order = { parents_first T.cmp };
 
     #[tactic(auto, unfolding(crate::specs::Nodes::leaf_element, crate::specs::Nodes::fold_tree))]

@@ -16,7 +16,7 @@ loop-left-preserved g c = λ few.
     let cut = c.in-Some.ensures.cases.0 in
     let fewer = rows-few _ lefts rights c.loop-left.rest.now c.in-Some.before.now c.in-Some.left.now c.loop-left.marks behind cut few in
     let fits = rows-fit _ lefts rights c.loop-left.rest.now c.in-Some.before.now c.in-Some.left.now c.loop-left.marks behind cut few in
-    let made = c.row_marks-marks.ensures fewer fits ∙ ap (λ e. with_marks (map (λ n. g.U.Meets.meets e (node_box g.U.Covered.object.box_of n)) rights) c.loop-left.marks) c.cover.ensures.value in
+    let made = c.row_marks-marks.ensures fewer fits ∙ ap (λ e. with_marks (map (λ n. meets_by g.T.Cover.Merges.boxes g.U.Meets.seen e (node_box g.U.Covered.object.box_of n)) rights) c.loop-left.marks) c.cover.ensures.value in
     rows-more _ lefts rights c.loop-left.rest.now c.in-Some.before.now c.in-Some.left.now c.loop-left.marks c.row_marks-marks.result behind cut made
 
 pub returns : goal.returns

@@ -7,7 +7,7 @@ use Rattle.rstar.proofs.iterators.joins.row_marks.Given as goal
 -- where there is room, there are marks for the nodes behind the rest
 abbrev pub invariant-loop-node : goal.invariant-loop-node
 invariant-loop-node g l = length l.nodes ≤ 64 → l.others < 2 ^ (64 - length l.nodes)
-    → IsRow (λ n. g.U.Meets.meets l.envelope (node_box g.U.Covered.object.box_of n)) l.nodes l.rest l.others l.marks
+    → IsRow (λ n. meets_by g.T.Cover.Merges.boxes g.U.Meets.seen l.envelope (node_box g.U.Covered.object.box_of n)) l.nodes l.rest l.others l.marks
 
 abbrev pub decreases-loop-node : goal.decreases-loop-node
 decreases-loop-node g l = length l.rest

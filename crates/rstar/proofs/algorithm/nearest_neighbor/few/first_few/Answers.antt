@@ -14,28 +14,28 @@ use Rattle.rstar.proofs.Turns as turns
 use Rattle.rstar.proofs.algorithm.nearest_neighbor.few.first_few.Given.{Over}
 use Rattle.rstar.proofs.algorithm.nearest_neighbor.few.first_few.Goals as goal
 
-measured : (g : Over) (p : _) → IsPoint g.T.Envelope.Point.Scalar.Bounded.low g.T.Envelope.Point.Scalar.Bounded.high g.T.Envelope.Point.Point.DIMENSIONS p
-    → IsMeasured (IsPoint g.T.Envelope.Point.Scalar.Bounded.low g.T.Envelope.Point.Scalar.Bounded.high g.T.Envelope.Point.Point.DIMENSIONS) g.T.Envelope.Envelope.boxes g.T.RTreeObject.object g.T.PointDistance.distances p
+measured : (g : Over) (p : _) → g.T.Cover.Merges.is_point p
+    → IsMeasured (g.T.Cover.Merges.is_point) g.T.Cover.Merges.boxes g.T.Covered.object g.T.Measured.distances p
 measured g p is = record {
-  laws = g.met.T.Envelope.Envelope.envelope_laws;
-  ok = g.met.T.RTreeObject.object_law;
-  near = g.met.T.PointDistance.distance_laws;
+  laws = g.met.T.Cover.Merges.merge_laws;
+  ok = g.met.T.Covered.cover_law;
+  near = g.met.T.Measured.distance_laws;
   point = is;
 }
 
-order : (g : Over) (a b : g.row.T-Envelope-Point-Scalar.Denot) → g.T.Envelope.Point.Scalar.Ord.cmp a b ≡ int_cmp (g.T.Envelope.Point.Scalar.Number.value a) (g.T.Envelope.Point.Scalar.Number.value b)
-order g = turns.order_of g.T.Envelope.Point.Scalar.Number.value g.T.Envelope.Point.Scalar.Ord.cmp _ g.met.T.Envelope.Point.Scalar.Ord.matches_partial_cmp (λ a b. g.met.T.Envelope.Point.Scalar.Number.order_law a b g.met.T.Envelope.Point.Scalar.Integral.exact_law)
+order : (g : Over) (a b : g.row.T-Distance.Denot) → g.T.Distance.Ord.cmp a b ≡ int_cmp (g.T.Distance.SquaredDistance.number a) (g.T.Distance.SquaredDistance.number b)
+order g = turns.order_of g.T.Distance.SquaredDistance.number g.T.Distance.Ord.cmp _ g.met.T.Distance.Ord.matches_partial_cmp g.met.T.Distance.SquaredDistance.number_order
 
 pub loop-current-init : goal.loop-current-init
 loop-current-init g c =
-    let p = table g.T.Envelope.Point.Point.DIMENSIONS (g.T.Envelope.Point.Point.coord c.args.point.now) in
-    let value = g.T.Envelope.Point.Scalar.Number.value in
-    let start = few.so-far-start g.T.Envelope.Envelope.boxes g.T.RTreeObject.object g.T.PointDistance.distances p g.E.TieOrder.order value c.args.most c.args.root.now (items_of c.new-heap.result) c.in_ok-found.found.items c.new-heap.ensures.none c.in_ok-found.ensures.items c.requires in
+    let p = g.T.Measured.at c.args.point.now in
+    let value = g.T.Distance.SquaredDistance.number in
+    let start = few.so-far-start g.T.Cover.Merges.boxes g.T.Covered.object g.T.Measured.distances p g.E.TieOrder.order value c.args.most c.args.root.now (items_of c.new-heap.result) c.in_ok-found.found.items c.new-heap.ensures.none c.in_ok-found.ensures.items c.requires in
     record {
       ordered = c.open.ensures.ordered;
       falls = c.open.ensures.falls;
       waiting = c.in_ok-open.ensures.waiting (rw c.new-heap.ensures.none tt);
-      first = c.in_ok-open.ensures.first (elements_of c.args.root.now) (subst (λ l. AreFoundSoFar g.T.Envelope.Envelope.boxes g.T.RTreeObject.object g.T.PointDistance.distances p g.E.TieOrder.order value c.args.most (elements_of c.args.root.now) (waiting_parents (items_of c.new-heap.result) ++ l) c.in_ok-found.found.items) (sym c.deref.ensures.value) start);
+      first = c.in_ok-open.ensures.first (elements_of c.args.root.now) (subst (λ l. AreFoundSoFar g.T.Cover.Merges.boxes g.T.Covered.object g.T.Measured.distances p g.E.TieOrder.order value c.args.most (elements_of c.args.root.now) (waiting_parents (items_of c.new-heap.result) ++ l) c.in_ok-found.found.items) (sym c.deref.ensures.value) start);
     }
 
 pub loop-current-smaller-then-is_beyond : goal.loop-current-smaller-then-is_beyond
@@ -43,18 +43,18 @@ loop-current-smaller-then-is_beyond g c = let one = few.popped-parents c.in-Some
 
 pub loop-current-preserved-then-is_beyond : goal.loop-current-preserved-then-is_beyond
 loop-current-preserved-then-is_beyond g c =
-    let p = table g.T.Envelope.Point.Point.DIMENSIONS (g.T.Envelope.Point.Point.coord c.args.point.now) in
-    let value = g.T.Envelope.Point.Scalar.Number.value in
+    let p = g.T.Measured.at c.args.point.now in
+    let value = g.T.Distance.SquaredDistance.number in
     let found = c.loop-current.found.items in
     let us = waiting_parents (items_of c.pop.new.self) in
     let all = elements_of c.args.root.now in
-    let rest = few.popped-waiting c.in-Some.current (items_of c.loop-current.heap) (items_of c.pop.new.self) c.in-Some.ensures.some g.T.Envelope.Envelope.boxes g.T.PointDistance.distances p value c.loop-current.invariant.waiting in
-    let front = few.so-far-same g.T.Envelope.Envelope.boxes g.T.RTreeObject.object g.T.PointDistance.distances p g.E.TieOrder.order value c.args.most all (waiting_parents (items_of c.loop-current.heap)) (Parent c.in-Some.current.node.now ∷ us) found (few.popped-nodes c.in-Some.current (items_of c.loop-current.heap) (items_of c.pop.new.self) c.in-Some.ensures.some) c.loop-current.invariant.first in
+    let rest = few.popped-waiting c.in-Some.current (items_of c.loop-current.heap) (items_of c.pop.new.self) c.in-Some.ensures.some g.T.Cover.Merges.boxes g.T.Measured.distances p value c.loop-current.invariant.waiting in
+    let front = few.so-far-same g.T.Cover.Merges.boxes g.T.Covered.object g.T.Measured.distances p g.E.TieOrder.order value c.args.most all (waiting_parents (items_of c.loop-current.heap)) (Parent c.in-Some.current.node.now ∷ us) found (few.popped-nodes c.in-Some.current (items_of c.loop-current.heap) (items_of c.pop.new.self) c.in-Some.ensures.some) c.loop-current.invariant.first in
     record {
       ordered = c.pop.ensures.ordered;
       falls = c.loop-current.invariant.falls;
       waiting = rest.1;
-      first = few.so-far-beyond (measured g p c.known.ensures.range) g.E.TieOrder.order value c.args.most all g.T.Envelope.Point.Scalar.Ord.cmp (order g) (Parent c.in-Some.current.node.now) us found c.in-Some.current.distance
+      first = few.so-far-beyond (measured g p c.known.ensures.range) g.E.TieOrder.order value c.args.most all g.T.Distance.Ord.cmp (order g) (Parent c.in-Some.current.node.now) us found c.in-Some.current.distance
           (rw c.deref-in-Some.ensures.value at c.if-is_beyond.ensures.full refl) ((rw c.deref-in-Some.ensures.value at c.if-is_beyond.ensures.beyond refl) c.loop-current.invariant.falls) rest.0 front;
     }
 
@@ -67,33 +67,33 @@ loop-current-smaller g c =
 
 pub loop-current-preserved : goal.loop-current-preserved
 loop-current-preserved g c =
-    let p = table g.T.Envelope.Point.Point.DIMENSIONS (g.T.Envelope.Point.Point.coord c.args.point.now) in
-    let value = g.T.Envelope.Point.Scalar.Number.value in
+    let p = g.T.Measured.at c.args.point.now in
+    let value = g.T.Distance.SquaredDistance.number in
     let found = c.loop-current.found.items in
     let q = c.in-Some.current.node.now in
     let us = waiting_parents (items_of c.pop.new.self) in
     let all = elements_of c.args.root.now in
-    let rest = few.popped-waiting c.in-Some.current (items_of c.loop-current.heap) (items_of c.pop.new.self) c.in-Some.ensures.some g.T.Envelope.Envelope.boxes g.T.PointDistance.distances p value c.loop-current.invariant.waiting in
-    let front = few.so-far-same g.T.Envelope.Envelope.boxes g.T.RTreeObject.object g.T.PointDistance.distances p g.E.TieOrder.order value c.args.most all (waiting_parents (items_of c.loop-current.heap)) (Parent q ∷ us) found (few.popped-nodes c.in-Some.current (items_of c.loop-current.heap) (items_of c.pop.new.self) c.in-Some.ensures.some) c.loop-current.invariant.first in
+    let rest = few.popped-waiting c.in-Some.current (items_of c.loop-current.heap) (items_of c.pop.new.self) c.in-Some.ensures.some g.T.Cover.Merges.boxes g.T.Measured.distances p value c.loop-current.invariant.waiting in
+    let front = few.so-far-same g.T.Cover.Merges.boxes g.T.Covered.object g.T.Measured.distances p g.E.TieOrder.order value c.args.most all (waiting_parents (items_of c.loop-current.heap)) (Parent q ∷ us) found (few.popped-nodes c.in-Some.current (items_of c.loop-current.heap) (items_of c.pop.new.self) c.in-Some.ensures.some) c.loop-current.invariant.first in
     let opened = few.so-far-parent (measured g p c.known.ensures.range) g.E.TieOrder.order value c.args.most all q us found front in
     record {
       ordered = c.open-in-Some.ensures.ordered;
       falls = c.open-in-Some.ensures.falls;
       waiting = c.in_ok-open-2.ensures.waiting rest.1;
-      first = c.in_ok-open-2.ensures.first all (subst (λ l. AreFoundSoFar g.T.Envelope.Envelope.boxes g.T.RTreeObject.object g.T.PointDistance.distances p g.E.TieOrder.order value c.args.most all (us ++ l) found) (sym c.deref-in-Some-2.ensures.value) opened);
+      first = c.in_ok-open-2.ensures.first all (subst (λ l. AreFoundSoFar g.T.Cover.Merges.boxes g.T.Covered.object g.T.Measured.distances p g.E.TieOrder.order value c.args.most all (us ++ l) found) (sym c.deref-in-Some-2.ensures.value) opened);
     }
 
 pub returns-clause-first : goal.returns-clause-first
 returns-clause-first g c =
-    let p = table g.T.Envelope.Point.Point.DIMENSIONS (g.T.Envelope.Point.Point.coord c.args.point.now) in
+    let p = g.T.Measured.at c.args.point.now in
     let found = c.loop-current.found.items in
     let all = elements_of c.args.root.now in
-    let first = few.so-far-end g.T.Envelope.Envelope.boxes g.T.RTreeObject.object g.T.PointDistance.distances p g.E.TieOrder.order g.T.Envelope.Point.Scalar.Number.value c.args.most all (waiting_parents (items_of c.loop-current.heap)) found (ap waiting_parents c.in_default.ensures.none) c.loop-current.invariant.first in
-    IfOk-weaker c.lent.result _ _ (λ lent is. subst (AreFirstOf (IsNotLater (λ t. g.T.PointDistance.distances.distance_2 t p) g.E.TieOrder.order) all c.args.most) (sym (ap (map (λ n. n.0.now)) is ∙ few.lent-elements found)) first) c.lent.ensures
+    let first = few.so-far-end g.T.Cover.Merges.boxes g.T.Covered.object g.T.Measured.distances p g.E.TieOrder.order g.T.Distance.SquaredDistance.number c.args.most all (waiting_parents (items_of c.loop-current.heap)) found (ap waiting_parents c.in_default.ensures.none) c.loop-current.invariant.first in
+    IfOk-weaker c.lent.result _ _ (λ lent is. subst (AreFirstOf (IsNotLater (λ t. g.T.Measured.distances.distance_2 t p) g.E.TieOrder.order) all c.args.most) (sym (ap (map (λ n. n.0.now)) is ∙ few.lent-elements found)) first) c.lent.ensures
 
 pub returns-clause-distances : goal.returns-clause-distances
 returns-clause-distances g c =
-    let p = table g.T.Envelope.Point.Point.DIMENSIONS (g.T.Envelope.Point.Point.coord c.args.point.now) in
-    let value = g.T.Envelope.Point.Scalar.Number.value in
+    let p = g.T.Measured.at c.args.point.now in
+    let value = g.T.Distance.SquaredDistance.number in
     let found = c.loop-current.found.items in
-    IfOk-weaker c.lent.result _ _ (λ lent is. subst (AllByRecursion (λ n. value n.1 ≡ pos (g.T.PointDistance.distances.distance_2 n.0.now p))) (sym is) (few.lent-distances (λ t. g.T.PointDistance.distances.distance_2 t p) value found c.loop-current.invariant.first.at)) c.lent.ensures
+    IfOk-weaker c.lent.result _ _ (λ lent is. subst (AllByRecursion (λ n. value n.1 ≡ pos (g.T.Measured.distances.distance_2 n.0.now p))) (sym is) (few.lent-distances (λ t. g.T.Measured.distances.distance_2 t p) value found c.loop-current.invariant.first.at)) c.lent.ensures

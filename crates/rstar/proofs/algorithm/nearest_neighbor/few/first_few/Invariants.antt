@@ -8,10 +8,10 @@ use Rattle.rstar.proofs.algorithm.nearest_neighbor.few.first_few.Given as goal
 
 abbrev pub invariant-loop-current : goal.invariant-loop-current
 invariant-loop-current g l = record {
-  ordered : IsOrdered (nearest_on_top g.T.Envelope.Point.Scalar.Ord.cmp any_first) l.heap;
-  falls : Rises (flip_args (nearest_on_top g.T.Envelope.Point.Scalar.Ord.cmp g.E.TieOrder.order)) l.found.items;
-  waiting : WaitAtDistance g.T.Envelope.Envelope.boxes g.T.PointDistance.distances (table g.T.Envelope.Point.Point.DIMENSIONS (g.T.Envelope.Point.Point.coord l.fn.point)) g.T.Envelope.Point.Scalar.Number.value (items_of l.heap);
-  first : AreFoundSoFar g.T.Envelope.Envelope.boxes g.T.RTreeObject.object g.T.PointDistance.distances (table g.T.Envelope.Point.Point.DIMENSIONS (g.T.Envelope.Point.Point.coord l.fn.point)) g.E.TieOrder.order g.T.Envelope.Point.Scalar.Number.value l.most (elements_of l.fn.root) (waiting_parents (items_of l.heap)) l.found.items;
+  ordered : IsOrdered (nearest_on_top g.T.Distance.Ord.cmp any_first) l.heap;
+  falls : Rises (flip_args (nearest_on_top g.T.Distance.Ord.cmp g.E.TieOrder.order)) l.found.items;
+  waiting : WaitAtDistance g.T.Cover.Merges.boxes g.T.Measured.distances (g.T.Measured.at l.fn.point) g.T.Distance.SquaredDistance.number (items_of l.heap);
+  first : AreFoundSoFar g.T.Cover.Merges.boxes g.T.Covered.object g.T.Measured.distances (g.T.Measured.at l.fn.point) g.E.TieOrder.order g.T.Distance.SquaredDistance.number l.most (elements_of l.fn.root) (waiting_parents (items_of l.heap)) l.found.items;
 }
 
 abbrev pub decreases-loop-current : goal.decreases-loop-current

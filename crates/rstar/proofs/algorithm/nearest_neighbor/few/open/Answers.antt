@@ -20,18 +20,18 @@ loop-child-preserved g c =
     let one = sum_by-cons parents c.child-item.result [] in
     let before = c.loop-child.invariant.fewer in
     let more = c.in_ok-offer.ensures.fewer in
-    let p = table g.T.Envelope.Point.Point.DIMENSIONS (g.T.Envelope.Point.Point.coord c.args.point.now) in
+    let p = g.T.Measured.at c.args.point.now in
     record {
       ordered = c.offer.ensures.ordered;
       falls = c.offer.ensures.falls;
       waiting = λ before. c.in_ok-offer.ensures.waiting (c.loop-child.invariant.waiting before);
       fewer = omega arith;
-      first = λ all s. c.in_ok-offer.ensures.first all (drop (c.loop-child.child-index + 1) c.args.children.now) (subst (λ l. AreFoundSoFar g.T.Envelope.Envelope.boxes g.T.RTreeObject.object g.T.PointDistance.distances p g.E.TieOrder.order g.T.Envelope.Point.Scalar.Number.value c.args.most all (waiting_parents (items_of c.loop-child.heap) ++ l) c.loop-child.found.items) back (c.loop-child.invariant.first all s));
+      first = λ all s. c.in_ok-offer.ensures.first all (drop (c.loop-child.child-index + 1) c.args.children.now) (subst (λ l. AreFoundSoFar g.T.Cover.Merges.boxes g.T.Covered.object g.T.Measured.distances p g.E.TieOrder.order g.T.Distance.SquaredDistance.number c.args.most all (waiting_parents (items_of c.loop-child.heap) ++ l) c.loop-child.found.items) back (c.loop-child.invariant.first all s));
     }
 
 pub returns-clause-first : goal.returns-clause-first
 returns-clause-first g c = λ all s.
     let none = drop_all c.loop-child.child-index c.args.children.now (omega arith) in
-    let p = table g.T.Envelope.Point.Point.DIMENSIONS (g.T.Envelope.Point.Point.coord c.args.point.now) in
+    let p = g.T.Measured.at c.args.point.now in
     let end = ap (λ l. waiting_parents (items_of c.loop-child.heap) ++ l) none ∙ append-nil (waiting_parents (items_of c.loop-child.heap)) in
-    subst (λ l. AreFoundSoFar g.T.Envelope.Envelope.boxes g.T.RTreeObject.object g.T.PointDistance.distances p g.E.TieOrder.order g.T.Envelope.Point.Scalar.Number.value c.args.most all l c.loop-child.found.items) end (c.loop-child.invariant.first all s)
+    subst (λ l. AreFoundSoFar g.T.Cover.Merges.boxes g.T.Covered.object g.T.Measured.distances p g.E.TieOrder.order g.T.Distance.SquaredDistance.number c.args.most all l c.loop-child.found.items) end (c.loop-child.invariant.first all s)

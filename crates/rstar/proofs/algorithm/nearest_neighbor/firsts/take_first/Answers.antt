@@ -12,31 +12,31 @@ use Rattle.rstar.proofs.Nearness.{IsMeasured}
 use Rattle.rstar.proofs.algorithm.nearest_neighbor.firsts.take_first.Given.{Over}
 use Rattle.rstar.proofs.algorithm.nearest_neighbor.firsts.take_first.Goals as goal
 
-measured : (g : Over) (p : _) → IsPoint g.T.Envelope.Point.Scalar.Bounded.low g.T.Envelope.Point.Scalar.Bounded.high g.T.Envelope.Point.Point.DIMENSIONS p
-    → IsMeasured (IsPoint g.T.Envelope.Point.Scalar.Bounded.low g.T.Envelope.Point.Scalar.Bounded.high g.T.Envelope.Point.Point.DIMENSIONS) g.T.Envelope.Envelope.boxes g.T.RTreeObject.object g.T.PointDistance.distances p
+measured : (g : Over) (p : _) → g.T.Cover.Merges.is_point p
+    → IsMeasured (g.T.Cover.Merges.is_point) g.T.Cover.Merges.boxes g.T.Covered.object g.T.Measured.distances p
 measured g p is = record {
-  laws = g.met.T.Envelope.Envelope.envelope_laws;
-  ok = g.met.T.RTreeObject.object_law;
-  near = g.met.T.PointDistance.distance_laws;
+  laws = g.met.T.Cover.Merges.merge_laws;
+  ok = g.met.T.Covered.cover_law;
+  near = g.met.T.Measured.distance_laws;
   point = is;
 }
 
 pub loop-turn-init : goal.loop-turn-init
 loop-turn-init g c =
-    let p = table g.T.Envelope.Point.Point.DIMENSIONS (g.T.Envelope.Point.Point.coord c.args.point.now) in
+    let p = g.T.Measured.at c.args.point.now in
     let all = all_elements (waiting_of c.args.search.now) in
     let none = c.in_ok-found.ensures.items in
     record {
       ready = c.requires.ready p;
       unrefused = subst IsUnrefused (sym c.requires.fresh) tt;
-      first = λ order by. subst (λ l. AreFirst (IsNotLater (λ t. g.T.PointDistance.distances.distance_2 t p) order) all (map (λ n. n.0.now) l) all) (sym none) (none-first _ all);
-      distances = subst (AllByRecursion (λ n. g.T.Envelope.Point.Scalar.Number.value n.1 ≡ pos (g.T.PointDistance.distances.distance_2 n.0.now p))) (sym none) tt;
+      first = λ order by. subst (λ l. AreFirst (IsNotLater (λ t. g.T.Measured.distances.distance_2 t p) order) all (map (λ n. n.0.now) l) all) (sym none) (none-first _ all);
+      distances = subst (AllByRecursion (λ n. g.T.Distance.SquaredDistance.number n.1 ≡ pos (g.T.Measured.distances.distance_2 n.0.now p))) (sym none) tt;
       count = ap length none;
     }
 
 pub loop-turn-preserved : goal.loop-turn-preserved
 loop-turn-preserved g c =
-    let p = table g.T.Envelope.Point.Point.DIMENSIONS (g.T.Envelope.Point.Point.coord c.args.point.now) in
+    let p = g.T.Measured.at c.args.point.now in
     let all = all_elements (waiting_of c.args.search.now) in
     let gives = rw c.in_ok-t.was at c.in-Some.ensures.gives in
     let at = rw c.in_ok-t.was at c.in-Some.ensures.distance in
@@ -47,14 +47,14 @@ loop-turn-preserved g c =
     record {
       ready = c.next_neighbor.ensures.ready;
       unrefused = subst IsUnrefused (sym on) tt;
-      first = λ order by. subst (λ l. AreFirst (IsNotLater (λ t. g.T.PointDistance.distances.distance_2 t p) order) all l (all_elements (waiting_of c.next_neighbor.new.self)))
+      first = λ order by. subst (λ l. AreFirst (IsNotLater (λ t. g.T.Measured.distances.distance_2 t p) order) all l (all_elements (waiting_of c.next_neighbor.new.self)))
           (sym (ap (map (λ n. n.0.now)) more ∙ map-append (λ n. n.0.now) c.loop-turn.found.items ((c.in_ok-t.t, c.in_ok-t.distance) ∷ [])))
-          (more-first (IsNotLater (λ t. g.T.PointDistance.distances.distance_2 t p) order) all (map (λ n. n.0.now) c.loop-turn.found.items) (all_elements (waiting_of c.loop-turn.search)) (all_elements (waiting_of c.next_neighbor.new.self)) c.in_ok-t.t.now
+          (more-first (IsNotLater (λ t. g.T.Measured.distances.distance_2 t p) order) all (map (λ n. n.0.now) c.loop-turn.found.items) (all_elements (waiting_of c.loop-turn.search)) (all_elements (waiting_of c.next_neighbor.new.self)) c.in_ok-t.t.now
           (c.loop-turn.invariant.first order by) gives.bag
           (all-later (measured g p c.known.ensures.range) g.O.TieOrder.order order by c.in_ok-t.t.now (waiting_of c.next_neighbor.new.self)
-          (whole-waiting g.T.Envelope.Envelope.boxes g.T.PointDistance.distances p g.T.Envelope.Point.Scalar.Ord.cmp g.O.TieOrder.order g.T.Envelope.Point.Scalar.Number.value g.T.RTreeObject.object _ _ _ _ on c.next_neighbor.ensures.ready)
+          (whole-waiting g.T.Cover.Merges.boxes g.T.Measured.distances p g.T.Distance.Ord.cmp g.O.TieOrder.order g.T.Distance.SquaredDistance.number g.T.Covered.object _ _ _ _ on c.next_neighbor.ensures.ready)
           (rw c.in_ok-t.was at c.in-Some.ensures.first)));
-      distances = subst (AllByRecursion (λ n. g.T.Envelope.Point.Scalar.Number.value n.1 ≡ pos (g.T.PointDistance.distances.distance_2 n.0.now p))) (sym more) (all-append _ c.loop-turn.found.items _ c.loop-turn.invariant.distances (at, tt));
+      distances = subst (AllByRecursion (λ n. g.T.Distance.SquaredDistance.number n.1 ≡ pos (g.T.Measured.distances.distance_2 n.0.now p))) (sym more) (all-append _ c.loop-turn.found.items _ c.loop-turn.invariant.distances (at, tt));
       count = omega (arith, longer, count);
     }
 

@@ -10,10 +10,10 @@ use Rattle.rstar.proofs.algorithm.nearest_neighbor.firsts.take_first.Given as go
 -- the first so far were taken, one a turn, with their distances
 abbrev pub invariant-loop-turn : goal.invariant-loop-turn
 invariant-loop-turn g l = record {
-  ready : IsReady g.T.Envelope.Envelope.boxes g.T.PointDistance.distances (table g.T.Envelope.Point.Point.DIMENSIONS (g.T.Envelope.Point.Point.coord l.fn.point)) g.T.Envelope.Point.Scalar.Ord.cmp g.O.TieOrder.order g.T.Envelope.Point.Scalar.Number.value g.T.RTreeObject.object l.search;
+  ready : IsReady g.T.Cover.Merges.boxes g.T.Measured.distances (g.T.Measured.at l.fn.point) g.T.Distance.Ord.cmp g.O.TieOrder.order g.T.Distance.SquaredDistance.number g.T.Covered.object l.search;
   unrefused : IsUnrefused l.search.stage;
   first : (order : g.row.T.Denot → g.row.T.Denot → Ordering) → TiesBy g.O.TieOrder.order order
-      → AreFirst (IsNotLater (λ t. g.T.PointDistance.distances.distance_2 t (table g.T.Envelope.Point.Point.DIMENSIONS (g.T.Envelope.Point.Point.coord l.fn.point))) order) (all_elements (waiting_of l.fn.search)) (map (λ n. n.0.now) l.found.items) (all_elements (waiting_of l.search));
-  distances : AllByRecursion (λ n. g.T.Envelope.Point.Scalar.Number.value n.1 ≡ pos (g.T.PointDistance.distances.distance_2 n.0.now (table g.T.Envelope.Point.Point.DIMENSIONS (g.T.Envelope.Point.Point.coord l.fn.point)))) l.found.items;
+      → AreFirst (IsNotLater (λ t. g.T.Measured.distances.distance_2 t (g.T.Measured.at l.fn.point)) order) (all_elements (waiting_of l.fn.search)) (map (λ n. n.0.now) l.found.items) (all_elements (waiting_of l.search));
+  distances : AllByRecursion (λ n. g.T.Distance.SquaredDistance.number n.1 ≡ pos (g.T.Measured.distances.distance_2 n.0.now (g.T.Measured.at l.fn.point))) l.found.items;
   count : length l.found.items ≡ l._turn;
 }

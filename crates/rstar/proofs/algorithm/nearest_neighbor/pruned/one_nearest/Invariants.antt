@@ -7,8 +7,8 @@ use Rattle.rstar.proofs.algorithm.nearest_neighbor.pruned.one_nearest.Given as g
 
 abbrev pub invariant-loop-current : goal.invariant-loop-current
 invariant-loop-current g l = record {
-  waiting : AreWaiting g.T.Envelope.Envelope.boxes g.T.PointDistance.distances (table g.T.Envelope.Point.Point.DIMENSIONS (g.T.Envelope.Point.Point.coord l.fn.point)) g.T.Envelope.Point.Scalar.Ord.cmp any_first g.T.Envelope.Point.Scalar.Number.value l.heap;
-  pruned : IsWhole g.T.Envelope.Envelope.boxes g.T.RTreeObject.object l.fn.root → IsPruned g.T.Envelope.Envelope.boxes g.T.RTreeObject.object g.T.PointDistance.distances (table g.T.Envelope.Point.Point.DIMENSIONS (g.T.Envelope.Point.Point.coord l.fn.point)) g.T.Envelope.Point.Scalar.Number.value (elements_of l.fn.root) (waiting_nodes (items_of l.heap)) l.bound;
+  waiting : AreWaiting g.T.Cover.Merges.boxes g.T.Measured.distances (g.T.Measured.at l.fn.point) g.T.Distance.Ord.cmp any_first g.T.Distance.SquaredDistance.number l.heap;
+  pruned : IsWhole g.T.Cover.Merges.boxes g.T.Covered.object l.fn.root → IsPruned g.T.Cover.Merges.boxes g.T.Covered.object g.T.Measured.distances (g.T.Measured.at l.fn.point) g.T.Distance.SquaredDistance.number (elements_of l.fn.root) (waiting_nodes (items_of l.heap)) l.bound;
 }
 
 abbrev pub decreases-loop-current : goal.decreases-loop-current

@@ -21,20 +21,20 @@ loop-child-preserved g c =
     let one = sum_by-cons parents c.child-item.result [] in
     let before = c.loop-child.invariant.fewer in
     let more = c.in_ok-left.ensures.fewer in
-    let p = table g.T.Envelope.Point.Point.DIMENSIONS (g.T.Envelope.Point.Point.coord c.args.point.now) in
+    let p = g.T.Measured.at c.args.point.now in
     record {
       ordered = c.offer.ensures.ordered;
       waiting = λ before. c.offer.ensures.waiting (c.loop-child.invariant.waiting before);
       fewer = omega arith;
-      pruned = λ all s. c.in_ok-left.ensures.pruned all (drop (c.loop-child.child-index + 1) c.args.children.now) (subst (λ l. IsPruned g.T.Envelope.Envelope.boxes g.T.RTreeObject.object g.T.PointDistance.distances p g.T.Envelope.Point.Scalar.Number.value all (waiting_nodes (items_of c.loop-child.heap) ++ l) c.loop-child.left) back (c.loop-child.invariant.pruned all s));
+      pruned = λ all s. c.in_ok-left.ensures.pruned all (drop (c.loop-child.child-index + 1) c.args.children.now) (subst (λ l. IsPruned g.T.Cover.Merges.boxes g.T.Covered.object g.T.Measured.distances p g.T.Distance.SquaredDistance.number all (waiting_nodes (items_of c.loop-child.heap) ++ l) c.loop-child.left) back (c.loop-child.invariant.pruned all s));
     }
 
 pub returns-clause-pruned : goal.returns-clause-pruned
 returns-clause-pruned g c = λ all s.
     let none = drop_all c.loop-child.child-index c.args.children.now (omega arith) in
-    let p = table g.T.Envelope.Point.Point.DIMENSIONS (g.T.Envelope.Point.Point.coord c.args.point.now) in
+    let p = g.T.Measured.at c.args.point.now in
     let end = ap (λ l. waiting_nodes (items_of c.loop-child.heap) ++ l) none ∙ append-nil (waiting_nodes (items_of c.loop-child.heap)) in
-    subst (λ l. IsPruned g.T.Envelope.Envelope.boxes g.T.RTreeObject.object g.T.PointDistance.distances p g.T.Envelope.Point.Scalar.Number.value all l c.loop-child.left) end (c.loop-child.invariant.pruned all s)
+    subst (λ l. IsPruned g.T.Cover.Merges.boxes g.T.Covered.object g.T.Measured.distances p g.T.Distance.SquaredDistance.number all l c.loop-child.left) end (c.loop-child.invariant.pruned all s)
 
 pub returns-clause-waiting : goal.returns-clause-waiting
 returns-clause-waiting g c = c.loop-child.invariant.waiting

@@ -9,10 +9,10 @@ use Rattle.rstar.proofs.algorithm.nearest_neighbor.pruned.open_within.Given as g
 -- the nodes so far are offered
 abbrev pub invariant-loop-child : goal.invariant-loop-child
 invariant-loop-child g l = record {
-  ordered : IsOrdered (nearest_on_top g.T.Envelope.Point.Scalar.Ord.cmp any_first) l.heap;
-  waiting : AreWaiting g.T.Envelope.Envelope.boxes g.T.PointDistance.distances (table g.T.Envelope.Point.Point.DIMENSIONS (g.T.Envelope.Point.Point.coord l.fn.point)) g.T.Envelope.Point.Scalar.Ord.cmp any_first g.T.Envelope.Point.Scalar.Number.value l.fn.heap
-      → AreWaiting g.T.Envelope.Envelope.boxes g.T.PointDistance.distances (table g.T.Envelope.Point.Point.DIMENSIONS (g.T.Envelope.Point.Point.coord l.fn.point)) g.T.Envelope.Point.Scalar.Ord.cmp any_first g.T.Envelope.Point.Scalar.Number.value l.heap;
+  ordered : IsOrdered (nearest_on_top g.T.Distance.Ord.cmp any_first) l.heap;
+  waiting : AreWaiting g.T.Cover.Merges.boxes g.T.Measured.distances (g.T.Measured.at l.fn.point) g.T.Distance.Ord.cmp any_first g.T.Distance.SquaredDistance.number l.fn.heap
+      → AreWaiting g.T.Cover.Merges.boxes g.T.Measured.distances (g.T.Measured.at l.fn.point) g.T.Distance.Ord.cmp any_first g.T.Distance.SquaredDistance.number l.heap;
   fewer : all_parents (waiting_nodes (items_of l.heap)) ≤ all_parents (waiting_nodes (items_of l.fn.heap)) + all_parents (take l.child-index l.children);
-  pruned : (all : List g.row.T.Denot) → IsPruned g.T.Envelope.Envelope.boxes g.T.RTreeObject.object g.T.PointDistance.distances (table g.T.Envelope.Point.Point.DIMENSIONS (g.T.Envelope.Point.Point.coord l.fn.point)) g.T.Envelope.Point.Scalar.Number.value all (waiting_nodes (items_of l.fn.heap) ++ l.children) l.fn.bound
-      → IsPruned g.T.Envelope.Envelope.boxes g.T.RTreeObject.object g.T.PointDistance.distances (table g.T.Envelope.Point.Point.DIMENSIONS (g.T.Envelope.Point.Point.coord l.fn.point)) g.T.Envelope.Point.Scalar.Number.value all (waiting_nodes (items_of l.heap) ++ drop l.child-index l.children) l.left;
+  pruned : (all : List g.row.T.Denot) → IsPruned g.T.Cover.Merges.boxes g.T.Covered.object g.T.Measured.distances (g.T.Measured.at l.fn.point) g.T.Distance.SquaredDistance.number all (waiting_nodes (items_of l.fn.heap) ++ l.children) l.fn.bound
+      → IsPruned g.T.Cover.Merges.boxes g.T.Covered.object g.T.Measured.distances (g.T.Measured.at l.fn.point) g.T.Distance.SquaredDistance.number all (waiting_nodes (items_of l.heap) ++ drop l.child-index l.children) l.left;
 }

@@ -14,16 +14,16 @@ returns-in_default-clause-none g c =
 
 pub returns-clause-nearest : goal.returns-clause-nearest
 returns-clause-nearest g c =
-    let p = table g.T.Envelope.Point.Point.DIMENSIONS (g.T.Envelope.Point.Point.coord c.args.point.now) in
+    let p = g.T.Measured.at c.args.point.now in
     let gives = rw c.in_ok-first.was at c.in-Some.ensures.gives in
     let at = rw c.in_ok-first.was at c.in-Some.ensures.distance in
     let after = all_elements (waiting_of c.next_neighbor.new.self) in
     let whole = fresh-elements c.new-search.result c.args.root.now c.new-search.ensures.stage (ap (λ b. b.now) c.new-search.ensures.root) in
     let bag = subst (λ l. IsPermutation l (c.in_ok-first.first.now ∷ after)) whole gives.bag in
     let taken = ap (map (λ t. t.now)) (c.in_ok-push.ensures.items ∙ ap (λ l. l ++ c.in_ok-first.first ∷ []) c.new-all.ensures.items) in
-    let tied = subst (λ l. IsTied (λ t. g.T.PointDistance.distances.distance_2 t p) (elements_of c.args.root.now) (g.T.PointDistance.distances.distance_2 c.in_ok-first.first.now p) l after) (sym taken)
-    (tied-first (λ t. g.T.PointDistance.distances.distance_2 t p) (elements_of c.args.root.now) after c.in_ok-first.first.now bag gives.least) in (
-      g.T.PointDistance.distances.distance_2 c.in_ok-first.first.now p,
+    let tied = subst (λ l. IsTied (λ t. g.T.Measured.distances.distance_2 t p) (elements_of c.args.root.now) (g.T.Measured.distances.distance_2 c.in_ok-first.first.now p) l after) (sym taken)
+    (tied-first (λ t. g.T.Measured.distances.distance_2 t p) (elements_of c.args.root.now) after c.in_ok-first.first.now bag gives.least) in (
+      g.T.Measured.distances.distance_2 c.in_ok-first.first.now p,
       at,
-      c.in_ok-take_ties.ensures (elements_of c.args.root.now) (g.T.PointDistance.distances.distance_2 c.in_ok-first.first.now p) at tied,
+      c.in_ok-take_ties.ensures (elements_of c.args.root.now) (g.T.Measured.distances.distance_2 c.in_ok-first.first.now p) at tied,
     )

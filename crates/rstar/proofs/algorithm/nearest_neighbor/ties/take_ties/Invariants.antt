@@ -9,11 +9,11 @@ use Rattle.rstar.proofs.algorithm.nearest_neighbor.ties.take_ties.Given as goal
 -- what was taken lies at the least distance
 abbrev pub invariant-loop-found : goal.invariant-loop-found
 invariant-loop-found g l = record {
-  ready : IsReady g.T.Envelope.Envelope.boxes g.T.PointDistance.distances (table g.T.Envelope.Point.Point.DIMENSIONS (g.T.Envelope.Point.Point.coord l.fn.point)) g.T.Envelope.Point.Scalar.Ord.cmp any_first g.T.Envelope.Point.Scalar.Number.value g.T.RTreeObject.object l.search;
+  ready : IsReady g.T.Cover.Merges.boxes g.T.Measured.distances (g.T.Measured.at l.fn.point) g.T.Distance.Ord.cmp any_first g.T.Distance.SquaredDistance.number g.T.Covered.object l.search;
   unrefused : IsUnrefused l.search.stage;
-  tied : (whole : List g.row.T.Denot) (d : ℕ) → g.T.Envelope.Point.Scalar.Number.value l.fn.least ≡ pos d
-      → IsTied (λ t. g.T.PointDistance.distances.distance_2 t (table g.T.Envelope.Point.Point.DIMENSIONS (g.T.Envelope.Point.Point.coord l.fn.point))) whole d (map (λ t. t.now) l.fn.all.items) (all_elements (waiting_of l.fn.search))
-      → IsTied (λ t. g.T.PointDistance.distances.distance_2 t (table g.T.Envelope.Point.Point.DIMENSIONS (g.T.Envelope.Point.Point.coord l.fn.point))) whole d (map (λ t. t.now) l.all.items) (all_elements (waiting_of l.search));
+  tied : (whole : List g.row.T.Denot) (d : ℕ) → g.T.Distance.SquaredDistance.number l.fn.least ≡ pos d
+      → IsTied (λ t. g.T.Measured.distances.distance_2 t (g.T.Measured.at l.fn.point)) whole d (map (λ t. t.now) l.fn.all.items) (all_elements (waiting_of l.fn.search))
+      → IsTied (λ t. g.T.Measured.distances.distance_2 t (g.T.Measured.at l.fn.point)) whole d (map (λ t. t.now) l.all.items) (all_elements (waiting_of l.search));
 }
 
 abbrev pub decreases-loop-found : goal.decreases-loop-found

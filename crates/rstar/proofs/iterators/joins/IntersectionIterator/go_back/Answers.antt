@@ -6,7 +6,7 @@ use Rattle.rstar.proofs.iterators.joins.IntersectionIterator.go_back.Goals as go
 
 pub returns-in_default : goal.returns-in_default
 returns-in_default g c =
-    let meets = g.U.Meets.meets in
+    let meets = meets_by g.T.Cover.Merges.boxes g.U.Meets.seen in
     let left_box = g.T.Covered.object.box_of in
     let right_box = g.U.Covered.object.box_of in
     let self = c.args.self.now in
@@ -33,7 +33,7 @@ returns-in_default g c =
 
 pub returns : goal.returns
 returns g c =
-    let meets = g.U.Meets.meets in
+    let meets = meets_by g.T.Cover.Merges.boxes g.U.Meets.seen in
     let left_box = g.T.Covered.object.box_of in
     let right_box = g.U.Covered.object.box_of in
     let self = c.args.self.now in

@@ -17,7 +17,7 @@ returns-in_default-split_first g c = let long = ap length c.requires.met.right_b
 
 pub returns-in-Some-two_leaves : goal.returns-in-Some-two_leaves
 returns-in-Some-two_leaves g c =
-    let meets = g.U.Meets.meets in
+    let meets = meets_by g.T.Cover.Merges.boxes g.U.Meets.seen in
     let left_box = g.T.Covered.object.box_of in
     let right_box = g.U.Covered.object.box_of in
     let self = c.args.self.now in
@@ -47,7 +47,7 @@ returns-in-Some-two_leaves g c =
 
 pub push_reserved-requires : goal.push_reserved-requires
 push_reserved-requires g c =
-    let meets = g.U.Meets.meets in
+    let meets = meets_by g.T.Cover.Merges.boxes g.U.Meets.seen in
     let left_box = g.T.Covered.object.box_of in
     let right_box = g.U.Covered.object.box_of in
     let self = c.args.self.now in
@@ -64,7 +64,7 @@ push_reserved-requires g c =
 
 pub returns : goal.returns
 returns g c =
-    let meets = g.U.Meets.meets in
+    let meets = meets_by g.T.Cover.Merges.boxes g.U.Meets.seen in
     let left_box = g.T.Covered.object.box_of in
     let right_box = g.U.Covered.object.box_of in
     let self = c.args.self.now in

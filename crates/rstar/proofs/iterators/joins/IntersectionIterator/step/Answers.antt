@@ -16,7 +16,7 @@ read-requires-clause-met g c =
 
 pub returns-then-is_empty-2 : goal.returns-then-is_empty-2
 returns-then-is_empty-2 g c =
-    let meets = g.U.Meets.meets in
+    let meets = meets_by g.T.Cover.Merges.boxes g.U.Meets.seen in
     let left_box = g.T.Covered.object.box_of in
     let right_box = g.U.Covered.object.box_of in
     let self = c.args.self.now in
@@ -41,7 +41,7 @@ returns-then-is_empty-2 g c =
 
 pub returns : goal.returns
 returns g c =
-    let meets = g.U.Meets.meets in
+    let meets = meets_by g.T.Cover.Merges.boxes g.U.Meets.seen in
     let left_box = g.T.Covered.object.box_of in
     let right_box = g.U.Covered.object.box_of in
     let self = c.args.self.now in

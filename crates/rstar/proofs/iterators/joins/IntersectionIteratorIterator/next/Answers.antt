@@ -6,7 +6,7 @@ use Rattle.rstar.proofs.iterators.joins.IntersectionIteratorIterator.next.Goals 
 pub returns-in-Ended-clause-steps : goal.returns-in-Ended-clause-steps
 unfolding IsJoining pairs_to_come
 returns-in-Ended-clause-steps g c =
-    let meets = g.U.Meets.meets in
+    let meets = meets_by g.T.Cover.Merges.boxes g.U.Meets.seen in
     let left_box = g.T.Covered.object.box_of in
     let right_box = g.U.Covered.object.box_of in
     let left = c.in-Ended.ensures.left ∙ c.loop-t.invariant.left in
@@ -23,7 +23,7 @@ returns-in-Ended-clause-steps g c =
 pub returns-in-Found-clause-steps : goal.returns-in-Found-clause-steps
 unfolding IsJoining pairs_to_come
 returns-in-Found-clause-steps g c =
-    let meets = g.U.Meets.meets in
+    let meets = meets_by g.T.Cover.Merges.boxes g.U.Meets.seen in
     let left_box = g.T.Covered.object.box_of in
     let right_box = g.U.Covered.object.box_of in
     let left = c.in-Found.ensures.left ∙ c.loop-t.invariant.left in

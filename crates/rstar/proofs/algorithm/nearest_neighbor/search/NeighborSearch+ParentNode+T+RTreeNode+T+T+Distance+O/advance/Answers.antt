@@ -10,62 +10,62 @@ use Rattle.rstar.proofs.Nearness.{IsMeasured}
 use Rattle.rstar.proofs.Progress.{on_err}
 use Rattle.rstar.proofs.Walks.{nil-length}
 use Rattle.rstar.proofs.Turns as turns
-use Rattle.rstar.proofs.algorithm.nearest_neighbor.search.NeighborSearch+ParentNode+T+RTreeNode+T+Distance+T+O.advance.Given.{Over}
-use Rattle.rstar.proofs.algorithm.nearest_neighbor.search.NeighborSearch+ParentNode+T+RTreeNode+T+Distance+T+O.advance.Goals as goal
+use Rattle.rstar.proofs.algorithm.nearest_neighbor.search.NeighborSearch+ParentNode+T+RTreeNode+T+T+Distance+O.advance.Given.{Over}
+use Rattle.rstar.proofs.algorithm.nearest_neighbor.search.NeighborSearch+ParentNode+T+RTreeNode+T+T+Distance+O.advance.Goals as goal
 
-measured : (g : Over) (p : _) → IsPoint g.T.Envelope.Point.Scalar.Bounded.low g.T.Envelope.Point.Scalar.Bounded.high g.T.Envelope.Point.Point.DIMENSIONS p
-    → IsMeasured (IsPoint g.T.Envelope.Point.Scalar.Bounded.low g.T.Envelope.Point.Scalar.Bounded.high g.T.Envelope.Point.Point.DIMENSIONS) g.T.Envelope.Envelope.boxes g.T.RTreeObject.object g.T.PointDistance.distances p
+measured : (g : Over) (p : _) → g.T.Cover.Merges.is_point p
+    → IsMeasured (g.T.Cover.Merges.is_point) g.T.Cover.Merges.boxes g.T.Covered.object g.T.Measured.distances p
 measured g p is = record {
-  laws = g.met.T.Envelope.Envelope.envelope_laws;
-  ok = g.met.T.RTreeObject.object_law;
-  near = g.met.T.PointDistance.distance_laws;
+  laws = g.met.T.Cover.Merges.merge_laws;
+  ok = g.met.T.Covered.cover_law;
+  near = g.met.T.Measured.distance_laws;
   point = is;
 }
 
-order : (g : Over) (a b : g.row.T-Envelope-Point-Scalar.Denot) → g.T.Envelope.Point.Scalar.Ord.cmp a b ≡ int_cmp (g.T.Envelope.Point.Scalar.Number.value a) (g.T.Envelope.Point.Scalar.Number.value b)
-order g = turns.order_of g.T.Envelope.Point.Scalar.Number.value g.T.Envelope.Point.Scalar.Ord.cmp _ g.met.T.Envelope.Point.Scalar.Ord.matches_partial_cmp (λ a b. g.met.T.Envelope.Point.Scalar.Number.order_law a b g.met.T.Envelope.Point.Scalar.Integral.exact_law)
+order : (g : Over) (a b : g.row.T-Distance.Denot) → g.T.Distance.Ord.cmp a b ≡ int_cmp (g.T.Distance.SquaredDistance.number a) (g.T.Distance.SquaredDistance.number b)
+order g = turns.order_of g.T.Distance.SquaredDistance.number g.T.Distance.Ord.cmp _ g.met.T.Distance.Ord.matches_partial_cmp g.met.T.Distance.SquaredDistance.number_order
 
 pub loop-current-init : goal.loop-current-init
 loop-current-init g c = record { root = refl; stage = refl; running = c.requires; bag = IsPermutation-refl _; fewer = omega arith }
 
 pub returns-in-Leaf-clause-running : goal.returns-in-Leaf-clause-running
 returns-in-Leaf-clause-running g c =
-    turns.leaf-running (measured g (table g.T.Envelope.Point.Point.DIMENSIONS (g.T.Envelope.Point.Point.coord c.args.point.now)) c.known.ensures.range) g.T.Envelope.Point.Scalar.Number.value g.T.Envelope.Point.Scalar.Ord.cmp g.O.TieOrder.order (order g)
+    turns.leaf-running (measured g (g.T.Measured.at c.args.point.now) c.known.ensures.range) g.T.Distance.SquaredDistance.number g.T.Distance.Ord.cmp g.O.TieOrder.order (order g)
     c.args.self.now.root.now c.loop-current.self.heap c.pop.new.self c.in-Some.current c.loop-current.self.opened c.loop-current.invariant.running c.pop.ensures.ordered c.in-Some.ensures.some c.in-Some.ensures.greatest c.in-Leaf.t c.in-Leaf.is
 
 pub returns-in-Leaf-clause-gives : goal.returns-in-Leaf-clause-gives
 returns-in-Leaf-clause-gives g c =
-    turns.leaf-gives (measured g (table g.T.Envelope.Point.Point.DIMENSIONS (g.T.Envelope.Point.Point.coord c.args.point.now)) c.known.ensures.range) g.T.Envelope.Point.Scalar.Number.value g.T.Envelope.Point.Scalar.Ord.cmp g.O.TieOrder.order (order g)
+    turns.leaf-gives (measured g (g.T.Measured.at c.args.point.now) c.known.ensures.range) g.T.Distance.SquaredDistance.number g.T.Distance.Ord.cmp g.O.TieOrder.order (order g)
     c.args.self.now.root.now c.loop-current.self.heap c.pop.new.self c.in-Some.current c.loop-current.self.opened c.loop-current.invariant.running c.pop.ensures.ordered c.in-Some.ensures.some c.in-Some.ensures.greatest c.in-Leaf.t c.in-Leaf.is
     (waiting_nodes (held_by c.args.self.now)) c.loop-current.invariant.bag
 
 pub returns-in-Leaf-clause-distance : goal.returns-in-Leaf-clause-distance
 returns-in-Leaf-clause-distance g c =
-    turns.leaf-at g.T.Envelope.Envelope.boxes g.T.PointDistance.distances (table g.T.Envelope.Point.Point.DIMENSIONS (g.T.Envelope.Point.Point.coord c.args.point.now)) g.T.Envelope.Point.Scalar.Number.value g.T.Envelope.Point.Scalar.Ord.cmp g.O.TieOrder.order
+    turns.leaf-at g.T.Cover.Merges.boxes g.T.Measured.distances (g.T.Measured.at c.args.point.now) g.T.Distance.SquaredDistance.number g.T.Distance.Ord.cmp g.O.TieOrder.order
     c.loop-current.self.heap c.pop.new.self c.in-Some.current c.loop-current.invariant.running.waiting c.pop.ensures.ordered c.in-Some.ensures.some c.in-Leaf.t c.in-Leaf.is
 
 pub loop-current-smaller : goal.loop-current-smaller
 loop-current-smaller g c =
     let put = subst (λ l. IsPermutation (waiting_nodes (items_of c.pop.new.self) ++ l) (waiting_nodes (held_by c.add_children.new.self))) c.deref.ensures.value c.in_ok-add_children-in-Parent.ensures.added in
-    let less = turns.parent-fewer (measured g (table g.T.Envelope.Point.Point.DIMENSIONS (g.T.Envelope.Point.Point.coord c.args.point.now)) c.known.ensures.range) g.T.Envelope.Point.Scalar.Number.value g.T.Envelope.Point.Scalar.Ord.cmp g.O.TieOrder.order (order g)
+    let less = turns.parent-fewer (measured g (g.T.Measured.at c.args.point.now) c.known.ensures.range) g.T.Distance.SquaredDistance.number g.T.Distance.Ord.cmp g.O.TieOrder.order (order g)
     c.args.self.now.root.now c.loop-current.self.heap c.pop.new.self c.in-Some.current c.loop-current.self.opened c.loop-current.invariant.running c.pop.ensures.ordered c.in-Some.ensures.some c.in-Some.ensures.greatest c.in-Parent.parent c.in-Parent.is c.add_children.new.self.heap put in
     omega arith
 
 pub loop-current-preserved : goal.loop-current-preserved
 loop-current-preserved g c =
     let put = subst (λ l. IsPermutation (waiting_nodes (items_of c.pop.new.self) ++ l) (waiting_nodes (held_by c.add_children.new.self))) c.deref.ensures.value c.in_ok-add_children-in-Parent.ensures.added in
-    let law = measured g (table g.T.Envelope.Point.Point.DIMENSIONS (g.T.Envelope.Point.Point.coord c.args.point.now)) c.known.ensures.range in
-    let less = turns.parent-fewer law g.T.Envelope.Point.Scalar.Number.value g.T.Envelope.Point.Scalar.Ord.cmp g.O.TieOrder.order (order g)
+    let law = measured g (g.T.Measured.at c.args.point.now) c.known.ensures.range in
+    let less = turns.parent-fewer law g.T.Distance.SquaredDistance.number g.T.Distance.Ord.cmp g.O.TieOrder.order (order g)
     c.args.self.now.root.now c.loop-current.self.heap c.pop.new.self c.in-Some.current c.loop-current.self.opened c.loop-current.invariant.running c.pop.ensures.ordered c.in-Some.ensures.some c.in-Some.ensures.greatest c.in-Parent.parent c.in-Parent.is c.add_children.new.self.heap put in
     let before = c.loop-current.invariant.fewer in
     record {
       root = c.add_children.ensures.root ∙ c.loop-current.invariant.root;
       stage = c.add_children.ensures.stage ∙ c.loop-current.invariant.stage;
-      running = turns.parent-running law g.T.Envelope.Point.Scalar.Number.value g.T.Envelope.Point.Scalar.Ord.cmp g.O.TieOrder.order (order g)
+      running = turns.parent-running law g.T.Distance.SquaredDistance.number g.T.Distance.Ord.cmp g.O.TieOrder.order (order g)
           c.args.self.now.root.now c.loop-current.self.heap c.pop.new.self c.in-Some.current c.loop-current.self.opened c.loop-current.invariant.running c.pop.ensures.ordered c.in-Some.ensures.some c.in-Some.ensures.greatest c.in-Parent.parent c.in-Parent.is c.add_children.new.self.heap put
-          (c.add_children.ensures.waiting (turns.rest-waiting g.T.Envelope.Envelope.boxes g.T.PointDistance.distances (table g.T.Envelope.Point.Point.DIMENSIONS (g.T.Envelope.Point.Point.coord c.args.point.now)) g.T.Envelope.Point.Scalar.Number.value g.T.Envelope.Point.Scalar.Ord.cmp g.O.TieOrder.order
+          (c.add_children.ensures.waiting (turns.rest-waiting g.T.Cover.Merges.boxes g.T.Measured.distances (g.T.Measured.at c.args.point.now) g.T.Distance.SquaredDistance.number g.T.Distance.Ord.cmp g.O.TieOrder.order
           c.loop-current.self.heap c.pop.new.self c.in-Some.current c.loop-current.invariant.running.waiting c.pop.ensures.ordered c.in-Some.ensures.some)) c.add_children.new.self.opened (c.add_children.ensures.opened ∙ c.saturating_add-self.ensures);
-      bag = turns.parent-same law g.T.Envelope.Point.Scalar.Number.value g.T.Envelope.Point.Scalar.Ord.cmp g.O.TieOrder.order (order g)
+      bag = turns.parent-same law g.T.Distance.SquaredDistance.number g.T.Distance.Ord.cmp g.O.TieOrder.order (order g)
           c.args.self.now.root.now c.loop-current.self.heap c.pop.new.self c.in-Some.current c.loop-current.self.opened c.loop-current.invariant.running c.pop.ensures.ordered c.in-Some.ensures.some c.in-Some.ensures.greatest c.in-Parent.parent c.in-Parent.is c.add_children.new.self.heap put
           (waiting_nodes (held_by c.args.self.now)) c.loop-current.invariant.bag;
       fewer = omega arith;
@@ -73,12 +73,12 @@ loop-current-preserved g c =
 
 pub returns-clause-running : goal.returns-clause-running
 returns-clause-running g c =
-    turns.same-running g.T.Envelope.Envelope.boxes g.T.PointDistance.distances (table g.T.Envelope.Point.Point.DIMENSIONS (g.T.Envelope.Point.Point.coord c.args.point.now)) g.T.Envelope.Point.Scalar.Number.value g.T.Envelope.Point.Scalar.Ord.cmp g.O.TieOrder.order
-    g.T.RTreeObject.object c.args.self.now.root.now c.loop-current.self.heap c.pop.new.self c.loop-current.self.opened (c.in_default.ensures.none ∙ sym c.in_default.ensures.stays) c.pop.ensures.ordered c.loop-current.invariant.running
+    turns.same-running g.T.Cover.Merges.boxes g.T.Measured.distances (g.T.Measured.at c.args.point.now) g.T.Distance.SquaredDistance.number g.T.Distance.Ord.cmp g.O.TieOrder.order
+    g.T.Covered.object c.args.self.now.root.now c.loop-current.self.heap c.pop.new.self c.loop-current.self.opened (c.in_default.ensures.none ∙ sym c.in_default.ensures.stays) c.pop.ensures.ordered c.loop-current.invariant.running
 
 pub returns-in_err-add_children-in-Parent-clause-refused : goal.returns-in_err-add_children-in-Parent-clause-refused
 returns-in_err-add_children-in-Parent-clause-refused g c =
-    let waits = turns.parent-waits (measured g (table g.T.Envelope.Point.Point.DIMENSIONS (g.T.Envelope.Point.Point.coord c.args.point.now)) c.known.ensures.range) g.T.Envelope.Point.Scalar.Number.value g.T.Envelope.Point.Scalar.Ord.cmp g.O.TieOrder.order (order g)
+    let waits = turns.parent-waits (measured g (g.T.Measured.at c.args.point.now) c.known.ensures.range) g.T.Distance.SquaredDistance.number g.T.Distance.Ord.cmp g.O.TieOrder.order (order g)
     c.args.self.now.root.now c.loop-current.self.heap c.pop.new.self c.in-Some.current c.loop-current.self.opened c.loop-current.invariant.running c.pop.ensures.ordered c.in-Some.ensures.some c.in-Some.ensures.greatest c.in-Parent.parent c.in-Parent.is in
     let before = c.loop-current.invariant.fewer in
     on_err c.from_residual.result _ (omega arith)
@@ -111,5 +111,5 @@ returns-in_err-add_children-in-Parent-clause-stage g c = c.add_children.ensures.
 
 pub returns-in-Leaf-clause-first : goal.returns-in-Leaf-clause-first
 returns-in-Leaf-clause-first g c =
-    turns.leaf-first (measured g (table g.T.Envelope.Point.Point.DIMENSIONS (g.T.Envelope.Point.Point.coord c.args.point.now)) c.known.ensures.range) g.T.Envelope.Point.Scalar.Number.value g.T.Envelope.Point.Scalar.Ord.cmp g.O.TieOrder.order (order g)
+    turns.leaf-first (measured g (g.T.Measured.at c.args.point.now) c.known.ensures.range) g.T.Distance.SquaredDistance.number g.T.Distance.Ord.cmp g.O.TieOrder.order (order g)
     c.args.self.now.root.now c.loop-current.self.heap c.pop.new.self c.in-Some.current c.loop-current.self.opened c.loop-current.invariant.running c.pop.ensures.ordered c.in-Some.ensures.some c.in-Some.ensures.greatest c.in-Leaf.t c.in-Leaf.is

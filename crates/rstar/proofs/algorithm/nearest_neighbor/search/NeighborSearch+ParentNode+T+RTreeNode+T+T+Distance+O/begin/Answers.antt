@@ -5,7 +5,7 @@ use Rattle.rstar.specs.Nodes.{all_elements, all_parents}
 use Rattle.rstar.specs.Searches.{waiting_nodes, waiting_at, held_by}
 use Rattle.rstar.proofs.Openings.{root-counts}
 use Rattle.rstar.proofs.Progress.{on_err}
-use Rattle.rstar.proofs.algorithm.nearest_neighbor.search.NeighborSearch+ParentNode+T+RTreeNode+T+Distance+T+O.begin.Goals as goal
+use Rattle.rstar.proofs.algorithm.nearest_neighbor.search.NeighborSearch+ParentNode+T+RTreeNode+T+T+Distance+O.begin.Goals as goal
 
 pub returns-in-Running-clause-bag : goal.returns-in-Running-clause-bag
 returns-in-Running-clause-bag g c = subst (λ s. IsPermutation (all_elements (waiting_at s c.args.self.now.root.now (held_by c.args.self.now))) (all_elements (waiting_nodes (held_by c.args.self.now)))) (sym c.in-Running.is) (IsPermutation-refl _)

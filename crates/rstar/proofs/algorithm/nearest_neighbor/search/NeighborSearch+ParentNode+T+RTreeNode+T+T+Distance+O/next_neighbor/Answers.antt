@@ -5,7 +5,7 @@ use Rattle.rstar.specs.declared.algorithm.nearest_neighbor.search.Stage.TheVaria
 use Rattle.rstar.specs.Neighbors.{IsNeighbor}
 use Rattle.rstar.specs.Searches.{ComesFirst, waiting_nodes, waiting_at, waiting_of, held_by, IsUnrefused, IsRunning}
 use Rattle.rstar.proofs.Openings.{gives-from, none-from, ready-running}
-use Rattle.rstar.proofs.algorithm.nearest_neighbor.search.NeighborSearch+ParentNode+T+RTreeNode+T+Distance+T+O.next_neighbor.Goals as goal
+use Rattle.rstar.proofs.algorithm.nearest_neighbor.search.NeighborSearch+ParentNode+T+RTreeNode+T+T+Distance+O.next_neighbor.Goals as goal
 
 going : (s : Stage) → (s ≡ Ended → ⊥) → IsUnrefused s
 going Fresh h = tt
@@ -50,7 +50,7 @@ returns-in-Err g c = record {
 
 pub returns-in-Ok-Some : goal.returns-in-Ok-Some
 returns-in-Ok-Some g c =
-    let p = table g.T.Envelope.Point.Point.DIMENSIONS (g.T.Envelope.Point.Point.coord c.args.point.now) in
+    let p = g.T.Measured.at c.args.point.now in
     let old = c.args.self.now in
     let mid = c.begin.new.self in
     let new = c.advance.new.self in
@@ -60,13 +60,13 @@ returns-in-Ok-Some g c =
     let gave = rw c.begin.ensures.root at (rw c.in-Ok-Some.field-0-is at c.in-Ok-Some.ensures.gives) in
     record {
       root = root;
-      ready = ready-running g.T.Envelope.Envelope.boxes g.T.PointDistance.distances p g.T.Envelope.Point.Scalar.Ord.cmp g.O.TieOrder.order g.T.Envelope.Point.Scalar.Number.value g.T.RTreeObject.object
+      ready = ready-running g.T.Cover.Merges.boxes g.T.Measured.distances p g.T.Distance.Ord.cmp g.O.TieOrder.order g.T.Distance.SquaredDistance.number g.T.Covered.object
           new.stage new.root.now new.heap new.opened stage
-          (subst (λ r. IsRunning g.T.Envelope.Envelope.boxes g.T.PointDistance.distances p g.T.Envelope.Point.Scalar.Ord.cmp g.O.TieOrder.order g.T.Envelope.Point.Scalar.Number.value g.T.RTreeObject.object r.now new.heap new.opened) (sym c.advance.ensures.root) c.in-Ok-Some.ensures.running);
-      gives = subst (λ ns. IsNeighbor g.T.Envelope.Envelope.boxes g.T.PointDistance.distances p old.root.now (waiting_of old) ns c.in-Ok-Some.found.0.now) (sym after)
-          (gives-from g.T.Envelope.Envelope.boxes g.T.PointDistance.distances p old.root.now (waiting_of old) (waiting_nodes (held_by mid)) (waiting_nodes (held_by new)) c.in-Ok-Some.found.0.now c.in_default-begin.ensures.bag gave);
+          (subst (λ r. IsRunning g.T.Cover.Merges.boxes g.T.Measured.distances p g.T.Distance.Ord.cmp g.O.TieOrder.order g.T.Distance.SquaredDistance.number g.T.Covered.object r.now new.heap new.opened) (sym c.advance.ensures.root) c.in-Ok-Some.ensures.running);
+      gives = subst (λ ns. IsNeighbor g.T.Cover.Merges.boxes g.T.Measured.distances p old.root.now (waiting_of old) ns c.in-Ok-Some.found.0.now) (sym after)
+          (gives-from g.T.Cover.Merges.boxes g.T.Measured.distances p old.root.now (waiting_of old) (waiting_nodes (held_by mid)) (waiting_nodes (held_by new)) c.in-Ok-Some.found.0.now c.in_default-begin.ensures.bag gave);
       distance = rw c.in-Ok-Some.field-0-is at c.in-Ok-Some.ensures.distance;
-      first = subst (λ ns. ComesFirst g.T.Envelope.Envelope.boxes g.T.PointDistance.distances p g.O.TieOrder.order ns c.in-Ok-Some.found.0.now) (sym after) (rw c.in-Ok-Some.field-0-is at c.in-Ok-Some.ensures.first);
+      first = subst (λ ns. ComesFirst g.T.Cover.Merges.boxes g.T.Measured.distances p g.O.TieOrder.order ns c.in-Ok-Some.found.0.now) (sym after) (rw c.in-Ok-Some.field-0-is at c.in-Ok-Some.ensures.first);
       none = tt;
       over = tt;
       stays = tt;
@@ -79,15 +79,15 @@ returns-in-Ok-Some g c =
 
 pub returns-in-Ok-None : goal.returns-in-Ok-None
 returns-in-Ok-None g c =
-    let p = table g.T.Envelope.Point.Point.DIMENSIONS (g.T.Envelope.Point.Point.coord c.args.point.now) in
+    let p = g.T.Measured.at c.args.point.now in
     let new = c.advance.new.self in
     let stage = c.advance.ensures.stage ∙ c.in_default-begin.ensures.stage in
     let after : waiting_of new ≡ waiting_nodes (held_by new) = ap (λ s. waiting_at s new.root.now (held_by new)) stage in
     record {
       root = c.advance.ensures.root ∙ c.begin.ensures.root;
-      ready = ready-running g.T.Envelope.Envelope.boxes g.T.PointDistance.distances p g.T.Envelope.Point.Scalar.Ord.cmp g.O.TieOrder.order g.T.Envelope.Point.Scalar.Number.value g.T.RTreeObject.object
+      ready = ready-running g.T.Cover.Merges.boxes g.T.Measured.distances p g.T.Distance.Ord.cmp g.O.TieOrder.order g.T.Distance.SquaredDistance.number g.T.Covered.object
           new.stage new.root.now new.heap new.opened stage
-          (subst (λ r. IsRunning g.T.Envelope.Envelope.boxes g.T.PointDistance.distances p g.T.Envelope.Point.Scalar.Ord.cmp g.O.TieOrder.order g.T.Envelope.Point.Scalar.Number.value g.T.RTreeObject.object r.now new.heap new.opened) (sym c.advance.ensures.root) c.in-Ok-None.ensures.running);
+          (subst (λ r. IsRunning g.T.Cover.Merges.boxes g.T.Measured.distances p g.T.Distance.Ord.cmp g.O.TieOrder.order g.T.Distance.SquaredDistance.number g.T.Covered.object r.now new.heap new.opened) (sym c.advance.ensures.root) c.in-Ok-None.ensures.running);
       gives = tt;
       distance = tt;
       first = tt;

@@ -7,7 +7,7 @@ use Rattle.rstar_base.specs.Points.{table}
 use Rattle.rstar_base.specs.SmallHeaps.{items_of}
 use Rattle.rstar.specs.Searches.{waiting_nodes, AreWaiting, held_by}
 use Rattle.rstar.proofs.Searches.{at-push, added-push}
-use Rattle.rstar.proofs.algorithm.nearest_neighbor.search.NeighborSearch+ParentNode+T+RTreeNode+T+Distance+T+O.add_children.Goals as goal
+use Rattle.rstar.proofs.algorithm.nearest_neighbor.search.NeighborSearch+ParentNode+T+RTreeNode+T+T+Distance+O.add_children.Goals as goal
 
 pub loop-node-init : goal.loop-node-init
 loop-node-init g c = record {
@@ -23,7 +23,7 @@ pub loop-node-preserved : goal.loop-node-preserved
 loop-node-preserved g c =
     let in_range : c.loop-node.node-index < length c.args.children.now = omega arith in
     let more = take_more c.args.children.now c.loop-node.node-index c.node-item.result in_range ∙ ap (λ n. take c.loop-node.node-index c.args.children.now ++ n ∷ []) (sym c.node-item.is) in
-    let p = table g.T.Envelope.Point.Point.DIMENSIONS (g.T.Envelope.Point.Point.coord c.args.point.now) in
+    let p = g.T.Measured.at c.args.point.now in
     record {
       root = c.loop-node.invariant.root;
       stage = c.loop-node.invariant.stage;
@@ -31,13 +31,13 @@ loop-node-preserved g c =
       ordered = c.push.ensures.ordered;
       waiting = λ before. record {
         ordered = c.push.ensures.ordered;
-        at = at-push g.T.Envelope.Envelope.boxes g.T.PointDistance.distances p g.T.Envelope.Point.Scalar.Number.value _ (items_of c.loop-node.self.heap) (items_of c.push.new.self) c.in_default.ensures.ok c.distance_to-distance.ensures (c.loop-node.invariant.waiting before).at;
+        at = at-push g.T.Cover.Merges.boxes g.T.Measured.distances p g.T.Distance.SquaredDistance.number _ (items_of c.loop-node.self.heap) (items_of c.push.new.self) c.in_default.ensures.ok c.distance_to-distance.ensures (c.loop-node.invariant.waiting before).at;
       };
       added = subst (λ l. IsPermutation (waiting_nodes (held_by c.args.self.now) ++ l) (waiting_nodes (items_of c.push.new.self))) (sym more) (added-push (waiting_nodes (held_by c.args.self.now)) (take c.loop-node.node-index c.args.children.now) _ (items_of c.loop-node.self.heap) (items_of c.push.new.self) c.loop-node.invariant.added c.in_default.ensures.ok);
     }
 
 pub returns-in-Err-clause-waiting : goal.returns-in-Err-clause-waiting
-returns-in-Err-clause-waiting g c = λ before. subst (AreWaiting g.T.Envelope.Envelope.boxes g.T.PointDistance.distances (table g.T.Envelope.Point.Point.DIMENSIONS (g.T.Envelope.Point.Point.coord c.args.point.now)) g.T.Envelope.Point.Scalar.Ord.cmp g.O.TieOrder.order g.T.Envelope.Point.Scalar.Number.value) (sym c.in-Err.ensures.err) (c.loop-node.invariant.waiting before)
+returns-in-Err-clause-waiting g c = λ before. subst (AreWaiting g.T.Cover.Merges.boxes g.T.Measured.distances (g.T.Measured.at c.args.point.now) g.T.Distance.Ord.cmp g.O.TieOrder.order g.T.Distance.SquaredDistance.number) (sym c.in-Err.ensures.err) (c.loop-node.invariant.waiting before)
 
 pub returns-clause-added : goal.returns-clause-added
 returns-clause-added g c =
