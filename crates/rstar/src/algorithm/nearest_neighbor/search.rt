@@ -148,8 +148,7 @@ impl<'a, T: Measured, O: TieOrder<RTreeNode<T>>> NeighborSearch<
             T.Distance.number T.object self.new.root.now self.new.heap self.new.opened) }
         ensures bag { OnOk result (IsPermutation (all_elements (waiting_of self.old)) (all_elements (waiting_nodes
             (held_by self.new)))) }
-        ensures fewer { OnOk result (all_parents (waiting_nodes (held_by self.new)) ≤ all_parents (waiting_of self.old))
-            }
+        ensures fewer { OnOk result (all_parents (waiting_nodes (held_by self.new)) ≤ all_parents (waiting_of self.old)) }
         ensures refused { OnErr result (0 < all_parents (waiting_of self.old)) }
     {
         match self.stage {
