@@ -2,7 +2,6 @@ use Rattle.std.proofs.Common.{◌≡◌, ◌∷◌, ◌++◌, map, pos, arith, r
 use Rattle.std.proofs.lemmas.Result.{IfOk-weaker}
 use Rattle.std.specs.List.{AllByRecursion}
 use Rattle.std.specs.Ordering.{int_cmp}
-use Rattle.rstar_base.specs.Points.{table, IsPoint}
 use Rattle.rstar_base.specs.SmallHeaps.{items_of}
 use Rattle.rstar.specs.declared.node.RTreeNode.{Parent}
 use Rattle.rstar.specs.Few.{AreFoundSoFar, waiting_parents}
@@ -15,7 +14,7 @@ use Rattle.rstar.proofs.algorithm.nearest_neighbor.few.first_few.Given.{Over}
 use Rattle.rstar.proofs.algorithm.nearest_neighbor.few.first_few.Goals as goal
 
 measured : (g : Over) (p : _) → g.T.Cover.Merges.is_point p
-    → IsMeasured (g.T.Cover.Merges.is_point) g.T.Cover.Merges.boxes g.T.Covered.object g.T.Measured.distances p
+    → IsMeasured g.T.Cover.Merges.is_point g.T.Cover.Merges.boxes g.T.Covered.object g.T.Measured.distances p
 measured g p is = record {
   laws = g.met.T.Cover.Merges.merge_laws;
   ok = g.met.T.Covered.cover_law;

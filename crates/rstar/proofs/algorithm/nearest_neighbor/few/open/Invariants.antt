@@ -1,6 +1,5 @@
 use Rattle.std.proofs.Common.{◌≤◌, ◌+◌, ◌++◌, drop, take, List}
 use Rattle.std.specs.Ordering.{flip_args}
-use Rattle.rstar_base.specs.Points.{table}
 use Rattle.rstar_base.specs.SmallHeaps.{items_of, IsOrdered, Rises}
 use Rattle.rstar.specs.Few.{AreFoundSoFar, WaitAtDistance, waiting_parents}
 use Rattle.rstar.specs.Nodes.{all_parents}

@@ -1,5 +1,4 @@
 use Rattle.std.proofs.Common.{ap, map, subst, IfOk}
-use Rattle.rstar_base.specs.Points.{table}
 use Rattle.rstar.specs.Lists.{IsNotLater, AreFirstOf}
 use Rattle.rstar.proofs.Ties.{fresh-elements}
 use Rattle.rstar.proofs.algorithm.nearest_neighbor.firsts.first_nearest.Goals as goal

@@ -1,7 +1,6 @@
 use Rattle.std.proofs.Common.{◌≡◌, ◌∷◌, [], ap, sym, subst, ◌∙◌, arith, length, map, pos}
 use Rattle.std.specs.List.{AllByRecursion}
 use Rattle.std.proofs.lemmas.List.{map-append, length-map, length-append}
-use Rattle.rstar_base.specs.Points.{table, IsPoint}
 use Rattle.rstar_base.proofs.Lists.{all-append}
 use Rattle.rstar.specs.Lists.{IsNotLater, AreFirst}
 use Rattle.rstar.specs.Nodes.{all_elements}
@@ -13,7 +12,7 @@ use Rattle.rstar.proofs.algorithm.nearest_neighbor.firsts.take_first.Given.{Over
 use Rattle.rstar.proofs.algorithm.nearest_neighbor.firsts.take_first.Goals as goal
 
 measured : (g : Over) (p : _) → g.T.Cover.Merges.is_point p
-    → IsMeasured (g.T.Cover.Merges.is_point) g.T.Cover.Merges.boxes g.T.Covered.object g.T.Measured.distances p
+    → IsMeasured g.T.Cover.Merges.is_point g.T.Cover.Merges.boxes g.T.Covered.object g.T.Measured.distances p
 measured g p is = record {
   laws = g.met.T.Cover.Merges.merge_laws;
   ok = g.met.T.Covered.cover_law;

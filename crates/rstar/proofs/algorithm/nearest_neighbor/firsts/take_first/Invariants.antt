@@ -1,7 +1,6 @@
 use Rattle.std.proofs.Common.{◌≡◌, length, map, pos}
 use Rattle.std.specs.List.{AllByRecursion}
 use Rattle.std.specs.declared.cmp.Ordering.{Ordering}
-use Rattle.rstar_base.specs.Points.{table}
 use Rattle.rstar.specs.Lists.{IsNotLater, AreFirst}
 use Rattle.rstar.specs.Nodes.{all_elements}
 use Rattle.rstar.specs.Searches.{waiting_of, IsReady, IsUnrefused, TiesBy}

@@ -1,5 +1,4 @@
 use Rattle.std.proofs.Common.{◌∷◌, ◌++◌, arith, Some}
-use Rattle.rstar_base.specs.Points.{table, IsPoint}
 use Rattle.rstar_base.specs.SmallHeaps.{items_of}
 use Rattle.rstar.specs.Searches.{waiting_nodes}
 use Rattle.rstar.proofs.Nearness.{IsMeasured}
@@ -10,7 +9,7 @@ use Rattle.rstar.proofs.algorithm.nearest_neighbor.pruned.offer.Given.{Over}
 use Rattle.rstar.proofs.algorithm.nearest_neighbor.pruned.offer.Goals as goal
 
 measured : (g : Over) (p : _) → g.T.Cover.Merges.is_point p
-    → IsMeasured (g.T.Cover.Merges.is_point) g.T.Cover.Merges.boxes g.T.Covered.object g.T.Measured.distances p
+    → IsMeasured g.T.Cover.Merges.is_point g.T.Cover.Merges.boxes g.T.Covered.object g.T.Measured.distances p
 measured g p is = record {
   laws = g.met.T.Cover.Merges.merge_laws;
   ok = g.met.T.Covered.cover_law;

@@ -1,6 +1,5 @@
 use Rattle.std.proofs.Common.{◌≡◌, ◌∷◌, ◌++◌, arith, sym, subst, ap, None}
 use Rattle.std.specs.Ordering.{int_cmp}
-use Rattle.rstar_base.specs.Points.{table, IsPoint}
 use Rattle.rstar_base.specs.SmallHeaps.{items_of}
 use Rattle.rstar.specs.declared.node.RTreeNode.{Parent, Leaf}
 use Rattle.rstar.specs.Nodes.{all_parents, elements_of}
@@ -13,7 +12,7 @@ use Rattle.rstar.proofs.algorithm.nearest_neighbor.pruned.one_nearest.Given.{Ove
 use Rattle.rstar.proofs.algorithm.nearest_neighbor.pruned.one_nearest.Goals as goal
 
 measured : (g : Over) (p : _) → g.T.Cover.Merges.is_point p
-    → IsMeasured (g.T.Cover.Merges.is_point) g.T.Cover.Merges.boxes g.T.Covered.object g.T.Measured.distances p
+    → IsMeasured g.T.Cover.Merges.is_point g.T.Cover.Merges.boxes g.T.Covered.object g.T.Measured.distances p
 measured g p is = record {
   laws = g.met.T.Cover.Merges.merge_laws;
   ok = g.met.T.Covered.cover_law;

@@ -1,4 +1,3 @@
-use Rattle.rstar_base.specs.Points.{table}
 use Rattle.rstar_base.specs.SmallHeaps.{items_of}
 use Rattle.rstar.specs.Nodes.{all_parents, elements_of, IsWhole}
 use Rattle.rstar.specs.Pruned.{IsPruned}

@@ -1,5 +1,4 @@
 use Rattle.std.proofs.Common.{◌≤◌, ◌+◌, ◌++◌, drop, take, List}
-use Rattle.rstar_base.specs.Points.{table}
 use Rattle.rstar_base.specs.SmallHeaps.{items_of, IsOrdered}
 use Rattle.rstar.specs.Nodes.{all_parents}
 use Rattle.rstar.specs.Pruned.{IsPruned}

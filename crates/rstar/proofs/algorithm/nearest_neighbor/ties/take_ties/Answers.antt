@@ -1,6 +1,5 @@
 use Rattle.std.proofs.Common.{◌∷◌, [], map, sym, subst, ap, ◌∙◌}
 use Rattle.std.proofs.lemmas.List.{map-append}
-use Rattle.rstar_base.specs.Points.{table}
 use Rattle.rstar.specs.Nodes.{all_elements}
 use Rattle.rstar.specs.Searches.{waiting_of, IsUnrefused}
 use Rattle.rstar.specs.Ties.{IsTied}

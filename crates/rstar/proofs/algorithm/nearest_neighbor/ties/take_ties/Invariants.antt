@@ -1,5 +1,4 @@
 use Rattle.std.proofs.Common.{◌≡◌, ℕ, List, map, pos}
-use Rattle.rstar_base.specs.Points.{table}
 use Rattle.rstar.specs.Nodes.{all_elements}
 use Rattle.rstar.specs.Searches.{any_first, waiting_of, calls_left, IsReady, IsUnrefused}
 use Rattle.rstar.specs.Ties.{IsTied}

@@ -3,7 +3,6 @@ use Rattle.std.specs.List.Sorted.{IsPermutation}
 use Rattle.std.proofs.lemmas.List.{append-nil, take_more}
 use Rattle.std.proofs.lemmas.List.Sorted.{IsPermutation-refl}
 use lib.Seq.{take_all}
-use Rattle.rstar_base.specs.Points.{table}
 use Rattle.rstar_base.specs.SmallHeaps.{items_of}
 use Rattle.rstar.specs.Searches.{waiting_nodes, AreWaiting, held_by}
 use Rattle.rstar.proofs.Searches.{at-push, added-push}

@@ -2,7 +2,6 @@ use Rattle.std.proofs.Common.{◌≡◌, ◌++◌, arith, sym, subst, ap, ◌∙
 use Rattle.std.specs.List.Sorted.{IsPermutation}
 use Rattle.std.specs.Ordering.{int_cmp}
 use Rattle.std.proofs.lemmas.List.Sorted.{IsPermutation-refl, length_permutation}
-use Rattle.rstar_base.specs.Points.{table, IsPoint}
 use Rattle.rstar_base.specs.SmallHeaps.{items_of}
 use Rattle.rstar.specs.Nodes.{all_elements}
 use Rattle.rstar.specs.Searches.{waiting_nodes, held_by}
@@ -14,7 +13,7 @@ use Rattle.rstar.proofs.algorithm.nearest_neighbor.search.NeighborSearch+ParentN
 use Rattle.rstar.proofs.algorithm.nearest_neighbor.search.NeighborSearch+ParentNode+T+RTreeNode+T+T+Distance+O.advance.Goals as goal
 
 measured : (g : Over) (p : _) → g.T.Cover.Merges.is_point p
-    → IsMeasured (g.T.Cover.Merges.is_point) g.T.Cover.Merges.boxes g.T.Covered.object g.T.Measured.distances p
+    → IsMeasured g.T.Cover.Merges.is_point g.T.Cover.Merges.boxes g.T.Covered.object g.T.Measured.distances p
 measured g p is = record {
   laws = g.met.T.Cover.Merges.merge_laws;
   ok = g.met.T.Covered.cover_law;

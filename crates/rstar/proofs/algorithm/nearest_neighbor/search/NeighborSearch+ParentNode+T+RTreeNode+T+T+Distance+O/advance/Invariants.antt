@@ -1,6 +1,5 @@
 use Rattle.std.proofs.Common.{◌≡◌, ◌≤◌}
 use Rattle.std.specs.List.Sorted.{IsPermutation}
-use Rattle.rstar_base.specs.Points.{table}
 use Rattle.rstar.specs.Nodes.{all_elements, all_parents}
 use Rattle.rstar.specs.Searches.{waiting_nodes, IsRunning, held_by}
 use Rattle.rstar.proofs.algorithm.nearest_neighbor.search.NeighborSearch+ParentNode+T+RTreeNode+T+T+Distance+O.advance.Given as goal

@@ -1,5 +1,4 @@
 use Rattle.std.proofs.Common.{◌≡◌, sym, ap, subst, refl, ◌∙◌, arith}
-use Rattle.rstar_base.specs.Points.{table}
 use Rattle.rstar.specs.declared.algorithm.nearest_neighbor.search.Stage.{Stage}
 use Rattle.rstar.specs.declared.algorithm.nearest_neighbor.search.Stage.TheVariants.{Fresh, Running, Ended}
 use Rattle.rstar.specs.Neighbors.{IsNeighbor}

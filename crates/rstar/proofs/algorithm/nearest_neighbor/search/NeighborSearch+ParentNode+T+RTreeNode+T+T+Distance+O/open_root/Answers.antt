@@ -1,6 +1,5 @@
 use Rattle.std.proofs.Common.{◌++◌, sym, subst}
 use Rattle.std.specs.List.Sorted.{IsPermutation}
-use Rattle.rstar_base.specs.Points.{table, IsPoint}
 use Rattle.rstar.specs.Searches.{waiting_nodes, held_by, IsRunning}
 use Rattle.rstar.proofs.Nearness.{IsMeasured}
 use Rattle.rstar.proofs.Openings.{root-running, root-bag, root-fewer}
@@ -8,7 +7,7 @@ use Rattle.rstar.proofs.algorithm.nearest_neighbor.search.NeighborSearch+ParentN
 use Rattle.rstar.proofs.algorithm.nearest_neighbor.search.NeighborSearch+ParentNode+T+RTreeNode+T+T+Distance+O.open_root.Goals as goal
 
 measured : (g : Over) (p : _) → g.T.Cover.Merges.is_point p
-    → IsMeasured (g.T.Cover.Merges.is_point) g.T.Cover.Merges.boxes g.T.Covered.object g.T.Measured.distances p
+    → IsMeasured g.T.Cover.Merges.is_point g.T.Cover.Merges.boxes g.T.Covered.object g.T.Measured.distances p
 measured g p is = record {
   laws = g.met.T.Cover.Merges.merge_laws;
   ok = g.met.T.Covered.cover_law;
