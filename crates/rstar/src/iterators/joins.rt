@@ -283,12 +283,13 @@ impl<'a, T: Covered, U: Meets<T>> IntersectionIterator<'a, T, U> {
         requires left { IsWhole T.Cover.boxes T.object left.now }
         requires right { IsWhole U.Cover.boxes U.object right.now }
         requires levels { levels ≡ max (levels_below (children_of left.now)) (levels_below (children_of right.now)) }
-        ensures gives { IfOk result (λ it. pairs_to_come (meets_by T.Cover.boxes U.seen) T.object.box_of U.object.box_of
-            it ≡ pairs_from_roots (meets_by T.Cover.boxes U.seen) T.object.box_of U.object.box_of left.now right.now) }
-        ensures made { IfOk result (λ it. IsJoinMade (meets_by T.Cover.boxes U.seen) T.object.box_of U.object.box_of
-            left.now right.now it) }
-        ensures joining { IfOk result (λ it. IsJoining (meets_by T.Cover.boxes U.seen) T.object.box_of U.object.box_of
-            it) }
+        ensures gives { IfOk result (λ it.
+            pairs_to_come (meets_by T.Cover.boxes U.seen) T.object.box_of U.object.box_of it
+            ≡ pairs_from_roots (meets_by T.Cover.boxes U.seen) T.object.box_of U.object.box_of left.now right.now) }
+        ensures made { IfOk result (λ it.
+            IsJoinMade (meets_by T.Cover.boxes U.seen) T.object.box_of U.object.box_of left.now right.now it) }
+        ensures joining { IfOk result (λ it.
+            IsJoining (meets_by T.Cover.boxes U.seen) T.object.box_of U.object.box_of it) }
         ensures near { levels ≤ 12 → IsOk result }
     {
         let lefts = &left.children[..0];
@@ -328,6 +329,7 @@ impl<'a, T: Covered, U: Meets<T>> IntersectionIterator<'a, T, U> {
             opened: 1,
         })
     }
+
     /// How many pairs of nodes were opened so far, the pair of roots among them, held at the greatest `usize`. At the
     /// end these are the pairs of nodes that meet, those of two leaves left out; an empty root is never asked.
     pub fn opened(&self) -> usize
@@ -425,8 +427,8 @@ impl<'a, T: Covered, U: Meets<T>> Iterator for IntersectionIterator<'a, T, U> {
 
     ghost next_gives = { GivesPair (meets_by T.Cover.boxes U.seen) T.object.box_of U.object.box_of };
 
-    ghost remaining = { item_count (pairs_to_come (meets_by T.Cover.boxes U.seen) T.object.box_of
-        U.object.box_of) };
+    ghost remaining = { item_count
+        (pairs_to_come (meets_by T.Cover.boxes U.seen) T.object.box_of U.object.box_of) };
 
     #[tactic(auto, unfolding(crate::specs::Joins::pairs_to_come, crate::specs::Joins::IsJoining))]
     fn next(&mut self) -> Option<(&'a T, &'a U)> {

@@ -233,7 +233,8 @@ fn clones_of_pairs<'a, T: Covered + Clone, U: Meets<T> + Clone>(
     requires joining { IsJoining (meets_by T.Cover.boxes U.seen) T.object.box_of U.object.box_of walk }
     requires left { ClonesEqual T.is_clone }
     requires right { ClonesEqual U.is_clone }
-    ensures { IfOk result (λ pairs. pairs.items ≡ pairs_to_come (meets_by T.Cover.boxes U.seen) T.object.box_of U.object.box_of walk.entry) }
+    ensures { IfOk result (λ pairs. pairs.items
+        ≡ pairs_to_come (meets_by T.Cover.boxes U.seen) T.object.box_of U.object.box_of walk.entry) }
 {
     let mut pairs = Vec::new(alloc);
     let mut items = walk;

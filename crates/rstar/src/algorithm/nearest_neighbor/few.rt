@@ -38,8 +38,8 @@ pub(crate) fn first_few<'a, T: Measured, E: TieOrder<T>>(
     requires { IsWhole T.Cover.boxes T.object root.now }
     ensures first { IfOk result (λ found. AreFirstOf (IsNotLater (λ t. T.distances.distance_2 t (T.at point.now))
         E.order) (elements_of root.now) most (map (λ n. n.0.now) found.items)) }
-    ensures distances { IfOk result (λ found. AllByRecursion (λ n. T.Distance.number n.1 ≡ pos (T.distances.distance_2
-        n.0.now (T.at point.now))) found.items) }
+    ensures distances { IfOk result (λ found. AllByRecursion
+        (λ n. T.Distance.number n.1 ≡ pos (T.distances.distance_2 n.0.now (T.at point.now))) found.items) }
 {
     // Does nothing but tell that the point's coordinates are in their range.
     T::known(point);
@@ -97,10 +97,11 @@ fn open<'a, T: Measured, E: TieOrder<T>>(
     requires falls { Rises (flip_args (nearest_on_top T.Distance.cmp E.order)) found.old.items }
     ensures ordered { IsOrdered (nearest_on_top T.Distance.cmp any_first) heap.new }
     ensures falls { Rises (flip_args (nearest_on_top T.Distance.cmp E.order)) found.new.items }
-    ensures waiting { OnOk result (WaitAtDistance T.Cover.boxes T.distances (T.at point.now) T.Distance.number (items_of
-        heap.old) → WaitAtDistance T.Cover.boxes T.distances (T.at point.now) T.Distance.number (items_of heap.new)) }
-    ensures fewer { OnOk result (all_parents (waiting_parents (items_of heap.new)) ≤ all_parents (waiting_parents
-        (items_of heap.old)) + all_parents children.now) }
+    ensures waiting { OnOk result (WaitAtDistance T.Cover.boxes T.distances (T.at point.now) T.Distance.number
+        (items_of heap.old) → WaitAtDistance T.Cover.boxes T.distances (T.at point.now) T.Distance.number
+        (items_of heap.new)) }
+    ensures fewer { OnOk result (all_parents (waiting_parents (items_of heap.new)) ≤ all_parents
+        (waiting_parents (items_of heap.old)) + all_parents children.now) }
     ensures first { OnOk result ((all : List T) → AreFoundSoFar T.Cover.boxes T.object T.distances (T.at point.now)
         E.order T.Distance.number most all (waiting_parents (items_of heap.old) ++ children.now) found.old.items
         → AreFoundSoFar T.Cover.boxes T.object T.distances (T.at point.now) E.order T.Distance.number most all
@@ -125,13 +126,14 @@ fn offer<'a, T: Measured, E: TieOrder<T>>(
     requires falls { Rises (flip_args (nearest_on_top T.Distance.cmp E.order)) found.old.items }
     ensures ordered { IsOrdered (nearest_on_top T.Distance.cmp any_first) heap.new }
     ensures falls { Rises (flip_args (nearest_on_top T.Distance.cmp E.order)) found.new.items }
-    ensures waiting { OnOk result (WaitAtDistance T.Cover.boxes T.distances (T.at point.now) T.Distance.number (items_of
-        heap.old) → WaitAtDistance T.Cover.boxes T.distances (T.at point.now) T.Distance.number (items_of heap.new)) }
-    ensures fewer { OnOk result (all_parents (waiting_parents (items_of heap.new)) ≤ all_parents (waiting_parents
-        (items_of heap.old)) + parents node.now) }
+    ensures waiting { OnOk result (WaitAtDistance T.Cover.boxes T.distances (T.at point.now) T.Distance.number
+        (items_of heap.old) → WaitAtDistance T.Cover.boxes T.distances (T.at point.now) T.Distance.number
+        (items_of heap.new)) }
+    ensures fewer { OnOk result (all_parents (waiting_parents (items_of heap.new)) ≤ all_parents
+        (waiting_parents (items_of heap.old)) + parents node.now) }
     ensures first { OnOk result ((all : List T) (rest : List (RTreeNode T T.Cover)) → AreFoundSoFar T.Cover.boxes
-        T.object T.distances (T.at point.now) E.order T.Distance.number most all (waiting_parents (items_of heap.old) ++
-        node.now ∷ rest) found.old.items → AreFoundSoFar T.Cover.boxes T.object T.distances (T.at point.now) E.order
+        T.object T.distances (T.at point.now) E.order T.Distance.number most all (waiting_parents (items_of heap.old)
+        ++ node.now ∷ rest) found.old.items → AreFoundSoFar T.Cover.boxes T.object T.distances (T.at point.now) E.order
         T.Distance.number most all (waiting_parents (items_of heap.new) ++ rest) found.new.items) }
 {
     let distance = distance_to(node, point);

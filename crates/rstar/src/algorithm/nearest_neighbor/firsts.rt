@@ -30,8 +30,8 @@ pub(crate) fn first_nearest<'a, T: Measured, O: TieOrder<RTreeNode<T>>, E: TieOr
     requires { IsWhole T.Cover.boxes T.object root.now }
     ensures first { TiesBy O.order E.order → IfOk result (λ found. AreFirstOf (IsNotLater (λ t. T.distances.distance_2 t
         (T.at point.now)) E.order) (elements_of root.now) most (map (λ n. n.0.now) found.items)) }
-    ensures distances { IfOk result (λ found. AllByRecursion (λ n. T.Distance.number n.1 ≡ pos (T.distances.distance_2
-        n.0.now (T.at point.now))) found.items) }
+    ensures distances { IfOk result (λ found. AllByRecursion
+        (λ n. T.Distance.number n.1 ≡ pos (T.distances.distance_2 n.0.now (T.at point.now))) found.items) }
 {
     if most <= FEW {
         return first_few::<T, E>(root, point, most, room);
@@ -52,11 +52,11 @@ fn take_first<'a, T: Measured, O: TieOrder<RTreeNode<T>>>(
     requires fresh { search.old.stage ≡ Fresh }
     requires ready { (p : _) → IsReady T.Cover.boxes T.distances p T.Distance.cmp O.order T.Distance.number T.object
         search.old }
-    ensures first { (order : T → T → Ordering) → TiesBy O.order order → IfOk result (λ found. AreFirstOf (IsNotLater (λ
-        t. T.distances.distance_2 t (T.at point.now)) order) (all_elements (waiting_of search.old)) most (map
-        (λ n. n.0.now) found.items)) }
-    ensures distances { IfOk result (λ found. AllByRecursion (λ n. T.Distance.number n.1 ≡ pos (T.distances.distance_2
-        n.0.now (T.at point.now))) found.items) }
+    ensures first { (order : T → T → Ordering) → TiesBy O.order order → IfOk result (λ found. AreFirstOf
+        (IsNotLater (λ t. T.distances.distance_2 t (T.at point.now)) order) (all_elements (waiting_of search.old)) most
+        (map (λ n. n.0.now) found.items)) }
+    ensures distances { IfOk result (λ found. AllByRecursion
+        (λ n. T.Distance.number n.1 ≡ pos (T.distances.distance_2 n.0.now (T.at point.now))) found.items) }
 {
     // Does nothing but tell that the point's coordinates are in their range.
     T::known(point);

@@ -24,10 +24,10 @@ pub(crate) fn one_nearest<'a, T: Measured>(
     point: &T::Place,
 ) -> Result<Option<(&'a T, T::Distance)>, AllocError>
     ensures none { IsWhole T.Cover.boxes T.object root.now → IfOk result (λ r. IfNone r (elements_of root.now ≡ [])) }
-    ensures nearest { IsWhole T.Cover.boxes T.object root.now → IfOk result (λ r. IfSome r (λ x. IsNearest
-        (λ t. T.distances.distance_2 t (T.at point.now)) (elements_of root.now) x.0.now)) }
-    ensures distance { IfOk result (λ r. IfSome r (λ x. T.Distance.number x.1 ≡ pos (T.distances.distance_2 x.0.now
-        (T.at point.now)))) }
+    ensures nearest { IsWhole T.Cover.boxes T.object root.now → IfOk result (λ r. IfSome r
+        (λ x. IsNearest (λ t. T.distances.distance_2 t (T.at point.now)) (elements_of root.now) x.0.now)) }
+    ensures distance { IfOk result
+        (λ r. IfSome r (λ x. T.Distance.number x.1 ≡ pos (T.distances.distance_2 x.0.now (T.at point.now)))) }
     ensures not_below { IsWhole T.Cover.boxes T.object root.now → IfOk result (λ r. IfSome r
         (λ x. T.Cover.boxes.distance_2 (envelope_of root.now) (T.at point.now) ≤ T.distances.distance_2 x.0.now
         (T.at point.now))) }
@@ -58,10 +58,10 @@ fn distance_within<T: Measured>(
     point: &T::Place,
     bound: Option<T::Distance>,
 ) -> Option<T::Distance>
-    ensures at { IfSome result (λ d. T.Distance.number d ≡ pos (distance_of T.Cover.boxes T.distances (T.at point.now)
-        node.now)) }
-    ensures above { IfNone result (IsAbove T.Distance.number bound (distance_of T.Cover.boxes T.distances
-        (T.at point.now) node.now)) }
+    ensures at { IfSome result
+        (λ d. T.Distance.number d ≡ pos (distance_of T.Cover.boxes T.distances (T.at point.now) node.now)) }
+    ensures above { IfNone result
+        (IsAbove T.Distance.number bound (distance_of T.Cover.boxes T.distances (T.at point.now) node.now)) }
 {
     let Some(limit) = bound else {
         return Some(distance_to(node, point));
@@ -70,11 +70,7 @@ fn distance_within<T: Measured>(
         RTreeNode::Leaf(t) => t.distance_2_if_less_or_equal(point, limit),
         RTreeNode::Parent(parent) => {
             let distance = T::cover_distance_2(&parent.envelope, point);
-            if distance.is_within(limit) {
-                Some(distance)
-            } else {
-                None
-            }
+            distance.is_within(limit).then_some(distance)
         }
     }
 }
@@ -82,8 +78,8 @@ fn distance_within<T: Measured>(
 /// A distance within which a node has an element.
 #[tactic(auto, unfolding(crate::specs::Nodes::node_box, crate::specs::Nodes::fold_tree))]
 fn reach_of<T: Measured>(node: &RTreeNode<T>, point: &T::Place) -> T::Distance
-    ensures { T.Distance.number result ≡ pos (T.Cover.boxes.min_max_dist_2 (node_box T.object.box_of node.now)
-        (T.at point.now)) }
+    ensures { T.Distance.number result ≡ pos
+        (T.Cover.boxes.min_max_dist_2 (node_box T.object.box_of node.now) (T.at point.now)) }
 {
     match node {
         RTreeNode::Leaf(t) => T::cover_min_max_dist_2(&t.envelope(), point),
@@ -93,8 +89,8 @@ fn reach_of<T: Measured>(node: &RTreeNode<T>, point: &T::Place) -> T::Distance
 
 /// The lesser of a bound and a distance.
 fn lowered<S: SquaredDistance>(bound: Option<S>, reach: S) -> S
-    ensures { MatchOption bound (S.number result ≡ S.number reach) (λ s. S.number result ≡ int_min (S.number s)
-        (S.number reach)) }
+    ensures { MatchOption bound (S.number result ≡ S.number reach)
+        (λ s. S.number result ≡ int_min (S.number s) (S.number reach)) }
 {
     match bound {
         Some(limit) => limit.lesser(reach),
@@ -115,12 +111,12 @@ fn offer<'a, T: Measured>(
     ensures waiting { AreWaiting T.Cover.boxes T.distances (T.at point.now) T.Distance.cmp any_first T.Distance.number
         heap.old → AreWaiting T.Cover.boxes T.distances (T.at point.now) T.Distance.cmp any_first T.Distance.number
         heap.new }
-    ensures fewer { OnOk result (all_parents (waiting_nodes (items_of heap.new)) ≤ all_parents (waiting_nodes (items_of
-        heap.old)) + parents node.now) }
+    ensures fewer { OnOk result (all_parents (waiting_nodes (items_of heap.new)) ≤ all_parents
+        (waiting_nodes (items_of heap.old)) + parents node.now) }
     ensures pruned { IfOk result (λ b. (all : List T) (rest : List (RTreeNode T T.Cover)) → IsPruned T.Cover.boxes
-        T.object T.distances (T.at point.now) T.Distance.number all (waiting_nodes (items_of heap.old) ++ node.now ∷
-        rest) bound → IsPruned T.Cover.boxes T.object T.distances (T.at point.now) T.Distance.number all (waiting_nodes
-        (items_of heap.new) ++ rest) b) }
+        T.object T.distances (T.at point.now) T.Distance.number all
+        (waiting_nodes (items_of heap.old) ++ node.now ∷ rest) bound → IsPruned T.Cover.boxes T.object T.distances
+        (T.at point.now) T.Distance.number all (waiting_nodes (items_of heap.new) ++ rest) b) }
 {
     let Some(distance) = distance_within(node, point, bound) else {
         return Ok(bound);
@@ -148,8 +144,8 @@ fn open_within<'a, T: Measured>(
     ensures waiting { AreWaiting T.Cover.boxes T.distances (T.at point.now) T.Distance.cmp any_first T.Distance.number
         heap.old → AreWaiting T.Cover.boxes T.distances (T.at point.now) T.Distance.cmp any_first T.Distance.number
         heap.new }
-    ensures fewer { OnOk result (all_parents (waiting_nodes (items_of heap.new)) ≤ all_parents (waiting_nodes (items_of
-        heap.old)) + all_parents children.now) }
+    ensures fewer { OnOk result (all_parents (waiting_nodes (items_of heap.new)) ≤ all_parents
+        (waiting_nodes (items_of heap.old)) + all_parents children.now) }
     ensures pruned { IfOk result (λ b. (all : List T) → IsPruned T.Cover.boxes T.object T.distances (T.at point.now)
         T.Distance.number all (waiting_nodes (items_of heap.old) ++ children.now) bound → IsPruned T.Cover.boxes
         T.object T.distances (T.at point.now) T.Distance.number all (waiting_nodes (items_of heap.new)) b) }

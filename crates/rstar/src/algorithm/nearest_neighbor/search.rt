@@ -107,10 +107,10 @@ impl<'a, T: Measured, O: TieOrder<RTreeNode<T>>> NeighborSearch<
             T.object self.new }
         ensures gives { IfSome result (λ r. IfOk r (λ x. IsNeighbor T.Cover.boxes T.distances (T.at point.now)
             self.old.root.now (waiting_of self.old) (waiting_of self.new) x.0.now)) }
-        ensures distance { IfSome result (λ r. IfOk r (λ x. T.Distance.number x.1 ≡ pos (T.distances.distance_2 x.0.now
-            (T.at point.now)))) }
-        ensures first { IfSome result (λ r. IfOk r (λ x. ComesFirst T.Cover.boxes T.distances (T.at point.now) O.order
-            (waiting_of self.new) x.0.now)) }
+        ensures distance { IfSome result
+            (λ r. IfOk r (λ x. T.Distance.number x.1 ≡ pos (T.distances.distance_2 x.0.now (T.at point.now)))) }
+        ensures first { IfSome result (λ r. IfOk r
+            (λ x. ComesFirst T.Cover.boxes T.distances (T.at point.now) O.order (waiting_of self.new) x.0.now)) }
         ensures none { IfNone result (IsUnrefused self.old.stage → all_elements (waiting_of self.old) ≡ []) }
         ensures over { IfNone result (IsUnrefused self.old.stage → waiting_of self.new ≡ []) }
         ensures stays { IfNone result (IsUnrefused self.old.stage → self.new.stage ≡ Running) }
@@ -146,8 +146,8 @@ impl<'a, T: Measured, O: TieOrder<RTreeNode<T>>> NeighborSearch<
         ensures stage { OnOk result (self.new.stage ≡ Running) }
         ensures running { OnOk result (IsRunning T.Cover.boxes T.distances (T.at point.now) T.Distance.cmp O.order
             T.Distance.number T.object self.new.root.now self.new.heap self.new.opened) }
-        ensures bag { OnOk result (IsPermutation (all_elements (waiting_of self.old)) (all_elements (waiting_nodes
-            (held_by self.new)))) }
+        ensures bag { OnOk result (IsPermutation (all_elements (waiting_of self.old))
+            (all_elements (waiting_nodes (held_by self.new)))) }
         ensures fewer { OnOk result (all_parents (waiting_nodes (held_by self.new)) ≤ all_parents (waiting_of self.old)) }
         ensures refused { OnErr result (0 < all_parents (waiting_of self.old)) }
     {
@@ -169,10 +169,10 @@ impl<'a, T: Measured, O: TieOrder<RTreeNode<T>>> NeighborSearch<
         ensures root { self.new.root ≡ self.old.root }
         ensures running { OnOk result (IsRunning T.Cover.boxes T.distances (T.at point.now) T.Distance.cmp O.order
             T.Distance.number T.object self.new.root.now self.new.heap self.new.opened) }
-        ensures bag { OnOk result (IsPermutation (all_elements (Parent self.old.root.now ∷ [])) (all_elements
-            (waiting_nodes (held_by self.new)))) }
-        ensures fewer { OnOk result (all_parents (waiting_nodes (held_by self.new)) ≤ all_parents (Parent
-            self.old.root.now ∷ [])) }
+        ensures bag { OnOk result (IsPermutation (all_elements (Parent self.old.root.now ∷ []))
+            (all_elements (waiting_nodes (held_by self.new)))) }
+        ensures fewer { OnOk result
+            (all_parents (waiting_nodes (held_by self.new)) ≤ all_parents (Parent self.old.root.now ∷ [])) }
     {
         // Does nothing but tell that the point's coordinates are in their range.
         T::known(point);
@@ -192,8 +192,8 @@ impl<'a, T: Measured, O: TieOrder<RTreeNode<T>>> NeighborSearch<
             T.Distance.number T.object self.old.root.now self.new.heap self.new.opened) }
         ensures gives { IfOk result (λ r. IfSome r (λ x. IsNeighbor T.Cover.boxes T.distances (T.at point.now)
             self.old.root.now (waiting_nodes (held_by self.old)) (waiting_nodes (held_by self.new)) x.0.now)) }
-        ensures distance { IfOk result (λ r. IfSome r (λ x. T.Distance.number x.1 ≡ pos (T.distances.distance_2 x.0.now
-            (T.at point.now)))) }
+        ensures distance { IfOk result
+            (λ r. IfSome r (λ x. T.Distance.number x.1 ≡ pos (T.distances.distance_2 x.0.now (T.at point.now)))) }
         ensures first { IfOk result (λ r. IfSome r (λ x. ComesFirst T.Cover.boxes T.distances (T.at point.now) O.order
             (waiting_nodes (held_by self.new)) x.0.now)) }
         ensures none { IfOk result (λ r. IfNone r (all_elements (waiting_nodes (held_by self.old)) ≡ [])) }
@@ -226,8 +226,8 @@ impl<'a, T: Measured, O: TieOrder<RTreeNode<T>>> NeighborSearch<
         ensures waiting { AreWaiting T.Cover.boxes T.distances (T.at point.now) T.Distance.cmp O.order T.Distance.number
             self.old.heap → AreWaiting T.Cover.boxes T.distances (T.at point.now) T.Distance.cmp O.order
             T.Distance.number self.new.heap }
-        ensures added { OnOk result (IsPermutation (waiting_nodes (held_by self.old) ++ children.now) (waiting_nodes
-            (held_by self.new))) }
+        ensures added { OnOk result (IsPermutation (waiting_nodes (held_by self.old) ++ children.now)
+            (waiting_nodes (held_by self.new))) }
     {
         for node in children {
             let distance = distance_to(node, point);

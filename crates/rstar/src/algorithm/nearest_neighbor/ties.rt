@@ -47,9 +47,9 @@ fn take_ties<'a, T: Measured>(
         T.object search.old }
     requires unrefused { IsUnrefused search.old.stage }
     ensures { OnOk result ((whole : List T) (d : ℕ) → T.Distance.number least ≡ pos d → IsTied
-        (λ t. T.distances.distance_2 t (T.at point.now)) whole d (map (λ t. t.now) all.old.items) (all_elements
-        (waiting_of search.old)) → AreSomeNearest (λ t. T.distances.distance_2 t (T.at point.now)) whole d (map
-        (λ t. t.now) all.new.items)) }
+        (λ t. T.distances.distance_2 t (T.at point.now)) whole d (map (λ t. t.now) all.old.items)
+        (all_elements (waiting_of search.old)) → AreSomeNearest (λ t. T.distances.distance_2 t (T.at point.now)) whole d
+        (map (λ t. t.now) all.new.items)) }
 {
     while let Some(found) = search.next_neighbor(point) {
         let (t, distance) = found?;
