@@ -84,8 +84,8 @@ impl<T: Covered> ParentNode<T> {
     ///
     /// ```rust
     /// let nodes = tree.root().children();
-    /// [tree.size(), nodes.len()] == [elements.len(), 2]
-    ///     && stands_within(tree, 3, 6)
+    /// let is_so = [tree.size(), nodes.len()] == [elements.len(), 2]
+    ///     && stands_within(&tree, 3, 6)
     ///     && has_node(nodes, one.0, &one.1)
     /// ```
     /// *`crates/rstar_vectors/src/insertion.rt`*

@@ -16,7 +16,9 @@ pub use rstar_base::params::{DefaultParams, RTreeParams, verify_parameters};
 ///     Ok(()) => false,
 ///     Err(refused) => refused.cause == InsertCause::TooMany && refused.element == element,
 /// };
-/// refused && tree.size() == 0 && tree.root().children().is_empty()
+/// let is_bare = tree.size() == 0 && tree.root().children().is_empty();
+/// // ..
+/// refused && is_bare
 /// ```
 /// *`crates/rstar_vectors/src/insertion.rt`*
 #[derive(Clone, Copy, Debug, PartialEq, Eq, Drop)]
@@ -57,7 +59,9 @@ pub struct InsertError<T> {
 ///     Ok(()) => false,
 ///     Err(refused) => refused.cause == InsertCause::TooMany && refused.element == element,
 /// };
-/// refused && tree.size() == 0 && tree.root().children().is_empty()
+/// let is_bare = tree.size() == 0 && tree.root().children().is_empty();
+/// // ..
+/// refused && is_bare
 /// ```
 /// *`crates/rstar_vectors/src/insertion.rt`*
 pub trait InsertionStrategy {

@@ -96,7 +96,9 @@ impl<T: RTreeObject, Params: RTreeParams> RTree<T, Params> {
     ///     Ok(()) => false,
     ///     Err(refused) => refused.cause == InsertCause::TooMany && refused.element == element,
     /// };
-    /// refused && tree.size() == 0 && tree.root().children().is_empty()
+    /// let is_bare = tree.size() == 0 && tree.root().children().is_empty();
+    /// // ..
+    /// refused && is_bare
     /// ```
     /// *`crates/rstar_vectors/src/insertion.rt`*
     pub fn new_with_params(alloc: Global) -> Self

@@ -301,7 +301,10 @@ fn tree_of<Params: RTreeParams>(
 ///
 /// ```rust
 /// match read_stored::<Params>(alloc, bytes) {
-///     Ok(tree) => stands_within(&tree, 1, widest) && goes_on(alloc, tree, points, &none, &steps),
+///     Ok(tree) => {
+///         let is_so = stands_within(&tree, 1, widest);
+///         goes_on(alloc, tree, points, &none, &steps) && is_so
+///     }
 ///     Err(_) => false,
 /// }
 /// ```
@@ -390,10 +393,11 @@ fn parent_size(parent: &ParentNode<[i64; 2]>) -> usize {
 /// once, for as many bytes as are written. The cost is that of a walk over the nodes and of the bytes.
 ///
 /// ```rust
-/// match write_stored(&loaded::<_, Params>(alloc, points)) {
+/// let tree = loaded::<_, Params>(alloc, points);
+/// let bytes = match write_stored(&tree) {
 ///     Ok(bytes) => bytes,
 ///     Err(_) => Vec::new(alloc),
-/// }
+/// };
 /// ```
 /// *`crates/rstar_vectors/src/stored.rt`*
 pub fn write_stored<Params: RTreeParams>(

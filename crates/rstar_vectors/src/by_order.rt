@@ -11,7 +11,7 @@ ghost use Rattle.rstar.specs.Nodes.{parents_of};
 ghost use Rattle.rstar.specs.Trees.{root_of, elements_in, IsWholeTree};
 
 use crate::neighbour_rows::{fits, is_as_told};
-use crate::scenarios::{ALONG_A_LINE, inserted, loaded};
+use crate::scenarios::{ALONG_A_LINE, inserted, let_go, loaded};
 use crate::uses::geofence::Fence;
 use rstar::algorithm::nearest_neighbor::NearestNeighborByOrderIterator;
 use rstar::object::{Distance, PointDistance, PointOf, RTreeObject};
@@ -168,7 +168,7 @@ where
     fits::<PointOf<T>>();
     let mut tree = inserted::<T, DefaultParams>(alloc, elements);
     let mut load = loaded::<T, DefaultParams>(alloc, elements);
-    match &sorted(alloc, elements, &place) {
+    let is_so = match &sorted(alloc, elements, &place) {
         Ok(wanted) => {
             gives(
                 &mut tree.nearest_neighbor_iter_by_order(place),
@@ -179,7 +179,10 @@ where
                 && pops(&mut load, wanted, place)
         }
         Err(_) => false,
-    }
+    };
+    let_go(tree);
+    let_go(load);
+    is_so
 }
 
 /// Points on seven columns and five rows, so many of them: most of them more than once.

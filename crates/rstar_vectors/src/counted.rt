@@ -9,7 +9,7 @@ ghost use Rattle.rstar_base.specs.laws.PointElementLaws.{point_distance_laws};
 ghost use Rattle.rstar_vectors.specs.laws.PlaceLaws.{place_equal};
 ghost use Rattle.rstar.specs.Trees.{elements_in, IsWholeTree};
 
-use crate::scenarios::inserted;
+use crate::scenarios::{inserted, let_go};
 use crate::trials::{ALL, By, Drained, Order, Step, goes_through};
 use rstar::{
     AABB, Counted, DefaultParams, Envelope, EqualEnvelopes, Point, PointDistance, RTree,
@@ -78,6 +78,14 @@ pub fn count_at_root<P: Point>(tree: &RTree<Place<P>>) -> usize
     tree.root().envelope().count()
 }
 
+/// Whether the root of a tree of these places counts so many.
+fn counts_all<P: Point + Copy>(alloc: Global, places: &[Place<P>], count: usize) -> bool {
+    let tree = inserted::<_, DefaultParams>(alloc, places);
+    let is_so = count_at_root(&tree) == count;
+    let_go(tree);
+    is_so
+}
+
 /// So many places, numbered from 0, on a line that wraps around in both coordinates.
 fn places(alloc: Global, count: usize) -> Vec<Place<[i64; 2]>> {
     let mut places = Vec::new(alloc);
@@ -110,8 +118,7 @@ fn every_element_is_merged_once(rt: HostRuntime) {
         Step::Left(0),
     ];
     let all = &places(rt.alloc(), 2000);
-    let tree = inserted::<_, DefaultParams>(rt.alloc(), all.split_at(all.len().min(1000)).0);
-    assert!(rt; count_at_root(&tree) == 1000);
+    assert!(rt; counts_all(rt.alloc(), all.split_at(all.len().min(1000)).0, 1000));
     let none = (Counted::new(AABB::from_point([0, 0])), [0, 0], 0);
     assert!(rt; goes_through::<_, DefaultParams>(rt.alloc(), all, 500, &none, &STEPS));
 }

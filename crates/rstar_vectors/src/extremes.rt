@@ -4,7 +4,7 @@ ghost use Rattle.std.specs.Prelude.{◌≤◌};
 ghost use Rattle.rstar_base.specs.Sizes.{IsNarrow};
 
 use crate::neighbour_rows::{answers, come_and_go};
-use crate::scenarios::{in_steps, inserted};
+use crate::scenarios::{in_steps, inserted, let_go};
 use crate::selections::found;
 use crate::trials::{By, Drained, Order, Step, goes_through};
 use rstar::object::{Distance, PointOf};
@@ -126,7 +126,9 @@ where
     requires { IsNarrow T.Envelope.Point.row }
 {
     let tree = inserted::<T, DefaultParams>(alloc, elements);
-    tree.size() == elements.len() && answers(alloc, &tree, place, distances, &[])
+    let is_so = tree.size() == elements.len() && answers(alloc, &tree, place, distances, &[]);
+    let_go(tree);
+    is_so
 }
 
 // Points of one axis, and points without axes, which all lie at distance 0.

@@ -4,7 +4,7 @@ ghost use Rattle.std.specs.Prelude.{◌≡◌, ◌≤◌, false};
 ghost use Rattle.rstar.specs.Trees.{IsWholeTree};
 
 use crate::node_sizes::Huge;
-use crate::scenarios::{ALONG_A_LINE, inserted, stands, stands_within};
+use crate::scenarios::{ALONG_A_LINE, inserted, let_go, stands, stands_within};
 use crate::trials::{ALL, Step, goes_through};
 use rstar::algorithm::rstar::{RStarInsertionStrategy, split_children};
 use rstar::node::{RTreeNode, envelope_for_children};
@@ -121,12 +121,14 @@ fn is_shaped<T: RTreeObject + Copy>(
     one: &(usize, T::Envelope),
     other: &(usize, T::Envelope),
 ) -> bool {
-    let tree = &inserted::<T, DefaultParams>(alloc, elements);
+    let tree = inserted::<T, DefaultParams>(alloc, elements);
     let nodes = tree.root().children();
-    [tree.size(), nodes.len()] == [elements.len(), 2]
-        && stands_within(tree, 3, 6)
+    let is_so = [tree.size(), nodes.len()] == [elements.len(), 2]
+        && stands_within(&tree, 3, 6)
         && has_node(nodes, one.0, &one.1)
-        && has_node(nodes, other.0, &other.1)
+        && has_node(nodes, other.0, &other.1);
+    let_go(tree);
+    is_so
 }
 
 /// How many children a node has, and the corners of its envelope.
@@ -188,7 +190,9 @@ fn is_one_too_many<T: EqualEnvelopes + Copy>(alloc: Global, element: T) -> bool
         Ok(()) => false,
         Err(refused) => refused.cause == InsertCause::TooMany && refused.element == element,
     };
-    refused && tree.size() == 0 && tree.root().children().is_empty()
+    let is_bare = tree.size() == 0 && tree.root().children().is_empty();
+    let_go(tree);
+    refused && is_bare
 }
 
 /// Ten insertions; `rt try --test --fail-alloc N` refuses the Nth allocation. And one that would need too many lists.

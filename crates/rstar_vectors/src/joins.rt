@@ -10,7 +10,9 @@ ghost use Rattle.rstar.specs.Meets.{meet_of_roots};
 ghost use Rattle.rstar.specs.Trees.{root_of, elements_in, IsWholeTree};
 
 use crate::node_sizes::Splitting;
-use crate::scenarios::{ALONG_A_LINE, counts, drained, in_steps, inserted, levels_of, loaded};
+use crate::scenarios::{
+    ALONG_A_LINE, counts, drained, in_steps, inserted, let_go, levels_of, loaded,
+};
 use crate::uses::geofence::Fence;
 use rstar::iterators::InEnvelope;
 use rstar::primitives::{GeomWithData, Rectangle};
@@ -79,9 +81,12 @@ fn meets<T: RTreeObject + Copy, U: InEnvelope<T::Envelope> + Copy>(
 ) -> bool {
     let left = inserted::<T, DefaultParams>(alloc, lefts);
     let right = inserted(alloc, rights);
-    left.size() == lefts.len()
+    let is_so = left.size() == lefts.len()
         && right.size() == rights.len()
-        && counts(&joined(alloc, &left, &right), wanted.0, Some(wanted.1))
+        && counts(joined(alloc, &left, &right), wanted.0, Some(wanted.1));
+    let_go(left);
+    let_go(right);
+    is_so
 }
 
 /// Whether elements meet others so, those points so, each in either order, and the points themselves so.
@@ -206,10 +211,13 @@ fn met_as_scanned<T: RTreeObject + PartialEq + Copy>(
 {
     let left = loaded::<T, DefaultParams>(alloc, lefts);
     let right = loaded(alloc, rights);
-    match &joined(alloc, &left, &right) {
+    let is_so = match &joined(alloc, &left, &right) {
         Ok((pairs, _)) => are_scanned(pairs, lefts, rights),
         Err(_) => false,
-    }
+    };
+    let_go(left);
+    let_go(right);
+    is_so
 }
 
 /// Whether a join of two loads gives so many pairs, and one of the first with itself.
@@ -224,8 +232,11 @@ fn met_by_loads<T: RTreeObject + Copy>(
 {
     let left = loaded::<T, DefaultParams>(alloc, lefts);
     let right = loaded(alloc, rights);
-    counts(&joined(alloc, &left, &right), pairs, None)
-        && counts(&joined(alloc, &left, &left), own, None)
+    let is_so = counts(joined(alloc, &left, &right), pairs, None)
+        && counts(joined(alloc, &left, &left), own, None);
+    let_go(left);
+    let_go(right);
+    is_so
 }
 
 /// Whether a tree of these elements in small nodes has so many levels of parents below its root, or more, and a join of it
@@ -236,7 +247,10 @@ fn meets_itself_at_depth<T: RTreeObject + Copy>(
     levels: usize,
 ) -> bool {
     let tree = inserted::<T, Splitting>(alloc, elements);
-    levels <= levels_of(tree.root()) && counts(&joined(alloc, &tree, &tree), elements.len(), None)
+    let is_so = levels <= levels_of(tree.root())
+        && counts(joined(alloc, &tree, &tree), elements.len(), None);
+    let_go(tree);
+    is_so
 }
 
 /// How many points, the first of them, and the step from each to the next.

@@ -6,7 +6,9 @@ ghost use Rattle.rstar.specs.Trees.{IsWholeTree};
 
 use crate::node_sizes::Small;
 use crate::reinsertion::all_go_in;
-use crate::scenarios::{goes_in, levels_of, load_of, loaded, points, stands_with};
+use crate::scenarios::{
+    goes_in, let_go, let_root_go, levels_of, load_of, loaded, points, stands_with,
+};
 use rstar::algorithm::bulk_load::{bulk_load_sequential, none_empty};
 use rstar::node::{ParentNode, RTreeNode};
 use rstar::object::PointOf;
@@ -129,12 +131,12 @@ fn has_parts<T: RTreeObject>(alloc: Global, root: &ParentNode<T>, parts: &[usize
 // ---- loads
 
 /// Whether a list has these items, in some order.
-pub(crate) fn are_same<V: Ord + Copy>(alloc: Global, list: &mut Vec<V>, items: &[V]) -> bool {
+pub(crate) fn are_same<V: Ord + Copy>(alloc: Global, mut list: Vec<V>, items: &[V]) -> bool {
     list.sort_unstable();
     match &mut items.to_vec(alloc) {
         Ok(sources) => {
             sources.sort_unstable();
-            *list == *sources
+            list == *sources
         }
         Err(_) => false,
     }
@@ -150,17 +152,20 @@ fn loads_well<P: Point + Copy + Ord, Params: RTreeParams>(
 ) -> bool
     requires { 2 ≤ P.DIMENSIONS }
 {
-    let tree: &mut RTree<P, Params> = &mut loaded(alloc, points);
+    let mut tree = loaded::<P, Params>(alloc, points);
     let root = tree.root();
     let levels = levels_of(root);
     let mut least = usize::MAX;
     let mut all = Vec::new(alloc);
-    stands_with(&*tree, points.len())
-        && gather(root.children(), levels, &mut all).is_ok()
-        && are_same(alloc, &mut all, points)
+    let is_gathered = gather(root.children(), levels, &mut all).is_ok();
+    let is_so = are_same(alloc, all, points)
+        && is_gathered
+        && stands_with(&tree, points.len())
         && is_cut(root, levels, Params::MAX_SIZE, most, &mut least)
         && least <= Params::MAX_SIZE
-        && all_go_in(tree, more, 1, usize::MAX)
+        && all_go_in(&mut tree, more, 1, usize::MAX);
+    let_go(tree);
+    is_so
 }
 
 /// Points as `points` gives them, with a third coordinate.
@@ -366,8 +371,12 @@ fn clone_is_in_parts<T: RTreeObject + Copy>(
 ) -> bool
     requires { IsWholeTree T.Envelope.boxes T.object ⟦<DefaultParams as RTreeParams>⟧.MAX_SIZE tree.now }
 {
-    match &tree.clone() {
-        Ok(copy) => is_in_parts(alloc, copy, count, parts),
+    match tree.clone() {
+        Ok(copy) => {
+            let is_so = is_in_parts(alloc, &copy, count, parts);
+            let_go(copy);
+            is_so
+        }
         Err(_) => false,
     }
 }
@@ -378,11 +387,13 @@ fn load_is_in_parts<T: RTreeObject + Copy>(alloc: Global, elements: &[T], parts:
     requires { 2 ≤ T.Envelope.Point.DIMENSIONS }
 {
     let count = elements.len();
-    match &load_of(alloc, elements) {
+    match load_of(alloc, elements) {
         Ok(tree) => {
-            is_in_parts(alloc, tree, count, parts)
-                && (clone_is_in_parts(alloc, tree, count, parts)
-                    || clone_is_in_parts(alloc, tree, count, parts))
+            let is_so = is_in_parts(alloc, &tree, count, parts)
+                && (clone_is_in_parts(alloc, &tree, count, parts)
+                    || clone_is_in_parts(alloc, &tree, count, parts));
+            let_go(tree);
+            is_so
         }
         Err(_) => false,
     }
@@ -395,8 +406,12 @@ fn root_has_parts<T: RTreeObject>(alloc: Global, elements: Vec<T>, parts: &[usiz
     if elements.is_empty() || !none_empty(&elements) {
         return false;
     }
-    match &bulk_load_sequential::<T, DefaultParams>(elements) {
-        Ok(root) => has_parts(alloc, root, parts),
+    match bulk_load_sequential::<T, DefaultParams>(elements) {
+        Ok(root) => {
+            let is_so = has_parts(alloc, &root, parts);
+            let_root_go(root);
+            is_so
+        }
         Err(_) => false,
     }
 }
@@ -479,12 +494,18 @@ fn loads_cloned_alone<T: RTreeObject + Copy + Debug>(
     requires exact { ClonesEqual T.is_clone }
 {
     let tree = loaded(alloc, elements);
-    tree.size() == elements.len()
+    let is_so = tree.size() == elements.len()
         && (text.is_empty() || shows(alloc, &tree, text))
-        && match &mut tree.clone() {
-            Ok(copy) => stays_alone(alloc, &tree, copy, more),
+        && match tree.clone() {
+            Ok(mut copy) => {
+                let is_alone = stays_alone(alloc, &tree, &mut copy, more);
+                let_go(copy);
+                is_alone
+            }
             Err(_) => false,
-        }
+        };
+    let_go(tree);
+    is_so
 }
 
 // Points in one place, with the text of their load; and so many points, where no text is given.
@@ -537,7 +558,9 @@ pub fn found_and_count<T: PointDistance>(
 {
     let found = tree.locate_at_point(point).is_some();
     let _refused = tree.insert(more).is_err();
-    (found, tree.size())
+    let count = tree.size();
+    let_go(tree);
+    (found, count)
 }
 
 /// Whether that is so of a load of these elements; not where one more has an empty envelope.
@@ -574,8 +597,12 @@ fn load_contains<T: EqualEnvelopes>(alloc: Global, one: T, other: T, wanted: &T)
     if elements.push(one).is_err() || elements.push(other).is_err() || !none_empty(&elements) {
         return false;
     }
-    match &RTree::<T>::bulk_load(elements) {
-        Ok(tree) => tree.contains(wanted),
+    match RTree::<T>::bulk_load(elements) {
+        Ok(tree) => {
+            let is_there = tree.contains(wanted);
+            let_go(tree);
+            is_there
+        }
         Err(_) => false,
     }
 }

@@ -10,7 +10,7 @@ ghost use Rattle.rstar.specs.Trees.{IsWholeTree};
 ghost use Rattle.rstar_vectors.specs.Fits.{iterator_row, alone_row, ordered_row};
 
 use crate::neighbours::{all_below, in_order, one_below};
-use crate::scenarios::{ALONG_A_LINE, inserted, loaded, points};
+use crate::scenarios::{ALONG_A_LINE, inserted, let_go, loaded, points};
 use rstar::algorithm::nearest_neighbor::{
     NearestNeighborDistance2Iterator, NearestNeighborIterator,
 };
@@ -134,11 +134,11 @@ fn is_least_alone<T: PointDistance>(
 
 /// Whether elements that were found lie at these squared distances from a place, in this order.
 fn are_at<T: PointDistance>(
-    found: &Result<Vec<&T>, AllocError>,
+    found: Result<Vec<&T>, AllocError>,
     place: &PointOf<T>,
     distances: &[Distance<T>],
 ) -> bool {
-    match found {
+    match &found {
         Ok(all) => lie_at(all, place, distances),
         Err(_) => false,
     }
@@ -146,22 +146,22 @@ fn are_at<T: PointDistance>(
 
 /// The same of elements that were found with a count of parents.
 fn are_in_order<T: PointDistance>(
-    found: &Result<(Vec<&T>, usize), AllocError>,
+    found: Result<(Vec<&T>, usize), AllocError>,
     place: &PointOf<T>,
     distances: &[Distance<T>],
 ) -> bool {
-    match found {
+    match &found {
         Ok((all, _opened)) => lie_at(all, place, distances),
         Err(_) => false,
     }
 }
 
 /// Whether elements that were found with their distances have these, in this order.
-pub(crate) fn are_first<T, D: PartialEq>(
-    found: &Result<Vec<(&T, D)>, AllocError>,
+pub(crate) fn are_first<T, D: PartialEq + Copy>(
+    found: Result<Vec<(&T, D)>, AllocError>,
     distances: &[D],
 ) -> bool {
-    match found {
+    match &found {
         Ok(all) => {
             if all.len() != distances.len() {
                 return false;
@@ -179,11 +179,11 @@ pub(crate) fn are_first<T, D: PartialEq>(
 
 /// The same of all nearest neighbours with their distance, and of the least distances.
 fn are_least<T: PointDistance>(
-    found: &Result<Option<(Vec<&T>, Distance<T>)>, AllocError>,
+    found: Result<Option<(Vec<&T>, Distance<T>)>, AllocError>,
     place: &PointOf<T>,
     least: &[Distance<T>],
 ) -> bool {
-    match found {
+    match &found {
         Ok(Some((all, one))) => is_at(least, one) && lie_at(all, place, least),
         Ok(None) => least.is_empty(),
         Err(_) => false,
@@ -215,16 +215,16 @@ where
     requires narrow { IsNarrow T.Envelope.Point.row }
     requires whole { IsWholeTree T.Envelope.boxes T.object ⟦<DefaultParams as RTreeParams>⟧.MAX_SIZE tree.now }
 {
-    are_in_order(&in_order(alloc, tree, place), &place, distances)
-        && are_first(&tree.first_neighbors(&place, usize::MAX), distances)
-        && are_first(&tree.first_neighbors(&place, least.len()), least)
-        && are_at(&tree.nearest_neighbors(&place), &place, least)
+    are_in_order(in_order(alloc, tree, place), &place, distances)
+        && are_first(tree.first_neighbors(&place, usize::MAX), distances)
+        && are_first(tree.first_neighbors(&place, least.len()), least)
+        && are_at(tree.nearest_neighbors(&place), &place, least)
         && are_least(
-            &tree.nearest_neighbors_with_distance_2(&place),
+            tree.nearest_neighbors_with_distance_2(&place),
             &place,
             least,
         )
-        && are_least(&all_below(tree, place), &place, least)
+        && are_least(all_below(tree, place), &place, least)
 }
 
 /// Whether all neighbours of a place lie at these squared distances, by each call that leaves the tree, with so many
@@ -318,11 +318,13 @@ where
     requires dimensions { 2 ≤ T.Envelope.Point.DIMENSIONS }
 {
     let mut load = loaded::<T, DefaultParams>(alloc, elements);
-    match &mut elements.to_vec(alloc) {
+    let is_so = match &mut elements.to_vec(alloc) {
         Ok(rest) => answers(alloc, &load, place, distances, &[])
             && pops(&mut load, rest, place, distances),
         Err(_) => false,
-    }
+    };
+    let_go(load);
+    is_so
 }
 
 /// Whether a tree of these elements, and a load of them, answer at a place as a scan of them does, whose squared distances
@@ -341,12 +343,14 @@ where
     requires dimensions { 2 ≤ T.Envelope.Point.DIMENSIONS }
 {
     let tree = inserted::<T, DefaultParams>(alloc, elements);
-    match &scanned(alloc, elements, &place) {
+    let is_so = match &scanned(alloc, elements, &place) {
         Ok(wanted) => wanted.starts_with(first)
             && answers(alloc, &tree, place, wanted, opened)
             && load_comes_and_goes(alloc, elements, place, wanted),
         Err(_) => false,
-    }
+    };
+    let_go(tree);
+    is_so
 }
 
 const LINES: [Line<[i64; 2]>; 2] = [
@@ -529,18 +533,15 @@ where
 {
     fits::<PointOf<T>>();
     let tree = inserted::<T, DefaultParams>(alloc, elements);
+    let mut is_so = true;
     for &(most, given, first, other) in rows {
         near.set(0);
         far.set(0);
-        let mut neighbors = tree.nearest_neighbor_iter(place);
-        if come(&mut neighbors, most) != (given, false)
-            || near.get() != first
-            || far.get() != other
-        {
-            return false;
-        }
+        let came = come(&mut tree.nearest_neighbor_iter(place), most);
+        is_so = is_so && came == (given, false) && near.get() == first && far.get() == other;
     }
-    true
+    let_go(tree);
+    is_so
 }
 
 /// Elements that count, the first so many of them in one cell, the others in another.

@@ -124,7 +124,7 @@ pub(crate) fn all_below<'a, T: PointDistance>(
 #[cfg(test)]
 mod tests {
     use super::*;
-    use crate::scenarios::inserted;
+    use crate::scenarios::{inserted, let_go};
 
     /// Whether these are the elements that are lent, in this order.
     fn are_lent<T: PartialEq>(lent: &Result<Vec<&T>, AllocError>, wanted: &[T]) -> bool {
@@ -160,5 +160,6 @@ mod tests {
                 &[[5, 5], [2, 2], [0, 0]]
             )
         );
+        let_go(tree);
     }
 }

@@ -256,7 +256,7 @@ pub fn renumber_fence(tree: &mut RTree<Fence>, point: [i64; 2], number: u64) -> 
 #[cfg(test)]
 mod tests {
     use super::*;
-    use crate::scenarios::{fences, inserted};
+    use crate::scenarios::{fences, inserted, let_go};
 
     /// Whether an element that contains a point carries a number, by both look-ups.
     fn carries<R: PointDistance>(
@@ -314,13 +314,15 @@ mod tests {
             (number, number)
         };
         let left = elements.len().saturating_sub(usize::from(is_inside));
-        gives_of(alloc, &tree, elements, elements.len())
+        let is_so = gives_of(alloc, &tree, elements, elements.len())
             & carries(&tree, other, number)
             & (renumber(&mut tree, point, 1000) == is_inside)
             & carries(&tree, other, one)
             & gives_of(alloc, &tree, elements, left)
             & (renumber_int(&mut tree, point, 1001) == is_inside)
-            & carries(&tree, other, two)
+            & carries(&tree, other, two);
+        let_go(tree);
+        is_so
     }
 
     // How many fences, their side, and the first one's number; a point where it is written, one where it is read, the

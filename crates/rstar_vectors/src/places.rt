@@ -6,6 +6,7 @@ ghost use Rattle.rstar.specs.Trees.{IsWholeTree, elements_in};
 ghost use Rattle.rstar_vectors.specs.Callers.{IsCountOf};
 
 use crate::doors::Doors;
+use crate::scenarios::let_go;
 use rstar::params::{DefaultParams, InsertError, RTreeParams};
 use rstar::rtree::RTree;
 use rstar_base::aabb::AABB;
@@ -24,11 +25,15 @@ fn pair<T: RTreeObject>(alloc: Global, first: T, second: T) -> Result<RTree<T>, 
 {
     let mut tree = RTree::new(alloc);
     if let Err(refused) = tree.insert(first) {
+        let_go(tree);
         return Err(refused);
     }
     match tree.insert(second) {
         Ok(()) => Ok(tree),
-        Err(refused) => Err(refused),
+        Err(refused) => {
+            let_go(tree);
+            Err(refused)
+        }
     }
 }
 
@@ -126,8 +131,12 @@ where
     if first.envelope().is_empty() || second.envelope().is_empty() {
         return false;
     }
-    match &pair(alloc, first, second) {
-        Ok(tree) => gives_two(alloc, tree, area, near),
+    match pair(alloc, first, second) {
+        Ok(tree) => {
+            let is_so = gives_two(alloc, &tree, area, near);
+            let_go(tree);
+            is_so
+        }
         Err(_) => false,
     }
 }

@@ -83,7 +83,7 @@ fn point_selected(tree: &RTree<At>, point: At) -> Option<&At>
 #[cfg(test)]
 mod tests {
     use super::*;
-    use crate::scenarios::inserted;
+    use crate::scenarios::{inserted, let_go};
     use rstar::primitives::Rectangle;
     use std::alloc::Global;
 
@@ -104,9 +104,11 @@ mod tests {
     {
         let tree = inserted::<T, DefaultParams>(alloc, elements);
         let (inside, touched, here) = come_upon(&tree, area, point);
-        (inside.is_some(), touched.is_some(), here.is_some()) == told
+        let is_so = (inside.is_some(), touched.is_some(), here.is_some()) == told
             && first_selected(&tree, point).is_some() == told.2
-            && first_below(tree.root(), point).is_some() == told.2
+            && first_below(tree.root(), point).is_some() == told.2;
+        let_go(tree);
+        is_so
     }
 
     // Two corners of a box, and what is told of the one point there is, at the first corner, and of the one

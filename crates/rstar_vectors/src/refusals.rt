@@ -13,7 +13,7 @@ use crate::neighbour_rows::{answers, come, fits, scanned};
 use crate::node_sizes::Tens;
 use crate::payloads::{Asked, selected};
 use crate::removal::drain_some;
-use crate::scenarios::{inserted, load_of, loaded, points, stands_with};
+use crate::scenarios::{has_len, inserted, let_go, load_of, loaded, points, stands_with};
 use crate::stored::{ALONG_A_LINE, read_back};
 use crate::trials::Drained;
 use rstar::object::{Distance, PointOf};
@@ -36,9 +36,9 @@ pub(crate) fn is_marked(alloc: Global) -> bool {
     }
 }
 
-/// How many items a walk gave; none where it was refused.
-fn given<A>(walked: &Result<(Vec<A>, usize), AllocError>) -> Option<usize> {
-    match walked {
+/// How many items a walk gave; none where it was refused. It takes what the walk gave.
+fn given<A: Copy>(walked: Result<(Vec<A>, usize), AllocError>) -> Option<usize> {
+    match &walked {
         Ok((all, _opened)) => Some(all.len()),
         Err(_) => None,
     }
@@ -61,9 +61,13 @@ where
     requires whole { IsWholeTree T.Envelope.boxes T.object ⟦<DefaultParams as RTreeParams>⟧.MAX_SIZE tree.now }
 {
     match question {
-        5 => given(&joined(alloc, tree, tree)),
-        6 => match &tree.clone() {
-            Ok(copy) => Some(copy.size()),
+        5 => given(joined(alloc, tree, tree)),
+        6 => match tree.clone() {
+            Ok(copy) => {
+                let count = copy.size();
+                let_go(copy);
+                Some(count)
+            }
             Err(_) => None,
         },
         7 => if answers(alloc, tree, asked.1, distances, &[]) {
@@ -71,8 +75,8 @@ where
         } else {
             None
         },
-        8 => given(&in_stated_order(alloc, tree, asked.1)),
-        _ => given(&selected(alloc, tree, question, asked)),
+        8 => given(in_stated_order(alloc, tree, asked.1)),
+        _ => given(selected(alloc, tree, question, asked)),
     }
 }
 
@@ -194,12 +198,14 @@ fn goes_in<T: EqualEnvelopes + Copy + Debug>(alloc: Global, tree: &mut RTree<T>,
 /// Whether these elements go into a tree so, one after another.
 fn all_go_in<T: EqualEnvelopes + Copy + Debug>(alloc: Global, elements: &[T]) -> bool {
     let mut tree: RTree<T> = RTree::default(alloc);
+    let mut is_so = true;
     for element in elements {
         if element.envelope().is_empty() || !goes_in(alloc, &mut tree, *element) {
-            return false;
+            is_so = false;
         }
     }
-    true
+    let_go(tree);
+    is_so
 }
 
 /// Whether a load of these elements stands and has as many, at once or once more.
@@ -207,14 +213,15 @@ fn is_loaded<T: RTreeObject + Copy>(alloc: Global, elements: &[T]) -> bool
     requires { 2 ≤ T.Envelope.Point.DIMENSIONS }
 {
     let is_begun = is_marked(alloc);
-    let first = &load_of::<T, DefaultParams>(alloc, elements);
+    let first = load_of::<T, DefaultParams>(alloc, elements);
     let is_ended = is_marked(alloc);
-    is_begun
-        && is_ended
-        && match first {
-            Ok(tree) => stands_with(tree, elements.len()),
-            Err(_) => stands_with(&loaded::<T, DefaultParams>(alloc, elements), elements.len()),
-        }
+    let tree = match first {
+        Ok(tree) => tree,
+        Err(_) => loaded(alloc, elements),
+    };
+    let is_so = is_begun && is_ended && stands_with(&tree, elements.len());
+    let_go(tree);
+    is_so
 }
 
 // The seven points on a line in two groups, 22 that reinsert and split more, and loads of 25 and of 28.
@@ -230,32 +237,31 @@ fn insertions_and_loads_that_are_refused(rt: HostRuntime) {
 
 /// Whether a tree is taken apart into so many elements, at once or, where it was refused and is handed back as it was, once
 /// more.
-fn is_taken_apart<T: RTreeObject + Debug>(alloc: Global, tree: RTree<T>, count: usize) -> bool
+fn is_taken_apart<T: RTreeObject + Copy + Debug>(
+    alloc: Global,
+    tree: RTree<T>,
+    count: usize,
+) -> bool
     requires { IsWholeTree T.Envelope.boxes T.object ⟦<DefaultParams as RTreeParams>⟧.MAX_SIZE tree }
 {
     let before = &shown(alloc, tree.root());
     let is_begun = is_marked(alloc);
     let first = tree.into_iter();
     let is_ended = is_marked(alloc);
-    let all = match first {
-        Ok(all) => all,
+    let is_so = match first {
+        Ok(all) => has_len(all.collect(alloc), count),
         Err(back) => {
-            if back.size() != count || !shows_again(alloc, &back, before) {
-                return false;
-            }
+            let is_same = back.size() == count && shows_again(alloc, &back, before);
             match back.into_iter() {
-                Ok(all) => all,
-                Err(_) => return false,
+                Ok(all) => has_len(all.collect(alloc), count) && is_same,
+                Err(tree) => {
+                    let_go(tree);
+                    false
+                }
             }
         }
     };
-    let list: Result<Vec<T>, AllocError> = all.collect(alloc);
-    is_begun
-        && is_ended
-        && match &list {
-            Ok(list) => list.len() == count,
-            Err(_) => false,
-        }
+    is_begun && is_ended && is_so
 }
 
 /// Whether each call gives as many of a load of these elements as told, once more where it is refused, and the load is then
@@ -273,16 +279,16 @@ where
     requires dimensions { 2 ≤ T.Envelope.Point.DIMENSIONS }
 {
     let mut tree = loaded::<T, DefaultParams>(alloc, elements);
-    let Ok(distances) = scanned(alloc, elements, &asked.1) else {
-        return false;
-    };
-    for call in 0..counts.len() {
-        if !is_answered(alloc, &mut tree, call, asked, &distances, counts[call]) {
-            return false;
-        }
-    }
     let left = elements.len().saturating_sub(2);
-    stands_with(&tree, left) && is_taken_apart(alloc, tree, left)
+    let mut is_so = true;
+    match &scanned(alloc, elements, &asked.1) {
+        Ok(distances) => for call in 0..counts.len() {
+            is_so = is_so && is_answered(alloc, &mut tree, call, asked, distances, counts[call]);
+        },
+        Err(_) => is_so = false,
+    }
+    is_so = is_so && stands_with(&tree, left);
+    is_taken_apart(alloc, tree, left) && is_so
 }
 
 // Of 28 points, in two levels of parents below the root: all, those in a box, those that it touches, those at a point, those
@@ -295,17 +301,16 @@ fn calls_that_are_refused(rt: HostRuntime) {
     assert!(rt; are_answered(rt.alloc(), &points(rt.alloc(), 28), &asked, &counts));
 }
 
-/// Whether an iterator over neighbours in a load of these elements, in nodes of ten to forty, gives all, or is refused once
-/// and then gives none for good, and the tree gives all to another one.
-fn end_once<T: PointDistance + Copy>(alloc: Global, elements: &[T], place: PointOf<T>) -> bool
+/// Whether an iterator over neighbours in a tree, in nodes of ten to forty, gives all, or is refused once and then gives
+/// none for good, and the tree gives all to another one.
+fn ends_once<T: PointDistance>(alloc: Global, tree: &RTree<T, Tens>, place: PointOf<T>) -> bool
 where
     PointOf<T>: Copy,
     requires narrow { IsNarrow T.Envelope.Point.row }
-    requires dimensions { 2 ≤ T.Envelope.Point.DIMENSIONS }
+    requires whole { IsWholeTree T.Envelope.boxes T.object ⟦<Tens as RTreeParams>⟧.MAX_SIZE tree.now }
 {
     fits::<PointOf<T>>();
-    let tree = loaded::<T, Tens>(alloc, elements);
-    let count = elements.len();
+    let count = tree.size();
     let is_begun = is_marked(alloc);
     let mut neighbors = tree.nearest_neighbor_iter(place);
     let (came, is_refused) = come(&mut neighbors, usize::MAX);
@@ -320,6 +325,19 @@ where
         && tree.size() == count
 }
 
+/// The same of a load of these elements.
+fn end_once<T: PointDistance + Copy>(alloc: Global, elements: &[T], place: PointOf<T>) -> bool
+where
+    PointOf<T>: Copy,
+    requires narrow { IsNarrow T.Envelope.Point.row }
+    requires dimensions { 2 ≤ T.Envelope.Point.DIMENSIONS }
+{
+    let tree = loaded::<T, Tens>(alloc, elements);
+    let is_so = tree.size() == elements.len() && ends_once(alloc, &tree, place);
+    let_go(tree);
+    is_so
+}
+
 // Forty points in one node of up to forty, where the first growth of an iterator is that of its heap.
 #[test]
 fn an_iterator_is_refused_once(rt: HostRuntime) {
@@ -331,18 +349,24 @@ fn an_iterator_is_refused_once(rt: HostRuntime) {
 fn is_stored(alloc: Global, elements: &[[i64; 2]]) -> bool {
     let count = elements.len();
     let tree = inserted::<_, DefaultParams>(alloc, elements);
+    let mut is_so = false;
     for _ in 0..2 {
         let is_begun = is_marked(alloc);
-        let first = &read_back::<DefaultParams, DefaultParams>(alloc, &tree);
+        let first = read_back::<DefaultParams, DefaultParams>(alloc, &tree);
         let is_ended = is_marked(alloc);
         match first {
-            Ok(read) => return is_begun && is_ended && stands_with(read, count),
-            Err(refused) => if *refused != StoredError::NoMemory {
-                return false;
+            Ok(read) => {
+                is_so = is_begun && is_ended && stands_with(&read, count);
+                let_go(read);
+                break;
+            }
+            Err(refused) => if refused != StoredError::NoMemory {
+                break;
             },
         }
     }
-    false
+    let_go(tree);
+    is_so
 }
 
 // The seven points on a line: one list of bytes, and the lists of three parents. `scripts/refuse_memory.sh` counts these four, so

@@ -10,7 +10,7 @@ ghost use Rattle.rstar.specs.Trees.{elements_in, IsWholeTree};
 use crate::loads::{are_same, deep_points, gather};
 use crate::node_sizes::{Emptying, Wide};
 use crate::payloads::Asked;
-use crate::scenarios::{ALONG_A_LINE, inserted, levels_of, points, stands, stands_with};
+use crate::scenarios::{ALONG_A_LINE, inserted, let_go, levels_of, points, stands, stands_with};
 use crate::selections::LeftOnly;
 use crate::trials::{ALL, By, Drained, Order, State, Step, goes_on, goes_through};
 use rstar::algorithm::selection_functions::{SelectAllFunc, SelectionFunction};
@@ -107,12 +107,14 @@ fn stands_with_one_in<T: PointDistance + Copy>(
     other: PointOf<T>,
 ) -> bool {
     let mut tree = inserted::<T, DefaultParams>(alloc, elements);
-    !one.envelope().is_empty()
+    let is_so = !one.envelope().is_empty()
         && matches!(two_out_one_in(&mut tree, area, one), Ok(true))
         && stands_with(&tree, left)
         && tree.remove_at_point(first).is_none()
         && tree.remove_at_point(other).is_some()
-        && matches!(one_out(&mut tree), Ok(Some(_)))
+        && matches!(one_out(&mut tree), Ok(Some(_)));
+    let_go(tree);
+    is_so
 }
 
 /// Drains at most so many of the elements that are asked for, puts them behind a list, and gives how many came; none where the
@@ -202,12 +204,13 @@ fn are_given_or_left<T: RTreeObject + Ord + Copy>(
 ) -> bool {
     let mut tree = inserted::<T, DefaultParams>(alloc, elements);
     let mut all = Vec::new(alloc);
-    forgotten_after(&mut tree, calls, &mut all)
+    let is_so = forgotten_after(&mut tree, calls, &mut all)
         && all.len() == calls
         && tree.size().saturating_add(calls) == elements.len()
         && stands(&tree)
-        && gather(tree.root().children(), levels_of(tree.root()), &mut all).is_ok()
-        && are_same(alloc, &mut all, elements)
+        && gather(tree.root().children(), levels_of(tree.root()), &mut all).is_ok();
+    let_go(tree);
+    are_same(alloc, all, elements) && is_so
 }
 
 /// Whether a drain by a function takes at most so many out, and leaves so many of those that an envelope touches.
@@ -231,15 +234,9 @@ where
         ),
         Err(_) => ALL,
     };
-    came <= most
-        && stands_with(&tree, elements.len().saturating_sub(came))
-        && goes_on(
-            alloc,
-            tree,
-            elements,
-            asked,
-            &[Step::Are(State::Touched, 0, ALL, left)],
-        )
+    let is_so = came <= most && stands_with(&tree, elements.len().saturating_sub(came));
+    let steps = [Step::Are(State::Touched, 0, ALL, left)];
+    goes_on(alloc, tree, elements, asked, &steps) && is_so
 }
 
 /// What a tree gives when it is taken apart.
@@ -254,7 +251,7 @@ fn taken_apart<T: RTreeObject>(alloc: Global, tree: RTree<T>) -> Result<Vec<T>, 
 
 /// Whether a tree of these elements gives them when it is taken apart, each once and no other.
 fn gives_all<T: RTreeObject + Ord + Copy>(alloc: Global, elements: &[T]) -> bool {
-    match &mut taken_apart(alloc, inserted(alloc, elements)) {
+    match taken_apart(alloc, inserted(alloc, elements)) {
         Ok(all) => are_same(alloc, all, elements),
         Err(_) => false,
     }

@@ -73,14 +73,23 @@ where
     Ok(all)
 }
 
-/// Whether a walk gave so many items, with so many nodes opened where that is told.
-pub(crate) fn counts<A>(
-    found: &Result<(Vec<A>, usize), AllocError>,
+/// Whether a walk gave so many items, with so many nodes opened where that is told. It takes what the walk gave, so that a
+/// step lets go of nothing.
+pub(crate) fn counts<A: Copy>(
+    found: Result<(Vec<A>, usize), AllocError>,
     count: usize,
     opened: Option<usize>,
 ) -> bool {
-    match found {
+    match &found {
         Ok((all, seen)) => all.len() == count && opened.unwrap_or(*seen) == *seen,
+        Err(_) => false,
+    }
+}
+
+/// Whether a list was had, with so many items. It takes the list, too.
+pub(crate) fn has_len<A: Copy>(list: Result<Vec<A>, AllocError>, count: usize) -> bool {
+    match &list {
+        Ok(all) => all.len() == count,
         Err(_) => false,
     }
 }
@@ -113,6 +122,13 @@ pub(crate) fn lies_at<T: PointDistance>(
         && element.contains_point(point) == contained
 }
 
+/// Lets a tree go. What drops a tree is proved at each end of a function that lets one go by itself, which is a fourth of
+/// what a short step costs; so a step hands its tree on to this.
+pub(crate) fn let_go<T: RTreeObject, Params: RTreeParams>(_tree: RTree<T, Params>) {}
+
+/// Lets a root go that no tree holds.
+pub(crate) fn let_root_go<T: RTreeObject>(_root: ParentNode<T>) {}
+
 /// Inserts an element, and whether it went in: not where its envelope is empty, or it is refused.
 pub(crate) fn goes_in<T: RTreeObject, Params: RTreeParams>(
     tree: &mut RTree<T, Params>,
@@ -134,6 +150,7 @@ pub(crate) fn inserted<T: RTreeObject + Copy, Params: RTreeParams>(
     let mut tree = RTree::default(alloc);
     for element in elements {
         if !goes_in(&mut tree, *element) {
+            let_go(tree);
             return RTree::default(alloc);
         }
     }

@@ -7,7 +7,7 @@ ghost use Rattle.rstar.specs.Selections.{IsLawful};
 ghost use Rattle.rstar.specs.Trees.{elements_in, IsWholeTree};
 
 use crate::payloads::{Asked, Walked, all_of, either_at, inside, selected, walked};
-use crate::scenarios::{ALONG_A_LINE, counts, inserted, points, stands};
+use crate::scenarios::{ALONG_A_LINE, counts, has_len, inserted, let_go, points, stands};
 use rstar::algorithm::selection_functions::SelectionFunction;
 use rstar::object::{Distance, PointDistance, PointOf, RTreeObject};
 use rstar::point::{Point, RTreeNum};
@@ -27,10 +27,11 @@ fn selects<T: RTreeObject + Copy, Func: SelectionFunction<T>>(
 ) -> bool {
     let tree = inserted::<T, DefaultParams>(alloc, elements);
     let is_so = match tree.locate_with_selection_function(func) {
-        Ok(walk) => counts(&walked(alloc, walk), count, Some(opened)),
+        Ok(walk) => counts(walked(alloc, walk), count, Some(opened)),
         Err(_) => false,
-    };
-    is_so && stands(&tree)
+    } && stands(&tree);
+    let_go(tree);
+    is_so
 }
 
 /// The elements that a lawful function selects, in the order of the tree.
@@ -58,8 +59,10 @@ fn select_so<T: RTreeObject + Copy>(
     all: (usize, usize),
 ) -> bool {
     let tree = inserted::<T, DefaultParams>(alloc, elements);
-    counts(&inside(alloc, &tree, area), in_area.0, Some(in_area.1))
-        && counts(&all_of(alloc, &tree), all.0, Some(all.1))
+    let is_so = counts(inside(alloc, &tree, area), in_area.0, Some(in_area.1))
+        && counts(all_of(alloc, &tree), all.0, Some(all.1));
+    let_go(tree);
+    is_so
 }
 
 /// Points, two corners, how many points are between them, of all the points there are, each with the parents opened.
@@ -131,10 +134,9 @@ fn left_points<'a>(
 /// Whether a tree of points has so many of them in the left half.
 fn as_many_lie_left(alloc: Global, points: &[[i32; 2]], count: usize) -> bool {
     let tree = inserted::<[i32; 2], DefaultParams>(alloc, points);
-    match &left_points(alloc, &tree) {
-        Ok(left) => left.len() == count,
-        Err(_) => false,
-    }
+    let is_so = has_len(left_points(alloc, &tree), count);
+    let_go(tree);
+    is_so
 }
 
 // rstar's test `test_locate_with_selection_func`, in whole numbers.
@@ -224,13 +226,13 @@ impl<'a, T: RTreeObject> SelectionFunction<T> for CountingFunc<'a> {
 
 /// Whether a function, whose leaves a cell counts, is asked of none when a walk begins, and of one more at each of its
 /// first calls.
-fn asks_one_by_one<T: RTreeObject + Copy, Func: SelectionFunction<T>>(
-    alloc: Global,
-    elements: &[T],
+fn asks_one_by_one<T: RTreeObject, Func: SelectionFunction<T>>(
+    tree: &RTree<T>,
     func: Func,
     asked: &Cell<u32>,
-) -> bool {
-    let tree = inserted::<T, DefaultParams>(alloc, elements);
+) -> bool
+    requires { IsWholeTree T.Envelope.boxes T.object ⟦<DefaultParams as RTreeParams>⟧.MAX_SIZE tree.now }
+{
     let Ok(mut walk) = tree.locate_with_selection_function(func) else {
         return false;
     };
@@ -242,12 +244,25 @@ fn asks_one_by_one<T: RTreeObject + Copy, Func: SelectionFunction<T>>(
     is_so
 }
 
+/// The same in a tree of these elements.
+fn asks_of_these<T: RTreeObject + Copy, Func: SelectionFunction<T>>(
+    alloc: Global,
+    elements: &[T],
+    func: Func,
+    asked: &Cell<u32>,
+) -> bool {
+    let tree = inserted::<T, DefaultParams>(alloc, elements);
+    let is_so = asks_one_by_one(&tree, func, asked);
+    let_go(tree);
+    is_so
+}
+
 // rstar's test `test_leaves_are_tested_lazily`: each `next` asks one leaf more.
 #[test]
 fn a_leaf_is_asked_when_the_walk_comes_to_it(rt: HostRuntime) {
     let asked = Cell::new(0u32);
     let func = CountingFunc { asked: &asked };
-    assert!(rt; asks_one_by_one(rt.alloc(), &ALONG_A_LINE, func, &asked));
+    assert!(rt; asks_of_these(rt.alloc(), &ALONG_A_LINE, func, &asked));
 }
 
 /// Whether a visit of the elements in an envelope ends at the call that breaks, whose break is the answer.
@@ -267,6 +282,7 @@ fn ends_at<T: RTreeObject + Copy>(
             ControlFlow::Continue(())
         }
     });
+    let_go(tree);
     match answer {
         ControlFlow::Break(number) => number == last && calls == last,
         ControlFlow::Continue(()) => false,
@@ -339,14 +355,14 @@ fn are_answers<T: PartialEq>(
 
 /// The same of what a walk gave.
 fn gives<T: PartialEq>(
-    walked: &Result<Walked<'_, T>, AllocError>,
+    walked: Result<Walked<'_, T>, AllocError>,
     elements: &[T],
     scan: &[[bool; 5]],
     question: usize,
 ) -> bool
     requires { question < 5 }
 {
-    match walked {
+    match &walked {
         Ok((found, _opened)) => are_answers(found, elements, scan, question),
         Err(_) => false,
     }
@@ -366,8 +382,12 @@ where
     requires { IsWholeTree T.Envelope.boxes T.object ⟦<DefaultParams as RTreeParams>⟧.MAX_SIZE tree.now }
 {
     for question in 0..5usize {
-        let walk = &selected(alloc, tree, question, asked);
-        if !gives(walk, elements, scan, question) {
+        if !gives(
+            selected(alloc, tree, question, asked),
+            elements,
+            scan,
+            question,
+        ) {
             return false;
         }
     }
@@ -418,13 +438,10 @@ where
     let scan = scanned(alloc, elements, &asked);
     let counts = counted(&scan);
     let tree = inserted::<T, DefaultParams>(alloc, elements);
-    if iterators_find(alloc, &tree, elements, &scan, &asked)
-        && visits_find(&tree, area, point, counts[2], counts[3])
-    {
-        Some(counts)
-    } else {
-        None
-    }
+    let is_so = iterators_find(alloc, &tree, elements, &scan, &asked)
+        && visits_find(&tree, area, point, counts[2], counts[3]);
+    let_go(tree);
+    if is_so { Some(counts) } else { None }
 }
 
 // Taken literally, the empty box intersects the full range, and lies in it.

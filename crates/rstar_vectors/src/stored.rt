@@ -7,7 +7,7 @@ ghost use Rattle.rstar.specs.Stored.{boxes, places};
 ghost use Rattle.rstar.specs.Trees.{root_of, IsWholeTree};
 
 use crate::node_sizes::{Small, Wide};
-use crate::scenarios::{loaded, stands_within};
+use crate::scenarios::{let_go, loaded, stands_within};
 use crate::trials::{ALL, By, Drained, Order, State, Step, goes_on};
 use rstar::stored::{StoredError, read_stored, write_stored};
 use rstar::{AABB, DefaultParams, RTree, RTreeParams};
@@ -38,10 +38,13 @@ fn points(alloc: Global, count: usize) -> Vec<[i64; 2]> {
 
 /// What a load of these points is written as; nothing where that is refused.
 fn written<Params: RTreeParams>(alloc: Global, points: &[[i64; 2]]) -> Vec<u8> {
-    match write_stored(&loaded::<_, Params>(alloc, points)) {
+    let tree = loaded::<_, Params>(alloc, points);
+    let bytes = match write_stored(&tree) {
         Ok(bytes) => bytes,
         Err(_) => Vec::new(alloc),
-    }
+    };
+    let_go(tree);
+    bytes
 }
 
 /// The tree that is read of what a tree is written as, which shows the same.
@@ -78,7 +81,10 @@ fn is_read<Params: RTreeParams>(
     ];
     let none = (AABB::from_point([0, 0]), [0, 0], 0);
     match read_stored::<Params>(alloc, bytes) {
-        Ok(tree) => stands_within(&tree, 1, widest) && goes_on(alloc, tree, points, &none, &steps),
+        Ok(tree) => {
+            let is_so = stands_within(&tree, 1, widest);
+            goes_on(alloc, tree, points, &none, &steps) && is_so
+        }
         Err(_) => false,
     }
 }

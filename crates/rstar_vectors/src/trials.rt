@@ -310,5 +310,6 @@ where
 {
     let count = loaded_first.min(elements.len());
     let tree = loaded::<T, Params>(alloc, elements.split_at(count).0);
-    stands_with(&tree, count) && goes_on(alloc, tree, elements, asked, steps)
+    let is_so = stands_with(&tree, count);
+    goes_on(alloc, tree, elements, asked, steps) && is_so
 }

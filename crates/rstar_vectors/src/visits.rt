@@ -53,7 +53,7 @@ fn clear_below<R: RTreeObject>(root: &mut ParentNode<GeomWithData<R, u64>>, area
 #[cfg(test)]
 mod tests {
     use super::*;
-    use crate::scenarios::{fences, inserted};
+    use crate::scenarios::{fences, inserted, let_go, let_root_go};
     use crate::uses::geofence::Fence;
     use rstar::AABB;
     use rstar::algorithm::bulk_load::{bulk_load_sequential, none_empty};
@@ -113,9 +113,11 @@ mod tests {
         tree.locate_all_at_point_int_mut(point, add_one);
         let third = sum(tree.root());
         clear(&mut tree, cleared);
+        let last = sum(tree.root());
+        let_go(tree);
         (
             answer.break_value().unwrap_or(0),
-            [first, second, third, sum(tree.root())],
+            [first, second, third, last],
         )
     }
 
@@ -130,11 +132,13 @@ mod tests {
         if elements.is_empty() || !none_empty(&elements) {
             return None;
         }
-        match &mut bulk_load_sequential::<Numbered<R>, DefaultParams>(elements) {
-            Ok(root) => {
-                let before = sum(&*root);
-                clear_below(root, area);
-                Some((before, sum(&*root)))
+        match bulk_load_sequential::<Numbered<R>, DefaultParams>(elements) {
+            Ok(mut root) => {
+                let before = sum(&root);
+                clear_below(&mut root, area);
+                let after = sum(&root);
+                let_root_go(root);
+                Some((before, after))
             }
             Err(_) => None,
         }

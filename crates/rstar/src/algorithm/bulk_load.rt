@@ -34,8 +34,12 @@ use std::alloc::AllocError;
 /// if elements.is_empty() || !none_empty(&elements) {
 ///     return false;
 /// }
-/// match &bulk_load_sequential::<T, DefaultParams>(elements) {
-///     Ok(root) => has_parts(alloc, root, parts),
+/// match bulk_load_sequential::<T, DefaultParams>(elements) {
+///     Ok(root) => {
+///         let is_so = has_parts(alloc, &root, parts);
+///         // ..
+///         is_so
+///     }
 ///     Err(_) => false,
 /// }
 /// ```

@@ -28,7 +28,9 @@ use rstar_base::params::RTreeParams;
 ///     Ok(()) => false,
 ///     Err(refused) => refused.cause == InsertCause::TooMany && refused.element == element,
 /// };
-/// refused && tree.size() == 0 && tree.root().children().is_empty()
+/// let is_bare = tree.size() == 0 && tree.root().children().is_empty();
+/// // ..
+/// refused && is_bare
 /// ```
 /// *`crates/rstar_vectors/src/insertion.rt`*
 pub enum RStarInsertionStrategy {}

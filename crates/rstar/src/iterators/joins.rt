@@ -30,9 +30,11 @@ use std::alloc::AllocError;
 /// ) -> bool {
 ///     let left = inserted::<T, DefaultParams>(alloc, lefts);
 ///     let right = inserted(alloc, rights);
-///     left.size() == lefts.len()
+///     let is_so = left.size() == lefts.len()
 ///         && right.size() == rights.len()
-///         && counts(&joined(alloc, &left, &right), wanted.0, Some(wanted.1))
+///         && counts(joined(alloc, &left, &right), wanted.0, Some(wanted.1));
+///     // ..
+///     is_so
 /// }
 /// ```
 /// *`crates/rstar_vectors/src/joins.rt`*

@@ -26,8 +26,12 @@ impl<T: RTreeObject + Clone, Params: RTreeParams> RTree<T, Params> {
     /// It is refused where the allocator refuses a list, or a clone of an element. It costs a clone of each element.
     ///
     /// ```rust
-    /// match &tree.clone() {
-    ///     Ok(copy) => is_in_parts(alloc, copy, count, parts),
+    /// match tree.clone() {
+    ///     Ok(copy) => {
+    ///         let is_so = is_in_parts(alloc, &copy, count, parts);
+    ///         // ..
+    ///         is_so
+    ///     }
     ///     Err(_) => false,
     /// }
     /// ```

@@ -135,8 +135,7 @@ impl<T: RTreeObject, Params: RTreeParams> RTree<T, Params> {
     ///     ),
     ///     Err(_) => ALL,
     /// };
-    /// came <= most
-    ///     && stands_with(&tree, elements.len().saturating_sub(came))
+    /// let is_so = came <= most && stands_with(&tree, elements.len().saturating_sub(came));
     /// ```
     /// *`crates/rstar_vectors/src/removal.rt`*
     #[tactic(auto, unfolding(crate::specs::Drains::IsDraining))]

@@ -208,12 +208,12 @@ impl<T: PointDistance, Params: RTreeParams> RTree<T, Params> {
     /// refuses the list or what waits.
     ///
     /// ```rust
-    /// match found {
+    /// match &found {
     ///     Ok(all) => lie_at(all, place, distances),
     ///     Err(_) => false,
     /// }
     /// // ..
-    /// && are_at(&tree.nearest_neighbors(&place), &place, least)
+    /// && are_at(tree.nearest_neighbors(&place), &place, least)
     /// ```
     /// *`crates/rstar_vectors/src/neighbour_rows.rt`*
     #[tactic(auto, unfolding(crate::specs::Trees::IsWholeTree))]
@@ -236,14 +236,14 @@ impl<T: PointDistance, Params: RTreeParams> RTree<T, Params> {
     /// refuses the list or what waits.
     ///
     /// ```rust
-    /// match found {
+    /// match &found {
     ///     Ok(Some((all, one))) => is_at(least, one) && lie_at(all, place, least),
     ///     Ok(None) => least.is_empty(),
     ///     Err(_) => false,
     /// }
     /// // ..
     /// && are_least(
-    ///     &tree.nearest_neighbors_with_distance_2(&place),
+    ///     tree.nearest_neighbors_with_distance_2(&place),
     ///     &place,
     ///     least,
     /// )
@@ -271,9 +271,9 @@ impl<T: PointDistance, Params: RTreeParams> RTree<T, Params> {
     /// before they are lent. It is refused where the allocator refuses these lists or what waits.
     ///
     /// ```rust
-    /// are_in_order(&in_order(alloc, tree, place), &place, distances)
-    ///     && are_first(&tree.first_neighbors(&place, usize::MAX), distances)
-    ///     && are_first(&tree.first_neighbors(&place, least.len()), least)
+    /// are_in_order(in_order(alloc, tree, place), &place, distances)
+    ///     && are_first(tree.first_neighbors(&place, usize::MAX), distances)
+    ///     && are_first(tree.first_neighbors(&place, least.len()), least)
     /// ```
     /// *`crates/rstar_vectors/src/neighbour_rows.rt`*
     #[tactic(auto, unfolding(crate::specs::Trees::IsWholeTree))]

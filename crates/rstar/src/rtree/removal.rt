@@ -103,8 +103,12 @@ impl<T: EqualEnvelopes, Params: RTreeParams> RTree<T, Params> {
     /// It opens the parents whose envelopes contain the element's until it finds one, and takes no memory.
     ///
     /// ```rust
-    /// match &RTree::<T>::bulk_load(elements) {
-    ///     Ok(tree) => tree.contains(wanted),
+    /// match RTree::<T>::bulk_load(elements) {
+    ///     Ok(tree) => {
+    ///         let is_there = tree.contains(wanted);
+    ///         // ..
+    ///         is_there
+    ///     }
     ///     Err(_) => false,
     /// }
     /// ```

@@ -160,7 +160,9 @@ impl<T: PointDistance, Params: RTreeParams> RTree<T, Params> {
     /// ```rust
     /// let found = tree.locate_at_point(point).is_some();
     /// let _refused = tree.insert(more).is_err();
-    /// (found, tree.size())
+    /// let count = tree.size();
+    /// // ..
+    /// (found, count)
     /// ```
     /// *`crates/rstar_vectors/src/loads.rt`*
     pub fn locate_at_point(&self, point: PointOf<T>) -> Option<&T>

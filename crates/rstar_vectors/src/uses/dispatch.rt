@@ -101,19 +101,15 @@ mod tests {
     /// Whether of vehicles that wait at these places the nearest are told, and the nearest is sent, at each call.
     fn are_sent(alloc: Global, waiting: &[([i64; 2], u64)], calls: &[Call]) -> bool {
         let mut dispatch = Dispatch::new(alloc);
+        let mut is_so = true;
         for &(place, number) in waiting {
-            if dispatch.add(place, number).is_err() {
-                return false;
-            }
+            is_so = dispatch.add(place, number).is_ok() && is_so;
         }
         for &(place, most, nearest, sent) in calls {
-            if !are_first(&dispatch.nearest(&place, most), nearest)
-                || !is_sent(dispatch.send(place), sent)
-            {
-                return false;
-            }
+            is_so = are_first(dispatch.nearest(&place, most), nearest) && is_so;
+            is_so = is_sent(dispatch.send(place), sent) && is_so;
         }
-        true
+        is_so
     }
 
     // Three vehicles are sent one after another: one that was sent is free no more, and then there is none.

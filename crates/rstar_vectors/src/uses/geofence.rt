@@ -162,6 +162,7 @@ fn count_and_sum<R: RTreeObject>(
 #[cfg(test)]
 mod tests {
     use super::*;
+    use crate::scenarios::has_len;
 
     /// A fence's number and two corners.
     type Row = (u64, [i64; 2], [i64; 2]);
@@ -170,33 +171,25 @@ mod tests {
     /// and how many when the first is taken down.
     type Told = ([i64; 2], [i64; 2], (usize, u64), [i64; 2], usize, usize);
 
-    /// Whether so many fences contain a point.
-    fn contain(alloc: Global, fences: &Fences, point: [i64; 2], count: usize) -> bool {
-        match &fences.at(alloc, point) {
-            Ok(found) => found.len() == count,
-            Err(_) => false,
-        }
-    }
-
     /// Whether fences, added one after another, tell this.
     fn tell(alloc: Global, list: &[Row], told: &Told) -> bool {
         let (one, other, inside, point, before, after) = *told;
         let mut fences = Fences::new(alloc);
+        let mut is_so = true;
         for &(number, one, other) in list {
-            if fences.add(fence(number, one, other)).is_err() {
-                return false;
-            }
+            is_so = fences.add(fence(number, one, other)).is_ok() && is_so;
         }
-        let stand = fences.len() == list.len()
+        is_so = is_so
+            && fences.len() == list.len()
             && fences.count_and_sum_in(AABB::from_corners(one, other)) == Ok(inside)
-            && contain(alloc, &fences, point, before);
+            && has_len(fences.at(alloc, point), before);
         if let Some(first) = list.first() {
             let (number, one, other) = *first;
-            return stand
+            is_so = is_so
                 && fences.remove(&fence(number, other, one))
-                && contain(alloc, &fences, point, after);
+                && has_len(fences.at(alloc, point), after);
         }
-        stand
+        is_so
     }
 
     // Equal rectangles with equal numbers count twice, and one of them is taken down. Corners come in any order, and borders

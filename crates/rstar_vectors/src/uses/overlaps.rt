@@ -99,27 +99,27 @@ mod tests {
     type Row = (u64, [i64; 2], [i64; 2]);
 
     /// Whether pairs have these numbers, in some order.
-    fn are(pairs: &[(&Piece, &Piece)], numbers: &[(u64, u64)]) -> bool {
-        for (one, other) in pairs {
-            if !numbers.contains(&(one.data, other.data)) {
-                return false;
+    fn are(pairs: Result<Vec<(&Piece, &Piece)>, AllocError>, numbers: &[(u64, u64)]) -> bool {
+        match &pairs {
+            Ok(all) => {
+                let mut is_so = all.len() == numbers.len();
+                for (one, other) in all {
+                    is_so = is_so && numbers.contains(&(one.data, other.data));
+                }
+                is_so
             }
+            Err(_) => false,
         }
-        pairs.len() == numbers.len()
     }
 
     /// Whether pieces, laid one after another, overlap so.
     fn overlap(alloc: Global, list: &[Row], numbers: &[(u64, u64)]) -> bool {
         let mut layout = Layout::new(alloc);
+        let mut is_so = true;
         for &(number, one, other) in list {
-            if layout.lay(fence(number, one, other)).is_err() {
-                return false;
-            }
+            is_so = layout.lay(fence(number, one, other)).is_ok() && is_so;
         }
-        match &layout.overlaps(alloc) {
-            Ok(pairs) => are(pairs, numbers),
-            Err(_) => false,
-        }
+        is_so && are(layout.overlaps(alloc), numbers)
     }
 
     // Parts that touch at a corner overlap, and each pair comes once, in whichever order its parts were laid; two pieces of one

@@ -123,8 +123,8 @@ mod tests {
     type Question = ((i32, i32), (i32, i32), u32, &'static [u64]);
 
     /// Whether parts with just these numbers were found, in this order.
-    fn are_found(found: &Result<Vec<&Part>, AllocError>, numbers: &[u64]) -> bool {
-        match found {
+    fn are_found(found: Result<Vec<&Part>, AllocError>, numbers: &[u64]) -> bool {
+        match &found {
             Ok(parts) => {
                 if parts.len() != numbers.len() {
                     return false;
@@ -143,17 +143,14 @@ mod tests {
     /// Whether of parts that are added one after another those with these numbers stand too near rectangles.
     fn stand_too_near(alloc: Global, parts: &[Row], questions: &[Question]) -> bool {
         let mut board = Board::new(alloc);
+        let mut is_so = true;
         for &(number, one, other) in parts {
-            if board.add(number, one, other).is_err() {
-                return false;
-            }
+            is_so = board.add(number, one, other).is_ok() && is_so;
         }
         for &(one, other, room, numbers) in questions {
-            if !are_found(&board.too_near(alloc, one, other, room), numbers) {
-                return false;
-            }
+            is_so = are_found(board.too_near(alloc, one, other, room), numbers) && is_so;
         }
-        true
+        is_so
     }
 
     // Parts at a distance of 1, 2 and 3 along an axis, and across the corner; corners in any order; and room that reaches
