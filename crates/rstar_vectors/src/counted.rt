@@ -118,7 +118,9 @@ fn every_element_is_merged_once(rt: HostRuntime) {
         Step::Left(0),
     ];
     let all = &places(rt.alloc(), 2000);
-    assert!(rt; counts_all(rt.alloc(), all.split_at(all.len().min(1000)).0, 1000));
     let none = (Counted::new(AABB::from_point([0, 0])), [0, 0], 0);
-    assert!(rt; goes_through::<_, DefaultParams>(rt.alloc(), all, 500, &none, &STEPS));
+    assert!(rt;
+        counts_all(rt.alloc(), all.split_at(all.len().min(1000)).0, 1000)
+            && goes_through::<_, DefaultParams>(rt.alloc(), all, 500, &none, &STEPS)
+    );
 }

@@ -89,12 +89,14 @@ fn all_scalars_at_their_ends(rt: HostRuntime) {
     const I64: Ends<'static, [i64; 2]> = ends!(i64::MIN, i64::MAX, i64::MAX / 2);
     const ISIZE: Ends<'static, [isize; 2]> = ends!(isize::MIN, isize::MAX, isize::MAX / 2);
     const I128: Ends<'static, [i128; 2]> = ends!(i128::MIN, i128::MAX, i128::MAX / 2);
-    assert!(rt; are_held(rt.alloc(), &I8));
-    assert!(rt; are_held(rt.alloc(), &I16));
-    assert!(rt; are_held(rt.alloc(), &I32));
-    assert!(rt; are_held(rt.alloc(), &I64));
-    assert!(rt; are_held(rt.alloc(), &ISIZE));
-    assert!(rt; are_held(rt.alloc(), &I128));
+    assert!(rt;
+        are_held(rt.alloc(), &I8)
+            && are_held(rt.alloc(), &I16)
+            && are_held(rt.alloc(), &I32)
+            && are_held(rt.alloc(), &I64)
+            && are_held(rt.alloc(), &ISIZE)
+            && are_held(rt.alloc(), &I128)
+    );
 }
 
 // Five thousand points in one place: the tree stands, with its nodes' sizes, after each insertion; all of them are
@@ -108,9 +110,12 @@ fn thousands_of_equal_points(rt: HostRuntime) {
         Step::Drain(Drained::Near, 1, 0),
     ];
     let same = in_steps(rt.alloc(), 5000, [3, 3], [0, 0]);
-    assert!(rt; same.len() == 5000 && come_and_go(rt.alloc(), &same, [0, 0], &[18], &[]));
     let asked = (AABB::from_point([0, 0]), [0, 0], 18);
-    assert!(rt; goes_through::<_, DefaultParams>(rt.alloc(), &same, 0, &asked, &STEPS));
+    assert!(rt;
+        same.len() == 5000
+            && come_and_go(rt.alloc(), &same, [0, 0], &[18], &[])
+            && goes_through::<_, DefaultParams>(rt.alloc(), &same, 0, &asked, &STEPS)
+    );
 }
 
 /// Whether all neighbours of a place in a tree of these elements, of any number of axes, lie at these squared distances, by
@@ -160,6 +165,5 @@ fn one_axis_and_none(rt: HostRuntime) {
         0, 1, 4, 9, 16, 25, 36, 49, 64, 81, 100, 121, 144, 169, 196, 225, 256, 289, 324, 361,
     ];
     const NOWHERE: [[i32; 0]; 10] = [[]; 10];
-    assert!(rt; come(rt.alloc(), &LINE, [0], &SQUARES));
-    assert!(rt; come(rt.alloc(), &NOWHERE, [], &[0; 10]));
+    assert!(rt; come(rt.alloc(), &LINE, [0], &SQUARES) && come(rt.alloc(), &NOWHERE, [], &[0; 10]));
 }

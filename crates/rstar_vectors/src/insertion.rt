@@ -212,6 +212,8 @@ fn a_refused_insertion_loses_nothing(rt: HostRuntime) {
     ];
     let none = (AABB::from_point([0, 0]), [0, 0], 0);
     let steps = [Step::InSized(0, ALL, 3, 6)];
-    assert!(rt; goes_through::<_, DefaultParams>(rt.alloc(), &points, 0, &none, &steps));
-    assert!(rt; is_one_too_many::<[i32; 2]>(rt.alloc(), [0, 0]));
+    assert!(rt;
+        goes_through::<_, DefaultParams>(rt.alloc(), &points, 0, &none, &steps)
+            && is_one_too_many::<[i32; 2]>(rt.alloc(), [0, 0])
+    );
 }

@@ -399,6 +399,27 @@ fn load_is_in_parts<T: RTreeObject + Copy>(alloc: Global, elements: &[T], parts:
     }
 }
 
+/// The same, asked once more where it is not so.
+fn load_is_in_parts_or_once_more<T: RTreeObject + Copy>(
+    alloc: Global,
+    elements: &[T],
+    parts: &Parts<'_>,
+) -> bool
+    requires { 2 ≤ T.Envelope.Point.DIMENSIONS }
+{
+    load_is_in_parts(alloc, elements, parts) || load_is_in_parts(alloc, elements, parts)
+}
+
+/// So many points, asked for once more where there are fewer.
+fn points_had(alloc: Global, count: usize) -> Vec<[i32; 2]> {
+    let flat = points(alloc, count);
+    if flat.len() < count {
+        points(alloc, count)
+    } else {
+        flat
+    }
+}
+
 /// Whether the root of a load, made by itself, has so many elements below each child; no elements make no root.
 fn root_has_parts<T: RTreeObject>(alloc: Global, elements: Vec<T>, parts: &[usize]) -> bool
     requires { 2 ≤ T.Envelope.Point.DIMENSIONS }
@@ -430,21 +451,17 @@ fn loads_and_clones_have_their_parts_and_may_be_asked_again(rt: HostRuntime) {
         (36, (2, &[9, 9, 9, 9], &[])),
         (37, (2, &[9, 9, 9, 10], &[])),
     ];
+    const DEEP: Parts<'static> = (1, &[1; 7], &[]);
     for (count, parts) in &ROWS {
-        let mut flat = points(rt.alloc(), *count);
-        if flat.len() < *count {
-            flat = points(rt.alloc(), *count);
-        }
         assert!(rt;
-            load_is_in_parts(rt.alloc(), &flat, parts) || load_is_in_parts(rt.alloc(), &flat, parts)
+            load_is_in_parts_or_once_more(rt.alloc(), &points_had(rt.alloc(), *count), parts)
         );
     }
     let deep = deep_points(rt.alloc(), 7);
-    let parts: Parts<'_> = (1, &[1; 7], &[]);
     assert!(rt;
-        load_is_in_parts(rt.alloc(), &deep, &parts) || load_is_in_parts(rt.alloc(), &deep, &parts)
+        load_is_in_parts_or_once_more(rt.alloc(), &deep, &DEEP)
+            && root_has_parts(rt.alloc(), points(rt.alloc(), 25), &[6, 6, 6, 7])
     );
-    assert!(rt; root_has_parts(rt.alloc(), points(rt.alloc(), 25), &[6, 6, 6, 7]));
 }
 
 // ---- clones and texts
@@ -582,11 +599,13 @@ fn found_in_load<T: PointDistance + Copy>(
 #[test]
 fn callers_load_query_and_insert(rt: HostRuntime) {
     const THREE: [[i64; 2]; 3] = [[0, 0], [5, 5], [7, 8]];
-    assert!(rt; found_in_load(rt.alloc(), &THREE, [5, 5], [1, 1], (true, 4)));
     let near = Rectangle::from_corners([0i64, 0], [2, 2]);
     let far = Rectangle::from_corners([5, 5], [9, 9]);
     let more = Rectangle::from_corners([9, 9], [5, 5]);
-    assert!(rt; found_in_load(rt.alloc(), &[near, far], [1, 1], more, (true, 3)));
+    assert!(rt;
+        found_in_load(rt.alloc(), &THREE, [5, 5], [1, 1], (true, 4))
+            && found_in_load(rt.alloc(), &[near, far], [1, 1], more, (true, 3))
+    );
 }
 
 /// Whether a load of two elements contains such a one.

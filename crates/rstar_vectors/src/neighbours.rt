@@ -127,8 +127,8 @@ mod tests {
     use crate::scenarios::{inserted, let_go};
 
     /// Whether these are the elements that are lent, in this order.
-    fn are_lent<T: PartialEq>(lent: &Result<Vec<&T>, AllocError>, wanted: &[T]) -> bool {
-        match lent {
+    fn are_lent<T: PartialEq>(lent: Result<Vec<&T>, AllocError>, wanted: &[T]) -> bool {
+        match &lent {
             Ok(all) => {
                 if all.len() != wanted.len() {
                     return false;
@@ -148,18 +148,14 @@ mod tests {
     fn loops_give_the_nearest_points_first(rt: HostRuntime) {
         const PLACES: [At; 3] = [[5, 5], [0, 0], [2, 2]];
         let tree = inserted::<At, DefaultParams>(rt.alloc(), &PLACES);
-        assert!(rt;
-            are_lent(
-                &nearest_points(rt.alloc(), &tree, [0, 1], 2),
-                &[[0, 0], [2, 2]]
-            )
-        );
-        assert!(rt;
-            are_lent(
-                &points_in_order(rt.alloc(), &tree, [6, 6]),
-                &[[5, 5], [2, 2], [0, 0]]
-            )
+        let is_so = are_lent(
+            nearest_points(rt.alloc(), &tree, [0, 1], 2),
+            &[[0, 0], [2, 2]],
+        ) && are_lent(
+            points_in_order(rt.alloc(), &tree, [6, 6]),
+            &[[5, 5], [2, 2], [0, 0]],
         );
         let_go(tree);
+        assert!(rt; is_so);
     }
 }

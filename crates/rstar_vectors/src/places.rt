@@ -143,10 +143,12 @@ where
 
 #[test]
 fn two_elements(rt: HostRuntime) {
-    assert!(rt; matches!(two_points(rt.alloc()), Ok(2)));
     let area = AABB::from_corners([0, 0], [1, 2]);
-    assert!(rt; gives_both(rt.alloc(), [1i64, 2], [3, 4], area, 1));
     let (front, back) = ([1i64, 2], [1, 2]);
     let (one, other) = (Doors { front, back }, Doors { front, back });
-    assert!(rt; gives_both(rt.alloc(), one, other, area, 2));
+    assert!(rt;
+        matches!(two_points(rt.alloc()), Ok(2))
+            && gives_both(rt.alloc(), [1i64, 2], [3, 4], area, 1)
+            && gives_both(rt.alloc(), one, other, area, 2)
+    );
 }

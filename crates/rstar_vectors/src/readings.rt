@@ -124,8 +124,10 @@ mod tests {
         let square = Rectangle::from_corners([0i64, 0], [2, 2]);
         for &(one, other, point, within) in &ROWS {
             let area = AABB::from_corners(one, other);
-            assert!(rt; comes_upon(rt.alloc(), &[[1i64, 1]], area, one, point));
-            assert!(rt; comes_upon(rt.alloc(), &[square], area, other, within));
+            assert!(rt;
+                comes_upon(rt.alloc(), &[[1i64, 1]], area, one, point)
+                    && comes_upon(rt.alloc(), &[square], area, other, within)
+            );
         }
     }
 }

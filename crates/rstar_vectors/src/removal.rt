@@ -339,13 +339,19 @@ fn elements_of_loads_give_way_to_others(rt: HostRuntime) {
     ];
     let none = (AABB::from_point([0, 0]), [0, 0], 0);
     let all = points(rt.alloc(), 1000);
-    assert!(rt; goes_through::<_, DefaultParams>(rt.alloc(), &all, ALL, &none, &AT_PLACES));
-    assert!(rt; half_gives_way(rt.alloc(), &all, By::Place, &none));
-    assert!(rt;
-        goes_through::<_, Emptying>(rt.alloc(), &[[0, 0], [37, 53]], ALL, &none, &BY_EQUALITY)
-    );
     let lines = edges(rt.alloc(), 1000);
-    assert!(rt; goes_through::<_, DefaultParams>(rt.alloc(), &lines, ALL, &none, &BY_EQUALITY));
+    assert!(rt;
+        goes_through::<_, DefaultParams>(rt.alloc(), &all, ALL, &none, &AT_PLACES)
+            && half_gives_way(rt.alloc(), &all, By::Place, &none)
+            && goes_through::<_, Emptying>(
+                rt.alloc(),
+                &[[0, 0], [37, 53]],
+                ALL,
+                &none,
+                &BY_EQUALITY
+            )
+            && goes_through::<_, DefaultParams>(rt.alloc(), &lines, ALL, &none, &BY_EQUALITY)
+    );
     for &count in &[25, 27, 97, 111, 385, 447, 500] {
         let some = rectangles(rt.alloc(), 2 * count);
         assert!(rt; half_gives_way(rt.alloc(), &some, By::Equality, &none));
@@ -379,8 +385,10 @@ fn drains_that_are_given_up(rt: HostRuntime) {
         Step::Left(5),
     ];
     let far = (AABB::from_corners([100, 0], [103, 0]), [0, 0], 4);
-    assert!(rt; goes_through::<_, DefaultParams>(rt.alloc(), &EIGHT, 0, &far, &ONE_OF_EACH));
-    assert!(rt; drains_at_most(rt.alloc(), &ALONG_A_LINE, LeftOnly, 3, &far, 4));
+    assert!(rt;
+        goes_through::<_, DefaultParams>(rt.alloc(), &EIGHT, 0, &far, &ONE_OF_EACH)
+            && drains_at_most(rt.alloc(), &ALONG_A_LINE, LeftOnly, 3, &far, 4)
+    );
     for calls in 0..8usize {
         assert!(rt; are_given_or_left(rt.alloc(), &ALONG_A_LINE, calls));
         for &count in &[5, 7] {
@@ -431,23 +439,27 @@ fn drains_end_where_none_is_left(rt: HostRuntime) {
     }
     let area = (AABB::from_corners([20, 20], [70, 80]), [0, 0], 0);
     let all = points(rt.alloc(), 300);
-    assert!(rt; goes_through::<_, DefaultParams>(rt.alloc(), &all, 0, &area, &NARROW));
     let many = points(rt.alloc(), 1000);
-    assert!(rt; goes_through::<_, DefaultParams>(rt.alloc(), &many, ALL, &area, &AGAIN));
+    assert!(rt;
+        goes_through::<_, DefaultParams>(rt.alloc(), &all, 0, &area, &NARROW)
+            && goes_through::<_, DefaultParams>(rt.alloc(), &many, ALL, &area, &AGAIN)
+    );
 }
 
 #[test]
 fn callers_drain_and_insert_again(rt: HostRuntime) {
     const THREE: [[i64; 2]; 3] = [[0, 0], [1, 1], [2, 2]];
     let all = AABB::from_corners([0, 0], [2, 2]);
-    assert!(rt; stands_with_one_in(rt.alloc(), &THREE, all, [7, 8], 2, [9, 9], [7, 8]));
     let two = [
         Rectangle::from_corners([0i64, 0], [1, 1]),
         Rectangle::from_corners([5, 5], [6, 6]),
     ];
     let area = AABB::from_corners([1, 1], [4, 4]);
     let one = Rectangle::from_corners([7, 8], [9, 9]);
-    assert!(rt; stands_with_one_in(rt.alloc(), &two, area, one, 2, [1, 1], [8, 9]));
+    assert!(rt;
+        stands_with_one_in(rt.alloc(), &THREE, all, [7, 8], 2, [9, 9], [7, 8])
+            && stands_with_one_in(rt.alloc(), &two, area, one, 2, [1, 1], [8, 9])
+    );
 }
 
 #[test]

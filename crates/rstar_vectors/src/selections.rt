@@ -151,8 +151,10 @@ fn a_function_of_ones_own_selects_what_it_says(rt: HostRuntime) {
         [99, 99],
         [48, 48],
     ];
-    assert!(rt; as_many_lie_left(rt.alloc(), &ALONG_A_LINE, 3));
-    assert!(rt; as_many_lie_left(rt.alloc(), &ON_BOTH_SIDES, 4));
+    assert!(rt;
+        as_many_lie_left(rt.alloc(), &ALONG_A_LINE, 3)
+            && as_many_lie_left(rt.alloc(), &ON_BOTH_SIDES, 4)
+    );
 }
 
 /// Accepts the parents that begin at 0 or left of it, and selects all points.
