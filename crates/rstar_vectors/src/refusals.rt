@@ -301,39 +301,32 @@ fn calls_that_are_refused(rt: HostRuntime) {
     assert!(rt; are_answered(rt.alloc(), &points(rt.alloc(), 28), &asked, &counts));
 }
 
-/// Whether an iterator over neighbours in a tree, in nodes of ten to forty, gives all, or is refused once and then gives
-/// none for good, and the tree gives all to another one.
-fn ends_once<T: PointDistance>(alloc: Global, tree: &RTree<T, Tens>, place: PointOf<T>) -> bool
-where
-    PointOf<T>: Copy,
-    requires narrow { IsNarrow T.Envelope.Point.row }
-    requires whole { IsWholeTree T.Envelope.boxes T.object ⟦<Tens as RTreeParams>⟧.MAX_SIZE tree.now }
-{
-    fits::<PointOf<T>>();
-    let count = tree.size();
-    let is_begun = is_marked(alloc);
-    let mut neighbors = tree.nearest_neighbor_iter(place);
-    let (came, is_refused) = come(&mut neighbors, usize::MAX);
-    let is_over = neighbors.next().is_none() && neighbors.next().is_none();
-    let is_ended = is_marked(alloc);
-    let mut others = tree.nearest_neighbor_iter(place);
-    is_begun
-        && is_ended
-        && is_over
-        && (is_refused || came == count)
-        && come(&mut others, usize::MAX) == (count, false)
-        && tree.size() == count
-}
-
-/// The same of a load of these elements.
-fn end_once<T: PointDistance + Copy>(alloc: Global, elements: &[T], place: PointOf<T>) -> bool
+/// Whether an iterator over neighbours in a load of these elements, in nodes of ten to forty, gives all, or is refused once
+/// and then gives none for good, and the load gives all to another one.
+fn ends_once<T: PointDistance + Copy>(alloc: Global, elements: &[T], place: PointOf<T>) -> bool
 where
     PointOf<T>: Copy,
     requires narrow { IsNarrow T.Envelope.Point.row }
     requires dimensions { 2 ≤ T.Envelope.Point.DIMENSIONS }
 {
+    fits::<PointOf<T>>();
+    let count = elements.len();
     let tree = loaded::<T, Tens>(alloc, elements);
-    let is_so = tree.size() == elements.len() && ends_once(alloc, &tree, place);
+    let is_begun = is_marked(alloc);
+    let (came, is_refused, is_over) = {
+        let mut neighbors = tree.nearest_neighbor_iter(place);
+        let (came, is_refused) = come(&mut neighbors, usize::MAX);
+        let is_over = neighbors.next().is_none() && neighbors.next().is_none();
+        (came, is_refused, is_over)
+    };
+    let is_ended = is_marked(alloc);
+    let (all, _) = come(&mut tree.nearest_neighbor_iter(place), usize::MAX);
+    let is_so = is_begun
+        && is_ended
+        && is_over
+        && (is_refused || came == count)
+        && all == count
+        && tree.size() == count;
     let_go(tree);
     is_so
 }
@@ -341,7 +334,7 @@ where
 // Forty points in one node of up to forty, where the first growth of an iterator is that of its heap.
 #[test]
 fn an_iterator_is_refused_once(rt: HostRuntime) {
-    assert!(rt; end_once(rt.alloc(), &points(rt.alloc(), 40), [0, 0]));
+    assert!(rt; ends_once(rt.alloc(), &points(rt.alloc(), 40), [0, 0]));
 }
 
 /// Whether a tree of these points is written and read back with as many, at once or, where either is refused for want of
