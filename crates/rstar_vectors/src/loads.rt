@@ -432,17 +432,17 @@ fn loads_and_clones_have_their_parts(rt: HostRuntime) {
 
 // ---- clones and texts
 
-/// What a value shows.
-pub(crate) fn shown<V: Debug>(alloc: Global, value: &V) -> Result<String, AllocError> {
-    format!(in alloc; "{value:?}")
+/// What a value shows; nothing where memory is refused.
+pub(crate) fn shown<V: Debug>(alloc: Global, value: &V) -> String {
+    match format!(in alloc; "{value:?}") {
+        Ok(text) => text,
+        Err(_) => String::new(alloc),
+    }
 }
 
-/// Whether this text is what a value shows.
+/// Whether this text is what a value shows, and not empty.
 pub(crate) fn shows<V: Debug>(alloc: Global, value: &V, text: &str) -> bool {
-    match &shown(alloc, value) {
-        Ok(shown) => shown.as_str() == text,
-        Err(_) => false,
-    }
+    !text.is_empty() && shown(alloc, value).as_str() == text
 }
 
 /// Whether a copy of a tree shows what the tree shows, and an element that goes into the copy does not go into the tree.
@@ -455,15 +455,13 @@ fn stays_alone<T: RTreeObject + Copy + Debug>(
     requires { IsWholeTree T.Envelope.boxes T.object ⟦<DefaultParams as RTreeParams>⟧.MAX_SIZE copy.old }
 {
     let count = tree.size();
-    match &shown(alloc, tree.root()) {
-        Ok(text) => copy.size() == count
-            && shows(alloc, copy.root(), text)
-            && goes_in(copy, element)
-            && tree.size() == count
-            && count < copy.size()
-            && shows(alloc, tree.root(), text),
-        Err(_) => false,
-    }
+    let text = &shown(alloc, tree.root());
+    copy.size() == count
+        && shows(alloc, copy.root(), text)
+        && goes_in(copy, element)
+        && tree.size() == count
+        && count < copy.size()
+        && shows(alloc, tree.root(), text)
 }
 
 /// The same of a load of these elements and its clone; and whether the load shows a text, where one is given.

@@ -149,25 +149,13 @@ where
     let is_ended = is_marked(alloc);
     let is_right = first == Some(wanted)
         || first.is_none()
-            && shows_again(alloc, &*tree, before)
+            && shows(alloc, tree.root(), before)
             && counted(alloc, tree, call, asked, distances) == Some(wanted);
     is_begun
         && is_ended
         && is_right
         && tree.size() == left
-        && (POPS <= call || shows_again(alloc, &*tree, before))
-}
-
-/// Whether a tree shows the text that was noted of it.
-fn shows_again<T: RTreeObject + Debug, Params: RTreeParams>(
-    alloc: Global,
-    tree: &RTree<T, Params>,
-    noted: &Result<String, AllocError>,
-) -> bool {
-    match noted {
-        Ok(text) => shows(alloc, tree.root(), text.as_str()),
-        Err(_) => false,
-    }
+        && (POPS <= call || shows(alloc, tree.root(), before))
 }
 
 /// Whether an element goes into a tree, at once or, where it was refused for want of memory, was handed back and the tree
@@ -188,7 +176,7 @@ fn goes_in<T: EqualEnvelopes + Copy + Debug>(alloc: Global, tree: &mut RTree<T>,
             let is_same = refused.cause == InsertCause::NoMemory
                 && refused.element == element
                 && tree.size() == count
-                && shows_again(alloc, &*tree, before);
+                && shows(alloc, tree.root(), before);
             tree.insert(refused.element).is_ok() && is_same
         }
     };
@@ -251,7 +239,7 @@ fn is_taken_apart<T: RTreeObject + Copy + Debug>(
     let is_so = match first {
         Ok(all) => has_len(all.collect(alloc), count),
         Err(back) => {
-            let is_same = back.size() == count && shows_again(alloc, &back, before);
+            let is_same = back.size() == count && shows(alloc, back.root(), before);
             match back.into_iter() {
                 Ok(all) => has_len(all.collect(alloc), count) && is_same,
                 Err(tree) => {
