@@ -149,13 +149,25 @@ where
     let is_ended = is_marked(alloc);
     let is_right = first == Some(wanted)
         || first.is_none()
-            && shows(alloc, tree.root(), before)
+            && shows_again(alloc, &*tree, before)
             && counted(alloc, tree, call, asked, distances) == Some(wanted);
     is_begun
         && is_ended
         && is_right
         && tree.size() == left
-        && (POPS <= call || shows(alloc, tree.root(), before))
+        && (POPS <= call || shows_again(alloc, &*tree, before))
+}
+
+/// Whether a tree shows the text that was noted of it.
+fn shows_again<T: RTreeObject + Debug, Params: RTreeParams>(
+    alloc: Global,
+    tree: &RTree<T, Params>,
+    noted: &Result<String, AllocError>,
+) -> bool {
+    match noted {
+        Ok(text) => shows(alloc, tree.root(), text.as_str()),
+        Err(_) => false,
+    }
 }
 
 /// Whether an element goes into a tree, at once or, where it was refused for want of memory, was handed back and the tree
@@ -176,7 +188,7 @@ fn goes_in<T: EqualEnvelopes + Copy + Debug>(alloc: Global, tree: &mut RTree<T>,
             let is_same = refused.cause == InsertCause::NoMemory
                 && refused.element == element
                 && tree.size() == count
-                && shows(alloc, tree.root(), before);
+                && shows_again(alloc, &*tree, before);
             tree.insert(refused.element).is_ok() && is_same
         }
     };
@@ -239,7 +251,7 @@ fn is_taken_apart<T: RTreeObject + Copy + Debug>(
     let is_so = match first {
         Ok(all) => has_len(all.collect(alloc), count),
         Err(back) => {
-            let is_same = back.size() == count && shows(alloc, back.root(), before);
+            let is_same = back.size() == count && shows_again(alloc, &back, before);
             match back.into_iter() {
                 Ok(all) => has_len(all.collect(alloc), count) && is_same,
                 Err(tree) => {
@@ -289,32 +301,39 @@ fn calls_that_are_refused(rt: HostRuntime) {
     assert!(rt; are_answered(rt.alloc(), &points(rt.alloc(), 28), &asked, &counts));
 }
 
-/// Whether an iterator over neighbours in a load of these elements, in nodes of ten to forty, gives all, or is refused once
-/// and then gives none for good, and the load gives all to another one.
-fn ends_once<T: PointDistance + Copy>(alloc: Global, elements: &[T], place: PointOf<T>) -> bool
+/// Whether an iterator over neighbours in a tree, in nodes of ten to forty, gives all, or is refused once and then gives
+/// none for good, and the tree gives all to another one.
+fn ends_once<T: PointDistance>(alloc: Global, tree: &RTree<T, Tens>, place: PointOf<T>) -> bool
+where
+    PointOf<T>: Copy,
+    requires narrow { IsNarrow T.Envelope.Point.row }
+    requires whole { IsWholeTree T.Envelope.boxes T.object ⟦<Tens as RTreeParams>⟧.MAX_SIZE tree.now }
+{
+    fits::<PointOf<T>>();
+    let count = tree.size();
+    let is_begun = is_marked(alloc);
+    let mut neighbors = tree.nearest_neighbor_iter(place);
+    let (came, is_refused) = come(&mut neighbors, usize::MAX);
+    let is_over = neighbors.next().is_none() && neighbors.next().is_none();
+    let is_ended = is_marked(alloc);
+    let mut others = tree.nearest_neighbor_iter(place);
+    is_begun
+        && is_ended
+        && is_over
+        && (is_refused || came == count)
+        && come(&mut others, usize::MAX) == (count, false)
+        && tree.size() == count
+}
+
+/// The same of a load of these elements.
+fn end_once<T: PointDistance + Copy>(alloc: Global, elements: &[T], place: PointOf<T>) -> bool
 where
     PointOf<T>: Copy,
     requires narrow { IsNarrow T.Envelope.Point.row }
     requires dimensions { 2 ≤ T.Envelope.Point.DIMENSIONS }
 {
-    fits::<PointOf<T>>();
-    let count = elements.len();
     let tree = loaded::<T, Tens>(alloc, elements);
-    let is_begun = is_marked(alloc);
-    let (came, is_refused, is_over) = {
-        let mut neighbors = tree.nearest_neighbor_iter(place);
-        let (came, is_refused) = come(&mut neighbors, usize::MAX);
-        let is_over = neighbors.next().is_none() && neighbors.next().is_none();
-        (came, is_refused, is_over)
-    };
-    let is_ended = is_marked(alloc);
-    let (all, _) = come(&mut tree.nearest_neighbor_iter(place), usize::MAX);
-    let is_so = is_begun
-        && is_ended
-        && is_over
-        && (is_refused || came == count)
-        && all == count
-        && tree.size() == count;
+    let is_so = tree.size() == elements.len() && ends_once(alloc, &tree, place);
     let_go(tree);
     is_so
 }
@@ -322,7 +341,7 @@ where
 // Forty points in one node of up to forty, where the first growth of an iterator is that of its heap.
 #[test]
 fn an_iterator_is_refused_once(rt: HostRuntime) {
-    assert!(rt; ends_once(rt.alloc(), &points(rt.alloc(), 40), [0, 0]));
+    assert!(rt; end_once(rt.alloc(), &points(rt.alloc(), 40), [0, 0]));
 }
 
 /// Whether a tree of these points is written and read back with as many, at once or, where either is refused for want of

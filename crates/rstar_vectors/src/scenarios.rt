@@ -122,8 +122,8 @@ pub(crate) fn lies_at<T: PointDistance>(
         && element.contains_point(point) == contained
 }
 
-/// Lets a tree go. What drops a tree is proved at each end of a function that lets one go by itself, which is more than a
-/// third of what a short step costs; so a step hands its tree on to this.
+/// Lets a tree go. What drops a tree is proved at each end of a function that lets one go by itself, which is a fourth of
+/// what a short step costs; so a step hands its tree on to this.
 pub(crate) fn let_go<T: RTreeObject, Params: RTreeParams>(_tree: RTree<T, Params>) {}
 
 /// Lets a root go that no tree holds.
