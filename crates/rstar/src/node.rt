@@ -142,8 +142,8 @@ impl<T: RTreeObject> RTreeObject for RTreeNode<T> {
 /// The merge of the envelopes of some nodes, each once; the empty envelope of none. It takes no memory.
 ///
 /// ```rust
-/// fn are_so<T: RTreeObject>(nodes: &[RTreeNode<T>], outline: &(usize, T::Envelope)) -> bool {
-///     nodes.len() == outline.0 && envelope_for_children(nodes) == outline.1
+/// fn are_so<T: RTreeObject>(nodes: Vec<RTreeNode<T>>, outline: &(usize, T::Envelope)) -> bool {
+///     nodes.len() == outline.0 && envelope_for_children(&nodes) == outline.1
 /// }
 /// ```
 /// *`crates/rstar_vectors/src/insertion.rt`*

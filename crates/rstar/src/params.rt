@@ -32,18 +32,18 @@ pub enum InsertCause {
 /// An insertion that was refused. The tree has the elements, envelopes and size that it had before.
 ///
 /// ```rust
-/// match tree.insert(element) {
+/// let is_in = match first {
 ///     Ok(()) => true,
 ///     Err(refused) => {
-///         let same = refused.cause == InsertCause::NoMemory
+///         let is_same = refused.cause == InsertCause::NoMemory
 ///             && refused.element == element
-///             && tree.size() == before
-///             && stands(tree);
-///         tree.insert(refused.element).is_ok() && same
+///             && tree.size() == count
+///             && shows(alloc, tree.root(), before);
+///         tree.insert(refused.element).is_ok() && is_same
 ///     }
-/// }
+/// };
 /// ```
-/// *`crates/rstar_vectors/src/insertion.rt`*
+/// *`crates/rstar_vectors/src/refusals.rt`*
 #[derive(Debug, Drop)]
 pub struct InsertError<T> {
     /// The element, handed back.

@@ -195,16 +195,10 @@ impl<T: RTreeObject, Params: RTreeParams> RTree<T, Params> {
     /// ```rust
     /// match tree.insert(element) {
     ///     Ok(()) => true,
-    ///     Err(refused) => {
-    ///         let same = refused.cause == InsertCause::NoMemory
-    ///             && refused.element == element
-    ///             && tree.size() == before
-    ///             && stands(tree);
-    ///         tree.insert(refused.element).is_ok() && same
-    ///     }
+    ///     Err(refused) => tree.insert(refused.element).is_ok(),
     /// }
     /// ```
-    /// *`crates/rstar_vectors/src/insertion.rt`*
+    /// *`crates/rstar_vectors/src/scenarios.rt`*
     pub fn insert(&mut self, t: T) -> Result<(), InsertError<T>>
         requires whole { IsWholeTree T.Envelope.boxes T.object Params.MAX_SIZE self.old }
         requires element { T.Envelope.boxes.is_empty (T.object.box_of t) ≡ false }

@@ -37,13 +37,13 @@ pub type PointOf<T> = <<T as RTreeObject>::Envelope as Envelope>::Point;
 ///     alloc: Global,
 ///     elements: &[T],
 ///     place: &PointOf<T>,
-/// ) -> Result<Vec<Distance<T>>, AllocError> {
+/// ) -> Vec<Distance<T>> {
 ///     let mut all = Vec::new(alloc);
 ///     for element in elements {
-///         all.push(element.distance_2(place))?;
+///         let _refused = all.push(element.distance_2(place)).is_err();
 ///     }
 ///     all.sort_unstable();
-///     Ok(all)
+///     all
 /// }
 /// ```
 /// *`crates/rstar_vectors/src/neighbour_rows.rt`*

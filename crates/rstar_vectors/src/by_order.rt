@@ -53,18 +53,19 @@ pub(crate) fn in_stated_order<'a, T: PointDistance + Ord>(
     Ok((all, neighbors.opened()))
 }
 
-/// The elements with their squared distances from a place, by distance and then by their own order: a plain sort.
+/// The elements with their squared distances from a place, by distance and then by their own order: a plain sort. Where memory
+/// is refused there are fewer.
 fn sorted<T: PointDistance + Ord + Copy>(
     alloc: Global,
     elements: &[T],
     place: &PointOf<T>,
-) -> Result<Vec<(Distance<T>, T)>, AllocError> {
+) -> Vec<(Distance<T>, T)> {
     let mut all = Vec::new(alloc);
     for element in elements {
-        all.push((element.distance_2(place), *element))?;
+        let _refused = all.push((element.distance_2(place), *element)).is_err();
     }
     all.sort_unstable();
-    Ok(all)
+    all
 }
 
 /// Whether an iterator gives just these elements, with their distances, and so many parents are opened after each, as
@@ -74,9 +75,12 @@ fn gives<T: PointDistance + Ord>(
     wanted: &[(Distance<T>, T)],
     opened: &[usize],
 ) -> bool
-    requires { IsSearchingByOrder T.Envelope.boxes T.object T.distances T.cmp T.Envelope.Point.DIMENSIONS
+    requires narrow { IsNarrow T.Envelope.Point.row }
+    requires searching { IsSearchingByOrder T.Envelope.boxes T.object T.distances T.cmp T.Envelope.Point.DIMENSIONS
         T.Envelope.Point.coord T.Envelope.Point.Scalar.cmp T.Envelope.Point.Scalar.value neighbors.old }
 {
+    // What a search finds of the layout in eight seconds more is told: the iterator that is lent fits in memory.
+    fits::<PointOf<T>>();
     for k in 0..wanted.len() {
         let is_next = match neighbors.next() {
             Some(Ok((element, distance))) => {
@@ -106,6 +110,28 @@ fn are_lent<T: PartialEq, D: PartialEq>(lent: &[(&T, D)], wanted: &[(D, T)]) -> 
     true
 }
 
+/// Whether a call lends just these elements, with their distances. It takes what the call gave.
+fn lends<T: PartialEq, D: PartialEq + Copy>(
+    lent: Result<Vec<(&T, D)>, AllocError>,
+    wanted: &[(D, T)],
+) -> bool {
+    match &lent {
+        Ok(all) => are_lent(all, wanted),
+        Err(_) => false,
+    }
+}
+
+/// The same of elements that were lent with a count of parents.
+fn lends_all<T: PartialEq, D: PartialEq + Copy>(
+    lent: Result<(Vec<(&T, D)>, usize), AllocError>,
+    wanted: &[(D, T)],
+) -> bool {
+    match &lent {
+        Ok((all, _opened)) => are_lent(all, wanted),
+        Err(_) => false,
+    }
+}
+
 /// Whether the calls that list elements in the stated order lend just these: all, and the first half.
 fn lists<T: PointDistance + Ord>(
     alloc: Global,
@@ -119,15 +145,8 @@ where
     requires whole { IsWholeTree T.Envelope.boxes T.object ⟦<DefaultParams as RTreeParams>⟧.MAX_SIZE tree.now }
 {
     let half = wanted.len() / 2;
-    match (
-        &in_stated_order(alloc, tree, place),
-        &tree.first_neighbors_by_order(&place, half),
-    ) {
-        (Ok((all, _opened)), Ok(first)) => {
-            are_lent(all, wanted) && are_lent(first, &wanted[..half])
-        }
-        _ => false,
-    }
+    lends_all(in_stated_order(alloc, tree, place), wanted)
+        && lends(tree.first_neighbors_by_order(&place, half), &wanted[..half])
 }
 
 /// Whether a tree gives just these elements up, in this order, and then none.
@@ -168,18 +187,16 @@ where
     fits::<PointOf<T>>();
     let mut tree = inserted::<T, DefaultParams>(alloc, elements);
     let mut load = loaded::<T, DefaultParams>(alloc, elements);
-    let is_so = match &sorted(alloc, elements, &place) {
-        Ok(wanted) => {
-            gives(
-                &mut tree.nearest_neighbor_iter_by_order(place),
-                wanted,
-                opened,
-            ) && lists(alloc, &tree, place, wanted)
-                && pops(&mut tree, wanted, place)
-                && pops(&mut load, wanted, place)
-        }
-        Err(_) => false,
-    };
+    let wanted = &sorted(alloc, elements, &place);
+    let is_so = wanted.len() == elements.len()
+        && gives(
+            &mut tree.nearest_neighbor_iter_by_order(place),
+            wanted,
+            opened,
+        )
+        && lists(alloc, &tree, place, wanted)
+        && pops(&mut tree, wanted, place)
+        && pops(&mut load, wanted, place);
     let_go(tree);
     let_go(load);
     is_so

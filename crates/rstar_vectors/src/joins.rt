@@ -187,13 +187,20 @@ fn pairs_that_intersect(rt: HostRuntime) {
 }
 
 /// Whether pairs are those that a scan of two lists finds, in some order, and there are some.
-fn are_scanned<T: RTreeObject + PartialEq>(pairs: &[(&T, &T)], lefts: &[T], rights: &[T]) -> bool {
+fn are_scanned<T: RTreeObject + PartialEq>(
+    paired: Result<Paired<'_, T, T>, AllocError>,
+    lefts: &[T],
+    rights: &[T],
+) -> bool {
+    let Ok((pairs, _opened)) = &paired else {
+        return false;
+    };
     let mut wanted = 0usize;
     let mut has_all = true;
     for left in lefts {
         for right in rights {
             if left.envelope().intersects(&right.envelope()) {
-                has_all = has_all && (&*pairs).contains(&(left, right));
+                has_all = has_all && (&**pairs).contains(&(left, right));
                 wanted = wanted.saturating_add(1);
             }
         }
@@ -211,10 +218,7 @@ fn met_as_scanned<T: RTreeObject + PartialEq + Copy>(
 {
     let left = loaded::<T, DefaultParams>(alloc, lefts);
     let right = loaded(alloc, rights);
-    let is_so = match &joined(alloc, &left, &right) {
-        Ok((pairs, _)) => are_scanned(pairs, lefts, rights),
-        Err(_) => false,
-    };
+    let is_so = are_scanned(joined(alloc, &left, &right), lefts, rights);
     let_go(left);
     let_go(right);
     is_so

@@ -6,9 +6,7 @@ ghost use Rattle.rstar.specs.Trees.{IsWholeTree};
 
 use crate::node_sizes::Small;
 use crate::reinsertion::all_go_in;
-use crate::scenarios::{
-    goes_in, let_go, let_root_go, levels_of, load_of, loaded, points, stands_with,
-};
+use crate::scenarios::{goes_in, let_go, let_root_go, levels_of, loaded, points, stands_with};
 use rstar::algorithm::bulk_load::{bulk_load_sequential, none_empty};
 use rstar::node::{ParentNode, RTreeNode};
 use rstar::object::PointOf;
@@ -346,7 +344,7 @@ fn children_have_parts<T: RTreeObject>(
 /// alike how many are below each child of such a child: where none are given, that is not asked.
 type Parts<'a> = (usize, &'a [usize], &'a [usize]);
 
-/// Whether a tree stands, and has so many elements, in such parts; asked once more where memory for the parts is refused.
+/// Whether a tree stands, and has so many elements, in such parts.
 fn is_in_parts<T: RTreeObject>(
     alloc: Global,
     tree: &RTree<T>,
@@ -356,13 +354,11 @@ fn is_in_parts<T: RTreeObject>(
     let root = tree.root();
     stands_with(tree, count)
         && levels_of(root) == parts.0
-        && (has_parts(alloc, root, parts.1) || has_parts(alloc, root, parts.1))
-        && (parts.2.is_empty()
-            || children_have_parts(alloc, root, parts.2)
-            || children_have_parts(alloc, root, parts.2))
+        && has_parts(alloc, root, parts.1)
+        && (parts.2.is_empty() || children_have_parts(alloc, root, parts.2))
 }
 
-/// The same of a clone of a tree, where the tree is not refused that.
+/// The same of a clone of a tree; not where the tree is refused that.
 fn clone_is_in_parts<T: RTreeObject + Copy>(
     alloc: Global,
     tree: &RTree<T>,
@@ -381,43 +377,16 @@ fn clone_is_in_parts<T: RTreeObject + Copy>(
     }
 }
 
-/// The same of a load of these elements, where that is not refused, and of its clone, which is asked for once more where
-/// it is refused.
+/// The same of a load of these elements, and of its clone.
 fn load_is_in_parts<T: RTreeObject + Copy>(alloc: Global, elements: &[T], parts: &Parts<'_>) -> bool
     requires { 2 ≤ T.Envelope.Point.DIMENSIONS }
 {
+    let tree = loaded(alloc, elements);
     let count = elements.len();
-    match load_of(alloc, elements) {
-        Ok(tree) => {
-            let is_so = is_in_parts(alloc, &tree, count, parts)
-                && (clone_is_in_parts(alloc, &tree, count, parts)
-                    || clone_is_in_parts(alloc, &tree, count, parts));
-            let_go(tree);
-            is_so
-        }
-        Err(_) => false,
-    }
-}
-
-/// The same, asked once more where it is not so.
-fn load_is_in_parts_or_once_more<T: RTreeObject + Copy>(
-    alloc: Global,
-    elements: &[T],
-    parts: &Parts<'_>,
-) -> bool
-    requires { 2 ≤ T.Envelope.Point.DIMENSIONS }
-{
-    load_is_in_parts(alloc, elements, parts) || load_is_in_parts(alloc, elements, parts)
-}
-
-/// So many points, asked for once more where there are fewer.
-fn points_had(alloc: Global, count: usize) -> Vec<[i32; 2]> {
-    let flat = points(alloc, count);
-    if flat.len() < count {
-        points(alloc, count)
-    } else {
-        flat
-    }
+    let is_so = is_in_parts(alloc, &tree, count, parts)
+        && clone_is_in_parts(alloc, &tree, count, parts);
+    let_go(tree);
+    is_so
 }
 
 /// Whether the root of a load, made by itself, has so many elements below each child; no elements make no root.
@@ -437,10 +406,9 @@ fn root_has_parts<T: RTreeObject>(alloc: Global, elements: Vec<T>, parts: &[usiz
     }
 }
 
-/// How many points, and their parts; of seven with three axes, too, and of a root alone. `rt try --test --fail-alloc N`
-/// refuses the Nth allocation: what was refused is asked once more.
+// How many points, and their parts; of seven with three axes, too, and of a root alone.
 #[test]
-fn loads_and_clones_have_their_parts_and_may_be_asked_again(rt: HostRuntime) {
+fn loads_and_clones_have_their_parts(rt: HostRuntime) {
     const ROWS: [(usize, Parts<'static>); 8] = [
         (0, (0, &[], &[])),
         (6, (0, &[], &[])),
@@ -453,30 +421,28 @@ fn loads_and_clones_have_their_parts_and_may_be_asked_again(rt: HostRuntime) {
     ];
     const DEEP: Parts<'static> = (1, &[1; 7], &[]);
     for (count, parts) in &ROWS {
-        assert!(rt;
-            load_is_in_parts_or_once_more(rt.alloc(), &points_had(rt.alloc(), *count), parts)
-        );
+        assert!(rt; load_is_in_parts(rt.alloc(), &points(rt.alloc(), *count), parts));
     }
     let deep = deep_points(rt.alloc(), 7);
     assert!(rt;
-        load_is_in_parts_or_once_more(rt.alloc(), &deep, &DEEP)
+        load_is_in_parts(rt.alloc(), &deep, &DEEP)
             && root_has_parts(rt.alloc(), points(rt.alloc(), 25), &[6, 6, 6, 7])
     );
 }
 
 // ---- clones and texts
 
-/// What a value shows.
-pub(crate) fn shown<V: Debug>(alloc: Global, value: &V) -> Result<String, AllocError> {
-    format!(in alloc; "{value:?}")
+/// What a value shows; nothing where memory is refused.
+pub(crate) fn shown<V: Debug>(alloc: Global, value: &V) -> String {
+    match format!(in alloc; "{value:?}") {
+        Ok(text) => text,
+        Err(_) => String::new(alloc),
+    }
 }
 
-/// Whether this text is what a value shows.
+/// Whether this text is what a value shows, and not empty.
 pub(crate) fn shows<V: Debug>(alloc: Global, value: &V, text: &str) -> bool {
-    match &shown(alloc, value) {
-        Ok(shown) => shown.as_str() == text,
-        Err(_) => false,
-    }
+    !text.is_empty() && shown(alloc, value).as_str() == text
 }
 
 /// Whether a copy of a tree shows what the tree shows, and an element that goes into the copy does not go into the tree.
@@ -489,15 +455,13 @@ fn stays_alone<T: RTreeObject + Copy + Debug>(
     requires { IsWholeTree T.Envelope.boxes T.object ⟦<DefaultParams as RTreeParams>⟧.MAX_SIZE copy.old }
 {
     let count = tree.size();
-    match &shown(alloc, tree.root()) {
-        Ok(text) => copy.size() == count
-            && shows(alloc, copy.root(), text)
-            && goes_in(copy, element)
-            && tree.size() == count
-            && count < copy.size()
-            && shows(alloc, tree.root(), text),
-        Err(_) => false,
-    }
+    let text = &shown(alloc, tree.root());
+    copy.size() == count
+        && shows(alloc, copy.root(), text)
+        && goes_in(copy, element)
+        && tree.size() == count
+        && count < copy.size()
+        && shows(alloc, tree.root(), text)
 }
 
 /// The same of a load of these elements and its clone; and whether the load shows a text, where one is given.

@@ -290,18 +290,27 @@ where
     rest.is_empty() && tree.size() == 0 && matches!(tree.pop_nearest_neighbor(place), Ok(None))
 }
 
-/// The squared distances of some elements from a place, the least first.
+/// The squared distances of some elements from a place, the least first; fewer where memory is refused.
 pub(crate) fn scanned<T: PointDistance>(
     alloc: Global,
     elements: &[T],
     place: &PointOf<T>,
-) -> Result<Vec<Distance<T>>, AllocError> {
+) -> Vec<Distance<T>> {
     let mut all = Vec::new(alloc);
     for element in elements {
-        all.push(element.distance_2(place))?;
+        let _refused = all.push(element.distance_2(place)).is_err();
     }
     all.sort_unstable();
-    Ok(all)
+    all
+}
+
+/// Copies of some elements; fewer where memory is refused.
+fn copies<T: Copy>(alloc: Global, elements: &[T]) -> Vec<T> {
+    let mut all = Vec::new(alloc);
+    for element in elements {
+        let _refused = all.push(*element).is_err();
+    }
+    all
 }
 
 /// Whether all neighbours of a place in a load of these elements lie at these squared distances, by each call, and are
@@ -318,11 +327,8 @@ where
     requires dimensions { 2 ≤ T.Envelope.Point.DIMENSIONS }
 {
     let mut load = loaded::<T, DefaultParams>(alloc, elements);
-    let is_so = match &mut elements.to_vec(alloc) {
-        Ok(rest) => answers(alloc, &load, place, distances, &[])
-            && pops(&mut load, rest, place, distances),
-        Err(_) => false,
-    };
+    let is_so = answers(alloc, &load, place, distances, &[])
+        && pops(&mut load, &mut copies(alloc, elements), place, distances);
     let_go(load);
     is_so
 }
@@ -343,12 +349,10 @@ where
     requires dimensions { 2 ≤ T.Envelope.Point.DIMENSIONS }
 {
     let tree = inserted::<T, DefaultParams>(alloc, elements);
-    let is_so = match &scanned(alloc, elements, &place) {
-        Ok(wanted) => wanted.starts_with(first)
-            && answers(alloc, &tree, place, wanted, opened)
-            && load_comes_and_goes(alloc, elements, place, wanted),
-        Err(_) => false,
-    };
+    let wanted = &scanned(alloc, elements, &place);
+    let is_so = wanted.starts_with(first)
+        && answers(alloc, &tree, place, wanted, opened)
+        && load_comes_and_goes(alloc, elements, place, wanted);
     let_go(tree);
     is_so
 }

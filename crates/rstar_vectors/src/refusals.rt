@@ -149,25 +149,13 @@ where
     let is_ended = is_marked(alloc);
     let is_right = first == Some(wanted)
         || first.is_none()
-            && shows_again(alloc, &*tree, before)
+            && shows(alloc, tree.root(), before)
             && counted(alloc, tree, call, asked, distances) == Some(wanted);
     is_begun
         && is_ended
         && is_right
         && tree.size() == left
-        && (POPS <= call || shows_again(alloc, &*tree, before))
-}
-
-/// Whether a tree shows the text that was noted of it.
-fn shows_again<T: RTreeObject + Debug, Params: RTreeParams>(
-    alloc: Global,
-    tree: &RTree<T, Params>,
-    noted: &Result<String, AllocError>,
-) -> bool {
-    match noted {
-        Ok(text) => shows(alloc, tree.root(), text.as_str()),
-        Err(_) => false,
-    }
+        && (POPS <= call || shows(alloc, tree.root(), before))
 }
 
 /// Whether an element goes into a tree, at once or, where it was refused for want of memory, was handed back and the tree
@@ -188,7 +176,7 @@ fn goes_in<T: EqualEnvelopes + Copy + Debug>(alloc: Global, tree: &mut RTree<T>,
             let is_same = refused.cause == InsertCause::NoMemory
                 && refused.element == element
                 && tree.size() == count
-                && shows_again(alloc, &*tree, before);
+                && shows(alloc, tree.root(), before);
             tree.insert(refused.element).is_ok() && is_same
         }
     };
@@ -224,9 +212,23 @@ fn is_loaded<T: RTreeObject + Copy>(alloc: Global, elements: &[T]) -> bool
     is_so
 }
 
-// The seven points on a line in two groups, 22 that reinsert and split more, and loads of 25 and of 28.
+// Ten points on a line, the first of them aside, and of those that wrap around: seven, 22 that reinsert and split more, and
+// loads of 25 and of 28.
 #[test]
 fn insertions_and_loads_that_are_refused(rt: HostRuntime) {
+    const TEN: [[i32; 2]; 10] = [
+        [0, 0],
+        [1, 9],
+        [2, 8],
+        [3, 7],
+        [4, 6],
+        [5, 5],
+        [6, 4],
+        [7, 3],
+        [8, 2],
+        [9, 1],
+    ];
+    assert!(rt; all_go_in(rt.alloc(), &TEN));
     for &count in &[7, 22] {
         assert!(rt; all_go_in(rt.alloc(), &points(rt.alloc(), count)));
     }
@@ -251,7 +253,7 @@ fn is_taken_apart<T: RTreeObject + Copy + Debug>(
     let is_so = match first {
         Ok(all) => has_len(all.collect(alloc), count),
         Err(back) => {
-            let is_same = back.size() == count && shows_again(alloc, &back, before);
+            let is_same = back.size() == count && shows(alloc, back.root(), before);
             match back.into_iter() {
                 Ok(all) => has_len(all.collect(alloc), count) && is_same,
                 Err(tree) => {
@@ -281,11 +283,9 @@ where
     let mut tree = loaded::<T, DefaultParams>(alloc, elements);
     let left = elements.len().saturating_sub(2);
     let mut is_so = true;
-    match &scanned(alloc, elements, &asked.1) {
-        Ok(distances) => for call in 0..counts.len() {
-            is_so = is_so && is_answered(alloc, &mut tree, call, asked, distances, counts[call]);
-        },
-        Err(_) => is_so = false,
+    let distances = &scanned(alloc, elements, &asked.1);
+    for call in 0..counts.len() {
+        is_so = is_so && is_answered(alloc, &mut tree, call, asked, distances, counts[call]);
     }
     is_so = is_so && stands_with(&tree, left);
     is_taken_apart(alloc, tree, left) && is_so
@@ -301,39 +301,32 @@ fn calls_that_are_refused(rt: HostRuntime) {
     assert!(rt; are_answered(rt.alloc(), &points(rt.alloc(), 28), &asked, &counts));
 }
 
-/// Whether an iterator over neighbours in a tree, in nodes of ten to forty, gives all, or is refused once and then gives
-/// none for good, and the tree gives all to another one.
-fn ends_once<T: PointDistance>(alloc: Global, tree: &RTree<T, Tens>, place: PointOf<T>) -> bool
-where
-    PointOf<T>: Copy,
-    requires narrow { IsNarrow T.Envelope.Point.row }
-    requires whole { IsWholeTree T.Envelope.boxes T.object ⟦<Tens as RTreeParams>⟧.MAX_SIZE tree.now }
-{
-    fits::<PointOf<T>>();
-    let count = tree.size();
-    let is_begun = is_marked(alloc);
-    let mut neighbors = tree.nearest_neighbor_iter(place);
-    let (came, is_refused) = come(&mut neighbors, usize::MAX);
-    let is_over = neighbors.next().is_none() && neighbors.next().is_none();
-    let is_ended = is_marked(alloc);
-    let mut others = tree.nearest_neighbor_iter(place);
-    is_begun
-        && is_ended
-        && is_over
-        && (is_refused || came == count)
-        && come(&mut others, usize::MAX) == (count, false)
-        && tree.size() == count
-}
-
-/// The same of a load of these elements.
-fn end_once<T: PointDistance + Copy>(alloc: Global, elements: &[T], place: PointOf<T>) -> bool
+/// Whether an iterator over neighbours in a load of these elements, in nodes of ten to forty, gives all, or is refused once
+/// and then gives none for good, and the load gives all to another one.
+fn ends_once<T: PointDistance + Copy>(alloc: Global, elements: &[T], place: PointOf<T>) -> bool
 where
     PointOf<T>: Copy,
     requires narrow { IsNarrow T.Envelope.Point.row }
     requires dimensions { 2 ≤ T.Envelope.Point.DIMENSIONS }
 {
+    fits::<PointOf<T>>();
+    let count = elements.len();
     let tree = loaded::<T, Tens>(alloc, elements);
-    let is_so = tree.size() == elements.len() && ends_once(alloc, &tree, place);
+    let is_begun = is_marked(alloc);
+    let (came, is_refused, is_over) = {
+        let mut neighbors = tree.nearest_neighbor_iter(place);
+        let (came, is_refused) = come(&mut neighbors, usize::MAX);
+        let is_over = neighbors.next().is_none() && neighbors.next().is_none();
+        (came, is_refused, is_over)
+    };
+    let is_ended = is_marked(alloc);
+    let other = come(&mut tree.nearest_neighbor_iter(place), usize::MAX);
+    let is_so = is_begun
+        && is_ended
+        && is_over
+        && (is_refused || came == count)
+        && other == (count, false)
+        && tree.size() == count;
     let_go(tree);
     is_so
 }
@@ -341,7 +334,7 @@ where
 // Forty points in one node of up to forty, where the first growth of an iterator is that of its heap.
 #[test]
 fn an_iterator_is_refused_once(rt: HostRuntime) {
-    assert!(rt; end_once(rt.alloc(), &points(rt.alloc(), 40), [0, 0]));
+    assert!(rt; ends_once(rt.alloc(), &points(rt.alloc(), 40), [0, 0]));
 }
 
 /// Whether a tree of these points is written and read back with as many, at once or, where either is refused for want of

@@ -3,10 +3,9 @@
 ghost use Rattle.std.specs.Prelude.{◌≤◌};
 ghost use Rattle.rstar.specs.Trees.{IsWholeTree};
 
-use crate::insertion::goes_in_again;
 use crate::node_sizes::{Emptying, Large, Small, Splitting};
 use crate::payloads::Asked;
-use crate::scenarios::{points, stands_within};
+use crate::scenarios::{goes_in, points, stands_within};
 use crate::trials::{ALL, Step, goes_through};
 use rstar::object::PointOf;
 use rstar::{
@@ -15,9 +14,9 @@ use rstar::{
 };
 use std::alloc::Global;
 
-/// Whether elements go into a tree, one after another, where one that is refused is asked for once more, and it stands
-/// after each with one more, where each parent has from `least` to `most` children.
-pub(crate) fn all_go_in<T: EqualEnvelopes + Copy, Params: RTreeParams>(
+/// Whether elements go into a tree, one after another, and it stands after each with one more, where each parent has from
+/// `least` to `most` children.
+pub(crate) fn all_go_in<T: RTreeObject + Copy, Params: RTreeParams>(
     tree: &mut RTree<T, Params>,
     elements: &[T],
     least: usize,
@@ -28,11 +27,7 @@ pub(crate) fn all_go_in<T: EqualEnvelopes + Copy, Params: RTreeParams>(
 {
     for element in elements {
         let count = tree.size().saturating_add(1);
-        if element.envelope().is_empty()
-            || !goes_in_again(tree, *element)
-            || tree.size() != count
-            || !stands_within(tree, least, most)
-        {
+        if !goes_in(tree, *element) || tree.size() != count || !stands_within(tree, least, most) {
             return false;
         }
     }

@@ -122,14 +122,15 @@ pub(crate) fn lies_at<T: PointDistance>(
         && element.contains_point(point) == contained
 }
 
-/// Lets a tree go. What drops a tree is proved at each end of a function that lets one go by itself, which is a fourth of
-/// what a short step costs; so a step hands its tree on to this.
+/// Lets a tree go. What drops a tree is proved at each end of a function that lets one go by itself, which is more than a
+/// third of what a short step costs; so a step hands its tree on to this.
 pub(crate) fn let_go<T: RTreeObject, Params: RTreeParams>(_tree: RTree<T, Params>) {}
 
 /// Lets a root go that no tree holds.
 pub(crate) fn let_root_go<T: RTreeObject>(_root: ParentNode<T>) {}
 
-/// Inserts an element, and whether it went in: not where its envelope is empty, or it is refused.
+/// Inserts an element, once more where it is refused, and whether it went in: not where its envelope is empty, or it is
+/// refused again.
 pub(crate) fn goes_in<T: RTreeObject, Params: RTreeParams>(
     tree: &mut RTree<T, Params>,
     element: T,
@@ -137,7 +138,13 @@ pub(crate) fn goes_in<T: RTreeObject, Params: RTreeParams>(
     requires { IsWholeTree T.Envelope.boxes T.object Params.MAX_SIZE tree.old }
     ensures { IsWholeTree T.Envelope.boxes T.object Params.MAX_SIZE tree.new }
 {
-    !element.envelope().is_empty() && tree.insert(element).is_ok()
+    if element.envelope().is_empty() {
+        return false;
+    }
+    match tree.insert(element) {
+        Ok(()) => true,
+        Err(refused) => tree.insert(refused.element).is_ok(),
+    }
 }
 
 /// A tree of these elements, inserted in this order; an empty one where one is refused, or has an empty envelope.

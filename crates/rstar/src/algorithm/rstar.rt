@@ -74,8 +74,8 @@ impl InsertionStrategy for RStarInsertionStrategy {
 /// if list.len() <= DefaultParams::MAX_SIZE {
 ///     return false;
 /// }
-/// let (left, right) = &split_children::<T, DefaultParams>(list, spare);
-/// are_so(left, one) && are_so(right, other)
+/// let (left, right) = split_children::<T, DefaultParams>(list, spare);
+/// are_so(left, one) & are_so(right, other)
 /// ```
 /// *`crates/rstar_vectors/src/insertion.rt`*
 pub fn split_children<T: RTreeObject, Params: RTreeParams>(

@@ -79,6 +79,9 @@ fn clones_of<T: RTreeObject + Clone, Func: SelectionFunction<T>, Params: RTreePa
     )
 }
 
+/// How many elements an answer has room for at first: most have fewer, and do not grow.
+const ROOM: usize = 32;
+
 /// The clones of the elements that a walk has not given.
 fn clones_to_come<'a, T: Covered + Clone, Func: Question<T>>(
     alloc: Global,
@@ -88,7 +91,7 @@ fn clones_to_come<'a, T: Covered + Clone, Func: Question<T>>(
     requires clones { ClonesEqual T.is_clone }
     ensures { IfOk result (λ found. found.items ≡ to_come Func.accepts Func.selects walk.entry) }
 {
-    let mut found = Vec::new(alloc);
+    let mut found = Vec::with_capacity(alloc, ROOM)?;
     let mut items = walk;
     while let Some(t) = items.next() {
         found.push(t.clone()?)?;

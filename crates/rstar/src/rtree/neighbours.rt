@@ -331,15 +331,9 @@ impl<T: PointDistance + Ord, Params: RTreeParams> RTree<T, Params> {
     /// refused where the allocator refuses these lists or what waits.
     ///
     /// ```rust
-    /// match (
-    ///     &in_stated_order(alloc, tree, place),
-    ///     &tree.first_neighbors_by_order(&place, half),
-    /// ) {
-    ///     (Ok((all, _opened)), Ok(first)) => {
-    ///         are_lent(all, wanted) && are_lent(first, &wanted[..half])
-    ///     }
-    ///     _ => false,
-    /// }
+    /// let half = wanted.len() / 2;
+    /// lends_all(in_stated_order(alloc, tree, place), wanted)
+    ///     && lends(tree.first_neighbors_by_order(&place, half), &wanted[..half])
     /// ```
     /// *`crates/rstar_vectors/src/by_order.rt`*
     #[tactic(auto, unfolding(crate::specs::Trees::IsWholeTree))]

@@ -5,7 +5,7 @@ use Rattle.rstar.proofs.replay.answers.clones_to_come.Goals as goal
 pub loop-t-init : goal.loop-t-init
 loop-t-init g c = record {
   walking = c.requires.walking;
-  rest = ap (λ xs. xs ++ to_come g.Func.Question.accepts g.Func.Question.selects c.args.walk) c.new-found.ensures.items;
+  rest = ap (λ xs. xs ++ to_come g.Func.Question.accepts g.Func.Question.selects c.args.walk) c.in_ok-found.ensures.items;
 }
 
 pub loop-t-smaller : goal.loop-t-smaller
