@@ -1,5 +1,5 @@
 -- What the steps of a search for the first few elements keep.
-use Rattle.std.proofs.Common.{Less, Equal, Greater, ◌≡◌, inl, inr, ℕ, ◌+◌, ◌<◌, ◌≤◌, ◌<ℤ◌, ℤ, pos, suc, true, false, List, [], ◌∷◌, ◌++◌, length, length-append, map, refl, ap, sym, ◌∙◌, subst, arith, append_assoc, append-nil, Option, Some, None, slice_get, ◌-◌}
+use Rattle.std.proofs.Common.{Less, Equal, Greater, ◌≡◌, inl, inr, ℕ, ◌+◌, ◌<◌, ◌≤◌, ◌<ℤ◌, ℤ, pos, suc, true, false, List, [], ◌∷◌, ◌++◌, length, length-append, map, refl, ap, sym, ◌∙◌, subst, arith, append_assoc, append-nil, Option, Some, None, slice_get, ◌-◌, All}
 use Rattle.std.specs.Borrow.{Bor}
 use Rattle.std.specs.Prelude.{option_to_list}
 use Rattle.std.specs.Cmp.{IsTotalOrder, nat_cmp_is}
@@ -11,6 +11,7 @@ use Rattle.std.proofs.HeapSift as sifts
 use Rattle.std.proofs.lemmas.Cmp.{int_ranked, by_ranked}
 use Rattle.std.proofs.lemmas.Int.{ints}
 use Rattle.std.proofs.lemmas.List.{length-map}
+use Rattle.std.proofs.lemmas.List.Elements.{recursion_from_All}
 use Rattle.std.proofs.lemmas.List.Sums.{sum_by-cons}
 use Rattle.std.proofs.lemmas.List.Sorted.{sum_by-IsPermutation, IsPermutation-refl, IsPermutation-trans, IsPermutation-cons, IsPermutation-append_left, IsPermutation-append_right, IsPermutation-append_comm, IsPermutation-insert, IsPermutation-map, length_permutation}
 use Rattle.std.proofs.lemmas.List.Concat.{flat_map-append}
@@ -133,6 +134,9 @@ module _ {T : Type 0} (before : T → T → Type 0) where
 no-farther : (a b c : ℤ) → is_lt (int_cmp a b) ≡ false → a <ℤ c → b <ℤ c
 no-farther a b c h less = by_ranked (a <ℤ b) (a ≡ b) (b <ℤ a) (int_cmp a b) (int_ranked a b (int_cmp a b) refl) (λ e l. let no = sym h ∙ ap is_lt e in cc) (λ e l. omega (arith, ints)) (λ e l. omega (arith, ints))
 
+farther : (a b c : ℤ) → is_lt (int_cmp a b) ≡ false → c <ℤ b → c <ℤ a
+farther a b c h less = by_ranked (a <ℤ b) (a ≡ b) (b <ℤ a) (int_cmp a b) (int_ranked a b (int_cmp a b) refl) (λ e l. let no = sym h ∙ ap is_lt e in cc) (λ e l. omega (arith, ints)) (λ e l. omega (arith, ints))
+
 pub less-by : (a b : ℤ) → is_lt (int_cmp a b) ≡ true → a <ℤ b
 less-by a b h = by_ranked (a <ℤ b) (a ≡ b) (b <ℤ a) (int_cmp a b) (int_ranked a b (int_cmp a b) refl) (λ e l. l) (λ e l. let no = sym h ∙ ap is_lt e in cc) (λ e l. let no = sym h ∙ ap is_lt e in cc)
 
@@ -237,9 +241,12 @@ module _ {T S O : Type 0} where
   abbrev as-lent : Found T S O → Bor T × S
   as-lent w = (w.node, w.distance)
 
-  pub lent-elements : (ws : List (Found T S O)) → map (λ (n : Bor T × S). n.0.now) (map as-lent ws) ≡ found_elements ws
+  lent-elements : (ws : List (Found T S O)) → map (λ (n : Bor T × S). n.0.now) (map as-lent ws) ≡ found_elements ws
   lent-elements [] = refl
   lent-elements (w ∷ ws) = ap (λ l. w.node.now ∷ l) (lent-elements ws)
+
+  pub lent-first : (before : T → T → Type 0) (all : List T) (most : ℕ) (ws : List (Found T S O)) (lent : List (Bor T × S)) → lent ≡ map as-lent ws → AreFirstOf before all most (found_elements ws) → AreFirstOf before all most (map (λ n. n.0.now) lent)
+  lent-first before all most ws lent is first = subst (AreFirstOf before all most) (sym (ap (map (λ (n : Bor T × S). n.0.now)) is ∙ lent-elements ws)) first
 
   pub lent-distances : (distance : T → ℕ) (value : S → ℤ) (ws : List (Found T S O)) → AllByRecursion (λ w. value w.distance ≡ pos (distance w.node.now)) ws → AllByRecursion (λ (n : Bor T × S). value n.1 ≡ pos (distance n.0.now)) (map as-lent ws)
   lent-distances distance value [] h = tt
@@ -311,6 +318,15 @@ module _ {T E : Type 0} {IsPoint : List ℤ → Type 0} {v : Boxes E} {o : Objec
         at = h.at;
       }
 
+  -- parents that wait no nearer than one that is beyond are left out too
+  so-far-all-beyond : {Y : Type 0} (scalars : S → S → Ordering) (order : (a b : S) → scalars a b ≡ int_cmp (value a) (value b)) (ties : ParentNode T E → ParentNode T E → Ordering) (x : Waiting (Bor (ParentNode T E)) S Y) (ws : List (Waiting (Bor (ParentNode T E)) S Y)) (found : List (Found T S O))
+      → most ≤ length found → AllByRecursion (λ u. value u.distance <ℤ value x.distance) found → AllByRecursion (λ w. is_lt (nearest_on_top scalars ties x w) ≡ false) ws → WaitAtDistance v d p value ws → Until (waiting_parents ws) found → Until [] found
+  so-far-all-beyond scalars order ties x [] found full nearer least at h = h
+  so-far-all-beyond scalars order ties x (w ∷ ws) found full nearer least at h =
+      let far = sym (ap is_lt (order w.distance x.distance)) ∙ then-first (scalars w.distance x.distance) (ties w.node.now x.node.now) least.0 in
+      let own = all_map (λ (u : Found T S O). value u.distance <ℤ value x.distance) (λ u. value u.distance <ℤ value w.distance) (λ u less. farther (value w.distance) (value x.distance) (value u.distance) far less) found nearer in
+      so-far-all-beyond scalars order ties x ws found full nearer least.1 at.1 (so-far-beyond scalars order (Parent w.node.now) (waiting_parents ws) found w.distance full own at.0 h)
+
   -- a parent is opened
   pub so-far-parent : (q : ParentNode T E) (ns : List (RTreeNode T E)) (found : List (Found T S O)) → Until (Parent q ∷ ns) found → Until (ns ++ children_of q) found
   so-far-parent q ns found h =
@@ -368,3 +384,14 @@ module _ {T E S O : Type 0} (w : Waiting (Bor (ParentNode T E)) S O) (ws us : Li
 
   pub popped-waiting : (v : Boxes E) (d : Distances T) (p : List ℤ) (value : S → ℤ) → WaitAtDistance v d p value ws → WaitAtDistance v d p value (w ∷ us)
   popped-waiting v d p value h = all_along (λ (u : Waiting (Bor (ParentNode T E)) S O). value u.distance ≡ pos (distance_of v d p (Parent u.node.now))) ws (w ∷ us) popped h
+
+-- where the parent that the heap gives is beyond what was found, so are the others: the first of all were found
+pub so-far-stops : {T E : Type 0} {IsPoint : List ℤ → Type 0} {v : Boxes E} {o : Objects T E} {d : Distances T} {p : List ℤ} (law : IsMeasured IsPoint v o d p) {S O Y : Type 0} (compare : T → T → Ordering) (value : S → ℤ) (most : ℕ) (all : List T)
+    (scalars : S → S → Ordering) (order : (a b : S) → scalars a b ≡ int_cmp (value a) (value b)) (ties : ParentNode T E → ParentNode T E → Ordering) (w : Waiting (Bor (ParentNode T E)) S Y) (ws us : List (Waiting (Bor (ParentNode T E)) S Y)) (found : List (Found T S O))
+    → IsPermutation ws (w ∷ us) → All (λ u. is_lt (nearest_on_top scalars ties w u) ≡ false) us → WaitAtDistance v d p value ws → most ≤ length found → AllByRecursion (λ u. value u.distance <ℤ value w.distance) found
+    → AreFoundSoFar v o d p compare value most all (waiting_parents ws) found → AreFirstOf (IsNotLater (λ t. d.distance_2 t p) compare) all most (found_elements found)
+so-far-stops {v = v} {o = o} {d = d} {p = p} law compare value most all scalars order ties w ws us found popped greatest waiting full nearer h =
+    let at = popped-waiting w ws us popped v d p value waiting in
+    let front = so-far-same v o d p compare value most all (waiting_parents ws) (Parent w.node.now ∷ waiting_parents us) found (popped-nodes w ws us popped) h in
+    let others = so-far-beyond law compare value most all scalars order (Parent w.node.now) (waiting_parents us) found w.distance full nearer at.0 front in
+    so-far-end v o d p compare value most all [] found refl (so-far-all-beyond law compare value most all scalars order ties w us found full nearer (recursion_from_All _ us greatest) at.1 others)

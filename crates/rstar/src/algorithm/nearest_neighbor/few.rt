@@ -50,7 +50,8 @@ pub(crate) fn first_few<'a, T: Measured, E: TieOrder<T>>(
     open(&mut heap, &mut found, &root.children, point, most)?;
     while let Some(current) = heap.pop() {
         if is_beyond(&found, most, current.distance) {
-            continue;
+            // The others that wait are no nearer.
+            break;
         }
         open(&mut heap, &mut found, &current.node.children, point, most)?;
     }

@@ -1,17 +1,19 @@
-use Rattle.std.proofs.Common.{◌≡◌, ◌∷◌, ◌++◌, map, pos, arith, refl, sym, subst, ap, ◌∙◌}
+use Rattle.std.proofs.Common.{◌≡◌, ◌∷◌, ◌++◌, pos, arith, refl, sym, subst, ap}
 use Rattle.std.proofs.lemmas.Result.{IfOk-weaker}
 use Rattle.std.specs.List.{AllByRecursion}
 use Rattle.std.specs.Ordering.{int_cmp}
 use Rattle.rstar_base.specs.SmallHeaps.{items_of}
 use Rattle.rstar.specs.declared.node.RTreeNode.{Parent}
-use Rattle.rstar.specs.Few.{AreFoundSoFar, waiting_parents}
+use Rattle.rstar.specs.Few.{AreFoundSoFar, found_elements, waiting_parents}
 use Rattle.rstar.specs.Lists.{IsNotLater, AreFirstOf}
 use Rattle.rstar.specs.Nodes.{all_parents, elements_of}
+use Rattle.rstar.specs.Searches.{any_first}
 use Rattle.rstar.proofs.Few as few
 use Rattle.rstar.proofs.Nearness.{IsMeasured}
 use Rattle.rstar.proofs.Turns as turns
 use Rattle.rstar.proofs.algorithm.nearest_neighbor.few.first_few.Given.{Over}
 use Rattle.rstar.proofs.algorithm.nearest_neighbor.few.first_few.Goals as goal
+use Rattle.rstar.proofs.algorithm.nearest_neighbor.few.first_few.Goals.{in-Some+then-is_beyond, in_default}
 
 measured : (g : Over) (p : _) → g.T.Cover.Merges.is_point p
     → IsMeasured g.T.Cover.Merges.is_point g.T.Cover.Merges.boxes g.T.Covered.object g.T.Measured.distances p
@@ -35,26 +37,6 @@ loop-current-init g c =
       falls = c.open.ensures.falls;
       waiting = c.in_ok-open.ensures.waiting (rw c.new-heap.ensures.none tt);
       first = c.in_ok-open.ensures.first (elements_of c.args.root.now) (subst (λ l. AreFoundSoFar g.T.Cover.Merges.boxes g.T.Covered.object g.T.Measured.distances p g.E.TieOrder.order value c.args.most (elements_of c.args.root.now) (waiting_parents (items_of c.new-heap.result) ++ l) c.in_ok-found.found.items) (sym c.deref.ensures.value) start);
-    }
-
-pub loop-current-smaller-then-is_beyond : goal.loop-current-smaller-then-is_beyond
-loop-current-smaller-then-is_beyond g c = let one = few.popped-parents c.in-Some.current (items_of c.loop-current.heap) (items_of c.pop.new.self) c.in-Some.ensures.some in omega (arith, one)
-
-pub loop-current-preserved-then-is_beyond : goal.loop-current-preserved-then-is_beyond
-loop-current-preserved-then-is_beyond g c =
-    let p = g.T.Measured.at c.args.point.now in
-    let value = g.T.Distance.SquaredDistance.number in
-    let found = c.loop-current.found.items in
-    let us = waiting_parents (items_of c.pop.new.self) in
-    let all = elements_of c.args.root.now in
-    let rest = few.popped-waiting c.in-Some.current (items_of c.loop-current.heap) (items_of c.pop.new.self) c.in-Some.ensures.some g.T.Cover.Merges.boxes g.T.Measured.distances p value c.loop-current.invariant.waiting in
-    let front = few.so-far-same g.T.Cover.Merges.boxes g.T.Covered.object g.T.Measured.distances p g.E.TieOrder.order value c.args.most all (waiting_parents (items_of c.loop-current.heap)) (Parent c.in-Some.current.node.now ∷ us) found (few.popped-nodes c.in-Some.current (items_of c.loop-current.heap) (items_of c.pop.new.self) c.in-Some.ensures.some) c.loop-current.invariant.first in
-    record {
-      ordered = c.pop.ensures.ordered;
-      falls = c.loop-current.invariant.falls;
-      waiting = rest.1;
-      first = few.so-far-beyond (measured g p c.known.ensures.range) g.E.TieOrder.order value c.args.most all g.T.Distance.Ord.cmp (order g) (Parent c.in-Some.current.node.now) us found c.in-Some.current.distance
-          (rw c.deref-in-Some.ensures.value at c.if-is_beyond.ensures.full refl) ((rw c.deref-in-Some.ensures.value at c.if-is_beyond.ensures.beyond refl) c.loop-current.invariant.falls) rest.0 front;
     }
 
 pub loop-current-smaller : goal.loop-current-smaller
@@ -85,10 +67,18 @@ loop-current-preserved g c =
 pub returns-clause-first : goal.returns-clause-first
 returns-clause-first g c =
     let p = g.T.Measured.at c.args.point.now in
+    let value = g.T.Distance.SquaredDistance.number in
     let found = c.loop-current.found.items in
+    let ws = items_of c.loop-current.heap in
     let all = elements_of c.args.root.now in
-    let first = few.so-far-end g.T.Cover.Merges.boxes g.T.Covered.object g.T.Measured.distances p g.E.TieOrder.order g.T.Distance.SquaredDistance.number c.args.most all (waiting_parents (items_of c.loop-current.heap)) found (ap waiting_parents c.in_default.ensures.none) c.loop-current.invariant.first in
-    IfOk-weaker c.lent.result _ _ (λ lent is. subst (AreFirstOf (IsNotLater (λ t. g.T.Measured.distances.distance_2 t p) g.E.TieOrder.order) all c.args.most) (sym (ap (map (λ n. n.0.now)) is ∙ few.lent-elements found)) first) c.lent.ensures
+    let first : AreFirstOf (IsNotLater (λ t. g.T.Measured.distances.distance_2 t p) g.E.TieOrder.order) all c.args.most (found_elements found) = elim c.match-pop.branch [
+      | in-Some+then-is_beyond w ↦
+          few.so-far-stops (measured g p c.known.ensures.range) g.E.TieOrder.order value c.args.most all g.T.Distance.Ord.cmp (order g) any_first w.in-Some.current ws (items_of c.pop.new.self) found w.in-Some.ensures.some w.in-Some.ensures.greatest c.loop-current.invariant.waiting
+          (rw w.deref-in-Some.ensures.value at w.if-is_beyond.ensures.full refl) ((rw w.deref-in-Some.ensures.value at w.if-is_beyond.ensures.beyond refl) c.loop-current.invariant.falls) c.loop-current.invariant.first
+      | in_default w ↦
+          few.so-far-end g.T.Cover.Merges.boxes g.T.Covered.object g.T.Measured.distances p g.E.TieOrder.order value c.args.most all (waiting_parents ws) found (ap waiting_parents w.in_default.ensures.none) c.loop-current.invariant.first
+    ] in
+    IfOk-weaker c.lent.result _ _ (λ lent is. few.lent-first (IsNotLater (λ t. g.T.Measured.distances.distance_2 t p) g.E.TieOrder.order) all c.args.most found lent.items is first) c.lent.ensures
 
 pub returns-clause-distances : goal.returns-clause-distances
 returns-clause-distances g c =
