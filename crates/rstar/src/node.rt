@@ -12,14 +12,10 @@ use rstar_base::object::{Distance, RTreeObject};
 /// A node of a tree: one element, or a parent.
 ///
 /// ```rust
-/// let mut nodes = root.children();
-/// for levels in 0..64 {
-///     match nodes.first() {
-///         Some(RTreeNode::Parent(parent)) => nodes = parent.children(),
-///         _ => return levels,
-///     }
+/// match self {
+///     RTreeNode::Leaf(_) => None,
+///     RTreeNode::Parent(parent) => Some(parent.children()),
 /// }
-/// 64
 /// ```
 /// *`crates/rstar_vectors/src/scenarios.rt`*
 #[cycle(node)]

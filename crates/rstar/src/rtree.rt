@@ -147,16 +147,10 @@ impl<T: RTreeObject, Params: RTreeParams> RTree<T, Params> {
     /// The root, from which all nodes are reached. It is a parent, without children where the tree is empty.
     ///
     /// ```rust
-    /// let mut nodes = root.children();
-    /// for levels in 0..64 {
-    ///     match nodes.first() {
-    ///         Some(RTreeNode::Parent(parent)) => nodes = parent.children(),
-    ///         _ => return levels,
-    ///     }
-    /// }
-    /// 64
+    /// let nodes = tree.root().children();
+    /// let levels = levels_of(nodes);
     /// ```
-    /// *`crates/rstar_vectors/src/scenarios.rt`*
+    /// *`crates/rstar_vectors/src/loads.rt`*
     #[tactic(auto, unfolding(crate::specs::Trees::IsWholeTree))]
     pub fn root(&self) -> &ParentNode<T>
         ensures shown { result.now ≡ root_of self.now }

@@ -11,12 +11,10 @@ ghost use Rattle.rstar.specs.Nodes.{parents_of};
 ghost use Rattle.rstar.specs.Trees.{root_of, elements_in, IsWholeTree};
 
 use crate::neighbour_rows::{fits, is_as_told};
-use crate::scenarios::{ALONG_A_LINE, inserted, let_go, loaded};
-use crate::uses::geofence::Fence;
+use crate::scenarios::{ALONG_A_LINE, Outlined, fences_of, inserted, let_go, loaded};
 use rstar::algorithm::nearest_neighbor::NearestNeighborByOrderIterator;
 use rstar::object::{Distance, PointDistance, PointOf, RTreeObject};
 use rstar::point::{Point, RTreeNum};
-use rstar::primitives::Rectangle;
 use rstar::{DefaultParams, Envelope, RTree, RTreeParams};
 use std::alloc::{AllocError, Global};
 
@@ -243,12 +241,13 @@ fn points_come_as_a_plain_sort_puts_them(rt: HostRuntime) {
 // Fences with equal outlines come by their numbers; others at equal distance by their corners first.
 #[test]
 fn fences_at_equal_distance_come_by_corner_and_number(rt: HostRuntime) {
-    let fences = [
-        Fence::new(Rectangle::from_corners([0, 0], [1, 1]), 9),
-        Fence::new(Rectangle::from_corners([0, 0], [1, 1]), 4),
-        Fence::new(Rectangle::from_corners([-3, 0], [-1, 0]), 5),
-        Fence::new(Rectangle::from_corners([3, 0], [3, 0]), 1),
-        Fence::new(Rectangle::from_corners([-3, 0], [-3, 0]), 2),
+    const FENCES: [Outlined; 5] = [
+        (9, [0, 0], [1, 1]),
+        (4, [0, 0], [1, 1]),
+        (5, [-3, 0], [-1, 0]),
+        (1, [3, 0], [3, 0]),
+        (2, [-3, 0], [-3, 0]),
     ];
-    assert!(rt; come_in_order(rt.alloc(), &fences, [0, 0], &[]));
+    let fences = fences_of(rt.alloc(), &FENCES);
+    assert!(rt; fences.len() == 5 && come_in_order(rt.alloc(), &fences, [0, 0], &[]));
 }

@@ -102,10 +102,10 @@ fn meet<
     own: (usize, usize),
 ) -> bool {
     meets(alloc, lefts, rights, counts[0])
-        && meets(alloc, rights, lefts, counts[0])
-        && meets(alloc, lefts, points, counts[1])
-        && meets(alloc, points, lefts, counts[1])
-        && meets(alloc, points, points, own)
+        & meets(alloc, rights, lefts, counts[0])
+        & meets(alloc, lefts, points, counts[1])
+        & meets(alloc, points, lefts, counts[1])
+        & meets(alloc, points, points, own)
 }
 
 /// Rectangles between these corners, with a number each.
@@ -186,8 +186,20 @@ fn pairs_that_intersect(rt: HostRuntime) {
     }
 }
 
+/// What a scan asks of two elements: whether their envelopes meet.
+trait Touching {
+    /// Whether its envelope meets another's.
+    fn touches(&self, other: &Self) -> bool;
+}
+
+impl<T: RTreeObject> Touching for T {
+    fn touches(&self, other: &T) -> bool {
+        self.envelope().intersects(&other.envelope())
+    }
+}
+
 /// Whether pairs are those that a scan of two lists finds, in some order, and there are some.
-fn are_scanned<T: RTreeObject + PartialEq>(
+fn are_scanned<T: Touching + PartialEq>(
     paired: Result<Paired<'_, T, T>, AllocError>,
     lefts: &[T],
     rights: &[T],
@@ -199,7 +211,7 @@ fn are_scanned<T: RTreeObject + PartialEq>(
     let mut has_all = true;
     for left in lefts {
         for right in rights {
-            if left.envelope().intersects(&right.envelope()) {
+            if left.touches(right) {
                 has_all = has_all && (&**pairs).contains(&(left, right));
                 wanted = wanted.saturating_add(1);
             }
@@ -237,7 +249,7 @@ fn met_by_loads<T: RTreeObject + Copy>(
     let left = loaded::<T, DefaultParams>(alloc, lefts);
     let right = loaded(alloc, rights);
     let is_so = counts(joined(alloc, &left, &right), pairs, None)
-        && counts(joined(alloc, &left, &left), own, None);
+        & counts(joined(alloc, &left, &left), own, None);
     let_go(left);
     let_go(right);
     is_so
@@ -251,8 +263,8 @@ fn meets_itself_at_depth<T: RTreeObject + Copy>(
     levels: usize,
 ) -> bool {
     let tree = inserted::<T, Splitting>(alloc, elements);
-    let is_so = levels <= levels_of(tree.root())
-        && counts(joined(alloc, &tree, &tree), elements.len(), None);
+    let is_so = (levels <= levels_of(tree.root().children()))
+        & counts(joined(alloc, &tree, &tree), elements.len(), None);
     let_go(tree);
     is_so
 }

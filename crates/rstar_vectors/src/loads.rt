@@ -6,9 +6,11 @@ ghost use Rattle.rstar.specs.Trees.{IsWholeTree};
 
 use crate::node_sizes::Small;
 use crate::reinsertion::all_go_in;
-use crate::scenarios::{goes_in, let_go, let_root_go, levels_of, loaded, points, stands_with};
+use crate::scenarios::{
+    Node, goes_in, let_go, let_root_go, levels_of, loaded, points, stands_with,
+};
 use rstar::algorithm::bulk_load::{bulk_load_sequential, none_empty};
-use rstar::node::{ParentNode, RTreeNode};
+use rstar::node::RTreeNode;
 use rstar::object::PointOf;
 use rstar::params::{DefaultParams, RTreeParams};
 use rstar::primitives::{CachedEnvelope, GeomWithData, Line, Rectangle};
@@ -23,30 +25,34 @@ use std::fmt::Debug;
 // ---- what a root shows
 
 /// The elements below some nodes, at most `levels` levels of parents down, left to right, into a list.
-pub(crate) fn gather<T: RTreeObject + Copy>(
-    nodes: &[RTreeNode<T>],
+pub(crate) fn gather<N: Node>(
+    nodes: &[N],
     levels: usize,
-    all: &mut Vec<T>,
-) -> Result<(), AllocError> {
+    all: &mut Vec<N::Element>,
+) -> Result<(), AllocError>
+where
+    N::Element: Copy,
+{
     for node in nodes {
-        match node {
-            RTreeNode::Leaf(element) => all.push(*element)?,
-            RTreeNode::Parent(parent) => if 0 < levels {
-                gather(parent.children(), levels - 1, all)?;
-            },
+        if let Some(element) = node.element() {
+            all.push(*element)?;
+        }
+        match node.children() {
+            Some(below) if 0 < levels => gather(below, levels - 1, all)?,
+            _ => {}
         }
     }
     Ok(())
 }
 
 /// How many elements lie below some nodes, at most `levels` levels of parents down.
-fn count_below<T: RTreeObject>(nodes: &[RTreeNode<T>], levels: usize) -> usize {
+fn count_below<N: Node>(nodes: &[N], levels: usize) -> usize {
     let mut count = 0usize;
     for node in nodes {
-        let own = match node {
-            RTreeNode::Leaf(_) => 1,
-            RTreeNode::Parent(parent) if 0 < levels => count_below(parent.children(), levels - 1),
-            RTreeNode::Parent(_) => 0,
+        let own = match node.children() {
+            Some(below) if 0 < levels => count_below(below, levels - 1),
+            Some(_) => 0,
+            None => 1,
         };
         count = count.saturating_add(own);
     }
@@ -65,11 +71,23 @@ fn are_parted<P: Point>(one: &AABB<P>, other: &AABB<P>) -> bool {
     false
 }
 
+/// A node whose envelope is a box.
+trait Boxed: Node {
+    /// Whether its box and another's are parted.
+    fn is_parted_from(&self, other: &Self) -> bool;
+}
+
+impl<P: Point> Boxed for RTreeNode<P> {
+    fn is_parted_from(&self, other: &RTreeNode<P>) -> bool {
+        are_parted(&self.envelope(), &other.envelope())
+    }
+}
+
 /// Whether the boxes of any two of some nodes are parted.
-fn are_all_parted<P: Point>(nodes: &[RTreeNode<P>]) -> bool {
+fn are_all_parted<N: Boxed>(nodes: &[N]) -> bool {
     for k in 0..nodes.len() {
         for before in 0..k {
-            if !are_parted(&nodes[before].envelope(), &nodes[k].envelope()) {
+            if !nodes[before].is_parted_from(&nodes[k]) {
                 return false;
             }
         }
@@ -77,31 +95,30 @@ fn are_all_parted<P: Point>(nodes: &[RTreeNode<P>]) -> bool {
     true
 }
 
-/// Whether parents, so many levels above the lowest of them, are as a load cuts them: more than `wide` points below each, at
-/// most half of them below each child, at most `most` children, and any two of these parted. `least` becomes the least number
-/// of children of a parent of leaves, where that is less.
-fn is_cut<P: Point>(
-    parent: &ParentNode<P>,
+/// Whether the children of a parent, so many levels above the lowest of them, are as a load cuts them: more than `wide`
+/// points below them, at most half of them below each, at most `most` children, and any two of these parted. `least` becomes
+/// the least number of children of a parent of leaves, where that is less.
+fn is_cut<N: Boxed>(
+    children: &[N],
     levels: usize,
     wide: usize,
     most: usize,
     least: &mut usize,
 ) -> bool {
-    let children = parent.children();
     if levels == 0 {
         *least = (*least).min(children.len());
         return true;
     }
     let mut count = 0usize;
     let mut longest = 0usize;
-    for node in children {
-        let RTreeNode::Parent(part) = node else {
+    for child in children {
+        let Some(below) = child.children() else {
             return false;
         };
-        if !is_cut(part, levels - 1, wide, most, least) {
+        if !is_cut(below, levels - 1, wide, most, least) {
             return false;
         }
-        let own = count_below(part.children(), levels - 1);
+        let own = count_below(below, levels - 1);
         count = count.saturating_add(own);
         longest = longest.max(own);
     }
@@ -111,13 +128,13 @@ fn is_cut<P: Point>(
         && are_all_parted(children)
 }
 
-/// Whether the children of a root, each a parent, have so many elements below them, in rising order.
-fn has_parts<T: RTreeObject>(alloc: Global, root: &ParentNode<T>, parts: &[usize]) -> bool {
-    let levels = levels_of(root);
+/// Whether so many elements lie below nodes that are parents, in rising order.
+fn has_parts<N: Node>(alloc: Global, nodes: &[N], parts: &[usize]) -> bool {
+    let levels = levels_of(nodes);
     let mut counts = Vec::new(alloc);
-    for node in root.children() {
-        if let RTreeNode::Parent(part) = node {
-            if counts.push(count_below(part.children(), levels)).is_err() {
+    for node in nodes {
+        if let Some(below) = node.children() {
+            if counts.push(count_below(below, levels)).is_err() {
                 return false;
             }
         }
@@ -151,17 +168,17 @@ fn loads_well<P: Point + Copy + Ord, Params: RTreeParams>(
     requires { 2 ≤ P.DIMENSIONS }
 {
     let mut tree = loaded::<P, Params>(alloc, points);
-    let root = tree.root();
-    let levels = levels_of(root);
+    let nodes = tree.root().children();
+    let levels = levels_of(nodes);
     let mut least = usize::MAX;
     let mut all = Vec::new(alloc);
-    let is_gathered = gather(root.children(), levels, &mut all).is_ok();
+    let is_gathered = gather(nodes, levels, &mut all).is_ok();
     let is_so = are_same(alloc, all, points)
-        && is_gathered
-        && stands_with(&tree, points.len())
-        && is_cut(root, levels, Params::MAX_SIZE, most, &mut least)
-        && least <= Params::MAX_SIZE
-        && all_go_in(&mut tree, more, 1, usize::MAX);
+        & is_gathered
+        & stands_with(&tree, points.len())
+        & is_cut(nodes, levels, Params::MAX_SIZE, most, &mut least)
+        & (least <= Params::MAX_SIZE)
+        & all_go_in(&mut tree, more, 1, usize::MAX);
     let_go(tree);
     is_so
 }
@@ -322,16 +339,12 @@ fn loads_of_many_sizes_are_loaded_and_take_insertions(rt: HostRuntime) {
     }
 }
 
-/// Whether each child of a root has its elements in such parts.
-fn children_have_parts<T: RTreeObject>(
-    alloc: Global,
-    root: &ParentNode<T>,
-    parts: &[usize],
-) -> bool {
-    for node in root.children() {
-        let is_so = match node {
-            RTreeNode::Leaf(_) => false,
-            RTreeNode::Parent(part) => has_parts(alloc, part, parts),
+/// Whether each of some nodes is a parent that has its elements in such parts.
+fn all_have_parts<N: Node>(alloc: Global, nodes: &[N], parts: &[usize]) -> bool {
+    for node in nodes {
+        let is_so = match node.children() {
+            Some(below) => has_parts(alloc, below, parts),
+            None => false,
         };
         if !is_so {
             return false;
@@ -351,11 +364,11 @@ fn is_in_parts<T: RTreeObject>(
     count: usize,
     parts: &Parts<'_>,
 ) -> bool {
-    let root = tree.root();
+    let nodes = tree.root().children();
     stands_with(tree, count)
-        && levels_of(root) == parts.0
-        && has_parts(alloc, root, parts.1)
-        && (parts.2.is_empty() || children_have_parts(alloc, root, parts.2))
+        & (levels_of(nodes) == parts.0)
+        & has_parts(alloc, nodes, parts.1)
+        & (parts.2.is_empty() || all_have_parts(alloc, nodes, parts.2))
 }
 
 /// The same of a clone of a tree; not where the tree is refused that.
@@ -384,7 +397,7 @@ fn load_is_in_parts<T: RTreeObject + Copy>(alloc: Global, elements: &[T], parts:
     let tree = loaded(alloc, elements);
     let count = elements.len();
     let is_so = is_in_parts(alloc, &tree, count, parts)
-        && clone_is_in_parts(alloc, &tree, count, parts);
+        & clone_is_in_parts(alloc, &tree, count, parts);
     let_go(tree);
     is_so
 }
@@ -398,7 +411,7 @@ fn root_has_parts<T: RTreeObject>(alloc: Global, elements: Vec<T>, parts: &[usiz
     }
     match bulk_load_sequential::<T, DefaultParams>(elements) {
         Ok(root) => {
-            let is_so = has_parts(alloc, &root, parts);
+            let is_so = has_parts(alloc, root.children(), parts);
             let_root_go(root);
             is_so
         }

@@ -75,13 +75,31 @@ pub(crate) fn fits<P: Point>()
     ensures ordered { FitsInMemory (ordered_row P.row P.Scalar.row) }
 {}
 
+/// What a row asks of an element that was found: how far it is. What compares rows asks for this alone, and not for the some
+/// sixty traits that an element type brings.
+trait Away<P> {
+    /// A squared distance.
+    type Far: PartialEq + Copy;
+
+    /// The squared distance from a place.
+    fn far(&self, place: &P) -> Self::Far;
+}
+
+impl<T: PointDistance> Away<PointOf<T>> for T {
+    type Far = Distance<T>;
+
+    fn far(&self, place: &PointOf<T>) -> Distance<T> {
+        self.distance_2(place)
+    }
+}
+
 /// Whether elements lie at these squared distances from a place, in this order.
-fn lie_at<T: PointDistance>(found: &[&T], place: &PointOf<T>, distances: &[Distance<T>]) -> bool {
+fn lie_at<P, T: Away<P>>(found: &[&T], place: &P, distances: &[T::Far]) -> bool {
     if found.len() != distances.len() {
         return false;
     }
     for k in 0..distances.len() {
-        if found[k].distance_2(place) != distances[k] {
+        if found[k].far(place) != distances[k] {
             return false;
         }
     }
@@ -107,36 +125,36 @@ fn is_at<S: PartialEq>(least: &[S], distance: &S) -> bool {
 }
 
 /// Whether a neighbour that was found, with its distance, lies at the least distance of some; none, where there is none.
-fn is_least<T: PointDistance>(
-    found: Result<Option<(&T, Distance<T>)>, AllocError>,
-    place: &PointOf<T>,
-    least: &[Distance<T>],
+fn is_least<P, T: Away<P>>(
+    found: Result<Option<(&T, T::Far)>, AllocError>,
+    place: &P,
+    least: &[T::Far],
 ) -> bool {
     match found {
-        Ok(Some((element, one))) => is_at(least, &one) && element.distance_2(place) == one,
+        Ok(Some((element, one))) => is_at(least, &one) && element.far(place) == one,
         Ok(None) => least.is_empty(),
         Err(_) => false,
     }
 }
 
 /// The same of a neighbour alone.
-fn is_least_alone<T: PointDistance>(
+fn is_least_alone<P, T: Away<P>>(
     found: Result<Option<&T>, AllocError>,
-    place: &PointOf<T>,
-    least: &[Distance<T>],
+    place: &P,
+    least: &[T::Far],
 ) -> bool {
     match found {
-        Ok(Some(element)) => is_at(least, &element.distance_2(place)),
+        Ok(Some(element)) => is_at(least, &element.far(place)),
         Ok(None) => least.is_empty(),
         Err(_) => false,
     }
 }
 
 /// Whether elements that were found lie at these squared distances from a place, in this order.
-fn are_at<T: PointDistance>(
+fn are_at<P, T: Away<P>>(
     found: Result<Vec<&T>, AllocError>,
-    place: &PointOf<T>,
-    distances: &[Distance<T>],
+    place: &P,
+    distances: &[T::Far],
 ) -> bool {
     match &found {
         Ok(all) => lie_at(all, place, distances),
@@ -145,10 +163,10 @@ fn are_at<T: PointDistance>(
 }
 
 /// The same of elements that were found with a count of parents.
-fn are_in_order<T: PointDistance>(
+fn are_in_order<P, T: Away<P>>(
     found: Result<(Vec<&T>, usize), AllocError>,
-    place: &PointOf<T>,
-    distances: &[Distance<T>],
+    place: &P,
+    distances: &[T::Far],
 ) -> bool {
     match &found {
         Ok((all, _opened)) => lie_at(all, place, distances),
@@ -178,10 +196,10 @@ pub(crate) fn are_first<T, D: PartialEq + Copy>(
 }
 
 /// The same of all nearest neighbours with their distance, and of the least distances.
-fn are_least<T: PointDistance>(
-    found: Result<Option<(Vec<&T>, Distance<T>)>, AllocError>,
-    place: &PointOf<T>,
-    least: &[Distance<T>],
+fn are_least<P, T: Away<P>>(
+    found: Result<Option<(Vec<&T>, T::Far)>, AllocError>,
+    place: &P,
+    least: &[T::Far],
 ) -> bool {
     match &found {
         Ok(Some((all, one))) => is_at(least, one) && lie_at(all, place, least),
@@ -542,7 +560,7 @@ where
         near.set(0);
         far.set(0);
         let came = come(&mut tree.nearest_neighbor_iter(place), most);
-        is_so = is_so && came == (given, false) && near.get() == first && far.get() == other;
+        is_so &= (came == (given, false)) & (near.get() == first) & (far.get() == other);
     }
     let_go(tree);
     is_so

@@ -104,9 +104,9 @@ mod tests {
     {
         let tree = inserted::<T, DefaultParams>(alloc, elements);
         let (inside, touched, here) = come_upon(&tree, area, point);
-        let is_so = (inside.is_some(), touched.is_some(), here.is_some()) == told
-            && first_selected(&tree, point).is_some() == told.2
-            && first_below(tree.root(), point).is_some() == told.2;
+        let is_so = ((inside.is_some(), touched.is_some(), here.is_some()) == told)
+            & (first_selected(&tree, point).is_some() == told.2)
+            & (first_below(tree.root(), point).is_some() == told.2);
         let_go(tree);
         is_so
     }

@@ -322,11 +322,11 @@ where
     let is_ended = is_marked(alloc);
     let other = come(&mut tree.nearest_neighbor_iter(place), usize::MAX);
     let is_so = is_begun
-        && is_ended
-        && is_over
-        && (is_refused || came == count)
-        && other == (count, false)
-        && tree.size() == count;
+        & is_ended
+        & is_over
+        & (is_refused | (came == count))
+        & (other == (count, false))
+        & (tree.size() == count);
     let_go(tree);
     is_so
 }

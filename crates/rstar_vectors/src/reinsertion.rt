@@ -27,7 +27,9 @@ pub(crate) fn all_go_in<T: RTreeObject + Copy, Params: RTreeParams>(
 {
     for element in elements {
         let count = tree.size().saturating_add(1);
-        if !goes_in(tree, *element) || tree.size() != count || !stands_within(tree, least, most) {
+        let is_in = goes_in(tree, *element);
+        let is_so = is_in & (tree.size() == count) & stands_within(tree, least, most);
+        if !is_so {
             return false;
         }
     }

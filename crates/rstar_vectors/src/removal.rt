@@ -107,12 +107,13 @@ fn stands_with_one_in<T: PointDistance + Copy>(
     other: PointOf<T>,
 ) -> bool {
     let mut tree = inserted::<T, DefaultParams>(alloc, elements);
-    let is_so = !one.envelope().is_empty()
-        && matches!(two_out_one_in(&mut tree, area, one), Ok(true))
-        && stands_with(&tree, left)
-        && tree.remove_at_point(first).is_none()
-        && tree.remove_at_point(other).is_some()
-        && matches!(one_out(&mut tree), Ok(Some(_)));
+    let is_in = !one.envelope().is_empty()
+        && matches!(two_out_one_in(&mut tree, area, one), Ok(true));
+    let is_so = is_in
+        & stands_with(&tree, left)
+        & tree.remove_at_point(first).is_none()
+        & tree.remove_at_point(other).is_some()
+        & matches!(one_out(&mut tree), Ok(Some(_)));
     let_go(tree);
     is_so
 }
@@ -205,10 +206,15 @@ fn are_given_or_left<T: RTreeObject + Ord + Copy>(
     let mut tree = inserted::<T, DefaultParams>(alloc, elements);
     let mut all = Vec::new(alloc);
     let is_so = forgotten_after(&mut tree, calls, &mut all)
-        && all.len() == calls
-        && tree.size().saturating_add(calls) == elements.len()
-        && stands(&tree)
-        && gather(tree.root().children(), levels_of(tree.root()), &mut all).is_ok();
+        & (all.len() == calls)
+        & (tree.size().saturating_add(calls) == elements.len())
+        & stands(&tree)
+        & gather(
+            tree.root().children(),
+            levels_of(tree.root().children()),
+            &mut all,
+        )
+        .is_ok();
     let_go(tree);
     are_same(alloc, all, elements) && is_so
 }

@@ -8,7 +8,7 @@ ghost use Rattle.std.specs.Prelude.{◌≤◌, None, IfOk};
 ghost use Rattle.std.specs.Iterator.{IsFinite, YieldsThen};
 ghost use Rattle.rstar.specs.Trees.{IsWholeTree};
 
-use crate::uses::geofence::Fence;
+use crate::uses::geofence::{Fence, fence};
 use rstar::algorithm::bulk_load::none_empty;
 use rstar::node::{ParentNode, RTreeNode};
 use rstar::object::{Distance, PointOf};
@@ -107,6 +107,18 @@ pub(crate) fn fences(alloc: Global, count: u8, side: u8, first: u8) -> Vec<Fence
     all
 }
 
+/// A number and two opposite corners.
+pub(crate) type Outlined = (u64, [i64; 2], [i64; 2]);
+
+/// Fences with these numbers, each between two corners.
+pub(crate) fn fences_of(alloc: Global, rows: &[Outlined]) -> Vec<Fence> {
+    let mut all = Vec::new(alloc);
+    for &(number, one, other) in rows {
+        let _refused = all.push(fence(number, one, other)).is_err();
+    }
+    all
+}
+
 /// Whether an element lies at this squared distance from a point, and not within a lesser one, and contains the point as
 /// told.
 pub(crate) fn lies_at<T: PointDistance>(
@@ -194,48 +206,119 @@ pub(crate) fn loaded<T: RTreeObject + Copy, Params: RTreeParams>(
     }
 }
 
-/// The levels of parents below a root, down to the first leaf.
-pub(crate) fn levels_of<T: RTreeObject>(root: &ParentNode<T>) -> usize {
-    let mut nodes = root.children();
+/// What tests read of a node. What goes through nodes asks for this alone: an element type would bring some sixty traits to
+/// each of its steps.
+pub(crate) trait Node: Sized {
+    /// What a leaf holds.
+    type Element;
+
+    /// The element of a leaf, none of a parent.
+    fn element(&self) -> Option<&Self::Element>;
+
+    /// The children of a parent, none of a leaf.
+    fn children(&self) -> Option<&[Self]>;
+}
+
+impl<T: RTreeObject> Node for RTreeNode<T> {
+    type Element = T;
+
+    fn element(&self) -> Option<&T> {
+        match self {
+            RTreeNode::Leaf(element) => Some(element),
+            RTreeNode::Parent(_) => None,
+        }
+    }
+
+    fn children(&self) -> Option<&[RTreeNode<T>]> {
+        match self {
+            RTreeNode::Leaf(_) => None,
+            RTreeNode::Parent(parent) => Some(parent.children()),
+        }
+    }
+}
+
+/// The levels of parents among some nodes, down to the first leaf.
+pub(crate) fn levels_of<N: Node>(top: &[N]) -> usize {
+    let mut nodes = top;
     for levels in 0..64 {
-        match nodes.first() {
-            Some(RTreeNode::Parent(parent)) => nodes = parent.children(),
-            _ => return levels,
+        let Some(first) = nodes.first() else {
+            return levels;
+        };
+        match first.children() {
+            Some(below) => nodes = below,
+            None => return levels,
         }
     }
     64
 }
 
+/// A node with its envelope.
+trait Covering: Node {
+    /// An envelope.
+    type Cover: PartialEq + Drop;
+
+    /// The envelope of nothing.
+    fn nothing() -> Self::Cover;
+
+    /// Its own envelope.
+    fn cover(&self) -> Self::Cover;
+
+    /// An element's envelope.
+    fn cover_of(element: &Self::Element) -> Self::Cover;
+
+    /// Takes an envelope into another.
+    fn merge(all: &mut Self::Cover, other: &Self::Cover);
+}
+
+impl<T: RTreeObject> Covering for RTreeNode<T> {
+    type Cover = T::Envelope;
+
+    fn nothing() -> T::Envelope {
+        T::Envelope::new_empty()
+    }
+
+    fn cover(&self) -> T::Envelope {
+        self.envelope()
+    }
+
+    fn cover_of(element: &T) -> T::Envelope {
+        element.envelope()
+    }
+
+    fn merge(all: &mut T::Envelope, other: &T::Envelope) {
+        all.merge(other);
+    }
+}
+
 /// Merges the envelopes of the elements below some nodes into `all`, and counts them; tells whether each element lies
 /// `levels` levels below the nodes, and each parent keeps that merge of its own and has from `least` to `most` children.
-fn merge_below<T: RTreeObject>(
-    nodes: &[RTreeNode<T>],
+fn merge_below<N: Covering>(
+    nodes: &[N],
     levels: usize,
     least: usize,
     most: usize,
-    all: &mut T::Envelope,
+    all: &mut N::Cover,
     count: &mut usize,
 ) -> bool {
     for node in nodes {
-        let mut own = T::Envelope::new_empty();
-        let is_so = match node {
-            RTreeNode::Leaf(element) => {
-                own.merge(&element.envelope());
-                *count = count.saturating_add(1);
-                levels == 0
-            }
-            RTreeNode::Parent(parent) => {
-                let children = parent.children();
+        let mut own = N::nothing();
+        if let Some(element) = node.element() {
+            N::merge(&mut own, &N::cover_of(element));
+            *count = count.saturating_add(1);
+        }
+        let is_so = match node.children() {
+            Some(children) => {
                 levels > 0
                     && least <= children.len()
                     && children.len() <= most
                     && merge_below(children, levels - 1, least, most, &mut own, count)
             }
+            None => levels == 0,
         };
-        if !is_so || node.envelope() != own {
+        if !is_so || node.cover() != own {
             return false;
         }
-        all.merge(&own);
+        N::merge(all, &own);
     }
     true
 }
@@ -253,7 +336,7 @@ pub(crate) fn stands_within<T: RTreeObject, Params: RTreeParams>(
     root.children().len() <= most
         && merge_below(
             root.children(),
-            levels_of(root),
+            levels_of(root.children()),
             least,
             most,
             &mut all,

@@ -29,7 +29,7 @@ fn selects<T: RTreeObject + Copy, Func: SelectionFunction<T>>(
     let is_so = match tree.locate_with_selection_function(func) {
         Ok(walk) => counts(walked(alloc, walk), count, Some(opened)),
         Err(_) => false,
-    } && stands(&tree);
+    } & stands(&tree);
     let_go(tree);
     is_so
 }
@@ -60,7 +60,7 @@ fn select_so<T: RTreeObject + Copy>(
 ) -> bool {
     let tree = inserted::<T, DefaultParams>(alloc, elements);
     let is_so = counts(inside(alloc, &tree, area), in_area.0, Some(in_area.1))
-        && counts(all_of(alloc, &tree), all.0, Some(all.1));
+        & counts(all_of(alloc, &tree), all.0, Some(all.1));
     let_go(tree);
     is_so
 }
@@ -441,7 +441,7 @@ where
     let counts = counted(&scan);
     let tree = inserted::<T, DefaultParams>(alloc, elements);
     let is_so = iterators_find(alloc, &tree, elements, &scan, &asked)
-        && visits_find(&tree, area, point, counts[2], counts[3]);
+        & visits_find(&tree, area, point, counts[2], counts[3]);
     let_go(tree);
     if is_so { Some(counts) } else { None }
 }

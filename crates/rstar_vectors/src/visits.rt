@@ -53,14 +53,12 @@ fn clear_below<R: RTreeObject>(root: &mut ParentNode<GeomWithData<R, u64>>, area
 #[cfg(test)]
 mod tests {
     use super::*;
-    use crate::scenarios::{fences, inserted, let_go, let_root_go};
-    use crate::uses::geofence::Fence;
+    use crate::scenarios::{Outlined, fences, fences_of, inserted, let_go, let_root_go};
     use rstar::AABB;
     use rstar::algorithm::bulk_load::{bulk_load_sequential, none_empty};
     use rstar::algorithm::selection_functions::SelectAllFunc;
     use rstar::iterators::select_nodes;
     use rstar::object::{PointDistance, PointOf};
-    use rstar::primitives::Rectangle;
     use std::alloc::Global;
 
     /// An element with a number.
@@ -151,37 +149,45 @@ mod tests {
         assert!(rt; cleared_below(fences(rt.alloc(), 10, 5, 1), area) == Some((55, 49)));
     }
 
-    /// A box over points.
-    type Area = AABB<[i64; 2]>;
+    /// The corners of a box.
+    type Corners = ([i64; 2], [i64; 2]);
 
     /// Fences; whether a visit breaks; the box of the visits, and the one by which fences are cleared; the least and the
     /// greatest number that the visit breaks with, and the four sums.
-    type Row<'a> = (&'a [Fence], bool, Area, Area, (u64, u64), [u64; 4]);
+    type Row = (
+        &'static [Outlined],
+        bool,
+        Corners,
+        Corners,
+        (u64, u64),
+        [u64; 4],
+    );
 
     // The numbers 1, 2 and 3 in one place, inside a box, each changed, or one until a break; and two fences. A box that
     // contains none of them, and touches the first, a point inside that, and the point at its corner, where it is cleared,
     // as by that box.
     #[test]
     fn visits_write_what_they_select_until_a_break(rt: HostRuntime) {
-        let square = Rectangle::from_corners([0i64, 0], [2, 2]);
-        let three = [
-            Fence::new(square, 1),
-            Fence::new(square, 2),
-            Fence::new(square, 3),
+        const THREE: [Outlined; 3] = [
+            (1, [0, 0], [2, 2]),
+            (2, [0, 0], [2, 2]),
+            (3, [0, 0], [2, 2]),
         ];
-        let other = Rectangle::from_corners([3, 3], [4, 4]);
-        let two = [Fence::new(square, 7), Fence::new(other, 5)];
-        let area = AABB::from_corners([0, 0], [1, 1]);
-        let corner = AABB::from_corners([2, 2], [2, 2]);
-        let wide = AABB::from_corners([0, 0], [2, 2]);
-        let rows: [Row<'_>; 4] = [
-            (&three, false, wide, corner, (0, 0), [36, 39, 42, 0]),
-            (&three, true, area, corner, (11, 13), [16, 16, 19, 0]),
-            (&two, false, area, corner, (0, 0), [32, 32, 33, 15]),
-            (&two, false, area, area, (0, 0), [32, 32, 33, 15]),
+        const TWO: [Outlined; 2] = [(7, [0, 0], [2, 2]), (5, [3, 3], [4, 4])];
+        const WIDE: Corners = ([0, 0], [2, 2]);
+        const AREA: Corners = ([0, 0], [1, 1]);
+        const CORNER: Corners = ([2, 2], [2, 2]);
+        const ROWS: [Row; 4] = [
+            (&THREE, false, WIDE, CORNER, (0, 0), [36, 39, 42, 0]),
+            (&THREE, true, AREA, CORNER, (11, 13), [16, 16, 19, 0]),
+            (&TWO, false, AREA, CORNER, (0, 0), [32, 32, 33, 15]),
+            (&TWO, false, AREA, AREA, (0, 0), [32, 32, 33, 15]),
         ];
-        for &(list, breaks, area, cleared, (least, most), sums) in &rows {
-            let (number, own) = visited(rt.alloc(), list, breaks, area, [1, 1], cleared);
+        for &(list, breaks, area, cleared, (least, most), sums) in &ROWS {
+            let fences = fences_of(rt.alloc(), list);
+            let area = AABB::from_corners(area.0, area.1);
+            let cleared = AABB::from_corners(cleared.0, cleared.1);
+            let (number, own) = visited(rt.alloc(), &fences, breaks, area, [1, 1], cleared);
             assert!(rt; least <= number && number <= most && own == sums);
         }
     }

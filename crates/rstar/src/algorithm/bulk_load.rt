@@ -36,7 +36,7 @@ use std::alloc::AllocError;
 /// }
 /// match bulk_load_sequential::<T, DefaultParams>(elements) {
 ///     Ok(root) => {
-///         let is_so = has_parts(alloc, &root, parts);
+///         let is_so = has_parts(alloc, root.children(), parts);
 ///         // ..
 ///         is_so
 ///     }

@@ -100,7 +100,7 @@ impl<T: PointDistance, Params: RTreeParams> RTree<T, Params> {
     ///
     /// ```rust
     /// match found {
-    ///     Ok(Some(element)) => is_at(least, &element.distance_2(place)),
+    ///     Ok(Some(element)) => is_at(least, &element.far(place)),
     ///     Ok(None) => least.is_empty(),
     ///     Err(_) => false,
     /// }
@@ -129,7 +129,7 @@ impl<T: PointDistance, Params: RTreeParams> RTree<T, Params> {
     ///
     /// ```rust
     /// match found {
-    ///     Ok(Some((element, one))) => is_at(least, &one) && element.distance_2(place) == one,
+    ///     Ok(Some((element, one))) => is_at(least, &one) && element.far(place) == one,
     ///     Ok(None) => least.is_empty(),
     ///     Err(_) => false,
     /// }

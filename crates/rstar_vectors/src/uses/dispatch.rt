@@ -103,11 +103,11 @@ mod tests {
         let mut dispatch = Dispatch::new(alloc);
         let mut is_so = true;
         for &(place, number) in waiting {
-            is_so = dispatch.add(place, number).is_ok() && is_so;
+            is_so &= dispatch.add(place, number).is_ok();
         }
         for &(place, most, nearest, sent) in calls {
-            is_so = are_first(dispatch.nearest(&place, most), nearest) && is_so;
-            is_so = is_sent(dispatch.send(place), sent) && is_so;
+            is_so &= are_first(dispatch.nearest(&place, most), nearest);
+            is_so &= is_sent(dispatch.send(place), sent);
         }
         is_so
     }

@@ -177,17 +177,15 @@ mod tests {
         let mut fences = Fences::new(alloc);
         let mut is_so = true;
         for &(number, one, other) in list {
-            is_so = fences.add(fence(number, one, other)).is_ok() && is_so;
+            is_so &= fences.add(fence(number, one, other)).is_ok();
         }
-        is_so = is_so
-            && fences.len() == list.len()
-            && fences.count_and_sum_in(AABB::from_corners(one, other)) == Ok(inside)
-            && has_len(fences.at(alloc, point), before);
+        is_so &= (fences.len() == list.len())
+            & (fences.count_and_sum_in(AABB::from_corners(one, other)) == Ok(inside))
+            & has_len(fences.at(alloc, point), before);
         if let Some(first) = list.first() {
             let (number, one, other) = *first;
-            is_so = is_so
-                && fences.remove(&fence(number, other, one))
-                && has_len(fences.at(alloc, point), after);
+            is_so &= fences.remove(&fence(number, other, one))
+                & has_len(fences.at(alloc, point), after);
         }
         is_so
     }

@@ -117,9 +117,9 @@ mod tests {
         let mut layout = Layout::new(alloc);
         let mut is_so = true;
         for &(number, one, other) in list {
-            is_so = layout.lay(fence(number, one, other)).is_ok() && is_so;
+            is_so &= layout.lay(fence(number, one, other)).is_ok();
         }
-        is_so && are(layout.overlaps(alloc), numbers)
+        is_so & are(layout.overlaps(alloc), numbers)
     }
 
     // Parts that touch at a corner overlap, and each pair comes once, in whichever order its parts were laid; two pieces of one

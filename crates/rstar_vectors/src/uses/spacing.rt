@@ -145,10 +145,10 @@ mod tests {
         let mut board = Board::new(alloc);
         let mut is_so = true;
         for &(number, one, other) in parts {
-            is_so = board.add(number, one, other).is_ok() && is_so;
+            is_so &= board.add(number, one, other).is_ok();
         }
         for &(one, other, room, numbers) in questions {
-            is_so = are_found(board.too_near(alloc, one, other, room), numbers) && is_so;
+            is_so &= are_found(board.too_near(alloc, one, other, room), numbers);
         }
         is_so
     }
