@@ -1,11 +1,12 @@
 -- What a push and a pop keep: of the inline items, and of the rest.
 use Rattle.std.proofs.Common.{◌≡◌, ℕ, zero, suc, ◌+◌, ◌-◌, ◌≤◌, ◌<◌, List, [], ◌∷◌, ◌++◌, length, refl, sym, ap, subst, ◌∙◌, arith, true, false, Option, Some, None, slice_index_or, drop, length-append, All}
 use Rattle.std.proofs.HeapSift as sifts
+use Rattle.std.proofs.lemmas.List.{get_or_default}
 use Rattle.std.specs.Cmp.{IsTotalOrder, IsStrictWeakOrder}
 use Rattle.std.specs.Option.{option_cmp}
 use Rattle.std.specs.Ordering.{is_lt}
 use Rattle.std.specs.declared.cmp.Ordering.{Ordering}
-use Rattle.std.specs.List.{AllByRecursion, insert, swap, swap_remove}
+use Rattle.std.specs.List.{AllByRecursion, insert, swap_remove}
 use Rattle.std.specs.List.Sorted.{IsPermutation}
 use Rattle.std.specs.Prelude.{slice_get, slice_set}
 use Rattle.std.specs.BinaryHeap.{IsHeap, IsUpperBound, lt_by_cmp}
@@ -24,20 +25,41 @@ all-insert P xs zero x h p = (p, h)
 all-insert P [] (suc i) x h p = (p, tt)
 all-insert P (a ∷ xs) (suc i) x h p = (h.0, all-insert P xs i x h.1 p)
 
--- an item put in at the end, or one place further down
+pub none-beyond : {X : Type 0} (P : X → Type 0) (xs : List X) (n : ℕ) → length xs ≤ n → AllByRecursion P (drop n xs)
+none-beyond P [] zero le = tt
+none-beyond P [] (suc n) le = tt
+none-beyond P (a ∷ xs) zero le = absurd (omega arith)
+none-beyond P (a ∷ xs) (suc n) le = none-beyond P xs n (omega arith)
+
+-- a place kept free at the end, and one further down: the item from there moves up
 pub insert-end : {X : Type 0} (xs : List X) (x : X) → insert xs (length xs) x ≡ xs ++ x ∷ []
 insert-end [] x = refl
 insert-end (a ∷ xs) x = ap (λ l. a ∷ l) (insert-end xs x)
 
-exchanged : {X : Type 0} (xs : List X) (i : ℕ) (x d : X) → i < length xs
-    → slice_set (slice_set (insert xs (suc i) x) i (slice_index_or (insert xs (suc i) x) (suc i) d)) (suc i) (slice_index_or (insert xs (suc i) x) i d) ≡ insert xs i x
-exchanged [] i x d less = absurd (omega (arith, less))
-exchanged (a ∷ xs) zero x d less = refl
-exchanged (a ∷ xs) (suc i) x d less = ap (λ l. a ∷ l) (exchanged xs i x d (omega (arith, less)))
+moved-up : {X : Type 0} (xs : List X) (i : ℕ) (x d : X) → i < length xs → slice_set (slice_set (insert xs (suc i) x) i x) (suc i) (slice_index_or (insert xs (suc i) x) i d) ≡ insert xs i x
+moved-up [] i x d less = absurd (omega (arith, less))
+moved-up (a ∷ xs) zero x d less = refl
+moved-up (a ∷ xs) (suc i) x d less = ap (λ l. a ∷ l) (moved-up xs i x d (omega (arith, less)))
 
-pub swap-insert : {X : Type 0} (xs : List X) (i j : ℕ) (x : X) → suc i ≡ j → i < length xs → swap (insert xs j x) i j ≡ insert xs i x
-swap-insert [] i j x next less = absurd (omega (arith, less))
-swap-insert (a ∷ xs) i j x next less = subst (λ k. swap (insert (a ∷ xs) k x) i k ≡ insert (a ∷ xs) i x) next (exchanged (a ∷ xs) i x a less)
+pub insert-lower : {X : Type 0} (front xs : List X) (i j : ℕ) (x n r d : X) → xs ≡ insert front j x → n ≡ x → r ≡ slice_index_or xs i d → suc i ≡ j → i < length front → slice_set (slice_set xs i n) j r ≡ insert front i x
+insert-lower front xs i j x n r d is free read next less =
+    let moved = subst (λ k. slice_set (slice_set (insert front k x) i x) k (slice_index_or (insert front k x) i d) ≡ insert front i x) next (moved-up front i x d less) in
+    cc
+
+-- an item in the place that was kept free
+pub insert-set : {X : Type 0} (xs : List X) (i : ℕ) (x y : X) → i ≤ length xs → slice_set (insert xs i x) i y ≡ insert xs i y
+insert-set xs zero x y le = refl
+insert-set [] (suc i) x y le = absurd (omega arith)
+insert-set (a ∷ xs) (suc i) x y le = ap (λ l. a ∷ l) (insert-set xs i x y (omega arith))
+
+insert-before : {X : Type 0} (xs : List X) (i j : ℕ) (x d : X) → i < j → j ≤ length xs → slice_index_or (insert xs j x) i d ≡ slice_index_or xs i d
+insert-before xs i zero x d less le = absurd (omega arith)
+insert-before [] i (suc j) x d less le = absurd (omega arith)
+insert-before (a ∷ xs) zero (suc j) x d less le = refl
+insert-before (a ∷ xs) (suc i) (suc j) x d less le = insert-before xs i j x d (omega arith) (omega arith)
+
+pub read-before : {X : Type 0} (front xs : List X) (i j : ℕ) (x d e : X) → xs ≡ insert front j x → i < j → j ≤ length front → slice_index_or xs i d ≡ slice_index_or front i e
+read-before front xs i j x d e is less le = ap (λ l. slice_index_or l i d) is ∙ insert-before front i j x d less le ∙ get_or_default front i d e (omega arith)
 
 all-first : {X : Type 0} (P : X → Type 0) (xs : List X) (x : X) → AllByRecursion P (xs ++ x ∷ []) → AllByRecursion P xs × P x
 all-first P [] x h = (tt, h.0)

@@ -5,7 +5,7 @@ use Rattle.std.specs.Ordering.{is_lt}
 use Rattle.std.specs.declared.cmp.Ordering.{Ordering}
 use Rattle.std.specs.BinaryHeap.{IsHeap}
 use Rattle.std.specs.Coded.{Coded, code_by, coded×, coded_list}
-use Rattle.smallvec.specs.SmallVec.{SmallVec}
+use Rattle.arrayvec.specs.ArrayVec.{ArrayVec}
 
 -- the items of a heap: those that lie inline, and the rest
 pub record Held (X : Type 0) : Type 0 where
@@ -38,8 +38,7 @@ present [] = []
 present (None ∷ os) = present os
 present (Some x ∷ os) = x ∷ present os
 
--- at most 32 places are taken, each holds an item, and they lie inline
-pub record IsFilled {X : Type 0} (v : SmallVec (Option X)) : Type 0 where
+-- at most 32 places are taken, and each holds an item
+pub record IsFilled {X : Type 0} (v : ArrayVec (Option X)) : Type 0 where
   pub full : AllByRecursion IsSome v.items
   pub few : length v.items ≤ 32
-  pub inline : v.capacity ≡ 32

@@ -1,15 +1,16 @@
 //! A priority queue whose first items lie inline.
 
-ghost use Rattle.std.specs.Prelude.{◌≡◌, ◌+◌, ◌*◌, ◌<◌, ◌≤◌, List, [], ◌∷◌, ◌++◌, length, slice_index_or, All, true, false, IsOk, IsSome, IfSome, IfNone, OnOk, OnErr, IfErr, vec_len, vec_capacity};
+ghost use Rattle.std.specs.Prelude.{◌≡◌, ℕ, ◌+◌, ◌*◌, ◌<◌, ◌≤◌, List, [], ◌∷◌, ◌++◌, length, slice_index_or, All, true, false, Option, Some, None, IsOk, IsSome, IfSome, IfNone, OnOk, OnErr, IfErr, vec_len, vec_capacity};
 ghost use Rattle.std.specs.List.{insert, AllByRecursion};
 ghost use Rattle.std.specs.List.Sorted.{IsPermutation};
 ghost use Rattle.std.specs.Ordering.{is_lt};
+ghost use Rattle.std.specs.Option.{option_cmp};
 ghost use Rattle.std.specs.Iterator.{Drains, size};
 ghost use Rattle.std.specs.BinaryHeap.{IsHeap, IsUpperBound};
 ghost use Rattle.std.specs.BinaryHeap.Sift.{ComparesAt, SiftsUp, SiftsDown, IsGreaterChild};
 ghost use Rattle.rstar_base.specs.SmallHeaps.{items_of, present, Rises, IsFilled, IsOrdered};
 
-use smallvec::SmallVec;
+use arrayvec::ArrayVec;
 use std::alloc::{AllocError, Global};
 use std::marker::Model;
 
@@ -34,7 +35,7 @@ const INLINE: usize = 32;
 #[derive(Drop)]
 pub struct SmallHeap<T> {
     // Each place that is taken holds an item.
-    inline: SmallVec<Option<T>, 32>,
+    inline: ArrayVec<Option<T>, 32>,
     rest: Vec<T>,
 }
 
@@ -59,7 +60,7 @@ impl<T: Ord + Drop> SmallHeap<T> {
         ensures ordered { IsOrdered T.cmp result }
     {
         SmallHeap {
-            inline: SmallVec::new(alloc),
+            inline: ArrayVec::new(),
             rest: Vec::new(alloc),
         }
     }
@@ -159,7 +160,7 @@ impl<T: Ord + Drop> SmallHeap<T> {
 }
 
 /// Adds an item for which there is a place or room.
-fn put<T: Ord + Drop>(inline: &mut SmallVec<Option<T>, 32>, rest: &mut Vec<T>, item: T)
+fn put<T: Ord + Drop>(inline: &mut ArrayVec<Option<T>, 32>, rest: &mut Vec<T>, item: T)
     requires filled { IsFilled inline.old }
     requires rises { Rises T.cmp (present inline.old.items) }
     requires heap { IsHeap T.cmp rest.old.items }
@@ -180,7 +181,7 @@ fn put<T: Ord + Drop>(inline: &mut SmallVec<Option<T>, 32>, rest: &mut Vec<T>, i
 }
 
 /// Adds an item where a place is free.
-fn put_inline<T: Ord + Drop>(inline: &mut SmallVec<Option<T>, 32>, item: T)
+fn put_inline<T: Ord + Drop>(inline: &mut ArrayVec<Option<T>, 32>, item: T)
     requires filled { IsFilled inline.old }
     requires free { length inline.old.items < 32 }
     requires rises { Rises T.cmp (present inline.old.items) }
@@ -189,35 +190,34 @@ fn put_inline<T: Ord + Drop>(inline: &mut SmallVec<Option<T>, 32>, item: T)
     ensures bag { IsPermutation (item ∷ present inline.old.items) (present inline.new.items) }
     ensures len { length inline.new.items ≡ length inline.old.items + 1 }
 {
-    let item = Some(item);
-    let at = place_of(inline.as_slice(), &item);
-    inline.push_reserved(item);
-    // Most items move past few others, which costs less than a move of all of them at once.
-    move_last_to(inline.as_mut_slice(), at);
+    inline.push(None);
+    put_in_order(inline.as_mut_slice(), item);
 }
 
-/// Moves the last item to a place, and those from there on one place up.
-fn move_last_to<X>(items: &mut [X], to: usize)
-    requires { to < length items.old }
-    ensures { (front : List X) (last : X) → items.old ≡ front ++ last ∷ [] → items.new ≡ insert front to last }
+/// Puts an item into a list that rises and whose last place is free. Those that are greater move one place up, each into
+/// the place that is free then, so that none is written twice.
+fn put_in_order<T: Ord + Drop>(items: &mut [Option<T>], item: T)
+    requires { 0 < length items.old }
+    ensures { (front : List (Option T)) → items.old ≡ front ++ None ∷ [] → (at : ℕ)
+        × (items.new ≡ insert front at (Some item))
+        × (Rises (option_cmp T.cmp) front → Rises (option_cmp T.cmp) (insert front at (Some item))) }
 {
     let mut at = items.len() - 1;
-    while to < at {
-        items.swap(at - 1, at);
+    while 0 < at && is_less_than(&item, &items[at - 1]) {
+        items[at] = items[at - 1].take();
         at -= 1;
     }
+    items[at] = Some(item);
 }
 
-/// Where an item goes into a list that rises: behind those that are not greater.
-fn place_of<X: Ord>(items: &[X], item: &X) -> usize
-    ensures bound { result ≤ length items.now }
-    ensures rises { Rises X.cmp items.now → Rises X.cmp (insert items.now result item.now) }
+/// Whether an item is less than that of a place.
+fn is_less_than<T: Ord>(item: &T, place: &Option<T>) -> bool
+    ensures { result ≡ is_lt (option_cmp T.cmp (Some item.now) place.now) }
 {
-    let mut at = items.len();
-    while 0 < at && item.cmp(&items[at - 1]).is_lt() {
-        at -= 1;
+    match place {
+        Some(other) => item.cmp(other).is_lt(),
+        None => false,
     }
-    at
 }
 
 /// Makes room for an item. Where there is none it is made for as many as lie inline, so that few items come to move.
@@ -267,7 +267,7 @@ fn is_above_all<T: Ord>(others: &[T], items: &[Option<T>]) -> bool
 }
 
 /// Takes out the last inline item.
-fn take_last<T: Drop>(inline: &mut SmallVec<Option<T>, 32>) -> Option<T>
+fn take_last<T: Drop>(inline: &mut ArrayVec<Option<T>, 32>) -> Option<T>
     requires { IsFilled inline.old }
     ensures filled { IsFilled inline.new }
     ensures none { IfNone result (inline.old.items ≡ []) }

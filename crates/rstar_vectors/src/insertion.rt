@@ -16,7 +16,6 @@ use rstar_base::envelope::Envelope;
 use rstar_base::object::{EqualEnvelopes, RTreeObject};
 use rstar_base::point::Point;
 use std::alloc::{AllocError, Global};
-use std::marker::Model;
 
 const TWO_HEAPS: [[i32; 2]; 7] = [[12, 12], [0, 0], [10, 10], [2, 2], [11, 11], [3, 3], [1, 1]];
 

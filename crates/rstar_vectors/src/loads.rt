@@ -469,12 +469,12 @@ fn stays_alone<T: RTreeObject + Copy + Debug>(
 {
     let count = tree.size();
     let text = &shown(alloc, tree.root());
-    copy.size() == count
-        && shows(alloc, copy.root(), text)
-        && goes_in(copy, element)
-        && tree.size() == count
-        && count < copy.size()
-        && shows(alloc, tree.root(), text)
+    (copy.size() == count)
+        & shows(alloc, copy.root(), text)
+        & goes_in(copy, element)
+        & (tree.size() == count)
+        & (count < copy.size())
+        & shows(alloc, tree.root(), text)
 }
 
 /// The same of a load of these elements and its clone; and whether the load shows a text, where one is given.
@@ -488,16 +488,15 @@ fn loads_cloned_alone<T: RTreeObject + Copy + Debug>(
     requires exact { ClonesEqual T.is_clone }
 {
     let tree = loaded(alloc, elements);
-    let is_so = tree.size() == elements.len()
-        && (text.is_empty() || shows(alloc, &tree, text))
-        && match tree.clone() {
-            Ok(mut copy) => {
-                let is_alone = stays_alone(alloc, &tree, &mut copy, more);
-                let_go(copy);
-                is_alone
-            }
-            Err(_) => false,
-        };
+    let is_shown = (tree.size() == elements.len()) & (text.is_empty() || shows(alloc, &tree, text));
+    let is_so = match tree.clone() {
+        Ok(mut copy) => {
+            let is_alone = stays_alone(alloc, &tree, &mut copy, more);
+            let_go(copy);
+            is_alone & is_shown
+        }
+        Err(_) => false,
+    };
     let_go(tree);
     is_so
 }

@@ -346,7 +346,7 @@ where
 {
     let mut load = loaded::<T, DefaultParams>(alloc, elements);
     let is_so = answers(alloc, &load, place, distances, &[])
-        && pops(&mut load, &mut copies(alloc, elements), place, distances);
+        & pops(&mut load, &mut copies(alloc, elements), place, distances);
     let_go(load);
     is_so
 }
@@ -369,8 +369,8 @@ where
     let tree = inserted::<T, DefaultParams>(alloc, elements);
     let wanted = &scanned(alloc, elements, &place);
     let is_so = wanted.starts_with(first)
-        && answers(alloc, &tree, place, wanted, opened)
-        && load_comes_and_goes(alloc, elements, place, wanted);
+        & answers(alloc, &tree, place, wanted, opened)
+        & load_comes_and_goes(alloc, elements, place, wanted);
     let_go(tree);
     is_so
 }

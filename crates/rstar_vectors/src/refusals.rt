@@ -152,10 +152,10 @@ where
             && shows(alloc, tree.root(), before)
             && counted(alloc, tree, call, asked, distances) == Some(wanted);
     is_begun
-        && is_ended
-        && is_right
-        && tree.size() == left
-        && (POPS <= call || shows(alloc, tree.root(), before))
+        & is_ended
+        & is_right
+        & (tree.size() == left)
+        & (POPS <= call || shows(alloc, tree.root(), before))
 }
 
 /// Whether an element goes into a tree, at once or, where it was refused for want of memory, was handed back and the tree
@@ -180,7 +180,7 @@ fn goes_in<T: EqualEnvelopes + Copy + Debug>(alloc: Global, tree: &mut RTree<T>,
             tree.insert(refused.element).is_ok() && is_same
         }
     };
-    is_begun && is_ended && is_in && stands_with(&*tree, count.saturating_add(1))
+    is_begun & is_ended & is_in & stands_with(&*tree, count.saturating_add(1))
 }
 
 /// Whether these elements go into a tree so, one after another.
@@ -207,7 +207,7 @@ fn is_loaded<T: RTreeObject + Copy>(alloc: Global, elements: &[T]) -> bool
         Ok(tree) => tree,
         Err(_) => loaded(alloc, elements),
     };
-    let is_so = is_begun && is_ended && stands_with(&tree, elements.len());
+    let is_so = is_begun & is_ended & stands_with(&tree, elements.len());
     let_go(tree);
     is_so
 }
@@ -285,10 +285,10 @@ where
     let mut is_so = true;
     let distances = &scanned(alloc, elements, &asked.1);
     for call in 0..counts.len() {
-        is_so = is_so && is_answered(alloc, &mut tree, call, asked, distances, counts[call]);
+        is_so &= is_answered(alloc, &mut tree, call, asked, distances, counts[call]);
     }
-    is_so = is_so && stands_with(&tree, left);
-    is_taken_apart(alloc, tree, left) && is_so
+    is_so &= stands_with(&tree, left);
+    is_so & is_taken_apart(alloc, tree, left)
 }
 
 // Of 28 points, in two levels of parents below the root: all, those in a box, those that it touches, those at a point, those
@@ -349,7 +349,7 @@ fn is_stored(alloc: Global, elements: &[[i64; 2]]) -> bool {
         let is_ended = is_marked(alloc);
         match first {
             Ok(read) => {
-                is_so = is_begun && is_ended && stands_with(&read, count);
+                is_so = is_begun & is_ended & stands_with(&read, count);
                 let_go(read);
                 break;
             }

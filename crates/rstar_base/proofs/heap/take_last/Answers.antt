@@ -41,7 +41,6 @@ pub returns-clause-filled : goal.returns-clause-filled
 returns-clause-filled g c = record {
   full = front-full c.pop.new.self.items (option_to_list c.pop.result) (subst AreFull c.pop.ensures.items c.requires.full);
   few = shorter c.pop.new.self.items (option_to_list c.pop.result) c.args.inline.now.items 32 c.pop.ensures.items c.requires.few;
-  inline = c.pop.ensures.capacity ∙ c.requires.inline;
 }
 
 pub returns-clause-none : goal.returns-clause-none

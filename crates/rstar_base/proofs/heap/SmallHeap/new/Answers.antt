@@ -5,4 +5,4 @@ use Rattle.rstar_base.proofs.HeapParts.{ordered-of}
 use Rattle.rstar_base.proofs.heap.SmallHeap.new.Goals as goal
 
 pub returns-clause-ordered : goal.returns-clause-ordered
-returns-clause-ordered g c = ordered-of g.T.Ord.cmp _ (subst (λ l. Rises g.T.Ord.cmp (present l)) (sym c.new.ensures.items) tt) (sifts.empty g.met.T.Ord.total _ c.new-2.ensures.items)
+returns-clause-ordered g c = ordered-of g.T.Ord.cmp _ (subst (λ l. Rises g.T.Ord.cmp (present l)) (sym c.new.ensures) tt) (sifts.empty g.met.T.Ord.total _ c.new-2.ensures.items)

@@ -10,7 +10,7 @@ use Rattle.rstar_base.proofs.heap.SmallHeap.pop.Given.{Over}
 use Rattle.rstar_base.proofs.heap.SmallHeap.pop.Goals as goal
 
 pub is_above_all-requires-clause-rises : goal.is_above_all-requires-clause-rises
-is_above_all-requires-clause-rises g c = subst (λ os. Rises g.T.Ord.cmp (present os)) (sym c.as_slice-2.ensures) (inline-of g.T.Ord.cmp _ (subst (IsOrdered g.T.Ord.cmp) (sym c.self.view_is) c.requires))
+is_above_all-requires-clause-rises g c = subst (λ os. Rises g.T.Ord.cmp (present os)) (sym c.as_slice-2.ensures.value) (inline-of g.T.Ord.cmp _ (subst (IsOrdered g.T.Ord.cmp) (sym c.self.view_is) c.requires))
 
 pub is_above_all-requires-clause-heap : goal.is_above_all-requires-clause-heap
 is_above_all-requires-clause-heap g c = subst (IsHeap g.T.Ord.cmp) (sym c.as_slice.ensures.value) (rest-of g.T.Ord.cmp _ (subst (IsOrdered g.T.Ord.cmp) (sym c.self.view_is) c.requires))
@@ -27,7 +27,7 @@ returns-then-is_above_all-clause-some g c = subst (λ h. IsPermutation (items_of
 pub returns-then-is_above_all-clause-greatest : goal.returns-then-is_above_all-clause-greatest
 returns-then-is_above_all-clause-greatest g c =
     let told = c.if-is_above_all.ensures.above refl in
-    let rest : (d : _) → AllByRecursion (λ y. is_lt (g.T.Ord.cmp (slice_index_or c.self.inside.rest.items 0 d) y) ≡ false) (present c.self.inside.inline.items) = λ d. subst (λ l. AllByRecursion (λ y. is_lt (g.T.Ord.cmp (slice_index_or l 0 d) y) ≡ false) (present c.self.inside.inline.items)) c.as_slice.ensures.value (subst (λ os. AllByRecursion (λ y. is_lt (g.T.Ord.cmp (slice_index_or c.as_slice.result.now 0 d) y) ≡ false) (present os)) c.as_slice-2.ensures (told d)) in
+    let rest : (d : _) → AllByRecursion (λ y. is_lt (g.T.Ord.cmp (slice_index_or c.self.inside.rest.items 0 d) y) ≡ false) (present c.self.inside.inline.items) = λ d. subst (λ l. AllByRecursion (λ y. is_lt (g.T.Ord.cmp (slice_index_or l 0 d) y) ≡ false) (present c.self.inside.inline.items)) c.as_slice.ensures.value (subst (λ os. AllByRecursion (λ y. is_lt (g.T.Ord.cmp (slice_index_or c.as_slice.result.now 0 d) y) ≡ false) (present os)) c.as_slice-2.ensures.value (told d)) in
     greatest-rest g.T.Ord.cmp (present c.self.inside.inline.items) c.self.inside.rest.items c.take_greatest.new.rest.items c.take_greatest.result rest c.take_greatest.ensures.first c.take_greatest.ensures.bag c.take_greatest.ensures.greatest
 
 -- what holds where the last inline item is taken
@@ -50,7 +50,7 @@ inline-rises g c = inline-of g.T.Ord.cmp _ (subst (IsOrdered g.T.Ord.cmp) (sym c
 -- nothing lies inline, and so nothing at all
 nothing : (g : Over) (c : goal.After-take_last g) → c.self.inside.inline.items ≡ [] → present c.self.inside.inline.items ++ c.self.inside.rest.items ≡ []
 nothing g c e =
-    let rest : c.self.inside.rest.items ≡ [] = sym c.as_slice.ensures.value ∙ c.if-is_above_all.ensures.none refl (ap present (c.as_slice-2.ensures ∙ e)) in
+    let rest : c.self.inside.rest.items ≡ [] = sym c.as_slice.ensures.value ∙ c.if-is_above_all.ensures.none refl (ap present (c.as_slice-2.ensures.value ∙ e)) in
     ap (λ l. present l ++ c.self.inside.rest.items) e ∙ rest
 
 pub returns-else-is_above_all-clause-ordered : goal.returns-else-is_above_all-clause-ordered
@@ -73,10 +73,10 @@ returns-else-is_above_all-clause-some g c = taken _ c.take_last.result (present 
 pub returns-else-is_above_all-clause-greatest : goal.returns-else-is_above_all-clause-greatest
 returns-else-is_above_all-clause-greatest g c = taken _ c.take_last.result (present c.self.inside.inline.items) (present c.take_last.new.inline.items) c.take_last.ensures.some
     (λ x e. greatest-last g.T.Ord.cmp (present c.self.inside.inline.items) c.self.inside.rest.items (present c.take_last.new.inline.items) x (inline-rises g c) e
-    (λ xs y d. subst (IsUpperBound g.T.Ord.cmp y) c.as_slice.ensures.value (c.if-is_above_all.ensures.below refl xs y (ap present c.as_slice-2.ensures ∙ d))))
+    (λ xs y d. subst (IsUpperBound g.T.Ord.cmp y) c.as_slice.ensures.value (c.if-is_above_all.ensures.below refl xs y (ap present c.as_slice-2.ensures.value ∙ d))))
 
 pub is_above_all-requires-clause-full : goal.is_above_all-requires-clause-full
-is_above_all-requires-clause-full g c = subst (AllByRecursion IsSome) (sym c.as_slice-2.ensures) c.self.invariant.full
+is_above_all-requires-clause-full g c = subst (AllByRecursion IsSome) (sym c.as_slice-2.ensures.value) c.self.invariant.full
 
 pub take_greatest-requires-clause-some : goal.take_greatest-requires-clause-some
 take_greatest-requires-clause-some g c = subst (λ n. 0 < n) c.as_slice.ensures.len (c.if-is_above_all.ensures.there refl)
