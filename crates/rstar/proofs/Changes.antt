@@ -14,7 +14,7 @@ use Rattle.rstar.specs.Nodes.{Layer, layer_of, children_of, elements, all_elemen
 use Rattle.rstar.specs.Shapes.{IsAny}
 use Rattle.rstar.specs.Heights.{levels, levels_below}
 use Rattle.rstar.specs.Shown.{parent, more, row_of, shown, shown_root, outline, outline_row}
-use Rattle.rstar.specs.Kept.{IsRoomy, HasRoom, IsSpare}
+use Rattle.rstar.specs.Kept.{IsNarrow, IsSpare}
 use Rattle.rstar.specs.Trees.{WholeTree, HasSameOutline, elements_in, root_of}
 use Rattle.rstar.specs.Ways.{child_at, change_at, change_below}
 use Rattle.rstar.specs.Changes.{KeepsBox, IsChangedParent, IsChanged, IsChangedTree}
@@ -126,10 +126,6 @@ module _ {T E : Type 0} (K : T → T → Type 0) where
     pub trees-kept : (h : ℕ) (ns ms : List (RTreeNode T E)) → AllZip (IsChanged K h) ns ms → AllByRecursion (IsTree Q R h) ns → AllByRecursion (IsTree Q R h) ms
     trees-kept h = trees-each h (trees-node h)
 
-  pub roomy-kept : (max widest h : ℕ) (p q : ParentNode T E) → IsChangedParent (IsChanged K h) p q → HasRoom max p.children → HasRoom max q.children
-  roomy-kept max widest h p q w room =
-      let c = w.capacity in omega arith
-
 pub element-kept : {T E : Type 0} (v : Boxes E) (o : Objects T E) (t u : T) → KeepsBox o t u → IsElement v o t → IsElement v o u
 element-kept v o t u k is = (k.1 is.0, ap v.is_empty k.0 ∙ is.1)
 
@@ -173,23 +169,14 @@ module _ {T E : Type 0} (v : Boxes E) (o : Objects T E) where
         wide = subst (λ n. max ≤ n) (sym w.widest) whole.wide;
         wide_fits = subst (λ n. n + 1 < 2 ^ 64) (sym w.widest) whole.wide_fits;
         narrow = let a = whole.narrow in let e = w.widest in omega arith;
-        root_room = λ full. roomy-kept (KeepsBox o) max old.widest h old.root new.root w.root (whole.root_room (λ none. full (none-kept h (children_of (root_of old)) (children_of (root_of new)) w.root.children none)));
-        rooms = subst (λ n. AllByRecursion (IsTree (IsRoomy max n) IsAny h) (children_of (root_of new))) (sym w.widest)
-            (trees-kept (KeepsBox o) (IsRoomy max old.widest) IsAny (λ t u k a. tt) (room-kept max old.widest) h (children_of (root_of old)) (children_of (root_of new)) w.root.children whole.rooms);
+        narrow_below = subst (λ n. AllByRecursion (IsTree (IsNarrow n) IsAny h) (children_of (root_of new))) (sym w.widest)
+            (trees-kept (KeepsBox o) (IsNarrow old.widest) IsAny (λ t u k a. tt) (narrow-kept old.widest) h (children_of (root_of old)) (children_of (root_of new)) w.root.children whole.narrow_below);
         spares = subst (λ n. AllByRecursion (IsSpare n) new.spares.items) (sym w.widest) (subst (λ s. AllByRecursion (IsSpare old.widest) s.items) (sym w.spares) whole.spares);
         none_over = ap (λ s. s.items) w.overfull ∙ whole.none_over;
       }
     where
-      none-kept : (h : ℕ) (ns ms : List (RTreeNode T E)) → AllZip (IsChanged (KeepsBox o) h) ns ms → ns ≡ [] → ms ≡ []
-      none-kept h [] [] w none = refl
-      none-kept h [] (m ∷ ms) w none = absurd w
-      none-kept h (n ∷ ns) ms w none = cc none
-
-      room-kept : (max widest h : ℕ) (p q : ParentNode T E) → IsChangedParent (IsChanged (KeepsBox o) h) p q → IsRoomy max widest p → IsRoomy max widest q
-      room-kept max widest h p q w is = record {
-        narrow = let e = AllZip-long (IsChanged (KeepsBox o) h) (children_of p) (children_of q) w.children in let a = is.narrow in omega arith;
-        room = roomy-kept (KeepsBox o) max widest h p q w is.room;
-      }
+      narrow-kept : (widest h : ℕ) (p q : ParentNode T E) → IsChangedParent (IsChanged (KeepsBox o) h) p q → IsNarrow widest p → IsNarrow widest q
+      narrow-kept widest h p q w is = let e = AllZip-long (IsChanged (KeepsBox o) h) (children_of p) (children_of q) w.children in omega arith
 
 -- ---- a change at the end of a way
 

@@ -1,5 +1,5 @@
 -- One pass that moves selected elements out of a tree.
-use Rattle.std.proofs.Common.{◌≡◌, ◌≢◌, ℕ, ℤ, suc, ◌+◌, ◌-◌, ◌<◌, ◌≤◌, inl, inr, Bool, true, false, List, [], ◌∷◌, ◌++◌, refl, sym, ◌∙◌, ap, subst, arith, length, get_or, set, vec_len, vec_capacity, append_assoc, append-nil, length-append, length-set, get_or-set_same, get_or-set_other, IsPermutation}
+use Rattle.std.proofs.Common.{◌≡◌, ◌≢◌, ℕ, ℤ, suc, ◌+◌, ◌-◌, ◌<◌, ◌≤◌, inl, inr, Bool, true, false, List, [], ◌∷◌, ◌++◌, refl, sym, ◌∙◌, ap, subst, arith, length, get_or, set, append_assoc, append-nil, length-append, length-set, get_or-set_same, get_or-set_other, IsPermutation}
 use Rattle.std.specs.List.{AllByRecursion, remove, swap_remove}
 use Rattle.std.proofs.lemmas.List.Sorted.{IsPermutation-refl, IsPermutation-sym, IsPermutation-trans, IsPermutation-append_left, IsPermutation-append_right, IsPermutation-remove, IsPermutation-swap_remove, length_permutation}
 use Rattle.std.proofs.lemmas.Bool.Decides.{eqb_tells}
@@ -139,8 +139,8 @@ module _ {T E : Type 0} (v : Boxes E) (o : Objects T E) (accepts : E → Bool) (
     pub shorter : length cur ≤ length old
     pub within : left ≤ length cur
     pub first : (k : ℕ) (d : RTreeNode T E) → k < left → get_or cur k d ≡ get_or old k d
-    pub kept : (m w h : ℕ) → AreKept v o m w h old → AreKept v o m w h cur
-    pub passed : IsLawful v o accepts selects → length held' < most → (m w h : ℕ) → AreKept v o m w h old
+    pub kept : (w h : ℕ) → AreKept v o w h old → AreKept v o w h cur
+    pub passed : IsLawful v o accepts selects → length held' < most → (w h : ℕ) → AreKept v o w h old
         → (k : ℕ) (d : RTreeNode T E) → left ≤ k → k < length cur → NoneSelected selects (elements (get_or cur k d))
 
   pub gathering_begins : (ns : List (RTreeNode T E)) (held : List T) (left : ℕ) → left ≡ length ns → Gathering ns held ns held left
@@ -149,8 +149,8 @@ module _ {T E : Type 0} (v : Boxes E) (o : Objects T E) (accepts : E → Bool) (
     shorter = omega arith;
     within = omega arith;
     first = λ k d lt. refl;
-    kept = λ m w h k. k;
-    passed = λ lawful less m w h kept k d on lt. absurd (omega (arith, all, on, lt));
+    kept = λ w h k. k;
+    passed = λ lawful less w h kept k d on lt. absurd (omega (arith, all, on, lt));
   }
 
   module _ (old : List (RTreeNode T E)) (held : List T) (cur : List (RTreeNode T E)) (held' : List T) where
@@ -160,15 +160,15 @@ module _ {T E : Type 0} (v : Boxes E) (o : Objects T E) (accepts : E → Bool) (
       moved = s.moved;
       shorter = s.shorter;
       kept = s.kept;
-      ended = λ lawful less m w h kept. let none = over less in none_each selects cur (λ k d lt. s.passed lawful less m w h kept k d (omega (arith, none)) lt);
+      ended = λ lawful less w h kept. let none = over less in none_each selects cur (λ k d lt. s.passed lawful less w h kept k d (omega (arith, none)) lt);
     }
 
     module _ (left i : ℕ) (s : Gathering old held cur held' left) (next : left ≡ suc i) where
       here_within : i < length cur
       here_within = let w = s.within in omega (arith, w, next)
 
-      here_kept : (m w h : ℕ) (n : RTreeNode T E) → n ≡ get_or cur i n → AreKept v o m w h old → IsKeptNode v o m w h n
-      here_kept m w h n here k = subst (IsKeptNode v o m w h) (sym here) (all_get (IsKeptNode v o m w h) cur i n here_within (s.kept m w h k))
+      here_kept : (w h : ℕ) (n : RTreeNode T E) → n ≡ get_or cur i n → AreKept v o w h old → IsKeptNode v o w h n
+      here_kept w h n here k = subst (IsKeptNode v o w h) (sym here) (all_get (IsKeptNode v o w h) cur i n here_within (s.kept w h k))
 
       -- a selected leaf goes
       pub takes_leaf : (t : T) (cur' : List (RTreeNode T E)) → Leaf t ≡ get_or cur i (Leaf t) → selects t ≡ true → length held' < most → IsSwappedOut cur i cur'
@@ -181,9 +181,9 @@ module _ {T E : Type 0} (v : Boxes E) (o : Objects T E) (accepts : E → Bool) (
             shorter = omega arith;
             within = omega arith;
             first = λ k d lt. out.others k d (λ e. omega (arith, e, lt)) (omega (arith, lt, within)) ∙ s.first k d (omega (arith, lt, next));
-            kept = λ m w h k. (all_along (IsKeptNode v o m w h) cur (Leaf t ∷ cur') (out.bag (Leaf t) here) (s.kept m w h k)).1;
-            passed = λ lawful less m w h kept. each_left (λ n. NoneSelected selects (elements n)) cur i cur' out i within
-                (λ k d on other lt. s.passed lawful (omega (arith, less, grown)) m w h kept k d (omega (arith, on, other, next)) lt);
+            kept = λ w h k. (all_along (IsKeptNode v o w h) cur (Leaf t ∷ cur') (out.bag (Leaf t) here) (s.kept w h k)).1;
+            passed = λ lawful less w h kept. each_left (λ n. NoneSelected selects (elements n)) cur i cur' out i within
+                (λ k d on other lt. s.passed lawful (omega (arith, less, grown)) w h kept k d (omega (arith, on, other, next)) lt);
           }
 
       module _ (n n' : RTreeNode T E) (held'' : List T) (here : n ≡ get_or cur i n) (ins : GathersInside v o accepts selects most n held' n' held'') (leaf : is_selected_leaf selects n ≡ false) where
@@ -194,12 +194,12 @@ module _ {T E : Type 0} (v : Boxes E) (o : Objects T E) (accepts : E → Bool) (
         less_before : length held'' < most → length held' < most
         less_before less = let grown = held_longer selects most _ _ _ _ ins.moved in omega (arith, less, grown)
 
-        others_passed : IsLawful v o accepts selects → length held'' < most → (m w h : ℕ) → AreKept v o m w h old
+        others_passed : IsLawful v o accepts selects → length held'' < most → (w h : ℕ) → AreKept v o w h old
             → (k : ℕ) (d : RTreeNode T E) → i ≤ k → k ≢ i → k < length (set cur i n') → NoneSelected selects (elements (get_or (set cur i n') k d))
-        others_passed lawful less m w h kept k d on other lt =
+        others_passed lawful less w h kept k d on other lt =
             let long = length-set cur i n' in
             subst (λ (x : RTreeNode T E). NoneSelected selects (elements x)) (sym (get_or-set_other cur i k n' d other))
-            (s.passed lawful (less_before less) m w h kept k d (omega (arith, on, other, next)) (omega (arith, lt, long)))
+            (s.passed lawful (less_before less) w h kept k d (omega (arith, on, other, next)) (omega (arith, lt, long)))
 
         -- it stays, without what went
         pub goes_inside : is_childless n' ≡ false → Gathering old held (set cur i n') held'' i
@@ -210,12 +210,12 @@ module _ {T E : Type 0} (v : Boxes E) (o : Objects T E) (accepts : E → Bool) (
               shorter = omega arith;
               within = omega arith;
               first = λ k d lt. get_or-set_other cur i k n' d (λ e. omega (arith, e, lt)) ∙ s.first k d (omega (arith, lt, next));
-              kept = λ m w h k. all_set (IsKeptNode v o m w h) cur i n' (s.kept m w h k) (ins.kept m w h (here_kept m w h n here k) has);
-              passed = λ lawful less m w h kept k d on lt. elim (eqb_tells k i) as (λ _. NoneSelected selects (elements (get_or (set cur i n') k d))) [
+              kept = λ w h k. all_set (IsKeptNode v o w h) cur i n' (s.kept w h k) (ins.kept w h (here_kept w h n here k) has);
+              passed = λ lawful less w h kept k d on lt. elim (eqb_tells k i) as (λ _. NoneSelected selects (elements (get_or (set cur i n') k d))) [
                 | inl w' ↦
                     subst (λ (x : RTreeNode T E). NoneSelected selects (elements x)) (sym (ap (λ j. get_or (set cur i n') j d) w'.1 ∙ get_or-set_same cur i n' d within))
-                    (ins.ended lawful leaf less m w h (here_kept m w h n here kept))
-                | inr w' ↦ others_passed lawful less m w h kept k d on w'.1 lt
+                    (ins.ended lawful leaf less w h (here_kept w h n here kept))
+                | inr w' ↦ others_passed lawful less w h kept k d on w'.1 lt
               ];
             }
 
@@ -230,9 +230,9 @@ module _ {T E : Type 0} (v : Boxes E) (o : Objects T E) (accepts : E → Bool) (
               shorter = omega arith;
               within = omega arith;
               first = λ k d lt. out.others k d (λ e. omega (arith, e, lt)) (omega (arith, lt, within, long)) ∙ get_or-set_other cur i k n' d (λ e. omega (arith, e, lt)) ∙ s.first k d (omega (arith, lt, next));
-              kept = λ m w h k. all_at (IsKeptNode v o m w h) cur' (λ j d lt. each_left (IsKeptNode v o m w h) (set cur i n') i cur' out 0 (omega (arith, within, long))
-                  (λ l e on other lt'. subst (IsKeptNode v o m w h) (sym (get_or-set_other cur i l n' e other)) (all_get (IsKeptNode v o m w h) cur l e (omega (arith, lt', long)) (s.kept m w h k))) j d (omega arith) lt);
-              passed = λ lawful less m w h kept. each_left (λ x. NoneSelected selects (elements x)) (set cur i n') i cur' out i (omega (arith, within, long)) (others_passed lawful less m w h kept);
+              kept = λ w h k. all_at (IsKeptNode v o w h) cur' (λ j d lt. each_left (IsKeptNode v o w h) (set cur i n') i cur' out 0 (omega (arith, within, long))
+                  (λ l e on other lt'. subst (IsKeptNode v o w h) (sym (get_or-set_other cur i l n' e other)) (all_get (IsKeptNode v o w h) cur l e (omega (arith, lt', long)) (s.kept w h k))) j d (omega arith) lt);
+              passed = λ lawful less w h kept. each_left (λ x. NoneSelected selects (elements x)) (set cur i n') i cur' out i (omega (arith, within, long)) (others_passed lawful less w h kept);
             }
 
   -- ---- below one node
@@ -240,18 +240,18 @@ module _ {T E : Type 0} (v : Boxes E) (o : Objects T E) (accepts : E → Bool) (
   pub leaf_stays : (n : RTreeNode T E) (t : T) (held : List T) → n ≡ Leaf t → GathersInside v o accepts selects most n held n held
   leaf_stays n t held is = record {
     moved = moved_none selects most (elements n) held (elements n) (IsPermutation-refl _);
-    kept = λ m w h k has. k;
-    ended = λ lawful leaf less m w h k. node_none selects n leaf (subst (λ (ns : List (RTreeNode T E)). NoneSelected selects (all_elements ns)) (sym (children_leaf n t is)) tt);
+    kept = λ w h k has. k;
+    ended = λ lawful leaf less w h k. node_none selects n leaf (subst (λ (ns : List (RTreeNode T E)). NoneSelected selects (all_elements ns)) (sym (children_leaf n t is)) tt);
   }
 
   -- a parent that is opened
   pub opened : (p q : ParentNode T E) (held held' : List T) → GathersAmong v o accepts selects most p.children.items held q.children.items held'
-      → ((m w h : ℕ) → IsKept v o m w p → AreKept v o m w h p.children.items → IsKept v o m w q) → GathersInside v o accepts selects most (Parent p) held (Parent q) held'
+      → ((w h : ℕ) → IsKept v o w p → AreKept v o w h p.children.items → IsKept v o w q) → GathersInside v o accepts selects most (Parent p) held (Parent q) held'
   opened p q held held' among kept = record {
     moved = rw (elements-Parent p, elements-Parent q) among.moved;
-    kept = λ m w h k has. whole_again v o m w h p q (λ h' a b. (kept m w h' a b, among.kept m w h' b)) k has;
-    ended = λ lawful leaf less m w h k. rw (elements-Parent q)
-        (below_then v o m w (NoneSelected selects (all_elements q.children.items)) h p k (λ h' a b. among.ended lawful less m w h' b));
+    kept = λ w h k has. whole_again v o w h p q (λ h' a b. (kept w h' a b, among.kept w h' b)) k has;
+    ended = λ lawful leaf less w h k. rw (elements-Parent q)
+        (below_then v o w (NoneSelected selects (all_elements q.children.items)) h p k (λ h' a b. among.ended lawful less w h' b));
   }
 
   -- a parent that is not opened
@@ -259,21 +259,20 @@ module _ {T E : Type 0} (v : Boxes E) (o : Objects T E) (accepts : E → Bool) (
       → GathersInside v o accepts selects most (Parent p) held (Parent p) held
   not_opened laws ok p held no_entry = record {
     moved = moved_none selects most _ held _ (IsPermutation-refl _);
-    kept = λ m w h k has. k;
-    ended = λ lawful leaf less m w h k. rw (elements-Parent p)
-        (below_then v o m w (NoneSelected selects (all_elements p.children.items)) h p k (λ h' a b. refused laws ok accepts selects lawful h' p a.tight (whole_of_kept laws ok m w h' p.children.items b) no_entry));
+    kept = λ w h k has. k;
+    ended = λ lawful leaf less w h k. rw (elements-Parent p)
+        (below_then v o w (NoneSelected selects (all_elements p.children.items)) h p k (λ h' a b. refused laws ok accepts selects lawful h' p a.tight (whole_of_kept laws ok w h' p.children.items b) no_entry));
   }
 
 -- a parent below which nothing went is kept
-module _ {T E : Type 0} {IsPoint : List ℤ → Type 0} {v : Boxes E} {o : Objects T E} (laws : EnvelopeLaws IsPoint v) (ok : ObjectLaws v o) (m w : ℕ) where
-  pub kept_alike : (h : ℕ) (p q : ParentNode T E) → IsKept v o m w p → AreKept v o m w h p.children.items → AreKept v o m w h q.children.items
-      → length q.children.items ≤ length p.children.items → vec_len q.children ≡ length q.children.items → vec_len p.children ≡ length p.children.items
-      → vec_capacity q.children ≡ vec_capacity p.children → q.envelope ≡ p.envelope
-      → IsPermutation (all_elements p.children.items) (all_elements q.children.items) → IsKept v o m w q
-  kept_alike h p q kept before below short ql pl same stayed bag =
-      let whole = whole_of_kept laws ok m w h p.children.items before in
-      kept_still laws ok m w h p q kept before below short ql pl same stayed
-      (merged_is_hull laws ok h q.children.items (whole_of_kept laws ok m w h q.children.items below)
+module _ {T E : Type 0} {IsPoint : List ℤ → Type 0} {v : Boxes E} {o : Objects T E} (laws : EnvelopeLaws IsPoint v) (ok : ObjectLaws v o) (w : ℕ) where
+  pub kept_alike : (h : ℕ) (p q : ParentNode T E) → IsKept v o w p → AreKept v o w h p.children.items → AreKept v o w h q.children.items
+      → length q.children.items ≤ length p.children.items → q.envelope ≡ p.envelope
+      → IsPermutation (all_elements p.children.items) (all_elements q.children.items) → IsKept v o w q
+  kept_alike h p q kept before below short stayed bag =
+      let whole = whole_of_kept laws ok w h p.children.items before in
+      kept_still laws ok w h p q kept before below short stayed
+      (merged_is_hull laws ok h q.children.items (whole_of_kept laws ok w h q.children.items below)
       ∙ sym (hull_along laws o.box_of _ _ bag (values-of laws ok _ (all_sound v o h p.children.items whole))).0 ∙ sym (merged_is_hull laws ok h p.children.items whole))
 
 -- ---- a tree, below whose root some went
@@ -282,7 +281,7 @@ module _ {T E : Type 0} {IsPoint : List ℤ → Type 0} {v : Boxes E} {o : Objec
     (accepts : E → Bool) (selects : T → Bool) (most : ℕ) {D P S X : Type 0} (old : RTree T D E P S X) (new : ParentNode T E) (held held' : List T) (whole : IsWholeTree v o max old)
     (some : children_of (root_of old) ≢ []) (among : GathersAmong v o accepts selects most (children_of (root_of old)) held (children_of new) held') where
   pub none_ended : IsLawful v o accepts selects → length held' < most → NoneSelected selects (all_elements (children_of new))
-  none_ended lawful room = let before = kept_of laws ok max old whole some in among.ended lawful room max old.widest before.0 before.2
+  none_ended lawful room = let before = kept_of laws ok max old whole some in among.ended lawful room old.widest before.0 before.2
 
   -- len and before are how many are held then, and were before
   module _ (len before : ℕ) (then : len ≡ length held') (first : before ≡ length held) where
@@ -291,7 +290,7 @@ module _ {T E : Type 0} {IsPoint : List ℤ → Type 0} {v : Boxes E} {o : Objec
     fewer_gone =
         let all = whole.counted in let same = moved_count selects most _ _ _ _ among.moved in omega arith
 
-    pub whole_left : (tree : RTree T D E P S X) → root_of tree ≡ new → ((m w h : ℕ) → IsKept v o m w (root_of old) → AreKept v o m w h (children_of (root_of old)) → IsKept v o m w new)
+    pub whole_left : (tree : RTree T D E P S X) → root_of tree ≡ new → ((w h : ℕ) → IsKept v o w (root_of old) → AreKept v o w h (children_of (root_of old)) → IsKept v o w new)
         → tree.widest ≡ old.widest → tree.spares.items ≡ old.spares.items → tree.overfull.items ≡ old.overfull.items → tree.size ≡ old.size - (len - before)
         → (children_of new ≡ [] → tree.levels ≡ 0) → (children_of new ≢ [] → tree.levels ≡ old.levels) → IsWholeTree v o max tree
     unfolding IsWholeTree
@@ -299,7 +298,7 @@ module _ {T E : Type 0} {IsPoint : List ℤ → Type 0} {v : Boxes E} {o : Objec
         let k = kept_of laws ok max old whole some in
         let all = whole.counted in let same = moved_count selects most _ _ _ _ among.moved in let grown = held_longer selects most _ _ _ _ among.moved in
         let left : tree.size ≡ length (all_elements (children_of new)) = omega arith in
-        whole_still laws ok max old tree whole some k.0 k.2 (subst (IsKept v o max old.widest) (sym root) (kept max old.widest k.0 k.1 k.2))
-        (subst (λ (p : ParentNode T E). AreKept v o max old.widest k.0 (children_of p)) (sym root) (among.kept max old.widest k.0 k.2))
+        whole_still laws ok max old tree whole some k.0 k.2 (subst (IsKept v o old.widest) (sym root) (kept old.widest k.0 k.1 k.2))
+        (subst (λ (p : ParentNode T E). AreKept v o old.widest k.0 (children_of p)) (sym root) (among.kept old.widest k.0 k.2))
         same_widest same_spares same_overfull (left ∙ ap (λ (p : ParentNode T E). length (all_elements (children_of p))) (sym root))
         (λ none. none_left (ap children_of (sym root) ∙ none)) (λ some. some_left (λ none. some (ap children_of root ∙ none)))

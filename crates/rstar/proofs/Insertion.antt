@@ -1,8 +1,11 @@
 -- What an insertion does to the lists of a tree.
-use Rattle.std.proofs.Common.{◌≡◌, ℕ, ℤ, zero, suc, ◌+◌, ◌-◌, ◌<◌, ◌≤◌, List, [], ◌∷◌, ◌++◌, length, get_or, set, refl, sym, ap, ◌∙◌, subst, arith, append_assoc, append-nil, sub-one, add-one, IsPermutation, Option, Some, None, IfSome, IfNone, vec_len}
+use Rattle.std.proofs.Common.{◌≡◌, ℕ, ℤ, zero, suc, ◌+◌, ◌-◌, ◌<◌, ◌≤◌, List, [], ◌∷◌, ◌++◌, length, get_or, set, refl, sym, ap, ◌∙◌, subst, arith, append_assoc, append-nil, sub-one, add-one, IsPermutation, Option, Some, None, IfSome, IfNone, true, false, if◌then◌else◌, nat_le, ◌⊎◌, inl, inr, Vec, vec_len, vec_capacity}
+use Rattle.std.proofs.lemmas.Bool.{le-leb}
+use Rattle.std.proofs.lemmas.Bool.Decides.{leb_tells}
 use Rattle.std.proofs.lemmas.List.Concat.{flat_map-append}
 use Rattle.std.proofs.lemmas.List.Sums.{sum_by-cons, sum_by-append}
 use Rattle.std.proofs.lemmas.List.Sorted.{sum_by-IsPermutation, IsPermutation-trans, IsPermutation-sym, IsPermutation-append_left, IsPermutation-append_right, IsPermutation-append_comm, IsPermutation-middle, IsPermutation-to_front}
+use Rattle.std.specs.declared.alloc.Global.{Global}
 use Rattle.rstar_base.specs.Envelopes.{Boxes, EnvelopeLaws}
 use Rattle.rstar_base.specs.Elements.{Objects, ObjectLaws}
 use Rattle.rstar_base.specs.Hulls.{hull}
@@ -11,11 +14,11 @@ use Rattle.rstar_base.proofs.Lists.{all-append, all_first, all_second, all_along
 use Rattle.rstar_base.proofs.Hulls.{hull-value, hull_along, merge_empty_right}
 use Rattle.rstar.specs.declared.node.RTreeNode.{RTreeNode, Leaf, Parent}
 use Rattle.rstar.specs.declared.node.ParentNode.{ParentNode}
-use Rattle.rstar.specs.Nodes.{fold_tree, elements, all_elements, parents, all_parents, node_box, IsTree, IsElement, IsInner, AreWhole}
+use Rattle.rstar.specs.Nodes.{elements, all_elements, node_box, IsTree, IsElement, IsInner, AreWhole}
 use Rattle.rstar.specs.Shapes.{AreTrees, IsParentTree, IsAny, HasSize}
-use Rattle.rstar.specs.Kept.{HasRoom, IsKeptInner, HasMergedBox, AreKept, IsKeptTree, second_children, as_node, IsSizedAfter}
+use Rattle.rstar.specs.Kept.{IsKeptInner, HasMergedBox, AreKept, IsKeptTree, second_children, as_node, IsSizedAfter, has_room, roomy, all_roomy, roomy_of, second_roomy}
 use Rattle.rstar.proofs.Places.{all_set, all_get}
-use Rattle.rstar.proofs.Rows.{elements-Leaf, elements-Parent, parents-Parent, node_box-Parent, is_leaf, is_parent, parent_of, no_parent, IsLeafOf-Leaf, IsParentOf-Parent}
+use Rattle.rstar.proofs.Rows.{elements-Leaf, elements-Parent, of_parent-Parent, node_box-Parent, is_leaf, is_parent, parent_of, no_parent, IsLeafOf-Leaf, IsParentOf-Parent}
 use Rattle.rstar.proofs.Trees.{all_sound, values-of, merged_is_hull}
 
 module _ {T E : Type 0} where
@@ -54,73 +57,106 @@ module _ {T E : Type 0} where
   two_parents a b = ap (λ (ts : List T). elements (Parent a) ++ ts) (all_elements-single (Parent b)) ∙ ap (λ (ts : List T). ts ++ elements (Parent b)) (elements-Parent a)
       ∙ ap (λ (ts : List T). all_elements a.children.items ++ ts) (elements-Parent b) ∙ sym (all_elements-append a.children.items b.children.items)
 
--- ---- how many parents there are
+-- ---- how many lists have room
 
-module _ (T E : Type 0) where
-  pub parents-Leaf : (t : T) → parents {E = E} (Leaf t) ≡ 0
-  unfolding parents fold_tree
-  parents-Leaf t = refl
+module _ {A : Type 0} (count : ℕ) where
+  pub room_one : (v : Vec A Global) → count ≤ vec_capacity v → has_room count v ≡ 1
+  room_one v le = ap (λ b. if b then 1 else 0) (le-leb count (vec_capacity v) le)
 
-  no_parents-leaf : (t : T) → all_parents {E = E} (Leaf t ∷ []) ≡ 0
-  no_parents-leaf t = sum_by-cons parents (Leaf t) [] ∙ ap (λ n. n + 0) (parents-Leaf t)
+  pub room_none : (v : Vec A Global) → vec_capacity v < count → has_room count v ≡ 0
+  room_none v lt = by_test (leb_tells count (vec_capacity v)) where
+    by_test : ((nat_le count (vec_capacity v) ≡ true) × (count ≤ vec_capacity v)) ⊎ ((nat_le count (vec_capacity v) ≡ false) × (vec_capacity v < count)) → has_room count v ≡ 0
+    by_test (inl is) = absurd (omega (arith, is.1, lt))
+    by_test (inr is) = ap (λ b. if b then 1 else 0) is.0
 
-module _ {T E : Type 0} where
-  pub all_parents-append : (xs ys : List (RTreeNode T E)) → all_parents (xs ++ ys) ≡ all_parents xs + all_parents ys
-  all_parents-append xs ys = sum_by-append parents xs ys
+  pub room_same : (v w : Vec A Global) → vec_capacity v ≡ vec_capacity w → has_room count v ≡ has_room count w
+  room_same v w e = ap (λ n. if nat_le count n then 1 else 0) e
 
-  -- a leaf more is no parent more
-  pub leaf_counted : (ns : List (RTreeNode T E)) (t : T) → all_parents (ns ++ Leaf t ∷ []) ≡ all_parents ns
-  leaf_counted ns t = let both = all_parents-append ns (Leaf t ∷ []) in let none = no_parents-leaf T E t in omega (arith, both, none)
+  -- a list that holds no less has room where the other has
+  pub room_more : (v w : Vec A Global) → vec_capacity v ≤ vec_capacity w → has_room count v ≤ has_room count w
+  room_more v w le = by_test (leb_tells count (vec_capacity v)) where
+    by_test : ((nat_le count (vec_capacity v) ≡ true) × (count ≤ vec_capacity v)) ⊎ ((nat_le count (vec_capacity v) ≡ false) × (vec_capacity v < count)) → has_room count v ≤ has_room count w
+    by_test (inl is) = let first = room_one v is.1 in let second = room_one w (omega (arith, is.1, le)) in omega (arith, first, second)
+    by_test (inr is) = let none : has_room count v ≡ 0 = ap (λ b. if b then 1 else 0) is.0 in omega (arith, none)
 
-  pub parents_along : (xs ys : List (RTreeNode T E)) → IsPermutation xs ys → all_parents ys ≡ all_parents xs
-  parents_along xs ys same = sum_by-IsPermutation parents xs ys same
+module _ {T E : Type 0} (count : ℕ) where
+  roomy-Parent : (h : ℕ) (p : ParentNode T E) → 0 < h → roomy count h (Parent p) ≡ roomy_of count (h - 1) p
+  roomy-Parent zero p above = absurd (omega arith)
+  roomy-Parent (suc h) p above = rw sub-one (of_parent-Parent _ p)
+
+  -- leaves are no parents
+  pub none_roomy : (ns : List (RTreeNode T E)) → all_roomy count 0 ns ≡ 0
+  none_roomy [] = refl
+  none_roomy (n ∷ ns) = let first = sum_by-cons (roomy {T = T} {E = E} count 0) n ns in let rest = none_roomy ns in omega (arith, first, rest)
+
+  pub roomy-append : (h : ℕ) (xs ys : List (RTreeNode T E)) → all_roomy count h (xs ++ ys) ≡ all_roomy count h xs + all_roomy count h ys
+  roomy-append h xs ys = sum_by-append (roomy count h) xs ys
+
+  pub roomy_along : (h : ℕ) (xs ys : List (RTreeNode T E)) → IsPermutation xs ys → all_roomy count h ys ≡ all_roomy count h xs
+  roomy_along h xs ys same = sum_by-IsPermutation (roomy count h) xs ys same
 
   -- one node of a list is another
-  parents_of_set : (ns : List (RTreeNode T E)) (i : ℕ) (d m : RTreeNode T E) → i < length ns → all_parents (set ns i m) + parents (get_or ns i d) ≡ all_parents ns + parents m
-  parents_of_set [] i d m below = absurd (omega arith)
-  parents_of_set (n ∷ ns) zero d m below =
-      let a = sum_by-cons parents m ns in
-      let b = sum_by-cons parents n ns in omega (arith, a, b)
-  parents_of_set (n ∷ ns) (suc i) d m below =
-      let a = sum_by-cons parents n (set ns i m) in
-      let b = sum_by-cons parents n ns in
-      let c = parents_of_set ns i d m (omega arith) in omega (arith, a, b, c)
+  roomy_of_set : (h : ℕ) (ns : List (RTreeNode T E)) (i : ℕ) (d m : RTreeNode T E) → i < length ns → all_roomy count h (set ns i m) + roomy count h (get_or ns i d) ≡ all_roomy count h ns + roomy count h m
+  roomy_of_set h [] i d m below = absurd (omega arith)
+  roomy_of_set h (n ∷ ns) zero d m below =
+      let a = sum_by-cons (roomy count h) m ns in
+      let b = sum_by-cons (roomy count h) n ns in omega (arith, a, b)
+  roomy_of_set h (n ∷ ns) (suc i) d m below =
+      let a = sum_by-cons (roomy count h) n (set ns i m) in
+      let b = sum_by-cons (roomy count h) n ns in
+      let c = roomy_of_set h ns i d m (omega arith) in omega (arith, a, b, c)
 
-  -- a child has as many parents below it as before
-  pub child_same : (old : List (RTreeNode T E)) (i : ℕ) (a b : ParentNode T E) → i < length old → Parent a ≡ get_or old i (Parent a)
-      → all_parents b.children.items ≡ all_parents a.children.items → all_parents (set old i (Parent b)) ≡ all_parents old
-  child_same old i a b below is same =
-      let change = parents_of_set old i (Parent a) (Parent b) below in
-      let at = ap parents (sym is) in
-      let one = parents-Parent a in let other = parents-Parent b in omega (arith, same, change, at, one, other)
+  -- a parent that may be there, in a list
+  second_node : (h : ℕ) (r : Option (ParentNode T E)) → 0 < h → all_roomy count h (as_node r) ≡ second_roomy count (h - 1) r
+  second_node h None above = refl
+  second_node h (Some q) above =
+      let one = sum_by-cons (roomy count h) (Parent q) [] in
+      let here = roomy-Parent h q above in omega (arith, one, here)
 
-  -- a parent that may be there counts itself and those below it
-  second_parents : (r : Option (ParentNode T E)) → all_parents (as_node r) ≡ length (as_node r) + all_parents (second_children r)
-  second_parents None = refl
-  second_parents (Some q) =
-      let a = sum_by-cons parents (Parent q) [] in
-      let b = parents-Parent q in omega (arith, a, b)
+  -- a parent that may be there, with room in its list
+  pub second_room : (h : ℕ) (r : Option (ParentNode T E)) → IfSome r (λ q. count ≤ vec_capacity q.children) → second_roomy count h r ≡ length (as_node r) + all_roomy count h (second_children r)
+  second_room h None room = refl
+  second_room h (Some q) room = let one = room_one count q.children room in omega (arith, one)
 
-  pub two_counted : (a b : ParentNode T E) → all_parents (Parent a ∷ Parent b ∷ []) ≡ 2 + all_parents (a.children.items ++ b.children.items)
-  two_counted a b =
-      let first = sum_by-cons parents (Parent a) (Parent b ∷ []) in
-      let second = sum_by-cons parents (Parent b) [] in
-      let all = all_parents-append a.children.items b.children.items in
-      let one = parents-Parent a in let other = parents-Parent b in omega (arith, first, second, all, one, other)
+  -- two parents
+  pub two_roomy : (h : ℕ) (a b : ParentNode T E) → all_roomy count (h + 1) (Parent a ∷ Parent b ∷ []) ≡ roomy_of count h a + roomy_of count h b
+  two_roomy h a b =
+      let first = sum_by-cons (roomy count (suc h)) (Parent a) (Parent b ∷ []) in
+      let second = sum_by-cons (roomy count (suc h)) (Parent b) [] in
+      let one = of_parent-Parent (roomy_of count h) a in let other = of_parent-Parent (roomy_of count h) b in
+      let both : all_roomy count (suc h) (Parent a ∷ Parent b ∷ []) ≡ roomy_of count h a + roomy_of count h b = omega (arith, first, second, one, other) in
+      rw add-one both
 
-  -- a child took spare lists for what it and the part that it handed out have more than it had
-  pub child_made : (old : List (RTreeNode T E)) (i : ℕ) (a b : ParentNode T E) (r : Option (ParentNode T E)) (before after : ℕ)
-      → i < length old → Parent a ≡ get_or old i (Parent a)
-      → before + all_parents a.children.items ≡ after + all_parents (b.children.items ++ second_children r) + length (as_node r)
-      → before + all_parents old ≡ after + all_parents (set old i (Parent b) ++ as_node r)
-  child_made old i a b r before after below is made =
-      let change = parents_of_set old i (Parent a) (Parent b) below in
-      let at = ap parents (sym is) in
-      let one = parents-Parent a in let other = parents-Parent b in
-      let second = second_parents r in
-      let parts = all_parents-append b.children.items (second_children r) in
-      let all = all_parents-append (set old i (Parent b)) (as_node r) in
-      omega (arith, made, change, at, one, other, second, parts, all)
+  -- a lowest parent, and what was cut off it
+  pub lowest_room : (h : ℕ) (a b : ParentNode T E) (r : Option (ParentNode T E)) (before after : ℕ) → h ≡ 0 → IfSome r (λ q. count ≤ vec_capacity q.children)
+      → before + has_room count a.children ≤ after + has_room count b.children + length (as_node r) → before + roomy_of count h a ≤ after + roomy_of count h b + second_roomy count h r
+  lowest_room zero a b r before after low room taken =
+      let none = none_roomy a.children.items in let none' = none_roomy b.children.items in let none'' = none_roomy (second_children r) in
+      let second = second_room zero r room in omega (arith, taken, none, none', none'', second)
+  lowest_room (suc h) a b r before after low room taken = absurd (omega (arith, low))
+
+  -- a parent that takes in what was cut off a child, and what is cut off it
+  pub parted_room : (h : ℕ) (a : ParentNode T E) (mid : Vec (RTreeNode T E) Global) (q : ParentNode T E) (b : ParentNode T E) (r : Option (ParentNode T E)) (before between after : ℕ)
+      → vec_capacity mid ≡ vec_capacity a.children → before + all_roomy count h a.children.items ≤ between + all_roomy count h (mid.items ++ Parent q ∷ [])
+      → IsPermutation (mid.items ++ Parent q ∷ []) (b.children.items ++ second_children r) → IfSome r (λ q. count ≤ vec_capacity q.children)
+      → between + has_room count mid ≤ after + has_room count b.children + length (as_node r) → before + roomy_of count h a ≤ after + roomy_of count h b + second_roomy count h r
+  parted_room h a mid q b r before between after held below same room taken =
+      let along = roomy_along h (mid.items ++ Parent q ∷ []) (b.children.items ++ second_children r) same in
+      let parts = roomy-append h b.children.items (second_children r) in
+      let second = second_room h r room in let here = room_same count mid a.children held in omega (arith, here, below, taken, along, parts, second)
+
+  -- a child that lost no room, and what it handed out
+  pub child_room : (h : ℕ) (old : List (RTreeNode T E)) (i : ℕ) (a b : ParentNode T E) (r : Option (ParentNode T E)) (before after : ℕ)
+      → 0 < h → i < length old → Parent a ≡ get_or old i (Parent a)
+      → before + roomy_of count (h - 1) a ≤ after + roomy_of count (h - 1) b + second_roomy count (h - 1) r
+      → before + all_roomy count h old ≤ after + all_roomy count h (set old i (Parent b) ++ as_node r)
+  child_room h old i a b r before after above below is room =
+      let change = roomy_of_set h old i (Parent a) (Parent b) below in
+      let at = ap (roomy count h) (sym is) in
+      let one = roomy-Parent h a above in let other = roomy-Parent h b above in
+      let second = second_node h r above in
+      let all = roomy-append h (set old i (Parent b)) (as_node r) in
+      omega (arith, room, change, at, one, other, second, all)
 
 module _ {T E : Type 0} (Q : ParentNode T E → Type 0) (R : T → Type 0) where
   pub tree_at : (h : ℕ) (p : ParentNode T E) → 0 < h → IsTree Q R h (Parent p) → Q p × AreTrees Q R (h - 1) p.children.items
@@ -160,18 +196,18 @@ module _ {T E : Type 0} {Q Q' : ParentNode T E → Type 0} {R R' : T → Type 0}
   pub trees_map : (h : ℕ) (ns : List (RTreeNode T E)) → AreTrees Q R h ns → AreTrees Q' R' h ns
   trees_map h = all_map (IsTree Q R h) (IsTree Q' R' h) (tree_map h)
 
-module _ {T E : Type 0} {IsPoint : List ℤ → Type 0} {v : Boxes E} {o : Objects T E} (laws : EnvelopeLaws IsPoint v) (ok : ObjectLaws v o) (max widest : ℕ) where
-  inner : (p : ParentNode T E) → IsKeptInner v o max widest p → IsInner v o p
+module _ {T E : Type 0} {IsPoint : List ℤ → Type 0} {v : Boxes E} {o : Objects T E} (laws : EnvelopeLaws IsPoint v) (ok : ObjectLaws v o) (widest : ℕ) where
+  inner : (p : ParentNode T E) → IsKeptInner v o widest p → IsInner v o p
   inner p k = (k.0.tight, λ none. let long = ap length none in absurd (omega (arith, long, k.1)))
 
   -- kept trees are whole
-  pub whole_of_kept : (h : ℕ) (ns : List (RTreeNode T E)) → AreKept v o max widest h ns → AreWhole v o h ns
+  pub whole_of_kept : (h : ℕ) (ns : List (RTreeNode T E)) → AreKept v o widest h ns → AreWhole v o h ns
   whole_of_kept = trees_map inner (λ t k. k)
 
   -- the envelope that took one element more in is the merge of what is there after it
-  pub hull_grown : (h : ℕ) (t : T) (old new : List (RTreeNode T E)) (e f : E) → AreKept v o max widest h old → e ≡ hull v o.box_of (all_elements old)
+  pub hull_grown : (h : ℕ) (t : T) (old new : List (RTreeNode T E)) (e f : E) → AreKept v o widest h old → e ≡ hull v o.box_of (all_elements old)
       → o.IsValue t → f ≡ v.merge e (o.box_of t)
-      → IsPermutation (t ∷ all_elements old) (all_elements new) → AreKept v o max widest h new
+      → IsPermutation (t ∷ all_elements old) (all_elements new) → AreKept v o widest h new
       → (f ≡ hull v o.box_of (all_elements new)) × (f ≡ hull v (node_box o.box_of) new)
   hull_grown h t old new e f before was value next bag after =
       let o_values = values-of laws ok (all_elements old) (all_sound v o h old (whole_of_kept h old before)) in
@@ -180,53 +216,53 @@ module _ {T E : Type 0} {IsPoint : List ℤ → Type 0} {v : Boxes E} {o : Objec
       let is : f ≡ hull v o.box_of (all_elements new) = next ∙ laws.merge_comm e (o.box_of t) first (ok t value) ∙ ap (v.merge (o.box_of t)) was ∙ both.0 in
       (is, is ∙ sym (merged_is_hull laws ok h new (whole_of_kept h new after)))
 
-  pub inner_of_fit : (h : ℕ) (p : ParentNode T E) → AreKept v o max widest h p.children.items → HasMergedBox v o max widest p → IsKeptInner v o max widest p
+  pub inner_of_fit : (h : ℕ) (p : ParentNode T E) → AreKept v o widest h p.children.items → HasMergedBox v o widest p → IsKeptInner v o widest p
   inner_of_fit h p trees fit =
-      (record { tight = fit.merged ∙ merged_is_hull laws ok h p.children.items (whole_of_kept h p.children.items trees); roomy = fit.roomy }, fit.some)
+      (record { tight = fit.merged ∙ merged_is_hull laws ok h p.children.items (whole_of_kept h p.children.items trees); narrow = fit.narrow }, fit.some)
 
   -- what an insertion leaves of a list of children, after it was parted
   pub added : (h : ℕ) (t : T) (old before : List (RTreeNode T E)) (p : ParentNode T E) (r : Option (ParentNode T E))
-      → IsPermutation (t ∷ all_elements old) (all_elements before) → AreKept v o max widest h before → IsPermutation before (p.children.items ++ second_children r)
-      → HasMergedBox v o max widest p → IfSome r (HasMergedBox v o max widest)
-      → IsPermutation (t ∷ all_elements old) (all_elements (p.children.items ++ second_children r)) × IsKeptTree v o max widest h p × IfSome r (IsKeptTree v o max widest h)
+      → IsPermutation (t ∷ all_elements old) (all_elements before) → AreKept v o widest h before → IsPermutation before (p.children.items ++ second_children r)
+      → HasMergedBox v o widest p → IfSome r (HasMergedBox v o widest)
+      → IsPermutation (t ∷ all_elements old) (all_elements (p.children.items ++ second_children r)) × IsKeptTree v o widest h p × IfSome r (IsKeptTree v o widest h)
   added h t old before p r bag trees same first second =
-      let parts = all_along (IsTree (IsKeptInner v o max widest) (IsElement v o) h) before (p.children.items ++ second_children r) same trees in
-      let one = all_first (IsTree (IsKeptInner v o max widest) (IsElement v o) h) p.children.items (second_children r) parts in
-      let two = all_second (IsTree (IsKeptInner v o max widest) (IsElement v o) h) p.children.items (second_children r) parts in
+      let parts = all_along (IsTree (IsKeptInner v o widest) (IsElement v o) h) before (p.children.items ++ second_children r) same trees in
+      let one = all_first (IsTree (IsKeptInner v o widest) (IsElement v o) h) p.children.items (second_children r) parts in
+      let two = all_second (IsTree (IsKeptInner v o widest) (IsElement v o) h) p.children.items (second_children r) parts in
       (IsPermutation-trans _ _ _ bag (elements_along before (p.children.items ++ second_children r) same), (inner_of_fit h p one first, one), other r two second) where
-        other : (r : Option (ParentNode T E)) → AreKept v o max widest h (second_children r) → IfSome r (HasMergedBox v o max widest) → IfSome r (IsKeptTree v o max widest h)
+        other : (r : Option (ParentNode T E)) → AreKept v o widest h (second_children r) → IfSome r (HasMergedBox v o widest) → IfSome r (IsKeptTree v o widest h)
         other None trees fit = tt
         other (Some q) trees fit = (inner_of_fit h q trees fit, trees)
 
   -- a leaf at the end of a list of leaves
-  pub leaf_added : (h : ℕ) (t : T) (old : List (RTreeNode T E)) → h ≡ 0 → IsElement v o t → AreKept v o max widest h old
-      → IsPermutation (t ∷ all_elements old) (all_elements (old ++ Leaf t ∷ [])) × AreKept v o max widest h (old ++ Leaf t ∷ [])
+  pub leaf_added : (h : ℕ) (t : T) (old : List (RTreeNode T E)) → h ≡ 0 → IsElement v o t → AreKept v o widest h old
+      → IsPermutation (t ∷ all_elements old) (all_elements (old ++ Leaf t ∷ [])) × AreKept v o widest h (old ++ Leaf t ∷ [])
   leaf_added h t old low is trees = (
     IsPermutation-trans _ _ _ (IsPermutation-sym _ _ (IsPermutation-to_front (all_elements old) t))
         (IsPermutation-same _ _ (sym (all_elements-append old (Leaf t ∷ []) ∙ ap (λ (ts : List T). all_elements old ++ ts) (all_elements-single (Leaf t) ∙ elements-Leaf T E t)))),
-    all-append (IsTree (IsKeptInner v o max widest) (IsElement v o) h) old (Leaf t ∷ []) trees (leaf_tree (IsKeptInner v o max widest) (IsElement v o) h t low is, tt),
+    all-append (IsTree (IsKeptInner v o widest) (IsElement v o) h) old (Leaf t ∷ []) trees (leaf_tree (IsKeptInner v o widest) (IsElement v o) h t low is, tt),
   )
 
   -- a child that took the element in, and what it handed out
   pub child_grown : (h : ℕ) (t : T) (old : List (RTreeNode T E)) (i : ℕ) (a b : ParentNode T E) (r : Option (ParentNode T E))
-      → 0 < h → i < length old → Parent a ≡ get_or old i (Parent a) → AreKept v o max widest h old
+      → 0 < h → i < length old → Parent a ≡ get_or old i (Parent a) → AreKept v o widest h old
       → IsPermutation (t ∷ all_elements a.children.items) (all_elements (b.children.items ++ second_children r))
-      → IsKeptTree v o max widest (h - 1) b → IfSome r (IsKeptTree v o max widest (h - 1))
-      → IsPermutation (t ∷ all_elements old) (all_elements (set old i (Parent b) ++ as_node r)) × AreKept v o max widest h (set old i (Parent b) ++ as_node r)
+      → IsKeptTree v o widest (h - 1) b → IfSome r (IsKeptTree v o widest (h - 1))
+      → IsPermutation (t ∷ all_elements old) (all_elements (set old i (Parent b) ++ as_node r)) × AreKept v o widest h (set old i (Parent b) ++ as_node r)
   child_grown h t old i a b r above below is trees bag first second = (
     rw (all_elements-append (set old i (Parent b)) (as_node r)) (bag_of_set t old i (Parent a) (Parent b) (all_elements (as_node r)) below
         (rw (← is, elements-Parent a, elements-Parent b, same_list r, ← all_elements-append b.children.items (second_children r)) bag)),
-    all-append (IsTree (IsKeptInner v o max widest) (IsElement v o) h) (set old i (Parent b)) (as_node r)
-        (all_set (IsTree (IsKeptInner v o max widest) (IsElement v o) h) old i (Parent b) trees (tree_of (IsKeptInner v o max widest) (IsElement v o) h b above first.0 first.1))
-        (are_trees (IsKeptInner v o max widest) (IsElement v o) h r above second),
+    all-append (IsTree (IsKeptInner v o widest) (IsElement v o) h) (set old i (Parent b)) (as_node r)
+        (all_set (IsTree (IsKeptInner v o widest) (IsElement v o) h) old i (Parent b) trees (tree_of (IsKeptInner v o widest) (IsElement v o) h b above first.0 first.1))
+        (are_trees (IsKeptInner v o widest) (IsElement v o) h r above second),
   )
 
   -- a root above two parents is a tree of one level more
-  pub root_grown : (h : ℕ) (a b p : ParentNode T E) → IsKeptTree v o max widest h a → IsKeptTree v o max widest h b
-      → p.children.items ≡ Parent a ∷ Parent b ∷ [] → p.envelope ≡ v.merge a.envelope b.envelope → HasRoom max p.children → 2 ≤ widest
-      → IsKeptTree v o max widest (h + 1) p
-  root_grown h a b p first second are is room wide =
-      let trees : AreKept v o max widest (h + 1) (Parent a ∷ Parent b ∷ []) = rw add-one (IsParentOf-Parent _ a first, (IsParentOf-Parent _ b second, tt)) in
+  pub root_grown : (h : ℕ) (a b p : ParentNode T E) → IsKeptTree v o widest h a → IsKeptTree v o widest h b
+      → p.children.items ≡ Parent a ∷ Parent b ∷ [] → p.envelope ≡ v.merge a.envelope b.envelope → 2 ≤ widest
+      → IsKeptTree v o widest (h + 1) p
+  root_grown h a b p first second are is wide =
+      let trees : AreKept v o widest (h + 1) (Parent a ∷ Parent b ∷ []) = rw add-one (IsParentOf-Parent _ a first, (IsParentOf-Parent _ b second, tt)) in
       let b_values = values-of laws ok (all_elements b.children.items) (all_sound v o h b.children.items (whole_of_kept h b.children.items second.1)) in
       let value : v.IsValue b.envelope = subst v.IsValue (sym second.0.0.tight) (hull-value laws o.box_of (all_elements b.children.items) b_values) in
       let last : v.merge b.envelope v.empty ≡ b.envelope = merge_empty_right laws b.envelope value in
@@ -237,7 +273,7 @@ module _ {T E : Type 0} {IsPoint : List ℤ → Type 0} {v : Boxes E} {o : Objec
         (
           record {
             tight = is ∙ sym both ∙ all ∙ ap (λ (ns : List (RTreeNode T E)). hull v o.box_of (all_elements ns)) (sym are);
-            roomy = record { narrow = rw are (omega arith); room = room };
+            narrow = rw are (omega arith);
           },
           rw are (omega arith),
         ),

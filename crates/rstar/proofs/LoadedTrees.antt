@@ -23,9 +23,8 @@ fresh_tree v o max axes tree fresh count low wide fits none over = record {
   low = low;
   wide = wide;
   wide_fits = fits;
-  narrow = fresh.roomy.0.narrow;
-  root_room = λ some. fresh.roomy.0.room;
-  rooms = fresh.roomy.1;
+  narrow = fresh.narrow.0;
+  narrow_below = fresh.narrow.1;
   spares = subst (AllByRecursion (IsSpare tree.widest)) (sym none) tt;
   none_over = over;
 }

@@ -19,7 +19,7 @@ use Rattle.rstar.specs.declared.node.ParentNode.{ParentNode}
 use Rattle.rstar.specs.declared.node.RTreeNode.{RTreeNode, Leaf, Parent}
 use Rattle.rstar.specs.Nodes.{elements, all_elements, elements_of, children_of, node_box, IsTree, IsElement, IsInner, AreWhole, IsLeafOf, IsParentOf}
 use Rattle.rstar.specs.Shapes.{IsParentTree, AreTrees, IsAny}
-use Rattle.rstar.specs.Kept.{HasRoom, IsRoomy}
+use Rattle.rstar.specs.Kept.{IsNarrow}
 use Rattle.rstar.specs.Lists.{NoneEmpty}
 use Rattle.rstar.specs.Loaded.{IsSlabSize, IsPartSize, EndsAt, IsParted, IsCutAbove, HasSmallParent}
 use Rattle.rstar.specs.Loads.{part_bound, HasNodeOf, AddsParts, IsUnderway, IsFresh, IsFreshNode}
@@ -250,8 +250,8 @@ module _ {T E : Type 0} where
   module _ (v : Boxes E) (o : Objects T E) (most widest axes : ℕ) where
     -- elements, each a leaf
     pub leaves_parent : (ts : List T) (p : ParentNode T E) → AllByRecursion o.IsValue ts → NoneEmpty v.is_empty o.box_of ts → ts ≢ [] → p.children.items ≡ map Leaf ts → p.envelope ≡ hull v o.box_of ts
-        → HasRoom most p.children → length p.children.items ≤ widest → IsFresh v o most widest axes 0 p
-    leaves_parent ts p own full some are box room narrow =
+        → length p.children.items ≤ widest → IsFresh v o most widest axes 0 p
+    leaves_parent ts p own full some are box narrow =
         let these : elements_of p ≡ ts = ap (λ ns. all_elements ns) are ∙ leaves_elements E ts in
         let count : length p.children.items ≡ length (elements_of p) = ap length are ∙ length-map ts Leaf ∙ ap length (sym these) in
         record {
@@ -259,7 +259,7 @@ module _ {T E : Type 0} where
             (box ∙ ap (hull v o.box_of) (sym these), λ none. some (sym these ∙ ap (λ ns. all_elements ns) none)),
             subst (AllByRecursion (IsLeafOf (IsElement v o))) (sym are) (leaves_of E (IsElement v o) ts (all_both o.IsValue (λ t. v.is_empty (o.box_of t) ≡ false) _ (λ t own full. (own, full)) ts own (all_of _ ts full))),
           );
-          roomy = (record { narrow = narrow; room = room }, subst (AllByRecursion (IsLeafOf IsAny)) (sym are) (leaves_of E IsAny ts (any_of ts)));
+          narrow = (narrow, subst (AllByRecursion (IsLeafOf IsAny)) (sym are) (leaves_of E IsAny ts (any_of ts)));
           cut = subst (AllByRecursion (IsLeafOf IsAny)) (sym are) (leaves_of E IsAny ts (any_of ts));
           small = λ few. omega (arith, count, few);
         }
@@ -267,18 +267,18 @@ module _ {T E : Type 0} where
   pub leaves_same : (ts : List T) (ns : List (RTreeNode T E)) → ns ≡ map Leaf ts → IsPermutation ts (all_elements ns)
   leaves_same ts ns are = subst (IsPermutation ts) (sym (ap (λ ms. all_elements ms) are ∙ leaves_elements E ts)) (IsPermutation-refl ts)
 
-  -- more room for the bound
+  -- a greater bound
   pub fresh_wider : (v : Boxes E) (o : Objects T E) (most old new axes h : ℕ) → old ≤ new → (n : RTreeNode T E) → IsFreshNode v o most old axes h n → IsFreshNode v o most new axes h n
   fresh_wider v o most old new axes h le =
       parent_map (IsFresh v o most old axes h) (IsFresh v o most new axes h) (λ p f. record {
         whole = f.whole;
-        roomy = (wider p f.roomy.0, trees_map wider (λ t k. k) h p.children.items f.roomy.1);
+        narrow = (wider p f.narrow.0, trees_map wider (λ t k. k) h p.children.items f.narrow.1);
         cut = f.cut;
         small = f.small;
       })
     where
-      wider : (q : ParentNode T E) → IsRoomy most old q → IsRoomy most new q
-      wider q r = let narrow = r.narrow in record { narrow = omega (arith, narrow, le); room = r.room }
+      wider : (q : ParentNode T E) → IsNarrow old q → IsNarrow new q
+      wider q narrow = omega (arith, narrow, le)
 
   -- one node is the only part
   pub one_part : (v : Boxes E) (o : Objects T E) (most widest axes h c k : ℕ) (ts : List T) (old new : List (RTreeNode T E)) (p : ParentNode T E) → k ≡ 0 → new ≡ old ++ Parent p ∷ [] → IsPermutation ts (elements_of p) → IsFresh v o most widest axes h p
@@ -313,14 +313,14 @@ module _ {T E : Type 0} where
     pub parts_parent : (c b below old k : ℕ) (ts : List T) (ns : List (RTreeNode T E)) (p : ParentNode T E) → ts ≢ [] → most < length ts → 2 ≤ c → c ^ axes ≤ max most (2 ^ axes) → 0 < axes
         → IsClusterNumber most axes (length ts) k → c ≡ max k 2
         → old ≤ widest → AddsParts (λ t axis. v.axis_key (o.box_of t) axis) (IsFreshNode v o most old axes b) c axes ts [] ns → p.children.items ≡ ns → suc b ≡ below → p.envelope ≡ hull v (node_box o.box_of) p.children.items
-        → HasRoom most p.children → length p.children.items ≤ widest
+        → length p.children.items ≤ widest
         → IsFresh v o most widest axes below p
-    parts_parent c b below old k ts ns p some large two few_enough some_axis number is le adds are high box room narrow =
+    parts_parent c b below old k ts ns p some large two few_enough some_axis number is le adds are high box few_here =
         let these : p.children.items ≡ adds.added = are ∙ adds.is in
         let same : IsPermutation ts (elements_of p) = rw these adds.parts.same in
         let good : AllByRecursion (IsFreshNode v o most widest axes b) p.children.items = rw these (all_map (IsFreshNode v o most old axes b) (IsFreshNode v o most widest axes b) (fresh_wider v o most old widest axes b le) adds.added adds.parts.good) in
         let whole : AreWhole v o (suc b) p.children.items = all_map (IsFreshNode v o most widest axes b) (IsTree (IsInner v o) (IsElement v o) (suc b)) (parent_map (IsFresh v o most widest axes b) (IsParentTree (IsInner v o) (IsElement v o) b) (λ q f. f.whole)) p.children.items good in
-        let rooms : AreTrees (IsRoomy most widest) IsAny (suc b) p.children.items = all_map (IsFreshNode v o most widest axes b) (IsTree (IsRoomy most widest) IsAny (suc b)) (parent_map (IsFresh v o most widest axes b) (IsParentTree (IsRoomy most widest) IsAny b) (λ q f. f.roomy)) p.children.items good in
+        let narrow : AreTrees (IsNarrow widest) IsAny (suc b) p.children.items = all_map (IsFreshNode v o most widest axes b) (IsTree (IsNarrow widest) IsAny (suc b)) (parent_map (IsFresh v o most widest axes b) (IsParentTree (IsNarrow widest) IsAny b) (λ q f. f.narrow)) p.children.items good in
         let key : T → ℕ → ℤ = λ t axis. v.axis_key (o.box_of t) axis in
         let cuts : AllByRecursion (IsParentOf (IsCutAbove key most axes b)) p.children.items = all_map (IsFreshNode v o most widest axes b) (IsParentOf (IsCutAbove key most axes b)) (parent_map (IsFresh v o most widest axes b) (IsCutAbove key most axes b) (λ q f. f.cut)) p.children.items good in
         let small : All (λ n. length (elements n) ≤ part_bound axes c (length ts)) p.children.items = rw these adds.parts.small in
@@ -334,7 +334,7 @@ module _ {T E : Type 0} where
             ),
             whole,
           );
-          roomy = (record { narrow = narrow; room = room }, rooms);
+          narrow = (few_here, narrow);
           cut = (
             record {
               many = omega (arith, long);

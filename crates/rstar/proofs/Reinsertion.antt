@@ -1,7 +1,6 @@
 -- What handing leaves out, and putting them in again, does to the lists of a tree.
-use Rattle.std.proofs.Common.{◌≡◌, ℕ, ◌+◌, ◌-◌, ◌*◌, ◌<◌, ◌≤◌, max, List, [], ◌∷◌, ◌++◌, length, get_or, set, refl, sym, ap, ◌∙◌, subst, arith, append_assoc, IsPermutation, None, vec_len}
+use Rattle.std.proofs.Common.{◌≡◌, ℕ, zero, suc, ◌+◌, ◌-◌, ◌*◌, ◌<◌, ◌≤◌, max, List, [], ◌∷◌, ◌++◌, length, get_or, set, sym, ap, ◌∙◌, subst, arith, append_assoc, append-nil, IsPermutation, None, vec_len}
 use Rattle.std.proofs.lemmas.Nat.{mul-le}
-use Rattle.std.proofs.lemmas.List.Sums.{sum_by-cons}
 use Rattle.std.proofs.lemmas.List.Sorted.{IsPermutation-trans, IsPermutation-append_left, IsPermutation-to_front}
 use Rattle.rstar_base.specs.Envelopes.{Boxes, EnvelopeLaws}
 use Rattle.rstar_base.specs.Elements.{Objects, ObjectLaws}
@@ -10,13 +9,13 @@ use Rattle.rstar_base.proofs.Lists.{all_first, all_second, all_along}
 use Rattle.rstar.specs.declared.node.RTreeNode.{RTreeNode, Leaf, Parent}
 use Rattle.rstar.specs.declared.node.ParentNode.{ParentNode}
 use Rattle.rstar.specs.Heights.{spare_lists}
-use Rattle.rstar.specs.Nodes.{all_elements, parents, all_parents, node_box, IsTree, IsElement}
+use Rattle.rstar.specs.Nodes.{all_elements, node_box, IsTree, IsElement}
 use Rattle.rstar.specs.Shapes.{AreTrees, IsAny, HasSize}
-use Rattle.rstar.specs.Kept.{IsKeptInner, HasMergedBox, AreKept, IsKeptTree, IsSizedAfter}
+use Rattle.rstar.specs.Kept.{IsKeptInner, HasMergedBox, AreKept, IsKeptTree, IsSizedAfter, has_room, all_roomy, roomy_of}
 use Rattle.rstar.proofs.Places.{all_set}
 use Rattle.rstar.proofs.Rows.{elements-Leaf, elements-Parent, is_leaf, leaf_of}
 use Rattle.rstar.proofs.Trees.{merged_is_hull}
-use Rattle.rstar.proofs.Insertion.{all_elements-append, all_elements-single, elements_along, bag_of_set, tree_of, whole_of_kept, inner_of_fit, parents-Leaf, all_parents-append, leaf_counted, parents_along}
+use Rattle.rstar.proofs.Insertion.{all_elements-append, all_elements-single, elements_along, bag_of_set, tree_of, whole_of_kept, inner_of_fit, none_roomy, child_room}
 
 module _ {T E : Type 0} where
   -- the last leaf of a list leaves it and goes into the tree
@@ -29,67 +28,62 @@ module _ {T E : Type 0} where
       IsPermutation-trans start ((old ++ all_elements rest) ++ t ∷ []) (new ++ all_elements rest) (subst (IsPermutation start) moved before)
       (IsPermutation-trans ((old ++ all_elements rest) ++ t ∷ []) (t ∷ old ++ all_elements rest) (new ++ all_elements rest) (IsPermutation-to_front (old ++ all_elements rest) t) (IsPermutation-append_left (all_elements rest) (t ∷ old) new step))
 
-module _ {T E : Type 0} (Q : ParentNode T E → Type 0) (R : T → Type 0) where
-  -- leaves are no parents
-  pub no_parents : (ns : List (RTreeNode T E)) → AreTrees Q R 0 ns → all_parents ns ≡ 0
-  no_parents [] trees = refl
-  no_parents (n ∷ ns) trees =
-      let leaf = is_leaf R n trees.0 in
-      let here = ap parents leaf.1 ∙ parents-Leaf T E leaf.0 in
-      let both = sum_by-cons parents n ns in
-      let rest = no_parents ns trees.1 in omega (arith, here, both, rest)
+module _ {T E : Type 0} (count : ℕ) where
+  -- a lowest parent, where the list of what was handed out has room, or gave it to the parent
+  pub lowest_left : (h : ℕ) (a b : ParentNode T E) (handed : ℕ) → h ≡ 0 → has_room count a.children + 1 ≤ has_room count b.children + handed → roomy_of count h a + 1 ≤ roomy_of count h b + handed
+  lowest_left zero a b handed low room =
+      let none = none_roomy count a.children.items in let none' = none_roomy count b.children.items in omega (arith, room, none, none')
+  lowest_left (suc h) a b handed low room = absurd (omega (arith, low))
 
-  -- a lowest parent has none below it, after a leaf came in and some went
-  pub leaf_left : (h : ℕ) (t : T) (old new out : List (RTreeNode T E)) → h ≡ 0 → AreTrees Q R h old → IsPermutation (old ++ Leaf t ∷ []) (new ++ out)
-      → all_parents new ≡ all_parents old
-  leaf_left h t old new out low trees same =
-      let none = no_parents old (subst (λ (n : ℕ). AreTrees Q R n old) low trees) in
-      let leaf = leaf_counted old t in
-      let along = parents_along (old ++ Leaf t ∷ []) (new ++ out) same in
-      let both = all_parents-append new out in omega (arith, none, leaf, along, both)
+  -- a child, below which that was so
+  pub child_left : (h : ℕ) (old : List (RTreeNode T E)) (i : ℕ) (a b : ParentNode T E) (handed : ℕ) → 0 < h → i < length old → Parent a ≡ get_or old i (Parent a)
+      → roomy_of count (h - 1) a + 1 ≤ roomy_of count (h - 1) b + handed → all_roomy count h old + 1 ≤ all_roomy count h (set old i (Parent b)) + handed
+  child_left h old i a b handed above below is room =
+      let all : 1 + all_roomy count h old ≤ handed + all_roomy count h (set old i (Parent b)) = rw append-nil at (child_room count h old i a b None 1 handed above below is (omega (arith, room))) in
+      omega (arith, all)
 
-module _ {T E : Type 0} (v : Boxes E) (o : Objects T E) (max widest : ℕ) where
+module _ {T E : Type 0} (v : Boxes E) (o : Objects T E) (widest : ℕ) where
   -- the last of some leaves
-  pub leaf_taken : (handed rest : List (RTreeNode T E)) (t : T) → handed ≡ rest ++ Leaf t ∷ [] → AreKept v o max widest 0 handed
-      → AreKept v o max widest 0 rest × IsElement v o t
+  pub leaf_taken : (handed rest : List (RTreeNode T E)) (t : T) → handed ≡ rest ++ Leaf t ∷ [] → AreKept v o widest 0 handed
+      → AreKept v o widest 0 rest × IsElement v o t
   leaf_taken handed rest t is all =
-      let parts = subst (AreKept v o max widest 0) is all in (
-        all_first (IsTree (IsKeptInner v o max widest) (IsElement v o) 0) rest (Leaf t ∷ []) parts,
-        leaf_of T E (IsElement v o) t (all_second (IsTree (IsKeptInner v o max widest) (IsElement v o) 0) rest (Leaf t ∷ []) parts).0,
+      let parts = subst (AreKept v o widest 0) is all in (
+        all_first (IsTree (IsKeptInner v o widest) (IsElement v o) 0) rest (Leaf t ∷ []) parts,
+        leaf_of T E (IsElement v o) t (all_second (IsTree (IsKeptInner v o widest) (IsElement v o) 0) rest (Leaf t ∷ []) parts).0,
       )
 
-  pub last_leaf : (handed rest : List (RTreeNode T E)) (n : RTreeNode T E) → handed ≡ rest ++ n ∷ [] → AreKept v o max widest 0 handed → (t : T) × (n ≡ Leaf t) × IsElement v o t
+  pub last_leaf : (handed rest : List (RTreeNode T E)) (n : RTreeNode T E) → handed ≡ rest ++ n ∷ [] → AreKept v o widest 0 handed → (t : T) × (n ≡ Leaf t) × IsElement v o t
   last_leaf handed rest n is all =
-      let parts = subst (AreKept v o max widest 0) is all in
-      is_leaf (IsElement v o) n (all_second (IsTree (IsKeptInner v o max widest) (IsElement v o) 0) rest (n ∷ []) parts).0
+      let parts = subst (AreKept v o widest 0) is all in
+      is_leaf (IsElement v o) n (all_second (IsTree (IsKeptInner v o widest) (IsElement v o) 0) rest (n ∷ []) parts).0
 
-module _ {T E : Type 0} {IsPoint : _} {v : Boxes E} {o : Objects T E} (laws : EnvelopeLaws IsPoint v) (ok : ObjectLaws v o) (max widest : ℕ) where
+module _ {T E : Type 0} {IsPoint : _} {v : Boxes E} {o : Objects T E} (laws : EnvelopeLaws IsPoint v) (ok : ObjectLaws v o) (widest : ℕ) where
   -- a lowest parent took a leaf in, and handed some out
   pub leaf_handed : (h : ℕ) (t : T) (old before out : List (RTreeNode T E)) (p : ParentNode T E) → h ≡ 0
-      → IsPermutation (t ∷ all_elements old) (all_elements before) → AreKept v o max widest h before → IsPermutation before (p.children.items ++ out) → HasMergedBox v o max widest p
-      → IsPermutation (t ∷ all_elements old) (all_elements p.children.items ++ all_elements out) × IsKeptTree v o max widest h p × AreKept v o max widest 0 out
+      → IsPermutation (t ∷ all_elements old) (all_elements before) → AreKept v o widest h before → IsPermutation before (p.children.items ++ out) → HasMergedBox v o widest p
+      → IsPermutation (t ∷ all_elements old) (all_elements p.children.items ++ all_elements out) × IsKeptTree v o widest h p × AreKept v o widest 0 out
   leaf_handed h t old before out p low bag trees same fit =
-      let parts = all_along (IsTree (IsKeptInner v o max widest) (IsElement v o) h) before (p.children.items ++ out) same trees in
-      let one = all_first (IsTree (IsKeptInner v o max widest) (IsElement v o) h) p.children.items out parts in
-      let two = all_second (IsTree (IsKeptInner v o max widest) (IsElement v o) h) p.children.items out parts in (
+      let parts = all_along (IsTree (IsKeptInner v o widest) (IsElement v o) h) before (p.children.items ++ out) same trees in
+      let one = all_first (IsTree (IsKeptInner v o widest) (IsElement v o) h) p.children.items out parts in
+      let two = all_second (IsTree (IsKeptInner v o widest) (IsElement v o) h) p.children.items out parts in (
         rw (← all_elements-append p.children.items out) (IsPermutation-trans _ _ _ bag (elements_along before (p.children.items ++ out) same)),
-        (inner_of_fit laws ok max widest h p one fit, one),
-        subst (λ (n : ℕ). AreKept v o max widest n out) low two,
+        (inner_of_fit laws ok widest h p one fit, one),
+        subst (λ (n : ℕ). AreKept v o widest n out) low two,
       )
 
   -- a child took an element in, and leaves were handed out below it
   pub child_handed : (h : ℕ) (t : T) (old : List (RTreeNode T E)) (i : ℕ) (a b : ParentNode T E) (out : List (RTreeNode T E))
-      → 0 < h → i < length old → Parent a ≡ get_or old i (Parent a) → AreKept v o max widest h old
-      → IsPermutation (t ∷ all_elements a.children.items) (all_elements b.children.items ++ all_elements out) → IsKeptTree v o max widest (h - 1) b
-      → IsPermutation (t ∷ all_elements old) (all_elements (set old i (Parent b)) ++ all_elements out) × AreKept v o max widest h (set old i (Parent b))
+      → 0 < h → i < length old → Parent a ≡ get_or old i (Parent a) → AreKept v o widest h old
+      → IsPermutation (t ∷ all_elements a.children.items) (all_elements b.children.items ++ all_elements out) → IsKeptTree v o widest (h - 1) b
+      → IsPermutation (t ∷ all_elements old) (all_elements (set old i (Parent b)) ++ all_elements out) × AreKept v o widest h (set old i (Parent b))
   child_handed h t old i a b out above below is trees bag first = (
     bag_of_set t old i (Parent a) (Parent b) (all_elements out) below (rw (← is, elements-Parent a, elements-Parent b) bag),
-    all_set (IsTree (IsKeptInner v o max widest) (IsElement v o) h) old i (Parent b) trees (tree_of (IsKeptInner v o max widest) (IsElement v o) h b above first.0 first.1),
+    all_set (IsTree (IsKeptInner v o widest) (IsElement v o) h) old i (Parent b) trees (tree_of (IsKeptInner v o widest) (IsElement v o) h b above first.0 first.1),
   )
 
   -- an envelope that was made anew from the children is the merge of the elements'
-  pub made_anew : (h : ℕ) (new : List (RTreeNode T E)) (e : E) → AreKept v o max widest h new → e ≡ hull v (node_box o.box_of) new → e ≡ hull v o.box_of (all_elements new)
-  made_anew h new e trees is = is ∙ merged_is_hull laws ok h new (whole_of_kept laws ok max widest h new trees)
+  pub made_anew : (h : ℕ) (new : List (RTreeNode T E)) (e : E) → AreKept v o widest h new → e ≡ hull v (node_box o.box_of) new → e ≡ hull v o.box_of (all_elements new)
+  made_anew h new e trees is = is ∙ merged_is_hull laws ok h new (whole_of_kept laws ok widest h new trees)
 
 module _ {T E : Type 0} (min max : ℕ) where
   -- what is left of a lowest parent's list is sized

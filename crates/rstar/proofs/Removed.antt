@@ -20,7 +20,7 @@ use Rattle.rstar.specs.Visits.{IsOneOf}
 use Rattle.rstar.specs.Taking.{IsPast, IsRestAt, Takes, Removes}
 use Rattle.rstar.proofs.Heights.{levels_are}
 use Rattle.rstar.proofs.Insertion.{whole_of_kept}
-use Rattle.rstar.proofs.WholeTrees.{all_kept, tree_kept, rooms_of}
+use Rattle.rstar.proofs.WholeTrees.{all_kept, tree_kept, narrow_of}
 use Rattle.rstar.proofs.Scans.{if_none, refused}
 
 pub one_less : {T : Type 0} (xs ys : List T) (r : Option T) → is_some r ≡ true → IsWithout xs r ys → length xs ≡ length ys + 1
@@ -46,13 +46,13 @@ bag_without xs ys (Some x) out =
 
 module _ {T E : Type 0} (v : Boxes E) (o : Objects T E) where
   -- the levels of what is left of a list: those that there were, or none
-  levels_left : (m w h : ℕ) (old new : List (RTreeNode T E)) (levels levels' : ℕ) → levels ≡ levels_below old → old ≢ [] → AreKept v o m w h old → AreKept v o m w h new
+  levels_left : (w h : ℕ) (old new : List (RTreeNode T E)) (levels levels' : ℕ) → levels ≡ levels_below old → old ≢ [] → AreKept v o w h old → AreKept v o w h new
       → (new ≡ [] → levels' ≡ 0) → (new ≢ [] → levels' ≡ levels) → levels' ≡ levels_below new
-  levels_left m w h old [] levels levels' is some k k' none_left some_left = none_left refl
-  levels_left m w h old (n ∷ ns) levels levels' is some k k' none_left some_left =
+  levels_left w h old [] levels levels' is some k k' none_left some_left = none_left refl
+  levels_left w h old (n ∷ ns) levels levels' is some k k' none_left some_left =
       some_left (λ none. cc) ∙ is ∙ levels_kept h old some k ∙ sym (levels_kept h (n ∷ ns) (λ none. cc) k') where
-        levels_kept : (h : ℕ) (l : List (RTreeNode T E)) → l ≢ [] → AreKept v o m w h l → levels_below l ≡ h
-        levels_kept h l full kept = levels_are (IsKeptInner v o m w) (IsElement v o) (λ q one none. let long = ap length none in absurd (omega (arith, long, one.1))) h l full kept
+        levels_kept : (h : ℕ) (l : List (RTreeNode T E)) → l ≢ [] → AreKept v o w h l → levels_below l ≡ h
+        levels_kept h l full kept = levels_are (IsKeptInner v o w) (IsElement v o) (λ q one none. let long = ap length none in absurd (omega (arith, long, one.1))) h l full kept
 
   low_left : (ns : List (RTreeNode T E)) (levels levels' : ℕ) → levels < 2 ^ 64 → (ns ≡ [] → levels' ≡ 0) → (ns ≢ [] → levels' ≡ levels) → levels' < 2 ^ 64
   low_left [] levels levels' low none_left some_left = let e = none_left refl in omega arith
@@ -68,32 +68,31 @@ module _ {T D E : Type 0} where
 module _ {T E : Type 0} {IsPoint : List ℤ → Type 0} {v : Boxes E} {o : Objects T E} (laws : EnvelopeLaws IsPoint v) (ok : ObjectLaws v o) (max : ℕ) {D P S X : Type 0} where
   -- the root of a whole tree with children, and what is below it, are kept
   pub kept_of : (tree : RTree T D E P S X) → IsWholeTree v o max tree → children_of (root_of tree) ≢ []
-      → (h : ℕ) × IsKept v o max tree.widest (root_of tree) × AreKept v o max tree.widest h (children_of (root_of tree))
+      → (h : ℕ) × IsKept v o tree.widest (root_of tree) × AreKept v o tree.widest h (children_of (root_of tree))
   unfolding IsWholeTree
   kept_of tree whole some =
       let h = whole.root_whole.height in (
         h,
-        record { tight = whole.root_whole.tight; roomy = record { narrow = whole.narrow; room = whole.root_room some } },
-        all_kept v o max tree.widest h (tree_kept v o max tree.widest h) (children_of (root_of tree)) whole.root_whole.below whole.rooms,
+        record { tight = whole.root_whole.tight; narrow = whole.narrow },
+        all_kept v o tree.widest h (tree_kept v o tree.widest h) (children_of (root_of tree)) whole.root_whole.below whole.narrow_below,
       )
 
   -- where they still are, the tree is whole
-  pub whole_still : (old new : RTree T D E P S X) → IsWholeTree v o max old → children_of (root_of old) ≢ [] → (h : ℕ) → AreKept v o max old.widest h (children_of (root_of old))
-      → IsKept v o max old.widest (root_of new) → AreKept v o max old.widest h (children_of (root_of new))
+  pub whole_still : (old new : RTree T D E P S X) → IsWholeTree v o max old → children_of (root_of old) ≢ [] → (h : ℕ) → AreKept v o old.widest h (children_of (root_of old))
+      → IsKept v o old.widest (root_of new) → AreKept v o old.widest h (children_of (root_of new))
       → new.widest ≡ old.widest → new.spares.items ≡ old.spares.items → new.overfull.items ≡ old.overfull.items → new.size ≡ length (elements_in new)
       → (children_of (root_of new) ≡ [] → new.levels ≡ 0) → (children_of (root_of new) ≢ [] → new.levels ≡ old.levels)
       → IsWholeTree v o max new
   unfolding IsWholeTree
   whole_still old new whole some h below root' below' same_widest same_spares same_overfull counted none_left some_left = record {
-    root_whole = record { height = h; tight = root'.tight; below = whole_of_kept laws ok max old.widest h (children_of (root_of new)) below' };
+    root_whole = record { height = h; tight = root'.tight; below = whole_of_kept laws ok old.widest h (children_of (root_of new)) below' };
     counted = counted;
-    leveled = levels_left v o max old.widest h (children_of (root_of old)) (children_of (root_of new)) old.levels new.levels whole.leveled some below below' none_left some_left;
+    leveled = levels_left v o old.widest h (children_of (root_of old)) (children_of (root_of new)) old.levels new.levels whole.leveled some below below' none_left some_left;
     low = low_left v o (children_of (root_of new)) old.levels new.levels whole.low none_left some_left;
     wide = rw same_widest whole.wide;
     wide_fits = rw same_widest whole.wide_fits;
-    narrow = rw same_widest root'.roomy.narrow;
-    root_room = λ _. root'.roomy.room;
-    rooms = rw same_widest (rooms_of v o max old.widest h (children_of (root_of new)) below');
+    narrow = rw same_widest root'.narrow;
+    narrow_below = rw same_widest (narrow_of v o old.widest h (children_of (root_of new)) below');
     spares = rw (same_widest, same_spares) whole.spares;
     none_over = same_overfull ∙ whole.none_over;
   }
@@ -103,7 +102,7 @@ module _ {T E : Type 0} {IsPoint : List ℤ → Type 0} {v : Boxes E} {o : Objec
   -- a removal below a root with children
   pub removes : (old new : RTree T D E P S X) (path path' : List ℕ) (rest rest' : Option (Rest E)) (r : Option T) → IsWholeTree v o max old → children_of (root_of old) ≢ []
       → Takes v o accepts selects (children_of (root_of old)) path rest r (children_of (root_of new)) path' rest'
-      → ((m w h : ℕ) → IsKept v o m w (root_of old) → AreKept v o m w h (children_of (root_of old)) → IsRestAt v o rest path (children_of (root_of old)) → IsKept v o m w (root_of new))
+      → ((w h : ℕ) → IsKept v o w (root_of old) → AreKept v o w h (children_of (root_of old)) → IsRestAt v o rest path (children_of (root_of old)) → IsKept v o w (root_of new))
       → IfNone r (new ≡ old)
       → new.widest ≡ old.widest → new.spares.items ≡ old.spares.items → new.overfull.items ≡ old.overfull.items → new.size ≡ length (elements_in new)
       → (children_of (root_of new) ≡ [] → new.levels ≡ 0) → (children_of (root_of new) ≢ [] → new.levels ≡ old.levels)
@@ -113,15 +112,15 @@ module _ {T E : Type 0} {IsPoint : List ℤ → Type 0} {v : Boxes E} {o : Objec
       let h = before.0 in
       let below = before.2 in
       record {
-        whole = λ at. whole_still laws ok max old new whole some h below (kept max old.widest h before.1 below at) (takes.whole max old.widest h below at)
+        whole = λ at. whole_still laws ok max old new whole some h below (kept old.widest h before.1 below at) (takes.whole old.widest h below at)
             same_widest same_spares same_overfull counted none_left some_left;
-        rests = λ at. takes.rests max old.widest h below at;
+        rests = λ at. takes.rests old.widest h below at;
         taken = takes.taken;
         selected = takes.selected;
         kept = same;
-        past = λ lawful past. takes.past lawful max old.widest h below past;
-        missed = if_none r (λ (missed : IsLawful v o accepts selects → (m w h : ℕ) → AreKept v o m w h (children_of (root_of old)) → IsPast selects path (children_of (root_of old)) → NoneSelected selects (elements_in old)).
-            λ lawful past. missed lawful max old.widest h below past) takes.missed;
+        past = λ lawful past. takes.past lawful old.widest h below past;
+        missed = if_none r (λ (missed : IsLawful v o accepts selects → (w h : ℕ) → AreKept v o w h (children_of (root_of old)) → IsPast selects path (children_of (root_of old)) → NoneSelected selects (elements_in old)).
+            λ lawful past. missed lawful old.widest h below past) takes.missed;
       }
 
   -- a root that is not opened, or that has no children

@@ -8,7 +8,7 @@ use Rattle.rstar.specs.declared.node.RTreeNode.TheBlock.{hidden-the_row-RTreeNod
 use Rattle.rstar.specs.declared.node.ParentNode.{ParentNode}
 use Rattle.rstar.specs.Walks.{steps}
 use Rattle.rstar.specs.Shown.{row_of, shown, leaf as shown_leaf, parent as shown_parent}
-use Rattle.rstar.specs.Nodes.{Layer, leaf_element, children_of, fold_tree, fold_row, joined, total, elements, parents, far, reach, given, all_reach, all_given, all_elements, all_parents, all_far, node_box, node_distance, IsLeafOf, IsParentOf, IsLeafLayer, IsParentLayer}
+use Rattle.rstar.specs.Nodes.{Layer, leaf_element, children_of, fold_tree, fold_row, joined, total, elements, parents, far, reach, given, all_reach, all_given, all_elements, all_parents, all_far, node_box, node_distance, of_parent, of_parent_layer, IsLeafOf, IsParentOf, IsLeafLayer, IsParentLayer}
 
 pub joined-map : {A B : Type 0} (f : A → List B) (xs : List A) → joined (map f xs) ≡ flat_map f xs
 joined-map f [] = refl
@@ -79,6 +79,10 @@ module _ {T E : Type 0} where
   pub IsParentOf-Parent : (Q : ParentNode T E → Type 0) (p : ParentNode T E) → Q p → IsParentOf Q (Parent p)
   unfolding IsParentOf
   IsParentOf-Parent Q p h = subst (IsParentLayer Q) (sym (outs-Parent p)) h
+
+  pub of_parent-Parent : (f : ParentNode T E → ℕ) (p : ParentNode T E) → of_parent f (Parent p) ≡ f p
+  unfolding of_parent
+  of_parent-Parent f p = ap (of_parent_layer f) (outs-Parent p)
 
   pub no_leaf : (Q : T → Type 0) (p : ParentNode T E) → IsLeafOf Q (Parent p) → ⊥
   unfolding IsLeafOf

@@ -1,5 +1,5 @@
 -- One scan of a list of nodes for the next selected element.
-use Rattle.std.proofs.Common.{◌≡◌, ℕ, ℤ, zero, suc, ◌+◌, ◌<◌, ◌≤◌, Bool, true, false, List, [], ◌∷◌, ◌++◌, refl, sym, ◌∙◌, ap, subst, arith, length, get_or, set, take, drop, replicate, ◌-◌, Option, Some, None, IfNone, is_some, length-set, filter, if◌then◌else◌, vec_len, vec_capacity}
+use Rattle.std.proofs.Common.{◌≡◌, ℕ, ℤ, zero, suc, ◌+◌, ◌<◌, ◌≤◌, Bool, true, false, List, [], ◌∷◌, ◌++◌, refl, sym, ◌∙◌, ap, subst, arith, length, get_or, set, take, drop, replicate, ◌-◌, Option, Some, None, IfNone, is_some, length-set, filter, if◌then◌else◌}
 use Rattle.std.specs.List.{AllByRecursion, remove}
 use Rattle.std.proofs.lemmas.List.{set-get_or, take-append-drop}
 use Rattle.std.proofs.lemmas.List.Edits.{length-remove}
@@ -27,9 +27,9 @@ use Rattle.rstar.proofs.Complete.{none-selected}
 use Rattle.rstar.proofs.Parts.{rest_none, rest_nothing, rest_itself, rest_lower, rest_here, rest_made, rest_stays, lower_length, take_removed, take_set}
 use Rattle.rstar.proofs.Parts.{drop_removed, drop_here, same_without, drop_set, drop_set_more, remove_set, without_middle, elements_split, elements_set, elements_removed, past_parts, past_made, past_zeros, past_nothing, all_take, all_drop, shorter_removed}
 
--- all leaves of the node lie h levels below it, its parents are tight and have room
-abbrev pub IsKeptNode : {T E : Type 0} → Boxes E → Objects T E → ℕ → ℕ → ℕ → RTreeNode T E → Type 0
-IsKeptNode v o m w h n = IsTree (IsKeptInner v o m w) (IsElement v o) h n
+-- all leaves of the node lie h levels below it, its parents are tight and within the bound
+abbrev pub IsKeptNode : {T E : Type 0} → Boxes E → Objects T E → ℕ → ℕ → RTreeNode T E → Type 0
+IsKeptNode v o w h n = IsTree (IsKeptInner v o w) (IsElement v o) h n
 
 abbrev elements_in_layer : {T E : Type 0} → Layer T E → List T
 elements_in_layer (layer.Leaf t) = t ∷ []
@@ -41,8 +41,8 @@ pub record Scanned {T E : Type 0} (v : Boxes E) (o : Objects T E) (accepts : E �
   pub same : cur ≡ old
   pub long : length path ≡ length start
   pub still : length start ≡ 0 → rest ≡ rest0
-  pub rests : (m w h : ℕ) → AreKept v o m w h old → IsRestAt v o rest0 start old → IsRestAt v o rest (with_first path p) cur
-  pub past : IsLawful v o accepts selects → (m w h : ℕ) → AreKept v o m w h old → IsPast selects start old
+  pub rests : (w h : ℕ) → AreKept v o w h old → IsRestAt v o rest0 start old → IsRestAt v o rest (with_first path p) cur
+  pub past : IsLawful v o accepts selects → (w h : ℕ) → AreKept v o w h old → IsPast selects start old
       → NoneSelected selects (all_elements (drop (length cur - p) cur)) × IsPast selects (lower_numbers path) (first_children (drop (length cur - suc p) cur))
 
 pub if_none : {A P Q : Type 0} (r : Option A) → (P → Q) → IfNone r P → IfNone r Q
@@ -105,20 +105,20 @@ module _ {T E : Type 0} where
   childless_parent : (p : ParentNode T E) → is_childless (Parent p) ≡ is_nil p.children.items
   childless_parent p = ap childless_in (outs-Parent p)
 
-  module _ (v : Boxes E) (o : Objects T E) (m w : ℕ) where
-    leaves_alone : (ns : List (RTreeNode T E)) → AreKept v o m w 0 ns → first_children ns ≡ []
+  module _ (v : Boxes E) (o : Objects T E) (w : ℕ) where
+    leaves_alone : (ns : List (RTreeNode T E)) → AreKept v o w 0 ns → first_children ns ≡ []
     leaves_alone [] k = refl
     leaves_alone (n ∷ ns) k = let l = is_leaf (IsElement v o) n k.0 in children_leaf n l.0 l.1
 
-    leaf_no_parent : (h : ℕ) (n : RTreeNode T E) (t : T) → n ≡ Leaf t → IsKeptNode v o m w (suc h) n → ⊥
-    leaf_no_parent h n t e k = no_parent _ t (subst (IsKeptNode v o m w (suc h)) e k)
+    leaf_no_parent : (h : ℕ) (n : RTreeNode T E) (t : T) → n ≡ Leaf t → IsKeptNode v o w (suc h) n → ⊥
+    leaf_no_parent h n t e k = no_parent _ t (subst (IsKeptNode v o w (suc h)) e k)
 
-    pub below_then : (A : Type 0) (h : ℕ) (p : ParentNode T E) → IsKeptNode v o m w h (Parent p) → ((h : ℕ) → IsKept v o m w p → AreKept v o m w h p.children.items → A) → A
+    pub below_then : (A : Type 0) (h : ℕ) (p : ParentNode T E) → IsKeptNode v o w h (Parent p) → ((h : ℕ) → IsKept v o w p → AreKept v o w h p.children.items → A) → A
     below_then A zero p k f = absurd (no_leaf _ p k)
     below_then A (suc h) p k f = let a = parent_of _ p k in f h a.0.0 a.1
 
-    pub whole_again : (h : ℕ) (p q : ParentNode T E) → ((h : ℕ) → IsKept v o m w p → AreKept v o m w h p.children.items → IsKept v o m w q × AreKept v o m w h q.children.items)
-        → IsKeptNode v o m w h (Parent p) → is_childless (Parent q) ≡ false → IsKeptNode v o m w h (Parent q)
+    pub whole_again : (h : ℕ) (p q : ParentNode T E) → ((h : ℕ) → IsKept v o w p → AreKept v o w h p.children.items → IsKept v o w q × AreKept v o w h q.children.items)
+        → IsKeptNode v o w h (Parent p) → is_childless (Parent q) ≡ false → IsKeptNode v o w h (Parent q)
     whole_again zero p q f k has = absurd (no_leaf _ p k)
     whole_again (suc h) p q f k has =
         let a = parent_of _ p k in let b = f h a.0.0 a.1 in
@@ -139,29 +139,29 @@ module _ {T E : Type 0} (v : Boxes E) (o : Objects T E) (accepts : E → Bool) (
   -- a parent that was opened
   pub entered : (p q : ParentNode T E) (path path' : List ℕ) (rest rest' : Option (Rest E)) (r : Option T)
       → Takes v o accepts selects p.children.items path rest r q.children.items path' rest'
-      → ((m w h : ℕ) → IsKept v o m w p → AreKept v o m w h p.children.items → IsRestAt v o rest path p.children.items → IsKept v o m w q) → IfNone r (q ≡ p)
+      → ((w h : ℕ) → IsKept v o w p → AreKept v o w h p.children.items → IsRestAt v o rest path p.children.items → IsKept v o w q) → IfNone r (q ≡ p)
       → TakesInside v o accepts selects (Parent p) path rest r (Parent q) path' rest'
   entered p q path path' rest rest' r takes kept same = record {
     taken = rw (elements-Parent p, elements-Parent q) takes.taken;
     selected = takes.selected;
-    whole = λ m w h k at has.
+    whole = λ w h k at has.
         let before : IsRestAt v o rest path p.children.items = subst (IsRestAt v o rest path) (children_parent p) at in
-        whole_again v o m w h p q (λ h' a b. (kept m w h' a b before, takes.whole m w h' b before)) k has;
-    rests = λ m w h k at.
+        whole_again v o w h p q (λ h' a b. (kept w h' a b before, takes.whole w h' b before)) k has;
+    rests = λ w h k at.
         let before : IsRestAt v o rest path p.children.items = subst (IsRestAt v o rest path) (children_parent p) at in
         subst (IsRestAt v o rest' path') (sym (children_parent q))
-        (below_then v o m w (IsRestAt v o rest' path' q.children.items) h p k (λ h' a b. takes.rests m w h' b before));
+        (below_then v o w (IsRestAt v o rest' path' q.children.items) h p k (λ h' a b. takes.rests w h' b before));
     still = takes.still;
     kept = if_none r (λ (e : q ≡ p). ap Parent e) same;
-    past = λ lawful m w h k past.
+    past = λ lawful w h k past.
         let before : IsPast selects path p.children.items = subst (IsPast selects path) (children_parent p) past in
         subst (IsPast selects path') (sym (children_parent q))
-        (below_then v o m w (IsPast selects path' q.children.items) h p k (λ h' a b. takes.past lawful m w h' b before));
-    missed = if_none r (λ (missed : IsLawful v o accepts selects → (m w h : ℕ) → AreKept v o m w h p.children.items → IsPast selects path p.children.items → NoneSelected selects (all_elements p.children.items)).
-        λ lawful m w h k past.
+        (below_then v o w (IsPast selects path' q.children.items) h p k (λ h' a b. takes.past lawful w h' b before));
+    missed = if_none r (λ (missed : IsLawful v o accepts selects → (w h : ℕ) → AreKept v o w h p.children.items → IsPast selects path p.children.items → NoneSelected selects (all_elements p.children.items)).
+        λ lawful w h k past.
         let before : IsPast selects path p.children.items = subst (IsPast selects path) (children_parent p) past in
         subst (λ (ns : List (RTreeNode T E)). NoneSelected selects (all_elements ns)) (sym (children_parent p))
-        (below_then v o m w (NoneSelected selects (all_elements p.children.items)) h p k (λ h' a b. missed lawful m w h' b before))) takes.missed;
+        (below_then v o w (NoneSelected selects (all_elements p.children.items)) h p k (λ h' a b. missed lawful w h' b before))) takes.missed;
   }
 
   -- a parent that was not opened
@@ -170,13 +170,13 @@ module _ {T E : Type 0} (v : Boxes E) (o : Objects T E) (accepts : E → Bool) (
   not_entered laws ok p path rest no_entry = record {
     taken = refl;
     selected = tt;
-    whole = λ m w h k at has. k;
-    rests = λ m w h k at. at;
+    whole = λ w h k at has. k;
+    rests = λ w h k at. at;
     still = λ none. refl;
     kept = refl;
-    past = λ lawful m w h k past. past;
-    missed = λ lawful m w h k past. subst (λ (ns : List (RTreeNode T E)). NoneSelected selects (all_elements ns)) (sym (children_parent p))
-        (below_then v o m w (NoneSelected selects (all_elements p.children.items)) h p k (λ h' a b. refused laws ok accepts selects lawful h' p a.tight (whole_of_kept laws ok m w h' p.children.items b) no_entry));
+    past = λ lawful w h k past. past;
+    missed = λ lawful w h k past. subst (λ (ns : List (RTreeNode T E)). NoneSelected selects (all_elements ns)) (sym (children_parent p))
+        (below_then v o w (NoneSelected selects (all_elements p.children.items)) h p k (λ h' a b. refused laws ok accepts selects lawful h' p a.tight (whole_of_kept laws ok w h' p.children.items b) no_entry));
   }
 
   -- below a place that ends, or where no envelope is kept
@@ -196,8 +196,8 @@ module _ {T E : Type 0} (v : Boxes E) (o : Objects T E) (accepts : E → Bool) (
     same = refl;
     long = refl;
     still = λ none. refl;
-    rests = λ m w h k at. subst (λ (q : ℕ). IsRestAt v o rest (with_first path q) ns) (sym e) (rest_itself v o rest path ns at);
-    past = λ lawful m w h k past.
+    rests = λ w h k at. subst (λ (q : ℕ). IsRestAt v o rest (with_first path q) ns) (sym e) (rest_itself v o rest path ns at);
+    past = λ lawful w h k past.
         subst (λ (q : ℕ). NoneSelected selects (all_elements (drop (length ns - q) ns)) × IsPast selects (lower_numbers path) (first_children (drop (length ns - suc q) ns))) (sym e) (past_parts selects path ns past);
   }
 
@@ -206,29 +206,29 @@ module _ {T E : Type 0} (v : Boxes E) (o : Objects T E) (accepts : E → Bool) (
     same_length : length cur ≡ length old
     same_length = ap length s.same
 
-    kept_now : (m w h : ℕ) → AreKept v o m w h old → AreKept v o m w h cur
-    kept_now m w h k = subst (AreKept v o m w h) (sym s.same) k
+    kept_now : (w h : ℕ) → AreKept v o w h old → AreKept v o w h cur
+    kept_now w h k = subst (AreKept v o w h) (sym s.same) k
 
     -- the node at i comes next
     module _ (i : ℕ) (next : length cur ≡ suc (i + p)) where
       within : i < length cur
       within = omega (arith, next)
 
-      without_one : (m w h : ℕ) → AreKept v o m w h cur → AreKept v o m w h (remove cur i)
-      without_one m w h k = all-append (IsKeptNode v o m w h) (take i cur) (drop (suc i) cur) (all_take (IsKeptNode v o m w h) i cur k) (all_drop (IsKeptNode v o m w h) (suc i) cur k)
+      without_one : (w h : ℕ) → AreKept v o w h cur → AreKept v o w h (remove cur i)
+      without_one w h k = all-append (IsKeptNode v o w h) (take i cur) (drop (suc i) cur) (all_take (IsKeptNode v o w h) i cur k) (all_drop (IsKeptNode v o w h) (suc i) cur k)
 
-      here_whole : (m w h : ℕ) (n : RTreeNode T E) → n ≡ get_or cur i n → AreKept v o m w h cur → IsKeptNode v o m w h n
-      here_whole m w h n here k = subst (IsKeptNode v o m w h) (sym here) (all_get (IsKeptNode v o m w h) cur i n within k)
+      here_whole : (w h : ℕ) (n : RTreeNode T E) → n ≡ get_or cur i n → AreKept v o w h cur → IsKeptNode v o w h n
+      here_whole w h n here k = subst (IsKeptNode v o w h) (sym here) (all_get (IsKeptNode v o w h) cur i n within k)
 
       -- beside a leaf stand leaves alone
-      beside_leaf : (m w h j : ℕ) (t : T) → Leaf t ≡ get_or cur i (Leaf t) → AreKept v o m w h cur → first_children (drop j (remove cur i)) ≡ []
-      beside_leaf m w zero j t here k = leaves_alone v o m w (drop j (remove cur i)) (all_drop (IsKeptNode v o m w 0) j (remove cur i) (without_one m w 0 k))
-      beside_leaf m w (suc h) j t here k = absurd (leaf_no_parent v o m w h (get_or cur i (Leaf t)) t (sym here) (all_get (IsKeptNode v o m w (suc h)) cur i (Leaf t) within k))
+      beside_leaf : (w h j : ℕ) (t : T) → Leaf t ≡ get_or cur i (Leaf t) → AreKept v o w h cur → first_children (drop j (remove cur i)) ≡ []
+      beside_leaf w zero j t here k = leaves_alone v o w (drop j (remove cur i)) (all_drop (IsKeptNode v o w 0) j (remove cur i) (without_one w 0 k))
+      beside_leaf w (suc h) j t here k = absurd (leaf_no_parent v o w h (get_or cur i (Leaf t)) t (sym here) (all_get (IsKeptNode v o w (suc h)) cur i (Leaf t) within k))
 
-      behind_here : IsLawful v o accepts selects → (m w h : ℕ) → AreKept v o m w h old → IsPast selects start old → NoneSelected selects (all_elements (drop (suc i) cur))
-      behind_here lawful m w h k past =
+      behind_here : IsLawful v o accepts selects → (w h : ℕ) → AreKept v o w h old → IsPast selects start old → NoneSelected selects (all_elements (drop (suc i) cur))
+      behind_here lawful w h k past =
           let at : length cur - p ≡ suc i = omega (arith, next) in
-          subst (λ (j : ℕ). NoneSelected selects (all_elements (drop j cur))) at (s.past lawful m w h k past).0
+          subst (λ (j : ℕ). NoneSelected selects (all_elements (drop j cur))) at (s.past lawful w h k past).0
 
       -- the nodes from i on, in a list without the node at i
       none_behind : NoneSelected selects (all_elements (drop (suc i) cur)) → NoneSelected selects (all_elements (drop (length (remove cur i) - p) (remove cur i)))
@@ -259,13 +259,13 @@ module _ {T E : Type 0} (v : Boxes E) (o : Objects T E) (accepts : E → Bool) (
           record {
             taken = record { before = all_elements (take i cur); after = all_elements (drop (suc i) cur); was = sym (ap all_elements s.same) ∙ parts; is = elements_removed cur i };
             selected = chosen;
-            whole = λ m w h k at. without_one m w h (kept_now m w h k);
-            rests = λ m w h k at. rest_made v o rest path p (remove cur i) (λ one. rest_removed rest (rest_here v o rest path p cur one (s.rests m w h k at)))
-                (subst (IsRestAt v o rest (lower_numbers path)) (sym (beside_leaf m w h (length (remove cur i) - suc p) t here (kept_now m w h k))) (rest_nothing v o rest (lower_numbers path)));
+            whole = λ w h k at. without_one w h (kept_now w h k);
+            rests = λ w h k at. rest_made v o rest path p (remove cur i) (λ one. rest_removed rest (rest_here v o rest path p cur one (s.rests w h k at)))
+                (subst (IsRestAt v o rest (lower_numbers path)) (sym (beside_leaf w h (length (remove cur i) - suc p) t here (kept_now w h k))) (rest_nothing v o rest (lower_numbers path)));
             still = s.still;
             shorter = omega arith;
-            past = λ lawful m w h k past. past_made selects path (remove cur i) p (none_behind (behind_here lawful m w h k past))
-                (subst (IsPast selects (lower_numbers path)) (sym (beside_leaf m w h (length (remove cur i) - suc p) t here (kept_now m w h k))) (past_nothing E selects (lower_numbers path)));
+            past = λ lawful w h k past. past_made selects path (remove cur i) p (none_behind (behind_here lawful w h k past))
+                (subst (IsPast selects (lower_numbers path)) (sym (beside_leaf w h (length (remove cur i) - suc p) t here (kept_now w h k))) (past_nothing E selects (lower_numbers path)));
             missed = tt;
           }
 
@@ -278,15 +278,15 @@ module _ {T E : Type 0} (v : Boxes E) (o : Objects T E) (accepts : E → Bool) (
         still_here : length start ≡ 0 → rest' ≡ rest0
         still_here none = same_rest (omega (arith, none, s.long)) ∙ s.still none
 
-        at_here : (m w h : ℕ) → AreKept v o m w h old → IsRestAt v o rest0 start old → IsRestAt v o rest (lower_numbers path) (node_children n)
-        at_here m w h k at =
+        at_here : (w h : ℕ) → AreKept v o w h old → IsRestAt v o rest0 start old → IsRestAt v o rest (lower_numbers path) (node_children n)
+        at_here w h k at =
             let spot : length cur - suc p ≡ i = omega (arith, next) in
             subst (λ (ns : List (RTreeNode T E)). IsRestAt v o rest (lower_numbers path) (first_children ns)) (drop_here cur i n within here)
-            (subst (λ (j : ℕ). IsRestAt v o rest (lower_numbers path) (first_children (drop j cur))) spot (rest_lower v o rest path p cur (s.rests m w h k at)))
+            (subst (λ (j : ℕ). IsRestAt v o rest (lower_numbers path) (first_children (drop j cur))) spot (rest_lower v o rest path p cur (s.rests w h k at)))
 
-        kept_here : (m w h : ℕ) → AreKept v o m w h old → IsRestAt v o rest0 start old → length path ≡ 1 → IsRest v o rest' p cur
-        kept_here m w h k at one =
-            subst (λ (z : Option (Rest E)). IsRest v o z p cur) (sym (same_rest (omega (arith, one)))) (rest_here v o rest path p cur one (s.rests m w h k at))
+        kept_here : (w h : ℕ) → AreKept v o w h old → IsRestAt v o rest0 start old → length path ≡ 1 → IsRest v o rest' p cur
+        kept_here w h k at one =
+            subst (λ (z : Option (Rest E)). IsRest v o z p cur) (sym (same_rest (omega (arith, one)))) (rest_here v o rest path p cur one (s.rests w h k at))
 
         -- what the list holds with n' in the place of n
         without_here : IsWithout (all_elements old) r (all_elements (set cur i n'))
@@ -296,11 +296,11 @@ module _ {T E : Type 0} (v : Boxes E) (o : Objects T E) (accepts : E → Bool) (
             (sym (elements_split cur i n within here) ∙ ap all_elements s.same) (sym (elements_set cur i n' within))
             (without_middle (all_elements (take i cur)) (elements n) (elements n') (all_elements (drop (suc i) cur)) r ins.taken)
 
-        below_here : IsLawful v o accepts selects → (m w h : ℕ) → AreKept v o m w h old → IsPast selects start old → IsPast selects (lower_numbers path) (node_children n)
-        below_here lawful m w h k past =
+        below_here : IsLawful v o accepts selects → (w h : ℕ) → AreKept v o w h old → IsPast selects start old → IsPast selects (lower_numbers path) (node_children n)
+        below_here lawful w h k past =
             let at : length cur - suc p ≡ i = omega (arith, next) in
             subst (λ (ns : List (RTreeNode T E)). IsPast selects (lower_numbers path) (first_children ns)) (drop_here cur i n within here)
-            (subst (λ (j : ℕ). IsPast selects (lower_numbers path) (first_children (drop j cur))) at (s.past lawful m w h k past).1)
+            (subst (λ (j : ℕ). IsPast selects (lower_numbers path) (first_children (drop j cur))) at (s.past lawful w h k past).1)
 
         -- something below it was given, and it stays
         pub gives_inside : is_some r ≡ true → is_childless n' ≡ false → Takes v o accepts selects old start rest0 r (set cur i n') (with_first path' p) rest'
@@ -311,19 +311,19 @@ module _ {T E : Type 0} (v : Boxes E) (o : Objects T E) (accepts : E → Bool) (
             record {
               taken = without_here;
               selected = ins.selected;
-              whole = λ m w h k kept. all_set (IsKeptNode v o m w h) cur i n' (kept_now m w h k) (ins.whole m w h (here_whole m w h n here (kept_now m w h k)) (at_here m w h k kept) has);
-              rests = λ m w h k kept. rest_made v o rest' path' p (set cur i n') (λ one. rest_set rest' n' p (omega arith) (kept_here m w h k kept (omega (arith, one, levels))))
+              whole = λ w h k kept. all_set (IsKeptNode v o w h) cur i n' (kept_now w h k) (ins.whole w h (here_whole w h n here (kept_now w h k)) (at_here w h k kept) has);
+              rests = λ w h k kept. rest_made v o rest' path' p (set cur i n') (λ one. rest_set rest' n' p (omega arith) (kept_here w h k kept (omega (arith, one, levels))))
                   (subst (λ (j : ℕ). IsRestAt v o rest' (lower_numbers path') (first_children (drop j (set cur i n')))) (sym spot)
                   (subst (λ (ns : List (RTreeNode T E)). IsRestAt v o rest' (lower_numbers path') (first_children ns)) (sym (drop_set cur i n' within))
-                  (ins.rests m w h (here_whole m w h n here (kept_now m w h k)) (at_here m w h k kept))));
+                  (ins.rests w h (here_whole w h n here (kept_now w h k)) (at_here w h k kept))));
               still = still_here;
               shorter = omega arith;
-              past = λ lawful m w h k past. past_made selects path' (set cur i n') p
+              past = λ lawful w h k past. past_made selects path' (set cur i n') p
                   (subst (λ (j : ℕ). NoneSelected selects (all_elements (drop j (set cur i n')))) (sym at)
-                  (subst (λ (ns : List (RTreeNode T E)). NoneSelected selects (all_elements ns)) (sym (drop_set_more cur i n' within)) (behind_here lawful m w h k past)))
+                  (subst (λ (ns : List (RTreeNode T E)). NoneSelected selects (all_elements ns)) (sym (drop_set_more cur i n' within)) (behind_here lawful w h k past)))
                   (subst (λ (j : ℕ). IsPast selects (lower_numbers path') (first_children (drop j (set cur i n')))) (sym spot)
                   (subst (λ (ns : List (RTreeNode T E)). IsPast selects (lower_numbers path') (first_children ns)) (sym (drop_set cur i n' within))
-                  (ins.past lawful m w h (here_whole m w h n here (kept_now m w h k)) (below_here lawful m w h k past))));
+                  (ins.past lawful w h (here_whole w h n here (kept_now w h k)) (below_here lawful w h k past))));
               missed = some_one _ r some;
             }
 
@@ -332,10 +332,10 @@ module _ {T E : Type 0} (v : Boxes E) (o : Objects T E) (accepts : E → Bool) (
         cleared_still : (rest'' : Option (Rest E)) → (length path' ≤ 1 → rest'' ≡ rest') → length start ≡ 0 → rest'' ≡ rest0
         cleared_still rest'' stay none = stay (omega (arith, none, s.long, levels)) ∙ still_here none
 
-        cleared_here : (rest'' : Option (Rest E)) → (length path' ≤ 1 → rest'' ≡ rest') → (m w h : ℕ) → AreKept v o m w h old → IsRestAt v o rest0 start old → length path' ≡ 1
+        cleared_here : (rest'' : Option (Rest E)) → (length path' ≤ 1 → rest'' ≡ rest') → (w h : ℕ) → AreKept v o w h old → IsRestAt v o rest0 start old → length path' ≡ 1
             → IsRest v o rest'' p cur
-        cleared_here rest'' stay m w h k at one =
-            subst (λ (z : Option (Rest E)). IsRest v o z p cur) (sym (stay (omega (arith, one)))) (kept_here m w h k at (omega (arith, one, levels)))
+        cleared_here rest'' stay w h k at one =
+            subst (λ (z : Option (Rest E)). IsRest v o z p cur) (sym (stay (omega (arith, one)))) (kept_here w h k at (omega (arith, one, levels)))
 
         pub gives_last : is_some r ≡ true → is_childless n' ≡ true → (path'' : List ℕ) (rest'' : Option (Rest E)) (d : ℕ) → lower_numbers path'' ≡ replicate d 0
             → length path'' ≡ length path' → (length path' ≤ 1 → rest'' ≡ rest') → (1 < length path' → rest'' ≡ None)
@@ -347,14 +347,14 @@ module _ {T E : Type 0} (v : Boxes E) (o : Objects T E) (accepts : E → Bool) (
                   (elements_set cur i n' within ∙ ap (λ (z : List T). all_elements (take i cur) ++ (z ++ all_elements (drop (suc i) cur))) (no_elements n' empty)
                   ∙ sym (elements_removed cur i) ∙ ap all_elements (sym (remove_set cur i n' within))) without_here;
               selected = ins.selected;
-              whole = λ m w h k kept. subst (AreKept v o m w h) (sym (remove_set cur i n' within)) (without_one m w h (kept_now m w h k));
-              rests = λ m w h k kept. subst (IsRestAt v o rest'' (with_first path'' p)) (sym (remove_set cur i n' within))
-                  (rest_made v o rest'' path'' p (remove cur i) (λ one. rest_removed rest'' (cleared_here rest'' stay m w h k kept (omega (arith, one, levels''))))
+              whole = λ w h k kept. subst (AreKept v o w h) (sym (remove_set cur i n' within)) (without_one w h (kept_now w h k));
+              rests = λ w h k kept. subst (IsRestAt v o rest'' (with_first path'' p)) (sym (remove_set cur i n' within))
+                  (rest_made v o rest'' path'' p (remove cur i) (λ one. rest_removed rest'' (cleared_here rest'' stay w h k kept (omega (arith, one, levels''))))
                   (rest_below path'' rest'' (λ more. gone (omega (arith, more, levels''))) (first_children (drop (length (remove cur i) - suc p) (remove cur i)))));
               still = cleared_still rest'' stay;
               shorter = omega arith;
-              past = λ lawful m w h k past. past_made selects path'' (remove (set cur i n') i) p
-                  (subst (λ (ns : List (RTreeNode T E)). NoneSelected selects (all_elements (drop (length ns - p) ns))) (sym (remove_set cur i n' within)) (none_behind (behind_here lawful m w h k past)))
+              past = λ lawful w h k past. past_made selects path'' (remove (set cur i n') i) p
+                  (subst (λ (ns : List (RTreeNode T E)). NoneSelected selects (all_elements (drop (length ns - p) ns))) (sym (remove_set cur i n' within)) (none_behind (behind_here lawful w h k past)))
                   (subst (λ (q : List ℕ). IsPast selects q (first_children (drop (length (remove (set cur i n') i) - suc p) (remove (set cur i n') i)))) (sym cleared)
                   (past_zeros selects d (first_children (drop (length (remove (set cur i n') i) - suc p) (remove (set cur i n') i)))));
               missed = some_one _ r some;
@@ -373,16 +373,16 @@ module _ {T E : Type 0} (v : Boxes E) (o : Objects T E) (accepts : E → Bool) (
               same = ap (λ z. set cur i z) ins.kept ∙ ap (set cur i) here ∙ set-get_or cur i n ∙ s.same;
               long = levels'' ∙ levels ∙ s.long;
               still = cleared_still n n' path' rest' None here ins levels rest'' stay;
-              rests = λ m w h k kept. rest_made v o rest'' path'' (p + 1) (set cur i n')
-                  (λ one. rest_set rest'' n' (p + 1) (omega arith) (cleared_here n n' path' rest' None here ins levels rest'' stay m w h k kept (omega (arith, one, levels''))))
+              rests = λ w h k kept. rest_made v o rest'' path'' (p + 1) (set cur i n')
+                  (λ one. rest_set rest'' n' (p + 1) (omega arith) (cleared_here n n' path' rest' None here ins levels rest'' stay w h k kept (omega (arith, one, levels''))))
                   (rest_below path'' rest'' (λ more. gone (omega (arith, more, levels''))) (first_children (drop (length (set cur i n') - suc (p + 1)) (set cur i n'))));
-              past = λ lawful m w h k past. (
+              past = λ lawful w h k past. (
                 subst (λ (j : ℕ). NoneSelected selects (all_elements (drop j (set cur i n')))) (sym at)
                     (subst (λ (ns : List (RTreeNode T E)). NoneSelected selects (all_elements ns)) (sym (drop_set cur i n' within))
                     (all-append (λ t. selects t ≡ false) (elements n') (all_elements (drop (suc i) cur))
                     (subst (NoneSelected selects) (sym ins.taken)
-                    (node_none selects n chosen (ins.missed lawful m w h (here_whole m w h n here (kept_now m w h k)) (below_here n n' path' rest' None here ins levels lawful m w h k past))))
-                    (behind_here lawful m w h k past))),
+                    (node_none selects n chosen (ins.missed lawful w h (here_whole w h n here (kept_now w h k)) (below_here n n' path' rest' None here ins levels lawful w h k past))))
+                    (behind_here lawful w h k past))),
                 subst (λ (q : List ℕ). IsPast selects q (first_children (drop (length (set cur i n') - suc (p + 1)) (set cur i n')))) (sym cleared)
                     (past_zeros selects d (first_children (drop (length (set cur i n') - suc (p + 1)) (set cur i n')))),
               );
@@ -406,16 +406,16 @@ module _ {T E : Type 0} (v : Boxes E) (o : Objects T E) (accepts : E → Bool) (
         record {
           taken = ap all_elements s.same;
           selected = tt;
-          whole = λ m w h k kept. kept_now m w h k;
-          rests = λ m w h k kept. rest_made v o rest path e cur (λ one. rest_past rest e cur (omega (arith, at_end)))
-              (subst (λ (j : ℕ). IsRestAt v o rest (lower_numbers path) (first_children (drop j cur))) (sym below) (rest_lower v o rest path p cur (s.rests m w h k kept)));
+          whole = λ w h k kept. kept_now w h k;
+          rests = λ w h k kept. rest_made v o rest path e cur (λ one. rest_past rest e cur (omega (arith, at_end)))
+              (subst (λ (j : ℕ). IsRestAt v o rest (lower_numbers path) (first_children (drop j cur))) (sym below) (rest_lower v o rest path p cur (s.rests w h k kept)));
           still = s.still;
           shorter = omega arith;
-          past = λ lawful m w h k past. past_made selects path cur e
-              (subst (λ (j : ℕ). NoneSelected selects (all_elements (drop j cur))) (sym behind) (s.past lawful m w h k past).0)
-              (subst (λ (j : ℕ). IsPast selects (lower_numbers path) (first_children (drop j cur))) (sym below) (s.past lawful m w h k past).1);
-          missed = λ lawful m w h k past. subst (NoneSelected selects) (ap all_elements s.same)
-              (subst (λ (j : ℕ). NoneSelected selects (all_elements (drop j cur))) all (s.past lawful m w h k past).0);
+          past = λ lawful w h k past. past_made selects path cur e
+              (subst (λ (j : ℕ). NoneSelected selects (all_elements (drop j cur))) (sym behind) (s.past lawful w h k past).0)
+              (subst (λ (j : ℕ). IsPast selects (lower_numbers path) (first_children (drop j cur))) (sym below) (s.past lawful w h k past).1);
+          missed = λ lawful w h k past. subst (NoneSelected selects) (ap all_elements s.same)
+              (subst (λ (j : ℕ). NoneSelected selects (all_elements (drop j cur))) all (s.past lawful w h k past).0);
         }
 
 -- a step after which what is kept was written once more
@@ -427,7 +427,7 @@ along v o accepts selects old new path path' rest rest' rest'' r takes levels re
   taken = takes.taken;
   selected = takes.selected;
   whole = takes.whole;
-  rests = λ m w h k before. rests (takes.rests m w h k before);
+  rests = λ w h k before. rests (takes.rests w h k before);
   still = λ none. still (omega (arith, none, levels)) ∙ takes.still none;
   shorter = takes.shorter;
   past = takes.past;
@@ -449,25 +449,21 @@ module _ {T E : Type 0} {IsPoint : List ℤ → Type 0} {v : Boxes E} (laws : En
       ∙ ap (hull v (node_box o.box_of)) (ap (λ (l : List (RTreeNode T E)). take rest.count ns ++ l) behind ∙ take-append-drop rest.count ns)
 
 -- a parent whose list lost some children, and whose envelope was made anew, is kept
-module _ {T E : Type 0} {IsPoint : List ℤ → Type 0} {v : Boxes E} {o : Objects T E} (laws : EnvelopeLaws IsPoint v) (ok : ObjectLaws v o) (m w : ℕ) where
-  pub kept_anew : (h : ℕ) (p q : ParentNode T E) → IsKept v o m w p → AreKept v o m w h q.children.items → length q.children.items ≤ length p.children.items
-      → vec_len q.children ≡ length q.children.items → vec_len p.children ≡ length p.children.items → vec_capacity q.children ≡ vec_capacity p.children
-      → q.envelope ≡ hull v (node_box o.box_of) q.children.items → IsKept v o m w q
-  kept_anew h p q kept below short ql pl same made =
-      let narrow = kept.roomy.narrow in let room = kept.roomy.room in
-      record {
-        tight = made ∙ merged_is_hull laws ok h q.children.items (whole_of_kept laws ok m w h q.children.items below);
-        roomy = record { narrow = omega arith; room = omega arith };
-      }
+module _ {T E : Type 0} {IsPoint : List ℤ → Type 0} {v : Boxes E} {o : Objects T E} (laws : EnvelopeLaws IsPoint v) (ok : ObjectLaws v o) (w : ℕ) where
+  pub kept_anew : (h : ℕ) (p q : ParentNode T E) → IsKept v o w p → AreKept v o w h q.children.items → length q.children.items ≤ length p.children.items
+      → q.envelope ≡ hull v (node_box o.box_of) q.children.items → IsKept v o w q
+  kept_anew h p q kept below short made = record {
+    tight = made ∙ merged_is_hull laws ok h q.children.items (whole_of_kept laws ok w h q.children.items below);
+    narrow = omega (arith, short, kept.narrow);
+  }
 
   -- so is one whose envelope stayed, where the merge of its children's is what it was
-  pub kept_still : (h : ℕ) (p q : ParentNode T E) → IsKept v o m w p → AreKept v o m w h p.children.items → AreKept v o m w h q.children.items
-      → length q.children.items ≤ length p.children.items → vec_len q.children ≡ length q.children.items → vec_len p.children ≡ length p.children.items
-      → vec_capacity q.children ≡ vec_capacity p.children → q.envelope ≡ p.envelope
-      → hull v (node_box o.box_of) q.children.items ≡ hull v (node_box o.box_of) p.children.items → IsKept v o m w q
-  kept_still h p q kept before below short ql pl same stayed hulls =
-      kept_anew h p q kept below short ql pl same
-      (stayed ∙ kept.tight ∙ sym (merged_is_hull laws ok h p.children.items (whole_of_kept laws ok m w h p.children.items before)) ∙ sym hulls)
+  pub kept_still : (h : ℕ) (p q : ParentNode T E) → IsKept v o w p → AreKept v o w h p.children.items → AreKept v o w h q.children.items
+      → length q.children.items ≤ length p.children.items → q.envelope ≡ p.envelope
+      → hull v (node_box o.box_of) q.children.items ≡ hull v (node_box o.box_of) p.children.items → IsKept v o w q
+  kept_still h p q kept before below short stayed hulls =
+      kept_anew h p q kept below short
+      (stayed ∙ kept.tight ∙ sym (merged_is_hull laws ok h p.children.items (whole_of_kept laws ok w h p.children.items before)) ∙ sym hulls)
 
 -- a merge with another item of the same envelope in the place of one
 pub hull_set : {A E : Type 0} (v : Boxes E) (f : A → E) (xs : List A) (i : ℕ) (n n' : A) → i < length xs → n ≡ get_or xs i n → f n' ≡ f n

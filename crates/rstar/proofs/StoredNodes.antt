@@ -17,7 +17,7 @@ use Rattle.rstar.specs.Nodes.{elements, elements_of, all_elements, node_box, IsE
 use Rattle.rstar.specs.Shapes.{AreTrees}
 use Rattle.rstar.specs.Shown.{shown, shown_root, parent, end, row_of}
 use Rattle.rstar.specs.Meets.{shown_box}
-use Rattle.rstar.specs.Kept.{HasRoom, IsKeptInner, IsKeptTree, AreKept}
+use Rattle.rstar.specs.Kept.{IsKeptInner, IsKeptTree, AreKept}
 use Rattle.rstar.specs.declared.stored.StoredError.TheVariants.{BadBox, BadCount}
 use Rattle.rstar.specs.StoredReading.{Read, number_at, point_at, leaf_at, each_at, children_at, parent_at, node_at, has_corners, root_at, ended}
 use Rattle.rstar.specs.Stored.{Place, Box, Tree, low, high, boxes, places, coordinate, merge_of, points_of}
@@ -25,13 +25,13 @@ use Rattle.rstar.proofs.Rows.{elements-Leaf, elements-Parent, shown-Leaf, shown-
 use Rattle.rstar.proofs.Insertion.{trees_map, inner_of_fit, all_elements-append, all_elements-single}
 use Rattle.rstar.proofs.PairRows.{shown-box, folded-row}
 
-module _ {T E : Type 0} (v : Boxes E) (o : Objects T E) (max : ℕ) where
-  pub kept_wider : (w w' h : ℕ) (ns : List (RTreeNode T E)) → w ≤ w' → AreKept v o max w h ns → AreKept v o max w' h ns
-  kept_wider w w' h ns le = trees_map (λ p k. (record { tight = k.0.tight; roomy = record { narrow = let few = k.0.roomy.narrow in omega (arith, few, le); room = k.0.roomy.room } }, k.1)) (λ t k. k) h ns
+module _ {T E : Type 0} (v : Boxes E) (o : Objects T E) where
+  pub kept_wider : (w w' h : ℕ) (ns : List (RTreeNode T E)) → w ≤ w' → AreKept v o w h ns → AreKept v o w' h ns
+  kept_wider w w' h ns le = trees_map (λ p k. (record { tight = k.0.tight; narrow = let few = k.0.narrow in omega (arith, few, le) }, k.1)) (λ t k. k) h ns
 
   -- one node more
-  pub kept_push : (w w' h : ℕ) (old new : List (RTreeNode T E)) (n : RTreeNode T E) → w ≤ w' → new ≡ old ++ n ∷ [] → AreKept v o max w h old → AreKept v o max w' h (n ∷ []) → AreKept v o max w' h new
-  kept_push w w' h old new n le is before one = subst (λ ns. AreKept v o max w' h ns) (sym is) (all-append (IsTree (IsKeptInner v o max w') (IsElement v o) h) old (n ∷ []) (kept_wider w w' h old le before) one)
+  pub kept_push : (w w' h : ℕ) (old new : List (RTreeNode T E)) (n : RTreeNode T E) → w ≤ w' → new ≡ old ++ n ∷ [] → AreKept v o w h old → AreKept v o w' h (n ∷ []) → AreKept v o w' h new
+  kept_push w w' h old new n le is before one = subst (λ ns. AreKept v o w' h ns) (sym is) (all-append (IsTree (IsKeptInner v o w') (IsElement v o) h) old (n ∷ []) (kept_wider w w' h old le before) one)
 
 -- one node more, and its elements
 pub points_push : {T E : Type 0} (old new : List (RTreeNode T E)) (n : RTreeNode T E) (was now next : ℕ) → new ≡ old ++ n ∷ [] → now ≡ was + length (all_elements old) → next ≡ now + length (elements n) → next ≡ was + length (all_elements new)
@@ -83,11 +83,11 @@ leaf_read (suc h) bytes p rest none e = absurd (omega (arith, none))
 
 module _ where
   -- a parent of such nodes, under the merge of their boxes
-  pub parent_kept : (max w w' h : ℕ) (p : ParentNode Place Box) → w ≤ w' → length p.children.items ≤ w' → 0 < length p.children.items → p.envelope ≡ hull boxes (node_box places.box_of) p.children.items
-      → HasRoom max p.children → AreKept boxes places max w h p.children.items → IsKeptTree boxes places max w' h p
-  parent_kept max w w' h p le few some merged room trees =
-      let kept = kept_wider boxes places max w w' h p.children.items le trees in
-      (inner_of_fit point_laws place_laws max w' h p kept (record { merged = merged; some = some; roomy = record { narrow = few; room = room } }), kept)
+  pub parent_kept : (w w' h : ℕ) (p : ParentNode Place Box) → w ≤ w' → length p.children.items ≤ w' → 0 < length p.children.items → p.envelope ≡ hull boxes (node_box places.box_of) p.children.items
+      → AreKept boxes places w h p.children.items → IsKeptTree boxes places w' h p
+  parent_kept w w' h p le few some merged trees =
+      let kept = kept_wider boxes places w w' h p.children.items le trees in
+      (inner_of_fit point_laws place_laws w' h p kept (record { merged = merged; some = some; narrow = few }), kept)
 
   -- ---- what reading gives
 

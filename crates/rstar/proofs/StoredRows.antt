@@ -1,5 +1,5 @@
 -- The format on its smallest rows, computed: the bytes of the empty tree, and those of the tree of one point.
-use Rattle.std.proofs.Common.{◌≡◌, ◌<◌, ◌≤◌, ℕ, ℤ, List, [], ◌∷◌, ◌++◌, refl, arith}
+use Rattle.std.proofs.Common.{ℕ, List, [], ◌∷◌, ◌++◌, refl, arith}
 use Rattle.std.specs.Prelude.{pos}
 use Rattle.rstar.specs.Shown.{leaf, parent, end, more}
 use Rattle.rstar.specs.Stored.{Tree, boxes, number, point, Spells}

@@ -56,8 +56,8 @@ module _ {T E : Type 0} where
 
 module _ {T E : Type 0} (v : Boxes E) (o : Objects T E) (accepts : E → Bool) (selects : T → Bool) where
   module _ (ns : List (RTreeNode T E)) (i : ℕ) (within : i < length ns) where
-    without_one : (m w h : ℕ) → AreKept v o m w h ns → AreKept v o m w h (remove ns i)
-    without_one m w h k = all-append (IsKeptNode v o m w h) (take i ns) (drop (suc i) ns) (all_take (IsKeptNode v o m w h) i ns k) (all_drop (IsKeptNode v o m w h) (suc i) ns k)
+    without_one : (w h : ℕ) → AreKept v o w h ns → AreKept v o w h (remove ns i)
+    without_one w h k = all-append (IsKeptNode v o w h) (take i ns) (drop (suc i) ns) (all_take (IsKeptNode v o w h) i ns k) (all_drop (IsKeptNode v o w h) (suc i) ns k)
 
     -- a leaf was taken
     pub takes_leaf : (t : T) → Leaf t ≡ get_or ns i (Leaf t) → selects t ≡ true → Takes v o accepts selects ns [] None (Some t) (remove ns i) [] None
@@ -69,11 +69,11 @@ module _ {T E : Type 0} (v : Boxes E) (o : Objects T E) (accepts : E → Bool) (
         is = elements_removed ns i;
       };
       selected = chosen;
-      whole = λ m w h k at. without_one m w h k;
-      rests = λ m w h k at. tt;
+      whole = λ w h k at. without_one w h k;
+      rests = λ w h k at. tt;
       still = λ none. refl;
       shorter = shorter_removed ns i;
-      past = λ lawful m w h k past. tt;
+      past = λ lawful w h k past. tt;
       missed = tt;
     }
 
@@ -86,11 +86,11 @@ module _ {T E : Type 0} (v : Boxes E) (o : Objects T E) (accepts : E → Bool) (
             (sym (elements_split ns i n within here)) (sym (elements_set ns i n' within))
             (without_middle (all_elements (take i ns)) (elements n) (elements n') (all_elements (drop (suc i) ns)) r ins.taken);
         selected = ins.selected;
-        whole = λ m w h k at. all_set (IsKeptNode v o m w h) ns i n' k (ins.whole m w h (subst (IsKeptNode v o m w h) (sym here) (all_get (IsKeptNode v o m w h) ns i n within k)) tt has);
-        rests = λ m w h k at. tt;
+        whole = λ w h k at. all_set (IsKeptNode v o w h) ns i n' k (ins.whole w h (subst (IsKeptNode v o w h) (sym here) (all_get (IsKeptNode v o w h) ns i n within k)) tt has);
+        rests = λ w h k at. tt;
         still = λ none. refl;
         shorter = omega (arith, length-set ns i n');
-        past = λ lawful m w h k past. tt;
+        past = λ lawful w h k past. tt;
         missed = some_one _ r some;
       }
 
@@ -102,11 +102,11 @@ module _ {T E : Type 0} (v : Boxes E) (o : Objects T E) (accepts : E → Bool) (
             (ap (λ (z : List T). all_elements (take i ns) ++ (z ++ all_elements (drop (suc i) ns))) (no_elements n' empty) ∙ sym (elements_removed ns i) ∙ ap all_elements (sym (remove_set ns i n' within)))
             (without_middle (all_elements (take i ns)) (elements n) (elements n') (all_elements (drop (suc i) ns)) r ins.taken);
         selected = ins.selected;
-        whole = λ m w h k at. subst (AreKept v o m w h) (sym (remove_set ns i n' within)) (without_one m w h k);
-        rests = λ m w h k at. tt;
+        whole = λ w h k at. subst (AreKept v o w h) (sym (remove_set ns i n' within)) (without_one w h k);
+        rests = λ w h k at. tt;
         still = λ none. refl;
         shorter = omega (arith, length-set ns i n', shorter_removed (set ns i n') i);
-        past = λ lawful m w h k past. tt;
+        past = λ lawful w h k past. tt;
         missed = some_one _ r some;
       }
 
@@ -116,11 +116,11 @@ module _ {T E : Type 0} (v : Boxes E) (o : Objects T E) (accepts : E → Bool) (
   takes_nothing laws ok ns nothing = record {
     taken = refl;
     selected = tt;
-    whole = λ m w h k at. k;
-    rests = λ m w h k at. tt;
+    whole = λ w h k at. k;
+    rests = λ w h k at. tt;
     still = λ none. refl;
     shorter = omega arith;
-    past = λ lawful m w h k past. tt;
-    missed = λ lawful m w h k past. filter_none selects (all_elements ns)
-        (sym (all-each laws ok accepts selects lawful h (all-node laws ok accepts selects lawful h) ns (whole_of_kept laws ok m w h ns k)) ∙ nothing);
+    past = λ lawful w h k past. tt;
+    missed = λ lawful w h k past. filter_none selects (all_elements ns)
+        (sym (all-each laws ok accepts selects lawful h (all-node laws ok accepts selects lawful h) ns (whole_of_kept laws ok w h ns k)) ∙ nothing);
   }

@@ -33,15 +33,15 @@ module _ {T E : Type 0} (v : Boxes E) (o : Objects T E) (accepts : E → Bool) (
       (held' : List T) : Type 0 where
     pub moved : Gathers selects most (all_elements old) held (all_elements new) held'
     pub shorter : length new ≤ length old
-    pub kept : (m w h : ℕ) → AreKept v o m w h old → AreKept v o m w h new
-    pub ended : IsLawful v o accepts selects → length held' < most → (m w h : ℕ) → AreKept v o m w h old
+    pub kept : (w h : ℕ) → AreKept v o w h old → AreKept v o w h new
+    pub ended : IsLawful v o accepts selects → length held' < most → (w h : ℕ) → AreKept v o w h old
         → NoneSelected selects (all_elements new)
 
   -- they left one node, which may be left without children
   pub record GathersInside (old : RTreeNode T E) (held : List T) (new : RTreeNode T E) (held' : List T)
       : Type 0 where
     pub moved : Gathers selects most (elements old) held (elements new) held'
-    pub kept : (m w h : ℕ) → IsTree (IsKeptInner v o m w) (IsElement v o) h old → is_childless new ≡ false
-        → IsTree (IsKeptInner v o m w) (IsElement v o) h new
+    pub kept : (w h : ℕ) → IsTree (IsKeptInner v o w) (IsElement v o) h old → is_childless new ≡ false
+        → IsTree (IsKeptInner v o w) (IsElement v o) h new
     pub ended : IsLawful v o accepts selects → is_selected_leaf selects old ≡ false → length held' < most
-        → (m w h : ℕ) → IsTree (IsKeptInner v o m w) (IsElement v o) h old → NoneSelected selects (elements new)
+        → (w h : ℕ) → IsTree (IsKeptInner v o w) (IsElement v o) h old → NoneSelected selects (elements new)

@@ -1,50 +1,54 @@
--- What an insertion keeps of a tree's parents beside their being whole: room in their lists.
-use Rattle.std.specs.Prelude.{
-  ◌≡◌,
-  ℕ,
-  ◌≤◌,
-  ◌<◌,
-  List,
-  [],
-  ◌∷◌,
-  length,
-  Option,
-  Some,
-  None,
-  IfSome,
-  Vec,
-  vec_len,
-  vec_capacity,
-}
+-- What an insertion keeps of a tree's parents beside their being whole: a bound on their children.
+use Rattle.std.specs.Prelude.{◌≡◌, ℕ, zero, suc, ◌+◌, ◌≤◌, ◌<◌, List, [], ◌∷◌, length, sum_by, nat_le, if◌then◌else◌, Option, Some, None, IfSome, Vec, vec_capacity}
 use Rattle.std.specs.declared.alloc.Global.{Global}
 use Rattle.rstar_base.specs.Envelopes.{Boxes}
 use Rattle.rstar_base.specs.Elements.{Objects}
 use Rattle.rstar_base.specs.Hulls.{hull}
 use Rattle.rstar.specs.declared.node.RTreeNode.{RTreeNode, Parent}
 use Rattle.rstar.specs.declared.node.ParentNode.{ParentNode}
-use Rattle.rstar.specs.Nodes.{node_box, IsElement, IsTight}
+use Rattle.rstar.specs.Nodes.{children_of, node_box, of_parent, IsElement, IsTight}
 use Rattle.rstar.specs.Shapes.{AreTrees, IsParentTree, IsAny, HasSize}
 
--- the list can hold `max` items
-abbrev pub HasRoom : {A : Type 0} → ℕ → Vec A Global → Type 0
-HasRoom max v = max ≤ vec_capacity v
-
--- at most `widest` children, and room for `max`
-pub record IsRoomy {T E : Type 0} (max widest : ℕ) (p : ParentNode T E) : Type 0 where
-  pub narrow : length p.children.items ≤ widest
-  pub room : HasRoom max p.children
+-- at most `widest` children
+abbrev pub IsNarrow : {T E : Type 0} → ℕ → ParentNode T E → Type 0
+IsNarrow widest p = length p.children.items ≤ widest
 
 -- an empty list that can hold so many items
 abbrev pub IsSpare : {A : Type 0} → ℕ → Vec A Global → Type 0
 IsSpare count v = (v.items ≡ []) × (count ≤ vec_capacity v)
 
+-- ---- lists with room
+
+-- 1 where the list can hold so many items, and 0 otherwise
+abbrev pub has_room : {A : Type 0} → ℕ → Vec A Global → ℕ
+has_room count v = if nat_le count (vec_capacity v) then 1 else 0
+
+-- how many parents have a list that can hold so many children, the node among them, which has its leaves this many levels
+-- below
+abbrev pub roomy : {T E : Type 0} → ℕ → ℕ → RTreeNode T E → ℕ
+roomy count zero n = 0
+roomy count (suc h) n = of_parent (λ p. has_room count p.children + sum_by (roomy count h) (children_of p)) n
+
+-- the same of several nodes
+abbrev pub all_roomy : {T E : Type 0} → ℕ → ℕ → List (RTreeNode T E) → ℕ
+all_roomy count h ns = sum_by (roomy count h) ns
+
+-- the same of a parent above such nodes
+abbrev pub roomy_of : {T E : Type 0} → ℕ → ℕ → ParentNode T E → ℕ
+roomy_of count h p = has_room count p.children + all_roomy count h (children_of p)
+
+-- the same of a parent that may be there
+abbrev pub second_roomy : {T E : Type 0} → ℕ → ℕ → Option (ParentNode T E) → ℕ
+second_roomy count h None = 0
+second_roomy count h (Some p) = roomy_of count h p
+
 -- ---- a parent while an element goes in
 
-module _ {T E : Type 0} (v : Boxes E) (o : Objects T E) (max widest : ℕ) where
-  -- tight, and roomy
+module _ {T E : Type 0} (v : Boxes E) (o : Objects T E) (widest : ℕ) where
+  -- tight, and not too wide
   pub record IsKept (p : ParentNode T E) : Type 0 where
     pub tight : IsTight v o p
-    pub roomy : IsRoomy max widest p
+    pub narrow : IsNarrow widest p
 
   -- the same of a parent that is not the root
   abbrev pub IsKeptInner : ParentNode T E → Type 0
@@ -54,15 +58,15 @@ module _ {T E : Type 0} (v : Boxes E) (o : Objects T E) (max widest : ℕ) where
   pub record HasMergedBox (p : ParentNode T E) : Type 0 where
     pub merged : p.envelope ≡ hull v (node_box o.box_of) p.children.items
     pub some : 0 < length p.children.items
-    pub roomy : IsRoomy max widest p
+    pub narrow : IsNarrow widest p
 
-module _ {T E : Type 0} (v : Boxes E) (o : Objects T E) (max widest : ℕ) where
+module _ {T E : Type 0} (v : Boxes E) (o : Objects T E) (widest : ℕ) where
   -- trees of such parents over elements
   abbrev pub AreKept : ℕ → List (RTreeNode T E) → Type 0
-  AreKept h ns = AreTrees (IsKeptInner v o max widest) (IsElement v o) h ns
+  AreKept h ns = AreTrees (IsKeptInner v o widest) (IsElement v o) h ns
 
   abbrev pub IsKeptTree : ℕ → ParentNode T E → Type 0
-  IsKeptTree h p = IsParentTree (IsKeptInner v o max widest) (IsElement v o) h p
+  IsKeptTree h p = IsParentTree (IsKeptInner v o widest) (IsElement v o) h p
 
 -- the children of a parent that may be there
 abbrev pub second_children : {T E : Type 0} → Option (ParentNode T E) → List (RTreeNode T E)

@@ -10,7 +10,7 @@ use Rattle.rstar.specs.declared.node.ParentNode.{ParentNode}
 use Rattle.rstar.specs.declared.node.RTreeNode.{RTreeNode}
 use Rattle.rstar.specs.Nodes.{elements, all_elements, elements_of, IsParentOf, IsElement, IsInner}
 use Rattle.rstar.specs.Shapes.{IsParentTree, IsAny}
-use Rattle.rstar.specs.Kept.{IsRoomy}
+use Rattle.rstar.specs.Kept.{IsNarrow}
 use Rattle.rstar.specs.Loaded.{IsPartSize, EndsAt, IsParted, IsCutAbove, HasSmallParent}
 
 -- the last n items of a list, and those in front of them
@@ -71,11 +71,11 @@ module _ {T E : Type 0} (key : T → ℕ → ℤ) (Good : RTreeNode T E → Type
         → IsPartSize c axis (min (div_ceil (length ts) c) (length ts - j * div_ceil (length ts) c)) m
         → HasNodeOf m added
 
--- a parent that a load made: whole, with room, cut, and not too wide at each of the parts where a way down ends
+-- a parent that a load made: whole, within the bound, cut, and not too wide at each of the parts where a way down ends
 pub record IsFresh {T E : Type 0} (v : Boxes E) (o : Objects T E) (most widest axes h : ℕ)
     (p : ParentNode T E) : Type 0 where
   pub whole : IsParentTree (IsInner v o) (IsElement v o) h p
-  pub roomy : IsParentTree (IsRoomy most widest) IsAny h p
+  pub narrow : IsParentTree (IsNarrow widest) IsAny h p
   pub cut : IsCutAbove (λ t axis. v.axis_key (o.box_of t) axis) most axes h p
   pub small : EndsAt most axes h (length (elements_of p)) → HasSmallParent most h p
 

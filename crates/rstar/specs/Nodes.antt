@@ -75,6 +75,14 @@ unfoldable pub given : {T E : Type 0} → (E → Bool) → (T → Bool) → RTre
 given accepts selects n = fold_tree (λ t. if selects t then t ∷ [] else [])
     (λ e below. if accepts e then joined below else []) n
 
+-- a number of a parent, and 0 of a leaf
+abbrev pub of_parent_layer : {T E : Type 0} → (ParentNode T E → ℕ) → Layer T E → ℕ
+of_parent_layer f (layer.Leaf t) = 0
+of_parent_layer f (layer.Parent p) = f p
+
+unfoldable pub of_parent : {T E : Type 0} → (ParentNode T E → ℕ) → RTreeNode T E → ℕ
+of_parent f n = of_parent_layer f (layer_of n)
+
 -- the element that a leaf is
 unfoldable pub leaf_element : {T E : Type 0} → RTreeNode T E → Option T
 leaf_element n = fold_tree (λ t. Some t) (λ e below. None) n

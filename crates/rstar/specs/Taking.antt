@@ -109,13 +109,13 @@ module _ {T E : Type 0} (v : Boxes E) (o : Objects T E) (accepts : E → Bool) (
       (new : List (RTreeNode T E)) (path' : List ℕ) (rest' : Option (Rest E)) : Type 0 where
     pub taken : IsWithout (all_elements old) given (all_elements new)
     pub selected : IfSome given (λ x. selects x ≡ true)
-    pub whole : (m w h : ℕ) → AreKept v o m w h old → IsRestAt v o rest path old → AreKept v o m w h new
-    pub rests : (m w h : ℕ) → AreKept v o m w h old → IsRestAt v o rest path old → IsRestAt v o rest' path' new
+    pub whole : (w h : ℕ) → AreKept v o w h old → IsRestAt v o rest path old → AreKept v o w h new
+    pub rests : (w h : ℕ) → AreKept v o w h old → IsRestAt v o rest path old → IsRestAt v o rest' path' new
     pub still : length path ≡ 0 → rest' ≡ rest
     pub shorter : length new ≤ length old
-    pub past : IsLawful v o accepts selects → (m w h : ℕ) → AreKept v o m w h old
+    pub past : IsLawful v o accepts selects → (w h : ℕ) → AreKept v o w h old
         → IsPast selects path old → IsPast selects path' new
-    pub missed : IfNone given (IsLawful v o accepts selects → (m w h : ℕ) → AreKept v o m w h old
+    pub missed : IfNone given (IsLawful v o accepts selects → (w h : ℕ) → AreKept v o w h old
         → IsPast selects path old → NoneSelected selects (all_elements old))
 
   -- what it does below one node, which may be left without children
@@ -123,17 +123,17 @@ module _ {T E : Type 0} (v : Boxes E) (o : Objects T E) (accepts : E → Bool) (
       (new : RTreeNode T E) (path' : List ℕ) (rest' : Option (Rest E)) : Type 0 where
     pub taken : IsWithout (elements old) given (elements new)
     pub selected : IfSome given (λ x. selects x ≡ true)
-    pub whole : (m w h : ℕ) → IsTree (IsKeptInner v o m w) (IsElement v o) h old
+    pub whole : (w h : ℕ) → IsTree (IsKeptInner v o w) (IsElement v o) h old
         → IsRestAt v o rest path (node_children old) → is_childless new ≡ false
-        → IsTree (IsKeptInner v o m w) (IsElement v o) h new
-    pub rests : (m w h : ℕ) → IsTree (IsKeptInner v o m w) (IsElement v o) h old
+        → IsTree (IsKeptInner v o w) (IsElement v o) h new
+    pub rests : (w h : ℕ) → IsTree (IsKeptInner v o w) (IsElement v o) h old
         → IsRestAt v o rest path (node_children old) → IsRestAt v o rest' path' (node_children new)
     pub still : length path ≡ 0 → rest' ≡ rest
     pub kept : IfNone given (new ≡ old)
-    pub past : IsLawful v o accepts selects → (m w h : ℕ) → IsTree (IsKeptInner v o m w) (IsElement v o) h old
+    pub past : IsLawful v o accepts selects → (w h : ℕ) → IsTree (IsKeptInner v o w) (IsElement v o) h old
         → IsPast selects path (node_children old) → IsPast selects path' (node_children new)
-    pub missed : IfNone given (IsLawful v o accepts selects → (m w h : ℕ)
-        → IsTree (IsKeptInner v o m w) (IsElement v o) h old → IsPast selects path (node_children old)
+    pub missed : IfNone given (IsLawful v o accepts selects → (w h : ℕ)
+        → IsTree (IsKeptInner v o w) (IsElement v o) h old → IsPast selects path (node_children old)
         → NoneSelected selects (all_elements (node_children old)))
 
 module _ {T D E P S X : Type 0} (v : Boxes E) (o : Objects T E) (max : ℕ) (accepts : E → Bool)

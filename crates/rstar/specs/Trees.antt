@@ -1,7 +1,7 @@
 -- What a tree shows, and what it keeps.
 -- T is the element's type, D the type of the node sizes, E its envelope's, P its point's, S its scalar's, X what a
 -- scalar's text is refused with.
-use Rattle.std.specs.Prelude.{◌≡◌, ◌≢◌, ◌+◌, ◌<◌, ◌≤◌, ◌^◌, ℕ, List, [], length}
+use Rattle.std.specs.Prelude.{◌≡◌, ◌+◌, ◌<◌, ◌≤◌, ◌^◌, ℕ, List, [], length}
 use Rattle.std.specs.List.{AllByRecursion}
 use Rattle.rstar_base.specs.Envelopes.{Boxes}
 use Rattle.rstar_base.specs.Elements.{Objects}
@@ -11,7 +11,7 @@ use Rattle.rstar.specs.Nodes.{children_of, elements_of, envelopes_of, IsWhole}
 use Rattle.rstar.specs.Shown.{shown_root, outline}
 use Rattle.rstar.specs.Shapes.{AreTrees, IsAny}
 use Rattle.rstar.specs.Heights.{levels_below}
-use Rattle.rstar.specs.Kept.{HasRoom, IsRoomy, IsSpare}
+use Rattle.rstar.specs.Kept.{IsNarrow, IsSpare}
 
 -- what `root` shows
 abbrev pub root_of : {T D E P S X : Type 0} → RTree T D E P S X → ParentNode T E
@@ -42,7 +42,7 @@ pub record HasSameOutline {T D E P S X : Type 0} (old new : RTree T D E P S X) :
   pub size : size_of new ≡ size_of old
 
 module _ {T D E P S X : Type 0} (v : Boxes E) (o : Objects T E) (max : ℕ) where
-  -- a whole root, whose elements and levels are counted; and the room that makes insertions safe, where `max` is the
+  -- a whole root, whose elements and levels are counted; and the bounds that make insertions safe, where `max` is the
   -- most children of a parent
   pub record WholeTree (tree : RTree T D E P S X) : Type 0 where
     pub root_whole : IsWhole v o (root_of tree)
@@ -53,11 +53,9 @@ module _ {T D E P S X : Type 0} (v : Boxes E) (o : Objects T E) (max : ℕ) wher
     -- no parent has more children than the tree's bound, which is at least `max` and can be counted past
     pub wide : max ≤ tree.widest
     pub wide_fits : tree.widest + 1 < 2 ^ 64
-    pub narrow : length (children_of (root_of tree)) ≤ tree.widest
-    -- each child list can hold `max` children, but that of an empty root
-    pub root_room : children_of (root_of tree) ≢ [] → HasRoom max tree.root.children
-    pub rooms : AreTrees (IsRoomy max tree.widest) IsAny root_whole.height (children_of (root_of tree))
-    -- and each spare list as many as the bound
+    pub narrow : IsNarrow tree.widest (root_of tree)
+    pub narrow_below : AreTrees (IsNarrow tree.widest) IsAny root_whole.height (children_of (root_of tree))
+    -- each spare list can hold as many as the bound
     pub spares : AllByRecursion (IsSpare tree.widest) tree.spares.items
     -- nothing is left of an overflow
     pub none_over : tree.overfull.items ≡ []

@@ -4,8 +4,8 @@ ghost use Rattle.std.specs.Prelude.{◌≡◌, ◌⊎◌, ◌∷◌, ◌+◌, �
 ghost use Rattle.std.specs.List.Sorted.{IsPermutation};
 ghost use Rattle.rstar.specs.Heights.{height_of, spare_lists};
 ghost use Rattle.rstar.specs.Insertions.{Inserts};
-ghost use Rattle.rstar.specs.Kept.{HasRoom, IsSpare};
-ghost use Rattle.rstar.specs.Nodes.{children_of, envelope_of, parents_of, IsWhole};
+ghost use Rattle.rstar.specs.Kept.{IsSpare, roomy_of};
+ghost use Rattle.rstar.specs.Nodes.{children_of, envelope_of, IsWhole};
 ghost use Rattle.rstar.specs.Shapes.{IsSized};
 ghost use Rattle.rstar.specs.Trees.{root_of, size_of, elements_in, IsUnchanged, IsWholeTree};
 
@@ -217,25 +217,19 @@ impl<T: RTreeObject, Params: RTreeParams> RTree<T, Params> {
         lists_wanted::<Params>(self.levels)
     }
 
-    /// Takes the memory of an insertion: so many spare lists, room in `overfull` for a child more than a parent has, and
-    /// room in an empty root's list.
+    /// Takes the memory of an insertion: so many spare lists, and room in `overfull` for a child more than a parent has.
     #[tactic(auto, unfolding(crate::specs::Trees::IsWholeTree))]
     pub(crate) fn prepare(&mut self, wanted: usize) -> Result<(), AllocError>
         requires whole { IsWholeTree T.Envelope.boxes T.object Params.MAX_SIZE self.old }
         ensures unchanged { IsUnchanged self.old self.new }
         ensures same { children_of (root_of self.new) ≡ children_of (root_of self.old) }
         ensures whole { IsWholeTree T.Envelope.boxes T.object Params.MAX_SIZE self.new }
-        ensures room { OnOk result (HasRoom Params.MAX_SIZE self.new.root.children) }
         ensures spares { OnOk result (vec_len self.new.spares ≡ max (vec_len self.old.spares) wanted) }
         ensures overfull { OnOk result (IsSpare (self.new.widest + 1) self.new.overfull) }
     {
         let alloc = *self.root.children.allocator();
         top_up(&mut self.spares, wanted, self.widest, alloc)?;
-        self.overfull.reserve(self.widest + 1)?;
-        if self.root.children.is_empty() {
-            self.root.children.reserve(Params::MAX_SIZE)?;
-        }
-        Ok(())
+        self.overfull.reserve(self.widest + 1)
     }
 
     /// Inserts an element where the memory is prepared.
@@ -243,7 +237,6 @@ impl<T: RTreeObject, Params: RTreeParams> RTree<T, Params> {
     pub(crate) fn insert_prepared(&mut self, t: T)
         requires whole { IsWholeTree T.Envelope.boxes T.object Params.MAX_SIZE self.old }
         requires element { T.Envelope.boxes.is_empty (T.object.box_of t) ≡ false }
-        requires room { HasRoom Params.MAX_SIZE self.old.root.children }
         requires enough { spare_lists Params.REINSERTION_COUNT (height_of (root_of self.old))
             ≤ vec_len self.old.spares }
         requires overfull { IsSpare (self.old.widest + 1) self.old.overfull }
@@ -254,9 +247,9 @@ impl<T: RTreeObject, Params: RTreeParams> RTree<T, Params> {
         ensures sized { IsSized Params.MIN_SIZE Params.MAX_SIZE (root_of self.old)
             → IsSized Params.MIN_SIZE Params.MAX_SIZE (root_of self.new) }
 
-        // Each parent that is new took a spare list, and no other list is gone.
-        ensures made { vec_len self.old.spares + parents_of (root_of self.old)
-            ≡ vec_len self.new.spares + parents_of (root_of self.new) }
+        // No list with room for all that a parent may have is lost.
+        ensures room { vec_len self.old.spares + roomy_of self.old.widest self.old.levels (root_of self.old)
+            ≤ vec_len self.new.spares + roomy_of self.old.widest self.new.levels (root_of self.new) }
     {
         self.levels = insert_with_reinsertion::<_, Params>(
             &mut self.root,

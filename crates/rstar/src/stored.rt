@@ -7,7 +7,7 @@
 ghost use Rattle.std.specs.Prelude.{◌≡◌, ◌⊎◌, ◌++◌, Err, suc, ◌≢◌, IfErr, ◌∷◌, [], ◌≤◌, ◌<◌, ◌+◌, ◌*◌, ◌^◌, ℕ, length, map, IfOk, OnOk, vec_len};
 ghost use Rattle.rstar.specs.declared.node.RTreeNode.{Parent};
 ghost use Rattle.rstar.specs.declared.stored.StoredError.TheVariants.{NoMemory, TooHigh};
-ghost use Rattle.rstar.specs.Kept.{HasRoom, IsKeptTree, AreKept};
+ghost use Rattle.rstar.specs.Kept.{IsKeptTree, AreKept};
 ghost use Rattle.rstar.specs.Nodes.{IsTree, IsElement, IsInner, elements, all_elements, elements_of};
 ghost use Rattle.rstar.specs.Heights.{height_of};
 ghost use Rattle.rstar.specs.Shapes.{IsParentTree};
@@ -117,7 +117,7 @@ fn has_corners(envelope: &AABB<[i64; 2]>, lower: [i64; 2], upper: [i64; 2]) -> b
 /// children of a parent, and `points` by the points below.
 #[cycle(read)]
 #[tactic(auto, unfolding(crate::specs::StoredReading::node_at, crate::specs::StoredReading::leaf_at))]
-fn node_at<'a, Params: RTreeParams>(
+fn node_at<'a>(
     alloc: Global,
     bytes: &'a [u8],
     height: usize,
@@ -127,7 +127,7 @@ fn node_at<'a, Params: RTreeParams>(
     requires counted { widest.old + 1 < 2 ^ 64 }
     requires points { points.old + length bytes.now < 2 ^ 64 }
     ensures read { Gives (λ x. (shown x.0, x.1.now)) result (node_at height bytes.now) }
-    ensures kept { IfOk result (λ x. AreKept boxes places Params.MAX_SIZE widest.new height (x.0 ∷ [])) }
+    ensures kept { IfOk result (λ x. AreKept boxes places widest.new height (x.0 ∷ [])) }
     ensures wider { OnOk result (widest.old ≤ widest.new) }
     ensures counted { OnOk result (widest.new + 1 < 2 ^ 64) }
     ensures points { IfOk result (λ x. points.new ≡ points.old + length (elements x.0)) }
@@ -138,7 +138,7 @@ fn node_at<'a, Params: RTreeParams>(
         *points += 1;
         return Ok((RTreeNode::Leaf(point), rest));
     }
-    let (parent, rest) = parent_at::<Params>(alloc, bytes, height - 1, widest, points)?;
+    let (parent, rest) = parent_at(alloc, bytes, height - 1, widest, points)?;
     Ok((RTreeNode::Parent(parent), rest))
 }
 
@@ -147,7 +147,7 @@ fn node_at<'a, Params: RTreeParams>(
 /// The bytes that so many children need are there before memory is taken for them.
 #[cycle(read)]
 #[tactic(auto, unfolding(crate::specs::StoredReading::parent_at, crate::specs::StoredReading::children_at))]
-fn parent_at<'a, Params: RTreeParams>(
+fn parent_at<'a>(
     alloc: Global,
     bytes: &'a [u8],
     below: usize,
@@ -157,7 +157,7 @@ fn parent_at<'a, Params: RTreeParams>(
     requires counted { widest.old + 1 < 2 ^ 64 }
     requires points { points.old + length bytes.now < 2 ^ 64 }
     ensures read { Gives (λ x. (shown_root x.0, x.1.now)) result (parent_at (node_at below) bytes.now) }
-    ensures kept { IfOk result (λ x. IsKeptTree boxes places Params.MAX_SIZE widest.new below x.0) }
+    ensures kept { IfOk result (λ x. IsKeptTree boxes places widest.new below x.0) }
     ensures wider { OnOk result (widest.old ≤ widest.new) }
     ensures counted { OnOk result (widest.new + 1 < 2 ^ 64) }
     ensures points { IfOk result (λ x. points.new ≡ points.old + length (elements_of x.0)) }
@@ -172,14 +172,7 @@ fn parent_at<'a, Params: RTreeParams>(
     }
     let (lower, rest) = point_at(rest)?;
     let (upper, rest) = point_at(rest)?;
-    let (children, rest) = children_at::<Params>(
-        alloc,
-        rest,
-        count as usize,
-        below,
-        widest,
-        points,
-    )?;
+    let (children, rest) = children_at(alloc, rest, count as usize, below, widest, points)?;
     let envelope = envelope_for_children(&children);
     if !has_corners(&envelope, lower, upper) {
         return Err(StoredError::BadBox);
@@ -188,9 +181,9 @@ fn parent_at<'a, Params: RTreeParams>(
     Ok((ParentNode { children, envelope }, rest))
 }
 
-/// So many nodes with their leaves so many levels below, in a list with room for one more, and the bytes after them.
+/// So many nodes with their leaves so many levels below, and the bytes after them.
 #[cycle(read)]
-fn children_at<'a, Params: RTreeParams>(
+fn children_at<'a>(
     alloc: Global,
     bytes: &'a [u8],
     count: usize,
@@ -201,18 +194,17 @@ fn children_at<'a, Params: RTreeParams>(
     requires counted { widest.old + 1 < 2 ^ 64 }
     requires points { points.old + length bytes.now < 2 ^ 64 }
     ensures read { Gives (λ x. (map shown x.0.items, x.1.now)) result (each_at (node_at below) count bytes.now) }
-    ensures kept { IfOk result (λ x. AreKept boxes places Params.MAX_SIZE widest.new below x.0.items) }
+    ensures kept { IfOk result (λ x. AreKept boxes places widest.new below x.0.items) }
     ensures len { IfOk result (λ x. vec_len x.0 ≡ count) }
-    ensures room { IfOk result (λ x. HasRoom Params.MAX_SIZE x.0) }
     ensures wider { OnOk result (widest.old ≤ widest.new) }
     ensures counted { OnOk result (widest.new + 1 < 2 ^ 64) }
     ensures points { IfOk result (λ x. points.new ≡ points.old + length (all_elements x.0.items)) }
     ensures left { IfOk result (λ x. points.new + length x.1.now ≤ points.old + length bytes.now) }
 {
-    let mut children = Vec::with_capacity(alloc, count.max(Params::MAX_SIZE))?;
+    let mut children = Vec::with_capacity(alloc, count)?;
     let mut rest = bytes;
     for _ in 0..count {
-        let (node, after) = node_at::<Params>(alloc, rest, below, widest, points)?;
+        let (node, after) = node_at(alloc, rest, below, widest, points)?;
         children.push_reserved(node);
         rest = after;
     }
@@ -261,7 +253,7 @@ fn root_after<Params: RTreeParams>(
 {
     let mut widest = Params::MAX_SIZE;
     let mut points = 0;
-    let (root, rest) = parent_at::<Params>(alloc, bytes, below, &mut widest, &mut points)?;
+    let (root, rest) = parent_at(alloc, bytes, below, &mut widest, &mut points)?;
     if points as u64 != count {
         return Err(StoredError::BadCount);
     }

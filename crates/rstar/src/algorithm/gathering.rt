@@ -26,9 +26,9 @@ pub(crate) fn gather_below<T: Covered, R: Question<T>>(
     requires room { most ≤ vec_capacity taken.old }
     ensures gathers { GathersAmong T.Cover.boxes T.object (R.accepts func.now) (R.selects func.now) most
         (children_of node.old) taken.old.items (children_of node.new) taken.new.items }
-    ensures kept { (m w h : ℕ) → IsKept T.Cover.boxes T.object m w node.old
-        → AreKept T.Cover.boxes T.object m w h (children_of node.old)
-        → IsKept T.Cover.boxes T.object m w node.new }
+    ensures kept { (w h : ℕ) → IsKept T.Cover.boxes T.object w node.old
+        → AreKept T.Cover.boxes T.object w h (children_of node.old)
+        → IsKept T.Cover.boxes T.object w node.new }
     ensures capacity { vec_capacity taken.new ≡ vec_capacity taken.old }
 {
     let before = taken.len();

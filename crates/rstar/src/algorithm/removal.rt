@@ -44,10 +44,10 @@ pub(crate) fn take_below<T: Covered, R: Question<T>>(
 ) -> Option<T>
     ensures takes { Takes T.Cover.boxes T.object (R.accepts func.now) (R.selects func.now)
         node.old.children.items path.old rest.old result node.new.children.items path.new rest.new }
-    ensures kept { (m w h : ℕ) → IsKept T.Cover.boxes T.object m w node.old
-        → AreKept T.Cover.boxes T.object m w h node.old.children.items
+    ensures kept { (w h : ℕ) → IsKept T.Cover.boxes T.object w node.old
+        → AreKept T.Cover.boxes T.object w h node.old.children.items
         → IsRestAt T.Cover.boxes T.object rest.old path.old node.old.children.items
-        → IsKept T.Cover.boxes T.object m w node.new }
+        → IsKept T.Cover.boxes T.object w node.new }
     ensures same { IfNone result (node.new ≡ node.old) }
     ensures unchanged { changed.new ≡ false → node.new.envelope ≡ node.old.envelope }
 {

@@ -9,7 +9,6 @@ ghost use Rattle.rstar.specs.Shapes.{IsSized};
 ghost use Rattle.rstar.specs.Trees.{root_of, elements_in, IsUnchanged, IsWholeTree};
 ghost use Rattle.rstar.specs.Walks.{IsLevel};
 
-use crate::algorithm::bulk_load::parts::make_room;
 use crate::node::{ParentNode, RTreeNode};
 use crate::rtree::RTree;
 use rstar_base::envelope::{Envelope, copied_envelope};
@@ -50,7 +49,7 @@ impl<T: RTreeObject + Clone, Params: RTreeParams> RTree<T, Params> {
             → IfOk result (λ tree. IsLoaded T.Envelope.boxes T.object Params.MAX_SIZE T.Envelope.Point.DIMENSIONS
             (root_of tree)) }
     {
-        let root = cloned_parent::<T, Params>(&self.root)?;
+        let root = cloned_parent(&self.root)?;
         Ok(RTree {
             root,
             size: self.size,
@@ -65,10 +64,8 @@ impl<T: RTreeObject + Clone, Params: RTreeParams> RTree<T, Params> {
 
 /// The clone of a node, where all leaves lie on one level.
 #[cycle(clone)]
-fn cloned_node<T: RTreeObject + Clone, Params: RTreeParams>(
-    node: &RTreeNode<T>,
-) -> Result<RTreeNode<T>, AllocError>
-    ensures { (h : ℕ) → IsLevel h node.now → IfOk result (IsNodeClone T.is_clone Params.MAX_SIZE h node.now) }
+fn cloned_node<T: RTreeObject + Clone>(node: &RTreeNode<T>) -> Result<RTreeNode<T>, AllocError>
+    ensures { (h : ℕ) → IsLevel h node.now → IfOk result (IsNodeClone T.is_clone h node.now) }
 {
     match node {
         RTreeNode::Leaf(t) => {
@@ -76,7 +73,7 @@ fn cloned_node<T: RTreeObject + Clone, Params: RTreeParams>(
             Ok(RTreeNode::Leaf(element))
         }
         RTreeNode::Parent(parent) => {
-            let parent = cloned_parent::<T, Params>(parent)?;
+            let parent = cloned_parent(parent)?;
             Ok(RTreeNode::Parent(parent))
         }
     }
@@ -84,22 +81,16 @@ fn cloned_node<T: RTreeObject + Clone, Params: RTreeParams>(
 
 /// The clone of a parent, where all leaves lie on one level.
 #[cycle(clone)]
-fn cloned_parent<T: RTreeObject + Clone, Params: RTreeParams>(
+fn cloned_parent<T: RTreeObject + Clone>(
     parent: &ParentNode<T>,
 ) -> Result<ParentNode<T>, AllocError>
     ensures { (h : ℕ) → AllByRecursion (IsLevel h) (children_of parent.now)
-        → IfOk result (IsParentClone T.is_clone Params.MAX_SIZE h parent.now) }
+        → IfOk result (IsParentClone T.is_clone h parent.now) }
 {
-    let room = parent
-        .children
-        .len()
-        .max(Params::MAX_SIZE)
-        .saturating_add(1);
-    let mut children = Vec::with_capacity(*parent.children.allocator(), room)?;
+    let mut children = Vec::with_capacity(*parent.children.allocator(), parent.children.len())?;
     for node in parent.children.as_slice() {
-        children.push(cloned_node::<T, Params>(node)?)?;
+        children.push(cloned_node(node)?)?;
     }
-    make_room::<_, Params>(&mut children)?;
     Ok(ParentNode {
         children,
         envelope: copied_envelope(&parent.envelope),

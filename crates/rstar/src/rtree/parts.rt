@@ -22,7 +22,7 @@ impl<T: RTreeObject, Params: RTreeParams> RTree<T, Params> {
         levels: usize,
         widest: usize,
     ) -> Self
-        requires kept { IsKeptTree T.Envelope.boxes T.object Params.MAX_SIZE widest levels root }
+        requires kept { IsKeptTree T.Envelope.boxes T.object widest levels root }
         requires counted { size ≡ length (elements_of root) }
         requires wide { Params.MAX_SIZE ≤ widest }
         requires fits { widest + 1 < 2 ^ 64 }

@@ -13,18 +13,17 @@ use Rattle.rstar.proofs.StoredNodes.{leaf_counts, kept_push, points_push, shown_
 use Rattle.rstar.proofs.stored.+read.Goals as goal
 
 pub children_at-returns-in_err-node-clause-read : goal.children_at-returns-in_err-node-clause-read
-children_at-returns-in_err-node-clause-read g t c =
+children_at-returns-in_err-node-clause-read t c =
     let p = err_from_is_err_and c.from_residual-in_err-node.result c.from_residual-in_err-node.ensures.1 in
     rw (p.1, p.2) (ends (node_at c.args.below) c.in_err-node.field-0.0 (map shown c.loop.children.items) c.args.count c.loop.counter c.loop.rest.now _ c.loop-test.true c.in_err-node.ensures.read c.loop.invariant.read)
 
 pub children_at-loop-preserved : goal.children_at-loop-preserved
-children_at-loop-preserved g t c = record {
+children_at-loop-preserved t c = record {
   read = rw (shown_push c.loop.children.items _ c.in_ok-node.node c.push_reserved.ensures.items)
       (goes_on (node_at c.args.below) (map shown c.loop.children.items) c.args.count c.loop.counter c.loop.rest.now (shown c.in_ok-node.node) c.in_ok-node.after.now _ c.loop-test.true c.in_ok-node.ensures.read c.loop.invariant.read);
-  kept = kept_push boxes places g.Params.RTreeParams.MAX_SIZE c.loop.widest c.node_at.new.widest c.args.below c.loop.children.items _ c.in_ok-node.node c.in_ok-node.ensures.wider c.push_reserved.ensures.items c.loop.invariant.kept c.in_ok-node.ensures.kept;
+  kept = kept_push boxes places c.loop.widest c.node_at.new.widest c.args.below c.loop.children.items _ c.in_ok-node.node c.in_ok-node.ensures.wider c.push_reserved.ensures.items c.loop.invariant.kept c.in_ok-node.ensures.kept;
   len = search rules;
   room = search rules;
-  wide = search rules;
   wider = let a = c.in_ok-node.ensures.wider in let b = c.loop.invariant.wider in omega (arith, a, b);
   counted = c.in_ok-node.ensures.counted;
   points = points_push c.loop.children.items _ c.in_ok-node.node c.args.points.now c.loop.points c.node_at.new.points c.push_reserved.ensures.items c.loop.invariant.points c.in_ok-node.ensures.points;
@@ -32,42 +31,42 @@ children_at-loop-preserved g t c = record {
 }
 
 pub children_at-returns-clause-read : goal.children_at-returns-clause-read
-children_at-returns-clause-read g t c =
+children_at-returns-clause-read t c =
     is_done (node_at c.args.below) (map shown c.loop.children.items) c.args.count c.loop.counter c.loop.rest.now _ c.loop-test.false c.loop.invariant.read
 
 pub node_at-returns-then-height-eq0-clause-read : goal.node_at-returns-then-height-eq0-clause-read
-node_at-returns-then-height-eq0-clause-read g t c = leaf_read c.args.height c.args.bytes.now c.in_ok-point.point c.in_ok-point.rest.now c.if-height-eq0.true c.in_ok-point.ensures.read
+node_at-returns-then-height-eq0-clause-read t c = leaf_read c.args.height c.args.bytes.now c.in_ok-point.point c.in_ok-point.rest.now c.if-height-eq0.true c.in_ok-point.ensures.read
 
 pub node_at-returns-then-height-eq0-clause-kept : goal.node_at-returns-then-height-eq0-clause-kept
-node_at-returns-then-height-eq0-clause-kept g t c = (
-  leaf_tree (IsKeptInner boxes places g.Params.RTreeParams.MAX_SIZE c.args.widest.now) (IsElement boxes places) c.args.height c.in_ok-point.point c.if-height-eq0.true
+node_at-returns-then-height-eq0-clause-kept t c = (
+  leaf_tree (IsKeptInner boxes places c.args.widest.now) (IsElement boxes places) c.args.height c.in_ok-point.point c.if-height-eq0.true
       (point_element c.in_ok-point.point (point_takes c.args.bytes.now _ (λ i. omega (arith, c.type_inv.bytes i)) c.in_ok-point.ensures.read).1),
   tt,
 )
 
 pub node_at-returns-then-height-eq0-clause-points : goal.node_at-returns-then-height-eq0-clause-points
-node_at-returns-then-height-eq0-clause-points g t c = leaf_counts _ _ c.in_ok-point.point c.args.points.now
+node_at-returns-then-height-eq0-clause-points t c = leaf_counts _ _ c.in_ok-point.point c.args.points.now
 
 pub node_at-returns-clause-read : goal.node_at-returns-clause-read
-node_at-returns-clause-read g t c = parent_read c.args.height c.args.bytes.now c.in_ok-parent.parent c.in_ok-parent.rest.now (omega (arith, c.if-height-eq0.false)) c.in_ok-parent.ensures.read
+node_at-returns-clause-read t c = parent_read c.args.height c.args.bytes.now c.in_ok-parent.parent c.in_ok-parent.rest.now (omega (arith, c.if-height-eq0.false)) c.in_ok-parent.ensures.read
 
 pub node_at-returns-clause-kept : goal.node_at-returns-clause-kept
-node_at-returns-clause-kept g t c =
-    (tree_of (IsKeptInner boxes places g.Params.RTreeParams.MAX_SIZE c.parent_at.new.widest) (IsElement boxes places) c.args.height c.in_ok-parent.parent (omega (arith, c.if-height-eq0.false)) c.in_ok-parent.ensures.kept.0 c.in_ok-parent.ensures.kept.1, tt)
+node_at-returns-clause-kept t c =
+    (tree_of (IsKeptInner boxes places c.parent_at.new.widest) (IsElement boxes places) c.args.height c.in_ok-parent.parent (omega (arith, c.if-height-eq0.false)) c.in_ok-parent.ensures.kept.0 c.in_ok-parent.ensures.kept.1, tt)
 
 pub node_at-returns-clause-points : goal.node_at-returns-clause-points
-node_at-returns-clause-points g t c = let one = ap length (elements-Parent c.in_ok-parent.parent) in omega (arith, one, c.in_ok-parent.ensures.points)
+node_at-returns-clause-points t c = let one = ap length (elements-Parent c.in_ok-parent.parent) in omega (arith, one, c.in_ok-parent.ensures.points)
 
 pub parent_at-returns-then-not-has_corners-clause-read : goal.parent_at-returns-then-not-has_corners-clause-read
-parent_at-returns-then-not-has_corners-clause-read g t c =
+parent_at-returns-then-not-has_corners-clause-read t c =
     inr (parent_shown (node_at c.args.below) c.args.bytes.now c.in_ok-count.rest.now c.in_ok-lower.rest.now c.in_ok-upper.rest.now c.in_ok-children.rest.now c.in_ok-count.count c.in_ok-lower.lower c.in_ok-upper.upper c.in_ok-children.children.items c.envelope_for_children-envelope.result false
     c.in_ok-count.ensures.read (search rules) (search rules) c.in_ok-lower.ensures.read c.in_ok-upper.ensures.read c.in_ok-children.ensures.read (rw c.deref.ensures.value at c.envelope_for_children-envelope.ensures.hull) (search rules))
 
 pub parent_at-returns-clause-read : goal.parent_at-returns-clause-read
-parent_at-returns-clause-read g t c =
+parent_at-returns-clause-read t c =
     parent_shown (node_at c.args.below) c.args.bytes.now c.in_ok-count.rest.now c.in_ok-lower.rest.now c.in_ok-upper.rest.now c.in_ok-children.rest.now c.in_ok-count.count c.in_ok-lower.lower c.in_ok-upper.upper c.in_ok-children.children.items c.envelope_for_children-envelope.result true
     c.in_ok-count.ensures.read (search rules) (search rules) c.in_ok-lower.ensures.read c.in_ok-upper.ensures.read c.in_ok-children.ensures.read (rw c.deref.ensures.value at c.envelope_for_children-envelope.ensures.hull) (search rules)
 
 pub parent_at-returns-clause-kept : goal.parent_at-returns-clause-kept
-parent_at-returns-clause-kept g t c =
-    parent_kept g.Params.RTreeParams.MAX_SIZE c.children_at.new.widest _ c.args.below _ (search rules) (search rules) (search rules) (rw c.deref.ensures.value at c.envelope_for_children-envelope.ensures.hull) c.in_ok-children.ensures.room c.in_ok-children.ensures.kept
+parent_at-returns-clause-kept t c =
+    parent_kept c.children_at.new.widest _ c.args.below _ (search rules) (search rules) (search rules) (rw c.deref.ensures.value at c.envelope_for_children-envelope.ensures.hull) c.in_ok-children.ensures.kept

@@ -9,21 +9,20 @@ use Rattle.rstar.proofs.StoredLoops.{with_front}
 use Rattle.rstar.proofs.stored.+read.Given as goal
 
 abbrev pub decreases-children_at : goal.decreases-children_at
-decreases-children_at g l = 3 * l.below + 1
+decreases-children_at l = 3 * l.below + 1
 
 abbrev pub decreases-node_at : goal.decreases-node_at
-decreases-node_at g l = 3 * l.height
+decreases-node_at l = 3 * l.height
 
 abbrev pub decreases-parent_at : goal.decreases-parent_at
-decreases-parent_at g l = 3 * l.below + 2
+decreases-parent_at l = 3 * l.below + 2
 
 abbrev pub invariant-children_at-loop : goal.invariant-children_at-loop
-invariant-children_at-loop g l = record {
+invariant-children_at-loop l = record {
   read : with_front (map shown l.children.items) (each_at (node_at l.below) (l.count - l.counter) l.rest) ≡ each_at (node_at l.below) l.count l.bytes;
-  kept : AreKept boxes places g.Params.RTreeParams.MAX_SIZE l.widest l.below l.children.items;
+  kept : AreKept boxes places l.widest l.below l.children.items;
   len : vec_len l.children ≡ l.counter;
   room : l.count ≤ vec_capacity l.children;
-  wide : g.Params.RTreeParams.MAX_SIZE ≤ vec_capacity l.children;
   wider : l.fn.widest ≤ l.widest;
   counted : l.widest + 1 < 2 ^ 64;
   points : l.points ≡ l.fn.points + length (all_elements l.children.items);

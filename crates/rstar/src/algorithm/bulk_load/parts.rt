@@ -7,7 +7,6 @@ ghost use Rattle.std.specs.Prelude.{◌≡◌, ℕ, ◌+◌, ◌^◌, ◌<◌, �
 ghost use Rattle.std.specs.List.Sorted.{IsPermutation};
 ghost use Rattle.rstar.specs.declared.node.RTreeNode.{Leaf};
 ghost use Rattle.rstar.specs.Nodes.{elements_of};
-ghost use Rattle.rstar.specs.Kept.{HasRoom};
 ghost use Rattle.rstar.specs.Lists.{NoneEmpty};
 ghost use Rattle.rstar.specs.Loaded.{IsPartSize, GoesDeep};
 ghost use Rattle.rstar.specs.Loads.{AddsParts, CutsSlab, IsFresh, IsFreshNode, front_of, last_of};
@@ -15,44 +14,40 @@ ghost use Rattle.rstar.specs.Loads.{AddsParts, CutsSlab, IsFresh, IsFreshNode, f
 use crate::algorithm::bulk_load::slabs::InSlabs;
 use crate::needs::Covered;
 use crate::node::{ParentNode, RTreeNode, envelope_for_children};
+use num_traits::checked_pow;
 use rstar_base::object::{RTreeObject, partition_envelopes};
 use rstar_base::params::RTreeParams;
 use std::alloc::AllocError;
 
 /// Each element as a leaf.
-fn leaves<T: Covered>(elements: Vec<T>, room: usize) -> Result<Vec<RTreeNode<T>>, AllocError>
+fn leaves<T: Covered>(elements: Vec<T>) -> Result<Vec<RTreeNode<T>>, AllocError>
     ensures { IfOk result (λ nodes. nodes.items ≡ map Leaf elements.items) }
 {
-    let mut leaves = Vec::with_capacity(*elements.allocator(), room)?;
+    let mut leaves = Vec::with_capacity(*elements.allocator(), elements.len())?;
     for t in elements {
         leaves.push(RTreeNode::Leaf(t))?;
     }
     Ok(leaves)
 }
 
-/// Room for `MAX_SIZE` children.
-pub(crate) fn make_room<A, Params: RTreeParams>(nodes: &mut Vec<A>) -> Result<(), AllocError>
-    ensures same { nodes.new.items ≡ nodes.old.items }
-    ensures room { OnOk result (HasRoom Params.MAX_SIZE nodes.new) }
+/// `widest` grows to the number of these nodes.
+fn widen<A>(widest: &mut usize, nodes: &Vec<A>)
+    requires counted { widest.old + 1 < 2 ^ 64 }
+    ensures narrow { vec_len nodes.now ≤ widest.new }
+    ensures wider { widest.old ≤ widest.new }
+    ensures counted { widest.new + 1 < 2 ^ 64 }
 {
-    nodes.reserve(Params::MAX_SIZE.saturating_sub(nodes.len()))
+    *widest = nodes.len().max(*widest);
 }
 
-/// The same; `widest` grows to the number of children.
-fn make_wide_room<A, Params: RTreeParams>(
-    nodes: &mut Vec<A>,
-    widest: &mut usize,
-) -> Result<(), AllocError>
-    requires counted { widest.old + 1 < 2 ^ 64 }
-    ensures same { nodes.new.items ≡ nodes.old.items }
-    ensures room { OnOk result (HasRoom Params.MAX_SIZE nodes.new) }
-    ensures narrow { OnOk result (vec_len nodes.new ≤ widest.new) }
-    ensures wider { OnOk result (widest.old ≤ widest.new) }
-    ensures counted { OnOk result (widest.new + 1 < 2 ^ 64) }
+/// How many parts so many elements are cut into at most, in so many slabs along each axis.
+fn parts_at_most(clusters: usize, axes: usize, len: usize) -> usize
+    ensures { result ≤ len }
 {
-    make_room::<A, Params>(nodes)?;
-    *widest = nodes.len().max(*widest);
-    Ok(())
+    match checked_pow(clusters, axes) {
+        Some(parts) => parts.min(len),
+        None => len,
+    }
 }
 
 /// A parent of the last `len` elements of a list, which are taken off it, with so many levels of parents below it.
@@ -80,11 +75,11 @@ pub(crate) fn load_node<T: InSlabs, Params: RTreeParams>(
     if below == 0 {
         return leaf_parent::<T, Params>(list, len, widest);
     }
-    let mut nodes = Vec::with_capacity(*list.allocator(), Params::MAX_SIZE)?;
     let clusters = T::slabs_on_axis::<Params>(len);
     let axes = T::axes();
+    let mut nodes = Vec::with_capacity(*list.allocator(), parts_at_most(clusters, axes, len))?;
     load_parts::<T, Params>(list, len, axes, clusters, below - 1, &mut nodes, widest)?;
-    make_wide_room::<_, Params>(&mut nodes, widest)?;
+    widen(widest, &nodes);
     let envelope = envelope_for_children(&nodes);
     Ok(ParentNode {
         children: nodes,
@@ -111,9 +106,8 @@ fn leaf_parent<T: InSlabs, Params: RTreeParams>(
 {
     let elements = list.split_off(list.len() - len)?;
     let envelope = T::envelope_of_all(&elements);
-    let room = len.max(Params::MAX_SIZE).saturating_add(1);
-    let mut children = leaves(elements, room)?;
-    make_wide_room::<_, Params>(&mut children, widest)?;
+    let children = leaves(elements)?;
+    widen(widest, &children);
     Ok(ParentNode { children, envelope })
 }
 

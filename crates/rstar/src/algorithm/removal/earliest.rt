@@ -95,9 +95,9 @@ pub(crate) fn take_earliest<T: Covered + Ord, R: Question<T>>(
         node.old.children.items [] None result node.new.children.items [] None }
     ensures first { result ≡ earliest T.cmp
         (all_given (R.accepts func.now) (R.selects func.now) node.old.children.items) }
-    ensures kept { (m w h : ℕ) → IsKept T.Cover.boxes T.object m w node.old
-        → AreKept T.Cover.boxes T.object m w h node.old.children.items
-        → IsKept T.Cover.boxes T.object m w node.new }
+    ensures kept { (w h : ℕ) → IsKept T.Cover.boxes T.object w node.old
+        → AreKept T.Cover.boxes T.object w h node.old.children.items
+        → IsKept T.Cover.boxes T.object w node.new }
     ensures same { IfNone result (node.new ≡ node.old) }
     ensures unchanged { changed.new ≡ false → node.new.envelope ≡ node.old.envelope }
 {

@@ -5,18 +5,40 @@ ghost use Rattle.std.specs.List.{AllByRecursion};
 ghost use Rattle.std.specs.List.Sorted.{IsPermutation};
 ghost use Rattle.rstar_base.specs.Hulls.{hull};
 ghost use Rattle.rstar.specs.declared.node.RTreeNode.{Parent};
-ghost use Rattle.rstar.specs.Nodes.{node_box, all_elements, all_parents, parents_of};
+ghost use Rattle.rstar.specs.Nodes.{node_box, all_elements};
 ghost use Rattle.rstar.specs.Shapes.{AreSized, IsSizedTree};
-ghost use Rattle.rstar.specs.Kept.{HasRoom, IsRoomy, IsSpare, IsKept, HasMergedBox, AreKept, IsKeptTree, IsSizedAfter, second_children, as_node};
+ghost use Rattle.rstar.specs.Kept.{IsNarrow, IsSpare, IsKept, HasMergedBox, AreKept, IsKeptTree, IsSizedAfter, second_children, as_node};
+ghost use Rattle.rstar.specs.Kept.{has_room, all_roomy, roomy_of, second_roomy};
 
 use crate::algorithm::rstar::placing::Placed;
-use crate::algorithm::rstar::split::move_all;
+use crate::algorithm::rstar::split::{move_all, move_over};
 use crate::needs::{Covered, Merges};
 use crate::node::{ParentNode, RTreeNode, envelope_for_children};
 use rstar_base::params::RTreeParams;
 use std::mem;
 
-/// Adds a child that the node's envelope covers already. An overflow is cut in two, and the second part handed out.
+/// Makes a place behind the items of a list: where it is full, they go over into the last spare list.
+fn take_place<A: Drop>(list: &mut Vec<A>, widest: usize, spares: &mut Vec<Vec<A>>)
+    requires narrow { vec_len list.old < widest }
+    requires spares { AllByRecursion (IsSpare widest) spares.old.items }
+    requires enough { 0 < vec_len spares.old }
+    ensures same { list.new.items ≡ list.old.items }
+    ensures length { vec_len list.new ≡ vec_len list.old }
+    ensures place { vec_len list.new < vec_capacity list.new }
+    ensures spares { AllByRecursion (IsSpare widest) spares.new.items }
+    ensures used { vec_len spares.old ≤ vec_len spares.new + 1 }
+    ensures fewer { vec_len spares.new ≤ vec_len spares.old }
+    ensures room { vec_len spares.old + has_room widest list.old ≤ vec_len spares.new + has_room widest list.new }
+    ensures places { vec_capacity spares.new ≡ vec_capacity spares.old }
+{
+    if list.len() == list.capacity() {
+        let mut spare = spares.take_last();
+        move_over(list, &mut spare);
+    }
+}
+
+/// Adds a child that the node's envelope covers already. Where the list is full and may grow, the children go over into a
+/// spare one. An overflow is cut in two, and the second part handed out.
 fn add_child<T: Placed, Params: RTreeParams>(
     node: &mut ParentNode<T>,
     child: RTreeNode<T>,
@@ -26,7 +48,7 @@ fn add_child<T: Placed, Params: RTreeParams>(
 ) -> Option<ParentNode<T>>
     requires covered { node.old.envelope
         ≡ hull T.Cover.boxes (node_box T.object.box_of) (node.old.children.items ++ child ∷ []) }
-    requires roomy { IsRoomy Params.MAX_SIZE widest node.old }
+    requires narrow { IsNarrow widest node.old }
     requires wide { Params.MAX_SIZE ≤ widest }
     requires spares { AllByRecursion (IsSpare widest) spares.old.items }
     requires enough { 0 < vec_len spares.old }
@@ -36,9 +58,9 @@ fn add_child<T: Placed, Params: RTreeParams>(
     ensures same { IsPermutation (node.old.children.items ++ child ∷ [])
         (node.new.children.items ++ second_children result) }
 
-    // Each part has room, and the merge of its children's envelopes.
-    ensures first { HasMergedBox T.Cover.boxes T.object Params.MAX_SIZE widest node.new }
-    ensures second { IfSome result (HasMergedBox T.Cover.boxes T.object Params.MAX_SIZE widest) }
+    // Each part has the merge of its children's envelopes.
+    ensures first { HasMergedBox T.Cover.boxes T.object widest node.new }
+    ensures second { IfSome result (HasMergedBox T.Cover.boxes T.object widest) }
 
     // Only an overflow is cut, and each part then has at least the least number.
     ensures whole { IfNone result (vec_len node.new.children ≡ vec_len node.old.children + 1) }
@@ -48,15 +70,20 @@ fn add_child<T: Placed, Params: RTreeParams>(
     ensures lengths { IfSome result (λ p. vec_len node.new.children + vec_len p.children
         ≡ vec_len node.old.children + 1) }
 
-    // The second part, where there is one, took a spare list.
+    // At most one spare list is used, and no list with room for all that a parent may have is lost.
     ensures spares { AllByRecursion (IsSpare widest) spares.new.items }
-    ensures used { vec_len spares.old ≡ vec_len spares.new + length (as_node result) }
+    ensures used { vec_len spares.old ≤ vec_len spares.new + 1 }
+    ensures fewer { vec_len spares.new ≤ vec_len spares.old }
+    ensures room { vec_len spares.old + has_room widest node.old.children
+        ≤ vec_len spares.new + has_room widest node.new.children + length (as_node result) }
+    ensures second_room { IfSome result (λ p. widest ≤ vec_capacity p.children) }
 
     // A list that is handed back has its place, and nothing is left of an overflow.
     ensures places { vec_capacity spares.new ≡ vec_capacity spares.old }
     ensures overfull { IsSpare (widest + 1) overfull.new }
 {
     if node.children.len() < Params::MAX_SIZE {
+        take_place(&mut node.children, widest, spares);
         node.children.push_reserved(child);
         return None;
     }
@@ -84,8 +111,8 @@ fn insert_below<T: Placed, Params: RTreeParams>(
     spares: &mut Vec<Vec<RTreeNode<T>>>,
     overfull: &mut Vec<RTreeNode<T>>,
 ) -> Option<ParentNode<T>>
-    requires node { IsKept T.Cover.boxes T.object Params.MAX_SIZE widest node.old }
-    requires below { AreKept T.Cover.boxes T.object Params.MAX_SIZE widest levels node.old.children.items }
+    requires node { IsKept T.Cover.boxes T.object widest node.old }
+    requires below { AreKept T.Cover.boxes T.object widest levels node.old.children.items }
     requires some { 0 < levels → 0 < vec_len node.old.children }
     requires element { T.Cover.boxes.is_empty (T.object.box_of t) ≡ false }
     requires wide { Params.MAX_SIZE ≤ widest }
@@ -94,8 +121,8 @@ fn insert_below<T: Placed, Params: RTreeParams>(
     requires overfull { IsSpare (widest + 1) overfull.old }
     ensures bag { IsPermutation (t ∷ all_elements node.old.children.items)
         (all_elements (node.new.children.items ++ second_children result)) }
-    ensures first { IsKeptTree T.Cover.boxes T.object Params.MAX_SIZE widest levels node.new }
-    ensures second { IfSome result (IsKeptTree T.Cover.boxes T.object Params.MAX_SIZE widest levels) }
+    ensures first { IsKeptTree T.Cover.boxes T.object widest levels node.new }
+    ensures second { IfSome result (IsKeptTree T.Cover.boxes T.object widest levels) }
     ensures sized { IsSizedTree Params.MIN_SIZE Params.MAX_SIZE levels node.old
         → IsSizedAfter Params.MIN_SIZE Params.MAX_SIZE levels (vec_len node.old.children) node.new result }
     ensures spares { AllByRecursion (IsSpare widest) spares.new.items }
@@ -104,9 +131,9 @@ fn insert_below<T: Placed, Params: RTreeParams>(
     ensures places { vec_capacity spares.new ≡ vec_capacity spares.old }
     ensures overfull { IsSpare (widest + 1) overfull.new }
 
-    // Each parent that is new took one.
-    ensures made { vec_len spares.old + all_parents node.old.children.items ≡ vec_len spares.new
-        + all_parents (node.new.children.items ++ second_children result) + length (as_node result) }
+    // No list with room for all that a parent may have is lost.
+    ensures room { vec_len spares.old + roomy_of widest levels node.old
+        ≤ vec_len spares.new + roomy_of widest levels node.new + second_roomy widest levels result }
 {
     let envelope = t.envelope();
     node.envelope.merge(&envelope);
@@ -143,7 +170,7 @@ fn insert_in_child<T: Placed, Params: RTreeParams>(
 ) -> Option<ParentNode<T>>
     requires index { index < vec_len children.old }
     requires above { 0 < levels }
-    requires below { AreKept T.Cover.boxes T.object Params.MAX_SIZE widest levels children.old.items }
+    requires below { AreKept T.Cover.boxes T.object widest levels children.old.items }
     requires element { T.Cover.boxes.is_empty (T.object.box_of t) ≡ false }
     requires wide { Params.MAX_SIZE ≤ widest }
     requires spares { AllByRecursion (IsSpare widest) spares.old.items }
@@ -151,7 +178,7 @@ fn insert_in_child<T: Placed, Params: RTreeParams>(
     requires overfull { IsSpare (widest + 1) overfull.old }
     ensures bag { IsPermutation (t ∷ all_elements children.old.items)
         (all_elements (children.new.items ++ as_node result)) }
-    ensures below { AreKept T.Cover.boxes T.object Params.MAX_SIZE widest levels
+    ensures below { AreKept T.Cover.boxes T.object widest levels
         (children.new.items ++ as_node result) }
     ensures sized { AreSized Params.MIN_SIZE Params.MAX_SIZE levels children.old.items
         → AreSized Params.MIN_SIZE Params.MAX_SIZE levels (children.new.items ++ as_node result) }
@@ -162,8 +189,8 @@ fn insert_in_child<T: Placed, Params: RTreeParams>(
     ensures fewer { vec_len spares.new ≤ vec_len spares.old }
     ensures places { vec_capacity spares.new ≡ vec_capacity spares.old }
     ensures overfull { IsSpare (widest + 1) overfull.new }
-    ensures made { vec_len spares.old + all_parents children.old.items
-        ≡ vec_len spares.new + all_parents (children.new.items ++ as_node result) }
+    ensures room { vec_len spares.old + all_roomy widest levels children.old.items
+        ≤ vec_len spares.new + all_roomy widest levels (children.new.items ++ as_node result) }
 {
     match &mut children[index] {
         RTreeNode::Parent(child) => {
@@ -185,7 +212,7 @@ fn grow_root<T: Placed, Params: RTreeParams>(
     requires enough { 0 < vec_len spares.old }
     ensures children { root.new.children.items ≡ Parent root.old ∷ Parent second ∷ [] }
     ensures envelope { root.new.envelope ≡ T.Cover.boxes.merge root.old.envelope second.envelope }
-    ensures room { HasRoom Params.MAX_SIZE root.new.children }
+    ensures room { widest ≤ vec_capacity root.new.children }
     ensures spares { AllByRecursion (IsSpare widest) spares.new.items }
     ensures used { vec_len spares.old ≡ vec_len spares.new + 1 }
     ensures places { vec_capacity spares.new ≡ vec_capacity spares.old }
@@ -207,8 +234,8 @@ pub(crate) fn insert_at_root<T: Placed, Params: RTreeParams>(
     spares: &mut Vec<Vec<RTreeNode<T>>>,
     overfull: &mut Vec<RTreeNode<T>>,
 ) -> usize
-    requires root { IsKept T.Cover.boxes T.object Params.MAX_SIZE widest root.old }
-    requires below { AreKept T.Cover.boxes T.object Params.MAX_SIZE widest levels root.old.children.items }
+    requires root { IsKept T.Cover.boxes T.object widest root.old }
+    requires below { AreKept T.Cover.boxes T.object widest levels root.old.children.items }
     requires some { 0 < levels → 0 < vec_len root.old.children }
     requires element { T.Cover.boxes.is_empty (T.object.box_of t) ≡ false }
     requires wide { Params.MAX_SIZE ≤ widest }
@@ -216,7 +243,7 @@ pub(crate) fn insert_at_root<T: Placed, Params: RTreeParams>(
     requires enough { levels + 1 < vec_len spares.old }
     requires overfull { IsSpare (widest + 1) overfull.old }
     ensures bag { IsPermutation (t ∷ all_elements root.old.children.items) (all_elements root.new.children.items) }
-    ensures kept { IsKeptTree T.Cover.boxes T.object Params.MAX_SIZE widest result root.new }
+    ensures kept { IsKeptTree T.Cover.boxes T.object widest result root.new }
     ensures sized { IsSizedTree Params.MIN_SIZE Params.MAX_SIZE levels root.old
         → IsSizedTree Params.MIN_SIZE Params.MAX_SIZE result root.new }
     ensures grown { result ≤ levels + 1 }
@@ -226,8 +253,9 @@ pub(crate) fn insert_at_root<T: Placed, Params: RTreeParams>(
     ensures places { vec_capacity spares.new ≡ vec_capacity spares.old }
     ensures overfull { IsSpare (widest + 1) overfull.new }
 
-    // Each parent that is new took a spare list.
-    ensures made { vec_len spares.old + parents_of root.old ≡ vec_len spares.new + parents_of root.new }
+    // No list with room for all that a parent may have is lost.
+    ensures room { vec_len spares.old + roomy_of widest levels root.old
+        ≤ vec_len spares.new + roomy_of widest result root.new }
 {
     match insert_below::<T, Params>(root, t, levels, widest, spares, overfull) {
         None => levels,

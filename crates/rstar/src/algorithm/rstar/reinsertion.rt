@@ -7,13 +7,14 @@ ghost use Rattle.std.specs.List.Sorted.{IsPermutation};
 ghost use Rattle.rstar_base.specs.Hulls.{hull};
 ghost use Rattle.rstar.specs.declared.node.RTreeNode.{Leaf};
 ghost use Rattle.rstar.specs.Heights.{spare_lists};
-ghost use Rattle.rstar.specs.Nodes.{node_box, all_elements, all_parents, parents_of};
+ghost use Rattle.rstar.specs.Nodes.{node_box, all_elements};
 ghost use Rattle.rstar.specs.Shapes.{AreSized, IsSizedTree};
-ghost use Rattle.rstar.specs.Kept.{IsRoomy, IsSpare, IsKept, HasMergedBox, AreKept, IsKeptTree, IsSizedAfter};
+ghost use Rattle.rstar.specs.Kept.{IsNarrow, IsSpare, IsKept, HasMergedBox, AreKept, IsKeptTree, IsSizedAfter};
+ghost use Rattle.rstar.specs.Kept.{has_room, all_roomy, roomy_of};
 
 use crate::algorithm::rstar::insertion::insert_at_root;
 use crate::algorithm::rstar::placing::Placed;
-use crate::algorithm::rstar::split::{cut_at, move_all};
+use crate::algorithm::rstar::split::{cut_at, make_place, move_all};
 use crate::needs::{Covered, Merges};
 use crate::node::{ParentNode, RTreeNode, envelope_for_children};
 use rstar_base::envelope::Envelope;
@@ -69,7 +70,8 @@ fn hand_out<T: Placed, Params: RTreeParams>(
     node.envelope = envelope_for_children(&node.children);
 }
 
-/// Adds a leaf that the node's envelope covers already. An overflow hands children out.
+/// Adds a leaf that the node's envelope covers already. Where the list is full and may grow, the children go over into the
+/// spare one. An overflow hands children out.
 fn add_leaf<T: Placed, Params: RTreeParams>(
     node: &mut ParentNode<T>,
     t: T,
@@ -79,26 +81,28 @@ fn add_leaf<T: Placed, Params: RTreeParams>(
 )
     requires covered { node.old.envelope
         ≡ hull T.Cover.boxes (node_box T.object.box_of) (node.old.children.items ++ Leaf t ∷ []) }
-    requires roomy { IsRoomy Params.MAX_SIZE widest node.old }
+    requires narrow { IsNarrow widest node.old }
     requires wide { Params.MAX_SIZE ≤ widest }
     requires reinserts { 0 < Params.REINSERTION_COUNT }
     requires spare { IsSpare widest handed.old }
     requires overfull { IsSpare (widest + 1) overfull.old }
     ensures same { IsPermutation (node.old.children.items ++ Leaf t ∷ [])
         (node.new.children.items ++ handed.new.items) }
-    ensures fit { HasMergedBox T.Cover.boxes T.object Params.MAX_SIZE widest node.new }
+    ensures fit { HasMergedBox T.Cover.boxes T.object widest node.new }
     ensures count { vec_len handed.new ≤ Params.REINSERTION_COUNT }
     ensures least { Params.MIN_SIZE ≤ vec_len node.old.children → Params.MIN_SIZE ≤ vec_len node.new.children }
     ensures most { vec_len node.old.children ≤ Params.MAX_SIZE → vec_len node.new.children ≤ Params.MAX_SIZE }
-    ensures capacity { vec_capacity handed.old ≤ vec_capacity handed.new }
+    ensures room { has_room widest node.old.children + 1
+        ≤ has_room widest node.new.children + has_room widest handed.new }
     ensures overfull { IsSpare (widest + 1) overfull.new }
 {
     let leaf = RTreeNode::Leaf(t);
-    if node.children.len() < Params::MAX_SIZE {
-        node.children.push_reserved(leaf);
-    } else {
+    if Params::MAX_SIZE <= node.children.len() {
         hand_out::<T, Params>(node, leaf, handed, overfull);
+        return;
     }
+    make_place(&mut node.children, handed);
+    node.children.push_reserved(leaf);
 }
 
 /// Inserts an element below the node, whose children are trees of `levels` levels of parents, and splits none: where
@@ -112,8 +116,8 @@ fn insert_first<T: Placed, Params: RTreeParams>(
     handed: &mut Vec<RTreeNode<T>>,
     overfull: &mut Vec<RTreeNode<T>>,
 )
-    requires node { IsKept T.Cover.boxes T.object Params.MAX_SIZE widest node.old }
-    requires below { AreKept T.Cover.boxes T.object Params.MAX_SIZE widest levels node.old.children.items }
+    requires node { IsKept T.Cover.boxes T.object widest node.old }
+    requires below { AreKept T.Cover.boxes T.object widest levels node.old.children.items }
     requires some { 0 < levels → 0 < vec_len node.old.children }
     requires element { T.Cover.boxes.is_empty (T.object.box_of t) ≡ false }
     requires wide { Params.MAX_SIZE ≤ widest }
@@ -122,16 +126,16 @@ fn insert_first<T: Placed, Params: RTreeParams>(
     requires overfull { IsSpare (widest + 1) overfull.old }
     ensures bag { IsPermutation (t ∷ all_elements node.old.children.items)
         (all_elements node.new.children.items ++ all_elements handed.new.items) }
-    ensures kept { IsKeptTree T.Cover.boxes T.object Params.MAX_SIZE widest levels node.new }
-    ensures leaves { AreKept T.Cover.boxes T.object Params.MAX_SIZE widest 0 handed.new.items }
+    ensures kept { IsKeptTree T.Cover.boxes T.object widest levels node.new }
+    ensures leaves { AreKept T.Cover.boxes T.object widest 0 handed.new.items }
     ensures count { vec_len handed.new ≤ Params.REINSERTION_COUNT }
     ensures sized { IsSizedTree Params.MIN_SIZE Params.MAX_SIZE levels node.old
         → IsSizedAfter Params.MIN_SIZE Params.MAX_SIZE levels (vec_len node.old.children) node.new None }
-    ensures capacity { vec_capacity handed.old ≤ vec_capacity handed.new }
     ensures overfull { IsSpare (widest + 1) overfull.new }
 
-    // No parent is new, and none goes.
-    ensures parents { all_parents node.new.children.items ≡ all_parents node.old.children.items }
+    // No list with room for all that a parent may have is lost.
+    ensures room { roomy_of widest levels node.old + 1
+        ≤ roomy_of widest levels node.new + has_room widest handed.new }
 {
     let envelope = t.envelope();
     node.envelope.merge(&envelope);
@@ -167,7 +171,7 @@ fn insert_first_in_child<T: Placed, Params: RTreeParams>(
 )
     requires index { index < vec_len children.old }
     requires above { 0 < levels }
-    requires below { AreKept T.Cover.boxes T.object Params.MAX_SIZE widest levels children.old.items }
+    requires below { AreKept T.Cover.boxes T.object widest levels children.old.items }
     requires element { T.Cover.boxes.is_empty (T.object.box_of t) ≡ false }
     requires wide { Params.MAX_SIZE ≤ widest }
     requires reinserts { 0 < Params.REINSERTION_COUNT }
@@ -175,16 +179,16 @@ fn insert_first_in_child<T: Placed, Params: RTreeParams>(
     requires overfull { IsSpare (widest + 1) overfull.old }
     ensures bag { IsPermutation (t ∷ all_elements children.old.items)
         (all_elements children.new.items ++ all_elements handed.new.items) }
-    ensures below { AreKept T.Cover.boxes T.object Params.MAX_SIZE widest levels children.new.items }
-    ensures leaves { AreKept T.Cover.boxes T.object Params.MAX_SIZE widest 0 handed.new.items }
+    ensures below { AreKept T.Cover.boxes T.object widest levels children.new.items }
+    ensures leaves { AreKept T.Cover.boxes T.object widest 0 handed.new.items }
     ensures count { vec_len handed.new ≤ Params.REINSERTION_COUNT }
     ensures sized { AreSized Params.MIN_SIZE Params.MAX_SIZE levels children.old.items
         → AreSized Params.MIN_SIZE Params.MAX_SIZE levels children.new.items }
     ensures length { vec_len children.new ≡ vec_len children.old }
     ensures capacity { vec_capacity children.new ≡ vec_capacity children.old }
-    ensures handed_capacity { vec_capacity handed.old ≤ vec_capacity handed.new }
     ensures overfull { IsSpare (widest + 1) overfull.new }
-    ensures parents { all_parents children.new.items ≡ all_parents children.old.items }
+    ensures room { all_roomy widest levels children.old.items + 1
+        ≤ all_roomy widest levels children.new.items + has_room widest handed.new }
 {
     match &mut children[index] {
         RTreeNode::Parent(child) => {
@@ -204,21 +208,22 @@ fn insert_again<T: Placed, Params: RTreeParams>(
     spares: &mut Vec<Vec<RTreeNode<T>>>,
     overfull: &mut Vec<RTreeNode<T>>,
 ) -> usize
-    requires root { IsKeptTree T.Cover.boxes T.object Params.MAX_SIZE widest levels root.old }
-    requires leaves { AreKept T.Cover.boxes T.object Params.MAX_SIZE widest 0 handed.old.items }
+    requires root { IsKeptTree T.Cover.boxes T.object widest levels root.old }
+    requires leaves { AreKept T.Cover.boxes T.object widest 0 handed.old.items }
     requires wide { Params.MAX_SIZE ≤ widest }
     requires spares { AllByRecursion (IsSpare widest) spares.old.items }
     requires enough { vec_len handed.old * (levels + vec_len handed.old + 1) ≤ vec_len spares.old }
     requires overfull { IsSpare (widest + 1) overfull.old }
     ensures bag { IsPermutation (all_elements root.old.children.items ++ all_elements handed.old.items)
         (all_elements root.new.children.items) }
-    ensures kept { IsKeptTree T.Cover.boxes T.object Params.MAX_SIZE widest result root.new }
+    ensures kept { IsKeptTree T.Cover.boxes T.object widest result root.new }
     ensures sized { IsSizedTree Params.MIN_SIZE Params.MAX_SIZE levels root.old
         → IsSizedTree Params.MIN_SIZE Params.MAX_SIZE result root.new }
     ensures spares { AllByRecursion (IsSpare widest) spares.new.items }
     ensures fewer { vec_len spares.new ≤ vec_len spares.old }
     ensures places { vec_capacity spares.new ≡ vec_capacity spares.old }
-    ensures made { vec_len spares.old + parents_of root.old ≡ vec_len spares.new + parents_of root.new }
+    ensures room { vec_len spares.old + roomy_of widest levels root.old
+        ≤ vec_len spares.new + roomy_of widest result root.new }
     ensures none { handed.new.items ≡ [] }
     ensures capacity { vec_capacity handed.new ≡ vec_capacity handed.old }
     ensures overfull { IsSpare (widest + 1) overfull.new }
@@ -244,8 +249,8 @@ pub(crate) fn insert_with_reinsertion<T: Placed, Params: RTreeParams>(
     spares: &mut Vec<Vec<RTreeNode<T>>>,
     overfull: &mut Vec<RTreeNode<T>>,
 ) -> usize
-    requires root { IsKept T.Cover.boxes T.object Params.MAX_SIZE widest root.old }
-    requires below { AreKept T.Cover.boxes T.object Params.MAX_SIZE widest levels root.old.children.items }
+    requires root { IsKept T.Cover.boxes T.object widest root.old }
+    requires below { AreKept T.Cover.boxes T.object widest levels root.old.children.items }
     requires some { 0 < levels → 0 < vec_len root.old.children }
     requires element { T.Cover.boxes.is_empty (T.object.box_of t) ≡ false }
     requires wide { Params.MAX_SIZE ≤ widest }
@@ -253,14 +258,15 @@ pub(crate) fn insert_with_reinsertion<T: Placed, Params: RTreeParams>(
     requires enough { spare_lists Params.REINSERTION_COUNT (1 + levels) ≤ vec_len spares.old }
     requires overfull { IsSpare (widest + 1) overfull.old }
     ensures bag { IsPermutation (t ∷ all_elements root.old.children.items) (all_elements root.new.children.items) }
-    ensures kept { IsKeptTree T.Cover.boxes T.object Params.MAX_SIZE widest result root.new }
+    ensures kept { IsKeptTree T.Cover.boxes T.object widest result root.new }
     ensures sized { IsSizedTree Params.MIN_SIZE Params.MAX_SIZE levels root.old
         → IsSizedTree Params.MIN_SIZE Params.MAX_SIZE result root.new }
     ensures spares { AllByRecursion (IsSpare widest) spares.new.items }
     ensures overfull { IsSpare (widest + 1) overfull.new }
 
-    // Each parent that is new took a spare list, and no other list is gone.
-    ensures made { vec_len spares.old + parents_of root.old ≡ vec_len spares.new + parents_of root.new }
+    // No list with room for all that a parent may have is lost.
+    ensures room { vec_len spares.old + roomy_of widest levels root.old
+        ≤ vec_len spares.new + roomy_of widest result root.new }
 {
     if Params::REINSERTION_COUNT == 0 {
         return insert_at_root::<T, Params>(root, t, levels, widest, spares, overfull);
@@ -268,7 +274,10 @@ pub(crate) fn insert_with_reinsertion<T: Placed, Params: RTreeParams>(
     let mut handed = spares.take_last();
     insert_first::<T, Params>(root, t, levels, widest, &mut handed, overfull);
     let grown = insert_again::<T, Params>(root, &mut handed, levels, widest, spares, overfull);
-    // The list that is empty again goes back to its place, which is still there.
-    spares.push_reserved(handed);
+    // The list that is empty again goes back to its place, which is still there. It is none of those where the children
+    // of a parent went over into that one, and left theirs.
+    if widest <= handed.capacity() {
+        spares.push_reserved(handed);
+    }
     grown
 }

@@ -2,12 +2,14 @@
 
 ghost use Rattle.std.specs.Prelude.{◌≡◌, ◌+◌, ◌*◌, ◌<◌, ◌≤◌, ℕ, [], ◌++◌, ◌&&◌, ◌||◌, not, take, drop, length, vec_len, vec_capacity, pos, unsigned_abs, int_lt};
 ghost use Rattle.std.specs.List.Sorted.{IsPermutation, IsSortedByKey};
+ghost use Rattle.rstar.specs.Kept.{has_room};
 ghost use Rattle.rstar.specs.Cuts.{RisesByAxis, IsArrangement, IsAllowedCut, overlap_at, areas_at, IsLeastCut};
 
 use rstar_base::envelope::Envelope;
 use rstar_base::object::{Distance, RTreeObject, envelope_of_all, sort_envelopes};
 use rstar_base::params::RTreeParams;
 use rstar_base::point::{Point, RTreeNum};
+use std::mem;
 
 /// Moves what lies from `at` on into the spare list, in its order. It takes no memory.
 pub(crate) fn cut_at<A: Drop>(list: &mut Vec<A>, at: usize, spare: &mut Vec<A>)
@@ -40,6 +42,35 @@ pub(crate) fn move_all<A>(list: &mut Vec<A>, empty: &mut Vec<A>)
 {
     if empty.append(list).is_err() {
         unreachable!()
+    }
+}
+
+/// Moves all items of a list into an empty one, which takes its place. It takes no memory.
+pub(crate) fn move_over<A>(list: &mut Vec<A>, empty: &mut Vec<A>)
+    requires empty { empty.old.items ≡ [] }
+    requires room { vec_len list.old ≤ vec_capacity empty.old }
+    ensures same { list.new.items ≡ list.old.items }
+    ensures length { vec_len list.new ≡ vec_len list.old }
+    ensures capacity { vec_capacity empty.old ≤ vec_capacity list.new }
+    ensures left { empty.new.items ≡ [] }
+    ensures left_capacity { vec_capacity empty.new ≡ vec_capacity list.old }
+{
+    move_all(list, empty);
+    mem::swap(list, empty);
+}
+
+/// Makes a place behind the items of a list: where it is full, they go over into the empty list. It takes no memory.
+pub(crate) fn make_place<A>(list: &mut Vec<A>, empty: &mut Vec<A>)
+    requires empty { empty.old.items ≡ [] }
+    requires room { vec_len list.old < vec_capacity empty.old }
+    ensures same { list.new.items ≡ list.old.items }
+    ensures length { vec_len list.new ≡ vec_len list.old }
+    ensures place { vec_len list.new < vec_capacity list.new }
+    ensures left { empty.new.items ≡ [] }
+    ensures rooms { (n : ℕ) → has_room n list.old + has_room n empty.old ≤ has_room n list.new + has_room n empty.new }
+{
+    if list.len() == list.capacity() {
+        move_over(list, empty);
     }
 }
 

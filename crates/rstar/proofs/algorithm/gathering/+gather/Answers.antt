@@ -93,15 +93,15 @@ gather_among-loop-i-preserved-then-is_childless g t c =
     }
 
 pub gather_below-returns-then-len-before-clause-kept : goal.gather_below-returns-then-len-before-clause-kept
-gather_below-returns-then-len-before-clause-kept g t c m w h kept below =
+gather_below-returns-then-len-before-clause-kept g t c w h kept below =
     let gathers = c.gather_among.ensures.gathers in
-    kept_anew g.met.T.Cover.Merges.merge_laws g.met.T.Covered.cover_law m w h c.args.node.now _ kept (gathers.kept m w h below) gathers.shorter c.gather_among.new.children.ok.0 c.args.node.now.children.ok.0 c.gather_among.ensures.room
+    kept_anew g.met.T.Cover.Merges.merge_laws g.met.T.Covered.cover_law w h c.args.node.now _ kept (gathers.kept w h below) gathers.shorter
     (rw c.deref.ensures.value at c.envelope_for_children.ensures.hull)
 
 pub gather_below-returns-else-len-before-clause-kept : goal.gather_below-returns-else-len-before-clause-kept
-gather_below-returns-else-len-before-clause-kept g t c m w h kept below =
+gather_below-returns-else-len-before-clause-kept g t c w h kept below =
     let gathers = c.gather_among.ensures.gathers in
-    kept_alike g.met.T.Cover.Merges.merge_laws g.met.T.Covered.cover_law m w h c.args.node.now _ kept below (gathers.kept m w h below) gathers.shorter c.gather_among.new.children.ok.0 c.args.node.now.children.ok.0 c.gather_among.ensures.room refl
+    kept_alike g.met.T.Cover.Merges.merge_laws g.met.T.Covered.cover_law w h c.args.node.now _ kept below (gathers.kept w h below) gathers.shorter refl
     (same_elements (g.R.Question.selects c.args.func.now) c.args.most _ _ _ _ gathers.moved
     (not_longer c.len.result _ _ c.len-before.result _ _ c.if-len-before.false c.len.ensures c.gather_among.new.taken.ok.0 c.len-before.ensures c.args.taken.now.ok.0))
 

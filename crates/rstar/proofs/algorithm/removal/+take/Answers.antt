@@ -119,20 +119,20 @@ take_below-returns-then-changed-clause-takes g t c =
     c.take_among-taken.ensures.takes c.take_among-taken.auto.path (rw c.deref.ensures.value at c.merge_along-merged.ensures.rests) c.merge_along-merged.ensures.still
 
 pub take_below-returns-then-changed-clause-kept : goal.take_below-returns-then-changed-clause-kept
-take_below-returns-then-changed-clause-kept g t c m w h kept below at =
+take_below-returns-then-changed-clause-kept g t c w h kept below at =
     let takes = c.take_among-taken.ensures.takes in
-    let made = (rw c.deref.ensures.value at c.merge_along-merged.ensures.merged) (takes.rests m w h below at) in
-    kept_anew g.met.T.Cover.Merges.merge_laws g.met.T.Covered.cover_law m w h c.args.node.now _ kept (takes.whole m w h below at) takes.shorter c.take_among-taken.new.children.ok.0 c.args.node.now.children.ok.0 c.take_among-taken.ensures.capacity made
+    let made = (rw c.deref.ensures.value at c.merge_along-merged.ensures.merged) (takes.rests w h below at) in
+    kept_anew g.met.T.Cover.Merges.merge_laws g.met.T.Covered.cover_law w h c.args.node.now _ kept (takes.whole w h below at) takes.shorter made
 
 pub take_below-returns-else-is_some-clause-kept : goal.take_below-returns-else-is_some-clause-kept
-take_below-returns-else-is_some-clause-kept g t c m w h kept below at =
+take_below-returns-else-is_some-clause-kept g t c w h kept below at =
     let takes = c.take_among-taken.ensures.takes in
     let box = node_box g.T.Covered.object.box_of in
     let hulls : hull g.T.Cover.Merges.boxes box c.take_among-taken.new.children.items ≡ hull g.T.Cover.Merges.boxes box c.args.node.now.children.items = elim c.else-is_some.branch [
       | take_below-else-is_some-via-then-is_some+else-changed w ↦ c.take_among-taken.ensures.unchanged w.if-changed.false
       | take_below-else-is_some-via-else-is_some w ↦ ap (λ (v : Vec _ _). hull g.T.Cover.Merges.boxes box v.items) (none_gives c.take_among-taken.result (sym c.is_some.ensures ∙ w.if-is_some.false) c.take_among-taken.ensures.same)
     ] in
-    kept_still g.met.T.Cover.Merges.merge_laws g.met.T.Covered.cover_law m w h c.args.node.now _ kept below (takes.whole m w h below at) takes.shorter c.take_among-taken.new.children.ok.0 c.args.node.now.children.ok.0 c.take_among-taken.ensures.capacity refl hulls
+    kept_still g.met.T.Cover.Merges.merge_laws g.met.T.Covered.cover_law w h c.args.node.now _ kept below (takes.whole w h below at) takes.shorter refl hulls
 
 pub take_inside-returns-then-should_unpack_parent-clause-unchanged :
     goal.take_inside-returns-then-should_unpack_parent-clause-unchanged

@@ -9,7 +9,7 @@ pub returns-clause-clones : goal.returns-clause-clones
 unfolding IsWholeTree
 returns-clause-clones g c =
     let whole = c.requires.root_whole in
-    all_cloned _ _ whole.height _ _ (c.in_ok-root.ensures whole.height (trees_map (λ p q. q.1) (λ t q. tt) whole.height _ whole.below))
+    all_cloned _ whole.height _ _ (c.in_ok-root.ensures whole.height (trees_map (λ p q. q.1) (λ t q. tt) whole.height _ whole.below))
 
 pub returns-clause-same : goal.returns-clause-same
 returns-clause-same g c = λ equal. (tree_cloned_whole _ equal g.T.Envelope.Envelope.boxes g.T.RTreeObject.object _ _ _ c.requires c.in_ok-root.ensures refl refl refl c.new.ensures.items c.new-2.ensures.items).0

@@ -4,15 +4,15 @@ use Rattle.rstar.specs.Nodes.{all_elements}
 use Rattle.rstar.specs.Trees.{IsWholeTree}
 use Rattle.rstar.specs.Heights.{spare_lists}
 use Rattle.rstar.proofs.Insertion.{whole_of_kept}
-use Rattle.rstar.proofs.WholeTrees.{kept_at, rooms_of, sized_at, levels_kept}
+use Rattle.rstar.proofs.WholeTrees.{kept_at, narrow_of, sized_at, levels_kept}
 use Rattle.rstar.proofs.rtree.RTree.insert_prepared.Goals as goal
 
 pub insert_with_reinsertion-self-requires-clause-below : goal.insert_with_reinsertion-self-requires-clause-below
 unfolding IsWholeTree
 insert_with_reinsertion-self-requires-clause-below g c =
     let whole = c.requires.whole in
-    kept_at g.T.Envelope.Envelope.boxes g.T.RTreeObject.object g.Params.RTreeParams.MAX_SIZE c.args.self.now.widest whole.root_whole.height c.args.self.now.levels c.args.self.now.root.children.items
-    whole.leveled whole.root_whole.below whole.rooms
+    kept_at g.T.Envelope.Envelope.boxes g.T.RTreeObject.object c.args.self.now.widest whole.root_whole.height c.args.self.now.levels c.args.self.now.root.children.items
+    whole.leveled whole.root_whole.below whole.narrow_below
 
 pub insert_with_reinsertion-self-requires-clause-enough : goal.insert_with_reinsertion-self-requires-clause-enough
 unfolding IsWholeTree
@@ -32,16 +32,15 @@ returns-clause-whole g c =
       root_whole = record {
         height = h;
         tight = after.0.0.tight;
-        below = whole_of_kept g.met.T.Envelope.Envelope.envelope_laws g.met.T.RTreeObject.object_law g.Params.RTreeParams.MAX_SIZE c.args.self.now.widest h children after.1;
+        below = whole_of_kept g.met.T.Envelope.Envelope.envelope_laws g.met.T.RTreeObject.object_law c.args.self.now.widest h children after.1;
       };
       counted = omega (arith, same, counted);
-      leveled = levels_kept g.T.Envelope.Envelope.boxes g.T.RTreeObject.object g.Params.RTreeParams.MAX_SIZE c.args.self.now.widest h c.insert_with_reinsertion-self.new.root after;
+      leveled = levels_kept g.T.Envelope.Envelope.boxes g.T.RTreeObject.object c.args.self.now.widest h c.insert_with_reinsertion-self.new.root after;
       low = omega arith;
       wide = whole.wide;
       wide_fits = whole.wide_fits;
-      narrow = after.0.0.roomy.narrow;
-      root_room = λ some. after.0.0.roomy.room;
-      rooms = rooms_of g.T.Envelope.Envelope.boxes g.T.RTreeObject.object g.Params.RTreeParams.MAX_SIZE c.args.self.now.widest h children after.1;
+      narrow = after.0.0.narrow;
+      narrow_below = narrow_of g.T.Envelope.Envelope.boxes g.T.RTreeObject.object c.args.self.now.widest h children after.1;
       spares = c.insert_with_reinsertion-self.ensures.spares;
       none_over = c.insert_with_reinsertion-self.ensures.overfull.0;
     }

@@ -6,19 +6,18 @@ use Rattle.rstar.proofs.Clones.{zip_push, item_has, zip_whole, leaf_cloned, pare
 use Rattle.rstar.proofs.rtree.copies.+clone.Goals as goal
 
 pub cloned_node-returns-in_ok-element-in-Leaf : goal.cloned_node-returns-in_ok-element-in-Leaf
-cloned_node-returns-in_ok-element-in-Leaf g t c = λ h level. leaf_cloned g.T.Clone.is_clone g.Params.RTreeParams.MAX_SIZE h _ _ _ _ c.in-Leaf.is refl c.in_ok-element-in-Leaf.ensures.cases level
+cloned_node-returns-in_ok-element-in-Leaf g t c = λ h level. leaf_cloned g.T.Clone.is_clone h _ _ _ _ c.in-Leaf.is refl c.in_ok-element-in-Leaf.ensures.cases level
 
 pub cloned_node-returns-in_ok-parent-in-Parent : goal.cloned_node-returns-in_ok-parent-in-Parent
-cloned_node-returns-in_ok-parent-in-Parent g t c = λ h level. parent_cloned g.T.Clone.is_clone g.Params.RTreeParams.MAX_SIZE h _ _ _ _ c.in-Parent.is refl c.in_ok-parent-in-Parent.ensures level
+cloned_node-returns-in_ok-parent-in-Parent g t c = λ h level. parent_cloned g.T.Clone.is_clone h _ _ _ _ c.in-Parent.is refl c.in_ok-parent-in-Parent.ensures level
 
 pub cloned_parent-loop-node-preserved : goal.cloned_parent-loop-node-preserved
 cloned_parent-loop-node-preserved g t c = λ h level.
-    zip_push (IsNodeClone g.T.Clone.is_clone g.Params.RTreeParams.MAX_SIZE h) (children_of c.args.parent.now) _ _ _ c.loop-node.node-index _ _ c.as_slice-node-items.ensures.value (c.loop-node.invariant h level) c.loop-node-test.true c.node-item.is
+    zip_push (IsNodeClone g.T.Clone.is_clone h) (children_of c.args.parent.now) _ _ _ c.loop-node.node-index _ _ c.as_slice-node-items.ensures.value (c.loop-node.invariant h level) c.loop-node-test.true c.node-item.is
     (c.in_ok-cloned_node.ensures h (item_has (IsLevel h) (children_of c.args.parent.now) _ c.loop-node.node-index _ c.as_slice-node-items.ensures.value c.loop-node-test.true c.node-item.is level)) c.in_ok-push.ensures.items
 
 pub cloned_parent-returns : goal.cloned_parent-returns
 cloned_parent-returns g t c = λ h level. record {
   envelope = c.copied_envelope.ensures.same;
-  room = c.in_ok-make_room.ensures.room;
-  children = rw c.make_room.ensures.same (zip_whole _ _ _ _ c.loop-node.node-index c.as_slice-node-items.ensures.value c.loop-node-test.false (c.loop-node.invariant h level));
+  children = zip_whole _ _ _ _ c.loop-node.node-index c.as_slice-node-items.ensures.value c.loop-node-test.false (c.loop-node.invariant h level);
 }

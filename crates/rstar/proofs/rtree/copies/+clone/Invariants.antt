@@ -8,4 +8,4 @@ use Rattle.rstar.proofs.rtree.copies.+clone.Given as goal
 -- the clones of the nodes so far
 abbrev pub invariant-cloned_parent-loop-node : goal.invariant-cloned_parent-loop-node
 invariant-cloned_parent-loop-node g l = (h : ℕ) → AllByRecursion (IsLevel h) (children_of l.fn.parent)
-    → AllZip (IsNodeClone g.T.Clone.is_clone g.Params.RTreeParams.MAX_SIZE h) (take l.node-index (children_of l.fn.parent)) l.children.items
+    → AllZip (IsNodeClone g.T.Clone.is_clone h) (take l.node-index (children_of l.fn.parent)) l.children.items

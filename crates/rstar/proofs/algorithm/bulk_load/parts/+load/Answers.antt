@@ -1,4 +1,4 @@
-use Rattle.std.proofs.Common.{rules, arith, false, zero, suc, ◌≡◌, ◌+◌, ◌-◌, ◌*◌, ◌<◌, ◌≤◌, ℕ, length, min, subst, sym, refl, ap, ◌∙◌}
+use Rattle.std.proofs.Common.{arith, false, zero, suc, ◌≡◌, ◌+◌, ◌-◌, ◌*◌, ◌<◌, ◌≤◌, ℕ, length, min, subst, sym, refl, ap, ◌∙◌}
 use Rattle.std.proofs.Math.Nat.{suc-mul}
 use Rattle.std.proofs.lemmas.List.Sorted.{All-permutation, length_permutation}
 use Rattle.std.specs.Int.{div_ceil}
@@ -84,14 +84,14 @@ pub load_node-returns-clause-fresh : goal.load_node-returns-clause-fresh
 load_node-returns-clause-fresh g t c =
     let ts = last_of c.args.len c.args.list.now.items in
     let long : length ts ≡ c.args.len = length_last c.args.len c.args.list.now.items c.requires.within in
-    parts_parent g.met.T.Cover.Merges.merge_laws g.met.T.Covered.cover_law g.Params.RTreeParams.MAX_SIZE c.make_wide_room.new.widest g.T.InSlabs.axes c.slabs_on_axis-clusters.result
-    (c.args.below - 1) c.args.below c.load_parts.new.widest c.slabs_on_axis-clusters.ensures.number.0 ts c.load_parts.new.nodes.items (record { children = c.make_wide_room.new.nodes; envelope = c.envelope_for_children-envelope.result })
+    parts_parent g.met.T.Cover.Merges.merge_laws g.met.T.Covered.cover_law g.Params.RTreeParams.MAX_SIZE c.widen.new.widest g.T.InSlabs.axes c.slabs_on_axis-clusters.result
+    (c.args.below - 1) c.args.below c.load_parts.new.widest c.slabs_on_axis-clusters.ensures.number.0 ts c.load_parts.new.nodes.items (record { children = c.load_parts.new.nodes; envelope = c.envelope_for_children-envelope.result })
     (some_last c.args.len c.args.list.now.items c.requires.some c.requires.within)
     (subst (λ n. g.Params.RTreeParams.MAX_SIZE < n) (sym long) (deep_large g.Params.RTreeParams.MAX_SIZE g.T.InSlabs.axes (c.args.below - 1) c.args.below c.args.len c.requires.deep (previous c.args.below c.if-below-eq0.false))) c.slabs_on_axis-clusters.ensures.least
     (rw c.slabs_on_axis-clusters.ensures.number.2 (cluster_bound g.Params.RTreeParams.MAX_SIZE g.T.InSlabs.axes c.args.len c.slabs_on_axis-clusters.ensures.number.0 (omega (arith, g.Params.RTreeParams.max_at_least_four)) c.slabs_on_axis-clusters.ensures.number.1)) (two_some g.T.InSlabs.axes c.requires.dimensions)
-    (subst (λ n. IsClusterNumber g.Params.RTreeParams.MAX_SIZE g.T.InSlabs.axes n c.slabs_on_axis-clusters.ensures.number.0) (sym long) c.slabs_on_axis-clusters.ensures.number.1) c.slabs_on_axis-clusters.ensures.number.2 c.in_ok-make_wide_room.ensures.wider
-    (rw (c.in_ok-nodes.ensures.items, c.axes-axes.ensures) at c.in_ok-load_parts.ensures.adds) c.make_wide_room.ensures.same (previous c.args.below c.if-below-eq0.false) (rw c.deref.ensures.value at c.envelope_for_children-envelope.ensures.hull)
-    c.in_ok-make_wide_room.ensures.room (narrow_as c.make_wide_room.new.nodes.len (length c.make_wide_room.new.nodes.items) c.make_wide_room.new.widest c.make_wide_room.new.nodes.ok.0 c.in_ok-make_wide_room.ensures.narrow)
+    (subst (λ n. IsClusterNumber g.Params.RTreeParams.MAX_SIZE g.T.InSlabs.axes n c.slabs_on_axis-clusters.ensures.number.0) (sym long) c.slabs_on_axis-clusters.ensures.number.1) c.slabs_on_axis-clusters.ensures.number.2 c.widen.ensures.wider
+    (rw (c.in_ok-nodes.ensures.items, c.axes-axes.ensures) at c.in_ok-load_parts.ensures.adds) refl (previous c.args.below c.if-below-eq0.false) (rw c.deref.ensures.value at c.envelope_for_children-envelope.ensures.hull)
+    (narrow_as c.load_parts.new.nodes.len (length c.load_parts.new.nodes.items) c.widen.new.widest c.load_parts.new.nodes.ok.0 c.widen.ensures.narrow)
 
 pub load_parts-returns-then-axes-eq0-clause-adds : goal.load_parts-returns-then-axes-eq0-clause-adds
 load_parts-returns-then-axes-eq0-clause-adds g t c =

@@ -8,7 +8,7 @@ use Rattle.rstar.proofs.algorithm.bulk_load.parts.leaf_parent.Given.{Over}
 use Rattle.rstar.proofs.algorithm.bulk_load.parts.leaf_parent.Goals as goal
 
 -- the elements are the last of the list
-last : (g : Over) (c : goal.In_ok-make_wide_room g) → c.in_ok-elements.elements.items ≡ last_of c.args.len c.args.list.now.items
+last : (g : Over) (c : goal.After-widen g) → c.in_ok-elements.elements.items ≡ last_of c.args.len c.args.list.now.items
 last g c =
     let long = c.args.list.now.ok.0 in
     let from : c.len.result - c.args.len ≡ length c.args.list.now.items - c.args.len = omega (arith, c.len.ensures, long) in
@@ -16,13 +16,13 @@ last g c =
 
 pub returns-clause-same : goal.returns-clause-same
 returns-clause-same g c =
-    subst (λ l. IsPermutation l (all_elements c.make_wide_room.new.nodes.items)) (last g c)
-    (leaves_same c.in_ok-elements.elements.items c.make_wide_room.new.nodes.items (c.make_wide_room.ensures.same ∙ c.in_ok-children.ensures))
+    subst (λ l. IsPermutation l (all_elements c.in_ok-children.children.items)) (last g c)
+    (leaves_same c.in_ok-elements.elements.items c.in_ok-children.children.items c.in_ok-children.ensures)
 
 pub returns-clause-fresh : goal.returns-clause-fresh
 returns-clause-fresh g c =
-    leaves_parent g.T.Cover.Merges.boxes g.T.Covered.object g.Params.RTreeParams.MAX_SIZE c.make_wide_room.new.widest g.T.InSlabs.axes c.in_ok-elements.elements.items _
+    leaves_parent g.T.Cover.Merges.boxes g.T.Covered.object g.Params.RTreeParams.MAX_SIZE c.widen.new.widest g.T.InSlabs.axes c.in_ok-elements.elements.items _
     (rw c.deref.ensures.value at c.envelope_of_all-envelope.ensures.own)
     (subst (NoneEmpty g.T.Cover.Merges.boxes.is_empty g.T.Covered.object.box_of) (sym (last g c)) (last_has (λ t. g.T.Cover.Merges.boxes.is_empty (g.T.Covered.object.box_of t) ≡ false) c.args.len c.args.list.now.items c.requires.elements))
-    (λ none. some_last c.args.len c.args.list.now.items c.requires.some c.requires.within (sym (last g c) ∙ none)) (c.make_wide_room.ensures.same ∙ c.in_ok-children.ensures)
-    (rw c.deref.ensures.value at c.envelope_of_all-envelope.ensures.hull) c.in_ok-make_wide_room.ensures.room (omega (arith, c.make_wide_room.new.nodes.ok.0, c.in_ok-make_wide_room.ensures.narrow))
+    (λ none. some_last c.args.len c.args.list.now.items c.requires.some c.requires.within (sym (last g c) ∙ none)) c.in_ok-children.ensures
+    (rw c.deref.ensures.value at c.envelope_of_all-envelope.ensures.hull) (omega (arith, c.in_ok-children.children.ok.0, c.widen.ensures.narrow))

@@ -69,7 +69,7 @@ take_inside-returns-clause-takes g t c =
     let same = rw c.in-Parent.parent-is at c.take_earliest.ensures.same in
     rw (c.in-Parent.is, outs-Parent c.in-Parent.parent)
     (entered g.T.Cover.Merges.boxes g.T.Covered.object (g.R.Question.accepts c.args.func.now) (g.R.Question.selects c.args.func.now) c.in-Parent.parent c.take_earliest.new.node [] [] None None c.take_earliest.result
-    takes (λ m w h k below at. kept m w h k below) same)
+    takes (λ w h k below at. kept w h k below) same)
 
 pub take_inside-returns-clause-first : goal.take_inside-returns-clause-first
 take_inside-returns-clause-first g t c =
@@ -98,10 +98,10 @@ take_earliest-returns-then-changed-clause-first g t c =
     c.as_slice.ensures.value c.in-Some.ensures (c.take_at-taken.ensures.first (Parent c.args.node.now))).0
 
 pub take_earliest-returns-then-changed-clause-kept : goal.take_earliest-returns-then-changed-clause-kept
-take_earliest-returns-then-changed-clause-kept g t c m w h kept below =
+take_earliest-returns-then-changed-clause-kept g t c w h kept below =
     let takes = c.take_at-taken.ensures.takes in
     let made = rw c.deref.ensures.value at c.envelope_for_children-merged.ensures.hull in
-    kept_anew g.met.T.Cover.Merges.merge_laws g.met.T.Covered.cover_law m w h c.args.node.now _ kept (takes.whole m w h below tt) takes.shorter c.take_at-taken.new.children.ok.0 c.args.node.now.children.ok.0 c.take_at-taken.ensures.capacity made
+    kept_anew g.met.T.Cover.Merges.merge_laws g.met.T.Covered.cover_law w h c.args.node.now _ kept (takes.whole w h below tt) takes.shorter made
 
 pub take_earliest-returns-then-changed-clause-same : goal.take_earliest-returns-then-changed-clause-same
 take_earliest-returns-then-changed-clause-same g t c =
@@ -114,9 +114,9 @@ take_earliest-returns-else-changed-clause-first g t c =
     c.as_slice.ensures.value c.in-Some.ensures (c.take_at-taken.ensures.first (Parent c.args.node.now))).0
 
 pub take_earliest-returns-else-changed-clause-kept : goal.take_earliest-returns-else-changed-clause-kept
-take_earliest-returns-else-changed-clause-kept g t c m w h kept below =
+take_earliest-returns-else-changed-clause-kept g t c w h kept below =
     let takes = c.take_at-taken.ensures.takes in
-    kept_still g.met.T.Cover.Merges.merge_laws g.met.T.Covered.cover_law m w h c.args.node.now _ kept below (takes.whole m w h below tt) takes.shorter c.take_at-taken.new.children.ok.0 c.args.node.now.children.ok.0 c.take_at-taken.ensures.capacity refl (c.take_at-taken.ensures.unchanged c.if-changed.false)
+    kept_still g.met.T.Cover.Merges.merge_laws g.met.T.Covered.cover_law w h c.args.node.now _ kept below (takes.whole w h below tt) takes.shorter refl (c.take_at-taken.ensures.unchanged c.if-changed.false)
 
 pub take_earliest-returns-else-changed-clause-same : goal.take_earliest-returns-else-changed-clause-same
 take_earliest-returns-else-changed-clause-same g t c =

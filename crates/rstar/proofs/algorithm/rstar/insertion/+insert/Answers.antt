@@ -1,10 +1,9 @@
-use Rattle.std.proofs.Common.{◌≡◌, ◌<◌, ◌≤◌, ℕ, ◌-◌, ◌+◌, ◌++◌, ◌∷◌, [], ap, refl, ◌∙◌, subst, arith, append-nil, vec_len, length, Option, None, Some, IfNone, IfSome}
+use Rattle.std.proofs.Common.{◌≡◌, ◌<◌, ◌≤◌, ℕ, ◌-◌, ◌+◌, ◌++◌, ◌∷◌, [], ap, refl, ◌∙◌, subst, arith, append-nil, vec_len, IfNone, IfSome}
 use Rattle.rstar.specs.declared.node.RTreeNode.{Leaf, Parent}
 use Rattle.rstar.specs.declared.node.RTreeNode.TheVariants.{outs-Parent}
 use Rattle.rstar.specs.Nodes.{IsElement}
-use Rattle.rstar.specs.Kept.{IsKeptInner, as_node}
-use Rattle.rstar.specs.declared.node.ParentNode.{ParentNode}
-use Rattle.rstar.proofs.Insertion.{leaf_added, hull_grown, added, child_grown, child_at, tree_at, sized_leaf, sized_parts, sized_child, no_leaf_above, leaf_counted, parents_along, child_made}
+use Rattle.rstar.specs.Kept.{IsKeptInner}
+use Rattle.rstar.proofs.Insertion.{leaf_added, hull_grown, added, child_grown, child_at, tree_at, sized_leaf, sized_parts, sized_child, no_leaf_above, room_same, child_room, lowest_room, parted_room}
 use Rattle.rstar.proofs.algorithm.rstar.insertion.+insert.Goals as goal
 
 -- ---- numbers of spare lists, by lemmas that read no more than they need
@@ -15,11 +14,8 @@ some_spare l old h = omega arith
 one_left : (l old new : ℕ) → l < old → old ≤ new + l → 0 < new
 one_left l old new h k = omega arith
 
-taken_some : (old new n : ℕ) → old ≡ new + n → new ≤ old
-taken_some old new n e = omega arith
-
-fewer_yet : (old mid new n : ℕ) → mid ≡ new + n → mid ≤ old → new ≤ old
-fewer_yet old mid new n e h = omega arith
+fewer_yet : (old mid new : ℕ) → new ≤ mid → mid ≤ old → new ≤ old
+fewer_yet old mid new h k = omega arith
 
 one_more : (old new l : ℕ) → old ≤ new + l → old ≤ new + l + 1
 one_more old new l h = omega arith
@@ -27,27 +23,23 @@ one_more old new l h = omega arith
 level_below : (old new l : ℕ) → 0 < l → old ≤ new + (l - 1) + 1 → old ≤ new + l
 level_below old new l h k = omega arith
 
-at_most_one : {T E : Type 0} (r : Option (ParentNode T E)) → length (as_node r) ≤ 1
-at_most_one None = omega arith
-at_most_one (Some p) = omega arith
+used_one : (old new l : ℕ) → old ≤ new + 1 → old ≤ new + l + 1
+used_one old new l h = omega arith
 
-used_one : (old new n l : ℕ) → old ≡ new + n → n ≤ 1 → old ≤ new + l + 1
-used_one old new n l e h = omega arith
-
-used_more : (old mid new n l : ℕ) → old ≤ mid + l → mid ≡ new + n → n ≤ 1 → old ≤ new + l + 1
-used_more old mid new n l h e k = omega arith
+used_more : (old mid new l : ℕ) → old ≤ mid + l → mid ≤ new + 1 → old ≤ new + l + 1
+used_more old mid new l h k = omega arith
 
 -- ---- below a node
 
 pub insert_below-add_child-requires-clause-covered : goal.insert_below-add_child-requires-clause-covered
 insert_below-add_child-requires-clause-covered g t c =
-    let grown = leaf_added g.met.T.Cover.Merges.merge_laws g.met.T.Covered.cover_law g.Params.RTreeParams.MAX_SIZE c.args.widest c.args.levels c.args.t c.args.node.now.children.items c.if-levels-eq0.true (c.envelope-envelope.ensures.own, c.requires.element) c.requires.below in
-    (hull_grown g.met.T.Cover.Merges.merge_laws g.met.T.Covered.cover_law g.Params.RTreeParams.MAX_SIZE c.args.widest c.args.levels c.args.t c.args.node.now.children.items (c.args.node.now.children.items ++ Leaf c.args.t ∷ []) c.args.node.now.envelope c.merge.new.self c.requires.below c.requires.node.tight c.envelope-envelope.ensures.own (c.merge.ensures.merged ∙ ap (g.T.Cover.Merges.boxes.merge c.args.node.now.envelope) c.envelope-envelope.ensures.value) grown.0 grown.1).1
+    let grown = leaf_added g.met.T.Cover.Merges.merge_laws g.met.T.Covered.cover_law c.args.widest c.args.levels c.args.t c.args.node.now.children.items c.if-levels-eq0.true (c.envelope-envelope.ensures.own, c.requires.element) c.requires.below in
+    (hull_grown g.met.T.Cover.Merges.merge_laws g.met.T.Covered.cover_law c.args.widest c.args.levels c.args.t c.args.node.now.children.items (c.args.node.now.children.items ++ Leaf c.args.t ∷ []) c.args.node.now.envelope c.merge.new.self c.requires.below c.requires.node.tight c.envelope-envelope.ensures.own (c.merge.ensures.merged ∙ ap (g.T.Cover.Merges.boxes.merge c.args.node.now.envelope) c.envelope-envelope.ensures.value) grown.0 grown.1).1
 
 pub insert_below-returns-then-levels-eq0 : goal.insert_below-returns-then-levels-eq0
 insert_below-returns-then-levels-eq0 g t c =
-    let grown = leaf_added g.met.T.Cover.Merges.merge_laws g.met.T.Covered.cover_law g.Params.RTreeParams.MAX_SIZE c.args.widest c.args.levels c.args.t c.args.node.now.children.items c.if-levels-eq0.true (c.envelope-envelope.ensures.own, c.requires.element) c.requires.below in
-    let parts = added g.met.T.Cover.Merges.merge_laws g.met.T.Covered.cover_law g.Params.RTreeParams.MAX_SIZE c.args.widest c.args.levels c.args.t c.args.node.now.children.items (c.args.node.now.children.items ++ Leaf c.args.t ∷ []) c.add_child.new.node c.add_child.result grown.0 grown.1 c.add_child.ensures.same c.add_child.ensures.first c.add_child.ensures.second in
+    let grown = leaf_added g.met.T.Cover.Merges.merge_laws g.met.T.Covered.cover_law c.args.widest c.args.levels c.args.t c.args.node.now.children.items c.if-levels-eq0.true (c.envelope-envelope.ensures.own, c.requires.element) c.requires.below in
+    let parts = added g.met.T.Cover.Merges.merge_laws g.met.T.Covered.cover_law c.args.widest c.args.levels c.args.t c.args.node.now.children.items (c.args.node.now.children.items ++ Leaf c.args.t ∷ []) c.add_child.new.node c.add_child.result grown.0 grown.1 c.add_child.ensures.same c.add_child.ensures.first c.add_child.ensures.second in
     record {
       bag = parts.0;
       first = parts.1;
@@ -56,31 +48,22 @@ insert_below-returns-then-levels-eq0 g t c =
           (sized_leaf g.Params.RTreeParams.MIN_SIZE g.Params.RTreeParams.MAX_SIZE g.Params.RTreeParams.min_positive c.args.levels c.args.t c.args.node.now.children.items c.if-levels-eq0.true sized.0) c.add_child.ensures.same sized.1
           c.add_child.ensures.whole c.add_child.ensures.low c.add_child.ensures.first_least c.add_child.ensures.second_least c.add_child.ensures.lengths;
       spares = c.add_child.ensures.spares;
-      used = used_one (vec_len c.args.spares.now) (vec_len c.add_child.new.spares) (length (as_node c.add_child.result)) c.args.levels c.add_child.ensures.used (at_most_one c.add_child.result);
-      fewer = taken_some (vec_len c.args.spares.now) (vec_len c.add_child.new.spares) _ c.add_child.ensures.used;
+      used = used_one (vec_len c.args.spares.now) (vec_len c.add_child.new.spares) c.args.levels c.add_child.ensures.used;
+      fewer = c.add_child.ensures.fewer;
       places = c.add_child.ensures.places;
       overfull = c.add_child.ensures.overfull;
-      made = let same = parents_along _ _ c.add_child.ensures.same in
-          let leaf = leaf_counted c.args.node.now.children.items c.args.t in
-          omega (arith, same, leaf, c.add_child.ensures.used);
+      room = lowest_room c.args.widest c.args.levels c.args.node.now c.add_child.new.node c.add_child.result (vec_len c.args.spares.now) (vec_len c.add_child.new.spares) c.if-levels-eq0.true c.add_child.ensures.second_room c.add_child.ensures.room;
     }
 
 pub insert_below-returns-in-None-clause-first : goal.insert_below-returns-in-None-clause-first
 insert_below-returns-in-None-clause-first g t c =
     let below = rw append-nil at c.in-None.ensures.below in
-    let hull = hull_grown g.met.T.Cover.Merges.merge_laws g.met.T.Covered.cover_law g.Params.RTreeParams.MAX_SIZE c.args.widest c.args.levels c.args.t c.args.node.now.children.items c.insert_in_child.new.children.items c.args.node.now.envelope c.merge.new.self c.requires.below c.requires.node.tight c.envelope-envelope.ensures.own (c.merge.ensures.merged ∙ ap (g.T.Cover.Merges.boxes.merge c.args.node.now.envelope) c.envelope-envelope.ensures.value) (rw append-nil at c.in-None.ensures.bag) below in
-    let roomy = c.requires.node.roomy in
+    let hull = hull_grown g.met.T.Cover.Merges.merge_laws g.met.T.Covered.cover_law c.args.widest c.args.levels c.args.t c.args.node.now.children.items c.insert_in_child.new.children.items c.args.node.now.envelope c.merge.new.self c.requires.below c.requires.node.tight c.envelope-envelope.ensures.own (c.merge.ensures.merged ∙ ap (g.T.Cover.Merges.boxes.merge c.args.node.now.envelope) c.envelope-envelope.ensures.value) (rw append-nil at c.in-None.ensures.bag) below in
+    let few = c.requires.node.narrow in
     let length = c.in-None.ensures.length in
-    let capacity = c.in-None.ensures.capacity in
     let some = c.requires.some (omega arith) in (
       (
-        record {
-          tight = hull.0;
-          roomy = record {
-            narrow = omega (arith, c.insert_in_child.new.children.ok.0, c.args.node.now.children.ok.0);
-            room = omega arith;
-          };
-        },
+        record { tight = hull.0; narrow = omega (arith, c.insert_in_child.new.children.ok.0, c.args.node.now.children.ok.0) },
         omega (arith, c.insert_in_child.new.children.ok.0),
       ),
       below,
@@ -88,11 +71,11 @@ insert_below-returns-in-None-clause-first g t c =
 
 pub insert_below-add_child-requires-in-Some-clause-covered : goal.insert_below-add_child-requires-in-Some-clause-covered
 insert_below-add_child-requires-in-Some-clause-covered g t c =
-    (hull_grown g.met.T.Cover.Merges.merge_laws g.met.T.Covered.cover_law g.Params.RTreeParams.MAX_SIZE c.args.widest c.args.levels c.args.t c.args.node.now.children.items (c.insert_in_child.new.children.items ++ Parent c.in-Some.second ∷ []) c.args.node.now.envelope c.merge.new.self c.requires.below c.requires.node.tight c.envelope-envelope.ensures.own (c.merge.ensures.merged ∙ ap (g.T.Cover.Merges.boxes.merge c.args.node.now.envelope) c.envelope-envelope.ensures.value) c.in-Some.ensures.bag c.in-Some.ensures.below).1
+    (hull_grown g.met.T.Cover.Merges.merge_laws g.met.T.Covered.cover_law c.args.widest c.args.levels c.args.t c.args.node.now.children.items (c.insert_in_child.new.children.items ++ Parent c.in-Some.second ∷ []) c.args.node.now.envelope c.merge.new.self c.requires.below c.requires.node.tight c.envelope-envelope.ensures.own (c.merge.ensures.merged ∙ ap (g.T.Cover.Merges.boxes.merge c.args.node.now.envelope) c.envelope-envelope.ensures.value) c.in-Some.ensures.bag c.in-Some.ensures.below).1
 
 pub insert_below-returns : goal.insert_below-returns
 insert_below-returns g t c =
-    let parts = added g.met.T.Cover.Merges.merge_laws g.met.T.Covered.cover_law g.Params.RTreeParams.MAX_SIZE c.args.widest c.args.levels c.args.t c.args.node.now.children.items (c.insert_in_child.new.children.items ++ Parent c.in-Some.second ∷ []) c.add_child-in-Some.new.node c.add_child-in-Some.result c.in-Some.ensures.bag c.in-Some.ensures.below c.add_child-in-Some.ensures.same c.add_child-in-Some.ensures.first c.add_child-in-Some.ensures.second in
+    let parts = added g.met.T.Cover.Merges.merge_laws g.met.T.Covered.cover_law c.args.widest c.args.levels c.args.t c.args.node.now.children.items (c.insert_in_child.new.children.items ++ Parent c.in-Some.second ∷ []) c.add_child-in-Some.new.node c.add_child-in-Some.result c.in-Some.ensures.bag c.in-Some.ensures.below c.add_child-in-Some.ensures.same c.add_child-in-Some.ensures.first c.add_child-in-Some.ensures.second in
     record {
       bag = parts.0;
       first = parts.1;
@@ -102,12 +85,12 @@ insert_below-returns g t c =
           (subst (λ n. IfNone c.add_child-in-Some.result (vec_len c.add_child-in-Some.new.node.children ≡ n + 1)) c.in-Some.ensures.length c.add_child-in-Some.ensures.whole) c.add_child-in-Some.ensures.low c.add_child-in-Some.ensures.first_least c.add_child-in-Some.ensures.second_least
           (subst (λ n. IfSome c.add_child-in-Some.result (λ q. vec_len c.add_child-in-Some.new.node.children + vec_len q.children ≡ n + 1)) c.in-Some.ensures.length c.add_child-in-Some.ensures.lengths);
       spares = c.add_child-in-Some.ensures.spares;
-      used = used_more (vec_len c.args.spares.now) (vec_len c.insert_in_child.new.spares) (vec_len c.add_child-in-Some.new.spares) (length (as_node c.add_child-in-Some.result)) c.args.levels c.in-Some.ensures.used c.add_child-in-Some.ensures.used (at_most_one c.add_child-in-Some.result);
-      fewer = fewer_yet (vec_len c.args.spares.now) (vec_len c.insert_in_child.new.spares) (vec_len c.add_child-in-Some.new.spares) _ c.add_child-in-Some.ensures.used c.in-Some.ensures.fewer;
+      used = used_more (vec_len c.args.spares.now) (vec_len c.insert_in_child.new.spares) (vec_len c.add_child-in-Some.new.spares) c.args.levels c.in-Some.ensures.used c.add_child-in-Some.ensures.used;
+      fewer = fewer_yet (vec_len c.args.spares.now) (vec_len c.insert_in_child.new.spares) (vec_len c.add_child-in-Some.new.spares) c.add_child-in-Some.ensures.fewer c.in-Some.ensures.fewer;
       places = c.add_child-in-Some.ensures.places ∙ c.in-Some.ensures.places;
       overfull = c.add_child-in-Some.ensures.overfull;
-      made = let same = parents_along _ _ c.add_child-in-Some.ensures.same in
-          omega (arith, same, c.in-Some.ensures.made, c.add_child-in-Some.ensures.used);
+      room = parted_room c.args.widest c.args.levels c.args.node.now c.insert_in_child.new.children c.in-Some.second c.add_child-in-Some.new.node c.add_child-in-Some.result (vec_len c.args.spares.now) (vec_len c.insert_in_child.new.spares) (vec_len c.add_child-in-Some.new.spares)
+          c.in-Some.ensures.capacity c.in-Some.ensures.room c.add_child-in-Some.ensures.same c.add_child-in-Some.ensures.second_room c.add_child-in-Some.ensures.room;
     }
 
 -- ---- in a child
@@ -122,24 +105,26 @@ insert_below-returns-in-None-clause-sized g t c =
       second_sized = tt;
     }
 
-pub insert_below-returns-in-None-clause-made : goal.insert_below-returns-in-None-clause-made
-insert_below-returns-in-None-clause-made g t c =
-    omega (arith, c.in-None.ensures.made)
+pub insert_below-returns-in-None-clause-room : goal.insert_below-returns-in-None-clause-room
+insert_below-returns-in-None-clause-room g t c =
+    let below = rw append-nil at c.in-None.ensures.room in
+    let held = room_same c.args.widest c.insert_in_child.new.children c.args.node.now.children c.in-None.ensures.capacity in
+    omega (arith, below, held)
 
 pub insert_in_child-insert_below-requires : goal.insert_in_child-insert_below-requires
 insert_in_child-insert_below-requires g t c κs within =
-    let tree = child_at (IsKeptInner g.T.Cover.Merges.boxes g.T.Covered.object g.Params.RTreeParams.MAX_SIZE c.args.widest) (IsElement g.T.Cover.Merges.boxes g.T.Covered.object) c.args.levels c.args.children.now.items c.args.index (Parent c.in-Parent.child) (subst (λ n. c.args.index < n) c.args.children.now.ok.0 c.requires.index) (rw c.in-Parent.is at c.index_mut.ensures.value) c.requires.below in
-    let at = tree_at (IsKeptInner g.T.Cover.Merges.boxes g.T.Covered.object g.Params.RTreeParams.MAX_SIZE c.args.widest) (IsElement g.T.Cover.Merges.boxes g.T.Covered.object) c.args.levels c.in-Parent.child c.requires.above tree in
+    let tree = child_at (IsKeptInner g.T.Cover.Merges.boxes g.T.Covered.object c.args.widest) (IsElement g.T.Cover.Merges.boxes g.T.Covered.object) c.args.levels c.args.children.now.items c.args.index (Parent c.in-Parent.child) (subst (λ n. c.args.index < n) c.args.children.now.ok.0 c.requires.index) (rw c.in-Parent.is at c.index_mut.ensures.value) c.requires.below in
+    let at = tree_at (IsKeptInner g.T.Cover.Merges.boxes g.T.Covered.object c.args.widest) (IsElement g.T.Cover.Merges.boxes g.T.Covered.object) c.args.levels c.in-Parent.child c.requires.above tree in
     rw c.in-Parent.child-is (omega arith, (within.0, (within.1.0, (within.1.1, (at.0.0, (at.1, (λ _. omega (arith, at.0.1, c.in-Parent.child.children.ok.0), (c.requires.element, (c.requires.wide, (c.requires.spares, (omega arith, c.requires.overfull)))))))))))
 
 pub insert_in_child-unreachable-requires : goal.insert_in_child-unreachable-requires
 insert_in_child-unreachable-requires g t c =
-    no_leaf_above (IsKeptInner g.T.Cover.Merges.boxes g.T.Covered.object g.Params.RTreeParams.MAX_SIZE c.args.widest) (IsElement g.T.Cover.Merges.boxes g.T.Covered.object) c.args.levels c.in-Leaf.field-0 c.requires.above
-    (child_at (IsKeptInner g.T.Cover.Merges.boxes g.T.Covered.object g.Params.RTreeParams.MAX_SIZE c.args.widest) (IsElement g.T.Cover.Merges.boxes g.T.Covered.object) c.args.levels c.args.children.now.items c.args.index (Leaf c.in-Leaf.field-0) (subst (λ n. c.args.index < n) c.args.children.now.ok.0 c.requires.index) (rw c.in-Leaf.is at c.index_mut.ensures.value) c.requires.below)
+    no_leaf_above (IsKeptInner g.T.Cover.Merges.boxes g.T.Covered.object c.args.widest) (IsElement g.T.Cover.Merges.boxes g.T.Covered.object) c.args.levels c.in-Leaf.field-0 c.requires.above
+    (child_at (IsKeptInner g.T.Cover.Merges.boxes g.T.Covered.object c.args.widest) (IsElement g.T.Cover.Merges.boxes g.T.Covered.object) c.args.levels c.args.children.now.items c.args.index (Leaf c.in-Leaf.field-0) (subst (λ n. c.args.index < n) c.args.children.now.ok.0 c.requires.index) (rw c.in-Leaf.is at c.index_mut.ensures.value) c.requires.below)
 
 pub insert_in_child-returns : goal.insert_in_child-returns
 insert_in_child-returns g t c =
-    let grown = child_grown g.met.T.Cover.Merges.merge_laws g.met.T.Covered.cover_law g.Params.RTreeParams.MAX_SIZE c.args.widest c.args.levels c.args.t c.args.children.now.items c.args.index c.in-Parent.child c.insert_below.new.node c.insert_below.result c.requires.above (subst (λ n. c.args.index < n) c.args.children.now.ok.0 c.requires.index) (rw c.in-Parent.is at c.index_mut.ensures.value) c.requires.below
+    let grown = child_grown g.met.T.Cover.Merges.merge_laws g.met.T.Covered.cover_law c.args.widest c.args.levels c.args.t c.args.children.now.items c.args.index c.in-Parent.child c.insert_below.new.node c.insert_below.result c.requires.above (subst (λ n. c.args.index < n) c.args.children.now.ok.0 c.requires.index) (rw c.in-Parent.is at c.index_mut.ensures.value) c.requires.below
     (rw c.in-Parent.child-is at c.insert_below.ensures.bag) c.insert_below.ensures.first c.insert_below.ensures.second in
     record {
       bag = simp (c.in-Parent.is, outs-Parent) grown.0;
@@ -153,14 +138,14 @@ insert_in_child-returns g t c =
       fewer = c.insert_below.ensures.fewer;
       places = c.insert_below.ensures.places;
       overfull = c.insert_below.ensures.overfull;
-      made = simp (c.in-Parent.is, outs-Parent) (child_made c.args.children.now.items c.args.index c.in-Parent.child c.insert_below.new.node c.insert_below.result (vec_len c.args.spares.now) (vec_len c.insert_below.new.spares)
-          (subst (λ n. c.args.index < n) c.args.children.now.ok.0 c.requires.index) (rw c.in-Parent.is at c.index_mut.ensures.value) (rw c.in-Parent.child-is at c.insert_below.ensures.made));
+      room = simp (c.in-Parent.is, outs-Parent) (child_room c.args.widest c.args.levels c.args.children.now.items c.args.index c.in-Parent.child c.insert_below.new.node c.insert_below.result (vec_len c.args.spares.now) (vec_len c.insert_below.new.spares)
+          c.requires.above (subst (λ n. c.args.index < n) c.args.children.now.ok.0 c.requires.index) (rw c.in-Parent.is at c.index_mut.ensures.value) (rw c.in-Parent.child-is at c.insert_below.ensures.room));
     }
 
 -- ---- what stands there already
 
-pub insert_below-add_child-requires-clause-roomy : goal.insert_below-add_child-requires-clause-roomy
-insert_below-add_child-requires-clause-roomy g t c = record { narrow = c.requires.node.roomy.narrow; room = c.requires.node.roomy.room }
+pub insert_below-add_child-requires-clause-narrow : goal.insert_below-add_child-requires-clause-narrow
+insert_below-add_child-requires-clause-narrow g t c = c.requires.node.narrow
 
 pub insert_below-add_child-requires-clause-wide : goal.insert_below-add_child-requires-clause-wide
 insert_below-add_child-requires-clause-wide g t c = c.requires.wide

@@ -3,27 +3,29 @@ use Rattle.std.specs.List.{AllByRecursion}
 use Rattle.rstar_base.proofs.Along.{IsPermutation-same}
 use Rattle.rstar_base.proofs.Lists.{all_first, all_second}
 use Rattle.rstar.specs.Kept.{IsSpare}
+use Rattle.rstar.proofs.Insertion.{room_more}
 use Rattle.rstar.proofs.algorithm.rstar.insertion.add_child.Goals as goal
 
 pub push_reserved-requires : goal.push_reserved-requires
-push_reserved-requires g c = omega (arith, c.requires.roomy.room)
+push_reserved-requires g c = c.take_place.ensures.place
 
 pub returns-then-len-MAX_SIZE-clause-same : goal.returns-then-len-MAX_SIZE-clause-same
 returns-then-len-MAX_SIZE-clause-same g c =
-    IsPermutation-same (c.args.node.now.children.items ++ c.args.child ∷ []) _ (sym (append-nil c.push_reserved.new.self.items ∙ c.push_reserved.ensures.items))
+    IsPermutation-same (c.args.node.now.children.items ++ c.args.child ∷ []) _
+    (sym (append-nil c.push_reserved.new.self.items ∙ c.push_reserved.ensures.items ∙ ap (λ ns. ns ++ c.args.child ∷ []) c.take_place.ensures.same))
 
 pub returns-then-len-MAX_SIZE-clause-first : goal.returns-then-len-MAX_SIZE-clause-first
 returns-then-len-MAX_SIZE-clause-first g c = record {
-  merged = rw c.push_reserved.ensures.items c.requires.covered;
+  merged = rw (c.push_reserved.ensures.items, c.take_place.ensures.same) c.requires.covered;
   some = omega (arith, c.push_reserved.ensures.len);
-  roomy = record { narrow = omega (arith, c.push_reserved.ensures.len); room = omega (arith, c.push_reserved.ensures.capacity) };
+  narrow = omega (arith, c.push_reserved.ensures.len, c.take_place.ensures.length, c.push_reserved.new.self.ok.0, c.requires.wide);
 }
 
 pub move_all-requires-clause-room : goal.move_all-requires-clause-room
-move_all-requires-clause-room g c = omega (arith, c.requires.roomy.narrow, c.requires.overfull.1, c.args.node.now.children.ok.0)
+move_all-requires-clause-room g c = omega (arith, c.requires.narrow, c.requires.overfull.1, c.args.node.now.children.ok.0)
 
 pub push_reserved-requires-2 : goal.push_reserved-requires-2
-push_reserved-requires-2 g c = omega (arith, c.requires.roomy.narrow, c.requires.overfull.1, c.args.node.now.children.ok.0, c.move_all.ensures.length, c.move_all.ensures.empty_capacity)
+push_reserved-requires-2 g c = omega (arith, c.requires.narrow, c.requires.overfull.1, c.args.node.now.children.ok.0, c.move_all.ensures.length, c.move_all.ensures.empty_capacity)
 
 pub split_in_place-requires-clause-empty : goal.split_in_place-requires-clause-empty
 split_in_place-requires-clause-empty g c = ((all_second (IsSpare c.args.widest) c.take_last-second.new.self.items (c.take_last-second.result ∷ []) (subst (AllByRecursion (IsSpare c.args.widest)) c.take_last-second.ensures.items c.requires.spares)).0).0
@@ -31,7 +33,7 @@ split_in_place-requires-clause-empty g c = ((all_second (IsSpare c.args.widest) 
 pub split_in_place-requires-clause-room : goal.split_in_place-requires-clause-room
 split_in_place-requires-clause-room g c =
     let spare = (all_second (IsSpare c.args.widest) c.take_last-second.new.self.items (c.take_last-second.result ∷ []) (subst (AllByRecursion (IsSpare c.args.widest)) c.take_last-second.ensures.items c.requires.spares)).0 in
-    omega (arith, spare.1, c.requires.roomy.narrow, c.move_all.ensures.length, c.push_reserved-2.ensures.len, c.args.node.now.children.ok.0, g.Params.RTreeParams.min_positive)
+    omega (arith, spare.1, c.requires.narrow, c.move_all.ensures.length, c.push_reserved-2.ensures.len, c.args.node.now.children.ok.0, g.Params.RTreeParams.min_positive)
 
 pub move_all-requires-2-clause-room : goal.move_all-requires-2-clause-room
 move_all-requires-2-clause-room g c =
@@ -53,10 +55,7 @@ returns-clause-first g c =
     record {
       merged = rw (← c.deref.ensures.value) c.envelope_for_children.ensures.hull;
       some = omega (arith, positive, long, moved, c.move_all-2.new.empty.ok.0);
-      roomy = record {
-        narrow = omega (arith, positive, all, least, moved, over, one, c.requires.roomy.narrow, c.args.node.now.children.ok.0, c.move_all-2.new.empty.ok.0);
-        room = omega (arith, c.requires.roomy.room, c.move_all.ensures.capacity, c.move_all-2.ensures.empty_capacity);
-      };
+      narrow = omega (arith, positive, all, least, moved, over, one, c.requires.narrow, c.args.node.now.children.ok.0, c.move_all-2.new.empty.ok.0);
     }
 
 pub returns-clause-second : goal.returns-clause-second
@@ -71,10 +70,7 @@ returns-clause-second g c =
     record {
       merged = rw (← c.deref-2.ensures.value) c.envelope_for_children-envelope.ensures.hull;
       some = omega (arith, positive, long, c.split_in_place.new.spare.ok.0);
-      roomy = record {
-        narrow = omega (arith, positive, all, least, over, one, c.requires.roomy.narrow, c.args.node.now.children.ok.0, c.split_in_place.new.spare.ok.0);
-        room = omega (arith, spare.1, c.requires.wide, c.split_in_place.ensures.second_capacity);
-      };
+      narrow = omega (arith, positive, all, least, over, one, c.requires.narrow, c.args.node.now.children.ok.0, c.split_in_place.new.spare.ok.0);
     }
 
 pub returns-clause-spares : goal.returns-clause-spares
@@ -85,3 +81,13 @@ returns-clause-overfull g c = (
   c.move_all-2.ensures.left,
   omega (arith, c.requires.overfull.1, c.move_all.ensures.empty_capacity, c.push_reserved-2.ensures.capacity, c.split_in_place.ensures.first_capacity, c.move_all-2.ensures.capacity),
 )
+
+pub returns-clause-room : goal.returns-clause-room
+returns-clause-room g c =
+    let more = room_more c.args.widest c.args.node.now.children c.move_all-2.new.empty (omega (arith, c.move_all.ensures.capacity, c.move_all-2.ensures.empty_capacity)) in
+    omega (arith, more, c.take_last-second.ensures.len)
+
+pub returns-clause-second_room : goal.returns-clause-second_room
+returns-clause-second_room g c =
+    let spare = (all_second (IsSpare c.args.widest) c.take_last-second.new.self.items (c.take_last-second.result ∷ []) (subst (AllByRecursion (IsSpare c.args.widest)) c.take_last-second.ensures.items c.requires.spares)).0 in
+    omega (arith, spare.1, c.split_in_place.ensures.second_capacity)

@@ -29,7 +29,7 @@ pub returns-clause-room : goal.returns-clause-room
 returns-clause-room g c =
     let spare = (all_second (IsSpare c.args.widest) c.take_last-children.new.self.items (c.take_last-children.result ∷ []) (subst (AllByRecursion (IsSpare c.args.widest)) c.take_last-children.ensures.items c.requires.spares)).0 in
     let room = ap (λ n. vec_capacity n.children) c.replace-old.ensures.after in
-    omega (arith, spare.1, c.requires.wide, room, c.push_reserved.ensures.capacity, c.push_reserved-2.ensures.capacity)
+    omega (arith, spare.1, room, c.push_reserved.ensures.capacity, c.push_reserved-2.ensures.capacity)
 
 pub returns-clause-spares : goal.returns-clause-spares
 returns-clause-spares g c = all_first (IsSpare c.args.widest) c.take_last-children.new.self.items (c.take_last-children.result ∷ []) (subst (AllByRecursion (IsSpare c.args.widest)) c.take_last-children.ensures.items c.requires.spares)

@@ -3,22 +3,22 @@ use Rattle.std.proofs.lemmas.List.{nil_from_length}
 use Rattle.rstar.specs.declared.node.RTreeNode.{Leaf, Parent}
 use Rattle.rstar.specs.declared.node.RTreeNode.TheVariants.{outs-Parent}
 use Rattle.rstar.specs.Nodes.{IsElement}
-use Rattle.rstar.specs.Kept.{IsKeptInner}
-use Rattle.rstar.proofs.Insertion.{leaf_added, hull_grown, child_at, tree_at, sized_leaf, sized_child, no_leaf_above, child_same}
-use Rattle.rstar.proofs.Reinsertion.{leaf_handed, child_handed, made_anew, sized_kept, leaf_left}
+use Rattle.rstar.specs.Kept.{IsKeptInner, has_room}
+use Rattle.rstar.proofs.Insertion.{leaf_added, hull_grown, child_at, tree_at, sized_leaf, sized_child, no_leaf_above, room_same}
+use Rattle.rstar.proofs.Reinsertion.{leaf_handed, child_handed, made_anew, sized_kept, lowest_left, child_left}
 use Rattle.rstar.proofs.algorithm.rstar.reinsertion.+first.Goals as goal
 
 -- ---- below a node
 
 pub insert_first-add_leaf-requires-clause-covered : goal.insert_first-add_leaf-requires-clause-covered
 insert_first-add_leaf-requires-clause-covered g t c =
-    let grown = leaf_added g.met.T.Cover.Merges.merge_laws g.met.T.Covered.cover_law g.Params.RTreeParams.MAX_SIZE c.args.widest c.args.levels c.args.t c.args.node.now.children.items c.if-levels-eq0.true (c.envelope-envelope.ensures.own, c.requires.element) c.requires.below in
-    (hull_grown g.met.T.Cover.Merges.merge_laws g.met.T.Covered.cover_law g.Params.RTreeParams.MAX_SIZE c.args.widest c.args.levels c.args.t c.args.node.now.children.items _ c.args.node.now.envelope c.merge.new.self c.requires.below c.requires.node.tight c.envelope-envelope.ensures.own (c.merge.ensures.merged ∙ ap (g.T.Cover.Merges.boxes.merge c.args.node.now.envelope) c.envelope-envelope.ensures.value) grown.0 grown.1).1
+    let grown = leaf_added g.met.T.Cover.Merges.merge_laws g.met.T.Covered.cover_law c.args.widest c.args.levels c.args.t c.args.node.now.children.items c.if-levels-eq0.true (c.envelope-envelope.ensures.own, c.requires.element) c.requires.below in
+    (hull_grown g.met.T.Cover.Merges.merge_laws g.met.T.Covered.cover_law c.args.widest c.args.levels c.args.t c.args.node.now.children.items _ c.args.node.now.envelope c.merge.new.self c.requires.below c.requires.node.tight c.envelope-envelope.ensures.own (c.merge.ensures.merged ∙ ap (g.T.Cover.Merges.boxes.merge c.args.node.now.envelope) c.envelope-envelope.ensures.value) grown.0 grown.1).1
 
 pub insert_first-returns-then-levels-eq0 : goal.insert_first-returns-then-levels-eq0
 insert_first-returns-then-levels-eq0 g t c =
-    let grown = leaf_added g.met.T.Cover.Merges.merge_laws g.met.T.Covered.cover_law g.Params.RTreeParams.MAX_SIZE c.args.widest c.args.levels c.args.t c.args.node.now.children.items c.if-levels-eq0.true (c.envelope-envelope.ensures.own, c.requires.element) c.requires.below in
-    let handed = leaf_handed g.met.T.Cover.Merges.merge_laws g.met.T.Covered.cover_law g.Params.RTreeParams.MAX_SIZE c.args.widest c.args.levels c.args.t c.args.node.now.children.items (c.args.node.now.children.items ++ Leaf c.args.t ∷ []) c.add_leaf.new.handed.items c.add_leaf.new.node c.if-levels-eq0.true grown.0 grown.1 c.add_leaf.ensures.same c.add_leaf.ensures.fit in
+    let grown = leaf_added g.met.T.Cover.Merges.merge_laws g.met.T.Covered.cover_law c.args.widest c.args.levels c.args.t c.args.node.now.children.items c.if-levels-eq0.true (c.envelope-envelope.ensures.own, c.requires.element) c.requires.below in
+    let handed = leaf_handed g.met.T.Cover.Merges.merge_laws g.met.T.Covered.cover_law c.args.widest c.args.levels c.args.t c.args.node.now.children.items (c.args.node.now.children.items ++ Leaf c.args.t ∷ []) c.add_leaf.new.handed.items c.add_leaf.new.node c.if-levels-eq0.true grown.0 grown.1 c.add_leaf.ensures.same c.add_leaf.ensures.fit in
     record {
       bag = handed.0;
       kept = handed.1;
@@ -27,49 +27,45 @@ insert_first-returns-then-levels-eq0 g t c =
       sized = λ sized.
           sized_kept g.Params.RTreeParams.MIN_SIZE g.Params.RTreeParams.MAX_SIZE c.args.levels (vec_len c.args.node.now.children) (c.args.node.now.children.items ++ Leaf c.args.t ∷ []) c.add_leaf.new.handed.items c.add_leaf.new.node
           (sized_leaf g.Params.RTreeParams.MIN_SIZE g.Params.RTreeParams.MAX_SIZE g.Params.RTreeParams.min_positive c.args.levels c.args.t c.args.node.now.children.items c.if-levels-eq0.true sized.0) c.add_leaf.ensures.same (c.add_leaf.ensures.most sized.1) c.add_leaf.ensures.least;
-      capacity = c.add_leaf.ensures.capacity;
       overfull = c.add_leaf.ensures.overfull;
-      parents = leaf_left (IsKeptInner g.T.Cover.Merges.boxes g.T.Covered.object g.Params.RTreeParams.MAX_SIZE c.args.widest) (IsElement g.T.Cover.Merges.boxes g.T.Covered.object) c.args.levels c.args.t c.args.node.now.children.items c.add_leaf.new.node.children.items c.add_leaf.new.handed.items
-          c.if-levels-eq0.true c.requires.below c.add_leaf.ensures.same;
+      room = lowest_left c.args.widest c.args.levels c.args.node.now c.add_leaf.new.node (has_room c.args.widest c.add_leaf.new.handed) c.if-levels-eq0.true c.add_leaf.ensures.room;
     }
 
 pub insert_first-returns-then-not-is_empty-clause-kept : goal.insert_first-returns-then-not-is_empty-clause-kept
 insert_first-returns-then-not-is_empty-clause-kept g t c =
-    let roomy = c.requires.node.roomy in
+    let few = c.requires.node.narrow in
     let length = c.insert_first_in_child.ensures.length in
-    let capacity = c.insert_first_in_child.ensures.capacity in
     let some = c.requires.some (omega arith) in
     let is = rw c.deref-then-not-is_empty.ensures.value at c.envelope_for_children.ensures.hull in
-    let tight = made_anew g.met.T.Cover.Merges.merge_laws g.met.T.Covered.cover_law g.Params.RTreeParams.MAX_SIZE c.args.widest c.args.levels c.insert_first_in_child.new.children.items c.envelope_for_children.result c.insert_first_in_child.ensures.below is in
-    ((record { tight = tight; roomy = record { narrow = omega (arith, c.insert_first_in_child.new.children.ok.0, c.args.node.now.children.ok.0); room = omega arith } }, omega (arith, c.insert_first_in_child.new.children.ok.0)), c.insert_first_in_child.ensures.below)
+    let tight = made_anew g.met.T.Cover.Merges.merge_laws g.met.T.Covered.cover_law c.args.widest c.args.levels c.insert_first_in_child.new.children.items c.envelope_for_children.result c.insert_first_in_child.ensures.below is in
+    ((record { tight = tight; narrow = omega (arith, c.insert_first_in_child.new.children.ok.0, c.args.node.now.children.ok.0) }, omega (arith, c.insert_first_in_child.new.children.ok.0)), c.insert_first_in_child.ensures.below)
 
 pub insert_first-returns-clause-kept : goal.insert_first-returns-clause-kept
 insert_first-returns-clause-kept g t c =
-    let roomy = c.requires.node.roomy in
+    let few = c.requires.node.narrow in
     let length = c.insert_first_in_child.ensures.length in
-    let capacity = c.insert_first_in_child.ensures.capacity in
     let some = c.requires.some (omega arith) in
     let zero : vec_len c.insert_first_in_child.new.handed ≡ 0 = search rules in
     let none = nil_from_length c.insert_first_in_child.new.handed.items (omega (arith, zero, c.insert_first_in_child.new.handed.ok.0)) in
     let bag = rw (none, append-nil) at c.insert_first_in_child.ensures.bag in
-    let tight = (hull_grown g.met.T.Cover.Merges.merge_laws g.met.T.Covered.cover_law g.Params.RTreeParams.MAX_SIZE c.args.widest c.args.levels c.args.t c.args.node.now.children.items c.insert_first_in_child.new.children.items c.args.node.now.envelope c.merge.new.self c.requires.below c.requires.node.tight c.envelope-envelope.ensures.own (c.merge.ensures.merged ∙ ap (g.T.Cover.Merges.boxes.merge c.args.node.now.envelope) c.envelope-envelope.ensures.value) bag c.insert_first_in_child.ensures.below).0 in
-    ((record { tight = tight; roomy = record { narrow = omega (arith, c.insert_first_in_child.new.children.ok.0, c.args.node.now.children.ok.0); room = omega arith } }, omega (arith, c.insert_first_in_child.new.children.ok.0)), c.insert_first_in_child.ensures.below)
+    let tight = (hull_grown g.met.T.Cover.Merges.merge_laws g.met.T.Covered.cover_law c.args.widest c.args.levels c.args.t c.args.node.now.children.items c.insert_first_in_child.new.children.items c.args.node.now.envelope c.merge.new.self c.requires.below c.requires.node.tight c.envelope-envelope.ensures.own (c.merge.ensures.merged ∙ ap (g.T.Cover.Merges.boxes.merge c.args.node.now.envelope) c.envelope-envelope.ensures.value) bag c.insert_first_in_child.ensures.below).0 in
+    ((record { tight = tight; narrow = omega (arith, c.insert_first_in_child.new.children.ok.0, c.args.node.now.children.ok.0) }, omega (arith, c.insert_first_in_child.new.children.ok.0)), c.insert_first_in_child.ensures.below)
 
 -- ---- in a child
 
 pub insert_first_in_child-insert_first-requires : goal.insert_first_in_child-insert_first-requires
 insert_first_in_child-insert_first-requires g t c κs within =
-    let tree = child_at (IsKeptInner g.T.Cover.Merges.boxes g.T.Covered.object g.Params.RTreeParams.MAX_SIZE c.args.widest) (IsElement g.T.Cover.Merges.boxes g.T.Covered.object) c.args.levels c.args.children.now.items c.args.index (Parent c.in-Parent.child) (subst (λ n. c.args.index < n) c.args.children.now.ok.0 c.requires.index) (rw c.in-Parent.is at c.index_mut.ensures.value) c.requires.below in
-    let at = tree_at (IsKeptInner g.T.Cover.Merges.boxes g.T.Covered.object g.Params.RTreeParams.MAX_SIZE c.args.widest) (IsElement g.T.Cover.Merges.boxes g.T.Covered.object) c.args.levels c.in-Parent.child c.requires.above tree in
+    let tree = child_at (IsKeptInner g.T.Cover.Merges.boxes g.T.Covered.object c.args.widest) (IsElement g.T.Cover.Merges.boxes g.T.Covered.object) c.args.levels c.args.children.now.items c.args.index (Parent c.in-Parent.child) (subst (λ n. c.args.index < n) c.args.children.now.ok.0 c.requires.index) (rw c.in-Parent.is at c.index_mut.ensures.value) c.requires.below in
+    let at = tree_at (IsKeptInner g.T.Cover.Merges.boxes g.T.Covered.object c.args.widest) (IsElement g.T.Cover.Merges.boxes g.T.Covered.object) c.args.levels c.in-Parent.child c.requires.above tree in
     rw c.in-Parent.child-is (omega arith, (within.0, (within.1.0, (within.1.1, (at.0.0, (at.1, (λ _. omega (arith, at.0.1, c.in-Parent.child.children.ok.0), (c.requires.element, (c.requires.wide, (c.requires.reinserts, (c.requires.spare, c.requires.overfull)))))))))))
 
 pub insert_first_in_child-unreachable-requires : goal.insert_first_in_child-unreachable-requires
 insert_first_in_child-unreachable-requires g t c =
-    no_leaf_above (IsKeptInner g.T.Cover.Merges.boxes g.T.Covered.object g.Params.RTreeParams.MAX_SIZE c.args.widest) (IsElement g.T.Cover.Merges.boxes g.T.Covered.object) c.args.levels c.in-Leaf.field-0 c.requires.above (child_at (IsKeptInner g.T.Cover.Merges.boxes g.T.Covered.object g.Params.RTreeParams.MAX_SIZE c.args.widest) (IsElement g.T.Cover.Merges.boxes g.T.Covered.object) c.args.levels c.args.children.now.items c.args.index (Leaf c.in-Leaf.field-0) (subst (λ n. c.args.index < n) c.args.children.now.ok.0 c.requires.index) (rw c.in-Leaf.is at c.index_mut.ensures.value) c.requires.below)
+    no_leaf_above (IsKeptInner g.T.Cover.Merges.boxes g.T.Covered.object c.args.widest) (IsElement g.T.Cover.Merges.boxes g.T.Covered.object) c.args.levels c.in-Leaf.field-0 c.requires.above (child_at (IsKeptInner g.T.Cover.Merges.boxes g.T.Covered.object c.args.widest) (IsElement g.T.Cover.Merges.boxes g.T.Covered.object) c.args.levels c.args.children.now.items c.args.index (Leaf c.in-Leaf.field-0) (subst (λ n. c.args.index < n) c.args.children.now.ok.0 c.requires.index) (rw c.in-Leaf.is at c.index_mut.ensures.value) c.requires.below)
 
 pub insert_first_in_child-returns : goal.insert_first_in_child-returns
 insert_first_in_child-returns g t c =
-    let grown = child_handed g.met.T.Cover.Merges.merge_laws g.met.T.Covered.cover_law g.Params.RTreeParams.MAX_SIZE c.args.widest c.args.levels c.args.t c.args.children.now.items c.args.index c.in-Parent.child c.insert_first.new.node c.insert_first.new.handed.items c.requires.above (subst (λ n. c.args.index < n) c.args.children.now.ok.0 c.requires.index) (rw c.in-Parent.is at c.index_mut.ensures.value) c.requires.below (rw c.in-Parent.child-is at c.insert_first.ensures.bag) c.insert_first.ensures.kept in
+    let grown = child_handed g.met.T.Cover.Merges.merge_laws g.met.T.Covered.cover_law c.args.widest c.args.levels c.args.t c.args.children.now.items c.args.index c.in-Parent.child c.insert_first.new.node c.insert_first.new.handed.items c.requires.above (subst (λ n. c.args.index < n) c.args.children.now.ok.0 c.requires.index) (rw c.in-Parent.is at c.index_mut.ensures.value) c.requires.below (rw c.in-Parent.child-is at c.insert_first.ensures.bag) c.insert_first.ensures.kept in
     record {
       bag = simp (c.in-Parent.is, outs-Parent) grown.0;
       below = simp (c.in-Parent.is, outs-Parent) grown.1;
@@ -78,15 +74,14 @@ insert_first_in_child-returns g t c =
       sized = simp (c.in-Parent.is, outs-Parent) (λ trees. rw append-nil at (sized_child g.Params.RTreeParams.MIN_SIZE g.Params.RTreeParams.MAX_SIZE g.Params.RTreeParams.min_positive c.args.levels c.args.children.now.items c.args.index c.in-Parent.child c.insert_first.new.node None c.requires.above (subst (λ n. c.args.index < n) c.args.children.now.ok.0 c.requires.index) (rw c.in-Parent.is at c.index_mut.ensures.value) trees (λ below few. (rw c.in-Parent.child-is at c.insert_first.ensures.sized) (below, few))));
       length = refl;
       capacity = refl;
-      handed_capacity = c.insert_first.ensures.capacity;
       overfull = c.insert_first.ensures.overfull;
-      parents = simp (c.in-Parent.is, outs-Parent) (child_same c.args.children.now.items c.args.index c.in-Parent.child c.insert_first.new.node (subst (λ n. c.args.index < n) c.args.children.now.ok.0 c.requires.index) (rw c.in-Parent.is at c.index_mut.ensures.value) (rw c.in-Parent.child-is at c.insert_first.ensures.parents));
+      room = simp (c.in-Parent.is, outs-Parent) (child_left c.args.widest c.args.levels c.args.children.now.items c.args.index c.in-Parent.child c.insert_first.new.node (has_room c.args.widest c.insert_first.new.handed) c.requires.above (subst (λ n. c.args.index < n) c.args.children.now.ok.0 c.requires.index) (rw c.in-Parent.is at c.index_mut.ensures.value) (rw c.in-Parent.child-is at c.insert_first.ensures.room));
     }
 
 -- ---- what stands there already
 
-pub insert_first-add_leaf-requires-clause-roomy : goal.insert_first-add_leaf-requires-clause-roomy
-insert_first-add_leaf-requires-clause-roomy g t c = record { narrow = c.requires.node.roomy.narrow; room = c.requires.node.roomy.room }
+pub insert_first-add_leaf-requires-clause-narrow : goal.insert_first-add_leaf-requires-clause-narrow
+insert_first-add_leaf-requires-clause-narrow g t c = c.requires.node.narrow
 
 pub insert_first-add_leaf-requires-clause-wide : goal.insert_first-add_leaf-requires-clause-wide
 insert_first-add_leaf-requires-clause-wide g t c = c.requires.wide
@@ -115,11 +110,10 @@ insert_first-returns-then-not-is_empty-clause-leaves g t c = c.insert_first_in_c
 pub insert_first-returns-then-not-is_empty-clause-count : goal.insert_first-returns-then-not-is_empty-clause-count
 insert_first-returns-then-not-is_empty-clause-count g t c = c.insert_first_in_child.ensures.count
 
-pub insert_first-returns-then-not-is_empty-clause-capacity : goal.insert_first-returns-then-not-is_empty-clause-capacity
-insert_first-returns-then-not-is_empty-clause-capacity g t c = c.insert_first_in_child.ensures.handed_capacity
-
-pub insert_first-returns-then-not-is_empty-clause-parents : goal.insert_first-returns-then-not-is_empty-clause-parents
-insert_first-returns-then-not-is_empty-clause-parents g t c = c.insert_first_in_child.ensures.parents
+pub insert_first-returns-then-not-is_empty-clause-room : goal.insert_first-returns-then-not-is_empty-clause-room
+insert_first-returns-then-not-is_empty-clause-room g t c =
+    let held = room_same c.args.widest c.insert_first_in_child.new.children c.args.node.now.children c.insert_first_in_child.ensures.capacity in
+    omega (arith, held, c.insert_first_in_child.ensures.room)
 
 pub insert_first-returns-clause-bag : goal.insert_first-returns-clause-bag
 insert_first-returns-clause-bag g t c = c.insert_first_in_child.ensures.bag
@@ -130,11 +124,10 @@ insert_first-returns-clause-leaves g t c = c.insert_first_in_child.ensures.leave
 pub insert_first-returns-clause-count : goal.insert_first-returns-clause-count
 insert_first-returns-clause-count g t c = c.insert_first_in_child.ensures.count
 
-pub insert_first-returns-clause-capacity : goal.insert_first-returns-clause-capacity
-insert_first-returns-clause-capacity g t c = c.insert_first_in_child.ensures.handed_capacity
-
-pub insert_first-returns-clause-parents : goal.insert_first-returns-clause-parents
-insert_first-returns-clause-parents g t c = c.insert_first_in_child.ensures.parents
+pub insert_first-returns-clause-room : goal.insert_first-returns-clause-room
+insert_first-returns-clause-room g t c =
+    let held = room_same c.args.widest c.insert_first_in_child.new.children c.args.node.now.children c.insert_first_in_child.ensures.capacity in
+    omega (arith, held, c.insert_first_in_child.ensures.room)
 
 pub insert_first_in_child-index_mut-requires : goal.insert_first_in_child-index_mut-requires
 insert_first_in_child-index_mut-requires g t c = c.requires.index

@@ -1,16 +1,16 @@
 use Rattle.std.proofs.Common.{◌≡◌, ◌+◌, ◌*◌, ◌≤◌, ◌++◌, vec_len, vec_capacity}
 use Rattle.std.specs.List.{AllByRecursion}
 use Rattle.std.specs.List.Sorted.{IsPermutation}
-use Rattle.rstar.specs.Nodes.{all_elements, parents_of}
+use Rattle.rstar.specs.Nodes.{all_elements}
 use Rattle.rstar.specs.Shapes.{IsSizedTree}
-use Rattle.rstar.specs.Kept.{IsSpare, AreKept, IsKeptTree}
+use Rattle.rstar.specs.Kept.{IsSpare, AreKept, IsKeptTree, roomy_of}
 use Rattle.rstar.proofs.algorithm.rstar.reinsertion.insert_again.Given as goal
 
 abbrev pub invariant-loop-leaf : goal.invariant-loop-leaf
 invariant-loop-leaf g l = record {
   bag : IsPermutation (all_elements l.initial.root.children.items ++ all_elements l.initial.handed.items) (all_elements l.root.children.items ++ all_elements l.handed.items);
-  kept : IsKeptTree g.T.Cover.Merges.boxes g.T.Covered.object g.Params.RTreeParams.MAX_SIZE l.widest l.current l.root;
-  leaves : AreKept g.T.Cover.Merges.boxes g.T.Covered.object g.Params.RTreeParams.MAX_SIZE l.widest 0 l.handed.items;
+  kept : IsKeptTree g.T.Cover.Merges.boxes g.T.Covered.object l.widest l.current l.root;
+  leaves : AreKept g.T.Cover.Merges.boxes g.T.Covered.object l.widest 0 l.handed.items;
   sized : IsSizedTree g.Params.RTreeParams.MIN_SIZE g.Params.RTreeParams.MAX_SIZE l.levels l.initial.root
       → IsSizedTree g.Params.RTreeParams.MIN_SIZE g.Params.RTreeParams.MAX_SIZE l.current l.root;
   spares : AllByRecursion (IsSpare l.widest) l.spares.items;
@@ -20,7 +20,7 @@ invariant-loop-leaf g l = record {
   -- a list that is handed back has its place
   fewer : vec_len l.spares ≤ vec_len l.initial.spares;
   places : vec_capacity l.spares ≡ vec_capacity l.initial.spares;
-  made : vec_len l.initial.spares + parents_of l.initial.root ≡ vec_len l.spares + parents_of l.root;
+  room : vec_len l.initial.spares + roomy_of l.widest l.levels l.initial.root ≤ vec_len l.spares + roomy_of l.widest l.current l.root;
   capacity : vec_capacity l.handed ≡ vec_capacity l.initial.handed;
   overfull : IsSpare (l.widest + 1) l.overfull;
 }

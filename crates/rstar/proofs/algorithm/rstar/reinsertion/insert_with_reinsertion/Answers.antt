@@ -4,6 +4,7 @@ use Rattle.std.proofs.lemmas.List.Sorted.{IsPermutation-trans}
 use Rattle.rstar.specs.Heights.{spare_lists}
 use Rattle.rstar.specs.Kept.{IsSpare}
 use Rattle.rstar_base.proofs.Lists.{all-append, all_first, all_second}
+use Rattle.rstar.proofs.Insertion.{room_one, room_none, room_same}
 use Rattle.rstar.proofs.Reinsertion.{enough_again, some_spare}
 use Rattle.rstar.proofs.algorithm.rstar.reinsertion.insert_with_reinsertion.Goals as goal
 
@@ -30,26 +31,37 @@ push_reserved-requires g c =
     let places = c.insert_again-grown.ensures.places in
     omega (arith, popped, same, fewer, places, c.args.spares.now.ok)
 
-pub returns-clause-bag : goal.returns-clause-bag
-returns-clause-bag g c = IsPermutation-trans _ _ _ c.insert_first.ensures.bag c.insert_again-grown.ensures.bag
+pub returns-then-widest-capacity-clause-bag : goal.returns-then-widest-capacity-clause-bag
+returns-then-widest-capacity-clause-bag g c = IsPermutation-trans _ _ _ c.insert_first.ensures.bag c.insert_again-grown.ensures.bag
 
-pub returns-clause-sized : goal.returns-clause-sized
-returns-clause-sized g c = λ sized.
+pub returns-else-widest-capacity-clause-bag : goal.returns-else-widest-capacity-clause-bag
+returns-else-widest-capacity-clause-bag g c = IsPermutation-trans _ _ _ c.insert_first.ensures.bag c.insert_again-grown.ensures.bag
+
+pub returns-then-widest-capacity-clause-sized : goal.returns-then-widest-capacity-clause-sized
+returns-then-widest-capacity-clause-sized g c = λ sized.
     let after = c.insert_first.ensures.sized sized in
     let most = after.most in
     c.insert_again-grown.ensures.sized (after.below, omega (arith, most, c.insert_first.new.node.children.ok.0))
 
-pub returns-clause-spares : goal.returns-clause-spares
-returns-clause-spares g c =
-    let spare = (all_second (IsSpare c.args.widest) c.take_last-handed.new.self.items (c.take_last-handed.result ∷ []) (subst (AllByRecursion (IsSpare c.args.widest)) c.take_last-handed.ensures.items c.requires.spares)).0 in
-    let first = c.insert_first.ensures.capacity in
-    let again = c.insert_again-grown.ensures.capacity in
-    rw c.push_reserved.ensures.items (all-append (IsSpare c.args.widest) c.insert_again-grown.new.spares.items (c.insert_again-grown.new.handed ∷ []) c.insert_again-grown.ensures.spares
-    ((c.insert_again-grown.ensures.none, omega (arith, spare.1, first, again)), tt))
+pub returns-else-widest-capacity-clause-sized : goal.returns-else-widest-capacity-clause-sized
+returns-else-widest-capacity-clause-sized g c = λ sized.
+    let after = c.insert_first.ensures.sized sized in
+    let most = after.most in
+    c.insert_again-grown.ensures.sized (after.below, omega (arith, most, c.insert_first.new.node.children.ok.0))
 
-pub returns-clause-made : goal.returns-clause-made
-returns-clause-made g c =
-    let popped = c.take_last-handed.ensures.len in
-    let first = c.insert_first.ensures.parents in
-    let again = c.insert_again-grown.ensures.made in
-    omega (arith, popped, first, again, c.push_reserved.ensures.len)
+pub returns-then-widest-capacity-clause-spares : goal.returns-then-widest-capacity-clause-spares
+returns-then-widest-capacity-clause-spares g c =
+    rw c.push_reserved.ensures.items (all-append (IsSpare c.args.widest) c.insert_again-grown.new.spares.items (c.insert_again-grown.new.handed ∷ []) c.insert_again-grown.ensures.spares
+    ((c.insert_again-grown.ensures.none, omega (arith, c.capacity.ensures, c.if-widest-capacity.true)), tt))
+
+pub returns-then-widest-capacity-clause-room : goal.returns-then-widest-capacity-clause-room
+returns-then-widest-capacity-clause-room g c =
+    let held = room_same c.args.widest c.insert_again-grown.new.handed c.insert_first.new.handed c.insert_again-grown.ensures.capacity in
+    let own = room_one c.args.widest c.insert_again-grown.new.handed (omega (arith, c.capacity.ensures, c.if-widest-capacity.true)) in
+    omega (arith, c.take_last-handed.ensures.len, c.insert_first.ensures.room, c.insert_again-grown.ensures.room, held, own, c.push_reserved.ensures.len)
+
+pub returns-else-widest-capacity-clause-room : goal.returns-else-widest-capacity-clause-room
+returns-else-widest-capacity-clause-room g c =
+    let held = room_same c.args.widest c.insert_again-grown.new.handed c.insert_first.new.handed c.insert_again-grown.ensures.capacity in
+    let none = room_none c.args.widest c.insert_again-grown.new.handed (omega (arith, c.capacity.ensures, c.if-widest-capacity.false)) in
+    omega (arith, c.take_last-handed.ensures.len, c.insert_first.ensures.room, c.insert_again-grown.ensures.room, held, none)

@@ -1,8 +1,8 @@
-use Rattle.std.proofs.Common.{◌≡◌, ◌≢◌, ◌⊎◌, inl, inr, [], ◌∙◌, ap, sym, refl, arith, ◌+◌}
+use Rattle.std.proofs.Common.{◌≡◌, ◌≢◌, ◌⊎◌, inl, inr, [], ◌∙◌, sym, refl, arith, ◌+◌}
 use Rattle.std.proofs.lemmas.Bool.{true≢false}
 use Rattle.rstar.specs.Joins.{meets_by, IsJoining, pairs_to_come}
 use Rattle.rstar.specs.Meets.{meet_of_roots, pairs_from_roots, all_pairs, all_opens}
-use Rattle.rstar.specs.Nodes.{children_of, envelope_of}
+use Rattle.rstar.specs.Nodes.{children_of}
 use Rattle.rstar.proofs.Walks.{no-items, some-items}
 use Rattle.rstar.proofs.Joined.{starts, starts-none, starts-all, fits-none, fits-whole, roots-counted, roots-apart, roots-empty, roots-refused, roots-met}
 use Rattle.rstar.proofs.iterators.joins.IntersectionIterator.new.Goals as goal
