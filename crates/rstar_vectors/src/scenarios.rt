@@ -2,7 +2,7 @@
 //!
 //! What is done to a tree is generic, a test gives it elements: what is proved once for all types is cheap, the same
 //! steps at a concrete type are dear. What may be refused and holds a list, a walk or a tree is matched and lent, where
-//! one would write `?`: docs/DECISIONS.md has what each form costs.
+//! one would write `?`: CONTRIBUTING.md has what each form costs.
 
 ghost use Rattle.std.specs.Prelude.{◌≤◌, None, IfOk};
 ghost use Rattle.std.specs.Iterator.{IsFinite, YieldsThen};

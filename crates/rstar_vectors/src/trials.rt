@@ -1,7 +1,7 @@
 //! What is done to a tree beside a list of elements, step by step: rows that every subject shares.
 //!
 //! Steps name elements by their places in the list, so that what walks a row knows no type of a tree, and costs the check
-//! a fourth of what it would over elements (docs/ARCHITECTURE.md, "What the gate costs").
+//! a fourth of what it would over elements (CONTRIBUTING.md, "Ten rules").
 
 ghost use Rattle.std.specs.Prelude.{◌<◌, ◌≤◌};
 ghost use Rattle.rstar.specs.Trees.{IsWholeTree};
