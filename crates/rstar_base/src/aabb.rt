@@ -219,17 +219,6 @@ pub(crate) fn same_coordinates<P: Point>(p: &P, q: &P) -> bool
 /// The empty box has the greatest scalars as its lower corner and the least as its upper one. With no axis
 /// there is one box, which is not empty. Distances are squared; measures are exact and clamped to the
 /// greatest scalar. A call costs one pass over the axes and takes no memory.
-///
-/// ```rust
-/// fn boxed<P: Point + Copy>(lower: P, upper: P) -> AABB<P> {
-///     if upright(&lower, &upper) {
-///         AABB::from_bounds(lower, upper)
-///     } else {
-///         AABB::new_empty()
-///     }
-/// }
-/// ```
-/// *`crates/rstar_base/src/tests/boxes.rt`*
 #[derive(Copy, Debug, PartialEq, Eq, PartialOrd, Ord, Hash, Drop)]
 pub struct AABB<P: Point> {
     lower: P,

@@ -28,20 +28,6 @@ pub type Distance<T> = <<<T as RTreeObject>::Envelope as Envelope>::Point as Poi
 
 /// An element of a tree: a value with an envelope. A type proves that the envelope is a valid one
 /// (`object_law`).
-///
-/// ```rust
-/// impl<P: Point> RTreeObject for Doors<P> {
-///     type Envelope = AABB<P>;
-///     ghost object = { doors_objects P.Scalar.low P.Scalar.high P.DIMENSIONS (λ d. P.coord d.front)
-///         (λ d. P.coord d.back) };
-///     fn envelope(&self) -> AABB<P> {
-///         self.front.envelope().merged(&self.back.envelope())
-///     }
-///     ghost object_law = { doors_object_law P.Scalar.low P.Scalar.high P.DIMENSIONS (λ d. P.coord d.front)
-///         (λ d. P.coord d.back) };
-/// }
-/// ```
-/// *`crates/rstar_vectors/src/doors.rt`*
 pub trait RTreeObject: Drop {
     /// The type of the envelopes.
     type Envelope: Envelope;

@@ -13,20 +13,6 @@ use crate::point::{known, not_above};
 /// A function is lawful when it accepts every envelope that the envelope of a selected element was merged
 /// into and that is not empty. A traversal with a lawful function yields every selected element. With any
 /// other function it yields only selected elements, and may miss some.
-///
-/// ```rust
-/// impl SelectionFunction<[i32; 2]> for LeftHalf {
-///     ghost accepts = { λ _ e. int_lt (⟦<AABB<[i32; 2]> as Envelope>⟧.boxes.axis_key e 0) (pos 50) };
-///     ghost selects = { λ _ t. int_lt (⟦<[i32; 2] as Point>⟧.coord t 0) (pos 50) };
-///     fn should_unpack_parent(&self, envelope: &AABB<[i32; 2]>) -> bool {
-///         envelope.axis_key(0) < 50
-///     }
-///     fn should_unpack_leaf(&self, leaf: &[i32; 2]) -> bool {
-///         leaf[0] < 50
-///     }
-/// }
-/// ```
-/// *`crates/rstar_vectors/src/selections.rt`*
 pub trait SelectionFunction<T: RTreeObject>: Drop {
     // The two answers, as functions.
     ghost accepts: { Self → T.Envelope → Bool };
