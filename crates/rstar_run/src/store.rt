@@ -35,7 +35,7 @@ impl Model for Store {
 }
 
 impl Store {
-    /// An empty store. It takes no memory.
+    /// No rectangle. It takes no memory yet.
     pub fn new(alloc: Global) -> Store
         ensures { result ≡ [] }
     {
