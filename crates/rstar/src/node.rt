@@ -44,8 +44,8 @@ impl<T: Covered> RTreeNode<T> {
     }
 }
 
-/// A parent: a list of nodes, with the merge of the envelopes of all elements below. The root of a tree is
-/// one. Only the tree makes and changes parents.
+/// A parent: nodes, with the merge of the envelopes of all elements below. The root of a tree is one. Only
+/// the tree makes and changes parents.
 #[cycle(node)]
 #[derive(Debug, Drop)]
 pub struct ParentNode<T: Covered> {
@@ -95,7 +95,7 @@ impl<T: RTreeObject> RTreeObject for RTreeNode<T> {
     ghost object_law = { λ n h. h };
 }
 
-/// The merge of the envelopes of some nodes; the empty envelope where there are none. It takes no memory.
+/// The merge of the envelopes of some nodes. Of none it is the empty envelope. It takes no memory.
 pub fn envelope_for_children<T: Covered>(children: &[RTreeNode<T>]) -> T::Cover
     ensures hull { result ≡ hull T.Cover.boxes (node_box T.object.box_of) children.now }
     ensures own { AllByRecursion (λ n. T.Cover.boxes.IsValue (node_box T.object.box_of n)) children.now }

@@ -30,7 +30,7 @@ pub struct InsertError<T> {
 
 /// An insertion strategy.
 pub trait InsertionStrategy {
-    /// Inserts one element, whose envelope is not empty. Equal elements each count.
+    /// Inserts one element. Its envelope is not empty. Equal elements each count.
     ///
     /// All memory is taken before the first change. A refusal hands the element back and leaves the tree as
     /// it was. `InsertCause` says when each refusal comes.

@@ -25,8 +25,8 @@ use rstar_base::params::RTreeParams;
 use rstar_base::point::{Point, RTreeNum};
 use std::alloc::AllocError;
 
-/// The element types of commands: elements with distances whose equal ones have equal envelopes. Every such
-/// type has it.
+/// The element types of commands. Their elements have distances, and equal ones have equal envelopes. Every
+/// such type has it.
 pub trait Scanned: PointDistance + EqualEnvelopes {
     ghost questions: { Questions Self Self.Envelope Self.Envelope.Point Self.Envelope.Point.Scalar };
 }
@@ -101,7 +101,7 @@ pub enum Reply<T: PointDistance> {
     TooMany,
 }
 
-/// Runs one command, and replies as a scan of the elements would (`Step`).
+/// Runs one command, as a scan of the elements would (`Step`).
 ///
 /// Commands are fit (`is_fit`), and a clone of an element equals it. `TooMany` comes from `Insert` alone,
 /// `NoMemory` from any command but `Remove`, `RemoveAtPoint` and `Contains`. Both leave the tree as it was,
@@ -136,7 +136,7 @@ pub fn step<T: PointDistance + EqualEnvelopes + Clone, Params: RTreeParams>(
     }
 }
 
-/// Runs commands in order by `step`, and returns their replies (`Run`).
+/// Runs commands in order by `step` (`Run`).
 ///
 /// An error means that the list of replies was refused, before any command was run.
 pub fn replay<T: PointDistance + EqualEnvelopes + Clone, Params: RTreeParams>(
@@ -157,11 +157,11 @@ pub fn replay<T: PointDistance + EqualEnvelopes + Clone, Params: RTreeParams>(
     Ok(replies)
 }
 
-/// Runs one command as `step` does, with neighbours in the stated order: by distance, and at equal distance
-/// by `Ord` (`StepByOrder`).
+/// Runs one command as `step` does, with neighbours in the stated order (`StepByOrder`).
 ///
-/// The order fixes the replies of `PopNearest`, `Nearest` and `Neighbours`, up to elements that compare
-/// equal. A reply by order is one that `step` may give.
+/// That order is by distance, and at equal distance by `Ord`. It fixes the replies of `PopNearest`,
+/// `Nearest` and `Neighbours`, up to elements that compare equal. A reply by order is one that `step` may
+/// give.
 ///
 /// ```rust
 /// pub fn step(&mut self, command: Command<Item>) -> Reply<Item>
@@ -196,7 +196,7 @@ pub fn step_by_order<T: PointDistance + EqualEnvelopes + Clone + Ord, Params: RT
     }
 }
 
-/// Runs commands in order by `step_by_order`, and returns their replies (`RunByOrder`).
+/// Runs commands in order by `step_by_order` (`RunByOrder`).
 ///
 /// An error means that the list of replies was refused, before any command was run.
 pub fn replay_by_order<T: PointDistance + EqualEnvelopes + Clone + Ord, Params: RTreeParams>(

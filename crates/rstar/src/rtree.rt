@@ -142,8 +142,7 @@ impl<T: RTreeObject, Params: RTreeParams> RTree<T, Params> {
         self.size
     }
 
-    /// Inserts an element, whose envelope is not empty, by `RStarInsertionStrategy`. Equal elements each
-    /// count.
+    /// Inserts an element by `RStarInsertionStrategy`. Its envelope is not empty. Equal elements each count.
     ///
     /// All memory is taken before the first change. A refusal hands the element back and leaves the tree as
     /// it was; `InsertCause` says when it comes. The cost is one path from the root to a leaf, with a look

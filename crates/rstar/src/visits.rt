@@ -141,9 +141,8 @@ fn visit_nodes<
     }
 }
 
-/// Calls the visitor at each element below a root that a function selects, until a call breaks, and returns
-/// the break. With a function that is not lawful, or a root that is not whole, it may miss some. It takes no
-/// memory.
+/// Calls the visitor at each selected element below a root, until it breaks. It returns the break and takes
+/// no memory. With a function that is not lawful, or a root that is not whole, it may miss some.
 pub fn select_nodes<
     'a,
     T: RTreeObject,
@@ -216,9 +215,9 @@ fn visit_nodes_mut<T: Covered, F: Question<T>, V: FnMut(&mut T) -> ControlFlow<B
     ControlFlow::Continue(())
 }
 
-/// Calls the visitor at each element below a root that a function selects, until a call breaks, and returns
-/// the break. The visitor may write the element, but must keep its envelope; a whole root then stays whole.
-/// With a function that is not lawful it may miss some. It takes no memory.
+/// Calls the visitor at each selected element below a root, until it breaks, and lets it write. The visitor
+/// must keep the envelope of the element; a whole root then stays whole. The call returns the break and
+/// takes no memory. With a function that is not lawful it may miss some.
 pub fn select_nodes_mut<
     T: RTreeObject,
     F: SelectionFunction<T>,

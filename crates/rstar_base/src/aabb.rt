@@ -41,7 +41,7 @@ pub(crate) fn bound<P: Point>(lower: &P, upper: &P, above: &P, below: &P) -> boo
     )
 }
 
-/// Whether `lower <= upper` on every axis: what `AABB::from_bounds` asks of its corners.
+/// Whether `lower <= upper` on every axis. `AABB::from_bounds` asks that of its corners.
 pub fn upright<P: Point>(lower: &P, upper: &P) -> bool
     ensures { result ≡ is_upright P.DIMENSIONS (P.coord lower.now) (P.coord upper.now) }
 {
@@ -214,11 +214,22 @@ pub(crate) fn same_coordinates<P: Point>(p: &P, q: &P) -> bool
     bound(p, p, q, q)
 }
 
-/// An axis-parallel bounding box: on every axis the numbers from `lower` to `upper`, both included.
+/// An axis-parallel bounding box. On every axis it has the numbers from `lower` to `upper`, both included.
 ///
 /// The empty box has the greatest scalars as its lower corner and the least as its upper one. With no axis
 /// there is one box, which is not empty. Distances are squared; measures are exact and clamped to the
 /// greatest scalar. A call costs one pass over the axes and takes no memory.
+///
+/// ```rust
+/// fn boxed<P: Point + Copy>(lower: P, upper: P) -> AABB<P> {
+///     if upright(&lower, &upper) {
+///         AABB::from_bounds(lower, upper)
+///     } else {
+///         AABB::new_empty()
+///     }
+/// }
+/// ```
+/// *`crates/rstar_base/src/tests/boxes.rt`*
 #[derive(Copy, Debug, PartialEq, Eq, PartialOrd, Ord, Hash, Drop)]
 pub struct AABB<P: Point> {
     lower: P,
@@ -276,7 +287,7 @@ impl<P: Point> AABB<P> {
         }
     }
 
-    /// The box between two corners, the first at most the second on every axis. `upright` tests that.
+    /// The box between two corners. The first is at most the second on every axis; `upright` tests that.
     pub fn from_bounds(lower: P, upper: P) -> Self
         requires { IsTrue (is_upright P.DIMENSIONS (P.coord lower) (P.coord upper)) }
         ensures { result ≡ between_corners P.DIMENSIONS (P.coord lower) (P.coord upper) }
@@ -318,8 +329,8 @@ impl<P: Point> AABB<P> {
         }
     }
 
-    /// The box of all points at most `distance` from `center` on every axis, clamped to the scalar's range.
-    /// A negative distance counts as its absolute value.
+    /// The box of all points at most `distance` from `center` on every axis. Its corners are clamped to the
+    /// scalar's range. A negative distance counts as its absolute value.
     pub fn from_center(center: P, distance: P::Scalar) -> Self
         ensures { result ≡ box_of_corners P.DIMENSIONS
             (λ i. between (P.coord center i +ℤ P.Scalar.value distance) P.Scalar.low P.Scalar.high)
@@ -328,7 +339,7 @@ impl<P: Point> AABB<P> {
         AABB::from_corners(moved_up(&center, distance), moved_down(&center, distance))
     }
 
-    /// The bounding box of all points; the empty box where there are none. It costs one merge per point. The
+    /// The bounding box of all points. Of none it is the empty box. It costs one merge per point. The
     /// iterator has to end.
     pub fn from_points<'a, I: IntoIterator<Item = &'a P>>(i: I) -> Self
     where
@@ -361,8 +372,8 @@ impl<P: Point> AABB<P> {
         copied_point(&self.upper)
     }
 
-    /// The point of the box that is nearest to `point`: `point` itself where the box contains it. For the
-    /// empty box it is the upper corner.
+    /// The point of the box that is nearest to `point`. It is `point` itself where the box contains it, and
+    /// the upper corner where the box is empty.
     pub fn min_point(&self, point: &P) -> P
         ensures { table P.DIMENSIONS (P.coord result)
             ≡ nearest_point self.now (table P.DIMENSIONS (P.coord point.now)) }
@@ -370,7 +381,7 @@ impl<P: Point> AABB<P> {
         nearest_between(&self.lower, &self.upper, point)
     }
 
-    /// The squared distance to `min_point`, clamped to the greatest scalar.
+    /// The squared distance to `min_point`. It is clamped to the greatest scalar.
     pub fn distance_2(&self, point: &P) -> P::Scalar
         ensures { P.Scalar.value result
             ≡ pos (box_distance P.Scalar.high self.now (table P.DIMENSIONS (P.coord point.now))) }
@@ -378,7 +389,7 @@ impl<P: Point> AABB<P> {
         Envelope::distance_2(self, point)
     }
 
-    /// The bounding box of two points, which are opposite corners in any order.
+    /// The bounding box of two points. They are opposite corners, in any order.
     pub fn from_corners(p: P, q: P) -> Self
         ensures { result ≡ box_of_corners P.DIMENSIONS (P.coord p) (P.coord q) }
     {

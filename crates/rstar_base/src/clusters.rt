@@ -15,8 +15,8 @@ use crate::point::Point;
 use std::alloc::AllocError;
 use std::mem;
 
-/// Cuts a list of elements into slabs along one axis, the slab of the greatest keys first (Lee and Lee
-/// 2003).
+/// Cuts a list of elements into slabs along one axis (Lee and Lee 2003). The slab of the greatest keys comes
+/// first.
 ///
 /// All slabs but the last have the same length, and no element of a later slab has a greater `axis_key` than
 /// one of an earlier slab. Each slab takes a list of its own, but for the last, which is never refused.
@@ -29,7 +29,7 @@ pub struct ClusterGroupIterator<T> {
 }
 
 impl<T: RTreeObject> ClusterGroupIterator<T> {
-    /// At most `clusters` slabs along an axis, each as long as the number of elements divided by `clusters`,
+    /// At most `clusters` slabs along an axis. A slab has the number of elements divided by `clusters`,
     /// rounded up. It takes no memory.
     pub fn new(elements: Vec<T>, clusters: usize, axis: usize) -> Self
         requires clusters { 0 < clusters }
@@ -113,8 +113,8 @@ fn partition_list<T: RTreeObject>(axis: usize, list: &mut Vec<T>, k: usize)
     partition_envelopes(axis, list, k);
 }
 
-/// How many slabs a bulk load of `n` elements cuts along each axis (Lee and Lee 2003). The load takes 2
-/// where this is 1.
+/// How many slabs a bulk load of `n` elements cuts along each axis. The load takes 2 where this is 1 (Lee
+/// and Lee 2003).
 ///
 /// It is the root, with the number of axes as its degree and rounded down, of the number of subtrees that
 /// `n` elements fill. It is exact for every `n`.

@@ -13,7 +13,7 @@ use std::alloc::AllocError;
 use std::fmt::Debug;
 use std::marker::Model;
 
-/// A bounding shape that a tree keeps for each parent; `AABB` is the one for boxes.
+/// A bounding shape that a tree keeps for each parent. `AABB` is the one for boxes.
 ///
 /// A type proves its laws (`envelope_laws`, `eq_law`). Merging is commutative and associative, and the empty
 /// envelope is its unit. A merge contains both parts and is no farther than either that is not empty. Its
@@ -67,19 +67,19 @@ pub trait Envelope: Clone + PartialEq + Debug + Drop {
             ≡ pos (boxes.distance_2 self.now (table Self.Point.DIMENSIONS (Self.Point.coord point.now))) }
         ensures own { boxes.IsValue self.now };
 
-    /// A squared distance within which some element lies, for an envelope that is the merge of elements'
-    /// envelopes: MINMAXDIST of Roussopoulos et al. 1995.
+    /// MINMAXDIST: a squared distance within which some element lies (Roussopoulos et al. 1995). The
+    /// envelope is the merge of elements' envelopes.
     fn min_max_dist_2(&self, point: &Self::Point) -> <Self::Point as Point>::Scalar
         ensures value { Self.Point.Scalar.value result
             ≡ pos (boxes.min_max_dist_2 self.now (table Self.Point.DIMENSIONS (Self.Point.coord point.now))) }
         ensures own { boxes.IsValue self.now };
 
-    /// The area, clamped to the greatest scalar.
+    /// The area. It is clamped to the greatest scalar.
     fn area(&self) -> <Self::Point as Point>::Scalar
         ensures value { Self.Point.Scalar.value result ≡ pos (boxes.area self.now) }
         ensures own { boxes.IsValue self.now };
 
-    /// The area of the intersection, clamped to the greatest scalar.
+    /// The area of the intersection. It is clamped to the greatest scalar.
     fn intersection_area(&self, other: &Self) -> <Self::Point as Point>::Scalar
         ensures value { Self.Point.Scalar.value result ≡ pos (boxes.intersection_area self.now other.now) }
         ensures own { boxes.IsValue self.now × boxes.IsValue other.now };
@@ -94,7 +94,7 @@ pub trait Envelope: Clone + PartialEq + Debug + Drop {
         ensures value { Self.Point.Scalar.value result ≡ pos (boxes.perimeter self.now) }
         ensures own { boxes.IsValue self.now };
 
-    /// The sort key on an axis below `DIMENSIONS`: for a box, its lower coordinate.
+    /// The sort key on an axis below `DIMENSIONS`. For a box it is the lower coordinate.
     fn axis_key(&self, axis: usize) -> <Self::Point as Point>::Scalar
         requires { axis < Self.Point.DIMENSIONS }
         ensures value { Self.Point.Scalar.value result ≡ boxes.axis_key self.now axis }
@@ -115,7 +115,7 @@ pub fn copied_envelope<E: Envelope>(e: &E) -> E
     E::new_empty().merged(e)
 }
 
-/// A bounding box with a count: a box made by `new` counts once, and merging adds the counts.
+/// A bounding box with a count. A box made by `new` counts once, and merging adds the counts.
 ///
 /// A parent in a tree of such envelopes knows how many elements lie below it. Counts are clamped to the
 /// greatest `usize`. Only the empty box counts 0. Equality compares box and count; every other call answers
@@ -156,7 +156,7 @@ impl<P: Point> Clone for Counted<P> {
 }
 
 impl<P: Point> Counted<P> {
-    /// A box that counts once; the empty box counts 0 where there is an axis.
+    /// A box that counts once. The empty box counts 0 where there is an axis.
     pub fn new(aabb: AABB<P>) -> Self
         ensures { result ≡ (aabb, if is_empty_box aabb then 0 else 1) }
     {
@@ -171,8 +171,8 @@ impl<P: Point> Counted<P> {
         &self.aabb
     }
 
-    /// The number of boxes merged, clamped to the greatest `usize`. Where there is an axis it is 0 exactly
-    /// when the box is empty.
+    /// The number of boxes merged. It is clamped to the greatest `usize`. Where there is an axis it is 0
+    /// exactly when the box is empty.
     pub fn count(&self) -> usize
         ensures value { result ≡ self.now.1 }
         ensures none { 0 < P.DIMENSIONS → (result ≡ 0) ↔ (is_empty_box self.now.0 ≡ true) }

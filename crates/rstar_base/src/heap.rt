@@ -78,7 +78,7 @@ impl<T: Ord + Drop> SmallHeap<T> {
         }
     }
 
-    /// Removes a greatest item; `None` exactly where the queue is empty. It takes no memory.
+    /// Removes a greatest item. `None` comes exactly where the queue is empty. It takes no memory.
     pub fn pop(&mut self) -> Option<T>
         requires { IsOrdered T.cmp self.old }
         ensures ordered { IsOrdered T.cmp self.new }

@@ -23,11 +23,25 @@ use std::rc::Rc;
 /// The point type of an element type.
 pub type PointOf<T> = <<T as RTreeObject>::Envelope as Envelope>::Point;
 
-/// The type of an element's squared distances: the scalar of its points.
+/// The type of an element's squared distances. It is the scalar of its points.
 pub type Distance<T> = <<<T as RTreeObject>::Envelope as Envelope>::Point as Point>::Scalar;
 
 /// An element of a tree: a value with an envelope. A type proves that the envelope is a valid one
 /// (`object_law`).
+///
+/// ```rust
+/// impl<P: Point> RTreeObject for Doors<P> {
+///     type Envelope = AABB<P>;
+///     ghost object = { doors_objects P.Scalar.low P.Scalar.high P.DIMENSIONS (λ d. P.coord d.front)
+///         (λ d. P.coord d.back) };
+///     fn envelope(&self) -> AABB<P> {
+///         self.front.envelope().merged(&self.back.envelope())
+///     }
+///     ghost object_law = { doors_object_law P.Scalar.low P.Scalar.high P.DIMENSIONS (λ d. P.coord d.front)
+///         (λ d. P.coord d.back) };
+/// }
+/// ```
+/// *`crates/rstar_vectors/src/doors.rt`*
 pub trait RTreeObject: Drop {
     /// The type of the envelopes.
     type Envelope: Envelope;
@@ -78,7 +92,7 @@ pub trait PointDistance: RTreeObject {
             ≡ distances.contains_point self.now
             (table Self.Envelope.Point.DIMENSIONS (Self.Envelope.Point.coord point.now)) };
 
-    /// The squared distance to a point where it is at most `max_distance_2`, and `None` elsewhere.
+    /// The squared distance to a point where it is at most a limit, else `None`.
     ///
     /// The provided body does not compute the distance where the envelope is already farther.
     fn distance_2_if_less_or_equal(
@@ -111,7 +125,7 @@ pub trait EqualEnvelopes: RTreeObject + PartialEq {
     ghost equal_law: { EqualLaws Self.eq Self.object };
 }
 
-/// Whether a squared distance is at most 0: the body of `contains_point` for an element that contains
+/// Whether a squared distance is at most 0. It is the body of `contains_point` for an element that contains
 /// exactly the points at distance 0.
 pub fn contains_by_distance<S: RTreeNum>(distance_2: S) -> bool
     ensures { result ≡ int_le (S.value distance_2) (pos 0) }
@@ -119,7 +133,7 @@ pub fn contains_by_distance<S: RTreeNum>(distance_2: S) -> bool
     not_above(distance_2, S::zero())
 }
 
-/// The distance where it is at most the limit, and `None` elsewhere.
+/// The distance where it is at most the limit, else `None`.
 pub fn up_to<S: RTreeNum>(distance_2: S, max_distance_2: S) -> Option<S>
     ensures { (d : ℕ) → S.value distance_2 ≡ pos d → IsDistanceUpTo S.value (S.value max_distance_2) d result }
 {
@@ -222,7 +236,7 @@ impl<T: EqualEnvelopes> EqualEnvelopes for Rc<T> {
     ghost equal_law = { λ s t h k e. T.equal_law s.value t.value h k e };
 }
 
-/// The merge of the envelopes of all elements; the empty envelope where there are none.
+/// The merge of the envelopes of all elements. Of none it is the empty envelope.
 pub fn envelope_of_all<T: RTreeObject>(list: &[T]) -> T::Envelope
     ensures hull { result ≡ hull T.Envelope.boxes T.object.box_of list.now }
     ensures own { AllByRecursion T.object.IsValue list.now }
@@ -258,8 +272,8 @@ pub fn sort_envelopes<T: RTreeObject>(axis: usize, list: &mut [T])
     );
 }
 
-/// Reorders the elements around place `k`: none before it has a greater `axis_key`, and none after it a
-/// smaller one. It takes no memory.
+/// Partitions the elements around place `k`, by `axis_key`. No element before it has a greater key, and none
+/// after it a smaller one. It takes no memory.
 pub fn partition_envelopes<T: RTreeObject>(axis: usize, list: &mut [T], k: usize)
     requires axis { axis < T.Envelope.Point.DIMENSIONS }
     requires place { k < length list.old }

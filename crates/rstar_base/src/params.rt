@@ -16,15 +16,15 @@ pub trait RTreeParams {
 
     ghost REINSERTION_COUNT: { ℕ };
 
-    /// The fewest children of a parent other than the root, in a tree built by insertions alone. It is at
-    /// least 1 and at most half of `MAX_SIZE`, rounded up.
+    /// The fewest children of a parent. It is at least 1, and at most half of `MAX_SIZE`, rounded up. It
+    /// holds for parents other than the root, in a tree built by insertions alone.
     const MIN_SIZE: usize;
 
-    /// The most children of a parent: at least 4, and below the greatest `usize`.
+    /// The most children of a parent. It is at least 4, and below the greatest `usize`.
     const MAX_SIZE: usize;
 
-    /// How many children of an overfull parent are reinserted (Beckmann et al. 1990). It is less than
-    /// `MAX_SIZE - MIN_SIZE`; with 0 an overfull parent is split at once.
+    /// How many children of an overfull parent are reinserted. It is less than `MAX_SIZE - MIN_SIZE`; with 0
+    /// an overfull parent is split at once (Beckmann et al. 1990).
     const REINSERTION_COUNT: usize;
 
     ghost max_at_least_four: { 4 ≤ MAX_SIZE };
@@ -68,8 +68,8 @@ impl RTreeParams for DefaultParams {
     ghost reinsertion_leaves = { Prim.omega arith };
 }
 
-/// Whether the node sizes keep their bounds and the points have at least two axes, as `new` and the loads
-/// ask. Only the axes can make it false, since the bounds are laws.
+/// Whether node sizes and axes are as `new` and the loads ask. The sizes keep their bounds by law, so it is
+/// false exactly where the points have fewer than two axes.
 pub fn verify_parameters<T: RTreeObject, Params: RTreeParams>() -> bool
     ensures { IsTrue result ↔ AreNodeSizes Params.MIN_SIZE Params.MAX_SIZE Params.REINSERTION_COUNT
         × (2 ≤ T.Envelope.Point.DIMENSIONS) }

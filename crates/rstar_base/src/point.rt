@@ -161,7 +161,7 @@ pub trait Point: Clone + PartialEq + Debug + Drop {
     // The point with another coordinate on an axis.
     ghost with: { Self → ℕ → Self.Scalar → Self };
 
-    /// The point whose coordinates are `generator(0)`, `generator(1)`, and so on, called in this order.
+    /// The point with the coordinates `generator(0)`, `generator(1)`, .., called in this order.
     fn generate<F: FnMut(usize) -> Self::Scalar>(generator: F) -> Self
         requires { Callable F.step F.pre generator DIMENSIONS }
         ensures made { Made F.step Self.Scalar.value (coord result) generator DIMENSIONS }
@@ -173,7 +173,7 @@ pub trait Point: Clone + PartialEq + Debug + Drop {
         ensures value { Self.Scalar.value result ≡ coord self.now index }
         ensures own { of_coords (table DIMENSIONS (coord self.now)) ≡ self.now };
 
-    /// A mutable borrow of the coordinate on an axis below `DIMENSIONS`.
+    /// A mutable borrow of the coordinate on an axis.
     fn nth_mut(&mut self, index: usize) -> &mut Self::Scalar
         requires { index < DIMENSIONS }
         ensures* writes_back { sem 𝓛 (Lends Self.row Self.Scalar.row self.entry result (with self.old index)) }

@@ -22,13 +22,12 @@ use rstar_base::params::RTreeParams;
 use rstar_base::point::Point;
 use std::alloc::AllocError;
 
-/// The root of a tree loaded with these elements, at least one, none with an empty envelope (Lee and Lee
-/// 2003).
+/// The root of a tree loaded with these elements (Lee and Lee 2003).
 ///
-/// A node of too many elements is cut into slabs of equal length along the last axis, each slab along the
-/// axis before, and so on. Each part becomes a child, and all leaves lie on one level. The cost is one
-/// partition for each slab of each axis on each level: about n log n calls of `axis_key`. A refusal of
-/// memory drops the elements.
+/// There is at least one element, and none has an empty envelope. A node of too many elements is cut into
+/// slabs of equal length along the last axis, each slab along the axis before, and so on. Each part becomes
+/// a child, and all leaves lie on one level. The cost is one partition for each slab of each axis on each
+/// level: about n log n calls of `axis_key`. A refusal of memory drops the elements.
 pub fn bulk_load_sequential<T: RTreeObject, Params: RTreeParams>(
     elements: Vec<T>,
 ) -> Result<ParentNode<T>, AllocError>

@@ -41,7 +41,8 @@ pub type NearestNeighborDistance2Iterator<'a, T> = NeighborsWithDistance<
     PointOf<T>,
 >;
 
-/// The type behind `NearestNeighborDistance2Iterator`, by the types of root, node, scalar and point.
+/// The type of `NearestNeighborDistance2Iterator`. Its parameters are the types of root, node, scalar and
+/// point.
 #[derive(Drop)]
 pub struct NeighborsWithDistance<'a, R, N, S, P> {
     search: NeighborSearch<'a, R, N, S, AnyFirst>,
@@ -68,7 +69,7 @@ impl<'a, T: PointDistance> NeighborsWithDistance<
         }
     }
 
-    /// The number of parents visited so far, the root included, clamped to the greatest `usize`.
+    /// The number of parents visited so far. The root counts; the number is clamped to the greatest `usize`.
     pub fn opened(&self) -> usize
         ensures { result ≡ (search_of self.now).opened }
     {
@@ -98,7 +99,8 @@ impl<'a, T: PointDistance> Iterator
     }
 }
 
-/// The elements of a tree, the nearest first; `NearestNeighborDistance2Iterator` without the distances.
+/// The elements of a tree, the nearest first. It is `NearestNeighborDistance2Iterator` without the
+/// distances.
 pub type NearestNeighborIterator<'a, T> = Neighbors<
     'a,
     ParentNode<T>,
@@ -107,8 +109,8 @@ pub type NearestNeighborIterator<'a, T> = Neighbors<
     PointOf<T>,
 >;
 
-/// The type behind `NearestNeighborIterator`, by the types of root, node, scalar and point. It repeats the
-/// fields of `NeighborsWithDistance`: a field of that type would cost a size proof at each use.
+/// The type of `NearestNeighborIterator`. Its parameters are the types of root, node, scalar and point. It
+/// repeats the fields of `NeighborsWithDistance`: a field of that type would cost a size proof at each use.
 #[derive(Drop)]
 pub struct Neighbors<'a, R, N, S, P> {
     search: NeighborSearch<'a, R, N, S, AnyFirst>,
@@ -129,7 +131,7 @@ impl<'a, T: PointDistance> Neighbors<'a, ParentNode<T>, RTreeNode<T>, Distance<T
         }
     }
 
-    /// The number of parents visited so far, the root included, clamped to the greatest `usize`.
+    /// The number of parents visited so far. The root counts; the number is clamped to the greatest `usize`.
     pub fn opened(&self) -> usize
         ensures { result ≡ (search_of (with_distances self.now)).opened }
     {
@@ -165,11 +167,11 @@ impl<'a, T: PointDistance> Iterator
     }
 }
 
-/// A nearest element below a root with its squared distance; `None` exactly where there is no element.
+/// A nearest element below a root with its squared distance.
 ///
-/// The traversal visits the nearest waiting parent first and prunes what is farther than the least
-/// `min_max_dist_2` seen (Roussopoulos et al. 1995). It takes memory, and may be refused, only where more
-/// than 32 nodes wait.
+/// `None` comes exactly where there is no element. The traversal visits the nearest waiting parent first and
+/// prunes what is farther than the least `min_max_dist_2` seen (Roussopoulos et al. 1995). It takes memory,
+/// and may be refused, only where more than 32 nodes wait.
 pub fn nearest_neighbor_with_distance_2<'a, T: PointDistance>(
     root: &'a ParentNode<T>,
     point: PointOf<T>,
@@ -190,8 +192,8 @@ pub fn nearest_neighbor_with_distance_2<'a, T: PointDistance>(
     one_nearest(root, &point)
 }
 
-/// All elements below a root at the least squared distance, at least one, with that distance; `None` exactly
-/// where there is no element.
+/// All elements below a root at the least squared distance, with that distance. There is at least one;
+/// `None` comes exactly where there is no element.
 ///
 /// It takes neighbours until one is farther than the first. It may be refused the memory of the list or of
 /// the queue.

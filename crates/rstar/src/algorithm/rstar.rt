@@ -19,8 +19,8 @@ use rstar_base::envelope::Envelope;
 use rstar_base::object::RTreeObject;
 use rstar_base::params::RTreeParams;
 
-/// Inserts as the R*-tree does (Beckmann et al. 1990): choice of the subtree, forced reinsertion, and
-/// splits.
+/// Inserts as the R*-tree does: choice of the subtree, forced reinsertion, splits. The source is Beckmann et
+/// al. 1990.
 pub enum RStarInsertionStrategy {}
 
 impl InsertionStrategy for RStarInsertionStrategy {
@@ -45,7 +45,7 @@ impl InsertionStrategy for RStarInsertionStrategy {
     }
 }
 
-/// Splits a list of more than `MAX_SIZE` children in two parts of at least `MIN_SIZE` (Beckmann et al.
+/// Splits a list of more than `MAX_SIZE` children in two. Each part has at least `MIN_SIZE` (Beckmann et al.
 /// 1990).
 ///
 /// The list is sorted along one axis and cut. No allowed cut has a smaller overlap, or the same overlap and

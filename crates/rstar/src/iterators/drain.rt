@@ -13,7 +13,7 @@ use rstar_base::envelope::Envelope;
 use rstar_base::object::RTreeObject;
 use rstar_base::params::{DefaultParams, RTreeParams};
 
-/// A drain: each `next` removes a selected element from the tree and yields it, in some order.
+/// A drain: each `next` removes a selected element and yields it. They come in some order.
 ///
 /// With a lawful selection function it removes all selected elements, and never another one. After each
 /// `next` the tree is whole. Dropping or forgetting the drain changes nothing more. `next` takes no memory:

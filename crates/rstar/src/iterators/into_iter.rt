@@ -10,8 +10,8 @@ use crate::needs::Covered;
 use crate::node::{ParentNode, RTreeNode};
 use std::mem::replace;
 
-/// All elements of a consumed tree, each once, in some order. `next` takes no memory. Dropping the iterator
-/// drops the elements that are left.
+/// All elements of a consumed tree, in some order. `next` takes no memory. Dropping the iterator drops the
+/// elements that are left.
 #[derive(Drop)]
 pub struct IntoIter<T: Covered> {
     // The nodes that are being given, from the last on, and in the path those that were left for them, the lowest last.

@@ -17,7 +17,7 @@ use rstar_base::envelope::Envelope;
 use rstar_base::object::RTreeObject;
 use std::alloc::AllocError;
 
-/// Element types with envelopes of type `E`; every element type has it for its own envelope type alone. It
+/// Element types with envelopes of type `E`. Every element type has it for its own envelope type alone. It
 /// stands where rstar writes `RTreeObject<Envelope = E>`.
 pub trait InEnvelope<E: Envelope>: RTreeObject {
     // The envelope, as one of that type.
@@ -71,7 +71,8 @@ const MARKS: usize = 64;
 /// Up to this many nodes on the right, several nodes on the left are tested at once.
 const NARROW: usize = 8;
 
-/// The pairs of elements of two trees whose envelopes intersect, each pair of places once, in some order.
+/// The pairs of elements of two trees whose envelopes intersect, in some order. Each pair of places comes
+/// once.
 ///
 /// The traversal visits a pair of nodes where their envelopes intersect, and goes on with the pairs of their
 /// children. Where one of the two is a leaf, the other goes on alone. `next` takes no memory: the paths were
@@ -302,8 +303,8 @@ impl<'a, T: Covered, U: Meets<T>> IntersectionIterator<'a, T, U> {
         })
     }
 
-    /// The number of pairs of nodes visited so far, the pair of roots included, clamped to the greatest
-    /// `usize`.
+    /// The number of pairs of nodes visited so far. The pair of roots counts; the number is clamped to the
+    /// greatest `usize`.
     ///
     /// At the end it counts all pairs that intersect but those of two leaves. An empty root is never
     /// visited.

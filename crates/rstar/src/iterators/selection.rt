@@ -13,7 +13,7 @@ use crate::node::{ParentNode, RTreeNode};
 use crate::path::Path;
 use std::alloc::AllocError;
 
-/// The selected elements of a tree, each once, in some order.
+/// The selected elements of a tree, in some order.
 ///
 /// With a lawful selection function these are all selected elements. The traversal visits a parent where the
 /// function accepts its envelope and those above it. `next` takes no memory: the path was reserved before.
@@ -64,7 +64,7 @@ impl<'a, T: Covered, Func: Question<T>> SelectionIterator<'a, T, Func> {
         })
     }
 
-    /// The number of parents visited so far, the root included, clamped to the greatest `usize`.
+    /// The number of parents visited so far. The root counts; the number is clamped to the greatest `usize`.
     ///
     /// At the end it counts all parents that are accepted with those above them. An empty root is never
     /// visited.

@@ -11,7 +11,7 @@ use rstar_base::envelope::Envelope;
 use rstar_base::object::{EqualEnvelopes, PointDistance, PointOf, RTreeObject};
 use rstar_base::point::{Point, RTreeNum};
 
-/// Whether `step` may run a command: no element in it has an empty envelope, and the points of a load or a
+/// Whether `step` may run a command. No element in it has an empty envelope, and the points of a load or a
 /// join have at least two axes. It looks at each element of the command.
 pub fn is_fit<T: PointDistance + EqualEnvelopes>(command: &Command<T>) -> bool
     ensures { IsTrue result ↔ IsFit ⟦<T as Scanned>⟧.questions T.Envelope.Point.DIMENSIONS command.now }

@@ -25,7 +25,7 @@ use rstar_base::point::{Point, RTreeNum};
 use std::alloc::AllocError;
 
 impl<T: RTreeObject, Params: RTreeParams> RTree<T, Params> {
-    /// Removes all elements, one for each `next`, in some order.
+    /// Removes all elements. Each `next` yields one, in some order.
     ///
     /// It takes memory once, for the path. A refusal leaves the tree as it was.
     ///
@@ -58,7 +58,7 @@ impl<T: RTreeObject, Params: RTreeParams> RTree<T, Params> {
         self.drain_with_selection_function(SelectAllFunc)
     }
 
-    /// Removes the elements whose envelopes an envelope contains, one for each `next`, in some order.
+    /// Removes the elements whose envelopes an envelope contains. Each `next` yields one, in some order.
     ///
     /// It takes memory once, for the path. A refusal leaves the tree as it was.
     pub fn drain_in_envelope(
@@ -80,8 +80,8 @@ impl<T: RTreeObject, Params: RTreeParams> RTree<T, Params> {
         self.drain_with_selection_function(SelectInEnvelopeFunction::new(envelope))
     }
 
-    /// Removes the elements whose envelopes an envelope intersects, one for each `next`, in some order.
-    /// Touching is enough.
+    /// Removes the elements whose envelopes an envelope intersects. Touching is enough. Each `next` yields
+    /// one, in some order.
     ///
     /// It takes memory once, for the path. A refusal leaves the tree as it was.
     pub fn drain_in_envelope_intersecting(
@@ -103,7 +103,7 @@ impl<T: RTreeObject, Params: RTreeParams> RTree<T, Params> {
         self.drain_with_selection_function(SelectInEnvelopeFuncIntersecting::new(envelope))
     }
 
-    /// Removes the elements that a function selects, one for each `next`, in some order. With a function
+    /// Removes the elements that a function selects. Each `next` yields one, in some order. With a function
     /// that is not lawful it may miss some.
     ///
     /// It takes memory once, for the path. A refusal leaves the tree as it was.
@@ -156,7 +156,7 @@ impl<T: RTreeObject, Params: RTreeParams> RTree<T, Params> {
 }
 
 impl<T: RTreeObject, Params: RTreeParams> RTree<T, Params> {
-    /// Consumes the tree and yields all its elements, each once, in some order.
+    /// Consumes the tree and yields all its elements, in some order.
     ///
     /// It takes memory once, for the path. A refusal hands the tree back.
     #[tactic(auto, unfolding(crate::specs::Trees::IsWholeTree))]
@@ -176,7 +176,7 @@ impl<T: RTreeObject, Params: RTreeParams> RTree<T, Params> {
 }
 
 impl<T: PointDistance, Params: RTreeParams> RTree<T, Params> {
-    /// Removes the elements within a squared distance of a point, one for each `next`, in some order.
+    /// Removes the elements within a squared distance of a point. Each `next` yields one, in some order.
     ///
     /// It takes memory once, for the path. A refusal leaves the tree as it was.
     pub fn drain_within_distance(

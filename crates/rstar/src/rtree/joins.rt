@@ -14,8 +14,8 @@ use rstar_base::params::RTreeParams;
 use std::alloc::AllocError;
 
 impl<T: RTreeObject, Params: RTreeParams> RTree<T, Params> {
-    /// The pairs of an element of this tree and one of the other whose envelopes intersect, each pair of
-    /// places once, in some order. Touching is enough.
+    /// The pairs of an element of each tree whose envelopes intersect, in some order. Each pair of places
+    /// comes once. Touching is enough.
     ///
     /// It visits the pairs of nodes whose envelopes intersect. It takes memory, and may be refused, only
     /// where a tree has more than 13 levels of parents.

@@ -17,12 +17,11 @@ use std::alloc::AllocError;
 use std::marker::PhantomData;
 
 impl<T: RTreeObject> RTree<T> {
-    /// A tree of these elements, none with an empty envelope, by bulk load with the default node sizes (Lee
-    /// and Lee 2003).
+    /// A tree of these elements, by bulk load with the default node sizes (Lee and Lee 2003).
     ///
-    /// The points have at least two axes; `verify_parameters` tests that. The tree usually has fewer nodes,
-    /// with less overlap, than one built by insertions. The cost is that of `bulk_load_sequential`. A
-    /// refusal of memory drops the elements.
+    /// No element has an empty envelope, and the points have at least two axes; `verify_parameters` tests
+    /// that. The tree usually has fewer nodes, with less overlap, than one built by insertions. The cost is
+    /// that of `bulk_load_sequential`. A refusal of memory drops the elements.
     ///
     /// ```rust
     /// pub fn points_loaded(alloc: Global, more: [i64; 2]) -> Result<RTree<[i64; 2]>, AllocError>

@@ -25,7 +25,7 @@ use rstar_base::point::{Point, RTreeNum};
 use std::alloc::AllocError;
 
 impl<T: PointDistance, Params: RTreeParams> RTree<T, Params> {
-    /// All elements, the nearest to a point first, each once.
+    /// All elements, the nearest to a point first.
     ///
     /// Making it takes no memory and visits nothing. `next` takes memory, and may be refused, where more
     /// than 32 nodes wait.
@@ -51,7 +51,7 @@ impl<T: PointDistance, Params: RTreeParams> RTree<T, Params> {
         Neighbors::new(&self.root, point)
     }
 
-    /// All elements with their squared distances, the nearest to a point first, each once.
+    /// All elements with their squared distances, the nearest to a point first.
     ///
     /// Making it takes no memory and visits nothing. `next` takes memory, and may be refused, where more
     /// than 32 nodes wait.
@@ -82,9 +82,9 @@ impl<T: PointDistance, Params: RTreeParams> RTree<T, Params> {
         self.nearest_neighbor_iter_with_distance_2(point)
     }
 
-    /// A nearest element to a point; `None` exactly where the tree is empty.
+    /// A nearest element to a point.
     ///
-    /// The cost is that of `nearest_neighbor_with_distance_2`.
+    /// `None` comes exactly where the tree is empty. The cost is that of `nearest_neighbor_with_distance_2`.
     pub fn nearest_neighbor(&self, point: PointOf<T>) -> Result<Option<&T>, AllocError>
         requires { IsWholeTree T.Envelope.boxes T.object Params.MAX_SIZE self.now }
         ensures none { IfOk result (λ r. IfNone r (elements_in self.now ≡ [])) }
@@ -97,11 +97,11 @@ impl<T: PointDistance, Params: RTreeParams> RTree<T, Params> {
         }
     }
 
-    /// A nearest element to a point with its squared distance; `None` exactly where the tree is empty.
+    /// A nearest element to a point with its squared distance.
     ///
-    /// The traversal visits the nearest waiting parent first and prunes what is farther than the least
-    /// `min_max_dist_2` seen (Roussopoulos et al. 1995). It takes memory, and may be refused, only where
-    /// more than 32 nodes wait.
+    /// `None` comes exactly where the tree is empty. The traversal visits the nearest waiting parent first
+    /// and prunes what is farther than the least `min_max_dist_2` seen (Roussopoulos et al. 1995). It takes
+    /// memory, and may be refused, only where more than 32 nodes wait.
     #[tactic(auto, unfolding(crate::specs::Trees::IsWholeTree))]
     pub fn nearest_neighbor_with_distance_2(
         &self,
@@ -124,11 +124,11 @@ impl<T: PointDistance, Params: RTreeParams> RTree<T, Params> {
         nearest_neighbor_with_distance_2(&self.root, point)
     }
 
-    /// Removes a nearest element to a point; `None`, with the tree as it was, exactly where the tree is
-    /// empty.
+    /// Removes a nearest element to a point.
     ///
-    /// It finds the least distance as `nearest_neighbor` does, which alone may be refused; the tree is then
-    /// as it was. Then it visits parents within that distance until it removes an element.
+    /// `None` comes, with the tree as it was, exactly where the tree is empty. It finds the least distance
+    /// as `nearest_neighbor` does, which alone may be refused; the tree is then as it was. Then it visits
+    /// parents within that distance until it removes an element.
     #[tactic(auto, unfolding(crate::specs::Trees::IsWholeTree))]
     pub fn pop_nearest_neighbor(&mut self, point: PointOf<T>) -> Result<Option<T>, AllocError>
         requires { IsWholeTree T.Envelope.boxes T.object Params.MAX_SIZE self.old }
@@ -169,8 +169,8 @@ impl<T: PointDistance, Params: RTreeParams> RTree<T, Params> {
         }
     }
 
-    /// All elements at the least squared distance to a point, at least one, with that distance. `None`
-    /// exactly where the tree is empty.
+    /// All elements at the least squared distance to a point, with that distance. There is at least one;
+    /// `None` comes exactly where the tree is empty.
     ///
     /// It takes neighbours until one is farther than the first. It may be refused the memory of the list or
     /// of the queue.
@@ -189,8 +189,8 @@ impl<T: PointDistance, Params: RTreeParams> RTree<T, Params> {
         all_nearest(&self.root, point)
     }
 
-    /// The `most` nearest elements to a point with their squared distances, the nearest first; all where
-    /// there are fewer.
+    /// The `most` nearest elements to a point with their squared distances, the nearest first. Where there
+    /// are fewer it gives all.
     ///
     /// Its list takes memory once, for at most as many elements as the tree has. Up to 32 elements are found
     /// in a second list of that room, which prunes the traversal; more cost what
@@ -228,8 +228,8 @@ impl<T: PointDistance, Params: RTreeParams> RTree<T, Params> {
 }
 
 impl<T: PointDistance + Ord, Params: RTreeParams> RTree<T, Params> {
-    /// All elements with their squared distances in the stated order: by distance, and at equal distance by
-    /// `Ord`.
+    /// All elements with their squared distances in the stated order. That order is by distance, and at
+    /// equal distance by `Ord`.
     ///
     /// Making it takes no memory and visits nothing. `next` takes memory, and may be refused, where more
     /// than 32 nodes wait.
@@ -246,8 +246,8 @@ impl<T: PointDistance + Ord, Params: RTreeParams> RTree<T, Params> {
         NeighborsByOrder::new(&self.root, point)
     }
 
-    /// The first `most` elements in the stated order with their squared distances; all where there are
-    /// fewer.
+    /// The first `most` elements in the stated order with their squared distances. Where there are fewer it
+    /// gives all.
     ///
     /// The cost and the refusals are those of `first_neighbors`.
     #[tactic(auto, unfolding(crate::specs::Trees::IsWholeTree))]
@@ -269,12 +269,12 @@ impl<T: PointDistance + Ord, Params: RTreeParams> RTree<T, Params> {
 }
 
 impl<T: PointDistance + Ord, Params: RTreeParams> RTree<T, Params> {
-    /// Removes the first element in the stated order: by distance to a point, and at equal distance by
-    /// `Ord`. `None`, with the tree as it was, exactly where the tree is empty.
+    /// Removes the first element in the stated order. That order is by distance to a point, and at equal
+    /// distance by `Ord`.
     ///
-    /// It finds the least distance as `nearest_neighbor` does, which alone may be refused; the tree is then
-    /// as it was. Then it changes one path, and reads once, at each level, the parents below within that
-    /// distance.
+    /// `None` comes, with the tree as it was, exactly where the tree is empty. It finds the least distance
+    /// as `nearest_neighbor` does, which alone may be refused; the tree is then as it was. Then it changes
+    /// one path, and reads once, at each level, the parents below within that distance.
     #[tactic(auto, unfolding(crate::specs::Trees::IsWholeTree))]
     pub fn pop_nearest_neighbor_by_order(
         &mut self,

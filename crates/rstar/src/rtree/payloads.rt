@@ -16,8 +16,8 @@ use rstar_base::point::{Point, known};
 use rstar_base::primitives::GeomWithData;
 
 impl<R: PointDistance, D: Drop, Params: RTreeParams> RTree<GeomWithData<R, D>, Params> {
-    /// A mutable borrow of the payload of an element that contains a point; `None` exactly where none does.
-    /// A write changes nothing else of the tree.
+    /// A mutable borrow of the payload of an element that contains a point. `None` comes exactly where none
+    /// does. A write changes nothing else of the tree.
     ///
     /// It visits the parents whose envelopes contain the point until it finds an element, and searches again
     /// below each parent on the way down. It takes no memory.

@@ -23,11 +23,11 @@ use rstar_base::params::RTreeParams;
 use rstar_base::point::Point;
 
 impl<T: RTreeObject, Params: RTreeParams> RTree<T, Params> {
-    /// Removes one element that a function selects; `None`, with the tree as it was, where it finds none.
-    /// With a function that is not lawful it may miss some.
+    /// Removes one element that a function selects. With a function that is not lawful it may miss some.
     ///
-    /// It visits the accepted parents until it finds an element. Envelopes above it are recomputed as far up
-    /// as one changes, and parents without children are dropped; nodes are never merged. It takes no memory.
+    /// `None` comes, with the tree as it was, where it finds none. It visits the accepted parents until it
+    /// finds an element. Envelopes above it are recomputed as far up as one changes, and parents without
+    /// children are dropped; nodes are never merged. It takes no memory.
     pub fn remove_with_selection_function<R: SelectionFunction<T>>(&mut self, func: R) -> Option<T>
         requires { IsWholeTree T.Envelope.boxes T.object Params.MAX_SIZE self.old }
         ensures taken { IfSome result (λ x. IsPermutation (elements_in self.old) (x ∷ elements_in self.new)) }
@@ -106,9 +106,10 @@ impl<T: EqualEnvelopes, Params: RTreeParams> RTree<T, Params> {
         self.locate_first(&SelectEqualsFunction::new(t)).is_some()
     }
 
-    /// Removes one element that equals this one; `None`, with the tree as it was, exactly where none does.
+    /// Removes one element that equals this one.
     ///
-    /// It visits the parents whose envelopes contain the element's until it finds one, and takes no memory.
+    /// `None` comes, with the tree as it was, exactly where none does. It visits the parents whose envelopes
+    /// contain the element's until it finds one, and takes no memory.
     ///
     /// ```rust
     /// match tree.remove(element) {
@@ -131,9 +132,10 @@ impl<T: EqualEnvelopes, Params: RTreeParams> RTree<T, Params> {
 }
 
 impl<T: PointDistance, Params: RTreeParams> RTree<T, Params> {
-    /// Removes one element that contains a point; `None`, with the tree as it was, exactly where none does.
+    /// Removes one element that contains a point.
     ///
-    /// It visits the parents whose envelopes contain the point until it finds one, and takes no memory.
+    /// `None` comes, with the tree as it was, exactly where none does. It visits the parents whose envelopes
+    /// contain the point until it finds one, and takes no memory.
     pub fn remove_at_point(&mut self, point: PointOf<T>) -> Option<T>
         requires { IsWholeTree T.Envelope.boxes T.object Params.MAX_SIZE self.old }
         ensures taken { IfSome result (λ x. IsPermutation (elements_in self.old) (x ∷ elements_in self.new)) }

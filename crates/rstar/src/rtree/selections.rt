@@ -131,9 +131,10 @@ impl<T: RTreeObject, Params: RTreeParams> RTree<T, Params> {
 }
 
 impl<T: PointDistance, Params: RTreeParams> RTree<T, Params> {
-    /// An element that contains a point; `None` exactly where none does.
+    /// An element that contains a point.
     ///
-    /// It visits the parents whose envelopes contain the point until it finds one, and takes no memory.
+    /// `None` comes exactly where none does. It visits the parents whose envelopes contain the point until
+    /// it finds one, and takes no memory.
     ///
     /// ```rust
     /// let found = tree.locate_at_point(point).is_some();

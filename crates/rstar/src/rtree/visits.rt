@@ -19,8 +19,8 @@ use rstar_base::point::{Point, RTreeNum};
 use std::ops::ControlFlow;
 
 impl<T: RTreeObject, Params: RTreeParams> RTree<T, Params> {
-    /// Calls a visitor at each element whose envelope an envelope contains, until a call breaks, and returns
-    /// the break. It takes no memory.
+    /// Calls a visitor at each element inside an envelope, until it breaks. It returns the break and takes
+    /// no memory.
     pub fn locate_in_envelope_int<'a, V: FnMut(&'a T) -> ControlFlow<B>, B: Drop>(
         &'a self,
         envelope: T::Envelope,
@@ -34,8 +34,8 @@ impl<T: RTreeObject, Params: RTreeParams> RTree<T, Params> {
         self.locate_with_selection_function_int(SelectInEnvelopeFunction::new(envelope), visitor)
     }
 
-    /// Calls a visitor at each element whose envelope an envelope intersects, until a call breaks, and
-    /// returns the break. It takes no memory.
+    /// Calls a visitor at each element that an envelope intersects, until it breaks. It returns the break
+    /// and takes no memory.
     pub fn locate_in_envelope_intersecting_int<'a, V: FnMut(&'a T) -> ControlFlow<B>, B: Drop>(
         &'a self,
         envelope: T::Envelope,
@@ -52,8 +52,8 @@ impl<T: RTreeObject, Params: RTreeParams> RTree<T, Params> {
         )
     }
 
-    /// Calls a visitor at each element that a function selects, until a call breaks, and returns the break.
-    /// With a function that is not lawful it may miss some. It takes no memory.
+    /// Calls a visitor at each selected element, until it breaks. It returns the break and takes no memory.
+    /// With a function that is not lawful it may miss some.
     #[tactic(auto, unfolding(crate::specs::Trees::IsWholeTree))]
     pub fn locate_with_selection_function_int<
         'a,
@@ -70,8 +70,8 @@ impl<T: RTreeObject, Params: RTreeParams> RTree<T, Params> {
         select_nodes(&self.root, &func, &mut visitor)
     }
 
-    /// Calls a visitor at each element whose envelope an envelope contains, until a call breaks, and returns
-    /// the break. The visitor may write the element, but must keep its envelope. It takes no memory.
+    /// As `locate_in_envelope_int`, with a visitor that may write. The visitor must keep the envelope of the
+    /// element.
     pub fn locate_in_envelope_int_mut<V: FnMut(&mut T) -> ControlFlow<B>, B: Drop>(
         &mut self,
         envelope: T::Envelope,
@@ -90,8 +90,8 @@ impl<T: RTreeObject, Params: RTreeParams> RTree<T, Params> {
         self.locate_with_selection_function_int_mut(func, visitor)
     }
 
-    /// Calls a visitor at each element whose envelope an envelope intersects, until a call breaks, and
-    /// returns the break. The visitor may write the element, but must keep its envelope. It takes no memory.
+    /// As `locate_in_envelope_intersecting_int`, with a visitor that may write. The visitor must keep the
+    /// envelope of the element.
     ///
     /// ```rust
     /// let _went_on: ControlFlow<()> = tree.locate_in_envelope_intersecting_int_mut(
@@ -121,9 +121,8 @@ impl<T: RTreeObject, Params: RTreeParams> RTree<T, Params> {
         self.locate_with_selection_function_int_mut(func, visitor)
     }
 
-    /// Calls a visitor at each element that a function selects, until a call breaks, and returns the break.
-    /// The visitor may write the element, but must keep its envelope. With a function that is not lawful it
-    /// may miss some. It takes no memory.
+    /// As `locate_with_selection_function_int`, with a visitor that may write. The visitor must keep the
+    /// envelope of the element.
     pub fn locate_with_selection_function_int_mut<
         F: SelectionFunction<T>,
         V: FnMut(&mut T) -> ControlFlow<B>,
@@ -143,7 +142,7 @@ impl<T: RTreeObject, Params: RTreeParams> RTree<T, Params> {
 }
 
 impl<T: PointDistance, Params: RTreeParams> RTree<T, Params> {
-    /// Calls a visitor at each element that contains a point, until a call breaks, and returns the break. It
+    /// Calls a visitor at each element that contains a point, until it breaks. It returns the break and
     /// takes no memory.
     pub fn locate_all_at_point_int<'a, V: FnMut(&'a T) -> ControlFlow<B>, B: Drop>(
         &'a self,
@@ -160,8 +159,8 @@ impl<T: PointDistance, Params: RTreeParams> RTree<T, Params> {
         self.locate_with_selection_function_int(SelectAtPointFunction::new(point), visitor)
     }
 
-    /// Calls a visitor at each element that contains a point, until a call breaks, and returns the break.
-    /// The visitor may write the element, but must keep its envelope. It takes no memory.
+    /// As `locate_all_at_point_int`, with a visitor that may write. The visitor must keep the envelope of
+    /// the element.
     pub fn locate_all_at_point_int_mut<V: FnMut(&mut T) -> ControlFlow<B>, B: Drop>(
         &mut self,
         point: PointOf<T>,

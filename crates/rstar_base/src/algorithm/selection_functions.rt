@@ -8,11 +8,25 @@ use crate::envelope::Envelope;
 use crate::object::{Distance, EqualEnvelopes, PointDistance, PointOf, RTreeObject};
 use crate::point::{known, not_above};
 
-/// A selection function: which parents a traversal visits, and which elements it yields.
+/// Which parents a traversal visits, and which elements it yields.
 ///
 /// A function is lawful when it accepts every envelope that the envelope of a selected element was merged
 /// into and that is not empty. A traversal with a lawful function yields every selected element. With any
 /// other function it yields only selected elements, and may miss some.
+///
+/// ```rust
+/// impl SelectionFunction<[i32; 2]> for LeftHalf {
+///     ghost accepts = { λ _ e. int_lt (⟦<AABB<[i32; 2]> as Envelope>⟧.boxes.axis_key e 0) (pos 50) };
+///     ghost selects = { λ _ t. int_lt (⟦<[i32; 2] as Point>⟧.coord t 0) (pos 50) };
+///     fn should_unpack_parent(&self, envelope: &AABB<[i32; 2]>) -> bool {
+///         envelope.axis_key(0) < 50
+///     }
+///     fn should_unpack_leaf(&self, leaf: &[i32; 2]) -> bool {
+///         leaf[0] < 50
+///     }
+/// }
+/// ```
+/// *`crates/rstar_vectors/src/selections.rt`*
 pub trait SelectionFunction<T: RTreeObject>: Drop {
     // The two answers, as functions.
     ghost accepts: { Self → T.Envelope → Bool };
@@ -92,7 +106,7 @@ pub struct SelectInEnvelopeFuncIntersecting<T: RTreeObject> {
 }
 
 impl<T: RTreeObject> SelectInEnvelopeFuncIntersecting<T> {
-    /// Selects the elements that `envelope` intersects, and visits the parents that it intersects.
+    /// Selects the elements, and visits the parents, that `envelope` intersects.
     pub fn new(envelope: T::Envelope) -> Self
         ensures { SelectsBy T.Envelope.boxes T.object (⟦<SelectInEnvelopeFuncIntersecting<T> as SelectionFunction<T>>⟧.accepts result)
             (⟦<SelectInEnvelopeFuncIntersecting<T> as SelectionFunction<T>>⟧.selects result)
@@ -125,7 +139,7 @@ pub struct SelectAtPointFunction<T: RTreeObject> {
 }
 
 impl<T: PointDistance> SelectAtPointFunction<T> {
-    /// Selects by `contains_point`, and visits the parents whose envelopes contain the point.
+    /// Selects by `contains_point`, and visits the parents that contain the point.
     pub fn new(point: PointOf<T>) -> Self
         ensures { SelectsBy T.Envelope.boxes T.object (⟦<SelectAtPointFunction<T> as SelectionFunction<T>>⟧.accepts result)
             (⟦<SelectAtPointFunction<T> as SelectionFunction<T>>⟧.selects result)
@@ -163,8 +177,7 @@ pub struct SelectWithinDistanceFunction<T: RTreeObject> {
 }
 
 impl<T: PointDistance> SelectWithinDistanceFunction<T> {
-    /// Selects the elements at most `squared_max_distance` from the point, and visits the parents at most as
-    /// far. The distance is squared.
+    /// Selects elements and visits parents at most this squared distance from the point.
     pub fn new(circle_origin: PointOf<T>, squared_max_distance: Distance<T>) -> Self
         ensures { SelectsBy T.Envelope.boxes T.object (⟦<SelectWithinDistanceFunction<T> as SelectionFunction<T>>⟧.accepts result)
             (⟦<SelectWithinDistanceFunction<T> as SelectionFunction<T>>⟧.selects result)
@@ -212,8 +225,8 @@ pub struct SelectEqualsFunction<'a, T: EqualEnvelopes> {
 }
 
 impl<'a, T: EqualEnvelopes> SelectEqualsFunction<'a, T> {
-    /// Selects by `==`, and visits the parents whose envelopes contain the element's envelope. Equal
-    /// elements have equal envelopes.
+    /// Selects by `==`, and visits the parents that contain the element's envelope. Equal elements have
+    /// equal envelopes.
     pub fn new(object_to_remove: &'a T) -> Self
         ensures { SelectsBy T.Envelope.boxes T.object (⟦<SelectEqualsFunction<'a, T> as SelectionFunction<T>>⟧.accepts result)
             (⟦<SelectEqualsFunction<'a, T> as SelectionFunction<T>>⟧.selects result)

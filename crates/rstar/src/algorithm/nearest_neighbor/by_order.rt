@@ -26,7 +26,8 @@ pub type NearestNeighborByOrderIterator<'a, T> = NeighborsByOrder<
     PointOf<T>,
 >;
 
-/// The type behind `NearestNeighborByOrderIterator`, by the types of root, node, scalar and point.
+/// The type of `NearestNeighborByOrderIterator`. Its parameters are the types of root, node, scalar and
+/// point.
 #[derive(Drop)]
 pub struct NeighborsByOrder<'a, R, N, S, P> {
     search: NeighborSearch<'a, R, N, S, ParentsFirst>,
@@ -53,7 +54,7 @@ impl<'a, T: PointDistance + Ord> NeighborsByOrder<
         }
     }
 
-    /// The number of parents visited so far, the root included, clamped to the greatest `usize`.
+    /// The number of parents visited so far. The root counts; the number is clamped to the greatest `usize`.
     pub fn opened(&self) -> usize
         ensures { result ≡ (search_by_order self.now).opened }
     {
