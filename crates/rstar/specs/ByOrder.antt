@@ -23,15 +23,16 @@ abbrev pub NearestNeighborByOrderIterator : (T E P S : Type 0) → Type 0
 NearestNeighborByOrderIterator T E P S = NeighborsByOrder (ParentNode T E) (RTreeNode T E) S P
 
 module _ {T E P S : Type 0} where
-  -- what it shows
+  -- what an iterator in the stated order shows
   abbrev pub search_by_order : NearestNeighborByOrderIterator T E P S → Search T E P
   search_by_order it = shown it.search it.point
 
-  -- how many calls of `next` may give something
+  -- how many calls of `next` may yield something
   abbrev pub neighbors_left : NearestNeighborByOrderIterator T E P S → Count
   neighbors_left it = calls_left it.search
 
--- after an element was given: nothing that waits comes before it, and just the parents that are no farther were opened
+-- after a neighbour: no waiting element comes before it in the stated order, and exactly the parents at most as far
+-- were visited
 pub record IsNextInOrder {T E P : Type 0} (v : Boxes E) (d : Distances T) (p : List ℤ) (order : T → T → Ordering)
     (s : Search T E P) (t : T) : Type 0 where
   pub first : AllByRecursion (IsNotLater (λ u. d.distance_2 u p) order t) (elements_waiting s)
@@ -41,12 +42,11 @@ pub record IsNextInOrder {T E P : Type 0} (v : Boxes E) (d : Distances T) (p : L
 -- `order` is the elements' own, scalars compare by `compare` and mean `value`
 module _ {T E P S : Type 0} (v : Boxes E) (o : Objects T E) (d : Distances T) (order : T → T → Ordering) (axes : ℕ)
     (coord : P → ℕ → ℤ) (compare : S → S → Ordering) (value : S → ℤ) where
-  -- what it keeps, so that `next` may be called
+  -- what an iterator in the stated order keeps between calls of `next`
   unfoldable pub IsSearchingByOrder : NearestNeighborByOrderIterator T E P S → Type 0
   IsSearchingByOrder it = IsReady v d (table axes (coord it.point)) compare (parents_first order) value o it.search
 
-  -- until a refusal, a call of `next` gives the first of what waits in the stated order, with its distance, and `None`
-  -- where nothing waits; it may be called again, also after `None`
+  -- a call of `next`: as `GivesNeighbor`, with the distance, and the element is `IsNextInOrder`
   abbrev pub GivesByOrder : NearestNeighborByOrderIterator T E P S → Option (Result (Bor T × S) AllocError)
       → NearestNeighborByOrderIterator T E P S → Type 0
   GivesByOrder old r new =

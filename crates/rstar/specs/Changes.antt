@@ -9,24 +9,24 @@ use Rattle.rstar.specs.declared.node.ParentNode.{ParentNode}
 use Rattle.rstar.specs.declared.rtree.RTree.{RTree}
 use Rattle.rstar.specs.Nodes.{IsLeafOf, IsParentOf}
 
--- u has t's envelope, and is a value where t is one
+-- u has the envelope of t, and is a value where t is one
 abbrev pub KeepsBox : {T E : Type 0} → Objects T E → T → T → Type 0
 KeepsBox o t u = (o.box_of u ≡ o.box_of t) × (o.IsValue t → o.IsValue u)
 
--- q is p, its children changed as K allows
+-- the parent q is p, with its children changed as K allows
 pub record IsChangedParent {T E : Type 0} (K : RTreeNode T E → RTreeNode T E → Type 0)
     (p q : ParentNode T E) : Type 0 where
   pub envelope : q.envelope ≡ p.envelope
   pub capacity : vec_capacity q.children ≡ vec_capacity p.children
   pub children : AllZip K p.children.items q.children.items
 
--- the second node is the first, whose leaves lie this many levels below, its elements changed as K allows
+-- the second node is the first, with its elements changed as K allows; its leaves lie h levels below
 abbrev pub IsChanged : {T E : Type 0} → (T → T → Type 0) → ℕ → RTreeNode T E → RTreeNode T E
     → Type 0
 IsChanged K zero n m = IsLeafOf (λ t. IsLeafOf (K t) m) n
 IsChanged K (suc h) n m = IsParentOf (λ p. IsParentOf (IsChangedParent (IsChanged K h) p) m) n
 
--- the same of a tree, in which nothing else changed
+-- the second tree is the first, with its elements changed as K allows, and nothing else
 pub record IsChangedTree {T D E P S X : Type 0} (K : T → T → Type 0) (h : ℕ) (old new : RTree T D E P S X)
     : Type 0 where
   pub root : IsChangedParent (IsChanged K h) old.root new.root

@@ -17,23 +17,26 @@ use Rattle.rstar.specs.Taking.{IsPast, IsRestAt}
 
 -- ---- what it shows: the tree that it drains, the tree's elements, and its question
 
+-- the tree that a drain removes from
 abbrev pub drained : {T F D Q E P S X : Type 0} → DrainIterator T F D Q E P S X → RTree T D E P S X
 drained it = it.tree.now
 
+-- the elements that are left in that tree
 abbrev pub left_in_tree : {T F D Q E P S X : Type 0} → DrainIterator T F D Q E P S X → List T
 left_in_tree it = elements_in (drained it)
 
+-- the selection function of a drain
 abbrev pub drain_question : {T F D Q E P S X : Type 0} → DrainIterator T F D Q E P S X → F
 drain_question it = it.func
 
 module _ (T D E P S X : RattleType) where
-  -- where the drain was refused, the tree that it was asked of is left as it was
+  -- a refused drain leaves the tree as it was
   abbrev pub LeavesRefused : {F Q A : Type 0} → MutBor (RTree T.Denot D.Denot E.Denot P.Denot S.Denot X.Denot)
       → Result (DrainIterator T.Denot F D.Denot Q E.Denot P.Denot S.Denot X.Denot) A → Fml
   LeavesRefused tree r =
       RestsIfErr (tree_row T D E P S X) tree (λ it. it.tree.ghost_name) r (λ n. n ≡ tree.now)
 
--- a drain of a lawful question, which selects these elements
+-- a drain whose selection function is lawful and selects by the test `asked`
 pub record DrainsBy {T F D E P S X : Type 0} (v : Boxes E) (o : Objects T E) (accepts : F → E → Bool)
     (selects : F → T → Bool) (asked : T → Bool) (it : DrainIterator T F D (Vec ℕ Global) E P S X) : Type 0 where
   pub lawful : IsLawful v o (accepts (drain_question it)) (selects (drain_question it))
@@ -48,12 +51,12 @@ module _ {T F D E P S X : Type 0} (v : Boxes E) (o : Objects T E) (max : ℕ) (a
       × (IsLawful v o (accepts (drain_question it)) (selects (drain_question it))
       → IsPast (selects (drain_question it)) it.path.items (children_of (root_of (drained it))))
 
-  -- what it keeps, so that `next` may be called
+  -- what a drain keeps between calls of `next`
   unfoldable pub IsDraining : DrainIterator T F D (Vec ℕ Global) E P S X → Type 0
   IsDraining it = HasItsPlace it
 
-  -- a call of `next` takes a selected element out of the tree, which stays whole; where it gives none, none is selected
-  -- and the tree is as it was
+  -- a call of `next`: it removes a selected element from the tree, which stays whole; at `None` no selected element is
+  -- left, and the tree is as it was
   pub record TakesNext (old : DrainIterator T F D (Vec ℕ Global) E P S X) (r : Option T)
       (new : DrainIterator T F D (Vec ℕ Global) E P S X) : Type 0 where
     pub taken : IsWithout (left_in_tree old) r (left_in_tree new)

@@ -14,7 +14,7 @@ lists_of it = map (λ v. v.items) it.path.items ++ it.nodes.items ∷ []
 abbrev pub elements_held : {T E : Type 0} → List (List (RTreeNode T E)) → List T
 elements_held lists = flat_map all_elements lists
 
--- the elements that it still gives, in order
+-- the elements that `into_iter` still yields, in order
 unfoldable pub left_to_give : {T E : Type 0} → IntoIter T E → List T
 left_to_give it = reverse (elements_held (lists_of it))
 
@@ -30,6 +30,6 @@ pub record HasItsLists {T E : Type 0} (room : ℕ) (lists : List (List (RTreeNod
   pub fits : height ≤ room + 1
   pub levels : AreLists height lists
 
--- what it keeps, so that `next` may be called
+-- what `into_iter` keeps between calls of `next`
 unfoldable pub IsGiving : {T E : Type 0} → IntoIter T E → Type 0
 IsGiving it = HasItsLists (vec_capacity it.path) (lists_of it)

@@ -6,43 +6,43 @@ use Rattle.std.specs.Ordering.{on, then_cmp, nat_cmp, is_lt}
 use Rattle.std.specs.declared.cmp.Ordering.{Ordering}
 use Rattle.std.specs.declared.cmp.Ordering.TheVariants.{Equal}
 
--- each item of the first list with each of the second
+-- the pairs of each item of the first list with each of the second
 abbrev pub product : {A B : Type 0} → List A → List B → List (A × B)
 product [] ys = []
 product (x ∷ xs) ys = map (λ y. (x, y)) ys ++ product xs ys
 
--- none of these is selected
+-- no element of the list is selected
 abbrev pub NoneSelected : {T : Type 0} → (T → Bool) → List T → Type 0
 NoneSelected selects ts = AllByRecursion (λ t. selects t ≡ false) ts
 
--- no element has an empty envelope
+-- no element of the list has an empty envelope
 abbrev pub NoneEmpty : {T E : Type 0} → (E → Bool) → (T → E) → List T → Type 0
 NoneEmpty is_empty box_of ts = All (λ t. is_empty (box_of t) ≡ false) ts
 
--- t does not come after u, by an order of theirs: u does not come before t
+-- t does not come after u: u does not come before t
 abbrev pub IsNotAfter : {T : Type 0} → (T → T → Ordering) → T → T → Type 0
 IsNotAfter compare t u = is_lt (compare u t) ≡ false
 
 -- ---- the first of a list, in an order: `before t u` says that t may stand before u
 
 module _ {T : Type 0} (before : T → T → Type 0) where
-  -- each may stand before all that stand behind it
+  -- a list in an order: each element may stand before all behind it
   abbrev pub AreOrdered : List T → Type 0
   AreOrdered [] = ⊤
   AreOrdered (t ∷ ts) = AllByRecursion (before t) ts × AreOrdered ts
 
-  -- an element that may stand before each
+  -- a least element: it may stand before each
   pub record IsLeast (all : List T) (t : T) : Type 0 where
     pub member : Contains all t
     pub least : AllByRecursion (before t) all
 
-  -- the first of all elements, in that order, and those that are left, each of which each of the first may stand before
+  -- the first elements in an order, and those left: each of the first may stand before each of the others
   pub record AreFirst (all first left : List T) : Type 0 where
     pub bag : IsPermutation all (first ++ left)
     pub order : AreOrdered first
     pub least : AllByRecursion (λ t. AllByRecursion (before t) left) first
 
-  -- the first of all elements, in that order: so many, or all
+  -- the first `most` elements in an order; all where there are fewer
   pub record AreFirstOf (all : List T) (most : ℕ) (given : List T) : Type 0 where
     pub left : List T
     pub first : AreFirst all given left
@@ -51,48 +51,49 @@ module _ {T : Type 0} (before : T → T → Type 0) where
 
 -- ---- the nearest of a list
 
--- t is no farther than u
+-- t is at most as far as u
 abbrev pub IsNoFarther : {T : Type 0} → (T → ℕ) → T → T → Type 0
 IsNoFarther distance t u = distance t ≤ distance u
 
--- an element than which none is nearer
+-- a nearest element: none is nearer
 abbrev pub IsNearest : {T : Type 0} → (T → ℕ) → List T → T → Type 0
 IsNearest distance all t = IsLeast (IsNoFarther distance) all t
 
--- all elements at a distance than which none is nearer; there is one where there is any element
+-- all elements at the least distance d; there is one where the list has any
 pub record AreNearest {T : Type 0} (distance : T → ℕ) (all : List T) (d : ℕ) (ts : List T) : Type 0 where
   pub least : AllByRecursion (λ u. d ≤ distance u) all
   pub bag : IsPermutation (filter (λ u. distance u == d) all) ts
   pub at : AllByRecursion (λ t. distance t ≡ d) ts
   pub some : ts ≡ [] → all ≡ []
 
--- the same, and there is one
+-- all elements at the least distance d, at least one
 pub record AreSomeNearest {T : Type 0} (distance : T → ℕ) (all : List T) (d : ℕ) (ts : List T) : Type 0 where
   pub nearest : AreNearest distance all d ts
   pub some : ts ≡ [] → ⊥
 
--- elements whose distances never fall
+-- a list whose distances never fall
 abbrev pub AreInOrder : {T : Type 0} → (T → ℕ) → List T → Type 0
 AreInOrder distance ts = AreOrdered (IsNoFarther distance) ts
 
--- the first of all elements, in the order of their distances; none of those that are left is nearer
+-- the nearest elements in order, and those left, of which none is nearer
 abbrev pub AreNearestFirst : {T : Type 0} → (T → ℕ) → List T → List T → List T → Type 0
 AreNearestFirst distance all first left = AreFirst (IsNoFarther distance) all first left
 
--- the nearest of all elements, in the order of their distances: so many, or all
+-- the `most` nearest elements, the nearest first; all where there are fewer
 abbrev pub AreNearestOf : {T : Type 0} → (T → ℕ) → List T → ℕ → List T → Type 0
 AreNearestOf distance all most nearest = AreFirstOf (IsNoFarther distance) all most nearest
 
 -- ---- the stated order: by distance, and at equal distance by the elements' own order, `compare`
 
+-- the stated order: by distance, and at equal distance by `compare`
 abbrev pub by_distance : {T : Type 0} → (T → ℕ) → (T → T → Ordering) → T → T → Ordering
 by_distance distance compare = then_cmp (on distance nat_cmp) compare
 
--- t is no later than u in that order
+-- t does not come after u in the stated order
 abbrev pub IsNotLater : {T : Type 0} → (T → ℕ) → (T → T → Ordering) → T → T → Type 0
 IsNotLater distance compare t u = IsNotAfter (by_distance distance compare) t u
 
--- one list, up to elements that compare equal
+-- two lists are equal, up to elements that compare equal
 abbrev pub AreAlike : {T : Type 0} → (T → T → Ordering) → List T → List T → Type 0
 AreAlike compare [] [] = ⊤
 AreAlike compare (t ∷ ts) (u ∷ us) = (compare t u ≡ Equal) × AreAlike compare ts us

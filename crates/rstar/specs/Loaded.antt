@@ -14,31 +14,31 @@ use Rattle.rstar.specs.Shapes.{IsAny}
 
 -- ---- how deep a load goes
 
--- n elements in c slabs: all slabs have the same size but the last, which has the rest
+-- n elements in c slabs: some slab has s elements. All slabs have the same length but the last, which has the rest.
 abbrev pub IsSlabSize : ℕ → ℕ → ℕ → Type 0
 IsSlabSize c n s = (j : ℕ) × (j * div_ceil n c < n) × (s ≡ min (div_ceil n c) (n - j * div_ceil n c))
 
--- n elements in c slabs along each of so many axes: some part has m elements
+-- n elements in c slabs along each axis: some part has m elements
 abbrev pub IsPartSize : ℕ → ℕ → ℕ → ℕ → Type 0
 IsPartSize c zero n m = m ≡ n
 IsPartSize c (suc axes) n m = (s : ℕ) × IsSlabSize c n s × IsPartSize c axes s m
 
--- a load cuts n elements into parts, of which one has m
+-- a bulk load cuts n elements into parts, of which one has m
 abbrev pub IsLoadPart : ℕ → ℕ → ℕ → ℕ → Type 0
 IsLoadPart most axes n m = (c : ℕ) × IsClusterNumber most axes n c × IsPartSize (max c 2) axes n m
 
--- from n elements down, part by part, each part is too large for one parent on so many levels
+-- on so many levels, every part of n elements is too large for one parent
 abbrev pub GoesDeep : ℕ → ℕ → ℕ → ℕ → Type 0
 GoesDeep most axes zero n = ⊤
 GoesDeep most axes (suc below) n = (most < n) × ((m : ℕ) → IsLoadPart most axes n m → GoesDeep most axes below m)
 
--- some part so many levels below is not
+-- some part that many levels below fits one parent
 abbrev pub EndsAt : ℕ → ℕ → ℕ → ℕ → Type 0
 EndsAt most axes zero n = n ≤ most
 EndsAt most axes (suc below) n = (m : ℕ) × IsLoadPart most axes n m × EndsAt most axes below m
 
--- the levels of parents below the root of a load of n elements: none where a parent holds them all, otherwise one more
--- than the least that a part has. It depends on n alone.
+-- the levels of parents below the root of a load of n elements: the least depth at which some part fits one parent. It
+-- depends on n alone.
 pub record IsLoadDepth (most axes n levels : ℕ) : Type 0 where
   pub deep : GoesDeep most axes levels n
   pub ends : EndsAt most axes levels n
@@ -46,32 +46,32 @@ pub record IsLoadDepth (most axes n levels : ℕ) : Type 0 where
 -- ---- how its parents are cut
 
 module _ {T E : Type 0} (key : T → ℕ → ℤ) where
-  -- there is an axis on which no element of the second node has a greater key than any of the first
+  -- on some axis no element of the second node has a greater key than one of the first
   abbrev pub IsParted : ℕ → RTreeNode T E → RTreeNode T E → Type 0
   IsParted axes m n = (axis : ℕ) × (axis < axes) × NoneAbove (λ t. key t axis) (elements n) (elements m)
 
-  -- a parent whose children are parents: more elements than one parent holds, at most half of them (rounded up) below
-  -- each child, few children, and any two of them parted
+  -- a parent of parents: it has more elements than fit one parent, each child has at most half of them, rounded up,
+  -- and any two children are parted
   pub record IsCut (most axes : ℕ) (p : ParentNode T E) : Type 0 where
     pub many : most < length (elements_of p)
     pub halves : All (λ n. 2 * length (elements n) ≤ length (elements_of p) + 1) (children_of p)
     pub few : length (children_of p) ≤ max most (2 ^ axes)
     pub parted : AllPairs (IsParted axes) (children_of p)
 
-  -- each parent of parents is cut so, from this one down to the parents of leaves, so many levels below
+  -- each parent of parents, from this one down, is cut
   abbrev pub IsCutAbove : ℕ → ℕ → ℕ → ParentNode T E → Type 0
   IsCutAbove most axes zero p = AllByRecursion (IsLeafOf IsAny) (children_of p)
   IsCutAbove most axes (suc h) p =
       IsCut most axes p × AllByRecursion (IsParentOf (IsCutAbove most axes h)) (children_of p)
 
--- some parent of leaves, so many levels below, has at most `most` children
+-- some parent of leaves has at most `most` children
 abbrev pub HasSmallParent : {T E : Type 0} → ℕ → ℕ → ParentNode T E → Type 0
 HasSmallParent most zero p = length (children_of p) ≤ most
 HasSmallParent {T} {E} most (suc h) p =
     (n : RTreeNode T E) × Contains (children_of p) n × IsParentOf (HasSmallParent most h) n
 
--- A loaded root, by the keys of the elements' envelopes: cut down to its leaves, which lie as deep as the number of
--- elements says, with some parent of leaves that is not too wide.
+-- a bulk-loaded root (Lee and Lee 2003): each parent of parents is cut (`IsCut`), the depth is `IsLoadDepth`, and some
+-- parent of leaves has at most `most` children
 pub record IsLoaded {T E : Type 0} (v : Boxes E) (o : Objects T E) (most axes : ℕ) (root : ParentNode T E)
     : Type 0 where
   pub levels : ℕ

@@ -65,6 +65,7 @@ module _ {T E U F : Type 0} (meets : E → F → Bool) (left_box : T → E) (rig
   unfoldable pub meet : RTreeNode T E → RTreeNode U F → ℕ
   meet l r = meet_shown meets left_box right_box (shown l) (shown r)
 
+  -- how many pairs of nodes of two roots intersect, those of two leaves left out
   abbrev pub meet_of_roots : ParentNode T E → ParentNode U F → ℕ
   meet_of_roots left right = meet_of_shown meets left_box right_box (shown_root left) (shown_root right)
 

@@ -28,8 +28,7 @@ NearestNeighborIterator T E P S = Neighbors (ParentNode T E) (RTreeNode T E) S P
 
 -- ---- what a search shows
 
--- its root and its point; the nodes that wait: the root until it is opened, then what it has come upon and neither
--- opened nor given; how many parents it has opened, and how far it has come
+-- a search: its root and point, the nodes that wait, how many parents it has visited, and its stage
 pub record Search (T E P : Type 0) : Type 0 where
   pub root : ParentNode T E
   pub point : P
@@ -38,15 +37,15 @@ pub record Search (T E P : Type 0) : Type 0 where
   pub stage : Stage
 
 module _ {T E P : Type 0} where
-  -- the elements that it has not given
+  -- the elements that a search has not yielded
   abbrev pub elements_waiting : Search T E P → List T
   elements_waiting s = all_elements s.waiting
 
-  -- no memory was refused to it yet
+  -- no memory was refused yet
   abbrev pub IsGoingOn : Search T E P → Type 0
   IsGoingOn s = IsUnrefused s.stage
 
-  -- what a search at a point shows, in whichever order it breaks ties
+  -- a search at a point, as contracts see it
   abbrev pub shown : {S O : Type 0} → NodeSearch T E S O → P → Search T E P
   shown s point = record {
     root = s.root.now;
@@ -56,25 +55,25 @@ module _ {T E P : Type 0} where
     stage = s.stage;
   }
 
-  -- what an iterator shows
+  -- the search of an iterator
   abbrev pub search_of : {S : Type 0} → NearestNeighborDistance2Iterator T E P S → Search T E P
   search_of it = shown it.search it.point
 
-  -- one that gives the elements alone, as the iterator with distances
+  -- an iterator over elements as the iterator with distances
   abbrev pub with_distances : {S : Type 0} → NearestNeighborIterator T E P S → NearestNeighborDistance2Iterator T E P S
   with_distances it = record { search = it.search; point = it.point }
 
-  -- how many calls of `next` may give something
+  -- how many calls of `next` may yield something
   abbrev pub neighbors_left : {S : Type 0} → NearestNeighborDistance2Iterator T E P S → Count
   neighbors_left it = calls_left it.search
 
-  -- what it keeps, so that `next` may be called
+  -- what a neighbour iterator keeps between calls of `next`
   unfoldable pub IsSearching : {S : Type 0} → Boxes E → Objects T E → Distances T → ℕ → (P → ℕ → ℤ) → (S → S → Ordering) → (S → ℤ)
       → NearestNeighborDistance2Iterator T E P S → Type 0
   IsSearching v o d axes coord compare value it =
       IsReady v d (table axes (coord it.point)) compare any_first value o it.search
 
--- a search that has begun: over this root and this point, with the root waiting, and nothing opened
+-- a search at its start: over this root and point, the root waits, and nothing is visited
 pub record HasBegun {T E P : Type 0} (over : ParentNode T E) (at : P) (s : Search T E P) : Type 0 where
   pub root : s.root ≡ over
   pub point : s.point ≡ at
@@ -85,21 +84,21 @@ pub record HasBegun {T E P : Type 0} (over : ParentNode T E) (at : P) (s : Searc
 -- ---- what a call of `next` gives
 
 module _ {T E : Type 0} (v : Boxes E) (d : Distances T) (p : List ℤ) where
-  -- t is taken from what waits, and none that is left is nearer; all parents farther than t still wait
+  -- t is removed from what waits, no element left is nearer, and all parents farther than t still wait
   pub record IsNeighbor (root : ParentNode T E) (before after : List (RTreeNode T E)) (t : T) : Type 0 where
     pub bag : IsPermutation (all_elements before) (t ∷ all_elements after)
     pub least : AllByRecursion (λ u. d.distance_2 t p ≤ d.distance_2 u p) (all_elements after)
     pub still_far : all_far (λ e. v.distance_2 e p) (d.distance_2 t p) after
         ≡ far_of (λ e. v.distance_2 e p) (d.distance_2 t p) root
 
-  -- the parents opened and those farther than t are no more than there are: none was opened twice, and none that is
-  -- farther than t
+  -- the parents visited and those farther than t are at most all parents: none was visited twice, and none farther
+  -- than t
   abbrev pub HasCost : {P : Type 0} → Search T E P → T → Type 0
   HasCost s t = s.opened + far_of (λ e. v.distance_2 e p) (d.distance_2 t p) s.root ≤ parents_of s.root
 
--- until a refusal, a call gives the nearest element that waits, and `None` where none does; a refusal comes once, only
--- where a parent waits that could be opened, and then `None` for good. The parents opened are those of the root that
--- do not wait, nor lie below what waits.
+-- a call of `next`: it yields a nearest waiting element, and `None` where none waits. A refusal comes once, only where
+-- a parent waits, and then `None`. The parents visited are those of the root that neither wait nor lie below what
+-- waits.
 pub record GivesNeighbor {T E P A Z : Type 0} (v : Boxes E) (d : Distances T) (axes : ℕ) (coord : P → ℕ → ℤ)
     (element : A → T) (old : Search T E P) (r : Option (Result A Z)) (new : Search T E P) : Type 0 where
   pub root : new.root ≡ old.root
@@ -122,13 +121,14 @@ pub record GivesNeighbor {T E P A Z : Type 0} (v : Boxes E) (d : Distances T) (a
 
 module _ {T E P S : Type 0} (v : Boxes E) (o : Objects T E) (d : Distances T) (axes : ℕ) (coord : P → ℕ → ℤ)
     (compare : S → S → Ordering) (value : S → ℤ) where
+  -- a call of `next` of the iterator over elements: `GivesNeighbor`
   abbrev pub GivesElement : NearestNeighborIterator T E P S → Option (Result (Bor T) AllocError)
       → NearestNeighborIterator T E P S → Type 0
   GivesElement old r new =
       GivesNeighbor v d axes coord (λ x. x.now) (search_of (with_distances old)) r (search_of (with_distances new))
       × IsSearching v o d axes coord compare value (with_distances new)
 
-  -- with its distance
+  -- a call of `next` of the iterator with distances: `GivesNeighbor`, with the distance
   abbrev pub GivesWithDistance : NearestNeighborDistance2Iterator T E P S
       → Option (Result (Bor T × S) AllocError) → NearestNeighborDistance2Iterator T E P S → Type 0
   GivesWithDistance old r new =

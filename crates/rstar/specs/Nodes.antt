@@ -20,11 +20,11 @@ layer_of {T} {E} n = out-RTreeNode T E n
 
 -- ---- what a parent shows
 
--- its children, left to right
+-- the children of a parent, left to right
 abbrev pub children_of : {T E : Type 0} → ParentNode T E → List (RTreeNode T E)
 children_of p = p.children.items
 
--- the envelope that it keeps
+-- the envelope that a parent keeps
 abbrev pub envelope_of : {T E : Type 0} → ParentNode T E → E
 envelope_of p = p.envelope
 
@@ -50,27 +50,27 @@ abbrev pub total : List ℕ → ℕ
 total [] = 0
 total (n ∷ rest) = n + total rest
 
--- the elements of the leaves, left to right
+-- the elements of a node, left to right
 unfoldable pub elements : {T E : Type 0} → RTreeNode T E → List T
 elements n = fold_tree (λ t. t ∷ []) (λ e below. joined below) n
 
--- the envelopes of the parents, each before those below it
+-- the envelopes of the parents of a node, each before those below it
 unfoldable pub envelopes : {T E : Type 0} → RTreeNode T E → List E
 envelopes n = fold_tree (λ t. []) (λ e below. e ∷ joined below) n
 
--- the number of parents, the node among them where it is one
+-- the number of parents of a node, itself included
 unfoldable pub parents : {T E : Type 0} → RTreeNode T E → ℕ
 parents n = fold_tree (λ t. 0) (λ e below. 1 + total below) n
 
--- how many parents have an envelope whose distance is above d
+-- how many parents of a node have an envelope farther than d
 unfoldable pub far : {T E : Type 0} → (E → ℕ) → ℕ → RTreeNode T E → ℕ
 far dist d n = fold_tree (λ t. 0) (λ e below. (if nat_lt d (dist e) then 1 else 0) + total below) n
 
--- how many parents a walk opens that goes below the accepted parents alone
+-- how many parents of a node are accepted with all above them
 unfoldable pub reach : {T E : Type 0} → (E → Bool) → RTreeNode T E → ℕ
 reach accepts n = fold_tree (λ t. 0) (λ e below. if accepts e then 1 + total below else 0) n
 
--- what such a walk gives
+-- the elements that a traversal of the accepted parents selects
 unfoldable pub given : {T E : Type 0} → (E → Bool) → (T → Bool) → RTreeNode T E → List T
 given accepts selects n = fold_tree (λ t. if selects t then t ∷ [] else [])
     (λ e below. if accepts e then joined below else []) n
@@ -83,65 +83,70 @@ of_parent_layer f (layer.Parent p) = f p
 unfoldable pub of_parent : {T E : Type 0} → (ParentNode T E → ℕ) → RTreeNode T E → ℕ
 of_parent f n = of_parent_layer f (layer_of n)
 
--- the element that a leaf is
+-- the element of a leaf
 unfoldable pub leaf_element : {T E : Type 0} → RTreeNode T E → Option T
 leaf_element n = fold_tree (λ t. Some t) (λ e below. None) n
 
--- whether the node is a leaf
+-- whether a node is a leaf
 unfoldable pub is_leaf_node : {T E : Type 0} → RTreeNode T E → Bool
 is_leaf_node n = fold_tree (λ t. true) (λ e below. false) n
 
--- the envelope of a node: of a leaf its element's, of a parent the one that it keeps
+-- the envelope of a node: its element's, or the one that the parent keeps
 unfoldable pub node_box : {T E : Type 0} → (T → E) → RTreeNode T E → E
 node_box box_of n = fold_tree box_of (λ e below. e) n
 
--- the distance at which a node waits: an element's own, and a parent's envelope's
+-- the distance at which a node waits: its element's, or that of the parent's envelope
 unfoldable pub node_distance : {T E : Type 0} → (E → ℕ) → (T → ℕ) → RTreeNode T E → ℕ
 node_distance dist element_dist n = fold_tree element_dist (λ e below. dist e) n
 
--- the same of several nodes: the lists joined, the numbers added up
+-- the elements of several nodes
 abbrev pub all_elements : {T E : Type 0} → List (RTreeNode T E) → List T
 all_elements ns = flat_map elements ns
 
+-- the number of parents of several nodes
 abbrev pub all_parents : {T E : Type 0} → List (RTreeNode T E) → ℕ
 all_parents ns = sum_by parents ns
 
+-- how many parents of several nodes have an envelope farther than d
 abbrev pub all_far : {T E : Type 0} → (E → ℕ) → ℕ → List (RTreeNode T E) → ℕ
 all_far dist d ns = sum_by (far dist d) ns
 
+-- how many parents of several nodes are accepted with all above them
 abbrev pub all_reach : {T E : Type 0} → (E → Bool) → List (RTreeNode T E) → ℕ
 all_reach accepts ns = total (map (reach accepts) ns)
 
+-- the elements that a traversal of several nodes selects
 abbrev pub all_given : {T E : Type 0} → (E → Bool) → (T → Bool) → List (RTreeNode T E) → List T
 all_given accepts selects ns = flat_map (given accepts selects) ns
 
 -- ---- the same of a root
 
--- the elements below a parent
+-- the elements below a parent, left to right
 abbrev pub elements_of : {T E : Type 0} → ParentNode T E → List T
 elements_of p = all_elements (children_of p)
 
--- the envelopes of a parent and of the parents below it
+-- the envelopes of a root and of the parents below it
 abbrev pub envelopes_of : {T E : Type 0} → ParentNode T E → List E
 envelopes_of p = envelope_of p ∷ flat_map envelopes (children_of p)
 
--- the number of parents, the root among them
+-- the number of parents of a root, itself included
 abbrev pub parents_of : {T E : Type 0} → ParentNode T E → ℕ
 parents_of root = 1 + all_parents (children_of root)
 
--- how many of them have an envelope whose distance is above d
+-- how many parents of a root have an envelope farther than d
 abbrev pub far_of : {T E : Type 0} → (E → ℕ) → ℕ → ParentNode T E → ℕ
 far_of dist d root = (if nat_lt d (dist (envelope_of root)) then 1 else 0) + all_far dist d (children_of root)
 
--- how many parents are reached: those that are accepted, with all above them; an empty root is never asked
+-- how many parents are accepted with all above them; 0 for an empty root, which is never visited
 abbrev pub reach_below : {T E : Type 0} → (E → Bool) → E → List (RTreeNode T E) → ℕ
 reach_below accepts e [] = 0
 reach_below accepts e (n ∷ ns) = if accepts e then 1 + all_reach accepts (n ∷ ns) else 0
 
+-- how many parents of a root a traversal visits: those accepted with all above them
 abbrev pub reach_of : {T E : Type 0} → (E → Bool) → ParentNode T E → ℕ
 reach_of accepts root = reach_below accepts (envelope_of root) (children_of root)
 
--- what a walk below the accepted parents gives
+-- the elements below a root that a traversal of the accepted parents selects
 abbrev pub given_of : {T E : Type 0} → (E → Bool) → (T → Bool) → ParentNode T E → List T
 given_of accepts selects root = if accepts (envelope_of root) then all_given accepts selects (children_of root) else []
 
@@ -164,31 +169,31 @@ IsLeafOf Q n = IsLeafLayer Q (layer_of n)
 unfoldable pub IsParentOf : {T E : Type 0} → (ParentNode T E → Type 0) → RTreeNode T E → Type 0
 IsParentOf Q n = IsParentLayer Q (layer_of n)
 
--- all leaves lie this many levels below the node, each parent meets Q and each element R
+-- all leaves lie this many levels below the node, each parent meets Q, and each element meets R
 abbrev pub IsTree : {T E : Type 0} → (ParentNode T E → Type 0) → (T → Type 0) → ℕ → RTreeNode T E
     → Type 0
 IsTree Q R zero n = IsLeafOf R n
 IsTree Q R (suc h) n = IsParentOf (λ p. Q p × AllByRecursion (IsTree Q R h) (children_of p)) n
 
 module _ {T E : Type 0} (v : Boxes E) (o : Objects T E) where
-  -- an element that a tree may hold: a value, with an envelope that is not empty
+  -- an element that a tree may hold: a value whose envelope is not empty
   abbrev pub IsElement : T → Type 0
   IsElement t = o.IsValue t × (v.is_empty (o.box_of t) ≡ false)
 
 module _ {T E : Type 0} (v : Boxes E) (o : Objects T E) where
-  -- the envelope is the merge of the elements' envelopes, each once
+  -- the envelope of a parent is the merge of the envelopes of its elements
   abbrev pub IsTight : ParentNode T E → Type 0
   IsTight p = envelope_of p ≡ hull v o.box_of (elements_of p)
 
-  -- a parent that is not the root: tight, and with a child
+  -- a parent other than the root: tight, with at least one child
   abbrev pub IsInner : ParentNode T E → Type 0
   IsInner p = IsTight p × (children_of p ≢ [])
 
-  -- whole nodes, whose leaves lie this many levels below them
+  -- whole nodes: their leaves lie h levels below, their parents are `IsInner`
   abbrev pub AreWhole : ℕ → List (RTreeNode T E) → Type 0
   AreWhole h ns = AllByRecursion (IsTree IsInner (IsElement v o) h) ns
 
-  -- a whole root: tight, with all leaves on one level
+  -- a whole root: tight, with all leaves on one level, over whole nodes
   pub record IsWhole (root : ParentNode T E) : Type 0 where
     pub height : ℕ
     pub tight : IsTight root

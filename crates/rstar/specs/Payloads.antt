@@ -19,7 +19,7 @@ use Rattle.rstar.specs.Ways.{IsAt, change_at, change_below, way_to}
 
 -- ---- one element, and the way to it
 
--- the element with another payload
+-- an element with another payload
 abbrev pub with_data : {R D : Type 0} → D → R × D → R × D
 with_data d t = (t.0, d)
 
@@ -50,14 +50,14 @@ abbrev pub put_payload : {R D Q E P S X : Type 0}
 put_payload v dist p tree d =
     record tree { root = change_below (way_to v dist p) (with_data d) tree.levels tree.root }
 
--- what is written to the payload is put there
+-- a write through the borrow changes that payload of the tree
 abbrev pub LendsPayloadOf : (R D Q E P S X : RattleType) → Boxes E.Denot → Distances (R.Denot × D.Denot) → List ℤ
     → MutBor (RTree (R.Denot × D.Denot) Q.Denot E.Denot P.Denot S.Denot X.Denot) → Option (MutBor D.Denot) → Fml
 LendsPayloadOf R D Q E P S X v dist p t r =
     LendsIf (tree_row (geom_row R D) Q E P S X) D t r (put_payload v dist p t.now) t.now
 
--- the payload of an element that contains the point; whatever is written there, that element has it in its place, all
--- other elements and all parents stay as the tree showed them, and the tree is whole
+-- the payload of an element that contains the point. After a write, that element has it in its place, every other
+-- element and all parents are the same, and the tree is whole.
 pub record IsPayloadOf {R D Q E P S X : Type 0} (v : Boxes E) (o : Objects (R × D) E) (dist : Distances (R × D))
     (max : ℕ) (p : List ℤ) (tree : RTree (R × D) Q E P S X) (d : D) : Type 0 where
   pub before : List (R × D)

@@ -92,9 +92,11 @@ module _ {T E S O : Type 0} where
   abbrev pub held_by : NodeSearch T E S O → List (Item T E S O)
   held_by s = items_of s.heap
 
+  -- the nodes that wait in a search
   abbrev pub waiting_of : NodeSearch T E S O → List (RTreeNode T E)
   waiting_of s = waiting_at s.stage s.root.now (held_by s)
 
+  -- how many calls may yield something: one for each element, and one for a refusal
   abbrev pub calls_left : NodeSearch T E S O → Count
   calls_left s = at_most (calls_at s.stage s.root.now (held_by s))
 

@@ -1,5 +1,5 @@
 -- What a selection gives, and what it counts.
--- what makes a selection function lawful
+-- the word for lawful selection functions
 pub use Rattle.rstar_base.specs.Selections.{IsLawful}
 use Rattle.std.specs.Prelude.{◌≡◌, ℕ, ◌≤◌, min, Bool, List, [], ◌∷◌, ◌⊎◌, Option, IfNone}
 use Rattle.std.specs.Borrow.{Bor}
@@ -17,31 +17,32 @@ IsPartOf {A} xs (y ∷ ys) = IsPartOf xs ys ⊎ ((rest : List A) × (xs ≡ y �
 
 -- ---- what an iterator shows
 
--- its root, its question, and how many parents it has opened
+-- the root of a selection iterator
 abbrev pub root_walked : {T F E : Type 0} → SelectionIterator T F E → ParentNode T E
 root_walked it = it.root.now
 
+-- the selection function of an iterator
 abbrev pub question_of : {T F E : Type 0} → SelectionIterator T F E → F
 question_of it = it.func
 
+-- how many parents an iterator has visited
 abbrev pub opened_by : {T F E : Type 0} → SelectionIterator T F E → ℕ
 opened_by it = it.opened
 
--- how many parents its question reaches below its root
+-- how many parents of its root an iterator visits in all
 abbrev pub reach_by : {T F E : Type 0} → (F → E → Bool) → SelectionIterator T F E → ℕ
 reach_by accepts it = reach_of (accepts (question_of it)) (root_walked it)
 
--- the elements that it still gives, in order
+-- the elements that an iterator still yields, in order
 unfoldable pub to_come : {T F E : Type 0}
     → (F → E → Bool) → (F → T → Bool) → SelectionIterator T F E → List T
 to_come accepts selects it = given_by accepts selects it
 
--- what it keeps, so that `next` may be called
+-- what a selection iterator keeps between calls of `next`
 unfoldable pub IsWalking : {T F E : Type 0} → (F → E → Bool) → SelectionIterator T F E → Type 0
 IsWalking accepts it = HasItsWay accepts it
 
--- an iterator as it is made: over this root, with a question that accepts these envelopes, with the root opened or
--- nothing, and no more than the question reaches
+-- a selection iterator at its start: over this root, accepting these envelopes, with at most one parent visited
 pub record IsMade {T F E : Type 0} (accepts : F → E → Bool) (over : ParentNode T E) (asked : E → Bool)
     (it : SelectionIterator T F E) : Type 0 where
   pub root : root_walked it ≡ over
@@ -49,8 +50,8 @@ pub record IsMade {T F E : Type 0} (accepts : F → E → Bool) (over : ParentNo
   pub opened : opened_by it ≤ 1
   pub at_most : opened_by it ≤ reach_of asked over
 
--- a call of `next` gives the first of what is to come, of the same root and question, and another may follow; at the
--- end all that is reached was opened, and never more
+-- a call of `next`: it yields the first element that is to come; at the end it has visited `reach_by` parents, and
+-- never more
 pub record GivesNext {T F E : Type 0} (accepts : F → E → Bool) (selects : F → T → Bool)
     (old : SelectionIterator T F E) (r : Option (Bor T)) (new : SelectionIterator T F E) : Type 0 where
   pub gives : YieldsFirstRef (to_come accepts selects) old r new

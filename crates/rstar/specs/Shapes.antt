@@ -5,7 +5,7 @@ use Rattle.rstar.specs.declared.node.RTreeNode.{RTreeNode}
 use Rattle.rstar.specs.declared.node.ParentNode.{ParentNode}
 use Rattle.rstar.specs.Nodes.{children_of, IsTree}
 
--- trees whose parents meet Q and whose elements meet R, with their leaves this many levels below
+-- trees of height h, whose parents meet Q and whose elements meet R
 abbrev pub AreTrees : {T E : Type 0} → (ParentNode T E → Type 0) → (T → Type 0) → ℕ
     → List (RTreeNode T E) → Type 0
 AreTrees Q R h ns = AllByRecursion (IsTree Q R h) ns
@@ -21,7 +21,7 @@ IsAny t = ⊤
 
 -- ---- node sizes
 
--- between `min` and `max` children, as each parent but the root has
+-- a parent with between `min` and `max` children
 abbrev pub HasSize : {T E : Type 0} → ℕ → ℕ → ParentNode T E → Type 0
 HasSize min max p = (min ≤ length (children_of p)) × (length (children_of p) ≤ max)
 
@@ -33,7 +33,7 @@ AreSized min max h ns = AreTrees (HasSize min max) IsAny h ns
 abbrev pub IsSizedTree : {T E : Type 0} → ℕ → ℕ → ℕ → ParentNode T E → Type 0
 IsSizedTree min max h root = AreSized min max h (children_of root) × (vec_len root.children ≤ max)
 
--- every parent has at most `max` children, and every parent but the root at least `min`
+-- the root has at most `max` children, every other parent between `min` and `max`
 pub record IsSized {T E : Type 0} (min max : ℕ) (root : ParentNode T E) : Type 0 where
   pub height : ℕ
   pub most : length (children_of root) ≤ max

@@ -6,16 +6,17 @@ use Rattle.rstar.specs.declared.node.ParentNode.{ParentNode}
 use Rattle.rstar.specs.Nodes.{fold_tree, children_of, envelope_of}
 
 mutual
+  -- what a node shows: a leaf with its element, or a parent with its envelope and children
   pub data Shown (T E : Type 0) : Type 0 where
     leaf : T → Shown T E
     parent : E → ShownRow T E → Shown T E
 
-  -- children, left to right
+  -- the children of a shown parent, left to right
   pub data ShownRow (T E : Type 0) : Type 0 where
     end : ShownRow T E
     more : Shown T E → ShownRow T E → ShownRow T E
 
--- a list as such a row
+-- a list of shown nodes as children
 abbrev pub row_of : {T E : Type 0} → List (Shown T E) → ShownRow T E
 row_of [] = end
 row_of (n ∷ ns) = more n (row_of ns)
@@ -47,10 +48,12 @@ shown_root root = parent (envelope_of root) (row_of (map shown (children_of root
 -- ---- the same without the elements: leaves in their places, parents with their envelopes
 
 abbrev mutual
+  -- a shown node without its elements: leaves in their places, parents with their envelopes
   pub outline : {T E : Type 0} → Shown T E → Shown (Unit {0}) E
   outline (leaf t) = leaf tt
   outline (parent e below) = parent e (outline_row below)
 
+  -- the same of children
   pub outline_row : {T E : Type 0} → ShownRow T E → ShownRow (Unit {0}) E
   outline_row end = end
   outline_row (more n ns) = more (outline n) (outline_row ns)

@@ -15,7 +15,7 @@ use Rattle.rstar.specs.declared.replay.Reply.{Reply}
 use Rattle.rstar.specs.declared.replay.Reply.TheVariants as reply
 use Rattle.rstar.specs.Lists.{product, NoneSelected, NoneEmpty, AreOrdered, IsLeast, IsNoFarther}
 
--- what a scan asks of elements, envelopes, points and scalars; distances are squared
+-- what a scan asks of elements, envelopes, points and scalars. Distances are squared.
 pub record Questions (T E P S : Type 0) : Type 0 where
   pub box_of : T → E
   pub is_empty : E → Bool
@@ -26,7 +26,7 @@ pub record Questions (T E P S : Type 0) : Type 0 where
   pub value : S → ℤ
   pub equal : T → T → Bool
 
--- the same as the types of a tree answer it
+-- these questions, answered by the types of a tree
 abbrev pub questions_of : {T E P S : Type 0}
     → Boxes E → Objects T E → Distances T → ℕ → (P → ℕ → ℤ) → (S → ℤ) → (T → T → Bool) → Questions T E P S
 questions_of v o d axes coord value equal = record {
@@ -42,29 +42,28 @@ questions_of v o d axes coord value equal = record {
 
 -- ---- what is taken out of a list, and what is found in it
 
--- one element that passes the test is taken out; none only where none passes
+-- one element that passes a test is removed; `None` only where none passes
 abbrev pub TakesOne : {T : Type 0} → (T → Bool) → List T → Option T → List T → Type 0
 TakesOne test old None new = NoneSelected test old × IsPermutation old new
 TakesOne test old (Some x) new = (test x ≡ true) × IsPermutation old (x ∷ new)
 
--- one element that no other has to stand before is taken out; none only where there is none
+-- a least element in an order is removed; `None` only from the empty list
 abbrev pub TakesFirst : {T : Type 0} → (T → T → Type 0) → List T → Option T → List T → Type 0
 TakesFirst before old None new = (old ≡ []) × IsPermutation old new
 TakesFirst before old (Some x) new = IsLeast before old x × IsPermutation old (x ∷ new)
 
--- n elements that pass the test are taken out, or all of them where there are fewer
+-- n elements that pass a test are removed, or all of them where there are fewer
 pub record TakesSome {T : Type 0} (test : T → Bool) (n : ℕ) (old taken new : List T) : Type 0 where
   pub bag : IsPermutation old (taken ++ new)
   pub selected : AllByRecursion (λ x. test x ≡ true) taken
   pub count : length taken ≡ min n (length (filter test old))
 
--- an element that no other has to stand before, with its distance; none only where there is none
+-- a least element in an order, with its distance; `None` only for the empty list
 abbrev pub IsFirstWith : {T S : Type 0} → (T → T → Type 0) → (T → ℕ) → (S → ℤ) → List T → Option (T × S) → Type 0
 IsFirstWith before distance value ts None = ts ≡ []
 IsFirstWith before distance value ts (Some n) = IsLeast before ts n.0 × (value n.1 ≡ pos (distance n.0))
 
--- the first k of the elements, or all where there are fewer, in an order that puts each where it may stand; each with
--- its distance
+-- the first k elements in an order, each with its distance; all where there are fewer
 pub record AreFirstWith {T S : Type 0} (before : T → T → Type 0) (distance : T → ℕ) (value : S → ℤ) (k : ℕ)
     (ts : List T) (ns : List (T × S)) : Type 0 where
   pub order : List T
@@ -73,20 +72,21 @@ pub record AreFirstWith {T S : Type 0} (before : T → T → Type 0) (distance :
   pub first : map (λ n. n.0) ns ≡ take k order
   pub distances : AllByRecursion (λ n. value n.1 ≡ pos (distance n.0)) ns
 
--- by distance alone: an element than which none is nearer, and an order in which distances never fall
+-- a nearest element is removed; `None` only from the empty list
 abbrev pub TakesNearest : {T : Type 0} → (T → ℕ) → List T → Option T → List T → Type 0
 TakesNearest distance old found new = TakesFirst (IsNoFarther distance) old found new
 
+-- a nearest element with its distance; `None` only for the empty list
 abbrev pub IsNearestWith : {T S : Type 0} → (T → ℕ) → (S → ℤ) → List T → Option (T × S) → Type 0
 IsNearestWith distance value ts found = IsFirstWith (IsNoFarther distance) distance value ts found
 
+-- the k nearest elements, the nearest first, each with its distance; all where there are fewer
 abbrev pub AreNearestWith : {T S : Type 0} → (T → ℕ) → (S → ℤ) → ℕ → List T → List (T × S) → Type 0
 AreNearestWith distance value k ts ns = AreFirstWith (IsNoFarther distance) distance value k ts ns
 
 -- ---- commands and replies
 
--- commands may be given these replies in turn, by what one step may do: from the old list, one step after another, to the
--- new list
+-- a run: commands and their replies, step by step, from the first list to the last
 abbrev pub RunBy : {T C R : Type 0} → (List T → C → R → List T → Type 0) → List T → List C → List R → List T → Type 0
 RunBy step old [] [] new = IsPermutation old new
 RunBy {T} step old (c ∷ cs) (r ∷ rs) new = (mid : List T) × step old c r mid × RunBy step mid cs rs new
@@ -102,7 +102,8 @@ module _ {T E P S X : Type 0} (q : Questions T E P S) where
   selects (query.At p) t = q.contains_point t p
   selects (query.Within p s) t = int_le (pos (q.distance_2 t p)) (q.value s)
 
-  -- what a command may be answered, and what it leaves: from the old list, by the command, the reply, and the new list
+  -- a command on a list may have this reply, and leaves that list: one line for each command and reply. Lists are
+  -- bags; where a scan has a choice, any choice is right.
   abbrev pub Step : List T → Command T E P S X → Reply T E P S X → List T → Type 0
   Step old (command.Load list) reply.Done new = IsPermutation list.items new
   Step old (command.Insert t) reply.Done new = IsPermutation (t ∷ old) new
@@ -134,23 +135,24 @@ module _ {T E P S X : Type 0} (q : Questions T E P S) where
   -- no other reply is given
   Step old _ _ new = ⊥
 
-  -- the commands may be given these replies in turn: from the old list, one step after another, to the new list
+  -- a run by `Step`
   abbrev pub Run : List T → List (Command T E P S X) → List (Reply T E P S X) → List T → Type 0
   Run = RunBy Step
 
-  -- what is asked of a command: no element that it brings has an empty envelope, and loads have two dimensions
+  -- a command that may be run: no element in it has an empty envelope, and the points of a load or a join have at
+  -- least two axes
   abbrev pub IsFit : ℕ → Command T E P S X → Type 0
   IsFit dimensions (command.Load list) = (2 ≤ dimensions) × NoneEmpty q.is_empty q.box_of list.items
   IsFit dimensions (command.Insert t) = q.is_empty (q.box_of t) ≡ false
   IsFit dimensions (command.Join list) = (2 ≤ dimensions) × NoneEmpty q.is_empty q.box_of list.items
   IsFit dimensions _ = ⊤
 
--- whether a command is an insertion, which alone can be one too many
+-- a command that is an insertion
 abbrev pub IsInsertion : {T E P S X : Type 0} → Command T E P S X → Type 0
 IsInsertion (command.Insert t) = ⊤
 IsInsertion _ = ⊥
 
--- memory was refused, or it was one too many
+-- a reply that is a refusal: `NoMemory` or `TooMany`
 abbrev pub IsRefusal : {T E P S X : Type 0} → Reply T E P S X → Type 0
 IsRefusal reply.NoMemory = ⊤
 IsRefusal reply.TooMany = ⊤

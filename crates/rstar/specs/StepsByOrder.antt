@@ -16,7 +16,7 @@ abbrev pub stated_order : {T E P S : Type 0} → Questions T E P S → (T → T 
 stated_order q compare p = IsNotLater (λ x. q.distance_2 x p) compare
 
 module _ {T E P S X : Type 0} (q : Questions T E P S) (compare : T → T → Ordering) where
-  -- what a command may be answered, and what it leaves, where neighbours come in the stated order
+  -- a command on a list may have this reply, with neighbours in the stated order; else as `Step`
   abbrev pub StepByOrder : List T → Command T E P S X → Reply T E P S X → List T → Type 0
   StepByOrder old (command.PopNearest p) (reply.Taken found) new = TakesFirst (stated_order q compare p) old found new
   StepByOrder old (command.Nearest p) (reply.Nearest found) new =
@@ -26,6 +26,6 @@ module _ {T E P S X : Type 0} (q : Questions T E P S) (compare : T → T → Ord
   -- every other row is that of the first reading
   StepByOrder old asked given new = Step q old asked given new
 
-  -- the commands may be given these replies in turn: from the old list, one step after another, to the new list
+  -- a run by `StepByOrder`
   abbrev pub RunByOrder : List T → List (Command T E P S X) → List (Reply T E P S X) → List T → Type 0
   RunByOrder = RunBy StepByOrder

@@ -58,8 +58,9 @@ RootHasFault bytes e =
     (count : ℕ) × (below : ℕ) × (rest : List ℕ)
     × BeginsTree bytes count (suc below) rest × (below < 64) × NodeHasFault (suc below) rest e
 
--- what a refusal says of the bytes: a part lacks bytes; they do not begin with the magic; a height above 64, or a parent
--- without children; a box that is not the merge; a tree of another number of points; a tree and more behind it
+-- the fault of bytes that spell no tree: `Truncated`, a part is too short; `BadMagic`, other bytes than `RST1`;
+-- `BadLevel`, a height above 64 or a parent without children; `BadBox`, a box that is not the merge; `BadCount`,
+-- another number of points; `Trailing`, bytes after the tree
 abbrev pub HasFault : List ℕ → StoredError → Type 0
 HasFault bytes Truncated = (length bytes < 13) ⊎ RootHasFault bytes Truncated
 HasFault bytes BadMagic = (4 ≤ length bytes) × (take 4 bytes ≢ magic)

@@ -13,15 +13,15 @@ use Rattle.rstar.specs.Shapes.{AreTrees, IsAny}
 use Rattle.rstar.specs.Heights.{levels_below}
 use Rattle.rstar.specs.Kept.{IsNarrow, IsSpare}
 
--- what `root` shows
+-- the root of a tree
 abbrev pub root_of : {T D E P S X : Type 0} → RTree T D E P S X → ParentNode T E
 root_of tree = tree.root
 
--- what `size` shows
+-- the size of a tree
 abbrev pub size_of : {T D E P S X : Type 0} → RTree T D E P S X → ℕ
 size_of tree = tree.size
 
--- the elements, left to right
+-- the elements of a tree, left to right
 abbrev pub elements_in : {T D E P S X : Type 0} → RTree T D E P S X → List T
 elements_in tree = elements_of (root_of tree)
 
@@ -36,14 +36,14 @@ pub record IsUnchanged {T D E P S X : Type 0} (old new : RTree T D E P S X) : Ty
   pub elements : elements_in new ≡ elements_in old
   pub envelopes : envelopes_in new ≡ envelopes_in old
 
--- the tree shows the same parents, with leaves in the same places, and the same size; its elements may differ
+-- the tree shows the same parents, with leaves in the same places, and the same size. Its elements may differ.
 pub record HasSameOutline {T D E P S X : Type 0} (old new : RTree T D E P S X) : Type 0 where
   pub outline : outline (shown_root (root_of new)) ≡ outline (shown_root (root_of old))
   pub size : size_of new ≡ size_of old
 
 module _ {T D E P S X : Type 0} (v : Boxes E) (o : Objects T E) (max : ℕ) where
-  -- a whole root, whose elements and levels are counted; and the bounds that make insertions safe, where `max` is the
-  -- most children of a parent
+  -- a whole tree: a whole root whose elements and levels are counted, and the bounds that make insertions safe. `max`
+  -- is the most children of a parent.
   pub record WholeTree (tree : RTree T D E P S X) : Type 0 where
     pub root_whole : IsWhole v o (root_of tree)
     pub counted : size_of tree ≡ length (elements_in tree)
@@ -60,6 +60,7 @@ module _ {T D E P S X : Type 0} (v : Boxes E) (o : Objects T E) (max : ℕ) wher
     -- nothing is left of an overflow
     pub none_over : tree.overfull.items ≡ []
 
-  -- a whole tree; callers need no more than the word
+  -- a whole tree: a whole root (`IsWhole`), with elements and levels counted. Every call leaves one; callers pass the
+  -- word on.
   unfoldable pub IsWholeTree : RTree T D E P S X → Type 0
   IsWholeTree tree = WholeTree tree

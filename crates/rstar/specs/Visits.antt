@@ -16,20 +16,20 @@ use Rattle.rstar.specs.Walks.{steps}
 
 -- ---- look-ups
 
--- the first item of a list, where there is one
+-- the first item of a list; `None` only where there is none
 abbrev pub IsFirst : {T : Type 0} → List T → Option (Bor T) → Type 0
 IsFirst xs None = xs ≡ []
 IsFirst {T} xs (Some x) = (rest : List T) × (xs ≡ x.now ∷ rest)
 
--- one item of a list, and none only where there is none
+-- an item of a list; `None` only where there is none
 abbrev pub IsOneOf : {T : Type 0} → List T → Option (Bor T) → Type 0
 IsOneOf xs None = xs ≡ []
 IsOneOf xs (Some x) = Contains xs x.now
 
 -- ---- visits
 
--- the visitor was called at the items in turn, each call in the state that the one before left, until one broke, whose
--- break is the answer
+-- the visitor was called at the items in order, each call in the state that the one before left, until a call broke;
+-- the break is the answer
 abbrev pub Visits : {V A T B : Type 0} → (A → T) → (V → A → ControlFlow B (Unit {0}) → V → Type 0)
     → V → List T → ControlFlow B (Unit {0}) → V → Type 0
 Visits now step v [] r w = (r ≡ Continue tt) × (v ≡ w)
@@ -37,13 +37,13 @@ Visits {V} {A} {T} {B} now step v (t ∷ ts) r w =
     ((x : A) × (b : B) × (now x ≡ t) × (r ≡ Break b) × step v x (Break b) w)
     ⊎ ((x : A) × (u : V) × (now x ≡ t) × step v x (Continue tt) u × Visits now step u ts r w)
 
--- the same, whatever state the last call left
+-- such a visit, whatever state it leaves
 pub record IsVisit {V A T B : Type 0} (now : A → T) (step : V → A → ControlFlow B (Unit {0}) → V → Type 0)
     (first : V) (xs : List T) (r : ControlFlow B (Unit {0})) : Type 0 where
   pub last : V
   pub visits : Visits now step first xs r last
 
--- a visit of some of the items, each place at most once, and of all of them where a condition holds
+-- a visit of some of the items, each at most once, and of all of them where the condition `all` holds
 pub record VisitsWithin {V A T B : Type 0} (now : A → T) (step : V → A → ControlFlow B (Unit {0}) → V → Type 0)
     (all : Type 0) (first : V) (xs : List T) (r : ControlFlow B (Unit {0})) (last : V) : Type 0 where
   pub visited : List T
@@ -51,7 +51,7 @@ pub record VisitsWithin {V A T B : Type 0} (now : A → T) (step : V → A → C
   pub complete : all → visited ≡ xs
   pub visits : Visits now step first visited r last
 
--- the same, whatever state the last call left
+-- such a visit, whatever state it leaves
 pub record IsVisitWithin {V A T B : Type 0} (now : A → T) (step : V → A → ControlFlow B (Unit {0}) → V → Type 0)
     (all : Type 0) (first : V) (xs : List T) (r : ControlFlow B (Unit {0})) : Type 0 where
   pub last : V
@@ -59,7 +59,7 @@ pub record IsVisitWithin {V A T B : Type 0} (now : A → T) (step : V → A → 
 
 -- ---- visits that write
 
--- an element, and whether the visitor is to be called at it
+-- an element, and whether the visitor is called at it
 abbrev pub Marked : Type 0 → Type 0
 Marked T = T × Bool
 
@@ -75,9 +75,7 @@ unmarked ms = map (λ m. (m.0, false)) ms
 abbrev pub without_marks : {T : Type 0} → List (Marked T) → List T
 without_marks ms = map (λ m. m.0) ms
 
--- the visitor was called at the marked elements in turn, each call in the state that the one before left, until one
--- broke, whose break is the answer; `us` are the same elements, each that it was called at replaced in its place by
--- what its call left
+-- a visit of the marked elements that writes: `us` are the elements, each visited one replaced by what its call left
 abbrev pub Writes : {V T B : Type 0} → (V → MutBor T → ControlFlow B (Unit {0}) → MutBor T → V → Type 0)
     → V → List (Marked T) → ControlFlow B (Unit {0}) → V → List T → Type 0
 Writes step v [] r w us = (r ≡ Continue tt) × (v ≡ w) × (us ≡ [])
@@ -88,13 +86,13 @@ Writes {V} {T} {B} step v ((t, true) ∷ ms) r w us =
     ⊎ ((x : MutBor T) × (y : MutBor T) × (u : V) × (rest : List T) × (x.now ≡ t) × step v x (Continue tt) y u
     × (us ≡ y.now ∷ rest) × Writes step u ms r w rest)
 
--- the same, whatever state the last call left
+-- such a visit, whatever state it leaves
 pub record IsWritten {V T B : Type 0} (step : V → MutBor T → ControlFlow B (Unit {0}) → MutBor T → V → Type 0)
     (first : V) (ms : List (Marked T)) (r : ControlFlow B (Unit {0})) (us : List T) : Type 0 where
   pub last : V
   pub writes : Writes step first ms r last us
 
--- a visit of some of the elements that pass the test, and of all of them where a condition holds
+-- a visit that writes some of the selected elements, and all of them where the condition `all` holds
 pub record WritesWithin {V T B : Type 0} (step : V → MutBor T → ControlFlow B (Unit {0}) → MutBor T → V → Type 0)
     (all : Type 0) (first : V) (selects : T → Bool) (ts : List T) (r : ControlFlow B (Unit {0})) (us : List T) (last : V)
     : Type 0 where
@@ -104,14 +102,14 @@ pub record WritesWithin {V T B : Type 0} (step : V → MutBor T → ControlFlow 
   pub complete : all → marks ≡ marked_by selects ts
   pub writes : Writes step first marks r last us
 
--- the same, whatever state the last call left
+-- such a visit, whatever state it leaves
 pub record IsWrittenWithin {V T B : Type 0} (step : V → MutBor T → ControlFlow B (Unit {0}) → MutBor T → V → Type 0)
     (all : Type 0) (first : V) (selects : T → Bool) (ts : List T) (r : ControlFlow B (Unit {0})) (us : List T)
     : Type 0 where
   pub last : V
   pub within : WritesWithin step all first selects ts r us last
 
--- each call leaves an element with the envelope that it had, and a value where it was one
+-- each call of the visitor keeps the envelope of the element, and a value stays one
 abbrev pub Keeps : {V T E B : Type 0} → Objects T E
     → (V → MutBor T → ControlFlow B (Unit {0}) → MutBor T → V → Type 0) → Type 0
 Keeps {V} {T} {E} {B} o step = (v : V) (x : MutBor T) (r : ControlFlow B (Unit {0})) (y : MutBor T) (w : V)

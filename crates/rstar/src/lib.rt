@@ -1,4 +1,4 @@
-//! An R*-tree whose answers are proved.
+//! An R*-tree with proved answers.
 #![tactic(auto)]
 
 pub mod algorithm;

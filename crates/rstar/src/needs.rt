@@ -1,8 +1,7 @@
-//! What the steps of a tree ask of the types that they go through: of an envelope, of an element, and of a question.
+//! The small traits that the steps of a tree ask of envelopes, elements and selection functions.
 //!
-//! An element type brings the traits of its envelope, its point and its scalar, some sixty, and a check of a function
-//! carries all of them through each of its steps. So what goes through nodes asks for these alone; each public type has
-//! them by what it is.
+//! An element type brings some sixty traits of its envelope, point and scalar, and a check carries them
+//! through each step. So code over nodes asks for these traits alone. Each public type has them.
 
 ghost use Rattle.std.specs.Prelude.{◌≡◌, ℤ, List, Bool, false};
 ghost use Rattle.rstar_base.specs.Elements.{Objects, ObjectLaws};
@@ -14,18 +13,18 @@ use rstar_base::envelope::{Envelope, copied_envelope};
 use rstar_base::object::RTreeObject;
 use std::fmt::Debug;
 
-/// An envelope that is merged and compared.
+/// An envelope that can be merged and compared.
 pub trait Merges: Debug + Drop {
     ghost boxes: { Boxes Self };
 
     // Which lists of numbers are points.
     ghost is_point: { List ℤ → Type 0 };
 
-    /// The envelope of nothing.
+    /// The empty envelope.
     fn new_empty() -> Self
         ensures { result ≡ boxes.empty };
 
-    /// Takes another envelope into this one.
+    /// Merges another envelope into this one.
     fn merge(&mut self, other: &Self)
         ensures merged { self.new ≡ boxes.merge self.old other.now }
         ensures own { boxes.IsValue self.old × boxes.IsValue other.now };
@@ -40,7 +39,7 @@ pub trait Merges: Debug + Drop {
         ensures same { result ≡ self.now }
         ensures own { boxes.IsValue self.now };
 
-    /// Whether two envelopes are not the same.
+    /// Whether two envelopes differ.
     fn differs(&self, other: &Self) -> bool
         ensures { result ≡ false → self.now ≡ other.now };
 
@@ -80,12 +79,12 @@ impl<E: Envelope> Merges for E {
 
 /// An element with an envelope.
 pub trait Covered: Drop {
-    /// The type of its envelope.
+    /// The type of the envelope.
     type Cover: Merges;
 
     ghost object: { Objects Self Self.Cover };
 
-    /// Its envelope.
+    /// The envelope of the element.
     fn envelope(&self) -> Self::Cover
         ensures value { result ≡ object.box_of self.now }
         ensures own { object.IsValue self.now };
@@ -105,17 +104,17 @@ impl<T: RTreeObject> Covered for T {
     ghost cover_law = { T.object_law };
 }
 
-/// A question that a walk is asked.
+/// The selection function of a traversal.
 pub trait Question<T: Covered>: Drop {
     ghost accepts: { Self → T.Cover → Bool };
 
     ghost selects: { Self → T → Bool };
 
-    /// Whether the children of a parent with this envelope are looked at.
+    /// Whether the children of a parent with this envelope are visited.
     fn should_unpack_parent(&self, envelope: &T::Cover) -> bool
         ensures { result ≡ accepts self.now envelope.now };
 
-    /// Whether the element is given.
+    /// Whether this element is selected.
     fn should_unpack_leaf(&self, leaf: &T) -> bool
         ensures { result ≡ selects self.now leaf.now };
 }

@@ -1,4 +1,4 @@
-//! The nodes of a tree: leaves, and parents with the merge of what is below them.
+//! The nodes of a tree.
 
 ghost use Rattle.std.specs.List.{AllByRecursion};
 ghost use Rattle.std.specs.Prelude.{◌≡◌};
@@ -9,26 +9,18 @@ use crate::needs::{Covered, Merges};
 use rstar_base::envelope::Envelope;
 use rstar_base::object::{Distance, RTreeObject};
 
-/// A node of a tree: one element, or a parent.
-///
-/// ```rust
-/// match self {
-///     RTreeNode::Leaf(_) => None,
-///     RTreeNode::Parent(parent) => Some(parent.children()),
-/// }
-/// ```
-/// *`crates/rstar_vectors/src/scenarios.rt`*
+/// A node of a tree: a leaf with one element, or a parent.
 #[cycle(node)]
 #[derive(Debug, Drop)]
 pub enum RTreeNode<T: Covered> {
     /// One element.
     Leaf(T),
-    /// A list of nodes, with the merge of the envelopes of all elements below.
+    /// A parent.
     Parent(ParentNode<T>),
 }
 
 impl<T: Covered> RTreeNode<T> {
-    /// Whether the node is a leaf, and so holds one element.
+    /// Whether the node is a leaf.
     #[tactic(auto, unfolding(crate::specs::Nodes::is_leaf_node, crate::specs::Nodes::fold_tree))]
     pub fn is_leaf(&self) -> bool
         ensures { result ≡ is_leaf_node self.now }
@@ -39,7 +31,7 @@ impl<T: Covered> RTreeNode<T> {
         }
     }
 
-    /// The envelope of its element, or the one that the parent keeps.
+    /// The envelope of the element, or the one that the parent keeps.
     #[tactic(auto, unfolding(crate::specs::Nodes::node_box, crate::specs::Nodes::fold_tree))]
     pub(crate) fn cover(&self) -> T::Cover
         ensures value { result ≡ node_box T.object.box_of self.now }
@@ -52,22 +44,8 @@ impl<T: Covered> RTreeNode<T> {
     }
 }
 
-/// A list of nodes, with the merge of the envelopes of all elements below.
-///
-/// The root of a tree is one. Only the tree makes and changes parents.
-///
-/// ```rust
-/// for node in nodes {
-///     let held = match node {
-///         RTreeNode::Leaf(_) => 0,
-///         RTreeNode::Parent(parent) => parent.children().len(),
-///     };
-///     if held == count && node.envelope() == *envelope {
-///         return true;
-///     }
-/// }
-/// ```
-/// *`crates/rstar_vectors/src/insertion.rt`*
+/// A parent: nodes, with the merge of the envelopes of all elements below. The root of a tree is one. Only
+/// the tree makes and changes parents.
 #[cycle(node)]
 #[derive(Debug, Drop)]
 pub struct ParentNode<T: Covered> {
@@ -76,32 +54,14 @@ pub struct ParentNode<T: Covered> {
 }
 
 impl<T: Covered> ParentNode<T> {
-    /// Its children, left to right.
-    ///
-    /// ```rust
-    /// let nodes = tree.root().children();
-    /// let is_so = [tree.size(), nodes.len()] == [elements.len(), 2]
-    ///     && stands_within(&tree, 3, 6)
-    ///     && has_node(nodes, one.0, &one.1)
-    /// ```
-    /// *`crates/rstar_vectors/src/insertion.rt`*
+    /// The children, left to right.
     pub fn children(&self) -> &[RTreeNode<T>]
         ensures { result.now ≡ children_of self.now }
     {
         self.children.as_slice()
     }
 
-    /// The merge of the envelopes of all elements below it.
-    ///
-    /// ```rust
-    /// pub fn count_at_root<P: Point>(tree: &RTree<Place<P>>) -> usize
-    ///     // ..
-    ///     ensures { result ≡ min (length (elements_in tree.now)) usize.MAX }
-    /// {
-    ///     tree.root().envelope().count()
-    /// }
-    /// ```
-    /// *`crates/rstar_vectors/src/counted.rt`*
+    /// The merge of the envelopes of all elements below.
     pub fn envelope(&self) -> &T::Cover
         ensures { result.now ≡ envelope_of self.now }
     {
@@ -135,14 +95,7 @@ impl<T: RTreeObject> RTreeObject for RTreeNode<T> {
     ghost object_law = { λ n h. h };
 }
 
-/// The merge of the envelopes of some nodes, each once; the empty envelope of none. It takes no memory.
-///
-/// ```rust
-/// fn are_so<T: RTreeObject>(nodes: Vec<RTreeNode<T>>, outline: &(usize, T::Envelope)) -> bool {
-///     nodes.len() == outline.0 && envelope_for_children(&nodes) == outline.1
-/// }
-/// ```
-/// *`crates/rstar_vectors/src/insertion.rt`*
+/// The merge of the envelopes of some nodes. Of none it is the empty envelope. It takes no memory.
 pub fn envelope_for_children<T: Covered>(children: &[RTreeNode<T>]) -> T::Cover
     ensures hull { result ≡ hull T.Cover.boxes (node_box T.object.box_of) children.now }
     ensures own { AllByRecursion (λ n. T.Cover.boxes.IsValue (node_box T.object.box_of n)) children.now }

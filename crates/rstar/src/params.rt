@@ -1,4 +1,4 @@
-//! Node sizes, and how a tree takes elements in.
+//! Node sizes, insertion strategies and refused insertions.
 
 ghost use Rattle.std.specs.Prelude.{◌≡◌, false};
 ghost use Rattle.rstar.specs.Insertions.{Inserts};
@@ -9,67 +9,31 @@ use rstar_base::envelope::Envelope;
 use rstar_base::object::RTreeObject;
 pub use rstar_base::params::{DefaultParams, RTreeParams, verify_parameters};
 
-/// Why an insertion was refused.
-///
-/// ```rust
-/// let refused = match RStarInsertionStrategy::insert(&mut tree, element) {
-///     Ok(()) => false,
-///     Err(refused) => refused.cause == InsertCause::TooMany && refused.element == element,
-/// };
-/// let is_bare = tree.size() == 0 && tree.root().children().is_empty();
-/// // ..
-/// refused && is_bare
-/// ```
-/// *`crates/rstar_vectors/src/insertion.rt`*
+/// The cause of a refused insertion.
 #[derive(Clone, Copy, Debug, PartialEq, Eq, Drop)]
 pub enum InsertCause {
-    /// The allocator refused a growth.
+    /// The allocator refused memory.
     NoMemory = 1,
-    /// The tree holds as many elements as a `usize` counts, or a `usize` does not count the child lists to prepare.
+    /// `size` is the greatest `usize`, or the spare child lists of the insertion exceed a `usize`. The
+    /// second takes a `REINSERTION_COUNT` of some 2^32, so with usual node sizes it does not happen.
     TooMany = 2,
 }
 
-/// An insertion that was refused. The tree has the elements, envelopes and size that it had before.
-///
-/// ```rust
-/// let is_in = match first {
-///     Ok(()) => true,
-///     Err(refused) => {
-///         let is_same = refused.cause == InsertCause::NoMemory
-///             && refused.element == element
-///             && tree.size() == count
-///             && shows(alloc, tree.root(), before);
-///         tree.insert(refused.element).is_ok() && is_same
-///     }
-/// };
-/// ```
-/// *`crates/rstar_vectors/src/refusals.rt`*
+/// A refused insertion. The tree has the elements, envelopes and size of before the call.
 #[derive(Debug, Drop)]
 pub struct InsertError<T> {
     /// The element, handed back.
     pub element: T,
-    /// Why it was refused.
+    /// The cause.
     pub cause: InsertCause,
 }
 
-/// How a tree takes elements in.
-///
-/// ```rust
-/// let refused = match RStarInsertionStrategy::insert(&mut tree, element) {
-///     Ok(()) => false,
-///     Err(refused) => refused.cause == InsertCause::TooMany && refused.element == element,
-/// };
-/// let is_bare = tree.size() == 0 && tree.root().children().is_empty();
-/// // ..
-/// refused && is_bare
-/// ```
-/// *`crates/rstar_vectors/src/insertion.rt`*
+/// An insertion strategy.
 pub trait InsertionStrategy {
-    /// Adds one element, whose envelope is not empty, and counts it. Equal elements may be added, and are counted.
+    /// Inserts one element. Its envelope is not empty. Equal elements each count.
     ///
-    /// All memory is taken before the first change. It is refused with `TooMany` exactly where `size` is the greatest
-    /// `usize` or a `usize` does not count the spare child lists that are wanted, and otherwise with `NoMemory` where
-    /// the allocator refuses a growth. A refusal hands the element back and leaves the tree as it shows itself.
+    /// All memory is taken before the first change. A refusal hands the element back and leaves the tree as
+    /// it was. `InsertCause` says when each refusal comes.
     fn insert<T: RTreeObject, Params: RTreeParams>(
         tree: &mut RTree<T, Params>,
         t: T,

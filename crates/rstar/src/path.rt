@@ -1,4 +1,4 @@
-//! Paths of walks: lists that lie in the value itself up to twelve items.
+//! The paths of traversals: lists whose first twelve items lie inline.
 
 ghost use Rattle.std.specs.Prelude.{◌≡◌, ◌-◌, ◌<◌, ◌≤◌, true, false, [], ◌∷◌, ◌++◌, length, take, IsOk, IfOk, IfNone, IfSome, slice_set};
 ghost use Rattle.rstar.specs.Paths.{near_items};
@@ -6,10 +6,10 @@ ghost use Rattle.rstar.specs.Paths.{near_items};
 use std::alloc::{AllocError, Global};
 use std::marker::Model;
 
-/// How many items lie in a path itself.
+/// The number of inline items.
 const NEAR: usize = 12;
 
-/// Twelve places. They are fields and no array, since a function that is generic over what lies inline beside an array
+/// Twelve inline places. They are fields and no array, since generic code over an array beside inline items
 /// would have to bound its size.
 #[derive(Drop)]
 struct Near<X> {
@@ -28,7 +28,7 @@ struct Near<X> {
 }
 
 impl<X: Copy> Near<X> {
-    /// The last of so many items.
+    /// The last of `count` items.
     fn last(&self, count: usize) -> Option<X>
         requires { count ≤ 12 }
         ensures some { IfSome result (λ item. take count (near_items self.now)
@@ -52,7 +52,7 @@ impl<X: Copy> Near<X> {
         }
     }
 
-    /// Writes the item at a place, and whether there is such a place.
+    /// Sets the item at a place. Whether there is such a place.
     fn set(&mut self, place: usize, item: X) -> bool
         ensures set { result ≡ true
             → (place < 12) × (near_items self.new ≡ slice_set (near_items self.old) place item) }
@@ -77,9 +77,8 @@ impl<X: Copy> Near<X> {
     }
 }
 
-/// What a walk left on its way down, an item for each level, the lowest last.
-///
-/// Up to twelve items lie in the path itself, and only those of deeper ways in an allocation.
+/// The path of a traversal: one item for each level, the lowest last. Up to twelve items lie inline; deeper
+/// paths take an allocation.
 #[derive(Drop)]
 pub(crate) struct Path<X> {
     near: Near<X>,
@@ -105,7 +104,7 @@ impl<X> Model for Path<X> {
 }
 
 impl<X: Copy> Path<X> {
-    /// An empty path with room for so many items. Up to twelve take no memory.
+    /// An empty path with room for this many items. Up to twelve take no memory.
     pub(crate) fn with_room(alloc: Global, blank: X, room: usize) -> Result<Self, AllocError>
         ensures empty { IfOk result (λ path. path.items ≡ []) }
         ensures room { IfOk result (λ path. room ≤ path.capacity) }
@@ -137,7 +136,7 @@ impl<X: Copy> Path<X> {
         })
     }
 
-    /// Puts an item behind the others, for which there is room.
+    /// Pushes an item, for which there is room.
     pub(crate) fn push_reserved(&mut self, item: X)
         requires { length self.old.items < self.old.capacity }
         ensures items { self.new.items ≡ self.old.items ++ item ∷ [] }
@@ -150,7 +149,7 @@ impl<X: Copy> Path<X> {
         }
     }
 
-    /// Takes the last item.
+    /// Pops the last item.
     pub(crate) fn pop(&mut self) -> Option<X>
         ensures some { IfSome result (λ item. self.old.items ≡ self.new.items ++ item ∷ []) }
         ensures none { IfNone result ((self.old.items ≡ []) × (self.new.items ≡ [])) }

@@ -1,4 +1,4 @@
-//! The way down to one element, and a reference to write through.
+//! The path down to one element, and a mutable borrow of its payload.
 
 ghost use Rattle.std.specs.Prelude.{◌≡◌, ◌<◌, length};
 ghost use Rattle.std.specs.Borrow.{sem};
@@ -15,7 +15,7 @@ use rstar_base::object::{PointDistance, PointOf, RTreeObject};
 use rstar_base::point::Point;
 use rstar_base::primitives::GeomWithData;
 
-/// Whether an element below the node contains the point; only parents whose envelopes contain it are entered.
+/// Whether an element below a node contains the point. Only parents whose envelopes contain it are visited.
 #[cycle(finding)]
 fn finds<T: PointDistance>(node: &RTreeNode<T>, point: &PointOf<T>) -> bool
     ensures { result ≡ finds_at T.Envelope.boxes T.distances
@@ -30,7 +30,8 @@ fn finds<T: PointDistance>(node: &RTreeNode<T>, point: &PointOf<T>) -> bool
     }
 }
 
-/// The place of the first node below which an element contains the point, and the length where there is none.
+/// The place of the first node below which an element contains the point; the number of nodes where there is
+/// none.
 #[cycle(finding)]
 pub(crate) fn first_finding<T: PointDistance>(nodes: &[RTreeNode<T>], point: &PointOf<T>) -> usize
     ensures { result ≡ first_at T.Envelope.boxes T.distances
@@ -48,7 +49,7 @@ pub(crate) fn first_finding<T: PointDistance>(nodes: &[RTreeNode<T>], point: &Po
     index
 }
 
-/// The element of a leaf.
+/// A mutable borrow of the element of a leaf.
 fn leaf_in<'a, T: RTreeObject>(node: &'a mut RTreeNode<T>) -> &'a mut T
     requires { IsLeaf (layer_of node.old) }
     ensures* writes_back { sem 𝓛 (LendsLeaf T.row T.Envelope.row node.entry result) }
@@ -60,7 +61,7 @@ fn leaf_in<'a, T: RTreeObject>(node: &'a mut RTreeNode<T>) -> &'a mut T
     }
 }
 
-/// The parent that a node is.
+/// A mutable borrow of a parent node.
 fn parent_in<'a, T: RTreeObject>(node: &'a mut RTreeNode<T>) -> &'a mut ParentNode<T>
     requires { IsParent (layer_of node.old) }
     ensures* writes_back { sem 𝓛 (LendsParent T.row T.Envelope.row node.entry result) }
@@ -72,7 +73,7 @@ fn parent_in<'a, T: RTreeObject>(node: &'a mut RTreeNode<T>) -> &'a mut ParentNo
     }
 }
 
-/// The child at a place.
+/// A mutable borrow of the child at a place.
 fn child_of<'a, T: RTreeObject>(parent: &'a mut ParentNode<T>, index: usize) -> &'a mut RTreeNode<T>
     requires { index < length parent.old.children.items }
     ensures* writes_back { sem 𝓛 (LendsChild T.row T.Envelope.row parent.entry index result) }
@@ -98,7 +99,7 @@ fn child_with<'a, T: PointDistance>(
     child_of(parent, index)
 }
 
-/// The element at the end of the way to the point, so many levels below the node.
+/// The element that contains the point on the first path, this many levels below the node.
 fn element_with<'a, T: PointDistance>(
     node: &'a mut RTreeNode<T>,
     point: &PointOf<T>,
@@ -118,7 +119,7 @@ fn element_with<'a, T: PointDistance>(
     }
 }
 
-/// The payload of an element.
+/// A mutable borrow of the payload of an element.
 fn data_of<'a, R: RTreeObject, D: Drop>(element: &'a mut GeomWithData<R, D>) -> &'a mut D
     ensures* writes_back { sem 𝓛 (LendsData R.row D.row element.entry result) }
     ensures value { result.now ≡ element.old.1 }
@@ -126,7 +127,7 @@ fn data_of<'a, R: RTreeObject, D: Drop>(element: &'a mut GeomWithData<R, D>) -> 
     &mut element.data
 }
 
-/// The payload of the element at the end of the way to the point, so many levels below the node.
+/// The payload of the element that contains the point on the first path, this many levels below the node.
 fn payload_with<'a, R: PointDistance, D: Drop>(
     node: &'a mut RTreeNode<GeomWithData<R, D>>,
     point: &PointOf<R>,
@@ -143,8 +144,7 @@ fn payload_with<'a, R: PointDistance, D: Drop>(
     data_of(element_with(node, point, depth))
 }
 
-/// The payload of the element at the end of the way to the point, where it begins at this child of the parent and goes
-/// so many levels below it.
+/// The same from this child of the parent on.
 pub(crate) fn payload_below<'a, R: PointDistance, D: Drop>(
     parent: &'a mut ParentNode<GeomWithData<R, D>>,
     index: usize,

@@ -1,4 +1,4 @@
-//! Lists of commands, run over a tree as a scan would run them over a list of its elements.
+//! Commands, run over a tree as a scan would run them over a list of its elements.
 
 ghost use Rattle.std.specs.Prelude.{◌≡◌, ◌<◌, ◌↔◌, ◌⊎◌, IfOk, OnErr};
 ghost use Rattle.std.specs.List.{AllByRecursion};
@@ -25,16 +25,8 @@ use rstar_base::params::RTreeParams;
 use rstar_base::point::{Point, RTreeNum};
 use std::alloc::AllocError;
 
-/// What a scan asks of elements, in one word for contracts. It has no methods, and each type of elements with distances
-/// and equal envelopes has it.
-///
-/// ```rust
-/// fn step_points(tree: &mut RTree<At>, command: Command<At>) -> Reply<At>
-///     requires whole { IsWholeTree ⟦<AABB<[i64; 2]> as Envelope>⟧.boxes ⟦<[i64; 2] as RTreeObject>⟧.object
-///         ⟦<DefaultParams as RTreeParams>⟧.MAX_SIZE tree.old }
-///     requires fit { IsFit ⟦<[i64; 2] as Scanned>⟧.questions 2 command }
-/// ```
-/// *`crates/rstar_run/src/replay_tests.rt`*
+/// The element types of commands. Their elements have distances, and equal ones have equal envelopes. Every
+/// such type has it.
 pub trait Scanned: PointDistance + EqualEnvelopes {
     ghost questions: { Questions Self Self.Envelope Self.Envelope.Point Self.Envelope.Point.Scalar };
 }
@@ -44,129 +36,77 @@ impl<T: PointDistance + EqualEnvelopes> Scanned for T {
         T.Envelope.Point.coord T.Envelope.Point.Scalar.value T.eq };
 }
 
-/// Which elements are asked for.
-///
-/// ```rust
-/// let (place, other) = (draw.place, draw.other);
-/// match draw.query {
-///     0 => Query::All,
-///     1 => Query::In(AABB::from_corners(place, other)),
-///     2 => Query::Hit(AABB::from_corners(place, other)),
-///     3 => Query::At(place),
-///     _ => Query::Within(place, draw.limit),
-/// }
-/// ```
-/// *`crates/rstar_run/src/replay_tests.rt`*
+/// A query: which elements are selected.
 #[derive(Drop)]
 pub enum Query<T: PointDistance> {
-    /// All.
+    /// All elements.
     All,
-    /// Those whose envelopes an envelope contains.
+    /// The elements whose envelopes an envelope contains.
     In(T::Envelope),
-    /// Those whose envelopes an envelope intersects. Touching is enough.
+    /// The elements whose envelopes an envelope intersects.
     Hit(T::Envelope),
-    /// Those that contain a point.
+    /// The elements that contain a point.
     At(PointOf<T>),
-    /// Those whose squared distance from a point is at most a limit.
+    /// The elements within a squared distance of a point.
     Within(PointOf<T>, Distance<T>),
 }
 
-/// What can be done with a tree.
-///
-/// ```rust
-/// Ok(match draw.kind {
-///     Kind::Insert => Command::Insert(place),
-///     Kind::Remove => Command::Remove(place),
-///     Kind::RemoveAtPoint => Command::RemoveAtPoint(place),
-///     Kind::PopNearest => Command::PopNearest(place),
-///     Kind::Drain => Command::Drain(query_of(draw), draw.most),
-///     Kind::Ask => Command::Ask(query_of(draw)),
-///     Kind::Contains => Command::Contains(place),
-///     Kind::Nearest => Command::Nearest(place),
-/// // ..
-/// })
-/// ```
-/// *`crates/rstar_run/src/replay_tests.rt`*
+/// A command over a tree.
 #[derive(Drop)]
 pub enum Command<T: PointDistance> {
-    /// Puts a fresh load of these elements in the tree's place.
+    /// Replaces the tree by a bulk load of these elements.
     Load(Vec<T>),
-    /// Adds an element.
+    /// Inserts an element.
     Insert(T),
-    /// Takes one element that equals this one out.
+    /// Removes one element that equals this one.
     Remove(T),
-    /// Takes one element that contains a point out.
+    /// Removes one element that contains a point.
     RemoveAtPoint(PointOf<T>),
-    /// Takes one element of least distance to a point out.
+    /// Removes one nearest element to a point.
     PopNearest(PointOf<T>),
-    /// Takes so many of the elements that are asked for out, or all of them where there are fewer.
+    /// Removes up to this many elements of a query.
     Drain(Query<T>, usize),
-    /// The elements that are asked for.
+    /// The elements of a query.
     Ask(Query<T>),
     /// Whether an element equals this one.
     Contains(T),
-    /// An element of least distance to a point, with that distance.
+    /// A nearest element to a point, with its squared distance.
     Nearest(PointOf<T>),
-    /// So many elements, the nearest to a point first, with their distances.
+    /// The k nearest elements to a point, with their squared distances.
     Neighbours(PointOf<T>, usize),
     /// The pairs of an element of the tree and one of this list whose envelopes intersect.
     Join(Vec<T>),
 }
 
-/// What a command is answered. Elements are clones, but for those that were taken out. Distances are squared.
-///
-/// ```rust
-/// fn given(reply: &Reply<At>) -> Option<usize> {
-///     match reply {
-///         Reply::Done => Some(0),
-///         Reply::Taken(found) => Some(usize::from(found.is_some())),
-///         Reply::Elements(all) => Some(all.len()),
-///         Reply::Has(found) => Some(usize::from(*found)),
-///         Reply::Nearest(found) => Some(usize::from(found.is_some())),
-///         Reply::Neighbours(all) => Some(all.len()),
-///         Reply::Pairs(all) => Some(all.len()),
-///         Reply::NoMemory | Reply::TooMany => None,
-///     }
-/// ```
-/// *`crates/rstar_run/src/replay_tests.rt`*
+/// The reply to a command. Removed elements are moved into it, all others are clones. Distances are squared.
 #[derive(Drop)]
 pub enum Reply<T: PointDistance> {
-    /// It is done.
+    /// The command is done.
     Done,
-    /// The element that was taken out, if there was one.
+    /// The removed element, if there was one.
     Taken(Option<T>),
     /// Elements, in some order.
     Elements(Vec<T>),
     /// Whether there is such an element.
     Has(bool),
-    /// An element of least distance, with that distance; `None` where the tree is empty.
+    /// A nearest element with its squared distance; `None` where the tree is empty.
     Nearest(Option<(T, Distance<T>)>),
-    /// Elements with their distances, which never fall.
+    /// Elements with their squared distances, the nearest first.
     Neighbours(Vec<(T, Distance<T>)>),
     /// Pairs of elements, in some order.
     Pairs(Vec<(T, T)>),
-    /// The allocator refused memory, and the tree is left.
+    /// The allocator refused memory; the tree is as it was.
     NoMemory,
-    /// The tree cannot count one element more, and is left.
+    /// The tree cannot count one more element, and is as it was; `InsertCause::TooMany` says when.
     TooMany,
 }
 
-/// Runs one command, and answers as a scan of the elements would: see `Step`.
+/// Runs one command, as a scan of the elements would (`Step`).
 ///
-/// Inserted, loaded and joined elements have envelopes that are not empty, loads and joins have two dimensions
-/// (`verify_parameters` is the test), and a clone of an element equals it. `TooMany` comes exactly where `insert` says,
-/// and only of an `Insert`; `NoMemory` where the allocator refuses a growth, and never of a `Remove`, a `RemoveAtPoint`
-/// or a `Contains`, which take no memory. Both leave the tree, and a refused `Insert` drops its element. It costs what
-/// the tree's own call costs, and a clone of each element that it answers with and does not take out.
-///
-/// ```rust
-/// fn step_points(tree: &mut RTree<At>, command: Command<At>) -> Reply<At>
-///     // ..
-/// {
-///     step(tree, command)
-/// }
-/// ```
-/// *`crates/rstar_run/src/replay_tests.rt`*
+/// Commands are fit (`is_fit`), and a clone of an element equals it. `TooMany` comes from `Insert` alone,
+/// `NoMemory` from any command but `Remove`, `RemoveAtPoint` and `Contains`. Both leave the tree as it was,
+/// and a refused `Insert` drops its element. The cost is that of the tree's own call and of the clones in
+/// the reply.
 #[tactic(auto, using(crate::proofs::Replays::too_many, crate::proofs::Replays::unchanged))]
 pub fn step<T: PointDistance + EqualEnvelopes + Clone, Params: RTreeParams>(
     tree: &mut RTree<T, Params>,
@@ -196,22 +136,9 @@ pub fn step<T: PointDistance + EqualEnvelopes + Clone, Params: RTreeParams>(
     }
 }
 
-/// Runs commands in order, each as `step` does, and gives their replies: see `Run`.
+/// Runs commands in order by `step` (`Run`).
 ///
-/// It reserves the list of replies first. An error means that the allocator refused it, and that no command was run.
-///
-/// ```rust
-/// if !all_fit(&commands) {
-///     return Ok(Vec::new(alloc));
-/// }
-/// // ..
-/// if by_order {
-///     replay_by_order(tree, commands)
-/// } else {
-///     replay(tree, commands)
-/// }
-/// ```
-/// *`crates/rstar_run/src/replay_tests.rt`*
+/// An error means that the list of replies was refused, before any command was run.
 pub fn replay<T: PointDistance + EqualEnvelopes + Clone, Params: RTreeParams>(
     tree: &mut RTree<T, Params>,
     commands: Vec<Command<T>>,
@@ -230,13 +157,11 @@ pub fn replay<T: PointDistance + EqualEnvelopes + Clone, Params: RTreeParams>(
     Ok(replies)
 }
 
-/// Runs one command as `step` does, with neighbours in one stated order, by distance and at equal distance by the
-/// elements' own order: see `StepByOrder`. Distances are squared.
+/// Runs one command as `step` does, with neighbours in the stated order (`StepByOrder`).
 ///
-/// `PopNearest` takes the first element in that order out, `Nearest` answers with the first and `Neighbours` with the
-/// first so many, so that elements which the order tells apart leave one reply alone. Every other command is run by
-/// `step`. What is asked of a command, its refusals and its cost are those of `step`; a reply by order is one that `step`
-/// may give.
+/// That order is by distance, and at equal distance by `Ord`. It fixes the replies of `PopNearest`,
+/// `Nearest` and `Neighbours`, up to elements that compare equal. A reply by order is one that `step` may
+/// give.
 ///
 /// ```rust
 /// pub fn step(&mut self, command: Command<Item>) -> Reply<Item>
@@ -271,19 +196,9 @@ pub fn step_by_order<T: PointDistance + EqualEnvelopes + Clone + Ord, Params: RT
     }
 }
 
-/// Runs commands in order, each as `step_by_order` does, and gives their replies: see `RunByOrder`. They are replies
-/// that `replay` may give.
+/// Runs commands in order by `step_by_order` (`RunByOrder`).
 ///
-/// It reserves the list of replies first. An error means that the allocator refused it, and that no command was run.
-///
-/// ```rust
-/// if by_order {
-///     replay_by_order(tree, commands)
-/// } else {
-///     replay(tree, commands)
-/// }
-/// ```
-/// *`crates/rstar_run/src/replay_tests.rt`*
+/// An error means that the list of replies was refused, before any command was run.
 pub fn replay_by_order<T: PointDistance + EqualEnvelopes + Clone + Ord, Params: RTreeParams>(
     tree: &mut RTree<T, Params>,
     commands: Vec<Command<T>>,

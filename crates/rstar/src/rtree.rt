@@ -33,10 +33,10 @@ use rstar_base::point::Point;
 use std::alloc::{AllocError, Global};
 use std::marker::PhantomData;
 
-/// An index of elements by their envelopes.
+/// An R*-tree: an index of elements by their envelopes.
 ///
-/// Every call that makes or changes a tree leaves it whole: the envelope of each parent is the merge
-/// of the envelopes of the elements below it, all leaves lie on one level, and `size` counts the elements.
+/// Every call leaves the tree whole: the envelope of a parent is the merge of those of the elements below
+/// it, all leaves lie on one level, and `size` counts the elements.
 ///
 /// ```rust
 /// fn two_points(alloc: Global) -> Result<usize, InsertError<[i64; 2]>> {
@@ -63,17 +63,19 @@ pub struct RTree<T: RTreeObject, Params: RTreeParams = DefaultParams> {
 }
 
 impl<T: RTreeObject> RTree<T> {
-    /// The empty tree, with the default node sizes. It takes no memory yet.
-    ///
-    /// Its points have at least two dimensions; `verify_parameters` is the test.
+    /// The empty tree with the default node sizes. It takes no memory. The points have at least two axes;
+    /// `verify_parameters` tests that.
     ///
     /// ```rust
-    /// let mut tree = RTree::new(alloc);
-    /// if let Err(refused) = tree.insert(first) {
-    ///     return Err(refused);
+    /// pub fn new(alloc: Global) -> Fences
+    ///     ensures { result ≡ [] }
+    /// {
+    ///     Fences {
+    ///         tree: RTree::new(alloc),
+    ///     }
     /// }
     /// ```
-    /// *`crates/rstar_vectors/src/places.rt`*
+    /// *`crates/rstar_vectors/src/uses/geofence.rt`*
     pub fn new(alloc: Global) -> Self
         requires dimensions { 2 ≤ T.Envelope.Point.DIMENSIONS }
         ensures none { elements_in result ≡ [] }
@@ -86,21 +88,8 @@ impl<T: RTreeObject> RTree<T> {
 }
 
 impl<T: RTreeObject, Params: RTreeParams> RTree<T, Params> {
-    /// The empty tree, with chosen node sizes. It takes no memory yet.
-    ///
-    /// Its points have at least two dimensions; `verify_parameters` is the test.
-    ///
-    /// ```rust
-    /// let mut tree: RTree<T, Huge> = RTree::new_with_params(alloc);
-    /// let refused = match RStarInsertionStrategy::insert(&mut tree, element) {
-    ///     Ok(()) => false,
-    ///     Err(refused) => refused.cause == InsertCause::TooMany && refused.element == element,
-    /// };
-    /// let is_bare = tree.size() == 0 && tree.root().children().is_empty();
-    /// // ..
-    /// refused && is_bare
-    /// ```
-    /// *`crates/rstar_vectors/src/insertion.rt`*
+    /// The empty tree with chosen node sizes. It takes no memory. The points have at least two axes;
+    /// `verify_parameters` tests that.
     pub fn new_with_params(alloc: Global) -> Self
         requires dimensions { 2 ≤ T.Envelope.Point.DIMENSIONS }
         ensures none { elements_in result ≡ [] }
@@ -110,18 +99,7 @@ impl<T: RTreeObject, Params: RTreeParams> RTree<T, Params> {
         RTree::default(alloc)
     }
 
-    /// The empty tree, of any number of dimensions. It takes no memory yet.
-    ///
-    /// ```rust
-    /// let mut tree = RTree::default(alloc);
-    /// for element in elements {
-    ///     if !goes_in(&mut tree, *element) {
-    ///         return RTree::default(alloc);
-    ///     }
-    /// }
-    /// tree
-    /// ```
-    /// *`crates/rstar_vectors/src/scenarios.rt`*
+    /// The empty tree, for points of any number of axes. It takes no memory.
     #[tactic(auto, unfolding(crate::specs::Trees::IsWholeTree))]
     pub fn default(alloc: Global) -> Self
         ensures none { elements_in result ≡ [] }
@@ -144,13 +122,7 @@ impl<T: RTreeObject, Params: RTreeParams> RTree<T, Params> {
         }
     }
 
-    /// The root, from which all nodes are reached. It is a parent, without children where the tree is empty.
-    ///
-    /// ```rust
-    /// let nodes = tree.root().children();
-    /// let levels = levels_of(nodes);
-    /// ```
-    /// *`crates/rstar_vectors/src/loads.rt`*
+    /// The root. It is a parent; where the tree is empty it has no children.
     #[tactic(auto, unfolding(crate::specs::Trees::IsWholeTree))]
     pub fn root(&self) -> &ParentNode<T>
         ensures shown { result.now ≡ root_of self.now }
@@ -160,14 +132,7 @@ impl<T: RTreeObject, Params: RTreeParams> RTree<T, Params> {
         &self.root
     }
 
-    /// The number of elements, equal ones counted each.
-    ///
-    /// ```rust
-    /// tree.size() == 2
-    ///     && tree.root().children().len() == 2
-    ///     && counted_inside(tree, area) == Some(near)
-    /// ```
-    /// *`crates/rstar_vectors/src/places.rt`*
+    /// The number of elements. Equal elements each count.
     #[tactic(auto, unfolding(crate::specs::Trees::IsWholeTree))]
     pub fn size(&self) -> usize
         ensures shown { result ≡ size_of self.now }
@@ -177,22 +142,23 @@ impl<T: RTreeObject, Params: RTreeParams> RTree<T, Params> {
         self.size
     }
 
-    /// Adds an element, whose envelope is not empty, by `RStarInsertionStrategy`. Equal elements may be added, and are
-    /// counted.
+    /// Inserts an element by `RStarInsertionStrategy`. Its envelope is not empty. Equal elements each count.
     ///
-    /// All memory is taken before the first change. It is refused with `TooMany` exactly where `size` is the greatest
-    /// `usize` or a `usize` does not count the spare child lists that are wanted, and otherwise with `NoMemory` where
-    /// the allocator refuses a growth. A refusal hands the element back and leaves the tree as it shows itself.
-    ///
-    /// It costs a path from the root to the leaves, with a look at each child beside it, and a split now and then.
+    /// All memory is taken before the first change. A refusal hands the element back and leaves the tree as
+    /// it was; `InsertCause` says when it comes. The cost is one path from the root to a leaf, with a look
+    /// at each child beside it, and splits and reinsertions where nodes are overfull.
     ///
     /// ```rust
-    /// match tree.insert(element) {
-    ///     Ok(()) => true,
-    ///     Err(refused) => tree.insert(refused.element).is_ok(),
+    /// pub fn add(&mut self, fence: Fence) -> Result<(), InsertError<Fence>>
+    ///     requires filled { is_empty_box (box_of fence) ≡ false }
+    ///     ensures added { OnOk result (IsPermutation (fence ∷ self.old) self.new) }
+    ///     ensures handed_back { IfErr result (λ refused. refused.element ≡ fence) }
+    ///     ensures unchanged { OnErr result (self.new ≡ self.old) }
+    /// {
+    ///     self.tree.insert(fence)
     /// }
     /// ```
-    /// *`crates/rstar_vectors/src/scenarios.rt`*
+    /// *`crates/rstar_vectors/src/uses/geofence.rt`*
     pub fn insert(&mut self, t: T) -> Result<(), InsertError<T>>
         requires whole { IsWholeTree T.Envelope.boxes T.object Params.MAX_SIZE self.old }
         requires element { T.Envelope.boxes.is_empty (T.object.box_of t) ≡ false }
@@ -202,7 +168,8 @@ impl<T: RTreeObject, Params: RTreeParams> RTree<T, Params> {
         RStarInsertionStrategy::insert(self, t)
     }
 
-    /// How many spare lists an insertion wants, and `None` where the tree cannot count one element more, or not them.
+    /// The number of spare lists for an insertion; `None` where the tree cannot count one more element, or
+    /// not the lists.
     #[tactic(auto, unfolding(crate::specs::Trees::IsWholeTree))]
     pub(crate) fn lists_to_prepare(&self) -> Option<usize>
         requires { IsWholeTree T.Envelope.boxes T.object Params.MAX_SIZE self.now }
@@ -217,7 +184,8 @@ impl<T: RTreeObject, Params: RTreeParams> RTree<T, Params> {
         lists_wanted::<Params>(self.levels)
     }
 
-    /// Takes the memory of an insertion: so many spare lists, and room in `overfull` for a child more than a parent has.
+    /// Takes the memory of an insertion: this many spare lists, and room in `overfull` for one child more
+    /// than a parent has.
     #[tactic(auto, unfolding(crate::specs::Trees::IsWholeTree))]
     pub(crate) fn prepare(&mut self, wanted: usize) -> Result<(), AllocError>
         requires whole { IsWholeTree T.Envelope.boxes T.object Params.MAX_SIZE self.old }
@@ -232,7 +200,7 @@ impl<T: RTreeObject, Params: RTreeParams> RTree<T, Params> {
         self.overfull.reserve(self.widest + 1)
     }
 
-    /// Inserts an element where the memory is prepared.
+    /// Inserts an element into prepared memory.
     #[tactic(auto, unfolding(crate::specs::Trees::IsWholeTree))]
     pub(crate) fn insert_prepared(&mut self, t: T)
         requires whole { IsWholeTree T.Envelope.boxes T.object Params.MAX_SIZE self.old }

@@ -1,8 +1,9 @@
 //! The stored form of a tree of points.
 //!
-//! All numbers are little-endian. The bytes `RST1`, the number of points (`u64`), the number of levels of parents
-//! (`u8`, at most 64), and where that is not 0 the root. A parent is the number of its children (`u64`, at least 1),
-//! the lower and the upper corner of its box, and its children in order; a leaf is its point. A point is two `i64`.
+//! All numbers are little-endian. First come the bytes `RST1`, the number of points (`u64`), the number of
+//! levels of parents (`u8`, at most 64), and the root where that number is not 0. A parent is the number of
+//! its children (`u64`, at least 1), the lower and the upper corner of its box, and its children in order. A
+//! leaf is its point, two `i64`.
 
 ghost use Rattle.std.specs.Prelude.{◌≡◌, ◌⊎◌, ◌++◌, Err, suc, ◌≢◌, IfErr, ◌∷◌, [], ◌≤◌, ◌<◌, ◌+◌, ◌*◌, ◌^◌, ℕ, length, map, IfOk, OnOk, vec_len};
 ghost use Rattle.rstar.specs.declared.node.RTreeNode.{Parent};
@@ -26,20 +27,9 @@ use rstar_base::point::known;
 use std::alloc::{AllocError, AllocFailed, Global};
 
 /// Why a tree was not read or not written.
-///
-/// ```rust
-/// let (magic, rest) = bytes.split_at(bytes.len().min(4));
-/// if magic.len() == 4 && magic != b"RST1".as_slice() {
-///     return Err(StoredError::BadMagic);
-/// }
-/// if rest.len() < 9 {
-///     return Err(StoredError::Truncated);
-/// }
-/// ```
-/// *`crates/rstar_run/src/format_tests.rt`*
 #[derive(Clone, Copy, Debug, PartialEq, Eq)]
 pub enum StoredError {
-    /// A part lacks bytes.
+    /// A part is too short.
     Truncated = 1,
     /// The first four bytes are not `RST1`.
     BadMagic = 2,
@@ -47,13 +37,13 @@ pub enum StoredError {
     BadLevel = 3,
     /// A box that is not the merge of the boxes below it.
     BadBox = 4,
-    /// A number of points other than that of the leaves.
+    /// The number of points is not that of the leaves.
     BadCount = 5,
-    /// Bytes after the tree.
+    /// Bytes follow the tree.
     Trailing = 6,
-    /// The allocator refused a growth.
+    /// The allocator refused memory.
     NoMemory = 7,
-    /// The tree has more than 64 levels of parents; such a tree is not written.
+    /// The tree has more than 64 levels of parents, and is not written.
     TooHigh = 8,
 }
 
@@ -113,8 +103,8 @@ fn has_corners(envelope: &AABB<[i64; 2]>, lower: [i64; 2], upper: [i64; 2]) -> b
     envelope.lower() == lower && envelope.upper() == upper
 }
 
-/// A node with its leaves so many levels below, and the bytes after it. `widest` grows to the most
-/// children of a parent, and `points` by the points below.
+/// A node with leaves this many levels below, and the bytes after it. `widest` is raised to the greatest
+/// number of children, and `points` by the number of points.
 #[cycle(read)]
 #[tactic(auto, unfolding(crate::specs::StoredReading::node_at, crate::specs::StoredReading::leaf_at))]
 fn node_at<'a>(
@@ -142,9 +132,8 @@ fn node_at<'a>(
     Ok((RTreeNode::Parent(parent), rest))
 }
 
-/// A parent with so many levels of parents below it, and the bytes after it.
-///
-/// The bytes that so many children need are there before memory is taken for them.
+/// A parent with this many levels of parents below it, and the bytes after it. Memory for the children is
+/// taken only where enough bytes follow.
 #[cycle(read)]
 #[tactic(auto, unfolding(crate::specs::StoredReading::parent_at, crate::specs::StoredReading::children_at))]
 fn parent_at<'a>(
@@ -181,7 +170,7 @@ fn parent_at<'a>(
     Ok((ParentNode { children, envelope }, rest))
 }
 
-/// So many nodes with their leaves so many levels below, and the bytes after them.
+/// This many nodes with leaves this many levels below, and the bytes after them.
 #[cycle(read)]
 fn children_at<'a>(
     alloc: Global,
@@ -211,7 +200,7 @@ fn children_at<'a>(
     Ok((children, rest))
 }
 
-/// What follows the number of points.
+/// The tree after its number of points.
 #[tactic(auto, unfolding(crate::specs::StoredReading::levels_at, crate::specs::StoredReading::root_at))]
 fn tree_after<Params: RTreeParams>(
     alloc: Global,
@@ -240,7 +229,7 @@ fn tree_after<Params: RTreeParams>(
     root_after(alloc, count, height as usize - 1, rest)
 }
 
-/// The tree of the root that follows, of which so many levels of parents are below.
+/// The tree of a root with this many levels of parents below it.
 #[tactic(auto, unfolding(crate::specs::StoredReading::root_at, crate::specs::StoredReading::node_at))]
 fn root_after<Params: RTreeParams>(
     alloc: Global,
@@ -263,7 +252,7 @@ fn root_after<Params: RTreeParams>(
     Ok(RTree::from_root(alloc, root, points, below, widest))
 }
 
-/// The tree of all of the bytes.
+/// The tree of all bytes.
 #[tactic(auto, unfolding(crate::specs::StoredReading::tree_at))]
 fn tree_of<Params: RTreeParams>(
     alloc: Global,
@@ -282,25 +271,24 @@ fn tree_of<Params: RTreeParams>(
     tree_after(alloc, count, rest)
 }
 
-/// The tree that the bytes spell, which takes insertions, removals and drains as any other.
+/// The tree that the bytes spell. It takes insertions, removals and drains as any other.
 ///
-/// A refusal but `NoMemory` says that they spell none, and which fault they have: the first that is met from left to
-/// right. A child count lacks bytes where not even so many leaves follow, which is told before memory is taken for
-/// them; a box is compared once its last child was read, so inner boxes come before outer ones; the number of points
-/// comes after the root, and what is left after that.
-///
-/// One pass: each parent takes one list, and each box is merged once. The stack holds at most 64 levels.
+/// A refusal other than `NoMemory` names the first fault from left to right. A box is compared after its
+/// last child, the number of points after the root. A child count that the bytes cannot hold is refused
+/// before memory is taken. The cost is one pass over the bytes, with one list and one merge for each parent.
 ///
 /// ```rust
-/// match read_stored::<Params>(alloc, bytes) {
-///     Ok(tree) => {
-///         let is_so = stands_within(&tree, 1, widest);
-///         goes_on(alloc, tree, points, &none, &steps) && is_so
-///     }
-///     Err(_) => false,
+/// fn unpacked<R: Read + Drop>(alloc: Global, input: R) -> Result<Vec<[i64; 2]>, Fault>
+///     ensures { Unpacks (R.remaining input) result }
+/// {
+///     let bytes = read_all(alloc, input)?;
+///     let tree = read_stored::<DefaultParams>(alloc, &bytes)?;
+///     let mut points = points_of(alloc, tree)?;
+///     points.sort_unstable();
+///     Ok(points)
 /// }
 /// ```
-/// *`crates/rstar_vectors/src/stored.rt`*
+/// *`crates/rstar_run/src/stored.rt`*
 pub fn read_stored<Params: RTreeParams>(
     alloc: Global,
     bytes: &[u8],
@@ -313,7 +301,7 @@ pub fn read_stored<Params: RTreeParams>(
     tree_of(alloc, bytes)
 }
 
-/// Puts a point at the end.
+/// Appends a point.
 fn put_point(out: &mut Vec<u8>, p: [i64; 2]) -> Result<(), AllocError>
     ensures spelled { OnOk result (out.new.items ≡ out.old.items ++ point p) }
     ensures place { OnOk result (IsPoint low high 2 p) }
@@ -325,7 +313,7 @@ fn put_point(out: &mut Vec<u8>, p: [i64; 2]) -> Result<(), AllocError>
     Ok(())
 }
 
-/// Puts a node at the end.
+/// Appends a node.
 #[cycle(write)]
 fn put_node(out: &mut Vec<u8>, node: &RTreeNode<[i64; 2]>) -> Result<(), AllocError>
     ensures spelled { OnOk result (out.new.items ≡ out.old.items ++ spelling (shown node.now)) }
@@ -344,7 +332,7 @@ fn put_node(out: &mut Vec<u8>, node: &RTreeNode<[i64; 2]>) -> Result<(), AllocEr
     }
 }
 
-/// Puts a parent at the end.
+/// Appends a parent.
 #[cycle(write)]
 fn put_parent(out: &mut Vec<u8>, parent: &ParentNode<[i64; 2]>) -> Result<(), AllocError>
     ensures spelled { OnOk result (out.new.items ≡ out.old.items ++ spelling (shown_root parent.now)) }
@@ -360,7 +348,7 @@ fn put_parent(out: &mut Vec<u8>, parent: &ParentNode<[i64; 2]>) -> Result<(), Al
     Ok(())
 }
 
-/// The bytes that a node takes, held at the greatest `usize`.
+/// The length of a node in bytes, clamped to the greatest `usize`.
 #[cycle(size)]
 fn node_size(node: &RTreeNode<[i64; 2]>) -> usize {
     match node {
@@ -369,7 +357,7 @@ fn node_size(node: &RTreeNode<[i64; 2]>) -> usize {
     }
 }
 
-/// The bytes that a parent takes, held at the greatest `usize`.
+/// The length of a parent in bytes, clamped to the greatest `usize`.
 #[cycle(size)]
 fn parent_size(parent: &ParentNode<[i64; 2]>) -> usize {
     let mut size: usize = 40;
@@ -379,19 +367,21 @@ fn parent_size(parent: &ParentNode<[i64; 2]>) -> usize {
     size
 }
 
-/// The bytes that spell the tree: `read_stored` reads them back as the same tree.
+/// The bytes that spell the tree. `read_stored` reads the same tree from them.
 ///
-/// A tree of more than 64 levels of parents is refused with `TooHigh`, any other with `NoMemory` alone. Memory is taken
-/// once, for as many bytes as are written. The cost is that of a walk over the nodes and of the bytes.
+/// It is refused with `TooHigh` for a tree of more than 64 levels of parents, and otherwise only with
+/// `NoMemory`. Memory is taken once. The cost is one traversal of the nodes.
 ///
 /// ```rust
-/// let tree = loaded::<_, Params>(alloc, points);
-/// let bytes = match write_stored(&tree) {
-///     Ok(bytes) => bytes,
-///     Err(_) => Vec::new(alloc),
-/// };
+/// fn packed<R: Read + Drop>(alloc: Global, input: R) -> Result<Vec<u8>, Fault>
+///     ensures { Packs (R.remaining input) result }
+/// {
+///     let points = read_points(alloc, input)?;
+///     let tree = RTree::<[i64; 2]>::bulk_load(points)?;
+///     Ok(write_stored(&tree)?)
+/// }
 /// ```
-/// *`crates/rstar_vectors/src/stored.rt`*
+/// *`crates/rstar_run/src/stored.rt`*
 pub fn write_stored<Params: RTreeParams>(
     tree: &RTree<[i64; 2], Params>,
 ) -> Result<Vec<u8>, StoredError>

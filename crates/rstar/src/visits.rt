@@ -1,4 +1,4 @@
-//! Walks by recursion, which take no memory: look-ups, and visits of what is selected.
+//! Recursive traversals, which take no memory: look-ups and visits.
 
 ghost use Rattle.std.specs.Prelude.{ℕ, filter};
 ghost use Rattle.std.specs.List.{AllZip};
@@ -15,21 +15,21 @@ use rstar_base::envelope::Envelope;
 use rstar_base::object::RTreeObject;
 use std::ops::ControlFlow;
 
-/// What a walk does at the first of some nodes.
+/// What a traversal does at the first of several nodes.
 pub enum Look<L, N> {
-    /// None is left.
+    /// No node is left.
     End,
-    /// It gives an element.
+    /// It yields an element.
     Give(L, N),
-    /// It goes on.
+    /// It passes the node.
     Pass(N),
-    /// It opens a parent.
+    /// It visits a parent.
     Open(N, N),
 }
 
-/// A reference to some nodes. Its lifetime stands in no bound, so that a recursion may take it.
+/// A borrow of several nodes. Its lifetime stands in no bound, so that a recursion may take it.
 pub trait NodesRef<T: Covered, F: Question<T>>: Copy + Drop {
-    /// A reference to an element.
+    /// A borrow of an element.
     type Leaf;
 
     ghost use Rattle.std.specs.Prelude.{List};
@@ -75,7 +75,7 @@ impl<'a, T: Covered, F: Question<T>> NodesRef<T, F> for &'a [RTreeNode<T>] {
     }
 }
 
-/// The first element that a walk over some nodes gives.
+/// The first selected element below several nodes.
 fn first_below<'a, T: Covered, F: Question<T>>(nodes: &'a [RTreeNode<T>], func: &F) -> Option<&'a T>
     ensures { IsFirst (all_given (F.accepts func.now) (F.selects func.now) nodes.now) result }
 {
@@ -95,7 +95,7 @@ fn first_below<'a, T: Covered, F: Question<T>>(nodes: &'a [RTreeNode<T>], func: 
     }
 }
 
-/// The first element that a walk from a root on gives. It takes no memory.
+/// The first selected element below a root. It takes no memory.
 pub(crate) fn first_selected<'a, T: RTreeObject, F: SelectionFunction<T>>(
     root: &'a ParentNode<T>,
     func: &F,
@@ -108,7 +108,7 @@ pub(crate) fn first_selected<'a, T: RTreeObject, F: SelectionFunction<T>>(
     first_below(root.children.as_slice(), func)
 }
 
-/// Calls the visitor at what a walk over some nodes gives, until a call breaks.
+/// Calls the visitor at each selected element below several nodes, until a call breaks.
 fn visit_nodes<
     T: Covered,
     F: Question<T>,
@@ -141,21 +141,8 @@ fn visit_nodes<
     }
 }
 
-/// Calls the visitor at the elements that a function selects below a root, in some order, each at most once, until a
-/// call breaks; its break is the answer. A function that is not lawful may miss some; a lawful one misses
-/// none below a root that is whole, as the root of a tree is. It takes no memory.
-///
-/// ```rust
-/// let _end: ControlFlow<()> = select_nodes(
-///     root,
-///     &SelectAllFunc,
-///     &mut |one: &Numbered<R>| {
-///         sum = sum.saturating_add(one.data);
-///         ControlFlow::Continue(())
-///     },
-/// );
-/// ```
-/// *`crates/rstar_vectors/src/visits.rt`*
+/// Calls the visitor at each selected element below a root, until it breaks. It returns the break and takes
+/// no memory. With a function that is not lawful, or a root that is not whole, it may miss some.
 pub fn select_nodes<
     'a,
     T: RTreeObject,
@@ -174,7 +161,7 @@ pub fn select_nodes<
     visit_nodes(root.children.as_slice(), func, visitor)
 }
 
-/// Calls the visitor at what a walk below a node gives, and lets it write there.
+/// Calls the visitor at each selected element below a node, and lets it write the element.
 #[cycle(writing)]
 fn visit_node_mut<T: Covered, F: Question<T>, V: FnMut(&mut T) -> ControlFlow<B>, B: Drop>(
     node: &mut RTreeNode<T>,
@@ -205,7 +192,7 @@ fn visit_node_mut<T: Covered, F: Question<T>, V: FnMut(&mut T) -> ControlFlow<B>
     }
 }
 
-/// The same below each of some nodes, until a call breaks.
+/// The same below several nodes, until a call breaks.
 #[cycle(writing)]
 fn visit_nodes_mut<T: Covered, F: Question<T>, V: FnMut(&mut T) -> ControlFlow<B>, B: Drop>(
     nodes: &mut [RTreeNode<T>],
@@ -228,23 +215,9 @@ fn visit_nodes_mut<T: Covered, F: Question<T>, V: FnMut(&mut T) -> ControlFlow<B
     ControlFlow::Continue(())
 }
 
-/// Calls the visitor at the elements that a function selects below a root, in some order, each at most once, until a
-/// call breaks; its break is the answer. The visitor may write the elements; it must keep their envelopes, and then
-/// nothing else of the nodes changes, and a whole root stays whole. A function that is not lawful may miss some; a
-/// lawful one misses none below a root that is whole. It takes no memory.
-///
-/// ```rust
-/// let func = SelectInEnvelopeFuncIntersecting::new(area);
-/// let _went_on: ControlFlow<()> = select_nodes_mut(
-///     root,
-///     &func,
-///     &mut |one: &mut GeomWithData<R, u64>| {
-///         one.data = 0;
-///         ControlFlow::Continue(())
-///     },
-/// );
-/// ```
-/// *`crates/rstar_vectors/src/visits.rt`*
+/// Calls the visitor at each selected element below a root, until it breaks, and lets it write. The visitor
+/// must keep the envelope of the element; a whole root then stays whole. The call returns the break and
+/// takes no memory. With a function that is not lawful it may miss some.
 pub fn select_nodes_mut<
     T: RTreeObject,
     F: SelectionFunction<T>,

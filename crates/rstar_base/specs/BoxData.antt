@@ -1,11 +1,11 @@
--- Boxes as envelopes.
+-- Bounding boxes as envelopes.
 use Rattle.std.specs.Prelude.{ℕ, ℤ, List, min, pos, unsigned_abs, slice_index_or}
 use Rattle.rstar_base.specs.Boxes.{is_empty_box, box_contains_point, contains_box, merge_boxes, boxes_intersect, empty_box, IsBox}
 use Rattle.rstar_base.specs.Distances.{box_distance, box_min_max}
 use Rattle.rstar_base.specs.Measures.{extent_product, extent_sum, overlap, box_center}
 use Rattle.rstar_base.specs.Envelopes.{Boxes}
 
--- the boxes of n axes over the scalars from low to high
+-- the envelope type of boxes with n axes over the scalars from low to high; measures are clamped to high
 abbrev pub box_data : ℤ → ℤ → ℕ → Boxes (List (ℤ × ℤ))
 box_data low high n = record {
   IsValue = IsBox low high n;

@@ -1,21 +1,21 @@
--- Envelopes with a count of what was merged into them.
+-- Envelopes with a count of the elements merged into them.
 use Rattle.std.specs.Prelude.{◌≡◌, ◌≢◌, ◌+◌, ◌≤◌, ◌==◌, ℕ, min, false}
 use Rattle.rstar_base.specs.Envelopes.{Boxes}
 use Rattle.rstar_base.specs.Elements.{Objects}
 
--- the greatest count that a `usize` holds
+-- the greatest `usize`
 abbrev pub usize_max : ℕ
 usize_max = 18446744073709551615
 
--- an envelope and its count: 0 for the empty envelope alone, and otherwise of one that is not empty
+-- a value of the counted type: the count fits a `usize`, and it is 0 exactly for the empty envelope
 pub record IsCounted {E : Type 0} (v : Boxes E) (e : E) (count : ℕ) : Type 0 where
   pub inside : v.IsValue e
   pub fits : count ≤ usize_max
   pub none : count ≡ 0 → e ≡ v.empty
   pub some : count ≢ 0 → v.is_empty e ≡ false
 
--- envelopes with a count: a merge adds the counts, held at the greatest `usize`, and what has the count 0 is empty;
--- all else is as of the envelope alone
+-- an envelope type with counts: merging adds the counts, clamped to the greatest `usize`, and an envelope is empty
+-- where its count is 0; everything else is as of the envelope
 abbrev pub counted_boxes : {E : Type 0} → Boxes E → Boxes (E × ℕ)
 counted_boxes v = record {
   IsValue = λ c. IsCounted v c.0 c.1;
@@ -34,7 +34,7 @@ counted_boxes v = record {
   axis_key = λ c. v.axis_key c.0;
 }
 
--- elements of which each counts once
+-- an element type whose elements each count once
 abbrev pub counted_objects : {T E : Type 0} → Boxes E → Objects T E → Objects T (E × ℕ)
 counted_objects v o =
     record { IsValue = λ t. o.IsValue t × IsCounted v (o.box_of t) 1; box_of = λ t. (o.box_of t, 1) }

@@ -1,22 +1,22 @@
--- Slabs of a list of elements, and lists around a pivot.
+-- Slabs of a list of elements, and partitions around a pivot.
 use Rattle.std.specs.Prelude.{◌≡◌, ◌≢◌, ℕ, ℤ, ◌++◌, ◌<◌, ◌≤◌, ◌≤ℤ◌, List, [], All, length, min, slice_index_or, IsPermutation, Option, Result, MatchOption, MatchResult}
 use Rattle.std.specs.Int.{div_ceil}
 use Rattle.std.specs.Global.{Vec}
 use Rattle.std.specs.declared.alloc.AllocError.{AllocError}
 use Rattle.rstar_base.specs.declared.clusters.ClusterGroupIterator.{ClusterGroupIterator}
 
--- no element of the first list has a greater key than any of the second
+-- no element of the first list has a greater key than an element of the second
 abbrev pub NoneAbove : {T : Type 0} → (T → ℤ) → List T → List T → Type 0
 NoneAbove key xs ys = All (λ x. All (λ y. key x ≤ℤ key y) ys) xs
 
 -- ---- lists around a pivot
 
--- before `high` no key is greater than the pivot, and from `low` on none is smaller
+-- a partition around a pivot: before `high` no key is greater, and from `low` on none is smaller
 pub record IsAround {T : Type 0} (key : T → ℤ) (pivot : ℤ) (low high : ℕ) (xs : List T) : Type 0 where
   pub at_most : (i : ℕ) (d : T) → i < high → key (slice_index_or xs i d) ≤ℤ pivot
   pub at_least : (i : ℕ) (d : T) → low ≤ i → i < length xs → pivot ≤ℤ key (slice_index_or xs i d)
 
--- around one place, while elements from `at` on are still to be placed
+-- a partition in progress: elements from `at` on are still to be placed
 pub record IsAroundSoFar {T : Type 0} (key : T → ℤ) (pivot : ℤ) (less at : ℕ) (xs : List T) : Type 0 where
   pub order : less ≤ at
   pub within : at ≤ length xs
@@ -25,31 +25,33 @@ pub record IsAroundSoFar {T : Type 0} (key : T → ℤ) (pivot : ℤ) (less at :
 
 -- ---- slabs
 
--- what an iterator of slabs has left, how many elements its slabs have, and its axis
+-- the elements that an iterator of slabs has left
 abbrev pub elements_left : {T : Type 0} → ClusterGroupIterator T → List T
 elements_left it = it.remaining.items
 
+-- the length of its slabs
 abbrev pub slab_size_of : {T : Type 0} → ClusterGroupIterator T → ℕ
 slab_size_of it = it.slab_size
 
+-- the axis along which it cuts
 abbrev pub dimension_of : {T : Type 0} → ClusterGroupIterator T → ℕ
 dimension_of it = it.cluster_dimension
 
--- how many slabs are to come
+-- the number of slabs left
 abbrev pub slabs_left : {T : Type 0} → ClusterGroupIterator T → ℕ
 slabs_left it = div_ceil (length (elements_left it)) (slab_size_of it)
 
--- its slabs have elements, and it has an axis
+-- its slabs have elements, and its axis exists
 abbrev pub IsCutting : {T : Type 0} → ℕ → ClusterGroupIterator T → Type 0
 IsCutting axes it = (0 < slab_size_of it) × (dimension_of it < axes)
 
--- A slab of s elements, or of all where there are fewer, was taken off a list: those of the greatest keys.
+-- the s elements of the greatest keys, or all where there are fewer, were taken off a list
 pub record IsSlabOf {T : Type 0} (key : T → ℤ) (s : ℕ) (before slab after : List T) : Type 0 where
   pub same : IsPermutation before (after ++ slab)
   pub size : length slab ≡ min s (length before)
   pub parted : NoneAbove key after slab
 
--- What a call of `next` gives: a slab while elements are left. A refusal, never of the last slab, drops the rest.
+-- the answer of `next`: a slab while elements are left. A refusal drops the rest; the last slab is never refused.
 abbrev pub GivesSlab : {T : Type 0} → (T → ℤ) → ℕ → List T → Option (Result (Vec T) AllocError) → List T → Type 0
 GivesSlab key s before result after =
     MatchOption result
@@ -57,7 +59,7 @@ GivesSlab key s before result after =
     (λ given. (before ≢ []) × MatchResult given (λ slab. IsSlabOf key s before slab.items after)
     (λ _. (s < length before) × (after ≡ [])))
 
--- The same of the iterator, by the keys on its axis. The size of the slabs and the axis stay.
+-- the same of an iterator, by the keys on its axis
 abbrev pub GivesNextSlab : {T : Type 0} → (T → ℕ → ℤ) → ClusterGroupIterator T → Option (Result (Vec T) AllocError)
     → ClusterGroupIterator T → Type 0
 GivesNextSlab key old result new =

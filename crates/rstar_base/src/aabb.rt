@@ -1,4 +1,4 @@
-//! Boxes.
+//! Axis-parallel bounding boxes.
 
 ghost use Rattle.std.specs.Prelude.{◌≡◌, ◌<◌, ◌&&◌, ◌+ℤ◌, ◌-ℤ◌, ℕ, List, ⊤, true, IsTrue, int_div, int_le, map, not, pos, min, unsigned_abs};
 ghost use Rattle.num_traits.specs.Laws.{between};
@@ -41,18 +41,7 @@ pub(crate) fn bound<P: Point>(lower: &P, upper: &P, above: &P, below: &P) -> boo
     )
 }
 
-/// Whether `lower <= upper` on every axis, as `AABB::from_bounds` asks.
-///
-/// ```rust
-/// fn boxed<P: Point + Copy>(lower: P, upper: P) -> AABB<P> {
-///     if upright(&lower, &upper) {
-///         AABB::from_bounds(lower, upper)
-///     } else {
-///         AABB::new_empty()
-///     }
-/// }
-/// ```
-/// *`crates/rstar_base/src/tests/boxes.rt`*
+/// Whether `lower <= upper` on every axis. `AABB::from_bounds` asks that of its corners.
 pub fn upright<P: Point>(lower: &P, upper: &P) -> bool
     ensures { result ≡ is_upright P.DIMENSIONS (P.coord lower.now) (P.coord upper.now) }
 {
@@ -64,7 +53,7 @@ pub fn upright<P: Point>(lower: &P, upper: &P) -> bool
     )
 }
 
-/// The clamped squared distance from a point to the nearest point between two corners.
+/// The squared distance from a point to the box between two corners, clamped to the scalar.
 pub(crate) fn squared_distance<P: Point>(lower: &P, upper: &P, point: &P) -> P::Scalar
     ensures { P.Scalar.value result
         ≡ pos (min (sum_below P.DIMENSIONS
@@ -88,7 +77,7 @@ pub(crate) fn squared_distance<P: Point>(lower: &P, upper: &P, point: &P) -> P::
     )
 }
 
-/// The point between two corners that is nearest to a point.
+/// The point nearest to a point, of the box between two corners.
 pub(crate) fn nearest_between<P: Point>(lower: &P, upper: &P, point: &P) -> P
     ensures { (i : ℕ) → i < P.DIMENSIONS
         → P.coord result i ≡ nearest_on_axis (P.coord lower.now i, P.coord upper.now i) (P.coord point.now i) }
@@ -102,7 +91,7 @@ pub(crate) fn nearest_between<P: Point>(lower: &P, upper: &P, point: &P) -> P
     )
 }
 
-/// The point moved up on every axis, held at the ends of the scalar.
+/// The point moved up on every axis, clamped to the scalar.
 fn moved_up<P: Point>(p: &P, by: P::Scalar) -> P
     ensures { (i : ℕ) → i < P.DIMENSIONS
         → P.coord result i ≡ between (P.coord p.now i +ℤ P.Scalar.value by) P.Scalar.low P.Scalar.high }
@@ -116,7 +105,7 @@ fn moved_up<P: Point>(p: &P, by: P::Scalar) -> P
     )
 }
 
-/// The point moved down on every axis, held at the ends of the scalar.
+/// The point moved down on every axis, clamped to the scalar.
 fn moved_down<P: Point>(p: &P, by: P::Scalar) -> P
     ensures { (i : ℕ) → i < P.DIMENSIONS
         → P.coord result i ≡ between (P.coord p.now i -ℤ P.Scalar.value by) P.Scalar.low P.Scalar.high }
@@ -130,7 +119,7 @@ fn moved_down<P: Point>(p: &P, by: P::Scalar) -> P
     )
 }
 
-/// The clamped squares from a coordinate to the nearer and to the farther of two faces.
+/// The squared distances from a coordinate to the nearer and to the farther of two faces, clamped.
 fn faces<S: RTreeNum>(lower: S, upper: S, at: S) -> (S, S)
     ensures near { S.value result.0
         ≡ pos (min (near_face (S.value lower, S.value upper) (S.value at)) (unsigned_abs S.high)) }
@@ -142,7 +131,8 @@ fn faces<S: RTreeNum>(lower: S, upper: S, at: S) -> (S, S)
     (least(a, b), greatest(a, b))
 }
 
-/// The least over the axes of the clamped sum of the nearer face there and the farther faces elsewhere; 0 with no axis.
+/// MINMAXDIST: the least, over the axes, of the nearer face on that axis and the farther faces on the
+/// others. It is 0 without an axis.
 pub(crate) fn min_max_distance<P: Point>(lower: &P, upper: &P, point: &P) -> P::Scalar
     ensures { P.Scalar.value result
         ≡ pos (box_min_max P.Scalar.high (between_corners P.DIMENSIONS (P.coord lower.now) (P.coord upper.now))
@@ -159,7 +149,7 @@ pub(crate) fn min_max_distance<P: Point>(lower: &P, upper: &P, point: &P) -> P::
     if P::DIMENSIONS == 0 { sum } else { best }
 }
 
-/// How far `upper` lies above `lower`, clamped; 0 where it lies below.
+/// The extent from `lower` to `upper`, clamped; 0 where `upper` is below `lower`.
 fn extent_between<S: RTreeNum>(lower: S, upper: S) -> S
     ensures { S.value result ≡ pos (min (extent (S.value lower, S.value upper)) (unsigned_abs S.high)) }
 {
@@ -170,7 +160,7 @@ fn extent_between<S: RTreeNum>(lower: S, upper: S) -> S
     }
 }
 
-/// The clamped product of the extents between two corners.
+/// The product of the extents between two corners, clamped.
 pub(crate) fn extent_area<P: Point>(lower: &P, upper: &P) -> P::Scalar
     ensures { P.Scalar.value result
         ≡ pos (min (product_below P.DIMENSIONS (λ i. extent (P.coord lower.now i, P.coord upper.now i)))
@@ -186,7 +176,7 @@ pub(crate) fn extent_area<P: Point>(lower: &P, upper: &P) -> P::Scalar
     )
 }
 
-/// The clamped sum of the extents between two corners.
+/// The sum of the extents between two corners, clamped.
 pub(crate) fn extent_perimeter<P: Point>(lower: &P, upper: &P) -> P::Scalar
     ensures { P.Scalar.value result
         ≡ pos (min (sum_below P.DIMENSIONS (λ i. extent (P.coord lower.now i, P.coord upper.now i)))
@@ -202,7 +192,7 @@ pub(crate) fn extent_perimeter<P: Point>(lower: &P, upper: &P) -> P::Scalar
     )
 }
 
-/// The point in the middle of two corners, its halves truncated toward zero.
+/// The point halfway between two corners, each half truncated toward zero.
 pub(crate) fn middle_point<P: Point>(lower: &P, upper: &P) -> P
     ensures { (i : ℕ) → i < P.DIMENSIONS
         → P.coord result i ≡ int_div (P.coord lower.now i +ℤ P.coord upper.now i) (pos 2) }
@@ -224,17 +214,20 @@ pub(crate) fn same_coordinates<P: Point>(p: &P, q: &P) -> bool
     bound(p, p, q, q)
 }
 
-/// An axis-parallel box: on every axis the numbers from `lower` to `upper`, both included. Or the
-/// empty box, whose lower corner is all greatest and whose upper corner is all least scalars.
+/// An axis-parallel bounding box. On every axis it has the numbers from `lower` to `upper`, both included.
 ///
-/// With no axis there is one box, and it is not empty. Measures and distances are exact, and held at
-/// the greatest scalar; distances are squared. Each call costs a pass over the axes, and a copy of a
-/// box takes no memory. Boxes are ordered by their lower, then by their upper corners.
+/// The empty box has the greatest scalars as its lower corner and the least as its upper one. With no axis
+/// there is one box, which is not empty. Distances are squared; measures are exact and clamped to the
+/// greatest scalar. A call costs one pass over the axes and takes no memory.
 ///
 /// ```rust
-/// let one = AABB::from_corners([0i64, 2], [1, 1]);
-/// assert!(rt; hashed(&one) == hashed(&AABB::from_corners([0i64, 1], [1, 2])));
-/// assert!(rt; is_shown(rt.alloc(), &one, "AABB { lower: [0, 1], upper: [1, 2] }"));
+/// fn boxed<P: Point + Copy>(lower: P, upper: P) -> AABB<P> {
+///     if upright(&lower, &upper) {
+///         AABB::from_bounds(lower, upper)
+///     } else {
+///         AABB::new_empty()
+///     }
+/// }
 /// ```
 /// *`crates/rstar_base/src/tests/boxes.rt`*
 #[derive(Copy, Debug, PartialEq, Eq, PartialOrd, Ord, Hash, Drop)]
@@ -285,13 +278,6 @@ impl<P: Point> Clone for AABB<P> {
 
 impl<P: Point> AABB<P> {
     /// The box of one point.
-    ///
-    /// ```rust
-    /// let none: [i64; 0] = [];
-    /// let one = AABB::from_point(none);
-    /// assert!(rt; merges(&Counted::new(one), &one, 1, 2));
-    /// ```
-    /// *`crates/rstar_base/src/tests/boxes.rt`*
     pub fn from_point(p: P) -> Self
         ensures { result ≡ between_corners P.DIMENSIONS (P.coord p) (P.coord p) }
     {
@@ -301,18 +287,7 @@ impl<P: Point> AABB<P> {
         }
     }
 
-    /// The box between two corners, of which the first is nowhere above the second; `upright` is the test.
-    ///
-    /// ```rust
-    /// fn boxed<P: Point + Copy>(lower: P, upper: P) -> AABB<P> {
-    ///     if upright(&lower, &upper) {
-    ///         AABB::from_bounds(lower, upper)
-    ///     } else {
-    ///         AABB::new_empty()
-    ///     }
-    /// }
-    /// ```
-    /// *`crates/rstar_base/src/tests/boxes.rt`*
+    /// The box between two corners. The first is at most the second on every axis; `upright` tests that.
     pub fn from_bounds(lower: P, upper: P) -> Self
         requires { IsTrue (is_upright P.DIMENSIONS (P.coord lower) (P.coord upper)) }
         ensures { result ≡ between_corners P.DIMENSIONS (P.coord lower) (P.coord upper) }
@@ -323,7 +298,7 @@ impl<P: Point> AABB<P> {
         }
     }
 
-    /// The box of a rectangle's two corners, of which the first lies nowhere above the second but in those of the empty box.
+    /// The box of a rectangle's two corners, which are upright or those of the empty box.
     pub(crate) fn between(lower: &P, upper: &P) -> Self
         ensures { result
             ≡ box_or_empty P.Scalar.low P.Scalar.high P.DIMENSIONS (P.coord lower.now) (P.coord upper.now) }
@@ -354,19 +329,8 @@ impl<P: Point> AABB<P> {
         }
     }
 
-    /// The least box of all points that are at most `distance` from `center` on every axis, held
-    /// inside the range of the scalar. A negative distance counts as the positive one.
-    ///
-    /// ```rust
-    /// fn is_round<P: Point + Copy>(center: P, distance: P::Scalar, lower: P, upper: P) -> bool {
-    ///     let wanted = boxed(lower, upper);
-    ///     let below = P::Scalar::zero().clamped_sub(distance);
-    ///     AABB::from_center(center, distance) == wanted && AABB::from_center(center, below) == wanted
-    /// }
-    /// // ..
-    /// is_round([100i8, 0], 50, [50, -50], [127, 50]),
-    /// ```
-    /// *`crates/rstar_base/src/tests/boxes.rt`*
+    /// The box of all points at most `distance` from `center` on every axis. Its corners are clamped to the
+    /// scalar's range. A negative distance counts as its absolute value.
     pub fn from_center(center: P, distance: P::Scalar) -> Self
         ensures { result ≡ box_of_corners P.DIMENSIONS
             (λ i. between (P.coord center i +ℤ P.Scalar.value distance) P.Scalar.low P.Scalar.high)
@@ -375,17 +339,8 @@ impl<P: Point> AABB<P> {
         AABB::from_corners(moved_up(&center, distance), moved_down(&center, distance))
     }
 
-    /// The least box of all points; of none, the empty box. The iterator has to end. It costs a merge per point.
-    ///
-    /// ```rust
-    /// fn is_hull<P: Point + Copy>(points: &[P], lower: P, upper: P) -> bool {
-    ///     AABB::from_points(points) == boxed(lower, upper)
-    /// }
-    /// // ..
-    /// is_hull(&[[1i32, 5], [2, 3], [1, 5], [1, 5]], [1, 3], [2, 5]),
-    /// is_hull(&[[7i32, -7]], [7, -7], [7, -7]),
-    /// ```
-    /// *`crates/rstar_base/src/tests/boxes.rt`*
+    /// The bounding box of all points. Of none it is the empty box. It costs one merge per point. The
+    /// iterator has to end.
     pub fn from_points<'a, I: IntoIterator<Item = &'a P>>(i: I) -> Self
     where
         P: 'a,
@@ -403,46 +358,22 @@ impl<P: Point> AABB<P> {
         hull
     }
 
-    /// The lower corner; of the empty box all greatest scalars.
-    ///
-    /// ```rust
-    /// fn has_measures<P: Point + Copy>(row: &MeasureRow<P>) -> bool {
-    ///     let made = boxed(row.0, row.1);
-    ///     made.lower() == row.0
-    ///         && made.upper() == row.1
-    ///         && measures(&made, &row.2, &row.3, &row.4, &row.5)
-    /// }
-    /// ```
-    /// *`crates/rstar_base/src/tests/boxes.rt`*
+    /// The lower corner; the greatest scalars for the empty box.
     pub fn lower(&self) -> P
         ensures { table P.DIMENSIONS (P.coord result) ≡ map (λ x. x.0) self.now }
     {
         copied_point(&self.lower)
     }
 
-    /// The upper corner; of the empty box all least scalars.
+    /// The upper corner; the least scalars for the empty box.
     pub fn upper(&self) -> P
         ensures { table P.DIMENSIONS (P.coord result) ≡ map (λ x. x.1) self.now }
     {
         copied_point(&self.upper)
     }
 
-    /// The point of the box that is nearest to `point`, which is `point` itself where the box contains
-    /// it. For the empty box, which has no point, it is the upper corner: all least scalars.
-    ///
-    /// The row: a box by its corners, a point, the box's nearest point, its squared distance, the min-max distance.
-    ///
-    /// ```rust
-    /// fn box_is_so_far<P: Point + Copy>(row: &DistanceRow<P>) -> bool {
-    ///     let made = boxed(row.0, row.1);
-    ///     made.min_point(&row.2) == row.3
-    ///         && made.distance_2(&row.2) == row.4
-    ///         && made.min_max_dist_2(&row.2) == row.5
-    /// }
-    /// // ..
-    /// ([0i8, -3], [2, 4], [5, 1], [2, 1], 9, 25),
-    /// ```
-    /// *`crates/rstar_base/src/tests/boxes.rt`*
+    /// The point of the box that is nearest to `point`. It is `point` itself where the box contains it, and
+    /// the upper corner where the box is empty.
     pub fn min_point(&self, point: &P) -> P
         ensures { table P.DIMENSIONS (P.coord result)
             ≡ nearest_point self.now (table P.DIMENSIONS (P.coord point.now)) }
@@ -450,8 +381,7 @@ impl<P: Point> AABB<P> {
         nearest_between(&self.lower, &self.upper, point)
     }
 
-    /// The squared distance to `min_point`, the nearest point of the box, held at the greatest scalar;
-    /// for the empty box that to all least scalars.
+    /// The squared distance to `min_point`. It is clamped to the greatest scalar.
     pub fn distance_2(&self, point: &P) -> P::Scalar
         ensures { P.Scalar.value result
             ≡ pos (box_distance P.Scalar.high self.now (table P.DIMENSIONS (P.coord point.now))) }
@@ -459,17 +389,7 @@ impl<P: Point> AABB<P> {
         Envelope::distance_2(self, point)
     }
 
-    /// The least box that contains two points: opposite corners, in any order.
-    ///
-    /// ```rust
-    /// fn has_corners<P: Point + Copy>(one: P, other: P, lower: P, upper: P) -> bool {
-    ///     AABB::from_corners(one, other) == boxed(lower, upper)
-    ///         && AABB::from_point(lower) == boxed(lower, lower)
-    /// }
-    /// // ..
-    /// has_corners([2i8, -3], [0, 4], [0, -3], [2, 4]),
-    /// ```
-    /// *`crates/rstar_base/src/tests/boxes.rt`*
+    /// The bounding box of two points. They are opposite corners, in any order.
     pub fn from_corners(p: P, q: P) -> Self
         ensures { result ≡ box_of_corners P.DIMENSIONS (P.coord p) (P.coord q) }
     {

@@ -1,3 +1,3 @@
-//! What searches are made of.
+//! The parts of a traversal.
 
 pub mod selection_functions;

@@ -1,4 +1,4 @@
-//! What is done on every axis of a point: made, tested, summed.
+//! Loops over the axes of a point.
 
 ghost use Rattle.std.specs.Prelude.{◌≡◌, ◌<◌, ℕ, ℤ, Bool, pos, min, unsigned_abs};
 ghost use Rattle.std.specs.Int.{int_min, int_max};
@@ -9,7 +9,7 @@ ghost use Rattle.rstar_base.specs.Sums.{sum_below, product_below};
 use crate::point::{Point, RTreeNum, greatest, least};
 use num_traits::{One, Zero};
 
-/// The point with the coordinates that a function gives.
+/// The point with the coordinates that a function returns.
 pub(crate) fn generated<P: Point, F: Fn(usize) -> P::Scalar + Drop>(f: F) -> P
     requires { (i : ℕ) → i < P.DIMENSIONS → F.pre f i }
     ensures coords { (to : ℕ → ℤ) → ((i : ℕ) (y : P.Scalar) → i < P.DIMENSIONS → F.post f i y → P.Scalar.value y ≡ to i)
@@ -22,8 +22,8 @@ pub(crate) fn generated<P: Point, F: Fn(usize) -> P::Scalar + Drop>(f: F) -> P
     P::generate(f)
 }
 
-/// Whether a test holds on every axis. All axes are tested, with no branch in between: which one fails is seldom
-/// foreseen.
+/// Whether a test holds on every axis. All axes are tested without a branch: which axis fails is hard to
+/// predict.
 pub(crate) fn every_axis<P: Point, F: Fn(usize) -> bool + Drop>(test: F) -> bool
     requires { (i : ℕ) → i < P.DIMENSIONS → F.pre test i }
     ensures { (t : ℕ → Bool) → ((i : ℕ) (b : Bool) → i < P.DIMENSIONS → F.post test i b → b ≡ t i)
@@ -36,7 +36,7 @@ pub(crate) fn every_axis<P: Point, F: Fn(usize) -> bool + Drop>(test: F) -> bool
     all
 }
 
-/// The clamped sum of a number for each axis.
+/// The sum of one number for each axis, clamped.
 pub(crate) fn clamped_sum<P: Point, F: Fn(usize) -> P::Scalar + Drop>(term: F) -> P::Scalar
     requires { (i : ℕ) → i < P.DIMENSIONS → F.pre term i }
     ensures { (to : ℕ → ℕ)
@@ -51,7 +51,7 @@ pub(crate) fn clamped_sum<P: Point, F: Fn(usize) -> P::Scalar + Drop>(term: F) -
     sum
 }
 
-/// The clamped product of a number for each axis, none of them negative.
+/// The product of one number for each axis, clamped. None of them is negative.
 pub(crate) fn clamped_product<P: Point, F: Fn(usize) -> P::Scalar + Drop>(factor: F) -> P::Scalar
     requires { (i : ℕ) → i < P.DIMENSIONS → F.pre factor i }
     ensures { (to : ℕ → ℕ)
@@ -81,7 +81,7 @@ pub(crate) fn copied_point<P: Point>(p: &P) -> P
     )
 }
 
-/// The coordinate-wise least of two points.
+/// The point of the lesser coordinates of two points.
 pub(crate) fn least_point<P: Point>(p: &P, q: &P) -> P
     ensures coords { (i : ℕ) → i < P.DIMENSIONS → P.coord result i ≡ int_min (P.coord p.now i) (P.coord q.now i) }
     ensures range { (i : ℕ) → i < P.DIMENSIONS → InRange P.Scalar.low P.Scalar.high (P.coord result i) }
@@ -96,7 +96,7 @@ pub(crate) fn least_point<P: Point>(p: &P, q: &P) -> P
     )
 }
 
-/// The coordinate-wise greatest of two points.
+/// The point of the greater coordinates of two points.
 pub(crate) fn greatest_point<P: Point>(p: &P, q: &P) -> P
     ensures coords { (i : ℕ) → i < P.DIMENSIONS → P.coord result i ≡ int_max (P.coord p.now i) (P.coord q.now i) }
     ensures range { (i : ℕ) → i < P.DIMENSIONS → InRange P.Scalar.low P.Scalar.high (P.coord result i) }
@@ -111,7 +111,7 @@ pub(crate) fn greatest_point<P: Point>(p: &P, q: &P) -> P
     )
 }
 
-/// The point with one coordinate everywhere.
+/// The point whose coordinates are all the same.
 pub(crate) fn filled<P: Point>(z: P::Scalar) -> P
     ensures coords { (i : ℕ) → i < P.DIMENSIONS → P.coord result i ≡ P.Scalar.value z }
     ensures whole { P.of_coords (table P.DIMENSIONS (P.coord result)) ≡ result }

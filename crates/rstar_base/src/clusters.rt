@@ -1,4 +1,4 @@
-//! Slabs of elements, for a load.
+//! Slabs of elements, for a bulk load.
 
 ghost use Rattle.std.specs.Prelude.{◌≡◌, ◌≢◌, ℕ, ◌+◌, ◌<◌, ◌≤◌, ◌^◌, ◌↔◌, [], length, vec_len, IfOk, OnErr, IsTrue, suc};
 ghost use Rattle.std.specs.Int.{div_ceil};
@@ -15,21 +15,12 @@ use crate::point::Point;
 use std::alloc::AllocError;
 use std::mem;
 
-/// Cuts a list of elements into slabs along one axis, those of the greatest keys first.
+/// Cuts a list of elements into slabs along one axis (Lee and Lee 2003). The slab of the greatest keys comes
+/// first.
 ///
-/// All slabs but the last have the same number of elements, and no element of a later slab has a
-/// greater `axis_key` than one of an earlier. Each slab is a list of its own. A refusal comes once and
-/// drops the rest; the last slab is the list that is left, so that it is never refused.
-///
-/// ```rust
-/// let mut slabs = ClusterGroupIterator::new(elements, clusters, axis);
-/// let mut are_so = true;
-/// for (length, key) in wanted {
-///     are_so = is_slab(&slabs.next(), axis, *length, *key) && are_so;
-/// }
-/// are_so && slabs.next().is_none() && slabs.cluster_dimension() == axis
-/// ```
-/// *`crates/rstar_base/src/tests/slabs.rt`*
+/// All slabs but the last have the same length, and no element of a later slab has a greater `axis_key` than
+/// one of an earlier slab. Each slab takes a list of its own, but for the last, which is never refused.
+/// After a refusal the other elements are dropped and the iterator ends.
 #[derive(Drop)]
 pub struct ClusterGroupIterator<T> {
     remaining: Vec<T>,
@@ -38,8 +29,8 @@ pub struct ClusterGroupIterator<T> {
 }
 
 impl<T: RTreeObject> ClusterGroupIterator<T> {
-    /// At most `clusters` slabs along an axis, each of the number of elements divided by `clusters`,
-    /// rounded up, but for the last. It takes no memory.
+    /// At most `clusters` slabs along an axis. A slab has the number of elements divided by `clusters`,
+    /// rounded up. It takes no memory.
     pub fn new(elements: Vec<T>, clusters: usize, axis: usize) -> Self
         requires clusters { 0 < clusters }
         requires axis { axis < T.Envelope.Point.DIMENSIONS }
@@ -57,7 +48,7 @@ impl<T: RTreeObject> ClusterGroupIterator<T> {
         }
     }
 
-    /// The axis along which the slabs lie.
+    /// The axis along which the slabs are cut.
     pub fn cluster_dimension(&self) -> usize
         ensures { result ≡ dimension_of self.now }
     {
@@ -111,7 +102,7 @@ impl<T: RTreeObject> Iterator for ClusterGroupIterator<T> {
     }
 }
 
-/// `partition_envelopes` of a `Vec`.
+/// `partition_envelopes` on a `Vec`.
 fn partition_list<T: RTreeObject>(axis: usize, list: &mut Vec<T>, k: usize)
     requires axis { axis < T.Envelope.Point.DIMENSIONS }
     requires place { k < vec_len list.old }
@@ -122,21 +113,11 @@ fn partition_list<T: RTreeObject>(axis: usize, list: &mut Vec<T>, k: usize)
     partition_envelopes(axis, list, k);
 }
 
-/// Into how many slabs a load of `n` elements cuts along each axis: so many that with all axes the
-/// parts are at most the subtrees that `n` elements fill. A load cuts into 2 where it is 1.
+/// How many slabs a bulk load of `n` elements cuts along each axis. The load takes 2 where this is 1 (Lee
+/// and Lee 2003).
 ///
-/// It counts in whole numbers, exactly, for every `n`.
-///
-/// ```rust
-/// for &(count, clusters) in &ROWS {
-///     assert!(rt;
-///         count > 6
-///             && calculate_number_of_clusters_on_axis::<[i32; 2], DefaultParams>(count)
-///                 == clusters
-///     );
-/// }
-/// ```
-/// *`crates/rstar_base/src/tests/slabs.rt`*
+/// It is the root, with the number of axes as its degree and rounded down, of the number of subtrees that
+/// `n` elements fill. It is exact for every `n`.
 pub fn calculate_number_of_clusters_on_axis<T: RTreeObject, Params: RTreeParams>(n: usize) -> usize
     requires large { Params.MAX_SIZE < n }
     requires axes { 2 ≤ T.Envelope.Point.DIMENSIONS }

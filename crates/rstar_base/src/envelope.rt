@@ -1,4 +1,4 @@
-//! Envelopes: what a tree keeps of the elements below a parent.
+//! Envelopes: the bounding shapes that a tree keeps.
 
 ghost use Rattle.std.specs.Prelude.{◌≡◌, ◌↔◌, ◌<◌, ℕ, ℤ, ⊤, true, IsTrue, pos, if◌then◌else◌};
 ghost use Rattle.rstar_base.specs.Points.{table, IsPoint};
@@ -13,90 +13,40 @@ use std::alloc::AllocError;
 use std::fmt::Debug;
 use std::marker::Model;
 
-/// An envelope: something that covers elements, as a box does.
+/// A bounding shape that a tree keeps for each parent. `AABB` is the one for boxes.
 ///
-/// A tree skips what an envelope rules out, and is right to by the laws that the type proves
-/// (`envelope_laws`, `eq_law`): merging is commutative and associative, with the empty envelope as its
-/// unit; a merge contains both parts; where neither part is empty, it is no farther than either, and its
-/// `min_max_dist_2` is at least the lesser of theirs. `AABB` is the envelope of boxes; a type of a
-/// user's own proves the same laws. All distances are squared, and a call takes no memory.
-///
-/// ```rust
-/// impl Envelope for Stretch {
-///     type Point = [i64; 1];
-///     ghost boxes = { stretch_data };
-///     // ..
-///     fn is_empty(&self) -> bool {
-///         self.to < self.from
-///     }
-///     // ..
-///     ghost envelope_laws = { stretch_laws };
-///     ghost eq_law = { λ a b _ _. stretch_eq a b };
-/// }
-/// ```
-/// *`crates/rstar_vectors/src/interval.rt`*
+/// A type proves its laws (`envelope_laws`, `eq_law`). Merging is commutative and associative, and the empty
+/// envelope is its unit. A merge contains both parts and is no farther than either that is not empty. Its
+/// `min_max_dist_2` is at least the lesser of theirs. Pruning is right by these laws. Distances are squared,
+/// and no call takes memory.
 pub trait Envelope: Clone + PartialEq + Debug + Drop {
-    /// The type of its points.
+    /// The type of the points.
     type Point: Point;
 
     // The type in numbers.
     ghost boxes: { Boxes Self };
 
-    /// The envelope of nothing, which changes nothing that it is merged with.
-    ///
-    /// ```rust
-    /// let rows: [(AABB<[i64; 2]>, usize, usize); 3] = [
-    ///     (AABB::from_point([1, 2]), 1, 2),
-    ///     (AABB::from_corners([0, 0], [2, 2]), 1, 2),
-    ///     (AABB::new_empty(), 0, 0),
-    /// ];
-    /// ```
-    /// *`crates/rstar_base/src/tests/boxes.rt`*
+    /// The empty envelope, the unit of merging.
     fn new_empty() -> Self
         ensures { result ≡ boxes.empty };
 
-    /// Whether it is the envelope of nothing. An element in a tree has one that is not.
+    /// Whether the envelope is empty. No element in a tree has an empty envelope.
     fn is_empty(&self) -> bool
         ensures test { result ≡ boxes.is_empty self.now }
         ensures own { boxes.IsValue self.now };
 
-    /// Whether it contains a point.
-    ///
-    /// ```rust
-    /// fn have_points<P: Point + Copy>(rows: &[((P, P), P, bool, bool)]) -> bool {
-    ///     for (corners, point, contained, empty) in rows {
-    ///         let made = boxed(corners.0, corners.1);
-    ///         if made.contains_point(point) != *contained || made.is_empty() != *empty {
-    ///             return false;
-    ///         }
-    ///     }
-    ///     true
-    /// }
-    /// // ..
-    /// (([0i64, 0], [4, 5]), [4, 0], true, false),
-    /// ```
-    /// *`crates/rstar_base/src/tests/boxes.rt`*
+    /// Whether the envelope contains a point.
     fn contains_point(&self, point: &Self::Point) -> bool
         ensures test { result
             ≡ boxes.contains_point self.now (table Self.Point.DIMENSIONS (Self.Point.coord point.now)) }
         ensures own { boxes.IsValue self.now };
 
-    /// Whether it contains an envelope, borders included.
+    /// Whether the envelope contains another one. Borders belong to it.
     fn contains_envelope(&self, other: &Self) -> bool
         ensures test { result ≡ boxes.contains self.now other.now }
         ensures own { boxes.IsValue self.now × boxes.IsValue other.now };
 
-    /// Takes another envelope into this one.
-    ///
-    /// ```rust
-    /// let answers = one.intersects(other) == intersects
-    ///     && one.contains_envelope(other) == contains
-    ///     && one.intersection_area(other) == *shared
-    ///     && one.merged(other) == *merge;
-    /// one.merge(other);
-    /// answers && *one == *merge
-    /// ```
-    /// *`crates/rstar_base/src/tests/boxes.rt`*
+    /// Merges another envelope into this one.
     fn merge(&mut self, other: &Self)
         ensures merged { self.new ≡ boxes.merge self.old other.now }
         ensures own { boxes.IsValue self.old × boxes.IsValue other.now };
@@ -106,62 +56,45 @@ pub trait Envelope: Clone + PartialEq + Debug + Drop {
         ensures merged { result ≡ boxes.merge self.now other.now }
         ensures own { boxes.IsValue self.now × boxes.IsValue other.now };
 
-    /// Whether it intersects an envelope; for boxes, touching is enough.
+    /// Whether two envelopes intersect. Boxes that touch intersect.
     fn intersects(&self, other: &Self) -> bool
         ensures test { result ≡ boxes.intersects self.now other.now }
         ensures own { boxes.IsValue self.now × boxes.IsValue other.now };
 
-    /// The squared distance to a point: no element that it covers is nearer.
+    /// The squared distance to a point. No element inside the envelope is nearer.
     fn distance_2(&self, point: &Self::Point) -> <Self::Point as Point>::Scalar
         ensures value { Self.Point.Scalar.value result
             ≡ pos (boxes.distance_2 self.now (table Self.Point.DIMENSIONS (Self.Point.coord point.now))) }
         ensures own { boxes.IsValue self.now };
 
-    /// The squared distance within which an element lies, where the envelope is the merge of elements' envelopes
-    /// (MINMAXDIST of Roussopoulos, Kelley and Vincent 1995).
-    ///
-    /// ```rust
-    /// let place = [6950i64, 2207, 8186];
-    /// let boxed = AABB::from_corners([7018, 2121, 8120], [7297, 2302, 8194]);
-    /// let corner = [7018, 2302, 8120].distance_2(&place);
-    /// assert!(rt; boxed.min_max_dist_2(&place) == 18005 && corner == 18005);
-    /// ```
-    /// *`crates/rstar_base/src/tests/boxes.rt`*
+    /// MINMAXDIST: a squared distance within which some element lies (Roussopoulos et al. 1995). The
+    /// envelope is the merge of elements' envelopes.
     fn min_max_dist_2(&self, point: &Self::Point) -> <Self::Point as Point>::Scalar
         ensures value { Self.Point.Scalar.value result
             ≡ pos (boxes.min_max_dist_2 self.now (table Self.Point.DIMENSIONS (Self.Point.coord point.now))) }
         ensures own { boxes.IsValue self.now };
 
-    /// The size of what it covers, held at the greatest scalar.
-    ///
-    /// ```rust
-    /// 1 < <E::Point as Point>::DIMENSIONS
-    ///     && made.area() == *area
-    ///     && made.perimeter_value() == *perimeter
-    ///     && made.center() == *center
-    ///     && made.axis_key(1) == *key
-    /// ```
-    /// *`crates/rstar_base/src/tests/boxes.rt`*
+    /// The area. It is clamped to the greatest scalar.
     fn area(&self) -> <Self::Point as Point>::Scalar
         ensures value { Self.Point.Scalar.value result ≡ pos (boxes.area self.now) }
         ensures own { boxes.IsValue self.now };
 
-    /// The size of what two envelopes share, held at the greatest scalar.
+    /// The area of the intersection. It is clamped to the greatest scalar.
     fn intersection_area(&self, other: &Self) -> <Self::Point as Point>::Scalar
         ensures value { Self.Point.Scalar.value result ≡ pos (boxes.intersection_area self.now other.now) }
         ensures own { boxes.IsValue self.now × boxes.IsValue other.now };
 
-    /// Its middle.
+    /// The center.
     fn center(&self) -> Self::Point
         ensures coords { table Self.Point.DIMENSIONS (Self.Point.coord result) ≡ boxes.center self.now }
         ensures own { boxes.IsValue self.now };
 
-    /// A number that grows with its perimeter, by which the axis of a split is chosen.
+    /// A number that grows with the perimeter. A split chooses its axis by it.
     fn perimeter_value(&self) -> <Self::Point as Point>::Scalar
         ensures value { Self.Point.Scalar.value result ≡ pos (boxes.perimeter self.now) }
         ensures own { boxes.IsValue self.now };
 
-    /// The number by which envelopes are sorted on an axis below `DIMENSIONS`; of a box its lower coordinate.
+    /// The sort key on an axis below `DIMENSIONS`. For a box it is the lower coordinate.
     fn axis_key(&self, axis: usize) -> <Self::Point as Point>::Scalar
         requires { axis < Self.Point.DIMENSIONS }
         ensures value { Self.Point.Scalar.value result ≡ boxes.axis_key self.now axis }
@@ -174,19 +107,7 @@ pub trait Envelope: Clone + PartialEq + Debug + Drop {
     ghost eq_law: { (a b : Self) → boxes.IsValue a → boxes.IsValue b → IsTrue (Self.eq a b) ↔ (a ≡ b) };
 }
 
-/// A copy of an envelope, which takes no memory.
-///
-/// ```rust
-/// let mut all = copied_envelope(&empty);
-/// all.merge(&Stretch::new(i64::MIN, i64::MAX, 1));
-/// assert!(rt;
-///     empty.is_empty()
-///         && empty.area() == 0
-///         && all == Stretch::new(i64::MIN, i64::MAX, 1)
-///         && all.area() == i64::MAX
-/// );
-/// ```
-/// *`crates/rstar_vectors/src/interval.rt`*
+/// A copy of an envelope. It takes no memory.
 pub fn copied_envelope<E: Envelope>(e: &E) -> E
     ensures same { result ≡ e.now }
     ensures own { E.boxes.IsValue e.now }
@@ -194,23 +115,11 @@ pub fn copied_envelope<E: Envelope>(e: &E) -> E
     E::new_empty().merged(e)
 }
 
-/// A box with a count: a box of its own counts once, and merging adds the counts, held at the greatest `usize`.
+/// A bounding box with a count. A box made by `new` counts once, and merging adds the counts.
 ///
-/// So a parent of a tree over such envelopes tells how many elements lie below it. The count is 0 for the empty box
-/// alone (`count` says more). Everything else is as of the box; equality compares box and count. A copy takes no
-/// memory.
-///
-/// ```rust
-/// impl<P: Point> RTreeObject for Place<P> {
-///     type Envelope = Counted<P>;
-///     // ..
-///     fn envelope(&self) -> Counted<P> {
-///         Counted::new(self.at.envelope())
-///     }
-///     // ..
-/// }
-/// ```
-/// *`crates/rstar_vectors/src/counted.rt`*
+/// A parent in a tree of such envelopes knows how many elements lie below it. Counts are clamped to the
+/// greatest `usize`. Only the empty box counts 0. Equality compares box and count; every other call answers
+/// for the box.
 #[derive(Copy, Debug, PartialEq, Eq, Drop)]
 pub struct Counted<P: Point> {
     aabb: AABB<P>,
@@ -247,14 +156,7 @@ impl<P: Point> Clone for Counted<P> {
 }
 
 impl<P: Point> Counted<P> {
-    /// A box that counts once; the empty box, where there is an axis, counts 0.
-    ///
-    /// ```rust
-    /// for &(aabb, count, twice) in &rows {
-    ///     assert!(rt; merges(&Counted::new(aabb), &aabb, count, twice));
-    /// }
-    /// ```
-    /// *`crates/rstar_base/src/tests/boxes.rt`*
+    /// A box that counts once. The empty box counts 0 where there is an axis.
     pub fn new(aabb: AABB<P>) -> Self
         ensures { result ≡ (aabb, if is_empty_box aabb then 0 else 1) }
     {
@@ -269,15 +171,8 @@ impl<P: Point> Counted<P> {
         &self.aabb
     }
 
-    /// How many boxes were merged, held at the greatest `usize`. Where there is an axis, it is 0 exactly where the box
-    /// is empty.
-    ///
-    /// ```rust
-    /// fn has_count<P: Point>(counted: &Counted<P>, aabb: &AABB<P>, count: usize) -> bool {
-    ///     *counted.aabb() == *aabb && counted.count() == count && counted.is_empty() == (count == 0)
-    /// }
-    /// ```
-    /// *`crates/rstar_base/src/tests/boxes.rt`*
+    /// The number of boxes merged. It is clamped to the greatest `usize`. Where there is an axis it is 0
+    /// exactly when the box is empty.
     pub fn count(&self) -> usize
         ensures value { result ≡ self.now.1 }
         ensures none { 0 < P.DIMENSIONS → (result ≡ 0) ↔ (is_empty_box self.now.0 ≡ true) }

@@ -14,24 +14,13 @@ use arrayvec::ArrayVec;
 use std::alloc::{AllocError, Global};
 use std::marker::Model;
 
-/// How many items lie inline.
+/// The number of inline places.
 const INLINE: usize = 32;
 
-/// A priority queue: `pop` takes out a greatest item, whatever was put in between.
+/// A priority queue: `pop` removes a greatest item.
 ///
-/// Up to 32 items lie inline, in order, the greatest last. An item that finds no place there goes into a binary heap in
-/// a list of its own. So with at most 31 items held, a push takes no memory, also after the list was used.
-///
-/// ```rust
-/// let mut heap = SmallHeap::new(alloc);
-/// for step in steps {
-///     if !goes(&mut heap, step) {
-///         return false;
-///     }
-/// }
-/// true
-/// ```
-/// *`crates/rstar_base/src/tests/heaps.rt`*
+/// Up to 32 items lie inline, sorted, the greatest last. Further items go into a binary heap. A push takes
+/// no memory while at most 31 items are held.
 #[derive(Drop)]
 pub struct SmallHeap<T> {
     // Each place that is taken holds an item.
@@ -54,7 +43,7 @@ impl<T> Model for SmallHeap<T> {
 }
 
 impl<T: Ord + Drop> SmallHeap<T> {
-    /// A heap of nothing. It takes no memory.
+    /// An empty queue. It takes no memory.
     pub fn new(alloc: Global) -> Self
         ensures none { items_of result ≡ [] }
         ensures ordered { IsOrdered T.cmp result }
@@ -67,17 +56,7 @@ impl<T: Ord + Drop> SmallHeap<T> {
 
     /// Adds an item. A refusal hands it back and changes nothing; with at most 31 items held there is none.
     ///
-    /// It costs a comparison with each inline item that is greater, or those of a push on a binary heap.
-    ///
-    /// ```rust
-    /// for number in from..end {
-    ///     if heap.push(number).is_err() {
-    ///         return false;
-    ///     }
-    /// }
-    /// true
-    /// ```
-    /// *`crates/rstar_base/src/tests/heaps.rt`*
+    /// It costs a comparison with each greater inline item, or a push on the binary heap.
     pub fn push(&mut self, item: T) -> Result<(), T>
         requires { IsOrdered T.cmp self.old }
         ensures ordered { IsOrdered T.cmp self.new }
@@ -99,17 +78,7 @@ impl<T: Ord + Drop> SmallHeap<T> {
         }
     }
 
-    /// Takes out a greatest item, `None` exactly where there is none. It takes no memory.
-    ///
-    /// ```rust
-    /// for number in (end..from.saturating_add(1)).rev() {
-    ///     if heap.pop() != Some(number) {
-    ///         return false;
-    ///     }
-    /// }
-    /// true
-    /// ```
-    /// *`crates/rstar_base/src/tests/heaps.rt`*
+    /// Removes a greatest item. `None` comes exactly where the queue is empty. It takes no memory.
     pub fn pop(&mut self) -> Option<T>
         requires { IsOrdered T.cmp self.old }
         ensures ordered { IsOrdered T.cmp self.new }
@@ -125,19 +94,9 @@ impl<T: Ord + Drop> SmallHeap<T> {
         }
     }
 
-    /// Adds all items, or none where memory is refused; then the iterator is dropped.
+    /// Adds all items, or none where memory is refused. Then the iterator is dropped.
     ///
-    /// It takes memory once, before the first item, for those that find no inline place.
-    ///
-    /// ```rust
-    /// match step {
-    ///     Step::Push(from, end) => pushes(heap, *from, *end),
-    ///     Step::Extend(from, end) => heap.extend(*from..*end).is_ok(),
-    ///     Step::Pop(from, end) => pops_down(heap, *from, *end),
-    ///     Step::End => heap.pop().is_none(),
-    /// }
-    /// ```
-    /// *`crates/rstar_base/src/tests/heaps.rt`*
+    /// Memory is taken once, before the first item is added.
     pub fn extend<I: ExactSizeIterator<Item = T> + Drop>(
         &mut self,
         iter: I,
@@ -180,7 +139,7 @@ fn put<T: Ord + Drop>(inline: &mut ArrayVec<Option<T>, 32>, rest: &mut Vec<T>, i
     }
 }
 
-/// Adds an item where a place is free.
+/// Adds an item to the inline ones, of which one place is free.
 fn put_inline<T: Ord + Drop>(inline: &mut ArrayVec<Option<T>, 32>, item: T)
     requires filled { IsFilled inline.old }
     requires free { length inline.old.items < 32 }
@@ -194,8 +153,8 @@ fn put_inline<T: Ord + Drop>(inline: &mut ArrayVec<Option<T>, 32>, item: T)
     put_in_order(inline.as_mut_slice(), item);
 }
 
-/// Puts an item into a list that rises and whose last place is free. Those that are greater move one place up, each into
-/// the place that is free then, so that none is written twice.
+/// Inserts an item into a sorted list whose last place is free. Each greater item moves up by one place, so
+/// no place is written twice.
 fn put_in_order<T: Ord + Drop>(items: &mut [Option<T>], item: T)
     requires { 0 < length items.old }
     ensures { (front : List (Option T)) → items.old ≡ front ++ None ∷ [] → (at : ℕ)
@@ -210,7 +169,7 @@ fn put_in_order<T: Ord + Drop>(items: &mut [Option<T>], item: T)
     items[at] = Some(item);
 }
 
-/// Whether an item is less than that of a place.
+/// Whether an item is less than the item of a place.
 fn is_less_than<T: Ord>(item: &T, place: &Option<T>) -> bool
     ensures { result ≡ is_lt (option_cmp T.cmp (Some item.now) place.now) }
 {
@@ -220,7 +179,7 @@ fn is_less_than<T: Ord>(item: &T, place: &Option<T>) -> bool
     }
 }
 
-/// Makes room for an item. Where there is none it is made for as many as lie inline, so that few items come to move.
+/// Makes room for an item: for 32 more where there is none, so that items seldom move.
 fn make_room<T>(rest: &mut Vec<T>) -> Result<(), AllocError>
     ensures items { rest.new.items ≡ rest.old.items }
     ensures room { OnOk result (vec_len rest.new < vec_capacity rest.new) }
@@ -231,7 +190,7 @@ fn make_room<T>(rest: &mut Vec<T>) -> Result<(), AllocError>
     rest.reserve(INLINE)
 }
 
-/// Adds an item for which there is room.
+/// Adds an item to the binary heap, which has room.
 fn put_in_heap<T: Ord>(rest: &mut Vec<T>, item: T)
     requires heap { IsHeap T.cmp rest.old.items }
     requires room { vec_len rest.old < vec_capacity rest.old }
@@ -245,7 +204,7 @@ fn put_in_heap<T: Ord>(rest: &mut Vec<T>, item: T)
     sift_up(rest.as_mut_slice(), at);
 }
 
-/// Whether the first of a binary heap is greater than all items of a list that rises.
+/// Whether the first item of a binary heap is greater than all items of a sorted list.
 fn is_above_all<T: Ord>(others: &[T], items: &[Option<T>]) -> bool
     requires full { AllByRecursion IsSome items.now }
     requires rises { Rises T.cmp (present items.now) }
@@ -266,7 +225,7 @@ fn is_above_all<T: Ord>(others: &[T], items: &[Option<T>]) -> bool
     }
 }
 
-/// Takes out the last inline item.
+/// Removes the last inline item.
 fn take_last<T: Drop>(inline: &mut ArrayVec<Option<T>, 32>) -> Option<T>
     requires { IsFilled inline.old }
     ensures filled { IsFilled inline.new }
@@ -277,7 +236,7 @@ fn take_last<T: Drop>(inline: &mut ArrayVec<Option<T>, 32>) -> Option<T>
     inline.pop().flatten()
 }
 
-/// Takes out the greatest item of a binary heap.
+/// Removes the greatest item of a binary heap.
 fn take_greatest<T: Ord>(rest: &mut Vec<T>) -> T
     requires heap { IsHeap T.cmp rest.old.items }
     requires some { 0 < vec_len rest.old }
@@ -299,7 +258,7 @@ fn is_less<X: Ord>(items: &[X], a: usize, b: usize) -> bool
     items[a].cmp(&items[b]).is_lt()
 }
 
-/// Moves the item at a place up, past those that it is greater than.
+/// Moves the item at a place up past those that are less.
 fn sift_up<X: Ord>(items: &mut [X], start: usize)
     requires { start < length items.old }
     ensures same { IsPermutation items.old items.new }
@@ -313,7 +272,7 @@ fn sift_up<X: Ord>(items: &mut [X], start: usize)
     }
 }
 
-/// Moves the first item down, past those that are greater.
+/// Moves the first item down past those that are greater.
 fn sift_down<X: Ord>(items: &mut [X])
     ensures same { IsPermutation items.old items.new }
     ensures sinks { SiftsDown X.cmp items.old 0 (length items.old) items.new }
@@ -330,7 +289,7 @@ fn sift_down<X: Ord>(items: &mut [X])
     }
 }
 
-/// The place of the greater of the items right below one.
+/// The place of the greater child of an item.
 fn greater_child<X: Ord>(items: &[X], at: usize) -> usize
     requires { at * 2 + 1 < length items.now }
     ensures bound { (result < length items.now) × (at * 2 + 1 ≤ result) × (result ≤ at * 2 + 2) }

@@ -1,4 +1,4 @@
-//! The base of an R*-tree whose answers are proved: scalars, points, boxes and elements.
+//! The base of an R*-tree with proved answers: scalars, points, bounding boxes and elements.
 #![tactic(auto)]
 
 pub mod aabb;

@@ -7,15 +7,6 @@ ghost use Rattle.rstar_base.specs.laws.TupleLemmas.{tuple-forth, tuple-with, tup
 use crate::point::{Point, RTreeNum};
 
 /// A point with two coordinates.
-///
-/// ```rust
-/// let mut p = [1, 2];
-/// let mut q = Point2 { x: 3, y: 4 };
-/// let mut t = (5, 6);
-/// moved(&mut p, &mut q, &mut t);
-/// assert!(rt; p == [7, 2] && q == Point2 { x: 7, y: 4 } && t == (7, 6));
-/// ```
-/// *`crates/rstar_base/src/tests/generic.rt`*
 #[derive(Clone, Copy, Debug, PartialEq, Eq, Drop)]
 pub struct Point2<T> {
     /// The first coordinate.
@@ -25,17 +16,6 @@ pub struct Point2<T> {
 }
 
 /// A point with three coordinates.
-///
-/// ```rust
-/// let third = Point3 {
-///     x: 1i128,
-///     y: 2,
-///     z: 3,
-/// };
-/// // ..
-/// reads_and_writes(third, &[1, 2, 3], 2),
-/// ```
-/// *`crates/rstar_base/src/tests/points.rt`*
 #[derive(Clone, Copy, Debug, PartialEq, Eq, Drop)]
 pub struct Point3<T> {
     /// The first coordinate.

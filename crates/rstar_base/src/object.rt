@@ -1,4 +1,4 @@
-//! Elements.
+//! Elements of a tree.
 
 ghost use Rattle.std.specs.Prelude.{◌≡◌, ◌<◌, ℕ, ℤ, List, Bool, true, pos, int_le, length};
 ghost use Rattle.std.specs.Ordering.{int_cmp};
@@ -21,37 +21,13 @@ use std::cmp::Ordering;
 use std::rc::Rc;
 
 /// The point type of an element type.
-///
-/// ```rust
-/// fn is_nothing<T: PointDistance>(element: &T, point: &PointOf<T>) -> bool {
-///     element.envelope().is_empty() && !element.contains_point(point)
-/// }
-/// ```
-/// *`crates/rstar_base/src/tests/elements.rt`*
 pub type PointOf<T> = <<T as RTreeObject>::Envelope as Envelope>::Point;
 
-/// A squared distance of an element type: the scalar of its points.
-///
-/// ```rust
-/// pub(crate) fn scanned<T: PointDistance>(
-///     alloc: Global,
-///     elements: &[T],
-///     place: &PointOf<T>,
-/// ) -> Vec<Distance<T>> {
-///     let mut all = Vec::new(alloc);
-///     for element in elements {
-///         let _refused = all.push(element.distance_2(place)).is_err();
-///     }
-///     all.sort_unstable();
-///     all
-/// }
-/// ```
-/// *`crates/rstar_vectors/src/neighbour_rows.rt`*
+/// The type of an element's squared distances. It is the scalar of its points.
 pub type Distance<T> = <<<T as RTreeObject>::Envelope as Envelope>::Point as Point>::Scalar;
 
-/// An element of a tree: something with an envelope.
-///
-/// The law: the envelope of each element in hand is a value of its type.
+/// An element of a tree: a value with an envelope. A type proves that the envelope is a valid one
+/// (`object_law`).
 ///
 /// ```rust
 /// impl<P: Point> RTreeObject for Doors<P> {
@@ -67,19 +43,19 @@ pub type Distance<T> = <<<T as RTreeObject>::Envelope as Envelope>::Point as Poi
 /// ```
 /// *`crates/rstar_vectors/src/doors.rt`*
 pub trait RTreeObject: Drop {
-    /// The type of its envelope.
+    /// The type of the envelopes.
     type Envelope: Envelope;
 
     // Which are values, and the envelope of each.
     ghost object: { Objects Self Self.Envelope };
 
-    /// The envelope: the least that contains the element.
+    /// The envelope of the element.
     fn envelope(&self) -> Self::Envelope
         ensures value { result ≡ object.box_of self.now }
         ensures own { object.IsValue self.now };
 
-    /// The `axis_key` of its envelope, by which loads and splits order elements. As provided it makes the envelope; a type
-    /// that has the number at hand answers it alone.
+    /// The `axis_key` of the envelope. Loads and splits sort by it. A type may override it to skip making
+    /// the envelope.
     fn axis_key(&self, axis: usize) -> <<Self::Envelope as Envelope>::Point as Point>::Scalar
         requires { axis < Self.Envelope.Point.DIMENSIONS }
         ensures { Self.Envelope.Point.Scalar.value result
@@ -91,27 +67,11 @@ pub trait RTreeObject: Drop {
     ghost object_law: { ObjectLaws Self.Envelope.boxes object };
 }
 
-/// An element with a distance to each point.
+/// An element with a distance to each point. Distances are squared.
 ///
-/// All distances are squared. The laws, at every point and for an element whose envelope is not
-/// empty: its distance is at least that of its envelope, and at most the envelope's
-/// `min_max_dist_2`. And where an element contains a point, its envelope contains it.
-///
-/// ```rust
-/// impl<P: Point> PointDistance for Doors<P> {
-///     ghost distances = { doors_distances P.Scalar.high P.DIMENSIONS (λ d. P.coord d.front) (λ d. P.coord d.back) };
-///     // ..
-///     fn distance_2(&self, point: &P) -> P::Scalar {
-///         least(self.front.distance_2(point), self.back.distance_2(point))
-///     }
-///     fn contains_point(&self, point: &P) -> bool {
-///         self.front.contains_point(point) || self.back.contains_point(point)
-///     }
-///     ghost distance_laws = { doors_laws P.Scalar.low P.Scalar.high P.DIMENSIONS (λ d. P.coord d.front)
-///         (λ d. P.coord d.back) P.Scalar.low_law P.Scalar.high_law };
-/// }
-/// ```
-/// *`crates/rstar_vectors/src/doors.rt`*
+/// A type proves three laws for elements whose envelopes are not empty (`distance_laws`). The distance is at
+/// least that of the envelope. It is at most the envelope's `min_max_dist_2`. Where the element contains a
+/// point, its envelope does.
 pub trait PointDistance: RTreeObject {
     // The distance to a point, and whether a point is contained.
     ghost distances: { Distances Self };
@@ -125,24 +85,16 @@ pub trait PointDistance: RTreeObject {
             ≡ pos (distances.distance_2 self.now
             (table Self.Envelope.Point.DIMENSIONS (Self.Envelope.Point.coord point.now))) };
 
-    /// Whether the element contains a point. For an element that contains exactly the points at
-    /// distance 0 the body is a call of `contains_by_distance`.
+    /// Whether the element contains a point. A type that contains exactly the points at distance 0 calls
+    /// `contains_by_distance`.
     fn contains_point(&self, point: &<Self::Envelope as Envelope>::Point) -> bool
         ensures { result
             ≡ distances.contains_point self.now
             (table Self.Envelope.Point.DIMENSIONS (Self.Envelope.Point.coord point.now)) };
 
-    /// The squared distance to a point where it is at most `max_distance_2`, and else `None`.
+    /// The squared distance to a point where it is at most a limit, else `None`.
     ///
-    /// As provided, an element whose envelope is farther than that is not asked for its distance.
-    ///
-    /// ```rust
-    /// element.contains_point(point) == contained
-    ///     && element.distance_2(point) == distance
-    ///     && element.distance_2_if_less_or_equal(point, below).is_none()
-    ///     && element.distance_2_if_less_or_equal(point, distance) == Some(distance)
-    /// ```
-    /// *`crates/rstar_base/src/tests/elements.rt`*
+    /// The provided body does not compute the distance where the envelope is already farther.
     fn distance_2_if_less_or_equal(
         &self,
         point: &<Self::Envelope as Envelope>::Point,
@@ -167,32 +119,21 @@ pub trait PointDistance: RTreeObject {
         Self.Envelope.boxes Self.object distances };
 }
 
-/// Elements of which equal ones have equal envelopes, so that a search for an element can skip
-/// what its envelope rules out. It has no methods: to implement it is to prove the law.
-///
-/// ```rust
-/// fn alike<T: EqualEnvelopes>(a: &T, b: &T) -> bool
-///     ensures { IsTrue result → T.object.box_of a.now ≡ T.object.box_of b.now }
-/// {
-///     let _a = a.envelope();
-///     let _b = b.envelope();
-///     a == b
-/// }
-/// ```
-/// *`crates/rstar_base/src/tests/generic.rt`*
+/// Elements of which equal ones have equal envelopes. It has no methods: to implement it is to prove that
+/// law. Searches for an element prune by it.
 pub trait EqualEnvelopes: RTreeObject + PartialEq {
     ghost equal_law: { EqualLaws Self.eq Self.object };
 }
 
-/// Whether a squared distance is at most 0. With `self.distance_2(point)` it is the body of
-/// `contains_point` of an element that contains exactly the points at distance 0.
+/// Whether a squared distance is at most 0. It is the body of `contains_point` for an element that contains
+/// exactly the points at distance 0.
 pub fn contains_by_distance<S: RTreeNum>(distance_2: S) -> bool
     ensures { result ≡ int_le (S.value distance_2) (pos 0) }
 {
     not_above(distance_2, S::zero())
 }
 
-/// The distance where it is at most the limit, and else `None`.
+/// The distance where it is at most the limit, else `None`.
 pub fn up_to<S: RTreeNum>(distance_2: S, max_distance_2: S) -> Option<S>
     ensures { (d : ℕ) → S.value distance_2 ≡ pos d → IsDistanceUpTo S.value (S.value max_distance_2) d result }
 {
@@ -295,7 +236,7 @@ impl<T: EqualEnvelopes> EqualEnvelopes for Rc<T> {
     ghost equal_law = { λ s t h k e. T.equal_law s.value t.value h k e };
 }
 
-/// The merge of the envelopes of all elements, each asked once; of none, the empty envelope.
+/// The merge of the envelopes of all elements. Of none it is the empty envelope.
 pub fn envelope_of_all<T: RTreeObject>(list: &[T]) -> T::Envelope
     ensures hull { result ≡ hull T.Envelope.boxes T.object.box_of list.now }
     ensures own { AllByRecursion T.object.IsValue list.now }
@@ -307,7 +248,7 @@ pub fn envelope_of_all<T: RTreeObject>(list: &[T]) -> T::Envelope
     all
 }
 
-/// How two elements compare by the `axis_key` of their envelopes.
+/// The order of two elements by `axis_key`.
 fn compare_on_axis<T: RTreeObject>(axis: usize, a: &T, b: &T) -> Ordering
     requires { axis < T.Envelope.Point.DIMENSIONS }
     ensures { result ≡ int_cmp (T.Envelope.boxes.axis_key (T.object.box_of a.now) axis)
@@ -316,17 +257,7 @@ fn compare_on_axis<T: RTreeObject>(axis: usize, a: &T, b: &T) -> Ordering
     a.axis_key(axis).cmp(&b.axis_key(axis))
 }
 
-/// Puts the elements in an order that rises by the `axis_key` of their envelopes. It takes no
-/// memory, and about n log n calls of `envelope`.
-///
-/// ```rust
-/// sort_envelopes(0, elements);
-/// if elements.len() < 2 || *elements != *sorted {
-///     return false;
-/// }
-/// partition_envelopes(1, elements, 1);
-/// ```
-/// *`crates/rstar_base/src/tests/elements.rt`*
+/// Sorts the elements by `axis_key`. It takes no memory and about n log n calls of `axis_key`.
 pub fn sort_envelopes<T: RTreeObject>(axis: usize, list: &mut [T])
     requires { axis < T.Envelope.Point.DIMENSIONS }
     ensures same { IsPermutation list.old list.new }
@@ -341,19 +272,8 @@ pub fn sort_envelopes<T: RTreeObject>(axis: usize, list: &mut [T])
     );
 }
 
-/// Reorders the elements so that, by the `axis_key` of their envelopes, none before place `k` is
-/// greater than the one at `k`, and none after it is smaller. It takes no memory.
-///
-/// ```rust
-/// fn are_split(points: &mut [[i32; 2]], k: usize) -> bool {
-///     if points.len() <= k {
-///         return false;
-///     }
-///     partition_envelopes(0, points, k);
-///     is_split(points, k)
-/// }
-/// ```
-/// *`crates/rstar_base/src/tests/slabs.rt`*
+/// Partitions the elements around place `k`, by `axis_key`. No element before it has a greater key, and none
+/// after it a smaller one. It takes no memory.
 pub fn partition_envelopes<T: RTreeObject>(axis: usize, list: &mut [T], k: usize)
     requires axis { axis < T.Envelope.Point.DIMENSIONS }
     requires place { k < length list.old }

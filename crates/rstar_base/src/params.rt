@@ -1,4 +1,4 @@
-//! How many children a parent may have.
+//! Node sizes.
 
 ghost use Rattle.std.specs.Prelude.{ℕ, IsTrue, ◌↔◌, ◌+◌, ◌*◌, ◌<◌, ◌≤◌, ◌^◌};
 ghost use Rattle.rstar_base.specs.NodeSizes.{AreNodeSizes};
@@ -7,24 +7,7 @@ use crate::envelope::Envelope;
 use crate::object::RTreeObject;
 use crate::point::Point;
 
-/// The sizes of a tree's nodes. Their bounds are laws, so a type that breaks one is no `RTreeParams`.
-///
-/// A type that implements it is a choice of the three numbers; no value of it is ever made.
-///
-/// ```rust
-/// impl RTreeParams for Small {
-///     // ..
-///     ghost MIN_SIZE = { 2 };
-///     ghost MAX_SIZE = { 4 };
-///     ghost REINSERTION_COUNT = { 1 };
-///     const MIN_SIZE: usize = 2;
-///     const MAX_SIZE: usize = 4;
-///     const REINSERTION_COUNT: usize = 1;
-///     ghost max_at_least_four = { Prim.omega arith };
-///     // ..
-/// }
-/// ```
-/// *`crates/rstar_vectors/src/node_sizes.rt`*
+/// The node sizes of a tree. A type proves their bounds as laws; no value of it is ever made.
 pub trait RTreeParams {
     // The numbers, for clauses. Each is proved to be the constant of the same name.
     ghost MIN_SIZE: { ℕ };
@@ -33,15 +16,15 @@ pub trait RTreeParams {
 
     ghost REINSERTION_COUNT: { ℕ };
 
-    /// The fewest children of a parent that is not the root, where a tree is built by insertions
-    /// alone: at least 1, and at most half of `MAX_SIZE`, rounded up.
+    /// The fewest children of a parent. It is at least 1, and at most half of `MAX_SIZE`, rounded up. It
+    /// holds for parents other than the root, in a tree built by insertions alone.
     const MIN_SIZE: usize;
 
-    /// The most children of a parent: at least 4, and below the greatest `usize`.
+    /// The most children of a parent. It is at least 4, and below the greatest `usize`.
     const MAX_SIZE: usize;
 
-    /// How many children of an overfull parent are taken out and inserted anew: fewer than
-    /// `MAX_SIZE - MIN_SIZE`. With 0 an overfull parent is split at once.
+    /// How many children of an overfull parent are reinserted. It is less than `MAX_SIZE - MIN_SIZE`; with 0
+    /// an overfull parent is split at once (Beckmann et al. 1990).
     const REINSERTION_COUNT: usize;
 
     ghost max_at_least_four: { 4 ≤ MAX_SIZE };
@@ -55,14 +38,7 @@ pub trait RTreeParams {
     ghost reinsertion_leaves: { REINSERTION_COUNT + MIN_SIZE < MAX_SIZE };
 }
 
-/// The sizes of a tree where none are named: 3, 6 and 2.
-///
-/// ```rust
-/// goes_through::<T, DefaultParams>(alloc, elements, 0, asked, &[Step::InSized(0, ALL, 3, 6)])
-///     && goes_through::<T, Splitting>(alloc, elements, 0, asked, &small)
-///     && goes_through::<T, Small>(alloc, elements, 0, asked, &small)
-/// ```
-/// *`crates/rstar_vectors/src/reinsertion.rt`*
+/// The default node sizes: 3, 6 and 2.
 #[derive(Clone, Copy, PartialEq, Eq, Default, Drop)]
 pub struct DefaultParams;
 
@@ -92,16 +68,8 @@ impl RTreeParams for DefaultParams {
     ghost reinsertion_leaves = { Prim.omega arith };
 }
 
-/// Whether the sizes keep their bounds and the element's points have at least two axes, as `new` and the loads ask.
-///
-/// The bounds are laws of `RTreeParams`, so that for a lawful type only the axes can make it false.
-///
-/// ```rust
-/// assert!(rt; !verify_parameters::<[i32; 1], DefaultParams>());
-/// assert!(rt; verify_parameters::<[i32; 2], DefaultParams>());
-/// assert!(rt; verify_parameters::<[i32; 2], Huge>());
-/// ```
-/// *`crates/rstar_vectors/src/insertion.rt`*
+/// Whether node sizes and axes are as `new` and the loads ask. The sizes keep their bounds by law, so it is
+/// false exactly where the points have fewer than two axes.
 pub fn verify_parameters<T: RTreeObject, Params: RTreeParams>() -> bool
     ensures { IsTrue result ↔ AreNodeSizes Params.MIN_SIZE Params.MAX_SIZE Params.REINSERTION_COUNT
         × (2 ≤ T.Envelope.Point.DIMENSIONS) }

@@ -1,4 +1,4 @@
-//! A place found without a sort: what `partition_envelopes` does.
+//! Selection without a sort, the body of `partition_envelopes`.
 ghost use Rattle.std.specs.Prelude.{◌≡◌, ◌<◌, ◌≤◌, ◌≤ℤ◌, ◌+◌, ◌*◌, ℤ, ℕ, false, length, slice_index_or, true, vec_len};
 ghost use Rattle.std.specs.List.Sorted.{IsPermutation};
 ghost use Rattle.rstar_base.specs.Orders.{IsSplitAt};
@@ -8,9 +8,9 @@ use crate::envelope::Envelope;
 use crate::object::{Distance, RTreeObject, sort_envelopes};
 use crate::point::{RTreeNum, greatest, least, not_above};
 
-/// Puts at place `k` an element so that none before it has a greater key, and none after it a smaller one.
+/// Partitions the elements around place `k` by `axis_key`.
 ///
-/// It takes no memory. At most `2 log2 n` pivots are tried, and then the rest is sorted.
+/// It takes no memory. After `2 log2 n` pivots the rest is sorted, so the cost is bounded.
 pub(crate) fn partition_by_selection<T: RTreeObject>(axis: usize, list: &mut [T], k: usize)
     requires axis { axis < T.Envelope.Point.DIMENSIONS }
     requires place { k < length list.old }
@@ -21,13 +21,13 @@ pub(crate) fn partition_by_selection<T: RTreeObject>(axis: usize, list: &mut [T]
     select(axis, list, k, turns);
 }
 
-/// Lists of at most so many elements are sorted: that moves fewer than it takes to part them.
+/// A list of at most this length is sorted, which costs less than a partition.
 const SHORT: usize = 16;
 
-/// In lists of at least so many the pivot is the element that belongs at the place in a sample.
+/// A list of at least this length takes its pivot from a sample.
 const LONG: usize = 400;
 
-/// The same by at most so many pivots, and then by a sort.
+/// The same with at most `turns` pivots, and then a sort.
 #[cycle(select)]
 fn select<T: RTreeObject>(axis: usize, list: &mut [T], k: usize, turns: u32)
     requires axis { axis < T.Envelope.Point.DIMENSIONS }
@@ -50,8 +50,8 @@ fn select<T: RTreeObject>(axis: usize, list: &mut [T], k: usize, turns: u32)
     }
 }
 
-/// A key that should stand near the place. In a long list it is found in a sample, in which the place is selected first
-/// (Floyd and Rivest 1975): so two passes over the list and one over half of it are seldom passed.
+/// A key near place `k`. In a long list it is selected from a sample (Floyd and Rivest 1975), so that two
+/// and a half passes are seldom exceeded.
 #[cycle(select)]
 fn pivot_for<T: RTreeObject>(axis: usize, list: &mut [T], k: usize, turns: u32) -> Distance<T>
     requires axis { axis < T.Envelope.Point.DIMENSIONS }
@@ -68,8 +68,8 @@ fn pivot_for<T: RTreeObject>(axis: usize, list: &mut [T], k: usize, turns: u32) 
     key_at(axis, list, k)
 }
 
-/// Where a sample begins and ends that has a place of so many. The place stands in it as it does in the whole, but for a
-/// little that leaves it on the shorter side of the pivot.
+/// The bounds of a sample around `k`. The place of `k` in it is that in the list, shifted a little so that
+/// `k` falls on the shorter side of the pivot.
 fn sample_around(len: usize, k: usize) -> (usize, usize)
     requires { k < len }
     ensures from { result.0 ≤ k }
@@ -89,7 +89,7 @@ fn sample_around(len: usize, k: usize) -> (usize, usize)
     (from, from + size)
 }
 
-/// Whether a key is smaller than the pivot, or the same where `with_same` says so.
+/// Whether a key belongs before the pivot: smaller ones do, and equal ones where `with_same` is true.
 fn is_first<S: RTreeNum>(key: S, pivot: S, with_same: bool) -> bool
     ensures first { result ≡ true → S.value key ≤ℤ S.value pivot }
     ensures other { result ≡ false → S.value pivot ≤ℤ S.value key }
@@ -112,8 +112,8 @@ fn key_at<T: RTreeObject>(axis: usize, list: &[T], k: usize) -> Distance<T>
     list[k].axis_key(axis)
 }
 
-/// The middle one of three keys, and of nine in a long list, as a pivot. Any key is right; this one makes
-/// parts of much the same length more often.
+/// The median of three keys, or of nine in a long list. Any pivot is correct; this one halves the list more
+/// often.
 fn middle_key<T: RTreeObject>(axis: usize, list: &[T]) -> Distance<T>
     requires axis { axis < T.Envelope.Point.DIMENSIONS }
     requires some { 0 < length list.now }
@@ -129,7 +129,7 @@ fn middle_key<T: RTreeObject>(axis: usize, list: &[T]) -> Distance<T>
     middle(a, b, c)
 }
 
-/// The middle one of the keys at a place, a step after it and two steps after it.
+/// The median of the keys at `at`, `at + step` and `at + 2 * step`.
 fn middle_of<T: RTreeObject>(axis: usize, list: &[T], at: usize, step: usize) -> Distance<T>
     requires axis { axis < T.Envelope.Point.DIMENSIONS }
     requires places { at + 2 * step < length list.now }
@@ -141,12 +141,13 @@ fn middle_of<T: RTreeObject>(axis: usize, list: &[T], at: usize, step: usize) ->
     )
 }
 
-/// The middle one of three.
+/// The median of three.
 fn middle<S: RTreeNum>(a: S, b: S, c: S) -> S {
     greatest(least(a, b), least(greatest(a, b), c))
 }
 
-/// Puts the elements of smaller keys than the pivot first; where there are none, those of its key.
+/// Moves the elements with keys below the pivot to the front; where there are none, those with keys equal to
+/// it.
 fn split_around<T: RTreeObject>(axis: usize, list: &mut [T], pivot: Distance<T>) -> (usize, usize)
     requires { axis < T.Envelope.Point.DIMENSIONS }
     ensures same { IsPermutation list.old list.new }
@@ -163,7 +164,7 @@ fn split_around<T: RTreeObject>(axis: usize, list: &mut [T], pivot: Distance<T>)
     (0, same)
 }
 
-/// The end of a run from a place on: of elements that belong first, or of such that belong behind them.
+/// The end of a run of elements that all belong in front, or all behind.
 fn run_end<T: RTreeObject>(
     axis: usize,
     list: &[T],
@@ -194,10 +195,11 @@ fn run_end<T: RTreeObject>(
     at
 }
 
-/// Puts the elements of smaller keys than the pivot first, with those of its key or without them, and counts them.
+/// Moves the elements with keys below the pivot, and those equal to it where `with_same` is true, to the
+/// front, and counts them.
 ///
-/// Those that stand where they belong, first and then behind, are passed over: where all keys are the same nothing moves.
-/// Each element from there on is swapped, wherever it belongs, so that no jump hangs on a key.
+/// The leading elements that belong in front, and then those that belong behind, are skipped: a list of
+/// equal keys does not move. The rest is swapped without a branch on the key.
 fn gather<T: RTreeObject>(axis: usize, list: &mut [T], pivot: Distance<T>, with_same: bool) -> usize
     requires { axis < T.Envelope.Point.DIMENSIONS }
     ensures same { IsPermutation list.old list.new }

@@ -1,4 +1,4 @@
-//! The place of an item of an array, lent for writing.
+//! A mutable borrow of one item of an array.
 
 ghost use Rattle.std.specs.Prelude.{◌≡◌, ◌<◌, slice_index_or, slice_set, length};
 ghost use Rattle.std.specs.Borrow.{sem, Lends, Array};
@@ -20,7 +20,7 @@ fn as_list<'a, S, const N: usize>(array: &'a mut [S; N]) -> &'a mut [S]
     array.as_mut_slice()
 }
 
-/// The place of an item of an array.
+/// A mutable borrow of the item at `index`.
 pub(crate) fn place_in<'a, S, const N: usize>(array: &'a mut [S; N], index: usize) -> &'a mut S
     requires { index < length array.old }
     ensures* writes_back { sem 𝓛 (Lends (Array S.row N) S.row array.entry result (slice_set array.old index)) }

@@ -1,4 +1,4 @@
-//! Scalars and points: whole numbers in a range, and lists of them.
+//! Scalars and points.
 
 ghost use Rattle.std.specs.Prelude.{◌≡◌, ◌<◌, ◌+ℤ◌, ◌-ℤ◌, ◌*ℤ◌, ◌<ℤ◌, ◌↔◌, ℕ, ℤ, List, IsTrue, pos, int_div, int_le, min, unsigned_abs, if◌then◌else◌, ◌==◌};
 ghost use Rattle.std.specs.Int.{int_min, int_max};
@@ -17,22 +17,7 @@ use crate::axes::copied_point;
 use num_traits::{Bounded, CheckedAdd, CheckedMul, CheckedSub, Num, One, Signed, Zero};
 use std::fmt::Debug;
 
-/// A scalar: the whole numbers from a least to a greatest.
-///
-/// ```rust
-/// let sums = (
-///     low.clamped_add(low),
-///     low.clamped_add(high),
-///     high.clamped_add(high),
-/// );
-/// let differences = (
-///     low.clamped_sub(high),
-///     high.clamped_sub(high),
-///     high.clamped_sub(low),
-/// );
-/// sums == (low, minus_one, high) && differences == (low, S::zero(), high)
-/// ```
-/// *`crates/rstar_base/src/tests/points.rt`*
+/// A scalar: an integer type with a least and a greatest value.
 pub trait RTreeNum: Bounded
     + Num
     + Signed
@@ -45,36 +30,16 @@ pub trait RTreeNum: Bounded
     // The value that stands for an integer.
     ghost of_value: { ℤ → Self };
 
-    /// The value itself.
+    /// The value itself. Its contract says that it is in the range.
     fn ord(self) -> Self
         ensures same { result ≡ self }
         ensures range { InRange Self.low Self.high (Self.value self) };
 
     /// Half of the exact sum, truncated toward zero.
-    ///
-    /// ```rust
-    /// fn half_sums_at_ends<S: RTreeNum>(low: S, high: S, minus_one: S) -> bool {
-    ///     let zero = S::zero();
-    ///     (high.half_sum(high), low.half_sum(low)) == (high, low)
-    ///         && (low.half_sum(high), minus_one.half_sum(zero)) == (zero, zero)
-    /// }
-    /// ```
-    /// *`crates/rstar_base/src/tests/points.rt`*
     fn half_sum(self, other: Self) -> Self
         ensures { Self.value result ≡ int_div (Self.value self +ℤ Self.value other) (pos 2) };
 
-    /// The exact sum, held between the least and the greatest.
-    ///
-    /// ```rust
-    /// let sums = (
-    ///     low.clamped_add(low),
-    ///     low.clamped_add(high),
-    ///     high.clamped_add(high),
-    /// );
-    /// // ..
-    /// sums == (low, minus_one, high) && differences == (low, S::zero(), high)
-    /// ```
-    /// *`crates/rstar_base/src/tests/points.rt`*
+    /// The exact sum, clamped to the range.
     fn clamped_add(self, other: Self) -> Self
         ensures { Self.value result ≡ between (Self.value self +ℤ Self.value other) Self.low Self.high }
     {
@@ -90,17 +55,7 @@ pub trait RTreeNum: Bounded
         }
     }
 
-    /// The exact difference, held between the least and the greatest.
-    ///
-    /// ```rust
-    /// let differences = (
-    ///     low.clamped_sub(high),
-    ///     high.clamped_sub(high),
-    ///     high.clamped_sub(low),
-    /// );
-    /// sums == (low, minus_one, high) && differences == (low, S::zero(), high)
-    /// ```
-    /// *`crates/rstar_base/src/tests/points.rt`*
+    /// The exact difference, clamped to the range.
     fn clamped_sub(self, other: Self) -> Self
         ensures { Self.value result ≡ between (Self.value self -ℤ Self.value other) Self.low Self.high }
     {
@@ -116,18 +71,7 @@ pub trait RTreeNum: Bounded
         }
     }
 
-    /// The exact product, held between the least and the greatest.
-    ///
-    /// ```rust
-    /// let held = (
-    ///     low.clamped_mul(low),
-    ///     low.clamped_mul(minus_one),
-    ///     high.clamped_mul(S::one()),
-    /// );
-    /// let below = (low.clamped_mul(high), high.clamped_mul(low), low.ord());
-    /// held == (high, high, high) && below == (low, low, low)
-    /// ```
-    /// *`crates/rstar_base/src/tests/points.rt`*
+    /// The exact product, clamped to the range.
     fn clamped_mul(self, other: Self) -> Self
         ensures { Self.value result ≡ between (Self.value self *ℤ Self.value other) Self.low Self.high }
     {
@@ -159,16 +103,7 @@ pub trait RTreeNum: Bounded
     ghost narrow: { IsNarrow Self.row };
 }
 
-/// Whether a scalar is at most another.
-///
-/// ```rust
-/// if not_above(from, to) {
-///     to.clamped_sub(from)
-/// } else {
-///     S::zero()
-/// }
-/// ```
-/// *`crates/rstar_vectors/src/interval.rt`*
+/// Whether `a` is at most `b`.
 pub fn not_above<S: RTreeNum>(a: S, b: S) -> bool
     ensures { result ≡ int_le (S.value a) (S.value b) }
 {
@@ -176,16 +111,6 @@ pub fn not_above<S: RTreeNum>(a: S, b: S) -> bool
 }
 
 /// The lesser of two scalars.
-///
-/// ```rust
-/// let mut key = Distance::<T>::zero();
-/// for element in slab.iter() {
-///     let own = element.axis_key(axis);
-///     // ..
-///     key = least(key, own);
-/// }
-/// ```
-/// *`crates/rstar_base/src/tests/slabs.rt`*
 pub fn least<S: RTreeNum>(a: S, b: S) -> S
     ensures value { S.value result ≡ int_min (S.value a) (S.value b) }
     ensures range { InRange S.low S.high (S.value result) }
@@ -194,15 +119,6 @@ pub fn least<S: RTreeNum>(a: S, b: S) -> S
 }
 
 /// The greater of two scalars.
-///
-/// ```rust
-/// Stretch {
-///     from: least(self.from, other.from),
-///     to: greatest(self.to, other.to),
-///     level: self.level.max(other.level),
-/// }
-/// ```
-/// *`crates/rstar_vectors/src/interval.rt`*
 pub fn greatest<S: RTreeNum>(a: S, b: S) -> S
     ensures value { S.value result ≡ int_max (S.value a) (S.value b) }
     ensures range { InRange S.low S.high (S.value result) }
@@ -210,7 +126,7 @@ pub fn greatest<S: RTreeNum>(a: S, b: S) -> S
     if b < a { a.ord() } else { b.ord() }
 }
 
-/// How far apart two scalars are, clamped.
+/// The distance of two scalars, clamped.
 pub(crate) fn apart<S: RTreeNum>(a: S, b: S) -> S
     ensures { S.value result ≡ pos (min (unsigned_abs (S.value b -ℤ S.value a)) (unsigned_abs S.high)) }
 {
@@ -218,7 +134,7 @@ pub(crate) fn apart<S: RTreeNum>(a: S, b: S) -> S
     greatest(a, b).clamped_sub(least(a, b))
 }
 
-/// The clamped square of the distance of two scalars.
+/// The squared distance of two scalars, clamped.
 pub(crate) fn square_between<S: RTreeNum>(a: S, b: S) -> S
     ensures { S.value result ≡ pos (min (square_apart (S.value a) (S.value b)) (unsigned_abs S.high)) }
 {
@@ -226,18 +142,7 @@ pub(crate) fn square_between<S: RTreeNum>(a: S, b: S) -> S
     apart.clamped_mul(apart)
 }
 
-/// A point: a list of whole numbers, one for each axis.
-///
-/// ```rust
-/// let mut written = point;
-/// let mut is_other = false;
-/// if axis < P::DIMENSIONS {
-///     is_other = point.nth(axis) != P::Scalar::zero();
-///     *written.nth_mut(axis) = P::Scalar::zero();
-/// }
-/// reads(&written, coordinates, axis) && (written != point) == is_other && point == point
-/// ```
-/// *`crates/rstar_base/src/tests/points.rt`*
+/// A point: one integer for each axis.
 pub trait Point: Clone + PartialEq + Debug + Drop {
     /// The type of the coordinates.
     type Scalar: RTreeNum;
@@ -256,37 +161,19 @@ pub trait Point: Clone + PartialEq + Debug + Drop {
     // The point with another coordinate on an axis.
     ghost with: { Self → ℕ → Self.Scalar → Self };
 
-    /// The point whose coordinates are the generator's answers at 0, 1, ..
-    ///
-    /// ```rust
-    /// let mut asked = 0usize;
-    /// let pair = <(i64, i64)>::generate(|axis| {
-    ///     let in_order = axis == asked;
-    ///     asked = asked.wrapping_add(1);
-    ///     if in_order { 1 } else { 0 }
-    /// });
-    /// assert!(rt; pair == (1, 1));
-    /// ```
-    /// *`crates/rstar_base/src/tests/points.rt`*
+    /// The point with the coordinates `generator(0)`, `generator(1)`, .., called in this order.
     fn generate<F: FnMut(usize) -> Self::Scalar>(generator: F) -> Self
         requires { Callable F.step F.pre generator DIMENSIONS }
         ensures made { Made F.step Self.Scalar.value (coord result) generator DIMENSIONS }
         ensures whole { of_coords (table DIMENSIONS (coord result)) ≡ result };
 
-    /// The coordinate on an axis.
+    /// The coordinate on an axis below `DIMENSIONS`.
     fn nth(&self, index: usize) -> Self::Scalar
         requires { index < DIMENSIONS }
         ensures value { Self.Scalar.value result ≡ coord self.now index }
         ensures own { of_coords (table DIMENSIONS (coord self.now)) ≡ self.now };
 
-    /// The place of the coordinate on an axis.
-    ///
-    /// ```rust
-    /// *p.nth_mut(0) = 7;
-    /// *q.nth_mut(0) = 7;
-    /// write(t, 0, 7);
-    /// ```
-    /// *`crates/rstar_base/src/tests/generic.rt`*
+    /// A mutable borrow of the coordinate on an axis.
     fn nth_mut(&mut self, index: usize) -> &mut Self::Scalar
         requires { index < DIMENSIONS }
         ensures* writes_back { sem 𝓛 (Lends Self.row Self.Scalar.row self.entry result (with self.old index)) }
@@ -311,20 +198,8 @@ pub trait Point: Clone + PartialEq + Debug + Drop {
         → IsTrue (Self.eq p q) ↔ (table DIMENSIONS (coord p) ≡ table DIMENSIONS (coord q)) };
 }
 
-/// Does nothing: each point in hand has its coordinates in the range, and with an axis it is the
-/// point of its coordinates, so that `eq_law` speaks of it.
-///
-/// ```rust
-/// fn same<P: Point>(p: &P, q: &P) -> bool
-///     requires { 0 < P.DIMENSIONS }
-///     ensures { IsTrue result ↔ (table P.DIMENSIONS (P.coord p.now) ≡ table P.DIMENSIONS (P.coord q.now)) }
-/// {
-///     known(p);
-///     known(q);
-///     p == q
-/// }
-/// ```
-/// *`crates/rstar_base/src/tests/generic.rt`*
+/// Does nothing. Its contract says that the point's coordinates are in the range and, with an axis,
+/// determine it.
 pub fn known<P: Point>(p: &P)
     ensures range { IsPoint P.Scalar.low P.Scalar.high P.DIMENSIONS (table P.DIMENSIONS (P.coord p.now)) }
     ensures own { 0 < P.DIMENSIONS → P.of_coords (table P.DIMENSIONS (P.coord p.now)) ≡ p.now }

@@ -10,7 +10,7 @@ use crate::axes::{copied_point, every_axis, generated};
 use crate::point::{Point, RTreeNum, known, not_above};
 use num_traits::Zero;
 
-/// The clamped squared distance of two points.
+/// The squared distance of two points, clamped.
 pub(crate) fn distance_between<P: Point>(a: &P, b: &P) -> P::Scalar
     ensures { P.Scalar.value result
         ≡ pos (segment.point_apart P.Scalar.high P.DIMENSIONS (P.coord a.now) (P.coord b.now)) }
@@ -18,7 +18,7 @@ pub(crate) fn distance_between<P: Point>(a: &P, b: &P) -> P::Scalar
     squared_distance(a, a, b)
 }
 
-/// The nearer of two points, the first where neither is nearer.
+/// The nearer of two points; the first where both are equally near.
 fn nearer<P: Point>(query_point: &P, a: &P, b: &P) -> P
     ensures { (i : ℕ) → i < P.DIMENSIONS
         → P.coord result i
@@ -48,7 +48,7 @@ fn product_fits<S: RTreeNum>(a: S, b: S) -> bool
     a.checked_mul(&b).is_some()
 }
 
-/// The sum and a product, where both the product and the new sum fit.
+/// The sum plus a product, where product and sum fit.
 fn add_product<S: RTreeNum>(sum: S, a: S, b: S) -> Option<S>
     ensures { MatchOption result
         ((in_range S.low S.high (S.value a *ℤ S.value b)
@@ -70,7 +70,7 @@ fn is_inside<S: RTreeNum>(t: S, len: S) -> bool
     !not_above(t, S::zero()) && !not_above(len, t)
 }
 
-/// A coordinate of the interior point: `from` and the part t / len of the direction.
+/// A coordinate of the interior point: `from + dir * t / len`.
 fn step<S: RTreeNum>(from: S, dir: S, t: S, len: S) -> S
     requires after { pos 0 <ℤ S.value t }
     requires before { S.value t <ℤ S.value len }
@@ -147,7 +147,7 @@ fn multiple_fits<P: Point>(dir: &P, t: P::Scalar) -> bool
     )
 }
 
-/// The point the part t / len of the direction away from `from`, clamped on every axis.
+/// The point `from + dir * t / len`, clamped on every axis.
 fn stepped<P: Point>(from: &P, dir: &P, t: P::Scalar, len: P::Scalar) -> P
     requires after { pos 0 <ℤ P.Scalar.value t }
     requires before { P.Scalar.value t <ℤ P.Scalar.value len }
@@ -171,7 +171,7 @@ fn stepped<P: Point>(from: &P, dir: &P, t: P::Scalar, len: P::Scalar) -> P
     )
 }
 
-/// The interior point of a segment that is considered for a point, if there is one.
+/// The interior point of a segment that counts for a query point, if there is one.
 fn interior_point<P: Point>(from: &P, to: &P, query_point: &P) -> Option<P>
     ensures { MatchOption result
         (segment.has_interior P.Scalar.low P.Scalar.high P.DIMENSIONS (P.coord from.now) (P.coord to.now)
@@ -198,7 +198,7 @@ fn interior_point<P: Point>(from: &P, to: &P, query_point: &P) -> Option<P>
     Some(stepped(from, &dir, t, len))
 }
 
-/// The first nearest of the ends and the interior point.
+/// The first nearest of the two ends and the interior point.
 pub(crate) fn nearest_of_segment<P: Point>(from: &P, to: &P, query_point: &P) -> P
     ensures { (i : ℕ) → i < P.DIMENSIONS
         → P.coord result i

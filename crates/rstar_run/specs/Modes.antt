@@ -4,13 +4,13 @@ use Rattle.std.specs.Str.{bytes_eq}
 use Rattle.rstar_run.specs.declared.modes.Mode.{Mode}
 use Rattle.rstar_run.specs.declared.modes.Mode.TheVariants.{Run, Pack, Unpack}
 
--- one word
+-- the mode that one word names
 abbrev pub mode_named : List ℕ → Option Mode
 mode_named word =
     if bytes_eq word (codes "pack") then Some Pack else (
     if bytes_eq word (codes "unpack") then Some Unpack else None)
 
--- no word is a run, the one word `pack` or `unpack` is what it names, and every other list is nothing
+-- the mode of the words after the program's name: a run without words, `pack` or `unpack` alone, else none
 abbrev pub mode_of : List (List ℕ) → Option Mode
 mode_of [] = Some Run
 mode_of (word ∷ []) = mode_named word

@@ -72,10 +72,11 @@ abbrev pub ReadsPoints : Option (List ℕ) → Result (Vec Point) Stop → Type 
 ReadsPoints input (Ok list) = IfSome input (λ bytes. points_in (lines_of bytes) ≡ Some list.items)
 ReadsPoints input (Err stop) = StopsReading input stop
 
--- the line of a point, and those of some
+-- the line of a point
 abbrev pub point_text : Point → List ℕ
 point_text p =
     signed_decimal (coordinate p 0) ++ (codes " " ++ (signed_decimal (coordinate p 1) ++ codes "\n"))
 
+-- the lines of some points
 abbrev pub points_text : List Point → List ℕ
 points_text ps = flat_map point_text ps

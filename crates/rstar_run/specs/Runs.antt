@@ -110,8 +110,8 @@ pub record RunSays (input : Option (List ℕ)) (ended : Result (Unit {0}) Stop) 
   pub says : TurnsSay [] turns said store
   pub why : EndsBefore ended (length (lines_in turns)) rest
 
--- a whole run: its answers and then its end stand on the output, and the status is that of its end; after a failed
--- write it is 4, and a front of them stands there
+-- a whole run: the output has its answers and its end's error line, and the status is that of the end. After a failed
+-- write the status is 4, and the output has a prefix of them.
 pub record Ran (input old new : Option (List ℕ)) (status : ℕ) : Type 0 where
   pub ended : Result (Unit {0}) Stop
   pub said : List ℕ

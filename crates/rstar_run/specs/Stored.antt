@@ -68,7 +68,7 @@ abbrev pub answer_status : {A : Type 0} → Result A Fault → ℕ
 answer_status (Ok answer) = 0
 answer_status (Err fault) = fault_status fault
 
--- a call has an answer of this kind, and tells it
+-- a call has an answer of this kind; the output has its text, and the status is that of the answer
 pub record Answers {A : Type 0} (Kind : Result A Fault → Type 0) (text : A → List ℕ) (old new : Option (List ℕ))
     (status : ℕ) : Type 0 where
   pub answer : Result A Fault
@@ -91,7 +91,7 @@ pub record LoadsTooHigh (input : Option (List ℕ)) : Type 0 where
   pub loaded : points ≢ [] → IsLoaded boxes places 6 2 root
   pub high : 64 < height_of root
 
--- what packing answers: bytes that spell a tree of the points that the lines of the input are, or why there are none
+-- the answer of `pack`: bytes that spell a tree of the points in the input's lines, or why there are none
 abbrev pub Packs : Option (List ℕ) → Result (Vec ℕ) Fault → Type 0
 Packs input (Ok bytes) =
     (points : List Point) × IfSome input (λ text. points_in (lines_of text) ≡ Some points)
@@ -100,6 +100,7 @@ Packs input (Err Usage) = ⊥
 Packs input (Err (Stop stop)) = StopsReading input stop
 Packs input (Err (Stored error)) = (error ≡ NoMemory) ⊎ ((error ≡ TooHigh) × LoadsTooHigh input)
 
+-- `pack` writes that answer
 abbrev pub Packed : Option (List ℕ) → Option (List ℕ) → Option (List ℕ) → ℕ → Type 0
 Packed input = Answers (Packs input) (λ bytes. bytes.items)
 
@@ -114,12 +115,13 @@ pub record ArePointsOf (t : Tree) (points : List Point) : Type 0 where
 abbrev pub AreRefused : StoredError → List ℕ → Type 0
 AreRefused error bytes = HasFault bytes error × (error ≢ NoMemory → (t : Tree) → Spells bytes t → ⊥)
 
--- what unpacking answers: the points of the tree that the input spells, ascending, or why there are none
+-- the answer of `unpack`: the points of the tree that the input spells, ascending, or why there are none
 abbrev pub Unpacks : Option (List ℕ) → Result (Vec Point) Fault → Type 0
 Unpacks input (Ok points) = (t : Tree) × IfSome input (λ bytes. Spells bytes t) × ArePointsOf t points.items
 Unpacks input (Err Usage) = ⊥
 Unpacks input (Err (Stop why)) = (why ≡ stop.Memory) ⊎ (why ≡ stop.Input)
 Unpacks input (Err (Stored error)) = IfSome input (AreRefused error)
 
+-- `unpack` prints that answer
 abbrev pub Unpacked : Option (List ℕ) → Option (List ℕ) → Option (List ℕ) → ℕ → Type 0
 Unpacked input = Answers (Unpacks input) (λ points. points_text points.items)

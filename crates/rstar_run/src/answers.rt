@@ -1,4 +1,4 @@
-//! Replies, as text.
+//! Replies as text.
 
 ghost use Rattle.std.specs.Prelude.{◌≡◌, ◌++◌, ℕ, List, codes, decimal, Err, IfErr, OnOk};
 ghost use Rattle.rstar_run.specs.Prints.{AppendsFront, Prints, PrintsSome};
@@ -10,12 +10,12 @@ use super::store::Item;
 use rstar::replay::Reply;
 use std::io::Write;
 
-/// What is printed in a list.
+/// An item of a printed list.
 trait Listed {
     // Its text.
     ghost text_of: { Self → List ℕ };
 
-    /// Prints it. It takes no memory.
+    /// Prints the item. It takes no memory.
     fn print<W: Write>(&self, printer: &mut Printer, output: &mut W) -> Result<(), Stop>
         ensures all { OnOk result (Prints (W.contents output.old) (W.contents output.new)
             printer.old.held.items (text_of self.now) printer.new.held.items) }
@@ -33,7 +33,7 @@ impl Listed for Item {
     }
 }
 
-/// A rectangle with its squared distance is printed as its ID, a colon and the distance.
+/// A neighbour is printed as `ID:D`, with its squared distance.
 impl Listed for (Item, i64) {
     ghost text_of = { neighbour_text };
 
@@ -44,8 +44,8 @@ impl Listed for (Item, i64) {
     }
 }
 
-/// Prints the line of a reply. Where that says that memory was refused, or that the tree is full,
-/// the error does, and nothing is printed. It takes no memory.
+/// Prints the line of a reply. A refused reply prints nothing and returns `Stop::Memory`. It takes no
+/// memory.
 pub fn print_reply<W: Write>(
     printer: &mut Printer,
     output: &mut W,
@@ -87,7 +87,7 @@ pub fn print_number<W: Write>(
     printer.put(output, b"\n")
 }
 
-/// Prints a line of texts with single spaces, `-` where there is none.
+/// Prints a line of items with single spaces between them; `-` where there is none.
 fn print_list<T: Listed, W: Write>(
     printer: &mut Printer,
     output: &mut W,

@@ -1,4 +1,4 @@
-//! What lines ask for.
+//! The parser of lines.
 
 ghost use Rattle.std.specs.Prelude.{◌≡◌, ◌≢◌, ◌<◌, [], length, map, drop, IfSome, IfNone};
 ghost use Rattle.std.specs.Option.{option_map};
@@ -10,73 +10,41 @@ use super::number::{signed, take_signed, take_unsigned, unsigned};
 use super::words::{MOST_WORDS, is_blank, words};
 use arrayvec::ArrayVec;
 
-/// Two opposite corners of a box, as a line gives them.
-///
-/// ```rust
-/// fn between(corners: &Corners) -> AABB<[i64; 2]>
-///     ensures { result ≡ box_between corners.now }
-/// {
-///     AABB::from_corners(corners.one, corners.other)
-/// }
-/// ```
-/// *`crates/rstar_run/src/request.rt`*
+/// Two opposite corners of a box, as a line spells them.
 #[derive(Clone, Copy, Debug, PartialEq, Eq)]
 pub struct Corners {
     pub one: [i64; 2],
     pub other: [i64; 2],
 }
 
-/// What a line asks of the tree alone.
-///
-/// ```rust
-/// match request {
-///     Request::Insert(id, corners) => Command::Insert(item(*id, corners)),
-///     Request::Remove(id, corners) => Command::Remove(item(*id, corners)),
-///     Request::RemoveAt(point) => Command::RemoveAtPoint(*point),
-///     // ..
-///     Request::DrainIn(corners, most) => Command::Drain(Query::In(between(corners)), *most),
-///     // ..
-///     Request::Near(point, most) => Command::Neighbours(*point, *most),
-/// }
-/// ```
-/// *`crates/rstar_run/src/request.rt`*
+/// A request: a line that is answered by one command.
 #[derive(Clone, Copy, Debug, PartialEq, Eq)]
 pub enum Request {
-    /// Insert a rectangle with an ID.
+    /// Inserts a rectangle with an ID.
     Insert(u64, Corners),
-    /// Take out a rectangle with an ID, and print the ID.
+    /// Removes a rectangle with an ID, and prints the ID.
     Remove(u64, Corners),
-    /// Take out a rectangle that contains a point, and print its ID.
+    /// Removes a rectangle that contains a point, and prints its ID.
     RemoveAt([i64; 2]),
-    /// Take out the first rectangle by distance from a point, and print its ID.
+    /// Removes the nearest rectangle to a point, and prints its ID.
     Pop([i64; 2]),
-    /// Take out rectangles that lie in a box, at most so many, and print their IDs.
+    /// Removes up to this many rectangles inside a box, and prints their IDs.
     DrainIn(Corners, usize),
-    /// Take out rectangles that meet a box, at most so many, and print their IDs.
+    /// Removes up to this many rectangles that intersect a box, and prints their IDs.
     DrainHit(Corners, usize),
-    /// Print the IDs of the rectangles that lie in a box.
+    /// Prints the IDs of the rectangles inside a box.
     In(Corners),
-    /// Print the IDs of the rectangles that meet a box.
+    /// Prints the IDs of the rectangles that intersect a box.
     Hit(Corners),
-    /// Print the IDs of the rectangles that contain a point.
+    /// Prints the IDs of the rectangles that contain a point.
     At([i64; 2]),
-    /// Print the IDs of the rectangles whose squared distance from a point is at most a limit.
+    /// Prints the IDs of the rectangles within a squared distance of a point.
     Within([i64; 2], i64),
-    /// Print the IDs of the first so many rectangles by distance from a point, each with its squared distance.
+    /// Prints the IDs of the k nearest rectangles to a point, each with its squared distance.
     Near([i64; 2], usize),
 }
 
 /// The first word of a line.
-///
-/// ```rust
-/// match str::from_utf8(word).ok()? {
-///     // ..
-///     "size" => Some(Verb::Size),
-///     "load" => Some(Verb::Load),
-///     _ => None,
-/// }
-/// ```
-/// *`crates/rstar_run/src/command.rt`*
 #[derive(Clone, Copy, Debug, PartialEq, Eq)]
 pub enum Verb {
     Insert,
@@ -93,41 +61,19 @@ pub enum Verb {
     Load,
 }
 
-/// What a line is.
-///
-/// ```rust
-/// match parse_line(lines.text()) {
-///     Line::Blank => Ok(true),
-///     Line::Bad => Err(Stop::Line(lines.number())),
-///     // ..
-///     Line::Request(request) => {
-///         run_command(store, command_of(&request), printer, output)?;
-///         Ok(true)
-///     }
-/// }
-/// ```
-/// *`crates/rstar_run/src/program.rt`*
+/// A parsed line.
 #[derive(Clone, Copy, Debug, PartialEq, Eq)]
 pub enum Line {
     Blank,
     Request(Request),
-    /// Print the number of rectangles.
+    /// Prints the number of rectangles.
     Size,
-    /// Put a load of so many rectangles in the place of all that are there: those of the next lines.
+    /// Replaces all rectangles by a bulk load of this many, which the next lines list.
     Load(usize),
     Bad,
 }
 
-/// What a line inside a load is.
-///
-/// ```rust
-/// match parse_entry(lines.text()) {
-///     Entry::Blank => {}
-///     Entry::Rectangle(id, corners) => items.push(item(id, &corners))?,
-///     Entry::Bad => return Err(Stop::Line(lines.number())),
-/// }
-/// ```
-/// *`crates/rstar_run/src/program.rt`*
+/// A parsed line inside a load.
 #[derive(Clone, Copy, Debug, PartialEq, Eq)]
 pub enum Entry {
     Blank,
@@ -172,7 +118,7 @@ fn parse_verb(word: &[u8]) -> Option<Verb>
     }
 }
 
-/// The drain of an area, `in` or `hit`, between two corners.
+/// The drain request of an area, `in` or `hit`, between two corners.
 #[tactic(auto, using(crate::proofs::Commands::drain_none))]
 fn drain_of(area: &[u8], corners: Corners, most: usize) -> Option<Line>
     ensures { result ≡ drain_of area.now corners most }
@@ -225,7 +171,7 @@ fn parse_command(verb: Verb, args: &[&[u8]]) -> Option<Line>
     }
 }
 
-/// The point that the first two words of a text are, and what stands behind them.
+/// The point in the first two words of a text, and the text after them.
 fn take_point(text: &[u8]) -> Option<([i64; 2], &[u8])>
     ensures point { option_map (λ taken. taken.0) result ≡ point_of (word_at text.now 0) (word_at text.now 1) }
     ensures rest { IfSome result (λ taken. words_of taken.1.now ≡ drop 2 (words_of text.now)) }
@@ -235,7 +181,7 @@ fn take_point(text: &[u8]) -> Option<([i64; 2], &[u8])>
     Some(([x, y], text))
 }
 
-/// The corners that the first four words of a text are, and what stands behind them.
+/// The corners in the first four words of a text, and the text after them.
 fn take_corners(text: &[u8]) -> Option<(Corners, &[u8])>
     ensures corners { option_map (λ taken. taken.0) result ≡
         corners_of (word_at text.now 0) (word_at text.now 1) (word_at text.now 2) (word_at text.now 3) }
@@ -246,7 +192,7 @@ fn take_corners(text: &[u8]) -> Option<(Corners, &[u8])>
     Some((Corners { one, other }, text))
 }
 
-/// The rectangle that a line of a load is, none where the line is blank or bad.
+/// The rectangle in a line of a load; `None` where the line is blank or bad.
 fn parse_rectangle(text: &[u8]) -> Option<Entry>
     ensures found { IfSome result (λ entry. entry ≡ entry_of (words_of text.now)) }
     ensures none { IfNone result (words_of text.now ≢ [] → Entry.Bad ≡ entry_of (words_of text.now)) }
@@ -259,22 +205,14 @@ fn parse_rectangle(text: &[u8]) -> Option<Entry>
     Some(Entry::Rectangle(id, corners))
 }
 
-/// Reads the words of a line.
-///
-/// ```rust
-/// match Parser::new(text) {
-///     Some(parser) => parser.line(),
-///     None => Line::Bad,
-/// }
-/// ```
-/// *`crates/rstar_run/src/command.rt`*
+/// A parser of the words of a line.
 #[derive(Drop)]
 pub struct Parser<'a> {
     words: ArrayVec<&'a [u8], MOST_WORDS>,
 }
 
 impl<'a> Parser<'a> {
-    /// The parser of a line, none where it has more words than a command can have.
+    /// The parser of a line; `None` where it has more words than any command.
     pub fn new(text: &'a [u8]) -> Option<Parser<'a>>
         ensures found { IfSome result (λ parser. map (λ word. word.now) parser.words.items ≡ words_of text.now) }
         ensures none { IfNone result (MOST_WORDS < length (words_of text.now)) }
@@ -283,7 +221,7 @@ impl<'a> Parser<'a> {
         Some(Parser { words })
     }
 
-    /// What the line is.
+    /// The parsed line.
     pub fn line(&self) -> Line
         ensures { result ≡ line_of (map (λ word. word.now) self.now.words.items) }
     {
@@ -297,7 +235,7 @@ impl<'a> Parser<'a> {
     }
 }
 
-/// What a line is, without its end.
+/// Parses a line without its end.
 #[tactic(auto, using(crate::proofs::Commands::line_bad))]
 pub fn parse_line(text: &[u8]) -> Line
     ensures { result ≡ line_of (words_of text.now) }
@@ -308,7 +246,7 @@ pub fn parse_line(text: &[u8]) -> Line
     }
 }
 
-/// What a line inside a load is, without its end.
+/// Parses a line of a load without its end.
 pub fn parse_entry(text: &[u8]) -> Entry
     ensures { result ≡ entry_of (words_of text.now) }
 {

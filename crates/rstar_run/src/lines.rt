@@ -14,17 +14,10 @@ use memchr::memchr;
 use std::alloc::Global;
 use std::io::{BufRead, BufReader, Read};
 
-/// How many bytes are read ahead at most: enough that a long input takes few reads.
+/// The size of the read buffer: large enough that a long input takes few reads.
 const MOST_READ: usize = 65536;
 
-/// Reads lines into one buffer, and counts them.
-///
-/// ```rust
-/// let next_end = lines.next_end();
-/// show_before_reading(next_end, printer, output)?;
-/// lines.advance(next_end)
-/// ```
-/// *`crates/rstar_run/src/program.rt`*
+/// A reader of lines with one buffer, which counts them.
 #[derive(Drop)]
 pub struct Lines<R> {
     reader: BufReader<Source<R>>,
@@ -33,7 +26,7 @@ pub struct Lines<R> {
 }
 
 impl<R: Read + Drop> Lines<R> {
-    /// No line is read yet.
+    /// A reader at the start of an input.
     pub fn new(alloc: Global, input: R) -> Result<Lines<R>, Stop>
         ensures left { IfOk result (λ lines. bytes_left R.remaining lines ≡ R.remaining input) }
         ensures number { IfOk result (λ lines. lines.number ≡ 0) }
@@ -49,14 +42,14 @@ impl<R: Read + Drop> Lines<R> {
         }
     }
 
-    /// Where the next line ends in what was read ahead, so that no read has to wait for it.
+    /// The end of the next line in the buffer, where it is there without a read.
     pub fn next_end(&self) -> Option<usize>
         ensures { IsFirstByte (is_byte 10) (reader_buffer self.now.reader) result }
     {
         memchr(b'\n', self.reader.buffer())
     }
 
-    /// Reads the next line, which `next_end` found or did not. False at the end of the input.
+    /// Reads the next line, with the answer of `next_end`. False at the end of the input.
     pub fn advance(&mut self, end: Option<usize>) -> Result<bool, Stop>
         requires { IsFirstByte (is_byte 10) (reader_buffer self.old.reader) end }
         ensures line { result ≡ Ok true → TakesLine (bytes_left R.remaining self.old)
@@ -76,7 +69,7 @@ impl<R: Read + Drop> Lines<R> {
         }
     }
 
-    /// Takes the next line out of what was read ahead.
+    /// Takes the next line from the buffer.
     fn take_held(&mut self, end: usize) -> Result<bool, Stop>
         requires { IsFirstByte (is_byte 10) (reader_buffer self.old.reader) (Some end) }
         ensures line { OnOk result (TakesLine (bytes_left R.remaining self.old)
@@ -107,14 +100,14 @@ impl<R: Read + Drop> Lines<R> {
         }
     }
 
-    /// The line that was read last, without its end.
+    /// The last line read, without its end.
     pub fn text(&self) -> &[u8]
         ensures { result.now ≡ without_end self.now.line.items }
     {
         without_end(&self.line)
     }
 
-    /// The number of the line that was asked for last, from 1 on. Blank lines count.
+    /// The number of the last line asked for, from 1 on. Blank lines count.
     pub fn number(&self) -> u64
         ensures { result ≡ self.now.number }
     {

@@ -1,5 +1,5 @@
-//! Reads commands over a tree of rectangles, a line each, and prints the answer to each. With the word `pack` it writes
-//! the stored bytes of points, with `unpack` it prints the points of such bytes.
+//! The program: it reads commands over a tree of rectangles, a line each, and prints an answer to each.
+//! `pack` writes the stored form of points, `unpack` prints the points of a stored tree.
 #![tactic(auto)]
 
 mod answers;
@@ -47,7 +47,7 @@ fn main(rt: HostRuntime) -> ExitCode {
     ExitCode::from(status)
 }
 
-/// The words after the program's name. Where one of them is no text, they ask for nothing.
+/// The words after the program's name. A word that is not text is a usage error.
 fn given_words<R: Env + AllocGlobal>(rt: &R) -> Result<Vec<String>, Fault> {
     match env::args(rt) {
         Ok(args) => Ok(args.skip(1).collect(rt.alloc())?),

@@ -1,23 +1,12 @@
-//! What the program can do.
+//! The modes of the program.
 
-/// What the program does.
-///
-/// ```rust
-/// let rows: [(&[&str], Option<Mode>); 10] = [
-///     (&[], Some(Mode::Run)),
-///     (&["pack"], Some(Mode::Pack)),
-///     (&["unpack"], Some(Mode::Unpack)),
-///     (&["list"], None),
-///     // ..
-/// ];
-/// ```
-/// *`crates/rstar_run/src/stored_tests.rt`*
+/// A mode of the program.
 #[derive(Clone, Copy, Debug, PartialEq, Eq)]
 pub enum Mode {
     /// Answers lines.
     Run,
-    /// Writes the stored bytes of points.
+    /// Writes the stored form of points.
     Pack,
-    /// Prints the points of stored bytes.
+    /// Prints the points of a stored tree.
     Unpack,
 }

@@ -1,4 +1,4 @@
-//! Numbers, as words spell them.
+//! The parser of numbers.
 
 ghost use Rattle.std.specs.Prelude.{◌≡◌, ◌≤◌, ◌↔◌, ◌++◌, [], length, drop, IsTrue, IfSome, if◌then◌else◌};
 ghost use Rattle.std.specs.Option.{option_map};
@@ -9,10 +9,10 @@ ghost use Rattle.rstar_run.specs.Words.{words_of};
 
 use super::words::after_spaces;
 
-/// So many digits spell no more than a `u64` holds.
+/// Up to this many digits fit a `u64`.
 const SAFE_DIGITS: usize = 19;
 
-/// The number that decimal digits spell, where a `u64` holds it.
+/// The number that decimal digits spell, where it fits a `u64`.
 pub fn unsigned(word: &[u8]) -> Option<u64>
     ensures { result ≡ unsigned_of word.now }
 {
@@ -30,7 +30,7 @@ pub fn unsigned(word: &[u8]) -> Option<u64>
     Some(value)
 }
 
-/// The number that decimal digits spell, with or without a `-` in front, where an `i64` holds it.
+/// The number that decimal digits spell, with an optional `-` in front, where it fits an `i64`.
 pub fn signed(word: &[u8]) -> Option<i64>
     ensures { result ≡ signed_of word.now }
 {
@@ -38,8 +38,8 @@ pub fn signed(word: &[u8]) -> Option<i64>
     with_sign(is_negative, unsigned(digits)?)
 }
 
-/// The digits in front of a text: the number that they spell, where they are at most `SAFE_DIGITS`, and what stands
-/// behind them.
+/// The number of the leading digits of a text, where they are at most `SAFE_DIGITS`, and the text after
+/// them.
 fn take_digits(text: &[u8]) -> (u64, &[u8])
     ensures value { length (leading_digits text.now) ≤ SAFE_DIGITS → result.0 ≡ digits_value 10 (leading_digits text.now) }
     ensures rest { text.now ≡ leading_digits text.now ++ result.1.now }
@@ -58,14 +58,14 @@ fn take_digits(text: &[u8]) -> (u64, &[u8])
     (value, rest)
 }
 
-/// Whether a text begins with no word: it is at its end, or at a space.
+/// Whether a text begins with a space or is empty.
 fn is_word_end(text: &[u8]) -> bool
     ensures { IsTrue result ↔ (first_word text.now ≡ []) }
 {
     matches!(text, [] | [b' ', ..])
 }
 
-/// The number that the bytes up to the first space spell, where a `u64` holds it, and what stands behind them.
+/// The number up to the first space, where it fits a `u64`, and the text after it.
 fn front_unsigned(text: &[u8]) -> Option<(u64, &[u8])>
     ensures number { option_map (λ taken. taken.0) result ≡ unsigned_of (first_word text.now) }
     ensures rest { IfSome result (λ taken. taken.1.now ≡ after_word text.now) }
@@ -92,7 +92,7 @@ fn take_minus(text: &[u8]) -> (bool, &[u8])
     }
 }
 
-/// The number of a size and a sign, where an `i64` holds it.
+/// The number of a magnitude and a sign, where it fits an `i64`.
 fn with_sign(is_negative: bool, size: u64) -> Option<i64>
     ensures { result ≡ (if is_negative then negated size else plain size) }
 {
@@ -103,8 +103,8 @@ fn with_sign(is_negative: bool, size: u64) -> Option<i64>
     }
 }
 
-/// The number that the bytes up to the first space spell, with or without a `-` in front, where an `i64` holds it, and
-/// what stands behind them.
+/// The number up to the first space, with an optional `-` in front, where it fits an `i64`, and the text
+/// after it.
 fn front_signed(text: &[u8]) -> Option<(i64, &[u8])>
     ensures number { option_map (λ taken. taken.0) result ≡ signed_of (first_word text.now) }
     ensures rest { IfSome result (λ taken. taken.1.now ≡ after_word text.now) }
@@ -114,7 +114,7 @@ fn front_signed(text: &[u8]) -> Option<(i64, &[u8])>
     Some((with_sign(is_negative, size)?, rest))
 }
 
-/// The number that the first word of a text spells, where a `u64` holds it, and what stands behind that word.
+/// The number in the first word of a text, where it fits a `u64`, and the text after it.
 #[tactic(auto, using(crate::proofs::Fronts::first_words))]
 pub fn take_unsigned(text: &[u8]) -> Option<(u64, &[u8])>
     ensures number { option_map (λ taken. taken.0) result ≡ unsigned_of (word_at text.now 0) }
@@ -123,8 +123,8 @@ pub fn take_unsigned(text: &[u8]) -> Option<(u64, &[u8])>
     front_unsigned(after_spaces(text))
 }
 
-/// The number that the first word of a text spells, with or without a `-` in front, where an `i64` holds it, and what
-/// stands behind that word.
+/// The number in the first word of a text, with an optional `-` in front, where it fits an `i64`, and the
+/// text after it.
 #[tactic(auto, using(crate::proofs::Fronts::first_words))]
 pub fn take_signed(text: &[u8]) -> Option<(i64, &[u8])>
     ensures number { option_map (λ taken. taken.0) result ≡ signed_of (word_at text.now 0) }

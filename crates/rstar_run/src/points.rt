@@ -14,16 +14,7 @@ use rstar::Point;
 use std::alloc::Global;
 use std::io::{Read, Write};
 
-/// What a line of a list of points is.
-///
-/// ```rust
-/// match words {
-///     [] => PointLine::Blank,
-///     // ..
-///     _ => PointLine::Bad,
-/// }
-/// ```
-/// *`crates/rstar_run/src/points.rt`*
+/// A parsed line of a list of points.
 #[derive(Clone, Copy, Debug, PartialEq, Eq)]
 pub enum PointLine {
     Blank,
@@ -31,14 +22,14 @@ pub enum PointLine {
     Bad,
 }
 
-/// A line of a list of points, by its words.
+/// The point of two words.
 fn parse_spot(x: &[u8], y: &[u8]) -> Option<PointLine>
     ensures { result ≡ spot_of x.now y.now }
 {
     Some(PointLine::Point([signed(x)?, signed(y)?]))
 }
 
-/// What the words of a line are in a list of points.
+/// The parsed line of these words.
 #[tactic(auto, using(crate::proofs::PointLines::lent_bad))]
 fn parse_point_words(words: &[&[u8]]) -> PointLine
     ensures { result ≡ point_line_of (map (λ word. word.now) words.now) }
@@ -53,7 +44,7 @@ fn parse_point_words(words: &[&[u8]]) -> PointLine
     }
 }
 
-/// What a line of a list of points is, without its end.
+/// Parses a line of a list of points, without its end.
 #[tactic(auto, using(crate::proofs::PointLines::long_bad))]
 pub fn parse_point_line(text: &[u8]) -> PointLine
     ensures { result ≡ point_line_of (words_of text.now) }
@@ -64,7 +55,7 @@ pub fn parse_point_line(text: &[u8]) -> PointLine
     }
 }
 
-/// The points that the lines of an input are.
+/// The points in the lines of an input.
 pub fn read_points<R: Read + Drop>(alloc: Global, input: R) -> Result<Vec<[i64; 2]>, Stop>
     ensures { ReadsPoints (R.remaining input) result }
 {

@@ -1,4 +1,4 @@
-//! Text on its way to an output.
+//! A buffer in front of the output.
 
 ghost use Rattle.std.specs.Prelude.{◌≡◌, ◌++◌, [], decimal, OnOk, IfErr};
 ghost use Rattle.std.specs.Fmt.{signed_decimal};
@@ -10,26 +10,18 @@ use arrayvec::ArrayVec;
 use itoa::Buffer;
 use std::io::{ErrorKind, Write};
 
-/// So many bytes wait to be written at most.
+/// The size of the buffer.
 pub const MOST_HELD: usize = 8192;
 
-/// Holds what was printed and is not yet written. The output comes with each call, so that a
-/// contract can say what stands in it. After a failed write nothing more is to be printed.
-///
-/// ```rust
-/// printer.put_signed(output, x)?;
-/// printer.put(output, b" ")?;
-/// printer.put_signed(output, y)?;
-/// printer.put(output, b"\n")
-/// ```
-/// *`crates/rstar_run/src/points.rt`*
+/// A buffer of what is printed and not yet written. Each call borrows the output, so that a contract can say
+/// what is written to it. After a failed write nothing more may be printed.
 #[derive(Drop)]
 pub struct Printer {
     pub held: ArrayVec<u8, MOST_HELD>,
 }
 
 impl Printer {
-    /// Nothing is printed yet.
+    /// An empty buffer.
     pub fn new() -> Printer
         ensures { result.held.items ≡ [] }
     {
@@ -63,7 +55,7 @@ impl Printer {
         self.put(output, Buffer::new().format(number).as_bytes())
     }
 
-    /// Prints a number in decimal digits, with a `-` in front where it is below 0.
+    /// Prints a number in decimal digits, with a `-` in front where it is negative.
     pub fn put_signed<W: Write>(&mut self, output: &mut W, value: i64) -> Result<(), Stop>
         ensures all { OnOk result (Prints (W.contents output.old) (W.contents output.new)
             self.old.held.items (signed_decimal value) self.new.held.items) }
@@ -74,7 +66,7 @@ impl Printer {
         self.put(output, Buffer::new().format(value).as_bytes())
     }
 
-    /// Writes all that is held, and has the output pass it on.
+    /// Writes the buffer and flushes the output.
     pub fn flush<W: Write>(&mut self, output: &mut W) -> Result<(), Stop>
         ensures all { OnOk result (Appends (W.contents output.old) (W.contents output.new) self.old.held.items) }
         ensures none { OnOk result (self.new.held.items ≡ []) }
@@ -88,7 +80,7 @@ impl Printer {
         }
     }
 
-    /// Writes all that is held.
+    /// Writes the buffer.
     fn write_held<W: Write>(&mut self, output: &mut W) -> Result<(), Stop>
         ensures all { OnOk result (Appends (W.contents output.old) (W.contents output.new) self.old.held.items) }
         ensures none { OnOk result (self.new.held.items ≡ []) }
@@ -100,7 +92,7 @@ impl Printer {
         Ok(())
     }
 
-    /// Prints a text behind what is held, for which there is no room left.
+    /// Prints a text for which the buffer has no room left.
     #[cold]
     #[inline(never)]
     fn put_behind<W: Write>(&mut self, output: &mut W, text: &[u8]) -> Result<(), Stop>
@@ -119,7 +111,7 @@ impl Printer {
     }
 }
 
-/// Writes a text to its end. Where a write fails, a front of the text was written.
+/// Writes a whole text. After a failed write, a prefix of the text is written.
 fn write_out<W: Write>(output: &mut W, text: &[u8]) -> Result<(), Stop>
     ensures all { OnOk result (Appends (W.contents output.old) (W.contents output.new) text.now) }
     ensures front { AppendsFront (W.contents output.old) (W.contents output.new) text.now }

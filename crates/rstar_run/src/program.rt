@@ -1,4 +1,4 @@
-//! Lines in, lines out.
+//! The run of the program.
 
 ghost use Rattle.std.specs.Prelude.{◌≡◌, ◌+◌, ◌++◌, ℕ, List, [], Ok, Err, true, false, IsErr, OnOk, IfOk, IfErr, map, string_bytes};
 ghost use Rattle.std.specs.Io.KnownBytes.{Appends, IsAtEnd, Keeps};
@@ -26,7 +26,7 @@ use std::alloc::{AllocError, AllocFailed, Global};
 use std::io::{Read, Write};
 use std::mem::forget;
 
-/// What one word asks for.
+/// The mode that one word names.
 fn mode_named(word: &str) -> Option<Mode>
     ensures { result ≡ mode_named word.now }
 {
@@ -37,7 +37,7 @@ fn mode_named(word: &str) -> Option<Mode>
     }
 }
 
-/// What the words after the program's name ask for: no word for a run, `pack` or `unpack` alone for what it names.
+/// The mode that the words after the program's name ask for: no word for a run, `pack` or `unpack` alone.
 #[tactic(auto, using(crate::proofs::Arguments::mode_none))]
 pub fn mode(words: &[String]) -> Option<Mode>
     ensures { result ≡ mode_of (map string_bytes words.now) }
@@ -49,20 +49,12 @@ pub fn mode(words: &[String]) -> Option<Mode>
     }
 }
 
-/// Why a run ends before its input does.
-///
-/// ```rust
-/// match e.kind() {
-///     ErrorKind::OutOfMemory => Stop::Memory,
-///     _ => Stop::Input,
-/// }
-/// ```
-/// *`crates/rstar_run/src/source.rt`*
+/// Why a run stops before the end of its input.
 #[derive(Clone, Copy, Debug, PartialEq, Eq)]
 pub enum Stop {
     /// A bad line, by its number from 1 on.
     Line(u64),
-    /// Memory was refused, or the tree is full.
+    /// Memory was refused, or the tree cannot count one more element.
     Memory,
     /// A read failed.
     Input,
@@ -86,7 +78,7 @@ impl<T: Drop> From<AllocFailed<T>> for Stop {
     }
 }
 
-/// Before the next line is read: where that may have to wait, what was printed is written first.
+/// Writes what is printed, where the next line may have to be waited for.
 fn show_before_reading<W: Write>(
     next_end: Option<usize>,
     printer: &mut Printer,
@@ -103,7 +95,7 @@ fn show_before_reading<W: Write>(
     }
 }
 
-/// Reads the next line, once what was printed is shown. False at the end of the input.
+/// Reads the next line, after `show_before_reading`. False at the end of the input.
 fn next_line<R: Read + Drop, W: Write>(
     lines: &mut Lines<R>,
     printer: &mut Printer,
@@ -122,7 +114,7 @@ fn next_line<R: Read + Drop, W: Write>(
     lines.advance(next_end)
 }
 
-/// Reads the lines of a load of so many rectangles. The list grows by the lines that are read.
+/// Reads the lines of a load of this many rectangles. The list grows with the lines read.
 fn read_load<R: Read + Drop, W: Write>(
     alloc: Global,
     count: usize,
@@ -206,7 +198,7 @@ fn answer_next<R: Read + Drop, W: Write>(
     }
 }
 
-/// Answers each line of the input, over a store that has nothing in it yet.
+/// Answers each line of the input, over an empty store.
 fn answer_all<R: Read + Drop, W: Write>(
     alloc: Global,
     input: R,
@@ -228,7 +220,7 @@ fn answer_all<R: Read + Drop, W: Write>(
     Err(Stop::Input)
 }
 
-/// Prints why a run stopped. After a failed write no further one is tried.
+/// Prints why a run stopped. After a failed write nothing more is written.
 pub fn print_stop<W: Write>(printer: &mut Printer, output: &mut W, stop: Stop) -> Result<(), Stop>
     ensures all { OnOk result (Prints (W.contents output.old) (W.contents output.new)
         printer.old.held.items (stop_text stop) printer.new.held.items) }
@@ -249,7 +241,7 @@ pub fn print_stop<W: Write>(printer: &mut Printer, output: &mut W, stop: Stop) -
     }
 }
 
-/// Prints why a run ended before its input did, and writes all that was printed.
+/// Prints why a run stopped, and writes all that is printed.
 fn close<W: Write>(
     printer: &mut Printer,
     output: &mut W,
@@ -272,7 +264,7 @@ fn close<W: Write>(
     }
 }
 
-/// The status of a run that ended so.
+/// The exit status of a run.
 pub fn status(ended: Result<(), Stop>) -> u8
     ensures { result ≡ status_of ended }
 {
@@ -284,18 +276,11 @@ pub fn status(ended: Result<(), Stop>) -> u8
     }
 }
 
-/// Answers each line of the input on the output, and gives the status: 0 at the end of the input,
-/// 2 after a bad line, 3 where memory was refused, 4 where a read or a write failed.
+/// Answers each line of the input on the output, and returns the exit status.
 ///
-/// What stands on the output then is the answers to the lines before, and behind them
-/// `error: line N`, `error: memory` or `error: input`; where a write failed, a front of that.
-///
-/// ```rust
-/// let mut taken = Cursor::new([0u8; 256]);
-/// assert_eq!(rt; run(rt.alloc(), input, &mut taken), status, "at {input:?}");
-/// expect_written(rt, &taken, want, input);
-/// ```
-/// *`crates/rstar_run/src/tests.rt`*
+/// The status is 0 at the end of the input, 2 after a bad line, 3 where memory was refused, and 4 where a
+/// read or a write failed. The output has the answers to the lines before, and then `error: line N`, `error:
+/// memory` or `error: input`. After a failed write it has a prefix of that.
 pub fn run<R: Read + Drop, W: Write>(alloc: Global, input: R, output: &mut W) -> u8
     ensures { Ran (R.remaining input) (W.contents output.old) (W.contents output.new) result }
 {

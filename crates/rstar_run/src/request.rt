@@ -1,4 +1,4 @@
-//! Requests of lines, as commands over the tree.
+//! Requests as commands over the tree.
 
 ghost use Rattle.std.specs.Prelude.{◌≡◌};
 ghost use Rattle.rstar.specs.Steps.{IsFit};
@@ -10,7 +10,7 @@ use super::store::{Item, item};
 use rstar::AABB;
 use rstar::replay::{Command, Query};
 
-/// The command that a line asks for.
+/// The command of a request.
 pub fn command_of(request: &Request) -> Command<Item>
     ensures asked { Asks request.now result }
     ensures fit { IsFit questions 2 result }

@@ -1,4 +1,4 @@
-//! The nearest of two shards, merged: when one machine is not enough (docs/SCALE.md).
+//! The merge of the k nearest of two shards, for more than one machine (docs/SCALE.md).
 
 ghost use Rattle.std.specs.Prelude.{◌≡◌, ◌++◌, [], List, IfOk, IfSome, IfNone};
 ghost use Rattle.rstar.specs.Lists.{AreAlike, AreFirstOf, AreOrdered, IsNotAfter};
@@ -6,7 +6,7 @@ ghost use Rattle.rstar_run.specs.Shards.{IsFirstOfTwo};
 
 use std::alloc::{AllocError, Global};
 
-/// The first item of two lists, and what is left of both.
+/// The first item of two sorted lists, and the rest of both.
 fn first_of<'a, T: Ord + Copy>(one: &'a [T], other: &'a [T]) -> Option<(T, &'a [T], &'a [T])>
     ensures first { IfSome result (λ n. IsFirstOfTwo T.cmp one.now other.now n.0 n.1.now n.2.now) }
     ensures none { IfNone result (one.now ++ other.now ≡ []) }
@@ -27,10 +27,10 @@ fn first_of<'a, T: Ord + Copy>(one: &'a [T], other: &'a [T]) -> Option<(T, &'a [
     }
 }
 
-/// The first so many items of two lists that are in order, or all where there are fewer.
+/// The first `most` items of two sorted lists; all where there are fewer.
 ///
-/// Where the lists are the first so many of two shards, these are the first so many of both shards together, and any other
-/// such list is this one, up to items that compare equal. With items of a distance and then an ID, these are the nearest.
+/// Where the lists are the first `most` of two shards, these are the first `most` of both shards together,
+/// up to items that compare equal. With items of a distance and then an ID, these are the k nearest.
 pub(crate) fn merged_nearest<T: Ord + Copy>(
     alloc: Global,
     one: &[T],
@@ -64,7 +64,7 @@ pub(crate) fn merged_nearest<T: Ord + Copy>(
 mod tests {
     use super::*;
 
-    /// Whether two answers merge to this one.
+    /// Whether two lists merge to this one.
     fn merge_to(
         alloc: Global,
         one: &[(u64, u64)],

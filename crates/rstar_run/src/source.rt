@@ -7,19 +7,7 @@ use std::alloc::Global;
 use std::io;
 use std::io::{Error, ErrorKind, Read};
 
-/// Reads as `R` does, but that no failed read looks like a refused allocation.
-///
-/// ```rust
-/// match BufReader::with_capacity(alloc, MOST_READ, Source(input)) {
-///     Ok(reader) => Ok(Lines {
-///         reader,
-///         line: Vec::new(alloc),
-///         number: 0,
-///     }),
-///     Err(_) => Err(Stop::Memory),
-/// }
-/// ```
-/// *`crates/rstar_run/src/lines.rt`*
+/// A reader that never reports a failed read as a refusal of memory.
 #[derive(Drop)]
 pub struct Source<R>(pub R);
 
@@ -37,7 +25,7 @@ impl<R: Read> Read for Source<R> {
     }
 }
 
-/// Why an input could not be read. Out of memory is the buffer for what was read alone.
+/// Why an input could not be read. `OutOfMemory` comes only from the buffer.
 pub fn input_stop(e: Error) -> Stop
     ensures { (result ≡ Stop.Memory) ⊎ (result ≡ Stop.Input) }
 {

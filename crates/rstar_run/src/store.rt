@@ -1,4 +1,4 @@
-//! The rectangles that commands work on.
+//! The store: the rectangles of the program.
 
 ghost use Rattle.std.specs.Prelude.{◌≡◌, false, [], length};
 ghost use Rattle.rstar.specs.Steps.{IsFit};
@@ -12,26 +12,9 @@ use std::alloc::Global;
 use std::marker::Model;
 
 /// A rectangle with its ID.
-///
-/// ```rust
-/// impl Listed for Item {
-///     ghost text_of = { id_text };
-///     // ..
-///     fn print<W: Write>(&self, printer: &mut Printer, output: &mut W) -> Result<(), Stop> {
-///         printer.put_number(output, self.data)
-///     }
-/// }
-/// ```
-/// *`crates/rstar_run/src/answers.rt`*
 pub type Item = GeomWithData<Rectangle<[i64; 2]>, u64>;
 
 /// Rectangles with IDs, in a tree.
-///
-/// ```rust
-/// let mut store = Store::new(alloc);
-/// let ended = answer_all(alloc, input, &mut store, &mut printer, output);
-/// ```
-/// *`crates/rstar_run/src/program.rt`*
 #[derive(Drop)]
 pub struct Store {
     tree: RTree<Item>,

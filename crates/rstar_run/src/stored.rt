@@ -1,4 +1,4 @@
-//! Stored trees: written of lines of points, and read into such.
+//! `pack` and `unpack`: stored trees from lines of points, and back.
 
 ghost use Rattle.std.specs.Prelude.{◌≡◌, ◌++◌, OnOk, IfOk, IfErr};
 ghost use Rattle.std.specs.Io.KnownBytes.{Keeps};
@@ -19,17 +19,10 @@ use rstar::{DefaultParams, RTree, RTreeParams};
 use std::alloc::{AllocError, Global};
 use std::io::{Read, Write};
 
-/// Why a call has no answer but an error.
-///
-/// ```rust
-/// let mut taken = Cursor::new([0u8; 256]);
-/// assert_eq!(rt; refuse(Fault::Usage, &mut taken), 2);
-/// expect_written(&rt, &taken, "error: usage\n", b"");
-/// ```
-/// *`crates/rstar_run/src/stored_tests.rt`*
+/// Why a call ends with an error.
 #[derive(Clone, Copy, Debug, PartialEq, Eq)]
 pub enum Fault {
-    /// The words after the program's name ask for nothing.
+    /// The words after the program's name are no mode.
     Usage,
     /// A line is bad, memory was refused, or a read failed.
     Stop(Stop),
@@ -61,7 +54,7 @@ impl From<AllocError> for Fault {
     }
 }
 
-/// The line that is printed where a tree could not be read or written.
+/// The error line of a tree that could not be read or written.
 fn stored_text(error: StoredError) -> &'static [u8]
     ensures { result.now ≡ stored_text error }
 {
@@ -77,7 +70,7 @@ fn stored_text(error: StoredError) -> &'static [u8]
     }
 }
 
-/// Prints the error of a fault. After a failed write no further one is tried.
+/// Prints the error line of a fault. After a failed write nothing more is written.
 fn print_fault<W: Write>(printer: &mut Printer, output: &mut W, fault: Fault) -> Result<(), Stop>
     ensures all { OnOk result (Prints (W.contents output.old) (W.contents output.new)
         printer.old.held.items (fault_text fault) printer.new.held.items) }
@@ -92,7 +85,7 @@ fn print_fault<W: Write>(printer: &mut Printer, output: &mut W, fault: Fault) ->
     }
 }
 
-/// The status of a fault.
+/// The exit status of a fault.
 fn fault_status(fault: Fault) -> u8
     ensures { result ≡ fault_status fault }
 {
@@ -104,8 +97,7 @@ fn fault_status(fault: Fault) -> u8
     }
 }
 
-/// Writes all that was printed, and gives this status, or 4 where a write failed. After a failed write no further one
-/// is tried.
+/// Writes all that is printed, and returns this status, or 4 where a write failed.
 fn finish<W: Write>(
     printer: &mut Printer,
     output: &mut W,
@@ -125,7 +117,7 @@ fn finish<W: Write>(
     }
 }
 
-/// Prints the error of a fault alone, and gives its status, or 4 where a write failed.
+/// Prints the error line of a fault, and returns its status, or 4 where a write failed.
 pub fn refuse<W: Write>(fault: Fault, output: &mut W) -> u8
     ensures { Tells (W.contents output.old) (W.contents output.new) (fault_text fault) (fault_status fault) result }
 {
@@ -134,7 +126,7 @@ pub fn refuse<W: Write>(fault: Fault, output: &mut W) -> u8
     finish(&mut printer, output, printed, fault_status(fault))
 }
 
-/// The stored bytes of a load of the points that the lines of an input are.
+/// The stored form of a bulk load of the points in the lines of an input.
 fn packed<R: Read + Drop>(alloc: Global, input: R) -> Result<Vec<u8>, Fault>
     ensures { Packs (R.remaining input) result }
 {
@@ -143,22 +135,11 @@ fn packed<R: Read + Drop>(alloc: Global, input: R) -> Result<Vec<u8>, Fault>
     Ok(write_stored(&tree)?)
 }
 
-/// Writes the stored bytes of a load of the points that the lines of the input are, and gives the status: 0, 2 after a
-/// bad line or where the tree is too high, 3 where memory was refused, 4 where a read or a write failed.
+/// Writes the stored form of a bulk load of the points in the input's lines, and returns the exit status.
 ///
-/// What stands on the output where there is no tree is `error: line N`, `error: TooHigh`, `error: memory` or
-/// `error: input`; where a write failed, a front of what was to stand there.
-///
-/// ```rust
-/// let rows: [(&[u8], &[u8], u8); 16] = [
-///     (b"", &EMPTY, 0),
-///     (b"\n \r\n", &EMPTY, 0),
-///     (b"1 2\n", &ONE, 0),
-///     (b"\n  01   2 \r\n\n", &ONE, 0),
-///     // ..
-/// ];
-/// ```
-/// *`crates/rstar_run/src/stored_tests.rt`*
+/// The status is 0, 2 after a bad line or where the tree is too high, 3 where memory was refused, and 4
+/// where a read or a write failed. An error line is `error: line N`, `error: TooHigh`, `error: memory` or
+/// `error: input`. After a failed write the output has a prefix of what it should have.
 pub fn pack<R: Read + Drop, W: Write>(alloc: Global, input: R, output: &mut W) -> u8
     ensures { Packed (R.remaining input) (W.contents output.old) (W.contents output.new) result }
 {
@@ -183,7 +164,7 @@ pub fn points_of(alloc: Global, tree: RTree<[i64; 2]>) -> Result<Vec<[i64; 2]>, 
     }
 }
 
-/// The points of the tree that an input spells, ascending.
+/// The points of the stored tree in an input, ascending.
 fn unpacked<R: Read + Drop>(alloc: Global, input: R) -> Result<Vec<[i64; 2]>, Fault>
     ensures { Unpacks (R.remaining input) result }
 {
@@ -194,27 +175,12 @@ fn unpacked<R: Read + Drop>(alloc: Global, input: R) -> Result<Vec<[i64; 2]>, Fa
     Ok(points)
 }
 
-/// Prints the points of the tree that the input spells, a line each, ascending by x and then by y, and gives the
-/// status: 0, 2 where the input spells no tree, 3 where memory was refused, 4 where a read or a write failed.
+/// Prints the points of the stored tree in an input, a line each, by x and then y, and returns the exit
+/// status.
 ///
-/// What stands on the output where there is no tree is `error: ` and the fault of the bytes, `error: memory` or
-/// `error: input`; where a write failed, a front of what was to stand there.
-///
-/// ```rust
-/// pub fn answer<R: Read + Drop, W: Write>(
-///     alloc: Global,
-///     packs: bool,
-///     input: R,
-///     output: &mut W,
-/// ) -> u8 {
-///     if packs {
-///         pack(alloc, input, output)
-///     } else {
-///         unpack(alloc, input, output)
-///     }
-/// }
-/// ```
-/// *`crates/rstar_run/src/stored_tests.rt`*
+/// The status is 0, 2 where the input spells no tree, 3 where memory was refused, and 4 where a read or a
+/// write failed. An error line is `error: ` and the fault of the bytes, `error: memory` or `error: input`.
+/// After a failed write the output has a prefix of what it should have.
 pub fn unpack<R: Read + Drop, W: Write>(alloc: Global, input: R, output: &mut W) -> u8
     ensures { Unpacked (R.remaining input) (W.contents output.old) (W.contents output.new) result }
 {

@@ -6,7 +6,7 @@ ghost use Rattle.rstar_run.specs.Words.{words_of, without_end};
 
 use arrayvec::ArrayVec;
 
-/// No command has more words.
+/// The most words of a command.
 pub const MOST_WORDS: usize = 8;
 
 /// A line without its LF, and without a CR right before that.
@@ -19,7 +19,7 @@ pub fn without_end(line: &[u8]) -> &[u8]
     }
 }
 
-/// A text without the spaces in front.
+/// A text without its leading spaces.
 pub fn after_spaces(text: &[u8]) -> &[u8]
     ensures { result.now ≡ after_spaces text.now }
 {
@@ -38,7 +38,7 @@ pub fn is_blank(text: &[u8]) -> bool
     after_spaces(text).is_empty()
 }
 
-/// What stands between the spaces of a line, where it is no more than a command can have.
+/// The words of a line; `None` where there are more than any command has.
 pub fn words(text: &[u8]) -> Option<ArrayVec<&[u8], MOST_WORDS>>
     ensures found { IfSome result (λ words. map (λ word. word.now) words.items ≡ words_of text.now) }
     ensures none { IfNone result (MOST_WORDS < length (words_of text.now)) }

@@ -1,5 +1,5 @@
-//! Loading a list of elements at once, after Lee and Lee, "OMT: Overlap Minimizing Top-down Bulk Loading Algorithm for
-//! R-tree" (2003).
+//! Bulk loading, after Lee and Lee, "OMT: Overlap Minimizing Top-down Bulk Loading Algorithm for R-tree"
+//! (2003).
 
 ghost use Rattle.std.specs.Prelude.{◌≡◌, ◌≢◌, ◌≤◌, ◌<◌, ◌+◌, ◌^◌, ◌↔◌, [], length, IsTrue, IfOk, OnOk};
 ghost use Rattle.std.specs.List.Sorted.{IsPermutation};
@@ -22,28 +22,12 @@ use rstar_base::params::RTreeParams;
 use rstar_base::point::Point;
 use std::alloc::AllocError;
 
-/// The root of a tree of these elements, of which there is at least one and none has an empty envelope.
+/// The root of a tree loaded with these elements (Lee and Lee 2003).
 ///
-/// A node of too many elements is cut into slabs of equal numbers along the last axis, each slab along the axis before
-/// it, and so on, and each part becomes a child. How deep that goes depends on the number of elements alone, and all
-/// leaves lie on one level. It is refused where the allocator refuses a list, and then the elements are dropped.
-///
-/// It costs a selection by the key for each slab of each axis, on each level: about n log n calls of `envelope`.
-///
-/// ```rust
-/// if elements.is_empty() || !none_empty(&elements) {
-///     return false;
-/// }
-/// match bulk_load_sequential::<T, DefaultParams>(elements) {
-///     Ok(root) => {
-///         let is_so = has_parts(alloc, root.children(), parts);
-///         // ..
-///         is_so
-///     }
-///     Err(_) => false,
-/// }
-/// ```
-/// *`crates/rstar_vectors/src/loads.rt`*
+/// There is at least one element, and none has an empty envelope. A node of too many elements is cut into
+/// slabs of equal length along the last axis, each slab along the axis before, and so on. Each part becomes
+/// a child, and all leaves lie on one level. The cost is one partition for each slab of each axis on each
+/// level: about n log n calls of `axis_key`. A refusal of memory drops the elements.
 pub fn bulk_load_sequential<T: RTreeObject, Params: RTreeParams>(
     elements: Vec<T>,
 ) -> Result<ParentNode<T>, AllocError>
@@ -59,8 +43,8 @@ pub fn bulk_load_sequential<T: RTreeObject, Params: RTreeParams>(
     load_root::<T, Params>(elements, levels, &mut widest)
 }
 
-/// The same with so many levels of parents below the root, as `load_depth` says; `widest` grows to the most children of
-/// a parent.
+/// The same with this many levels of parents below the root. `widest` is raised to the greatest number of
+/// children.
 pub(crate) fn load_root<T: RTreeObject, Params: RTreeParams>(
     elements: Vec<T>,
     levels: usize,
@@ -83,17 +67,7 @@ pub(crate) fn load_root<T: RTreeObject, Params: RTreeParams>(
     load_node::<_, Params>(&mut list, len, levels, widest)
 }
 
-/// Whether no element has an empty envelope, as loads ask. It looks at each until one has.
-///
-/// ```rust
-/// let list = elements.to_vec(alloc)?;
-/// if none_empty(&list) {
-///     RTree::bulk_load_with_params(list)
-/// } else {
-///     Ok(RTree::default(alloc))
-/// }
-/// ```
-/// *`crates/rstar_vectors/src/scenarios.rt`*
+/// Whether no element has an empty envelope, as bulk loads ask.
 pub fn none_empty<T: RTreeObject>(elements: &[T]) -> bool
     ensures { IsTrue result ↔ NoneEmpty T.Envelope.boxes.is_empty T.object.box_of elements.now }
 {

@@ -1,4 +1,4 @@
-//! Taking many elements out at once: one pass over the tree, into a list that has room. Nothing here takes memory.
+//! Removal of many elements in one pass, into a list with room. Nothing here takes memory.
 
 ghost use Rattle.std.specs.Prelude.{◌≡◌, ℕ, ◌<◌, ◌≤◌, true, slice_index_or, vec_len, vec_capacity};
 ghost use Rattle.rstar.specs.declared.node.RTreeNode.{Leaf};
@@ -11,11 +11,10 @@ use crate::algorithm::removal::{element_of, is_childless, is_selected_leaf};
 use crate::needs::{Covered, Question};
 use crate::node::{ParentNode, RTreeNode, envelope_for_children};
 
-/// Moves selected elements from below a parent to the end of a list, until the list holds `most` of them or none is
-/// left below an accepted parent. The envelope is made anew, once, where an element went.
+/// Moves selected elements from below a parent to the end of a list, until the list holds `most` elements or
+/// no selected element is left. Envelopes are recomputed once, where elements left.
 ///
-/// It tests each child of the accepted parents once and merges each child of a parent that lost an element once, so
-/// that a wide node costs no more than its width.
+/// It tests each child of an accepted parent once, so a wide node costs no more than its width.
 #[cycle(gather)]
 pub(crate) fn gather_below<T: Covered, R: Question<T>>(
     node: &mut ParentNode<T>,
@@ -38,10 +37,10 @@ pub(crate) fn gather_below<T: Covered, R: Question<T>>(
     }
 }
 
-/// The same of the nodes of a list; parents that lost their last child are dropped.
+/// The same among the nodes of a list. Parents without children are dropped.
 ///
-/// They are looked at from the last to the first, and the last one takes the place of one that goes: it was looked at
-/// before, and nothing is shifted.
+/// Nodes are visited from the last to the first. The last node takes the place of a dropped one, so nothing
+/// shifts.
 #[cycle(gather)]
 fn gather_among<T: Covered, R: Question<T>>(
     children: &mut Vec<RTreeNode<T>>,
@@ -70,7 +69,7 @@ fn gather_among<T: Covered, R: Question<T>>(
     }
 }
 
-/// The same below one node, unless it is a leaf or is not opened.
+/// The same below one node, unless it is a leaf or is not accepted.
 #[cycle(gather)]
 fn gather_inside<T: Covered, R: Question<T>>(
     child: &mut RTreeNode<T>,
@@ -93,7 +92,7 @@ fn gather_inside<T: Covered, R: Question<T>>(
     }
 }
 
-/// Takes the leaf at this place out; the last node takes its place.
+/// Removes the leaf at a place. The last node takes its place.
 fn swap_leaf_out<T: Covered>(children: &mut Vec<RTreeNode<T>>, index: usize) -> T
     requires within { index < vec_len children.old }
     requires leaf { (n : _) → is_a_leaf (slice_index_or children.old.items index n) ≡ true }
@@ -104,7 +103,7 @@ fn swap_leaf_out<T: Covered>(children: &mut Vec<RTreeNode<T>>, index: usize) -> 
     element_of(children.swap_remove(index))
 }
 
-/// Drops the node at this place; the last one takes its place.
+/// Drops the node at a place. The last node takes its place.
 #[inline(never)]
 fn swap_out<T: Covered>(children: &mut Vec<RTreeNode<T>>, index: usize)
     requires { index < vec_len children.old }

@@ -1,4 +1,4 @@
-//! Neighbours: the elements in the order of their distances to a point, and those of least distance.
+//! Neighbours: elements by distance, and elements at the least distance (Roussopoulos et al. 1995).
 
 ghost use Rattle.std.specs.Prelude.{◌≡◌, ◌≤◌, ℕ, [], pos, map, IfOk, IfSome, IfNone};
 ghost use Rattle.rstar_base.specs.Points.{table};
@@ -28,28 +28,11 @@ use std::alloc::AllocError;
 pub(crate) use ties::all_nearest;
 pub(crate) use waiting::{AnyFirst, OwnOrder, ParentsFirst};
 
-/// The elements of a tree with their squared distances to a point, the nearest first, and then `None`.
+/// The elements of a tree with their squared distances, the nearest first.
 ///
-/// Each `next` opens the parents that are no farther than the element it gives, the nearest first, each once, and no
-/// other one: the first opens the root. A distance is computed once for each child of an opened parent. It takes memory
-/// where more than 32 nodes wait; a refusal comes once, and then `None`. The order is that of Roussopoulos, Kelley and
-/// Vincent (1995) by MINDIST alone.
-///
-/// ```rust
-/// fn is_next<T: PointDistance>(
-///     neighbors: &mut NearestNeighborDistance2Iterator<'_, T>,
-///     distance: Distance<T>,
-///     opened: Option<&usize>,
-/// ) -> bool
-///     // ..
-/// {
-///     match neighbors.next() {
-///         Some(Ok((_, found))) => found == distance && is_as_told(neighbors.opened(), opened),
-///         _ => false,
-///     }
-/// }
-/// ```
-/// *`crates/rstar_vectors/src/neighbour_rows.rt`*
+/// The traversal visits parents in the order of their distances (MINDIST of Roussopoulos et al. 1995), each
+/// once, and none farther than the element that it yields. A push takes memory where more than 32 nodes
+/// wait. A refusal comes once, and then `None`.
 pub type NearestNeighborDistance2Iterator<'a, T> = NeighborsWithDistance<
     'a,
     ParentNode<T>,
@@ -58,18 +41,8 @@ pub type NearestNeighborDistance2Iterator<'a, T> = NeighborsWithDistance<
     PointOf<T>,
 >;
 
-/// What a `NearestNeighborDistance2Iterator` is, by the types that it holds: a root's, a node's, a scalar's, a point's.
-///
-/// ```rust
-/// let is_fresh = neighbors.opened() == 0;
-/// for k in 0..distances.len() {
-///     if !is_next(neighbors, distances[k], opened.get(k)) {
-///         return false;
-///     }
-/// }
-/// is_fresh && neighbors.next().is_none()
-/// ```
-/// *`crates/rstar_vectors/src/neighbour_rows.rt`*
+/// The type of `NearestNeighborDistance2Iterator`. Its parameters are the types of root, node, scalar and
+/// point.
 #[derive(Drop)]
 pub struct NeighborsWithDistance<'a, R, N, S, P> {
     search: NeighborSearch<'a, R, N, S, AnyFirst>,
@@ -96,8 +69,7 @@ impl<'a, T: PointDistance> NeighborsWithDistance<
         }
     }
 
-    /// How many parents were opened so far, the root among them, held at the greatest `usize`; 0 before the first
-    /// `next`.
+    /// The number of parents visited so far. The root counts; the number is clamped to the greatest `usize`.
     pub fn opened(&self) -> usize
         ensures { result ≡ (search_of self.now).opened }
     {
@@ -127,21 +99,8 @@ impl<'a, T: PointDistance> Iterator
     }
 }
 
-/// The elements of a tree, the nearest to a point first, and then `None`, as `NearestNeighborDistance2Iterator` gives
-/// them with their distances.
-///
-/// ```rust
-/// fn points_in_order<'a>(
-///     alloc: Global,
-///     tree: &'a RTree<At>,
-///     place: At,
-/// ) -> Result<Vec<&'a At>, AllocError>
-///     // ..
-/// {
-///     tree.nearest_neighbor_iter(place).try_collect(alloc)
-/// }
-/// ```
-/// *`crates/rstar_vectors/src/neighbours.rt`*
+/// The elements of a tree, the nearest first. It is `NearestNeighborDistance2Iterator` without the
+/// distances.
 pub type NearestNeighborIterator<'a, T> = Neighbors<
     'a,
     ParentNode<T>,
@@ -150,19 +109,8 @@ pub type NearestNeighborIterator<'a, T> = Neighbors<
     PointOf<T>,
 >;
 
-/// What a `NearestNeighborIterator` is, by the types that it holds. (It has what `NeighborsWithDistance` has, and not one of
-/// those: how much room that takes would have to be shown again wherever one is made, asked or dropped.)
-///
-/// ```rust
-/// let mut neighbors = tree.nearest_neighbor_iter(place);
-/// let mut all = Vec::new(alloc);
-/// while let Some(found) = neighbors.next() {
-///     let item = found?;
-///     all.push(item)?;
-/// }
-/// Ok((all, neighbors.opened()))
-/// ```
-/// *`crates/rstar_vectors/src/neighbours.rt`*
+/// The type of `NearestNeighborIterator`. Its parameters are the types of root, node, scalar and point. It
+/// repeats the fields of `NeighborsWithDistance`: a field of that type would cost a size proof at each use.
 #[derive(Drop)]
 pub struct Neighbors<'a, R, N, S, P> {
     search: NeighborSearch<'a, R, N, S, AnyFirst>,
@@ -183,8 +131,7 @@ impl<'a, T: PointDistance> Neighbors<'a, ParentNode<T>, RTreeNode<T>, Distance<T
         }
     }
 
-    /// How many parents were opened so far, the root among them, held at the greatest `usize`; 0 before the first
-    /// `next`.
+    /// The number of parents visited so far. The root counts; the number is clamped to the greatest `usize`.
     pub fn opened(&self) -> usize
         ensures { result ≡ (search_of (with_distances self.now)).opened }
     {
@@ -220,24 +167,11 @@ impl<'a, T: PointDistance> Iterator
     }
 }
 
-/// An element of least squared distance to a point, with that distance; `None` exactly where the node has no element.
+/// A nearest element below a root with its squared distance.
 ///
-/// It opens the nearest waiting parent first, and leaves out what lies farther than the least `min_max_dist_2` seen
-/// (Roussopoulos, Kelley and Vincent 1995). That never loses the answer: the least distance of a whole node lies
-/// between the distance of its envelope and its envelope's `min_max_dist_2`. It takes memory where more than 32 nodes
-/// wait, and is refused where the allocator refuses that.
-///
-/// ```rust
-/// pub(crate) fn one_below<'a, T: PointDistance>(
-///     tree: &'a RTree<T>,
-///     place: PointOf<T>,
-/// ) -> Result<Option<(&'a T, Distance<T>)>, AllocError>
-///     // ..
-/// {
-///     nearest_neighbor_with_distance_2(tree.root(), place)
-/// }
-/// ```
-/// *`crates/rstar_vectors/src/neighbours.rt`*
+/// `None` comes exactly where there is no element. The traversal visits the nearest waiting parent first and
+/// prunes what is farther than the least `min_max_dist_2` seen (Roussopoulos et al. 1995). It takes memory,
+/// and may be refused, only where more than 32 nodes wait.
 pub fn nearest_neighbor_with_distance_2<'a, T: PointDistance>(
     root: &'a ParentNode<T>,
     point: PointOf<T>,
@@ -258,23 +192,11 @@ pub fn nearest_neighbor_with_distance_2<'a, T: PointDistance>(
     one_nearest(root, &point)
 }
 
-/// All elements of least squared distance to a point, of which there is one at least, in some order, with that distance;
-/// `None` exactly where the node has no element.
+/// All elements below a root at the least squared distance, with that distance. There is at least one;
+/// `None` comes exactly where there is no element.
 ///
-/// It takes neighbours, as `NearestNeighborDistance2Iterator` gives them, until one is farther than the first. It is
-/// refused where the allocator refuses the list or what waits.
-///
-/// ```rust
-/// pub(crate) fn all_below<'a, T: PointDistance>(
-///     tree: &'a RTree<T>,
-///     place: PointOf<T>,
-/// ) -> Result<Option<(Vec<&'a T>, Distance<T>)>, AllocError>
-///     // ..
-/// {
-///     nearest_neighbors_with_distance_2(tree.root(), place)
-/// }
-/// ```
-/// *`crates/rstar_vectors/src/neighbours.rt`*
+/// It takes neighbours until one is farther than the first. It may be refused the memory of the list or of
+/// the queue.
 pub fn nearest_neighbors_with_distance_2<'a, T: PointDistance>(
     root: &'a ParentNode<T>,
     point: PointOf<T>,

@@ -1,6 +1,6 @@
-//! Taking elements out: one selected element for each call, from a place on. Nothing here takes memory.
+//! Removal of one selected element for each call, from a place on. Nothing here takes memory.
 //!
-//! What is not done for each element stays out of line (`#[inline(never)]`), so that the steps along the path are short.
+//! Steps that not every call needs stay out of line (`#[inline(never)]`), so that the path down is short.
 
 ghost use Rattle.std.specs.Prelude.{◌≡◌, ℕ, ◌-◌, ◌<◌, ◌≤◌, true, false, None, IfNone, length, replicate};
 ghost use Rattle.std.specs.Prelude.{vec_len, vec_capacity, slice_index_or};
@@ -18,22 +18,22 @@ pub(crate) mod earliest;
 use crate::needs::{Covered, Merges, Question};
 use crate::node::{ParentNode, RTreeNode, envelope_for_children};
 
-/// The merge of the envelopes of the first children of a node, and how many they are.
+/// The merge of the envelopes of the first children of a node, and the number of them.
 ///
-/// A drain keeps it where the last number of its place stands, of children that it has not come to. So the envelope of
-/// a wide node is made anew without looking at each of them.
+/// A drain keeps it for the node at its place, for the children that it has not reached. So the envelope of
+/// a wide node is recomputed without a look at each child.
 #[derive(Drop)]
 pub struct Rest<E> {
     envelope: E,
     count: usize,
 }
 
-/// Takes out the next selected element below a parent, from a place on, and makes its envelope anew where one of its
-/// children's changed; `changed` then tells whether its own did.
+/// Removes the next selected element below a parent, from a place on, and recomputes envelopes where a
+/// child's changed. `changed` says whether the parent's own envelope did.
 ///
-/// Children are looked at from the last to the first, so that a drain of everything shifts none. The place is the
-/// number of children passed over, those to the right, a number for each level. Where there are fewer numbers the
-/// search begins at the last child of the levels below. `rest` is of the node that the last number stands in.
+/// Children are visited from the last to the first, so a drain of everything shifts none. The place has a
+/// number for each level: how many children to the right are passed. A missing number is 0. `rest` is that
+/// of the node at the last number.
 #[cycle(take)]
 pub(crate) fn take_below<T: Covered, R: Question<T>>(
     node: &mut ParentNode<T>,
@@ -60,7 +60,7 @@ pub(crate) fn take_below<T: Covered, R: Question<T>>(
     taken
 }
 
-/// The merge of the envelopes of these nodes, by what is kept at the place.
+/// The merge of the envelopes of these nodes, with the help of what is kept at the place.
 #[inline(always)]
 fn merge_along<T: Covered>(
     children: &[RTreeNode<T>],
@@ -80,10 +80,10 @@ fn merge_along<T: Covered>(
     }
 }
 
-/// The merge of the envelopes of these nodes, of which so many to the right were passed over.
+/// The merge of the envelopes of these nodes, of which `passed` to the right were passed.
 ///
-/// Where a drain takes all of n nodes, it so merges n for each root of n that are taken, and some root of n for each
-/// one. A few nodes are merged at once.
+/// A drain of n nodes merges about the square root of n envelopes for each node. A few nodes are merged at
+/// once.
 #[inline(always)]
 fn merge_at<T: Covered>(
     children: &[RTreeNode<T>],
@@ -107,7 +107,7 @@ fn merge_at<T: Covered>(
     merged
 }
 
-/// What is kept of the first nodes, made anew where the next one, the last of those that are left, is among them.
+/// The merge of the first nodes, recomputed where the next node to visit is among them.
 #[inline(never)]
 fn front_of<T: Covered>(
     children: &[RTreeNode<T>],
@@ -132,8 +132,8 @@ fn front_of<T: Covered>(
     }
 }
 
-/// Takes out the next selected element of these nodes, and drops a parent that lost its last child; `changed` tells whether
-/// one of them went, or changed its envelope.
+/// Removes the next selected element of these nodes, and drops a parent without children. `changed` says
+/// whether a node was dropped or changed its envelope.
 #[cycle(take)]
 fn take_among<T: Covered, R: Question<T>>(
     children: &mut Vec<RTreeNode<T>>,
@@ -173,7 +173,7 @@ fn take_among<T: Covered, R: Question<T>>(
     None
 }
 
-/// Takes out the next selected element below a child, unless it is a leaf or is not opened.
+/// Removes the next selected element below a child, unless it is a leaf or is not accepted.
 #[cycle(take)]
 fn take_inside<T: Covered, R: Question<T>>(
     child: &mut RTreeNode<T>,
@@ -200,7 +200,7 @@ fn take_inside<T: Covered, R: Question<T>>(
     }
 }
 
-/// Whether the node is a leaf that is selected.
+/// Whether a node is a selected leaf.
 pub(super) fn is_selected_leaf<T: Covered, R: Question<T>>(node: &RTreeNode<T>, func: &R) -> bool
     ensures { result ≡ is_selected_leaf (R.selects func.now) node.now }
 {
@@ -210,7 +210,7 @@ pub(super) fn is_selected_leaf<T: Covered, R: Question<T>>(node: &RTreeNode<T>, 
     }
 }
 
-/// Whether the node is a parent without children.
+/// Whether a node is a parent without children.
 pub(super) fn is_childless<T: Covered>(node: &RTreeNode<T>) -> bool
     ensures { result ≡ is_childless node.now }
 {
@@ -220,7 +220,7 @@ pub(super) fn is_childless<T: Covered>(node: &RTreeNode<T>) -> bool
     }
 }
 
-/// Takes the leaf at this place out.
+/// Removes the leaf at a place.
 fn take_leaf<T: Covered>(children: &mut Vec<RTreeNode<T>>, index: usize) -> T
     requires within { index < vec_len children.old }
     requires leaf { (n : _) → is_a_leaf (slice_index_or children.old.items index n) ≡ true }
@@ -242,7 +242,7 @@ pub(super) fn element_of<T: Covered>(leaf: RTreeNode<T>) -> T
     }
 }
 
-/// Drops the node at this place.
+/// Drops the node at a place.
 #[inline(never)]
 fn drop_child<T: Covered>(children: &mut Vec<RTreeNode<T>>, index: usize)
     requires { index < vec_len children.old }
@@ -262,7 +262,7 @@ fn first_number(path: &[usize]) -> usize
     }
 }
 
-/// Writes the place among the nodes of the first level.
+/// Sets the place among the nodes of the first level.
 fn set_first(path: &mut [usize], passed: usize)
     ensures { path.new ≡ with_first path.old passed }
 {
@@ -271,7 +271,7 @@ fn set_first(path: &mut [usize], passed: usize)
     }
 }
 
-/// Goes back to the beginning on the levels below the first, where there are some, and keeps no envelope then.
+/// Resets the levels below the first, where there are some, and drops the kept envelope then.
 #[inline(never)]
 fn clear_lower<E: Drop>(path: &mut [usize], rest: &mut Option<Rest<E>>)
     ensures numbers { lower_numbers path.new ≡ replicate (length (lower_numbers path.old)) 0 }
@@ -284,7 +284,7 @@ fn clear_lower<E: Drop>(path: &mut [usize], rest: &mut Option<Rest<E>>)
     }
 }
 
-/// Writes zeros.
+/// Sets all numbers to 0.
 fn clear(path: &mut [usize])
     ensures { path.new ≡ replicate (length path.old) 0 }
 {

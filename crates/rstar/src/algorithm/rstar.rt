@@ -1,4 +1,4 @@
-//! Insertion, and how an overfull parent is split, after Beckmann, Kriegel, Schneider and Seeger, "The R*-tree" (1990).
+//! Insertion and splits, after Beckmann, Kriegel, Schneider and Seeger, "The R*-tree" (1990).
 
 ghost use Rattle.std.specs.Prelude.{◌≡◌, ◌≤◌, ◌<◌, [], ◌++◌, vec_len, vec_capacity, unsigned_abs};
 ghost use Rattle.rstar.specs.Cuts.{IsArrangement, IsLeastCut};
@@ -19,20 +19,8 @@ use rstar_base::envelope::Envelope;
 use rstar_base::object::RTreeObject;
 use rstar_base::params::RTreeParams;
 
-/// Inserts as the R*-tree does: going down into the child that contains the element or has to grow least, and splitting
-/// a parent that has too many children by a least cut.
-///
-/// ```rust
-/// let mut tree: RTree<T, Huge> = RTree::new_with_params(alloc);
-/// let refused = match RStarInsertionStrategy::insert(&mut tree, element) {
-///     Ok(()) => false,
-///     Err(refused) => refused.cause == InsertCause::TooMany && refused.element == element,
-/// };
-/// let is_bare = tree.size() == 0 && tree.root().children().is_empty();
-/// // ..
-/// refused && is_bare
-/// ```
-/// *`crates/rstar_vectors/src/insertion.rt`*
+/// Inserts as the R*-tree does: choice of the subtree, forced reinsertion, splits. The source is Beckmann et
+/// al. 1990.
 pub enum RStarInsertionStrategy {}
 
 impl InsertionStrategy for RStarInsertionStrategy {
@@ -57,27 +45,13 @@ impl InsertionStrategy for RStarInsertionStrategy {
     }
 }
 
-/// Cuts a list of more than `MAX_SIZE` children in two parts of at least `MIN_SIZE`.
+/// Splits a list of more than `MAX_SIZE` children in two. Each part has at least `MIN_SIZE` (Beckmann et al.
+/// 1990).
 ///
-/// The parts are those of an arrangement of the list: a reordering that rises by the `axis_key` of one axis, where
-/// there is an axis. No allowed cut of that arrangement has a smaller overlap of the two merges, and none of the same
-/// overlap a smaller clamped sum of their areas. `spare` is an empty list with room for all children; no memory is
-/// taken. It costs a sort for each axis and one more, and a merge of all children for each allowed cut of each.
-///
-/// ```rust
-/// let Ok(list) = leaves_of(alloc, elements) else {
-///     return false;
-/// };
-/// let Ok(spare) = Vec::with_capacity(alloc, list.len()) else {
-///     return false;
-/// };
-/// if list.len() <= DefaultParams::MAX_SIZE {
-///     return false;
-/// }
-/// let (left, right) = split_children::<T, DefaultParams>(list, spare);
-/// are_so(left, one) & are_so(right, other)
-/// ```
-/// *`crates/rstar_vectors/src/insertion.rt`*
+/// The list is sorted along one axis and cut. No allowed cut has a smaller overlap, or the same overlap and
+/// a smaller sum of areas, clamped. `spare` is an empty list with room for all children, and no memory is
+/// taken. The cost is a sort for each axis and one more, and one merge of all children for each allowed cut
+/// of each axis.
 pub fn split_children<T: RTreeObject, Params: RTreeParams>(
     list: Vec<RTreeNode<T>>,
     spare: Vec<RTreeNode<T>>,

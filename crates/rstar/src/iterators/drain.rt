@@ -1,4 +1,4 @@
-//! Iterators that take elements out of a tree.
+//! Iterators that remove elements from a tree.
 
 ghost use Rattle.std.specs.Prelude.{◌≡◌, None};
 ghost use Rattle.std.specs.Iterator.{item_count};
@@ -13,29 +13,11 @@ use rstar_base::envelope::Envelope;
 use rstar_base::object::RTreeObject;
 use rstar_base::params::{DefaultParams, RTreeParams};
 
-/// Takes the selected elements of a tree out, one for each call of `next`, in some order, and then gives `None`: all of
-/// them where the selection function is lawful, and never another element.
+/// A drain: each `next` removes a selected element and yields it. They come in some order.
 ///
-/// Each `next` leaves a whole tree without the element that it gives, and takes no memory: the place from which it goes
-/// on, a number for each level, was reserved when the drain was made. Dropping or forgetting it does nothing more, so
-/// the tree is then the one of its last `next`.
-///
-/// `Path` is the list of these numbers. Users leave it out.
-///
-/// ```rust
-/// for call in 0..most {
-///     match drain.next() {
-///         Some(element) => {
-///             if given.push(element).is_err() {
-///                 return call;
-///             }
-///         }
-///         None => return call,
-///     }
-/// }
-/// most
-/// ```
-/// *`crates/rstar_vectors/src/removal.rt`*
+/// With a lawful selection function it removes all selected elements, and never another one. After each
+/// `next` the tree is whole. Dropping or forgetting the drain changes nothing more. `next` takes no memory:
+/// the path was reserved before. `Path` is the list of that path, which users leave out.
 pub struct DrainIterator<
     'a,
     T: RTreeObject,
@@ -72,7 +54,7 @@ impl<'a, T: RTreeObject, R: SelectionFunction<T>, Params: RTreeParams> DrainIter
     R,
     Params,
 > {
-    /// A drain from the beginning of a tree on, with a path of zeros.
+    /// A drain from the beginning of a tree, with a path of zeros.
     pub(crate) fn new(tree: &'a mut RTree<T, Params>, func: R, path: Vec<usize>) -> Self
         ensures same_reference { result.tree.ghost_name ≡ tree.entry.ghost_name }
         ensures tree { result.tree.now ≡ tree.old }
@@ -88,7 +70,7 @@ impl<'a, T: RTreeObject, R: SelectionFunction<T>, Params: RTreeParams> DrainIter
         }
     }
 
-    /// Takes out the next selected element.
+    /// Removes the next selected element.
     fn take_one(&mut self) -> Option<T>
         requires whole { IsWholeTree T.Envelope.boxes T.object Params.MAX_SIZE self.old.tree.now }
         ensures same_reference { self.new.tree.ghost_name ≡ self.old.tree.ghost_name }

@@ -1,4 +1,4 @@
-//! Iterators that take a tree apart.
+//! Iterators that consume a tree.
 
 ghost use Rattle.std.specs.Prelude.{◌≡◌, ◌≤◌, ◌<◌, [], ◌∷◌, ◌++◌, reverse, vec_len, vec_capacity};
 ghost use Rattle.std.specs.Iterator.{YieldsFirst, item_count};
@@ -10,18 +10,8 @@ use crate::needs::Covered;
 use crate::node::{ParentNode, RTreeNode};
 use std::mem::replace;
 
-/// All elements of a tree that is taken apart, each once, in some order, and then `None`.
-///
-/// `next` takes no memory: the path was reserved when the iterator was made. Dropping it drops the elements that it did
-/// not give.
-///
-/// ```rust
-/// match tree.into_iter() {
-///     Ok(all) => all.collect(alloc),
-///     Err(_) => Err(AllocError),
-/// }
-/// ```
-/// *`crates/rstar_vectors/src/removal.rt`*
+/// All elements of a consumed tree, in some order. `next` takes no memory. Dropping the iterator drops the
+/// elements that are left.
 #[derive(Drop)]
 pub struct IntoIter<T: Covered> {
     // The nodes that are being given, from the last on, and in the path those that were left for them, the lowest last.
@@ -30,7 +20,7 @@ pub struct IntoIter<T: Covered> {
 }
 
 impl<T: Covered> IntoIter<T> {
-    /// All elements below a root, with an empty path that has room for the levels of parents below it.
+    /// All elements below a root, with an empty path that has room for each level of parents.
     #[tactic(auto, unfolding(crate::specs::IntoIters::left_to_give, crate::specs::IntoIters::IsGiving))]
     pub(crate) fn new(root: ParentNode<T>, path: Vec<Vec<RTreeNode<T>>>) -> Self
         requires whole { IsWhole T.Cover.boxes T.object root }

@@ -1,4 +1,4 @@
-//! Joins: the pairs of elements of two trees whose envelopes intersect, by a walk through both trees together.
+//! Joins: the pairs of elements of two trees whose envelopes intersect, by one traversal of both trees.
 
 ghost use Rattle.std.specs.Prelude.{◌≡◌, ◌+◌, ◌-◌, ◌*◌, ◌^◌, ◌<◌, ◌≤◌, [], max, false, refl, IsOk, IfOk, IfSome, IfNone, filter, map, flat_map, length, take, if◌then◌else◌};
 ghost use Rattle.std.specs.Iterator.{item_count};
@@ -17,32 +17,13 @@ use rstar_base::envelope::Envelope;
 use rstar_base::object::RTreeObject;
 use std::alloc::AllocError;
 
-/// Elements whose envelopes are of a given type. Every element type has it for its own envelope type, and for no other.
-///
-/// It stands where rstar writes `RTreeObject<Envelope = E>`.
-///
-/// ```rust
-/// fn meets<T: RTreeObject + Copy, U: InEnvelope<T::Envelope> + Copy>(
-///     alloc: Global,
-///     lefts: &[T],
-///     rights: &[U],
-///     wanted: (usize, usize),
-/// ) -> bool {
-///     let left = inserted::<T, DefaultParams>(alloc, lefts);
-///     let right = inserted(alloc, rights);
-///     let is_so = left.size() == lefts.len()
-///         && right.size() == rights.len()
-///         && counts(joined(alloc, &left, &right), wanted.0, Some(wanted.1));
-///     // ..
-///     is_so
-/// }
-/// ```
-/// *`crates/rstar_vectors/src/joins.rt`*
+/// Element types with envelopes of type `E`. Every element type has it for its own envelope type alone. It
+/// stands where rstar writes `RTreeObject<Envelope = E>`.
 pub trait InEnvelope<E: Envelope>: RTreeObject {
     // The envelope, as one of that type.
     ghost seen: { Self.Envelope → E };
 
-    /// The envelope, as one of that type.
+    /// The envelope as a value of type `E`.
     fn seen(envelope: &Self::Envelope) -> &E
         ensures { result.now ≡ seen envelope.now };
 
@@ -62,12 +43,12 @@ impl<T: RTreeObject> InEnvelope<T::Envelope> for T {
     } };
 }
 
-/// What a walk of two trees asks of the elements of the second: whether an envelope of the first intersects one of theirs.
+/// Whether envelopes of two element types intersect.
 pub trait Meets<T: Covered>: Covered {
     // The envelope, as one of the first's type.
     ghost seen: { Self.Cover → T.Cover };
 
-    /// Whether they intersect.
+    /// Whether two envelopes intersect.
     fn meet(envelope: &T::Cover, other: &Self::Cover) -> bool
         ensures { result ≡ meets_by T.Cover.boxes seen envelope.now other.now };
 
@@ -84,29 +65,18 @@ impl<T: RTreeObject, U: InEnvelope<T::Envelope>> Meets<T> for U {
     ghost seen_laws = { U.seen_laws };
 }
 
-/// How many pairs are asked at once, with a mark for each.
+/// The number of pairs tested at once, with one mark for each.
 const MARKS: usize = 64;
 
-/// Up to so many nodes on the right, several nodes on the left are asked about them at once.
+/// Up to this many nodes on the right, several nodes on the left are tested at once.
 const NARROW: usize = 8;
 
-/// The pairs of elements of two trees whose envelopes intersect, each pair of places once, in some order, and then
-/// `None`.
+/// The pairs of elements of two trees whose envelopes intersect, in some order. Each pair of places comes
+/// once.
 ///
-/// The walk opens a pair of nodes where their envelopes intersect, and goes on with the pairs of their children; where
-/// one of the two is a leaf, the other goes on alone. `next` takes no memory: the paths were reserved when the iterator
-/// was made.
-///
-/// ```rust
-/// match left.intersection_candidates_with_other_tree(right) {
-///     Ok(mut pairs) => match drained(alloc, &mut pairs) {
-///         Ok(all) => Ok((all, pairs.opened())),
-///         Err(refused) => Err(refused),
-///     },
-///     Err(refused) => Err(refused),
-/// }
-/// ```
-/// *`crates/rstar_vectors/src/joins.rt`*
+/// The traversal visits a pair of nodes where their envelopes intersect, and goes on with the pairs of their
+/// children. Where one of the two is a leaf, the other goes on alone. `next` takes no memory: the paths were
+/// reserved before.
 #[derive(Drop)]
 pub struct IntersectionIterator<'a, T: Covered, U: Meets<T> = T> {
     left: &'a ParentNode<T>,
@@ -123,7 +93,7 @@ pub struct IntersectionIterator<'a, T: Covered, U: Meets<T> = T> {
     opened: usize,
 }
 
-/// What a join leaves for later: as in `IntersectionIterator`.
+/// The pairs that a join has left for later.
 #[derive(Copy)]
 struct Frame<L, R> {
     lefts: L,
@@ -139,17 +109,17 @@ impl<L: Copy, R: Copy> Clone for Frame<L, R> {
     }
 }
 
-/// What one step of a join did.
+/// The outcome of one step of a join.
 enum PairStep<'a, T, U> {
-    /// It found a pair.
+    /// A pair was found.
     Found(&'a T, &'a U),
-    /// It went on.
+    /// The join goes on.
     Passed,
-    /// It was at the end.
+    /// The join is at its end.
     Ended,
 }
 
-/// The first item alone.
+/// The list of the first item alone.
 fn first_alone<L>(items: &[L]) -> &[L]
     requires { 0 < length items.now }
     ensures { result.now ≡ take 1 items.now }
@@ -157,7 +127,7 @@ fn first_alone<L>(items: &[L]) -> &[L]
     &items[..1]
 }
 
-/// The children of a single node, or the node alone where it is a leaf.
+/// The children of a single node, or the node itself where it is a leaf.
 fn opened_nodes<'a, T: Covered>(nodes: &'a [RTreeNode<T>]) -> &'a [RTreeNode<T>]
     requires { IsSingle nodes.now }
     ensures { result.now ≡ flat_map opened_to nodes.now }
@@ -182,7 +152,7 @@ fn meets_node<T: Covered, U: Meets<T>>(envelope: &T::Cover, node: &RTreeNode<U>)
     }
 }
 
-/// Marks with one more in front of them, where there is room for it.
+/// Marks with one more in front, where there is room.
 fn with_mark(marks: u64, mark: bool) -> u64
     ensures { marks < 2 ^ 63 → result ≡ (if mark then 1 else 0) + 2 * marks }
 {
@@ -190,7 +160,8 @@ fn with_mark(marks: u64, mark: bool) -> u64
     if mark { others.wrapping_add(1) } else { others }
 }
 
-/// Marks with one for each node in front of them, whether an envelope meets it, where there is room for them.
+/// Marks with one more for each node in front, where there is room: whether an envelope intersects the
+/// node's.
 //
 // The room is a premise of the clauses of marks, and no `requires`: `step` would have to state it in a goal of its own.
 fn row_marks<T: Covered, U: Meets<T>>(
@@ -210,7 +181,7 @@ fn row_marks<T: Covered, U: Meets<T>>(
     marks
 }
 
-/// Marks for those pairs of nodes that meet, where they are at most 64.
+/// The marks of the pairs of nodes that intersect, for at most 64 pairs.
 fn marks_of<T: Covered, U: Meets<T>>(lefts: &[RTreeNode<T>], rights: &[RTreeNode<U>]) -> u64
     ensures { length lefts.now * length rights.now ≤ 64 → marked_items result (product lefts.now rights.now)
         ≡ filter (λ p. meets_by T.Cover.boxes U.seen (node_box T.object.box_of p.0) (node_box U.object.box_of p.1))
@@ -225,7 +196,7 @@ fn marks_of<T: Covered, U: Meets<T>>(lefts: &[RTreeNode<T>], rights: &[RTreeNode
     marks
 }
 
-/// The items from the two of the first marked pair on, and marks for the others.
+/// The items from those of the first marked pair on, and the marks of the other pairs.
 fn first_marked<'a, L, R>(
     lefts: &'a [L],
     rights: &'a [R],
@@ -249,7 +220,7 @@ fn first_marked<'a, L, R>(
     Some((&lefts[row..], &rights[column..], marks & (marks - 1)))
 }
 
-/// How many nodes on the left are asked at once.
+/// The number of nodes on the left that are tested at once.
 fn rows_beside<R>(rights: &[R]) -> usize
     ensures { result ≡ rows_beside rights.now }
 {
@@ -275,7 +246,7 @@ fn two_leaves<'a, T: Covered, U: Covered>(
 }
 
 impl<'a, T: Covered, U: Meets<T>> IntersectionIterator<'a, T, U> {
-    /// A join of what is below two roots, where the higher has so many levels of parents below it.
+    /// A join below two roots, of which the higher has this many levels of parents below it.
     #[tactic(auto, unfolding(crate::specs::Joins::pairs_to_come, crate::specs::Joins::IsJoining))]
     pub(crate) fn new(
         left: &'a ParentNode<T>,
@@ -332,16 +303,19 @@ impl<'a, T: Covered, U: Meets<T>> IntersectionIterator<'a, T, U> {
         })
     }
 
-    /// How many pairs of nodes were opened so far, the pair of roots among them, held at the greatest `usize`. At the
-    /// end these are the pairs of nodes that meet, those of two leaves left out; an empty root is never asked.
+    /// The number of pairs of nodes visited so far. The pair of roots counts; the number is clamped to the
+    /// greatest `usize`.
+    ///
+    /// At the end it counts all pairs that intersect but those of two leaves. An empty root is never
+    /// visited.
     pub fn opened(&self) -> usize
         ensures { result ≡ pairs_opened self.now }
     {
         self.opened
     }
 
-    /// Reads a pair that meets, or asks the next ones; or goes on with the next nodes on the left; or goes back to what
-    /// was left last.
+    /// Reads an intersecting pair, tests the next pairs, goes on with the next nodes on the left, or goes
+    /// back.
     fn step(&mut self) -> PairStep<'a, T, U>
         requires { HasItsPaths (meets_by T.Cover.boxes U.seen) T.object.box_of U.object.box_of self.old }
         ensures { IsPairStep (meets_by T.Cover.boxes U.seen) T.object.box_of U.object.box_of self.old result self.new }
@@ -367,7 +341,7 @@ impl<'a, T: Covered, U: Meets<T>> IntersectionIterator<'a, T, U> {
         PairStep::Passed
     }
 
-    /// Gives or opens a pair that meets: the first nodes of these.
+    /// Yields or visits the pair of the first nodes, which intersect.
     fn read(
         &mut self,
         lefts: &'a [RTreeNode<T>],
@@ -404,7 +378,7 @@ impl<'a, T: Covered, U: Meets<T>> IntersectionIterator<'a, T, U> {
         PairStep::Passed
     }
 
-    /// Goes back to what was left last, where nothing is left in hand.
+    /// Goes back to the pairs that were left last.
     fn go_back(&mut self) -> PairStep<'a, T, U>
         requires paths { HasItsPaths (meets_by T.Cover.boxes U.seen) T.object.box_of U.object.box_of self.old }
         requires none { self.old.lefts.now ≡ [] }

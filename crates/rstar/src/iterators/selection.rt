@@ -1,4 +1,4 @@
-//! The walk of a selection, over nodes of any two types.
+//! The traversal of a selection.
 
 ghost use Rattle.std.specs.Prelude.{◌≡◌, ◌≤◌, if◌then◌else◌, true, false, [], ◌∷◌, IsOk, IfOk};
 ghost use Rattle.std.specs.Iterator.{item_count};
@@ -13,26 +13,10 @@ use crate::node::{ParentNode, RTreeNode};
 use crate::path::Path;
 use std::alloc::AllocError;
 
-/// The selected elements of a tree, each once, in some order, and then `None`: all of them where the selection
-/// function is lawful, as those of this library are, and never another element.
+/// The selected elements of a tree, in some order.
 ///
-/// A parent is opened where the selection function accepts its envelope and those of all above it, and a leaf is asked
-/// only when the walk comes to it. `next` takes no memory: the path was reserved when the iterator was made.
-///
-/// ```rust
-/// pub fn walked<'a, T: RTreeObject, Func: SelectionFunction<T>>(
-///     alloc: Global,
-///     mut walk: SelectionIterator<'a, T, Func>,
-/// ) -> Result<Walked<'a, T>, AllocError>
-///     // ..
-/// {
-///     match drained(alloc, &mut walk) {
-///         Ok(all) => Ok((all, walk.opened())),
-///         Err(refused) => Err(refused),
-///     }
-/// }
-/// ```
-/// *`crates/rstar_vectors/src/payloads.rt`*
+/// With a lawful selection function these are all selected elements. The traversal visits a parent where the
+/// function accepts its envelope and those above it. `next` takes no memory: the path was reserved before.
 #[derive(Drop)]
 pub struct SelectionIterator<'a, T: Covered, Func: Question<T>> {
     root: &'a ParentNode<T>,
@@ -44,7 +28,7 @@ pub struct SelectionIterator<'a, T: Covered, Func: Question<T>> {
 }
 
 impl<'a, T: Covered, Func: Question<T>> SelectionIterator<'a, T, Func> {
-    /// A selection below a root, with so many levels of parents below it.
+    /// A selection below a root with this many levels of parents below it.
     #[tactic(auto, unfolding(crate::specs::Selections::to_come, crate::specs::Selections::IsWalking))]
     pub(crate) fn new(
         root: &'a ParentNode<T>,
@@ -80,23 +64,17 @@ impl<'a, T: Covered, Func: Question<T>> SelectionIterator<'a, T, Func> {
         })
     }
 
-    /// How many parents were opened so far, the root among them, held at the greatest `usize`. At the end these are the
-    /// parents that the question reaches; an empty root is never asked.
+    /// The number of parents visited so far. The root counts; the number is clamped to the greatest `usize`.
     ///
-    /// ```rust
-    /// match drained(alloc, &mut walk) {
-    ///     Ok(all) => Ok((all, walk.opened())),
-    ///     Err(refused) => Err(refused),
-    /// }
-    /// ```
-    /// *`crates/rstar_vectors/src/payloads.rt`*
+    /// At the end it counts all parents that are accepted with those above them. An empty root is never
+    /// visited.
     pub fn opened(&self) -> usize
         ensures { result ≡ opened_by self.now }
     {
         self.opened
     }
 
-    /// Leaves a leaf behind, and says whether it is selected.
+    /// Passes a leaf, and returns whether it is selected.
     fn leave(&mut self, t: &'a T, rest: &'a [RTreeNode<T>]) -> bool
         requires way { HasItsWay Func.accepts self.old }
         requires first { self.old.nodes.now ≡ Leaf t.now ∷ rest.now }
@@ -106,7 +84,7 @@ impl<'a, T: Covered, Func: Question<T>> SelectionIterator<'a, T, Func> {
         self.func.should_unpack_leaf(t)
     }
 
-    /// Enters a parent whose envelope the question accepts, and leaves the nodes behind it for later.
+    /// Enters an accepted parent, and leaves the nodes behind it for later.
     fn enter(&mut self, parent: &'a ParentNode<T>, rest: &'a [RTreeNode<T>])
         requires way { HasItsWay Func.accepts self.old }
         requires first { self.old.nodes.now ≡ Parent parent.now ∷ rest.now }

@@ -1,4 +1,4 @@
-//! Commands that leave a tree.
+//! Commands that leave the tree as it is.
 
 ghost use Rattle.std.specs.Prelude.{◌≡◌, ◌≤◌, filter, map, IfOk};
 ghost use Rattle.std.specs.List.Sorted.{IsPermutation};
@@ -26,7 +26,7 @@ use rstar_base::params::RTreeParams;
 use rstar_base::point::{Point, RTreeNum};
 use std::alloc::{AllocError, Global};
 
-/// The elements that are asked for.
+/// The elements of a query.
 #[tactic(auto, using(crate::proofs::Replays::same_bag))]
 pub(super) fn ask<T: PointDistance + EqualEnvelopes + Clone, Params: RTreeParams>(
     tree: &RTree<T, Params>,
@@ -63,7 +63,7 @@ fn ask_query<T: PointDistance + EqualEnvelopes + Clone, Params: RTreeParams>(
     }
 }
 
-/// The clones of the elements that a function selects.
+/// Clones of the elements that a function selects.
 fn clones_of<T: RTreeObject + Clone, Func: SelectionFunction<T>, Params: RTreeParams>(
     tree: &RTree<T, Params>,
     func: Func,
@@ -79,10 +79,10 @@ fn clones_of<T: RTreeObject + Clone, Func: SelectionFunction<T>, Params: RTreePa
     )
 }
 
-/// How many elements an answer has room for at first: most have fewer, and do not grow.
+/// The capacity that an answer starts with. Most answers are shorter and do not grow.
 const ROOM: usize = 32;
 
-/// The clones of the elements that a walk has not given.
+/// Clones of the elements that an iterator has left.
 fn clones_to_come<'a, T: Covered + Clone, Func: Question<T>>(
     alloc: Global,
     walk: SelectionIterator<'a, T, Func>,
@@ -111,7 +111,7 @@ pub(super) fn contains<T: PointDistance + EqualEnvelopes, Params: RTreeParams>(
     Reply::Has(tree.contains(t))
 }
 
-/// An element of least distance to a point.
+/// A nearest element to a point.
 #[tactic(auto, using(crate::proofs::Replays::same_bag))]
 pub(super) fn nearest<T: PointDistance + EqualEnvelopes + Clone, Params: RTreeParams>(
     tree: &RTree<T, Params>,
@@ -127,7 +127,7 @@ pub(super) fn nearest<T: PointDistance + EqualEnvelopes + Clone, Params: RTreePa
     }
 }
 
-/// A clone of an element of least distance to a point, with that distance.
+/// A clone of a nearest element with its squared distance.
 fn nearest_clone<T: PointDistance + Clone, Params: RTreeParams>(
     tree: &RTree<T, Params>,
     point: PointOf<T>,
@@ -145,7 +145,7 @@ fn nearest_clone<T: PointDistance + Clone, Params: RTreeParams>(
     Ok(Some((element, distance)))
 }
 
-/// So many elements, the nearest to a point first.
+/// The k nearest elements to a point.
 #[tactic(auto, using(crate::proofs::Replays::same_bag))]
 pub(super) fn neighbours<T: PointDistance + EqualEnvelopes + Clone, Params: RTreeParams>(
     tree: &RTree<T, Params>,
@@ -162,7 +162,7 @@ pub(super) fn neighbours<T: PointDistance + EqualEnvelopes + Clone, Params: RTre
     }
 }
 
-/// The clones of so many elements, the nearest to a point first, with their distances.
+/// Clones of the k nearest elements with their squared distances.
 fn first_clones<T: PointDistance + Clone, Params: RTreeParams>(
     tree: &RTree<T, Params>,
     point: &PointOf<T>,
@@ -177,7 +177,7 @@ fn first_clones<T: PointDistance + Clone, Params: RTreeParams>(
     clones_of_lent(&tree.first_neighbors(point, most)?)
 }
 
-/// The clones of elements that are lent, each with its distance.
+/// Clones of borrowed elements, each with its distance.
 pub(super) fn clones_of_lent<T: Clone, S: Copy>(
     lent: &Vec<(&T, S)>,
 ) -> Result<Vec<(T, S)>, AllocError>
@@ -192,7 +192,7 @@ pub(super) fn clones_of_lent<T: Clone, S: Copy>(
     Ok(found)
 }
 
-/// The pairs of an element of the tree and one of a list whose envelopes intersect.
+/// The join of the tree with a list.
 #[tactic(auto, using(crate::proofs::Replays::same_bag))]
 pub(super) fn join<T: PointDistance + EqualEnvelopes + Clone, Params: RTreeParams>(
     tree: &RTree<T, Params>,
@@ -210,7 +210,7 @@ pub(super) fn join<T: PointDistance + EqualEnvelopes + Clone, Params: RTreeParam
     }
 }
 
-/// The clones of those pairs. The list is loaded with the default node sizes.
+/// Clones of the pairs of that join. The list is loaded with the default node sizes.
 fn pairs_with<T: RTreeObject + Clone, Params: RTreeParams>(
     tree: &RTree<T, Params>,
     list: Vec<T>,
@@ -228,7 +228,7 @@ fn pairs_with<T: RTreeObject + Clone, Params: RTreeParams>(
     clones_of_pairs(alloc, tree.intersection_candidates_with_other_tree(&other)?)
 }
 
-/// The clones of the pairs that a walk of two trees has not given.
+/// Clones of the pairs that a join has left.
 fn clones_of_pairs<'a, T: Covered + Clone, U: Meets<T> + Clone>(
     alloc: Global,
     walk: IntersectionIterator<'a, T, U>,

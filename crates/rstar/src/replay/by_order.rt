@@ -1,5 +1,4 @@
-//! The three commands that ask for neighbours, in one stated order: by distance, and at equal distance by the elements'
-//! own order.
+//! The three neighbour commands in the stated order: by distance, and at equal distance by `Ord`.
 
 ghost use Rattle.std.specs.Prelude.{◌≡◌, IfOk};
 ghost use Rattle.rstar_base.specs.Points.{table};
@@ -19,7 +18,7 @@ use rstar_base::params::RTreeParams;
 use rstar_base::point::{Point, RTreeNum};
 use std::alloc::AllocError;
 
-/// Takes the first element by distance to a point out.
+/// Removes the first element in the stated order.
 #[tactic(auto, using(crate::proofs::Replays::same_bag))]
 pub(super) fn pop_first<T: PointDistance + EqualEnvelopes + Ord, Params: RTreeParams>(
     tree: &mut RTree<T, Params>,
@@ -37,7 +36,7 @@ pub(super) fn pop_first<T: PointDistance + EqualEnvelopes + Ord, Params: RTreePa
     }
 }
 
-/// The first element by distance to a point.
+/// The first element in the stated order.
 #[tactic(auto, using(crate::proofs::Replays::same_bag))]
 pub(super) fn first<T: PointDistance + EqualEnvelopes + Clone + Ord, Params: RTreeParams>(
     tree: &RTree<T, Params>,
@@ -54,7 +53,7 @@ pub(super) fn first<T: PointDistance + EqualEnvelopes + Clone + Ord, Params: RTr
     }
 }
 
-/// A clone of the first element by distance to a point, with that distance.
+/// A clone of the first element in the stated order, with its squared distance.
 fn first_clone<T: PointDistance + Clone + Ord, Params: RTreeParams>(
     tree: &RTree<T, Params>,
     point: &PointOf<T>,
@@ -74,7 +73,7 @@ fn first_clone<T: PointDistance + Clone + Ord, Params: RTreeParams>(
     Ok(Some((element, near.1)))
 }
 
-/// So many elements, the first by distance to a point first.
+/// The first k elements in the stated order.
 #[tactic(auto, using(crate::proofs::Replays::same_bag))]
 pub(super) fn first_ones<T: PointDistance + EqualEnvelopes + Clone + Ord, Params: RTreeParams>(
     tree: &RTree<T, Params>,
@@ -92,7 +91,7 @@ pub(super) fn first_ones<T: PointDistance + EqualEnvelopes + Clone + Ord, Params
     }
 }
 
-/// The clones of so many elements, the first by distance to a point first, with their distances.
+/// Clones of the first k elements in the stated order, with their squared distances.
 fn first_clones_by_order<T: PointDistance + Clone + Ord, Params: RTreeParams>(
     tree: &RTree<T, Params>,
     point: &PointOf<T>,

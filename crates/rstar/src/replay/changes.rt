@@ -1,4 +1,4 @@
-//! Commands that change a tree.
+//! Commands that change the tree.
 
 ghost use Rattle.std.specs.Prelude.{◌≡◌, ◌<◌, ◌≤◌, ◌↔◌, ◌⊎◌, false, IfOk, OnErr};
 ghost use Rattle.rstar_base.specs.Selections.{IsLawful};
@@ -22,7 +22,7 @@ use rstar_base::params::RTreeParams;
 use rstar_base::point::{Point, RTreeNum};
 use std::alloc::AllocError;
 
-/// Puts a load in the tree's place.
+/// Replaces the tree by a bulk load.
 #[tactic(auto, using(crate::proofs::Replays::same_bag))]
 pub(super) fn load<T: PointDistance + EqualEnvelopes, Params: RTreeParams>(
     tree: &mut RTree<T, Params>,
@@ -44,7 +44,7 @@ pub(super) fn load<T: PointDistance + EqualEnvelopes, Params: RTreeParams>(
     }
 }
 
-/// Adds an element, or drops it where it is refused.
+/// Inserts an element, and drops it where it is refused.
 #[tactic(auto, using(crate::proofs::Replays::same_bag))]
 pub(super) fn insert<T: PointDistance + EqualEnvelopes, Params: RTreeParams>(
     tree: &mut RTree<T, Params>,
@@ -67,7 +67,7 @@ pub(super) fn insert<T: PointDistance + EqualEnvelopes, Params: RTreeParams>(
     }
 }
 
-/// Takes one element that equals this one out.
+/// Removes one element that equals this one.
 pub(super) fn remove<T: PointDistance + EqualEnvelopes, Params: RTreeParams>(
     tree: &mut RTree<T, Params>,
     t: &T,
@@ -80,7 +80,7 @@ pub(super) fn remove<T: PointDistance + EqualEnvelopes, Params: RTreeParams>(
     Reply::Taken(tree.remove(t))
 }
 
-/// Takes one element that contains a point out.
+/// Removes one element that contains a point.
 pub(super) fn remove_at_point<T: PointDistance + EqualEnvelopes, Params: RTreeParams>(
     tree: &mut RTree<T, Params>,
     point: PointOf<T>,
@@ -93,7 +93,7 @@ pub(super) fn remove_at_point<T: PointDistance + EqualEnvelopes, Params: RTreePa
     Reply::Taken(tree.remove_at_point(point))
 }
 
-/// Takes one element of least distance to a point out.
+/// Removes one nearest element to a point.
 #[tactic(auto, using(crate::proofs::Replays::same_bag))]
 pub(super) fn pop_nearest<T: PointDistance + EqualEnvelopes, Params: RTreeParams>(
     tree: &mut RTree<T, Params>,
@@ -110,7 +110,7 @@ pub(super) fn pop_nearest<T: PointDistance + EqualEnvelopes, Params: RTreeParams
     }
 }
 
-/// Takes so many of the elements that are asked for out, or all of them where there are fewer.
+/// Removes up to this many elements of a query.
 #[tactic(auto, using(crate::proofs::Replays::same_bag))]
 pub(super) fn drain<T: PointDistance + EqualEnvelopes, Params: RTreeParams>(
     tree: &mut RTree<T, Params>,
@@ -153,8 +153,7 @@ fn drain_query<T: PointDistance + EqualEnvelopes, Params: RTreeParams>(
     }
 }
 
-/// Takes so many of the elements that a function selects out, or all of them where there are fewer. The list is
-/// reserved before the first is taken.
+/// Removes up to this many elements that a function selects. The list is reserved before the first removal.
 fn drain_some<T: RTreeObject, R: SelectionFunction<T>, Params: RTreeParams>(
     tree: &mut RTree<T, Params>,
     func: R,

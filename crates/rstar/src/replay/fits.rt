@@ -1,4 +1,4 @@
-//! Whether commands may be run.
+//! The tests that commands may be run.
 
 ghost use Rattle.std.specs.Prelude.{◌↔◌, ◌≤◌, IsTrue};
 ghost use Rattle.std.specs.List.{AllByRecursion};
@@ -11,17 +11,8 @@ use rstar_base::envelope::Envelope;
 use rstar_base::object::{EqualEnvelopes, PointDistance, PointOf, RTreeObject};
 use rstar_base::point::{Point, RTreeNum};
 
-/// Whether `step` may be asked to run a command: no element that it brings has an empty envelope, and what it loads has
-/// two dimensions. It looks at each element that the command brings.
-///
-/// ```rust
-/// let command = command_of(alloc, draw)?;
-/// if !is_fit(&command) {
-///     return Ok(false);
-/// }
-/// let right = is_right(alloc, list, draw, &step_points(tree, command));
-/// ```
-/// *`crates/rstar_run/src/replay_tests.rt`*
+/// Whether `step` may run a command. No element in it has an empty envelope, and the points of a load or a
+/// join have at least two axes. It looks at each element of the command.
 pub fn is_fit<T: PointDistance + EqualEnvelopes>(command: &Command<T>) -> bool
     ensures { IsTrue result ↔ IsFit ⟦<T as Scanned>⟧.questions T.Envelope.Point.DIMENSIONS command.now }
 {
@@ -48,16 +39,7 @@ fn is_loadable<T: RTreeObject>(elements: &[T]) -> bool
     <T::Envelope as Envelope>::Point::DIMENSIONS >= 2 && none_empty(elements)
 }
 
-/// Whether `replay` may be asked to run commands: each is fit.
-///
-/// ```rust
-/// if !all_fit(&commands) {
-///     return Ok(Vec::new(alloc));
-/// }
-/// mark(alloc);
-/// let all = replayed(tree, commands, by_order);
-/// ```
-/// *`crates/rstar_run/src/replay_tests.rt`*
+/// Whether `replay` may run commands: each is fit.
 pub fn all_fit<T: PointDistance + EqualEnvelopes>(commands: &[Command<T>]) -> bool
     ensures { IsTrue result ↔ AllByRecursion (IsFit ⟦<T as Scanned>⟧.questions T.Envelope.Point.DIMENSIONS) commands.now }
 {

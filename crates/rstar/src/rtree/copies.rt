@@ -19,22 +19,10 @@ use std::alloc::AllocError;
 use std::marker::PhantomData;
 
 impl<T: RTreeObject + Clone, Params: RTreeParams> RTree<T, Params> {
-    /// A tree of the clones of the elements, in nodes as these are. Where each clone of an element equals it, the
-    /// tree shows the same: it has the node sizes of this one, and is loaded where this one is.
+    /// A tree of clones of the elements, with the same nodes. Where each clone equals its element, the tree
+    /// shows the same.
     ///
-    /// It is refused where the allocator refuses a list, or a clone of an element. It costs a clone of each element.
-    ///
-    /// ```rust
-    /// match tree.clone() {
-    ///     Ok(copy) => {
-    ///         let is_so = is_in_parts(alloc, &copy, count, parts);
-    ///         // ..
-    ///         is_so
-    ///     }
-    ///     Err(_) => false,
-    /// }
-    /// ```
-    /// *`crates/rstar_vectors/src/loads.rt`*
+    /// It is refused where the allocator refuses a list, or a clone of an element.
     #[tactic(auto, unfolding(crate::specs::Trees::IsWholeTree))]
     pub fn clone(&self) -> Result<Self, AllocError>
         requires { IsWholeTree T.Envelope.boxes T.object Params.MAX_SIZE self.now }
@@ -62,7 +50,7 @@ impl<T: RTreeObject + Clone, Params: RTreeParams> RTree<T, Params> {
     }
 }
 
-/// The clone of a node, where all leaves lie on one level.
+/// The clone of a node whose leaves all lie on one level.
 #[cycle(clone)]
 fn cloned_node<T: RTreeObject + Clone>(node: &RTreeNode<T>) -> Result<RTreeNode<T>, AllocError>
     ensures { (h : ℕ) → IsLevel h node.now → IfOk result (IsNodeClone T.is_clone h node.now) }
@@ -79,7 +67,7 @@ fn cloned_node<T: RTreeObject + Clone>(node: &RTreeNode<T>) -> Result<RTreeNode<
     }
 }
 
-/// The clone of a parent, where all leaves lie on one level.
+/// The clone of a parent whose leaves all lie on one level.
 #[cycle(clone)]
 fn cloned_parent<T: RTreeObject + Clone>(
     parent: &ParentNode<T>,

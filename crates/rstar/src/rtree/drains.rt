@@ -1,4 +1,4 @@
-//! Drains, and a tree taken apart.
+//! Drains, and `into_iter`.
 
 ghost use Rattle.std.specs.Prelude.{◌≡◌, ◌<◌, ◌≤◌, true, pos, int_le, length, vec_capacity, IfOk, IfErr};
 ghost use Rattle.std.specs.Borrow.{sem};
@@ -25,15 +25,20 @@ use rstar_base::point::{Point, RTreeNum};
 use std::alloc::AllocError;
 
 impl<T: RTreeObject, Params: RTreeParams> RTree<T, Params> {
-    /// Takes all elements out, one for each `next`, in some order.
+    /// Removes all elements. Each `next` yields one, in some order.
     ///
-    /// It is refused where the allocator refuses the path, a number for each level, and the tree is then left. Where it
-    /// is dropped or forgotten the tree is the one of the last `next`.
+    /// It takes memory once, for the path. A refusal leaves the tree as it was.
     ///
     /// ```rust
-    /// match tree.drain() {
-    ///     Ok(mut drain) => Ok(drain.next()),
-    ///     Err(refused) => Err(refused),
+    /// fn one_out<T: RTreeObject>(tree: &mut RTree<T>) -> Result<Option<T>, AllocError>
+    ///     requires { IsWholeTree T.Envelope.boxes T.object ⟦<DefaultParams as RTreeParams>⟧.MAX_SIZE tree.old }
+    ///     ensures left { IfOk result (λ r. IsWithout (elements_in tree.old) r (elements_in tree.new)) }
+    ///     ensures whole { IsWholeTree T.Envelope.boxes T.object ⟦<DefaultParams as RTreeParams>⟧.MAX_SIZE tree.new }
+    /// {
+    ///     match tree.drain() {
+    ///         Ok(mut drain) => Ok(drain.next()),
+    ///         Err(refused) => Err(refused),
+    ///     }
     /// }
     /// ```
     /// *`crates/rstar_vectors/src/removal.rt`*
@@ -53,18 +58,9 @@ impl<T: RTreeObject, Params: RTreeParams> RTree<T, Params> {
         self.drain_with_selection_function(SelectAllFunc)
     }
 
-    /// Takes the elements whose envelopes an envelope contains out, one for each `next`, in some order.
+    /// Removes the elements whose envelopes an envelope contains. Each `next` yields one, in some order.
     ///
-    /// It is refused where the allocator refuses the path, a number for each level, and the tree is then left. Where it
-    /// is dropped or forgotten the tree is the one of the last `next`.
-    ///
-    /// ```rust
-    /// Drained::Inside => match tree.drain_in_envelope(area) {
-    ///     Ok(mut drain) => Some(call(&mut drain, most, given)),
-    ///     Err(_) => None,
-    /// },
-    /// ```
-    /// *`crates/rstar_vectors/src/removal.rt`*
+    /// It takes memory once, for the path. A refusal leaves the tree as it was.
     pub fn drain_in_envelope(
         &mut self,
         envelope: T::Envelope,
@@ -84,23 +80,10 @@ impl<T: RTreeObject, Params: RTreeParams> RTree<T, Params> {
         self.drain_with_selection_function(SelectInEnvelopeFunction::new(envelope))
     }
 
-    /// Takes the elements whose envelopes an envelope intersects out, one for each `next`, in some order. Touching is
-    /// enough.
+    /// Removes the elements whose envelopes an envelope intersects. Touching is enough. Each `next` yields
+    /// one, in some order.
     ///
-    /// It is refused where the allocator refuses the path, a number for each level, and the tree is then left. Where it
-    /// is dropped or forgotten the tree is the one of the last `next`.
-    ///
-    /// ```rust
-    /// match tree.drain_in_envelope_intersecting(area) {
-    ///     Ok(mut drain) => {
-    ///         let _one = drain.next();
-    ///         let _other = drain.next();
-    ///     }
-    ///     Err(refused) => return Err(refused),
-    /// }
-    /// Ok(tree.insert(one).is_ok())
-    /// ```
-    /// *`crates/rstar_vectors/src/removal.rt`*
+    /// It takes memory once, for the path. A refusal leaves the tree as it was.
     pub fn drain_in_envelope_intersecting(
         &mut self,
         envelope: T::Envelope,
@@ -120,24 +103,10 @@ impl<T: RTreeObject, Params: RTreeParams> RTree<T, Params> {
         self.drain_with_selection_function(SelectInEnvelopeFuncIntersecting::new(envelope))
     }
 
-    /// Takes the elements that a function selects out, one for each `next`, in some order. A function that is not
-    /// lawful may miss some.
+    /// Removes the elements that a function selects. Each `next` yields one, in some order. With a function
+    /// that is not lawful it may miss some.
     ///
-    /// It is refused where the allocator refuses the path, a number for each level, and the tree is then left. Where it
-    /// is dropped or forgotten the tree is the one of the last `next`.
-    ///
-    /// ```rust
-    /// let came = match tree.drain_with_selection_function(func) {
-    ///     Ok(mut drain) => call(
-    ///         &mut drain,
-    ///         elements.len().saturating_add(2),
-    ///         &mut Vec::new(alloc),
-    ///     ),
-    ///     Err(_) => ALL,
-    /// };
-    /// let is_so = came <= most && stands_with(&tree, elements.len().saturating_sub(came));
-    /// ```
-    /// *`crates/rstar_vectors/src/removal.rt`*
+    /// It takes memory once, for the path. A refusal leaves the tree as it was.
     #[tactic(auto, unfolding(crate::specs::Drains::IsDraining))]
     pub fn drain_with_selection_function<R: SelectionFunction<T>>(
         &mut self,
@@ -157,10 +126,9 @@ impl<T: RTreeObject, Params: RTreeParams> RTree<T, Params> {
 }
 
 impl<T: RTreeObject, Params: RTreeParams> RTree<T, Params> {
-    /// Moves elements that a function selects to the end of a list, until the list holds `most` of them or none is
-    /// left. A function that is not lawful may miss some.
-    ///
-    /// It is one pass over the parents that the function accepts, and takes no memory.
+    /// Moves elements that a function selects to the end of a list, until the list holds `most` elements or
+    /// none is left. With a function that is not lawful it may miss some. It is one pass, and takes no
+    /// memory.
     pub(crate) fn gather<R: SelectionFunction<T>>(
         &mut self,
         func: &R,
@@ -188,18 +156,9 @@ impl<T: RTreeObject, Params: RTreeParams> RTree<T, Params> {
 }
 
 impl<T: RTreeObject, Params: RTreeParams> RTree<T, Params> {
-    /// Takes the tree apart into all its elements, each once, in some order.
+    /// Consumes the tree and yields all its elements, in some order.
     ///
-    /// It is refused where the allocator refuses the path, a place for each level of parents below the root, and the
-    /// tree is then handed back.
-    ///
-    /// ```rust
-    /// match tree.into_iter() {
-    ///     Ok(all) => all.collect(alloc),
-    ///     Err(_) => Err(AllocError),
-    /// }
-    /// ```
-    /// *`crates/rstar_vectors/src/removal.rt`*
+    /// It takes memory once, for the path. A refusal hands the tree back.
     #[tactic(auto, unfolding(crate::specs::Trees::IsWholeTree))]
     pub fn into_iter(self) -> Result<IntoIter<T>, RTree<T, Params>>
         requires { IsWholeTree T.Envelope.boxes T.object Params.MAX_SIZE self }
@@ -217,19 +176,9 @@ impl<T: RTreeObject, Params: RTreeParams> RTree<T, Params> {
 }
 
 impl<T: PointDistance, Params: RTreeParams> RTree<T, Params> {
-    /// Takes the elements whose distance from a point is at most a limit out, one for each `next`, in some order.
-    /// Distances are squared.
+    /// Removes the elements within a squared distance of a point. Each `next` yields one, in some order.
     ///
-    /// It is refused where the allocator refuses the path, a number for each level, and the tree is then left. Where it
-    /// is dropped or forgotten the tree is the one of the last `next`.
-    ///
-    /// ```rust
-    /// Drained::Near => match tree.drain_within_distance(asked.1, asked.2) {
-    ///     Ok(mut drain) => Some(call(&mut drain, most, given)),
-    ///     Err(_) => None,
-    /// },
-    /// ```
-    /// *`crates/rstar_vectors/src/removal.rt`*
+    /// It takes memory once, for the path. A refusal leaves the tree as it was.
     pub fn drain_within_distance(
         &mut self,
         query_point: PointOf<T>,

@@ -14,22 +14,19 @@ use rstar_base::params::RTreeParams;
 use std::alloc::AllocError;
 
 impl<T: RTreeObject, Params: RTreeParams> RTree<T, Params> {
-    /// The pairs of an element of this tree and one of the other whose envelopes intersect, each pair of places once,
-    /// in some order. Touching is enough.
+    /// The pairs of an element of each tree whose envelopes intersect, in some order. Each pair of places
+    /// comes once. Touching is enough.
     ///
-    /// It opens the pairs of nodes whose envelopes intersect. It is refused where the allocator refuses the paths of
-    /// trees of which one has more than 13 levels of parents.
+    /// It visits the pairs of nodes whose envelopes intersect. It takes memory, and may be refused, only
+    /// where a tree has more than 13 levels of parents.
     ///
     /// ```rust
-    /// match left.intersection_candidates_with_other_tree(right) {
-    ///     Ok(mut pairs) => match drained(alloc, &mut pairs) {
-    ///         Ok(all) => Ok((all, pairs.opened())),
-    ///         Err(refused) => Err(refused),
-    ///     },
-    ///     Err(refused) => Err(refused),
-    /// }
+    /// let met = tree.intersection_candidates_with_other_tree(tree)?;
+    /// let mut pairs: Vec<Pair<'_, GeomWithData<R, u64>>> = met.collect(alloc)?;
+    /// pairs.retain(|&(one, other)| one.data < other.data);
+    /// Ok(pairs)
     /// ```
-    /// *`crates/rstar_vectors/src/joins.rt`*
+    /// *`crates/rstar_vectors/src/uses/overlaps.rt`*
     #[tactic(auto, unfolding(crate::specs::Trees::IsWholeTree))]
     pub fn intersection_candidates_with_other_tree<
         'a,

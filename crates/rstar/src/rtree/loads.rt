@@ -1,4 +1,4 @@
-//! Trees of a list of elements, loaded at once.
+//! Bulk loads.
 
 ghost use Rattle.std.specs.Prelude.{◌≢◌, ◌≤◌, [], IfOk};
 ghost use Rattle.std.specs.List.Sorted.{IsPermutation};
@@ -17,12 +17,11 @@ use std::alloc::AllocError;
 use std::marker::PhantomData;
 
 impl<T: RTreeObject> RTree<T> {
-    /// A tree of these elements, none of which has an empty envelope, loaded at once with the default node sizes.
+    /// A tree of these elements, by bulk load with the default node sizes (Lee and Lee 2003).
     ///
-    /// It has fewer nodes, which overlap less, than a tree of insertions, and takes insertions as any other. Its points
-    /// have at least two dimensions; `verify_parameters` is the test. It is refused where the allocator refuses a list:
-    /// then there is no tree, and the elements are dropped. `bulk_load_sequential` says how it loads, and what that
-    /// costs.
+    /// No element has an empty envelope, and the points have at least two axes; `verify_parameters` tests
+    /// that. The tree usually has fewer nodes, with less overlap, than one built by insertions. The cost is
+    /// that of `bulk_load_sequential`. A refusal of memory drops the elements.
     ///
     /// ```rust
     /// pub fn points_loaded(alloc: Global, more: [i64; 2]) -> Result<RTree<[i64; 2]>, AllocError>
@@ -48,16 +47,6 @@ impl<T: RTreeObject> RTree<T> {
 
 impl<T: RTreeObject, Params: RTreeParams> RTree<T, Params> {
     /// The same with chosen node sizes.
-    ///
-    /// ```rust
-    /// let list = elements.to_vec(alloc)?;
-    /// if none_empty(&list) {
-    ///     RTree::bulk_load_with_params(list)
-    /// } else {
-    ///     Ok(RTree::default(alloc))
-    /// }
-    /// ```
-    /// *`crates/rstar_vectors/src/scenarios.rt`*
     #[tactic(auto, unfolding(crate::specs::Trees::IsWholeTree))]
     pub fn bulk_load_with_params(elements: Vec<T>) -> Result<Self, AllocError>
         requires dimensions { 2 ≤ T.Envelope.Point.DIMENSIONS }

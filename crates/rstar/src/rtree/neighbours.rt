@@ -25,11 +25,13 @@ use rstar_base::point::{Point, RTreeNum};
 use std::alloc::AllocError;
 
 impl<T: PointDistance, Params: RTreeParams> RTree<T, Params> {
-    /// All elements, the nearest to a point first: each once, with the distances never falling.
+    /// All elements, the nearest to a point first.
     ///
-    /// Making it takes no memory and opens nothing; `next` may be refused.
+    /// Making it takes no memory and visits nothing. `next` takes memory, and may be refused, where more
+    /// than 32 nodes wait.
     ///
     /// ```rust
+    /// fits::<PointOf<T>>();
     /// let mut neighbors = tree.nearest_neighbor_iter(place);
     /// let mut all = Vec::new(alloc);
     /// while let Some(found) = neighbors.next() {
@@ -49,23 +51,10 @@ impl<T: PointDistance, Params: RTreeParams> RTree<T, Params> {
         Neighbors::new(&self.root, point)
     }
 
-    /// All elements with their squared distances, the nearest to a point first: each once, with the distances never
-    /// falling.
+    /// All elements with their squared distances, the nearest to a point first.
     ///
-    /// Making it takes no memory and opens nothing; `next` may be refused.
-    ///
-    /// ```rust
-    /// gives(
-    ///     &mut tree.nearest_neighbor_iter_with_distance_2(place),
-    ///     distances,
-    ///     opened,
-    /// ) && gives(
-    ///     &mut tree.nearest_neighbor_iter_with_distance(place),
-    ///     distances,
-    ///     opened,
-    /// ) && calls_find(tree, place, least)
-    /// ```
-    /// *`crates/rstar_vectors/src/neighbour_rows.rt`*
+    /// Making it takes no memory and visits nothing. `next` takes memory, and may be refused, where more
+    /// than 32 nodes wait.
     #[tactic(auto, unfolding(crate::specs::Trees::IsWholeTree))]
     pub fn nearest_neighbor_iter_with_distance_2(
         &self,
@@ -79,7 +68,7 @@ impl<T: PointDistance, Params: RTreeParams> RTree<T, Params> {
         NeighborsWithDistance::new(&self.root, point)
     }
 
-    /// The old name of `nearest_neighbor_iter_with_distance_2`, whose distances are squared.
+    /// The old name of `nearest_neighbor_iter_with_distance_2`. Distances are squared.
     #[deprecated]
     pub fn nearest_neighbor_iter_with_distance(
         &self,
@@ -93,21 +82,9 @@ impl<T: PointDistance, Params: RTreeParams> RTree<T, Params> {
         self.nearest_neighbor_iter_with_distance_2(point)
     }
 
-    /// An element of least distance to a point; `None` exactly where the tree is empty. Of several it gives one.
+    /// A nearest element to a point.
     ///
-    /// It opens the nearest waiting parent first, and leaves out what lies farther than the least `min_max_dist_2` that
-    /// it saw. It takes memory where more than 32 nodes wait, and is refused where the allocator refuses that.
-    ///
-    /// ```rust
-    /// match found {
-    ///     Ok(Some(element)) => is_at(least, &element.far(place)),
-    ///     Ok(None) => least.is_empty(),
-    ///     Err(_) => false,
-    /// }
-    /// // ..
-    /// is_least_alone(tree.nearest_neighbor(place), &place, least)
-    /// ```
-    /// *`crates/rstar_vectors/src/neighbour_rows.rt`*
+    /// `None` comes exactly where the tree is empty. The cost is that of `nearest_neighbor_with_distance_2`.
     pub fn nearest_neighbor(&self, point: PointOf<T>) -> Result<Option<&T>, AllocError>
         requires { IsWholeTree T.Envelope.boxes T.object Params.MAX_SIZE self.now }
         ensures none { IfOk result (λ r. IfNone r (elements_in self.now ≡ [])) }
@@ -120,23 +97,11 @@ impl<T: PointDistance, Params: RTreeParams> RTree<T, Params> {
         }
     }
 
-    /// An element of least squared distance to a point, with that distance; `None` exactly where the tree is empty. Of
-    /// several it gives one.
+    /// A nearest element to a point with its squared distance.
     ///
-    /// It opens the nearest waiting parent first, and leaves out what lies farther than the least `min_max_dist_2` seen
-    /// (Roussopoulos, Kelley and Vincent 1995); there is no second search behind it. It takes memory where more than 32
-    /// nodes wait, and is refused where the allocator refuses that.
-    ///
-    /// ```rust
-    /// match found {
-    ///     Ok(Some((element, one))) => is_at(least, &one) && element.far(place) == one,
-    ///     Ok(None) => least.is_empty(),
-    ///     Err(_) => false,
-    /// }
-    /// // ..
-    /// && is_least(tree.nearest_neighbor_with_distance_2(place), &place, least)
-    /// ```
-    /// *`crates/rstar_vectors/src/neighbour_rows.rt`*
+    /// `None` comes exactly where the tree is empty. The traversal visits the nearest waiting parent first
+    /// and prunes what is farther than the least `min_max_dist_2` seen (Roussopoulos et al. 1995). It takes
+    /// memory, and may be refused, only where more than 32 nodes wait.
     #[tactic(auto, unfolding(crate::specs::Trees::IsWholeTree))]
     pub fn nearest_neighbor_with_distance_2(
         &self,
@@ -159,26 +124,11 @@ impl<T: PointDistance, Params: RTreeParams> RTree<T, Params> {
         nearest_neighbor_with_distance_2(&self.root, point)
     }
 
-    /// Takes an element of least distance to a point out, and gives it; `None`, with the tree as it was, exactly where
-    /// the tree is empty. Of several it takes one.
+    /// Removes a nearest element to a point.
     ///
-    /// It finds the least distance as `nearest_neighbor` does, and then takes out one element within it, opening the
-    /// parents that are no farther until it comes upon one. The search takes memory where more than 32 nodes wait, and
-    /// is refused where the allocator refuses that; the tree is then left. The taking takes none.
-    ///
-    /// ```rust
-    /// for distance in distances {
-    ///     let is_next = match tree.pop_nearest_neighbor(place) {
-    ///         Ok(Some(element)) => element.distance_2(&place) == *distance && take(rest, &element),
-    ///         _ => false,
-    ///     };
-    ///     if !is_next {
-    ///         return false;
-    ///     }
-    /// }
-    /// rest.is_empty() && tree.size() == 0 && matches!(tree.pop_nearest_neighbor(place), Ok(None))
-    /// ```
-    /// *`crates/rstar_vectors/src/neighbour_rows.rt`*
+    /// `None` comes, with the tree as it was, exactly where the tree is empty. It finds the least distance
+    /// as `nearest_neighbor` does, which alone may be refused; the tree is then as it was. Then it visits
+    /// parents within that distance until it removes an element.
     #[tactic(auto, unfolding(crate::specs::Trees::IsWholeTree))]
     pub fn pop_nearest_neighbor(&mut self, point: PointOf<T>) -> Result<Option<T>, AllocError>
         requires { IsWholeTree T.Envelope.boxes T.object Params.MAX_SIZE self.old }
@@ -202,20 +152,10 @@ impl<T: PointDistance, Params: RTreeParams> RTree<T, Params> {
         }
     }
 
-    /// All elements of least distance to a point, in some order; none where the tree is empty.
+    /// All elements at the least distance to a point, in some order.
     ///
-    /// It takes neighbours, the nearest first, until one is farther than the first. It is refused where the allocator
-    /// refuses the list or what waits.
-    ///
-    /// ```rust
-    /// match &found {
-    ///     Ok(all) => lie_at(all, place, distances),
-    ///     Err(_) => false,
-    /// }
-    /// // ..
-    /// && are_at(tree.nearest_neighbors(&place), &place, least)
-    /// ```
-    /// *`crates/rstar_vectors/src/neighbour_rows.rt`*
+    /// It takes neighbours until one is farther than the first. It may be refused the memory of the list or
+    /// of the queue.
     #[tactic(auto, unfolding(crate::specs::Trees::IsWholeTree))]
     pub fn nearest_neighbors(&self, point: &PointOf<T>) -> Result<Vec<&T>, AllocError>
         requires { IsWholeTree T.Envelope.boxes T.object Params.MAX_SIZE self.now }
@@ -229,26 +169,11 @@ impl<T: PointDistance, Params: RTreeParams> RTree<T, Params> {
         }
     }
 
-    /// All elements of least squared distance to a point, of which there is one at least, in some order, with that
-    /// distance; `None` exactly where the tree is empty.
+    /// All elements at the least squared distance to a point, with that distance. There is at least one;
+    /// `None` comes exactly where the tree is empty.
     ///
-    /// It takes neighbours, the nearest first, until one is farther than the first. It is refused where the allocator
-    /// refuses the list or what waits.
-    ///
-    /// ```rust
-    /// match &found {
-    ///     Ok(Some((all, one))) => is_at(least, one) && lie_at(all, place, least),
-    ///     Ok(None) => least.is_empty(),
-    ///     Err(_) => false,
-    /// }
-    /// // ..
-    /// && are_least(
-    ///     tree.nearest_neighbors_with_distance_2(&place),
-    ///     &place,
-    ///     least,
-    /// )
-    /// ```
-    /// *`crates/rstar_vectors/src/neighbour_rows.rt`*
+    /// It takes neighbours until one is farther than the first. It may be refused the memory of the list or
+    /// of the queue.
     #[tactic(auto, unfolding(crate::specs::Trees::IsWholeTree))]
     pub fn nearest_neighbors_with_distance_2(
         &self,
@@ -264,18 +189,26 @@ impl<T: PointDistance, Params: RTreeParams> RTree<T, Params> {
         all_nearest(&self.root, point)
     }
 
-    /// So many elements with their squared distances, the nearest to a point first; all where there are fewer.
+    /// The `most` nearest elements to a point with their squared distances, the nearest first. Where there
+    /// are fewer it gives all.
     ///
-    /// It costs what `nearest_neighbor_iter_with_distance_2` costs for as many. Its list takes memory once, for no more
-    /// elements than the tree has, however many are asked for; up to 32 stand in order in one more list of that room
-    /// before they are lent. It is refused where the allocator refuses these lists or what waits.
+    /// Its list takes memory once, for at most as many elements as the tree has. Up to 32 elements are found
+    /// in a second list of that room, which prunes the traversal; more cost what
+    /// `nearest_neighbor_iter_with_distance_2` costs. It may be refused these lists or the queue.
     ///
     /// ```rust
-    /// are_in_order(in_order(alloc, tree, place), &place, distances)
-    ///     && are_first(tree.first_neighbors(&place, usize::MAX), distances)
-    ///     && are_first(tree.first_neighbors(&place, least.len()), least)
+    /// pub fn nearest(&self, place: &[i64; 2], most: usize) -> Result<Vec<(&Vehicle, i64)>, AllocError>
+    ///     ensures first { IfOk result (λ found. AreNearestOf
+    ///         (λ t. ⟦<Vehicle as PointDistance>⟧.distances.distance_2 t (table 2 (⟦<[i64; 2] as Point>⟧.coord place.now)))
+    ///         self.now most (map (λ n. n.0.now) found.items)) }
+    ///     ensures distances { IfOk result (λ found. AllByRecursion (λ n. n.1 ≡ pos
+    ///         (⟦<Vehicle as PointDistance>⟧.distances.distance_2 n.0.now (table 2 (⟦<[i64; 2] as Point>⟧.coord place.now))))
+    ///         found.items) }
+    /// {
+    ///     self.free.first_neighbors(place, most)
+    /// }
     /// ```
-    /// *`crates/rstar_vectors/src/neighbour_rows.rt`*
+    /// *`crates/rstar_vectors/src/uses/dispatch.rt`*
     #[tactic(auto, unfolding(crate::specs::Trees::IsWholeTree))]
     pub fn first_neighbors(
         &self,
@@ -295,21 +228,11 @@ impl<T: PointDistance, Params: RTreeParams> RTree<T, Params> {
 }
 
 impl<T: PointDistance + Ord, Params: RTreeParams> RTree<T, Params> {
-    /// All elements with their squared distances in one stated order: the nearest to a point first, and at equal
-    /// distance the least by their own order. It is one order, up to elements that compare equal.
+    /// All elements with their squared distances in the stated order. That order is by distance, and at
+    /// equal distance by `Ord`.
     ///
-    /// Making it takes no memory and opens nothing; `next` may be refused.
-    ///
-    /// ```rust
-    /// let mut neighbors = tree.nearest_neighbor_iter_by_order(place);
-    /// let mut all = Vec::new(alloc);
-    /// while let Some(found) = neighbors.next() {
-    ///     let item = found?;
-    ///     all.push(item)?;
-    /// }
-    /// Ok((all, neighbors.opened()))
-    /// ```
-    /// *`crates/rstar_vectors/src/by_order.rt`*
+    /// Making it takes no memory and visits nothing. `next` takes memory, and may be refused, where more
+    /// than 32 nodes wait.
     #[tactic(auto, unfolding(crate::specs::Trees::IsWholeTree))]
     pub fn nearest_neighbor_iter_by_order(
         &self,
@@ -323,19 +246,10 @@ impl<T: PointDistance + Ord, Params: RTreeParams> RTree<T, Params> {
         NeighborsByOrder::new(&self.root, point)
     }
 
-    /// So many elements with their squared distances, the first in the stated order of
-    /// `nearest_neighbor_iter_by_order`; all where there are fewer.
+    /// The first `most` elements in the stated order with their squared distances. Where there are fewer it
+    /// gives all.
     ///
-    /// It costs what that iterator costs for as many. Its list takes memory once, for no more elements than the tree
-    /// has, however many are asked for; up to 32 stand in order in one more list of that room before they are lent. It is
-    /// refused where the allocator refuses these lists or what waits.
-    ///
-    /// ```rust
-    /// let half = wanted.len() / 2;
-    /// lends_all(in_stated_order(alloc, tree, place), wanted)
-    ///     && lends(tree.first_neighbors_by_order(&place, half), &wanted[..half])
-    /// ```
-    /// *`crates/rstar_vectors/src/by_order.rt`*
+    /// The cost and the refusals are those of `first_neighbors`.
     #[tactic(auto, unfolding(crate::specs::Trees::IsWholeTree))]
     pub fn first_neighbors_by_order(
         &self,
@@ -355,27 +269,12 @@ impl<T: PointDistance + Ord, Params: RTreeParams> RTree<T, Params> {
 }
 
 impl<T: PointDistance + Ord, Params: RTreeParams> RTree<T, Params> {
-    /// Takes the element out that comes first in the stated order, by squared distance to a point and at equal distance
-    /// by `Ord`, and gives it; `None`, with the tree as it was, exactly where the tree is empty. Of several that compare
-    /// as equal it takes one.
+    /// Removes the first element in the stated order. That order is by distance to a point, and at equal
+    /// distance by `Ord`.
     ///
-    /// It finds the least distance as `nearest_neighbor` does. That search takes memory where more than 32 nodes wait,
-    /// and is refused where the allocator refuses that; the tree is then left. The taking takes none: it goes down one
-    /// path, at each level of which it reads once the parents below that are within the least distance.
-    ///
-    /// ```rust
-    /// for pair in wanted {
-    ///     let is_next = match tree.pop_nearest_neighbor_by_order(place) {
-    ///         Ok(Some(element)) => element == pair.1,
-    ///         _ => false,
-    ///     };
-    ///     if !is_next {
-    ///         return false;
-    ///     }
-    /// }
-    /// tree.size() == 0 && matches!(tree.pop_nearest_neighbor_by_order(place), Ok(None))
-    /// ```
-    /// *`crates/rstar_vectors/src/by_order.rt`*
+    /// `None` comes, with the tree as it was, exactly where the tree is empty. It finds the least distance
+    /// as `nearest_neighbor` does, which alone may be refused; the tree is then as it was. Then it changes
+    /// one path, and reads once, at each level, the parents below within that distance.
     #[tactic(auto, unfolding(crate::specs::Trees::IsWholeTree))]
     pub fn pop_nearest_neighbor_by_order(
         &mut self,

@@ -1,4 +1,4 @@
-//! A tree of a root that was made elsewhere, and what such a root is known by.
+//! A tree of a root made elsewhere.
 
 ghost use Rattle.std.specs.Prelude.{◌≡◌, ◌≤◌, ◌<◌, ◌+◌, ◌^◌, length};
 ghost use Rattle.rstar.specs.Heights.{levels_below};
@@ -14,7 +14,8 @@ use std::alloc::Global;
 use std::marker::PhantomData;
 
 impl<T: RTreeObject, Params: RTreeParams> RTree<T, Params> {
-    /// The tree of this root, with so many elements, levels of parents below the root, and children at most.
+    /// The tree of this root, with this many elements and levels of parents, and at most this many children
+    /// of a parent.
     pub(crate) fn from_root(
         alloc: Global,
         root: ParentNode<T>,
@@ -41,7 +42,7 @@ impl<T: RTreeObject, Params: RTreeParams> RTree<T, Params> {
         }
     }
 
-    /// The levels of parents below the root.
+    /// The number of levels of parents below the root.
     #[tactic(auto, unfolding(crate::specs::Trees::IsWholeTree))]
     pub(crate) fn levels(&self) -> usize
         requires { IsWholeTree T.Envelope.boxes T.object Params.MAX_SIZE self.now }

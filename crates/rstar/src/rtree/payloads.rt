@@ -1,4 +1,4 @@
-//! References to payloads.
+//! Mutable borrows of payloads.
 
 ghost use Rattle.std.specs.Prelude.{◌≡◌, is_some, IfSome};
 ghost use Rattle.std.specs.Borrow.{sem};
@@ -16,22 +16,11 @@ use rstar_base::point::{Point, known};
 use rstar_base::primitives::GeomWithData;
 
 impl<R: PointDistance, D: Drop, Params: RTreeParams> RTree<GeomWithData<R, D>, Params> {
-    /// The payload of an element that contains a point, by `contains_point`, to be read or written; `None` exactly
-    /// where none does. A write leaves all else: the geometry, every other element in its place, all envelopes.
+    /// A mutable borrow of the payload of an element that contains a point. `None` comes exactly where none
+    /// does. A write changes nothing else of the tree.
     ///
-    /// It opens the parents whose envelopes contain the point until it finds an element, and then goes down to it, with
-    /// the same search anew below each parent on the way. It takes no memory.
-    ///
-    /// ```rust
-    /// match tree.locate_at_point_mut(point) {
-    ///     Some(lent) => {
-    ///         *lent = number;
-    ///         true
-    ///     }
-    ///     None => false,
-    /// }
-    /// ```
-    /// *`crates/rstar_vectors/src/payloads.rt`*
+    /// It visits the parents whose envelopes contain the point until it finds an element, and searches again
+    /// below each parent on the way down. It takes no memory.
     #[tactic(auto, unfolding(crate::specs::Trees::IsWholeTree))]
     pub fn locate_at_point_mut(&mut self, point: PointOf<R>) -> Option<&mut D>
         requires { IsWholeTree R.Envelope.boxes ⟦<GeomWithData<R, D> as RTreeObject>⟧.object Params.MAX_SIZE self.old }
@@ -57,18 +46,7 @@ impl<R: PointDistance, D: Drop, Params: RTreeParams> RTree<GeomWithData<R, D>, P
         }
     }
 
-    /// The same as `locate_at_point_mut`. In rstar the two walk in different ways.
-    ///
-    /// ```rust
-    /// match tree.locate_at_point_int_mut(point) {
-    ///     Some(lent) => {
-    ///         *lent = number;
-    ///         true
-    ///     }
-    ///     None => false,
-    /// }
-    /// ```
-    /// *`crates/rstar_vectors/src/payloads.rt`*
+    /// The same as `locate_at_point_mut`. In rstar the two traverse in different ways.
     pub fn locate_at_point_int_mut(&mut self, point: PointOf<R>) -> Option<&mut D>
         requires { IsWholeTree R.Envelope.boxes ⟦<GeomWithData<R, D> as RTreeObject>⟧.object Params.MAX_SIZE self.old }
         ensures* writes_back { sem 𝓛 (LendsPayloadOf R.row D.row Params.row R.Envelope.row R.Envelope.Point.row

@@ -23,12 +23,11 @@ use rstar_base::params::RTreeParams;
 use rstar_base::point::Point;
 
 impl<T: RTreeObject, Params: RTreeParams> RTree<T, Params> {
-    /// Takes one element that a function selects out, and gives it; `None`, with the tree as it was, where it finds
-    /// none. A function that is not lawful may miss some.
+    /// Removes one element that a function selects. With a function that is not lawful it may miss some.
     ///
-    /// It opens the parents that the function accepts until it finds an element. The envelopes above it are made anew
-    /// from the children, as far up as one changes, and a parent that lost its last child is dropped; nodes are never
-    /// merged. It takes no memory.
+    /// `None` comes, with the tree as it was, where it finds none. It visits the accepted parents until it
+    /// finds an element. Envelopes above it are recomputed as far up as one changes, and parents without
+    /// children are dropped; nodes are never merged. It takes no memory.
     pub fn remove_with_selection_function<R: SelectionFunction<T>>(&mut self, func: R) -> Option<T>
         requires { IsWholeTree T.Envelope.boxes T.object Params.MAX_SIZE self.old }
         ensures taken { IfSome result (λ x. IsPermutation (elements_in self.old) (x ∷ elements_in self.new)) }
@@ -42,10 +41,11 @@ impl<T: RTreeObject, Params: RTreeParams> RTree<T, Params> {
         self.take_next(&mut [], &mut None, &func)
     }
 
-    /// Takes the next selected element out, from a place on: a number for each level, of the children to the right.
+    /// Removes the next selected element from a place on: a number for each level, of the children to the
+    /// right.
     ///
-    /// A path that is too short, or a place that is not there, only begins further right or finds less. `rest` is what
-    /// is kept of the node that the last number stands in; without it a drain only takes longer.
+    /// A wrong place only begins further right or finds less. `rest` is that of the node at the last number;
+    /// without it a drain only takes longer.
     #[tactic(auto, unfolding(crate::specs::Trees::IsWholeTree))]
     pub(crate) fn take_next<R: SelectionFunction<T>>(
         &mut self,
@@ -72,9 +72,7 @@ impl<T: RTreeObject, Params: RTreeParams> RTree<T, Params> {
 }
 
 impl<T: RTreeObject + Ord, Params: RTreeParams> RTree<T, Params> {
-    /// Takes the earliest, by `Ord`, of the elements that a walk gives out, where there is one.
-    ///
-    /// It takes no memory. At each level it reads once what the function accepts below one node.
+    /// Removes the earliest selected element by `Ord`, where there is one. It takes no memory.
     #[tactic(auto, unfolding(crate::specs::Trees::IsWholeTree))]
     pub(crate) fn take_earliest<R: SelectionFunction<T>>(&mut self, func: &R) -> Option<T>
         requires { IsWholeTree T.Envelope.boxes T.object Params.MAX_SIZE self.old }
@@ -98,21 +96,9 @@ impl<T: RTreeObject + Ord, Params: RTreeParams> RTree<T, Params> {
 }
 
 impl<T: EqualEnvelopes, Params: RTreeParams> RTree<T, Params> {
-    /// Whether an element that equals this one, by `==`, is there.
+    /// Whether an element equals this one.
     ///
-    /// It opens the parents whose envelopes contain the element's until it finds one, and takes no memory.
-    ///
-    /// ```rust
-    /// match RTree::<T>::bulk_load(elements) {
-    ///     Ok(tree) => {
-    ///         let is_there = tree.contains(wanted);
-    ///         // ..
-    ///         is_there
-    ///     }
-    ///     Err(_) => false,
-    /// }
-    /// ```
-    /// *`crates/rstar_vectors/src/loads.rt`*
+    /// It visits the parents whose envelopes contain the element's until it finds one, and takes no memory.
     pub fn contains(&self, t: &T) -> bool
         requires { IsWholeTree T.Envelope.boxes T.object Params.MAX_SIZE self.now }
         ensures { result ≡ list_any (λ x. T.eq x t.now) (elements_in self.now) }
@@ -120,25 +106,18 @@ impl<T: EqualEnvelopes, Params: RTreeParams> RTree<T, Params> {
         self.locate_first(&SelectEqualsFunction::new(t)).is_some()
     }
 
-    /// Takes one element that equals this one, by `==`, out, and gives it; `None`, with the tree as it was, exactly
-    /// where none does. Of several one is taken out.
+    /// Removes one element that equals this one.
     ///
-    /// It opens the parents whose envelopes contain the element's until it finds one, and takes no memory.
+    /// `None` comes, with the tree as it was, exactly where none does. It visits the parents whose envelopes
+    /// contain the element's until it finds one, and takes no memory.
     ///
     /// ```rust
-    /// let before = tree.size();
-    /// let is_there = tree.contains(element);
-    /// let taken = if is_at_place {
-    ///     tree.remove_at_point(element.envelope().center())
-    /// } else {
-    ///     tree.remove(element)
-    /// };
-    /// is_there
-    ///     && taken == Some(*element)
-    ///     && tree.size().saturating_add(1) == before
-    ///     && !(is_last && (tree.contains(element) || tree.remove(element).is_some()))
+    /// match tree.remove(element) {
+    ///     Some(_) => true,
+    ///     None => false,
+    /// }
     /// ```
-    /// *`crates/rstar_vectors/src/removal.rt`*
+    /// *`crates/rstar_vectors/src/uses/geofence.rt`*
     pub fn remove(&mut self, t: &T) -> Option<T>
         requires { IsWholeTree T.Envelope.boxes T.object Params.MAX_SIZE self.old }
         ensures taken { IfSome result (λ x. IsPermutation (elements_in self.old) (x ∷ elements_in self.new)) }
@@ -153,19 +132,10 @@ impl<T: EqualEnvelopes, Params: RTreeParams> RTree<T, Params> {
 }
 
 impl<T: PointDistance, Params: RTreeParams> RTree<T, Params> {
-    /// Takes one element that contains a point, by `contains_point`, out, and gives it; `None`, with the tree as it
-    /// was, exactly where none does.
+    /// Removes one element that contains a point.
     ///
-    /// It opens the parents whose envelopes contain the point until it finds one, and takes no memory.
-    ///
-    /// ```rust
-    /// let taken = if is_at_place {
-    ///     tree.remove_at_point(element.envelope().center())
-    /// } else {
-    ///     tree.remove(element)
-    /// };
-    /// ```
-    /// *`crates/rstar_vectors/src/removal.rt`*
+    /// `None` comes, with the tree as it was, exactly where none does. It visits the parents whose envelopes
+    /// contain the point until it finds one, and takes no memory.
     pub fn remove_at_point(&mut self, point: PointOf<T>) -> Option<T>
         requires { IsWholeTree T.Envelope.boxes T.object Params.MAX_SIZE self.old }
         ensures taken { IfSome result (λ x. IsPermutation (elements_in self.old) (x ∷ elements_in self.new)) }

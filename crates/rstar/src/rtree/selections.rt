@@ -27,15 +27,7 @@ use std::alloc::AllocError;
 impl<T: RTreeObject, Params: RTreeParams> RTree<T, Params> {
     /// All elements, in some order.
     ///
-    /// It is refused where the allocator refuses the path of a tree of more than 13 levels of parents.
-    ///
-    /// ```rust
-    /// match tree.iter() {
-    ///     Ok(walk) => walk.collect(alloc),
-    ///     Err(refused) => Err(refused),
-    /// }
-    /// ```
-    /// *`crates/rstar_vectors/src/places.rt`*
+    /// It takes memory, and may be refused, only where the tree has more than 13 levels of parents.
     pub fn iter(&self) -> Result<RTreeIterator<'_, T>, AllocError>
         requires { IsWholeTree T.Envelope.boxes T.object Params.MAX_SIZE self.now }
         ensures all { IfOk result (λ it. to_come ⟦<SelectAllFunc as SelectionFunction<T>>⟧.accepts
@@ -48,10 +40,10 @@ impl<T: RTreeObject, Params: RTreeParams> RTree<T, Params> {
         self.locate_with_selection_function(SelectAllFunc)
     }
 
-    /// The elements whose envelopes an envelope contains, in some order. Its borders belong to it.
+    /// The elements whose envelopes an envelope contains, in some order. Borders belong to it.
     ///
-    /// It opens the parents whose envelopes intersect it. It is refused where the allocator refuses the path of a tree
-    /// of more than 13 levels of parents.
+    /// It visits the parents whose envelopes intersect it. It takes memory, and may be refused, only where
+    /// the tree has more than 13 levels of parents.
     ///
     /// ```rust
     /// let Ok(mut found) = tree.locate_in_envelope(envelope) else {
@@ -85,16 +77,8 @@ impl<T: RTreeObject, Params: RTreeParams> RTree<T, Params> {
 
     /// The elements whose envelopes an envelope intersects, in some order. Touching is enough.
     ///
-    /// It opens the parents whose envelopes intersect it. It is refused where the allocator refuses the path of a tree
-    /// of more than 13 levels of parents.
-    ///
-    /// ```rust
-    /// match tree.locate_in_envelope_intersecting(area) {
-    ///     Ok(walk) => walked(alloc, walk),
-    ///     Err(refused) => Err(refused),
-    /// }
-    /// ```
-    /// *`crates/rstar_vectors/src/payloads.rt`*
+    /// It visits the parents whose envelopes intersect it. It takes memory, and may be refused, only where
+    /// the tree has more than 13 levels of parents.
     pub fn locate_in_envelope_intersecting(
         &self,
         envelope: T::Envelope,
@@ -112,17 +96,11 @@ impl<T: RTreeObject, Params: RTreeParams> RTree<T, Params> {
         self.locate_with_selection_function(SelectInEnvelopeFuncIntersecting::new(envelope))
     }
 
-    /// The elements that a function selects, in some order. A function that is not lawful may miss some.
+    /// The elements that a function selects, in some order. With a function that is not lawful it may miss
+    /// some.
     ///
-    /// It opens the parents that the function accepts. It is refused where the allocator refuses the path of a tree of
-    /// more than 13 levels of parents.
-    ///
-    /// ```rust
-    /// let walk = tree.locate_with_selection_function(func)?;
-    /// let (all, _opened) = walked(alloc, walk)?;
-    /// Ok(all)
-    /// ```
-    /// *`crates/rstar_vectors/src/selections.rt`*
+    /// It visits the parents that the function accepts. It takes memory, and may be refused, only where the
+    /// tree has more than 13 levels of parents.
     #[tactic(auto, unfolding(crate::specs::Trees::IsWholeTree))]
     pub fn locate_with_selection_function<Func: SelectionFunction<T>>(
         &self,
@@ -153,15 +131,16 @@ impl<T: RTreeObject, Params: RTreeParams> RTree<T, Params> {
 }
 
 impl<T: PointDistance, Params: RTreeParams> RTree<T, Params> {
-    /// An element that contains a point, by `contains_point`; `None` exactly where none does.
+    /// An element that contains a point.
     ///
-    /// It opens the parents whose envelopes contain the point until it finds one, and takes no memory.
+    /// `None` comes exactly where none does. It visits the parents whose envelopes contain the point until
+    /// it finds one, and takes no memory.
     ///
     /// ```rust
     /// let found = tree.locate_at_point(point).is_some();
     /// let _refused = tree.insert(more).is_err();
     /// let count = tree.size();
-    /// // ..
+    /// let_go(tree);
     /// (found, count)
     /// ```
     /// *`crates/rstar_vectors/src/loads.rt`*
@@ -174,20 +153,7 @@ impl<T: PointDistance, Params: RTreeParams> RTree<T, Params> {
         self.locate_at_point_int(point)
     }
 
-    /// The same as `locate_at_point`. In rstar the two walk in different ways.
-    ///
-    /// ```rust
-    /// pub fn either_at<T: PointDistance>(
-    ///     tree: &RTree<T>,
-    ///     one: PointOf<T>,
-    ///     other: PointOf<T>,
-    /// ) -> (Option<&T>, Option<&T>)
-    ///     // ..
-    /// {
-    ///     (tree.locate_at_point(one), tree.locate_at_point_int(other))
-    /// }
-    /// ```
-    /// *`crates/rstar_vectors/src/payloads.rt`*
+    /// The same as `locate_at_point`. In rstar the two traverse in different ways.
     pub fn locate_at_point_int(&self, point: PointOf<T>) -> Option<&T>
         requires { IsWholeTree T.Envelope.boxes T.object Params.MAX_SIZE self.now }
         ensures { IsOneOf (filter (λ t. T.distances.contains_point t
@@ -197,18 +163,10 @@ impl<T: PointDistance, Params: RTreeParams> RTree<T, Params> {
         self.locate_first(&SelectAtPointFunction::new(point))
     }
 
-    /// The elements that contain a point, by `contains_point`, in some order.
+    /// The elements that contain a point, in some order.
     ///
-    /// It opens the parents whose envelopes contain the point. It is refused where the allocator refuses the path of a
-    /// tree of more than 13 levels of parents.
-    ///
-    /// ```rust
-    /// match tree.locate_all_at_point(point) {
-    ///     Ok(walk) => walked(alloc, walk),
-    ///     Err(refused) => Err(refused),
-    /// }
-    /// ```
-    /// *`crates/rstar_vectors/src/payloads.rt`*
+    /// It visits the parents whose envelopes contain the point. It takes memory, and may be refused, only
+    /// where the tree has more than 13 levels of parents.
     pub fn locate_all_at_point(
         &self,
         point: PointOf<T>,
@@ -229,18 +187,10 @@ impl<T: PointDistance, Params: RTreeParams> RTree<T, Params> {
         self.locate_with_selection_function(SelectAtPointFunction::new(point))
     }
 
-    /// The elements whose distance from a point is at most a limit, in some order. Distances are squared.
+    /// The elements within a squared distance of a point, in some order.
     ///
-    /// It opens the parents whose envelopes are no farther. It is refused where the allocator refuses the path of a
-    /// tree of more than 13 levels of parents.
-    ///
-    /// ```rust
-    /// match tree.locate_within_distance(point, limit) {
-    ///     Ok(walk) => walked(alloc, walk),
-    ///     Err(refused) => Err(refused),
-    /// }
-    /// ```
-    /// *`crates/rstar_vectors/src/payloads.rt`*
+    /// It visits the parents whose envelopes are within that distance. It takes memory, and may be refused,
+    /// only where the tree has more than 13 levels of parents.
     pub fn locate_within_distance(
         &self,
         query_point: PointOf<T>,

@@ -1,4 +1,4 @@
-//! The text of a tree.
+//! The debug text of a tree.
 
 use crate::node::{ParentNode, RTreeNode};
 use crate::rtree::RTree;
@@ -21,7 +21,7 @@ impl<T: RTreeObject + Debug> Debug for Items<'_, T> {
     }
 }
 
-/// Adds the elements of some nodes.
+/// Adds the elements of several nodes.
 #[cycle(text)]
 fn add_all<T: RTreeObject + Debug, W: Write>(set: &mut DebugSet<'_, W>, nodes: &[RTreeNode<T>]) {
     for node in nodes {

@@ -1,4 +1,4 @@
-//! Visits of the elements that are selected.
+//! Visits: calls of a function at each selected element.
 
 ghost use Rattle.std.specs.Prelude.{filter};
 ghost use Rattle.rstar_base.specs.Points.{table};
@@ -19,21 +19,8 @@ use rstar_base::point::{Point, RTreeNum};
 use std::ops::ControlFlow;
 
 impl<T: RTreeObject, Params: RTreeParams> RTree<T, Params> {
-    /// Calls a visitor at the elements whose envelopes an envelope contains, until a call breaks; its break is the
-    /// answer. It takes no memory.
-    ///
-    /// ```rust
-    /// let mut calls = 0usize;
-    /// let answer = tree.locate_in_envelope_int(area, |_element: &T| {
-    ///     calls = calls.saturating_add(1);
-    ///     if calls == last {
-    ///         ControlFlow::Break(calls)
-    ///     } else {
-    ///         ControlFlow::Continue(())
-    ///     }
-    /// });
-    /// ```
-    /// *`crates/rstar_vectors/src/selections.rt`*
+    /// Calls a visitor at each element inside an envelope, until it breaks. It returns the break and takes
+    /// no memory.
     pub fn locate_in_envelope_int<'a, V: FnMut(&'a T) -> ControlFlow<B>, B: Drop>(
         &'a self,
         envelope: T::Envelope,
@@ -47,19 +34,8 @@ impl<T: RTreeObject, Params: RTreeParams> RTree<T, Params> {
         self.locate_with_selection_function_int(SelectInEnvelopeFunction::new(envelope), visitor)
     }
 
-    /// Calls a visitor at the elements whose envelopes an envelope intersects, until a call breaks; its break is the
-    /// answer. It takes no memory.
-    ///
-    /// ```rust
-    /// fn called(calls: &mut usize) -> ControlFlow<()> {
-    ///     *calls = calls.saturating_add(1);
-    ///     ControlFlow::Continue(())
-    /// }
-    /// // ..
-    /// let mut touched = 0usize;
-    /// let _end = tree.locate_in_envelope_intersecting_int(area, |_element: &T| called(&mut touched));
-    /// ```
-    /// *`crates/rstar_vectors/src/selections.rt`*
+    /// Calls a visitor at each element that an envelope intersects, until it breaks. It returns the break
+    /// and takes no memory.
     pub fn locate_in_envelope_intersecting_int<'a, V: FnMut(&'a T) -> ControlFlow<B>, B: Drop>(
         &'a self,
         envelope: T::Envelope,
@@ -76,15 +52,8 @@ impl<T: RTreeObject, Params: RTreeParams> RTree<T, Params> {
         )
     }
 
-    /// Calls a visitor at the elements that a function selects, each at most once, until a call breaks; its break is
-    /// the answer. A function that is not lawful may miss some. It takes no memory.
-    ///
-    /// ```rust
-    /// let func = SelectAtPointFunction::new(point);
-    /// let found = tree.locate_with_selection_function_int(func, at_once);
-    /// found.break_value()
-    /// ```
-    /// *`crates/rstar_vectors/src/readings.rt`*
+    /// Calls a visitor at each selected element, until it breaks. It returns the break and takes no memory.
+    /// With a function that is not lawful it may miss some.
     #[tactic(auto, unfolding(crate::specs::Trees::IsWholeTree))]
     pub fn locate_with_selection_function_int<
         'a,
@@ -101,18 +70,8 @@ impl<T: RTreeObject, Params: RTreeParams> RTree<T, Params> {
         select_nodes(&self.root, &func, &mut visitor)
     }
 
-    /// Calls a visitor at the elements whose envelopes an envelope contains, until a call breaks; its break is the
-    /// answer. The visitor may write each element in its place, and must keep its envelope. It takes no memory.
-    ///
-    /// ```rust
-    /// let add_one = |one: &mut Numbered<R>| {
-    ///     one.data = one.data.wrapping_add(1);
-    ///     ControlFlow::<()>::Continue(())
-    /// };
-    /// tree.locate_in_envelope_int_mut(area, add_one);
-    /// let second = sum(tree.root());
-    /// ```
-    /// *`crates/rstar_vectors/src/visits.rt`*
+    /// As `locate_in_envelope_int`, with a visitor that may write. The visitor must keep the envelope of the
+    /// element.
     pub fn locate_in_envelope_int_mut<V: FnMut(&mut T) -> ControlFlow<B>, B: Drop>(
         &mut self,
         envelope: T::Envelope,
@@ -131,8 +90,8 @@ impl<T: RTreeObject, Params: RTreeParams> RTree<T, Params> {
         self.locate_with_selection_function_int_mut(func, visitor)
     }
 
-    /// Calls a visitor at the elements whose envelopes an envelope intersects, until a call breaks; its break is the
-    /// answer. The visitor may write each element in its place, and must keep its envelope. It takes no memory.
+    /// As `locate_in_envelope_intersecting_int`, with a visitor that may write. The visitor must keep the
+    /// envelope of the element.
     ///
     /// ```rust
     /// let _went_on: ControlFlow<()> = tree.locate_in_envelope_intersecting_int_mut(
@@ -162,24 +121,8 @@ impl<T: RTreeObject, Params: RTreeParams> RTree<T, Params> {
         self.locate_with_selection_function_int_mut(func, visitor)
     }
 
-    /// Calls a visitor at the elements that a function selects, each at most once, until a call breaks; its break is
-    /// the answer. The visitor may write each element in its place, and must keep its envelope. A function that is not
-    /// lawful may miss some. It takes no memory.
-    ///
-    /// ```rust
-    /// let answer = tree.locate_with_selection_function_int_mut(
-    ///     SelectAllFunc,
-    ///     |one: &mut Numbered<R>| {
-    ///         one.data = one.data.wrapping_add(10);
-    ///         if breaks {
-    ///             ControlFlow::Break(one.data)
-    ///         } else {
-    ///             ControlFlow::Continue(())
-    ///         }
-    ///     },
-    /// );
-    /// ```
-    /// *`crates/rstar_vectors/src/visits.rt`*
+    /// As `locate_with_selection_function_int`, with a visitor that may write. The visitor must keep the
+    /// envelope of the element.
     pub fn locate_with_selection_function_int_mut<
         F: SelectionFunction<T>,
         V: FnMut(&mut T) -> ControlFlow<B>,
@@ -199,16 +142,8 @@ impl<T: RTreeObject, Params: RTreeParams> RTree<T, Params> {
 }
 
 impl<T: PointDistance, Params: RTreeParams> RTree<T, Params> {
-    /// Calls a visitor at the elements that contain a point, until a call breaks; its break is the answer. It takes no
-    /// memory.
-    ///
-    /// ```rust
-    /// let mut located = 0usize;
-    /// let _end = tree.locate_all_at_point_int(point, |_element: &T| called(&mut located));
-    /// // ..
-    /// touched == touching && located == at && one.is_some() == (at > 0) && other.is_some() == (at > 0)
-    /// ```
-    /// *`crates/rstar_vectors/src/selections.rt`*
+    /// Calls a visitor at each element that contains a point, until it breaks. It returns the break and
+    /// takes no memory.
     pub fn locate_all_at_point_int<'a, V: FnMut(&'a T) -> ControlFlow<B>, B: Drop>(
         &'a self,
         point: PointOf<T>,
@@ -224,19 +159,8 @@ impl<T: PointDistance, Params: RTreeParams> RTree<T, Params> {
         self.locate_with_selection_function_int(SelectAtPointFunction::new(point), visitor)
     }
 
-    /// Calls a visitor at the elements that contain a point, until a call breaks; its break is the answer. The visitor
-    /// may write each element in its place, and must keep its envelope. It takes no memory.
-    ///
-    /// ```rust
-    /// let add_one = |one: &mut Numbered<R>| {
-    ///     one.data = one.data.wrapping_add(1);
-    ///     ControlFlow::<()>::Continue(())
-    /// };
-    /// // ..
-    /// tree.locate_all_at_point_int_mut(point, add_one);
-    /// let third = sum(tree.root());
-    /// ```
-    /// *`crates/rstar_vectors/src/visits.rt`*
+    /// As `locate_all_at_point_int`, with a visitor that may write. The visitor must keep the envelope of
+    /// the element.
     pub fn locate_all_at_point_int_mut<V: FnMut(&mut T) -> ControlFlow<B>, B: Drop>(
         &mut self,
         point: PointOf<T>,

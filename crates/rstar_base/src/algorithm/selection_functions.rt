@@ -1,4 +1,4 @@
-//! Which parents a search opens, and which elements it gives.
+//! Selection functions: which parents a traversal visits, and which elements it yields.
 
 ghost use Rattle.std.specs.Prelude.{◌≡◌, Bool, true, pos, int_le};
 ghost use Rattle.rstar_base.specs.Points.{table};
@@ -8,11 +8,11 @@ use crate::envelope::Envelope;
 use crate::object::{Distance, EqualEnvelopes, PointDistance, PointOf, RTreeObject};
 use crate::point::{known, not_above};
 
-/// Which parents a search opens, and which elements it gives.
+/// Which parents a traversal visits, and which elements it yields.
 ///
-/// It is lawful where it accepts each envelope into which the envelope of a selected element was
-/// merged, if that is not empty. Then a search gives each selected element; with any other function
-/// it still gives selected elements alone.
+/// A function is lawful when it accepts every envelope that the envelope of a selected element was merged
+/// into and that is not empty. A traversal with a lawful function yields every selected element. With any
+/// other function it yields only selected elements, and may miss some.
 ///
 /// ```rust
 /// impl SelectionFunction<[i32; 2]> for LeftHalf {
@@ -33,28 +33,16 @@ pub trait SelectionFunction<T: RTreeObject>: Drop {
 
     ghost selects: { Self → T → Bool };
 
-    /// Whether the children of a parent with this envelope are looked at.
+    /// Whether the children of a parent with this envelope are visited.
     fn should_unpack_parent(&self, envelope: &T::Envelope) -> bool
         ensures { result ≡ accepts self.now envelope.now };
 
-    /// Whether the element is given.
+    /// Whether this element is selected.
     fn should_unpack_leaf(&self, leaf: &T) -> bool
         ensures { result ≡ selects self.now leaf.now };
 }
 
-/// Gives all elements.
-///
-/// ```rust
-/// let _end: ControlFlow<()> = select_nodes(
-///     root,
-///     &SelectAllFunc,
-///     &mut |one: &Numbered<R>| {
-///         sum = sum.saturating_add(one.data);
-///         ControlFlow::Continue(())
-///     },
-/// );
-/// ```
-/// *`crates/rstar_vectors/src/visits.rt`*
+/// Selects all elements.
 #[derive(Drop)]
 pub struct SelectAllFunc;
 
@@ -78,26 +66,14 @@ impl<T: RTreeObject> SelectionFunction<T> for SelectAllFunc {
     }
 }
 
-/// Gives the elements whose envelopes an envelope contains.
-///
-/// ```rust
-/// fn asked<T: RTreeObject, F: SelectionFunction<T>>(func: F, element: &T) -> (bool, bool) {
-///     (
-///         func.should_unpack_parent(&element.envelope()),
-///         func.should_unpack_leaf(element),
-///     )
-/// }
-/// // ..
-/// asked(SelectInEnvelopeFunction::new(area), element),
-/// ```
-/// *`crates/rstar_base/src/tests/generic.rt`*
+/// Selects the elements whose envelopes an envelope contains.
 #[derive(Drop)]
 pub struct SelectInEnvelopeFunction<T: RTreeObject> {
     envelope: T::Envelope,
 }
 
 impl<T: RTreeObject> SelectInEnvelopeFunction<T> {
-    /// Selects what the envelope contains, and opens the parents that it intersects.
+    /// Selects the elements inside `envelope`, and visits the parents that it intersects.
     pub fn new(envelope: T::Envelope) -> Self
         ensures { SelectsBy T.Envelope.boxes T.object (⟦<SelectInEnvelopeFunction<T> as SelectionFunction<T>>⟧.accepts result)
             (⟦<SelectInEnvelopeFunction<T> as SelectionFunction<T>>⟧.selects result)
@@ -123,27 +99,14 @@ impl<T: RTreeObject> SelectionFunction<T> for SelectInEnvelopeFunction<T> {
     }
 }
 
-/// Gives the elements whose envelopes an envelope intersects.
-///
-/// ```rust
-/// let func = SelectInEnvelopeFuncIntersecting::new(area);
-/// let _went_on: ControlFlow<()> = select_nodes_mut(
-///     root,
-///     &func,
-///     &mut |one: &mut GeomWithData<R, u64>| {
-///         one.data = 0;
-///         ControlFlow::Continue(())
-///     },
-/// );
-/// ```
-/// *`crates/rstar_vectors/src/visits.rt`*
+/// Selects the elements whose envelopes an envelope intersects.
 #[derive(Drop)]
 pub struct SelectInEnvelopeFuncIntersecting<T: RTreeObject> {
     envelope: T::Envelope,
 }
 
 impl<T: RTreeObject> SelectInEnvelopeFuncIntersecting<T> {
-    /// Selects what the envelope intersects, and opens the parents that it intersects.
+    /// Selects the elements, and visits the parents, that `envelope` intersects.
     pub fn new(envelope: T::Envelope) -> Self
         ensures { SelectsBy T.Envelope.boxes T.object (⟦<SelectInEnvelopeFuncIntersecting<T> as SelectionFunction<T>>⟧.accepts result)
             (⟦<SelectInEnvelopeFuncIntersecting<T> as SelectionFunction<T>>⟧.selects result)
@@ -169,22 +132,14 @@ impl<T: RTreeObject> SelectionFunction<T> for SelectInEnvelopeFuncIntersecting<T
     }
 }
 
-/// Gives the elements that contain a point.
-///
-/// ```rust
-/// let func = SelectAtPointFunction::new(point);
-/// let found = tree.locate_with_selection_function_int(func, at_once);
-/// found.break_value()
-/// ```
-/// *`crates/rstar_vectors/src/readings.rt`*
+/// Selects the elements that contain a point.
 #[derive(Drop)]
 pub struct SelectAtPointFunction<T: RTreeObject> {
     point: PointOf<T>,
 }
 
 impl<T: PointDistance> SelectAtPointFunction<T> {
-    /// Selects what contains the point, by `contains_point`, and opens the parents whose envelopes
-    /// contain it.
+    /// Selects by `contains_point`, and visits the parents that contain the point.
     pub fn new(point: PointOf<T>) -> Self
         ensures { SelectsBy T.Envelope.boxes T.object (⟦<SelectAtPointFunction<T> as SelectionFunction<T>>⟧.accepts result)
             (⟦<SelectAtPointFunction<T> as SelectionFunction<T>>⟧.selects result)
@@ -214,19 +169,7 @@ impl<T: PointDistance> SelectionFunction<T> for SelectAtPointFunction<T> {
     }
 }
 
-/// Gives the elements within a distance of a point.
-///
-/// ```rust
-/// fn asked<T: RTreeObject, F: SelectionFunction<T>>(func: F, element: &T) -> (bool, bool) {
-///     (
-///         func.should_unpack_parent(&element.envelope()),
-///         func.should_unpack_leaf(element),
-///     )
-/// }
-/// // ..
-/// asked(SelectWithinDistanceFunction::new(point, limit), element),
-/// ```
-/// *`crates/rstar_base/src/tests/generic.rt`*
+/// Selects the elements within a distance of a point.
 #[derive(Drop)]
 pub struct SelectWithinDistanceFunction<T: RTreeObject> {
     circle_origin: PointOf<T>,
@@ -234,8 +177,7 @@ pub struct SelectWithinDistanceFunction<T: RTreeObject> {
 }
 
 impl<T: PointDistance> SelectWithinDistanceFunction<T> {
-    /// Selects what is at most `squared_max_distance` away from the point, and opens the parents
-    /// whose envelopes are. The distance is squared.
+    /// Selects elements and visits parents at most this squared distance from the point.
     pub fn new(circle_origin: PointOf<T>, squared_max_distance: Distance<T>) -> Self
         ensures { SelectsBy T.Envelope.boxes T.object (⟦<SelectWithinDistanceFunction<T> as SelectionFunction<T>>⟧.accepts result)
             (⟦<SelectWithinDistanceFunction<T> as SelectionFunction<T>>⟧.selects result)
@@ -276,24 +218,15 @@ impl<T: PointDistance> SelectionFunction<T> for SelectWithinDistanceFunction<T> 
     }
 }
 
-/// Gives the elements that equal an element.
-///
-/// ```rust
-/// let func = SelectEqualsFunction::new(wanted);
-/// match tree.locate_with_selection_function(func) {
-///     Ok(walk) => walked(alloc, walk),
-///     Err(refused) => Err(refused),
-/// }
-/// ```
-/// *`crates/rstar_vectors/src/payloads.rt`*
+/// Selects the elements that equal an element.
 #[derive(Drop)]
 pub struct SelectEqualsFunction<'a, T: EqualEnvelopes> {
     object_to_remove: &'a T,
 }
 
 impl<'a, T: EqualEnvelopes> SelectEqualsFunction<'a, T> {
-    /// Selects what equals the element, by `==`, and opens the parents whose envelopes contain its
-    /// envelope: those of equal elements are equal.
+    /// Selects by `==`, and visits the parents that contain the element's envelope. Equal elements have
+    /// equal envelopes.
     pub fn new(object_to_remove: &'a T) -> Self
         ensures { SelectsBy T.Envelope.boxes T.object (⟦<SelectEqualsFunction<'a, T> as SelectionFunction<T>>⟧.accepts result)
             (⟦<SelectEqualsFunction<'a, T> as SelectionFunction<T>>⟧.selects result)

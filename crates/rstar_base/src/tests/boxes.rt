@@ -1,4 +1,4 @@
-//! Boxes: what each call answers on given corners.
+//! Tests of boxes: the answers on given corners.
 
 use crate::aabb::{AABB, upright};
 use crate::envelope::{Counted, Envelope};
@@ -9,7 +9,7 @@ use std::alloc::{AllocError, Global};
 use std::fmt::Debug;
 use std::hash::{DefaultHasher, Hash, Hasher};
 
-/// The box between two corners; the empty box where the first lies above the second on some axis.
+/// The box between two corners; the empty box where the first is above the second on some axis.
 fn boxed<P: Point + Copy>(lower: P, upper: P) -> AABB<P> {
     if upright(&lower, &upper) {
         AABB::from_bounds(lower, upper)
@@ -21,7 +21,7 @@ fn boxed<P: Point + Copy>(lower: P, upper: P) -> AABB<P> {
 /// A scalar of an envelope.
 type ScalarOf<E> = <<E as Envelope>::Point as Point>::Scalar;
 
-/// Whether an envelope has this area, this perimeter, this center, and on axis 1 this key.
+/// Whether an envelope has this area, perimeter, center, and key on axis 1.
 fn measures<E: Envelope>(
     made: &E,
     area: &ScalarOf<E>,
@@ -67,14 +67,14 @@ fn measures_and_centers(rt: HostRuntime) {
     assert!(rt; answers == [true; 4]);
 }
 
-/// Whether the box between two corners is that between two others, the lower and the upper one, and the box of the lower
-/// corner is that from it to itself.
+/// Whether the box of two corners is the box from `lower` to `upper`, and the box of the point `lower` has
+/// both corners there.
 fn has_corners<P: Point + Copy>(one: P, other: P, lower: P, upper: P) -> bool {
     AABB::from_corners(one, other) == boxed(lower, upper)
         && AABB::from_point(lower) == boxed(lower, lower)
 }
 
-/// Whether the box round a center is that between two corners, with the distance and with its negative.
+/// Whether the box around a center is the box from `lower` to `upper`, also for the negative distance.
 fn is_round<P: Point + Copy>(center: P, distance: P::Scalar, lower: P, upper: P) -> bool {
     let wanted = boxed(lower, upper);
     let below = P::Scalar::zero().clamped_sub(distance);
@@ -95,11 +95,10 @@ fn boxes_of_corners_and_of_centers(rt: HostRuntime) {
     assert!(rt; answers == [true; 6]);
 }
 
-/// A box, a point, the nearest point of the box, its squared distance, and the box's min-max distance.
+/// The corners of a box, a point, the nearest point of the box, its squared distance, and MINMAXDIST.
 type DistanceRow<P> = (P, P, P, P, <P as Point>::Scalar, <P as Point>::Scalar);
 
-/// Whether the box between two corners has this nearest point to a point, at this squared distance, and this min-max
-/// distance.
+/// Whether a box has this nearest point, squared distance and MINMAXDIST.
 fn box_is_so_far<P: Point + Copy>(row: &DistanceRow<P>) -> bool {
     let made = boxed(row.0, row.1);
     made.min_point(&row.2) == row.3
@@ -139,7 +138,7 @@ fn distances_from_a_point(rt: HostRuntime) {
     );
 }
 
-/// Whether an envelope is a point: not empty, of area 1, and at no distance from a point.
+/// Whether an envelope is a point: not empty, of area 1, and at distance 0 from a point.
 fn is_dot<E: Envelope>(dot: &E, point: &E::Point, zero: &ScalarOf<E>, one: &ScalarOf<E>) -> bool {
     !dot.is_empty()
         && dot.area() == *one
@@ -156,7 +155,7 @@ fn a_box_with_no_axis(rt: HostRuntime) {
     assert!(rt; is_dot(&AABB::new_empty(), &none, &0, &1));
 }
 
-/// Whether the box of some points is that between two corners.
+/// Whether the bounding box of some points is the box from `lower` to `upper`.
 fn is_hull<P: Point + Copy>(points: &[P], lower: P, upper: P) -> bool {
     AABB::from_points(points) == boxed(lower, upper)
 }
@@ -173,17 +172,18 @@ fn boxes_of_points(rt: HostRuntime) {
     assert!(rt; answers == [true; 4]);
 }
 
-/// A box as two corners, the first above the second for the empty one.
+/// The corners of a box; for the empty box the first is above the second.
 type Corners = ([i64; 2], [i64; 2]);
 
 const FULL: Corners = ([i64::MIN, i64::MIN], [i64::MAX, i64::MAX]);
 
 const EMPTY: Corners = ([i64::MAX, i64::MAX], [i64::MIN, i64::MIN]);
 
-/// Two boxes, whether they intersect, whether the first contains the second, the area that they share, and their merge.
+/// Two boxes, whether they intersect, whether the first contains the second, the area of the intersection,
+/// and the merge.
 type PairRow<P> = ((P, P), (P, P), bool, bool, <P as Point>::Scalar, (P, P));
 
-/// Whether two envelopes intersect, the first contains the second, they share this area, and their merge is this.
+/// Whether two envelopes intersect, contain, overlap and merge as expected.
 fn is_paired<E: Envelope>(
     one: &mut E,
     other: &E,
@@ -200,7 +200,7 @@ fn is_paired<E: Envelope>(
     answers && *one == *merge
 }
 
-/// Whether a pair of boxes answers as told.
+/// Whether a pair of boxes answers as expected.
 fn pair_is_so<P: Point + Copy>(row: &PairRow<P>) -> bool {
     let mut first = boxed(row.0.0, row.0.1);
     let second = boxed(row.1.0, row.1.1);
@@ -208,7 +208,7 @@ fn pair_is_so<P: Point + Copy>(row: &PairRow<P>) -> bool {
     is_paired(&mut first, &second, row.2, row.3, &row.4, &both)
 }
 
-/// Whether pairs of boxes answer as told.
+/// Whether all pairs of boxes answer as expected.
 fn are_paired<P: Point + Copy>(rows: &[PairRow<P>]) -> bool {
     for row in rows {
         if !pair_is_so(row) {
@@ -238,7 +238,7 @@ fn pairs_of_boxes(rt: HostRuntime) {
     );
 }
 
-/// Whether the boxes between two corners contain a point, and are empty, as told.
+/// Whether boxes contain a point, and are empty, as expected.
 fn have_points<P: Point + Copy>(rows: &[((P, P), P, bool, bool)]) -> bool {
     for (corners, point, contained, empty) in rows {
         let made = boxed(corners.0, corners.1);
@@ -261,7 +261,7 @@ fn points_in_boxes(rt: HostRuntime) {
     );
 }
 
-/// Whether three values rise strictly, and the greater of the last and the first is the last.
+/// Whether three values are strictly increasing, and the maximum of the first and the last is the last.
 fn rise<V: Ord + Copy>(low: V, wide: V, high: V) -> bool {
     low < wide && wide < high && low != wide && high.max(low) == high
 }
@@ -272,7 +272,7 @@ fn hashed<T: Hash>(item: &T) -> u64 {
     state.finish()
 }
 
-/// Whether this text is what a value shows.
+/// Whether the debug text of a value is this one.
 fn is_shown<V: Debug>(alloc: Global, value: &V, text: &str) -> bool {
     let shown: Result<String, AllocError> = format!(in alloc; "{value:?}");
     match &shown {
@@ -295,13 +295,13 @@ fn boxes_are_ordered_hashed_and_shown_by_their_corners(rt: HostRuntime) {
     assert!(rt; is_shown(rt.alloc(), &one, "AABB { lower: [0, 1], upper: [1, 2] }"));
 }
 
-/// Whether what is counted has this box and this count, and is empty where that is 0.
+/// Whether a counted box has this box and this count, and is empty where the count is 0.
 fn has_count<P: Point>(counted: &Counted<P>, aabb: &AABB<P>, count: usize) -> bool {
     *counted.aabb() == *aabb && counted.count() == count && counted.is_empty() == (count == 0)
 }
 
-/// Whether an envelope merged with itself is itself or not, as told, and nothing merged with it is it; and what nothing
-/// was merged into is empty, and equals it or not, as told.
+/// Whether merging an envelope with itself changes it as expected, and merging the empty envelope with it
+/// gives it; and whether the merge of two empty envelopes is empty and equals it as expected.
 fn merges_alike<E: Envelope>(one: &E, twice: bool, nothing: bool) -> bool {
     let empty = E::new_empty();
     (one.merged(one) == *one) == twice
@@ -310,8 +310,8 @@ fn merges_alike<E: Envelope>(one: &E, twice: bool, nothing: bool) -> bool {
         && empty.is_empty()
 }
 
-/// Whether a box that is counted counts so often, alone and merged with itself; what nothing was merged into equals it
-/// where this is 0.
+/// Whether a box counts this often, alone and merged with itself. The empty envelope equals it where the
+/// count is 0.
 fn merges<P: Point>(one: &Counted<P>, aabb: &AABB<P>, count: usize, twice: usize) -> bool {
     has_count(one, aabb, count)
         && has_count(&one.merged(one), aabb, twice)

@@ -1,4 +1,4 @@
-//! Elements: what each answers on given numbers.
+//! Tests of elements: the answers on given numbers.
 
 ghost use Rattle.std.specs.Prelude.{◌≤◌};
 ghost use Rattle.rstar_base.specs.Elements.{carried_objects};
@@ -15,7 +15,8 @@ use std::alloc::Global;
 use std::cell::Cell;
 use std::rc::Rc;
 
-/// Whether an element lies at this squared distance from a point, and within no lesser one, and contains the point as told.
+/// Whether an element has this squared distance from a point, is not within the next lesser one, and
+/// contains the point as expected.
 fn is_so_far<T: PointDistance>(
     element: &T,
     point: &PointOf<T>,
@@ -29,7 +30,7 @@ fn is_so_far<T: PointDistance>(
         && element.distance_2_if_less_or_equal(point, distance) == Some(distance)
 }
 
-/// The ends of a line and its squared length, a point, the line's nearest point, and the squared distance.
+/// The ends of a line, its squared length, a point, the nearest point of the line, and the squared distance.
 type LineRow<P> = (P, P, <P as Point>::Scalar, P, P, <P as Point>::Scalar);
 
 /// Whether a line has this length, nearest point and distance.
@@ -81,8 +82,8 @@ fn a_distance_is_held_at_the_greatest_number(rt: HostRuntime) {
     assert!(rt; is_so_far(&[-128i8, -128], &[127, 127], 127, false));
 }
 
-/// Whether a rectangle has at each point this nearest point, at this squared distance and at no lesser one, and contains
-/// the point as told.
+/// Whether a rectangle has this nearest point and squared distance at each point, and contains the point as
+/// expected.
 fn rectangle_is_so_far<P: Point + Copy>(
     rectangle: &Rectangle<P>,
     rows: &[(P, P, P::Scalar, bool)],
@@ -115,12 +116,12 @@ fn a_rectangle_and_points(rt: HostRuntime) {
     assert!(rt; rectangle_is_so_far(&Rectangle::from_corners([1, 1], [2, 4]), &ROWS));
 }
 
-/// Whether the envelope of an element is empty, and it contains no such point.
+/// Whether an element has an empty envelope and does not contain a point.
 fn is_nothing<T: PointDistance>(element: &T, point: &PointOf<T>) -> bool {
     element.envelope().is_empty() && !element.contains_point(point)
 }
 
-/// Whether a rectangle is that between two corners, the lower and the upper one, and not empty.
+/// Whether a rectangle has these two corners and is not empty.
 fn is_between<P: Point + Copy>(rectangle: &Rectangle<P>, lower: P, upper: P) -> bool {
     *rectangle == Rectangle::from_corners(lower, upper)
         && rectangle.lower() == lower
@@ -136,7 +137,8 @@ fn rectangles_of_boxes(rt: HostRuntime) {
     assert!(rt; is_between(&same, [1, 1], [2, 4]));
 }
 
-/// Whether an element is so far from a point, which it does not contain, and a reference to it is as far.
+/// Whether an element and a reference to it are at this squared distance from a point, which they do not
+/// contain.
 fn lent_is_so_far<T: PointDistance>(
     element: &T,
     point: &PointOf<T>,
@@ -146,7 +148,7 @@ fn lent_is_so_far<T: PointDistance>(
         && is_so_far(&ObjectRef::new(element), point, distance, false)
 }
 
-/// The same of an element that carries a number, which it holds, and of what it carries.
+/// The same of an element with a payload, whose payload can be written, and of its geometry.
 fn carried_is_so_far<R: PointDistance>(
     element: R,
     point: &PointOf<R>,
@@ -159,13 +161,13 @@ fn carried_is_so_far<R: PointDistance>(
         && lent_is_so_far(&road, point, distance)
 }
 
-/// Whether a point with a number is at its place, and contains it.
+/// Whether a point with a payload has its position and contains it.
 fn carried_is_there<P: Point + Copy>(point: P) -> bool {
     let stop = PointWithData::new(7u64, point);
     *stop.position() == point && stop.contains_point(&point)
 }
 
-/// Whether a shared element is so far from a point, which it does not contain.
+/// Whether a shared element is at this squared distance from a point, which it does not contain.
 fn shared_is_so_far<T: PointDistance>(
     alloc: Global,
     element: T,
@@ -186,8 +188,8 @@ fn carriers_answer_as_what_they_carry(rt: HostRuntime) {
     assert!(rt; shared_is_so_far(rt.alloc(), [1i64, 2], &[1, 5], 9));
 }
 
-/// Sorts elements on the first axis and splits them on the second, at the second place, and tells whether they come in
-/// this order, and whether these are the first after the split.
+/// Sorts elements on the first axis and partitions them on the second at place 1. Whether both orders are as
+/// expected.
 fn are_ordered<T: RTreeObject + PartialEq>(elements: &mut [T], sorted: &[T], split: &[T]) -> bool
     requires { 2 ≤ T.Envelope.Point.DIMENSIONS }
 {
@@ -226,7 +228,7 @@ impl<'a, P: Point> RTreeObject for Counting<'a, P> {
     ghost object_law = { λ c h. h };
 }
 
-/// Whether the envelope that is kept of an element, asked for three times, is this, as that of the element itself.
+/// Whether the cached envelope is this one, three times over, and the element's own envelope too.
 fn is_kept<T: RTreeObject>(element: T, wanted: &T::Envelope) -> bool {
     let cached = CachedEnvelope::new(element);
     let mut is_so = true;
@@ -236,7 +238,7 @@ fn is_kept<T: RTreeObject>(element: T, wanted: &T::Envelope) -> bool {
     is_so && (*cached).envelope() == *wanted
 }
 
-/// Whether a point's kept envelope is its box, and the point was asked once for that, and once by itself.
+/// Whether a point's cached envelope is its box, with one call for the cache and one by the test itself.
 fn is_asked_once<P: Point + Copy>(at: P) -> bool {
     let calls = &Cell::new(0);
     is_kept(Counting { at, calls }, &AABB::from_point(at)) && calls.get() == 2

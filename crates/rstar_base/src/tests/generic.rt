@@ -1,5 +1,4 @@
-//! What generic code knows of points and of equal elements, what selections ask, and callers of
-//! these at concrete types.
+//! Generic code over points, equal elements and selection functions, and its callers at concrete types.
 
 ghost use Rattle.std.specs.Prelude.{◌≡◌, ◌<◌, ◌↔◌, ◌==◌, ℕ, IsTrue, if◌then◌else◌};
 ghost use Rattle.rstar_base.specs.Points.{table};

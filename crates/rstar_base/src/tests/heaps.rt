@@ -1,4 +1,4 @@
-//! The small heap, by rows.
+//! Tests of the small heap.
 
 ghost use Rattle.std.specs.Ordering.{int_cmp};
 ghost use Rattle.rstar_base.specs.SmallHeaps.{IsOrdered};
@@ -6,20 +6,20 @@ ghost use Rattle.rstar_base.specs.SmallHeaps.{IsOrdered};
 use crate::heap::SmallHeap;
 use std::alloc::Global;
 
-/// What is done to a heap.
+/// A step of a test.
 #[derive(Drop)]
 enum Step {
-    /// Pushes the numbers from one up to another, without that.
+    /// Pushes the numbers from the first up to the second, exclusive.
     Push(i32, i32),
-    /// Extends it by these numbers at once.
+    /// Adds these numbers by one `extend`.
     Extend(i32, i32),
-    /// Pops the numbers from one down to another, with that.
+    /// Pops the numbers from the first down to the second, inclusive.
     Pop(i32, i32),
-    /// Pops, and there is none.
+    /// Pops from an empty heap.
     End,
 }
 
-/// Pushes the numbers from one up to another, without that, and tells whether each found its place.
+/// Pushes the numbers from `from` up to `end`, exclusive. Whether no push is refused.
 fn pushes(heap: &mut SmallHeap<i32>, from: i32, end: i32) -> bool
     requires { IsOrdered int_cmp heap.old }
     ensures { IsOrdered int_cmp heap.new }
@@ -32,7 +32,7 @@ fn pushes(heap: &mut SmallHeap<i32>, from: i32, end: i32) -> bool
     true
 }
 
-/// Whether the next numbers are those from one down to another, with that.
+/// Whether the next pops give the numbers from `from` down to `end`, inclusive.
 fn pops_down(heap: &mut SmallHeap<i32>, from: i32, end: i32) -> bool
     requires { IsOrdered int_cmp heap.old }
     ensures { IsOrdered int_cmp heap.new }
@@ -45,7 +45,7 @@ fn pops_down(heap: &mut SmallHeap<i32>, from: i32, end: i32) -> bool
     true
 }
 
-/// Whether a step goes as it says.
+/// Whether a step goes as expected.
 fn goes(heap: &mut SmallHeap<i32>, step: &Step) -> bool
     requires { IsOrdered int_cmp heap.old }
     ensures { IsOrdered int_cmp heap.new }
@@ -58,7 +58,7 @@ fn goes(heap: &mut SmallHeap<i32>, step: &Step) -> bool
     }
 }
 
-/// Whether all steps go as they say, on one heap that is empty at first.
+/// Whether all steps go as expected, on one heap.
 fn all_go(alloc: Global, steps: &[Step]) -> bool {
     let mut heap = SmallHeap::new(alloc);
     for step in steps {

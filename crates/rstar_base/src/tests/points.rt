@@ -1,10 +1,10 @@
-//! Scalars and points: each type at its ends, each shape of point through its bound.
+//! Tests of scalars and points: each scalar type at its ends, and each point type.
 
 use crate::mint::{Point2, Point3};
 use crate::point::{Point, RTreeNum};
 use num_traits::Zero;
 
-/// Sums and differences of a scalar type's ends, the least and the greatest.
+/// Whether sums and differences of the ends of a scalar type are clamped.
 fn sums_at_ends<S: RTreeNum>(low: S, high: S, minus_one: S) -> bool {
     let sums = (
         low.clamped_add(low),
@@ -19,7 +19,7 @@ fn sums_at_ends<S: RTreeNum>(low: S, high: S, minus_one: S) -> bool {
     sums == (low, minus_one, high) && differences == (low, S::zero(), high)
 }
 
-/// Products of the ends, and what a scalar type takes for its order.
+/// Whether products of the ends are clamped, and scalars compare.
 fn products_at_ends<S: RTreeNum>(low: S, high: S, minus_one: S) -> bool {
     let held = (
         low.clamped_mul(low),
@@ -30,14 +30,14 @@ fn products_at_ends<S: RTreeNum>(low: S, high: S, minus_one: S) -> bool {
     held == (high, high, high) && below == (low, low, low)
 }
 
-/// Half of the ends' sums.
+/// Whether half sums of the ends are exact.
 fn half_sums_at_ends<S: RTreeNum>(low: S, high: S, minus_one: S) -> bool {
     let zero = S::zero();
     (high.half_sum(high), low.half_sum(low)) == (high, low)
         && (low.half_sum(high), minus_one.half_sum(zero)) == (zero, zero)
 }
 
-/// Whether two scalars have half of their sum, and two their product, held between the ends, by rows.
+/// Whether half sums and products are as in these rows.
 fn answers<S: RTreeNum>(halves: &[(S, S, S)], products: &[(S, S, S)]) -> bool {
     for (a, b, half) in halves {
         if a.half_sum(*b) != *half {
@@ -52,8 +52,7 @@ fn answers<S: RTreeNum>(halves: &[(S, S, S)], products: &[(S, S, S)]) -> bool {
     true
 }
 
-/// What every scalar type answers at its ends: the least, the greatest, and -1; and by rows of half sums, which are rounded
-/// toward zero, and of products.
+/// Whether a scalar type answers as expected at its least value, its greatest, and -1, and in these rows.
 fn is_held<S: RTreeNum>(
     low: S,
     high: S,
@@ -127,7 +126,7 @@ fn scalars_are_held_at_their_ends(rt: HostRuntime) {
     assert!(rt; answers == [true; 6]);
 }
 
-/// Whether a point has these coordinates, each read through the bound, but 0 on one axis.
+/// Whether a point has these coordinates, except for 0 on one axis.
 fn reads<P: Point>(point: &P, coordinates: &[P::Scalar], axis: usize) -> bool {
     for (k, coordinate) in coordinates.iter().enumerate() {
         if P::DIMENSIONS <= k {
@@ -145,8 +144,8 @@ fn reads<P: Point>(point: &P, coordinates: &[P::Scalar], axis: usize) -> bool {
     true
 }
 
-/// Whether a point has these coordinates, and 0 and else the same once 0 is written on an axis, where there is one; and is
-/// then another point exactly where that coordinate was not 0.
+/// Whether a point has these coordinates, also after 0 is written on an axis. The points then differ exactly
+/// where that coordinate was not 0.
 fn reads_and_writes<P: Point + Copy>(point: P, coordinates: &[P::Scalar], axis: usize) -> bool {
     if P::DIMENSIONS != coordinates.len() || !reads(&point, coordinates, P::DIMENSIONS) {
         return false;

@@ -1,4 +1,4 @@
-//! Slabs, cluster numbers and partitions, by rows.
+//! Tests of slabs, cluster numbers and partitions.
 
 ghost use Rattle.std.specs.Prelude.{◌<◌};
 
@@ -10,8 +10,8 @@ use crate::point::least;
 use num_traits::Zero;
 use std::alloc::{AllocError, Global};
 
-/// Whether there is a slab, and it has this length, and this least key on an axis, or 0 if that is less. Each key is asked of
-/// the element and of its envelope.
+/// Whether there is a slab of this length, with this least key on an axis, or 0 where that is less. Elements
+/// and their envelopes have the same keys.
 fn is_slab<T: RTreeObject>(
     slab: &Option<Result<Vec<T>, AllocError>>,
     axis: usize,
@@ -51,7 +51,7 @@ fn are_cut<T: RTreeObject>(
     are_so && slabs.next().is_none() && slabs.cluster_dimension() == axis
 }
 
-/// So many of the points [0, 0], [-1, -1], ..
+/// The points [0, 0], [-1, -1], .., of this number.
 fn falling(alloc: Global, count: usize) -> Vec<[i32; 2]> {
     let mut points = Vec::new(alloc);
     let mut at = 0i32;
@@ -62,8 +62,7 @@ fn falling(alloc: Global, count: usize) -> Vec<[i32; 2]> {
     points
 }
 
-/// Whether so many of the points [0, 0], [-1, -1], .. are cut along an axis into slabs of these lengths and least
-/// coordinates.
+/// Whether the points of `falling` are cut along an axis into slabs of these lengths and least coordinates.
 fn cuts(
     alloc: Global,
     count: usize,
@@ -98,7 +97,7 @@ fn slabs_have_their_sizes_and_come_from_the_greatest_on(rt: HostRuntime) {
     }
 }
 
-/// Whether slabs come until all elements came, or, where memory for one is refused, none comes after it.
+/// Whether slabs come until all elements came, or none comes after a refused one.
 fn come_to_an_end<T: RTreeObject>(elements: Vec<T>, clusters: usize, axis: usize) -> bool
     requires clusters { 0 < clusters }
     requires axis { axis < T.Envelope.Point.DIMENSIONS }
@@ -152,7 +151,7 @@ fn is_split(points: &[[i32; 2]], k: usize) -> bool {
     true
 }
 
-/// Whether points are split at a place by a partition there.
+/// Whether a partition splits these points at a place.
 fn are_split(points: &mut [[i32; 2]], k: usize) -> bool {
     if points.len() <= k {
         return false;
@@ -161,8 +160,8 @@ fn are_split(points: &mut [[i32; 2]], k: usize) -> bool {
     is_split(points, k)
 }
 
-/// Whether the first so many of the points [0, 0], [29 % keys, 0], [58 % keys, 0], .. are split at a place by a
-/// partition there.
+/// Whether a partition splits the first `count` of the points [0, 0], [29 % keys, 0], [58 % keys, 0], .. at
+/// a place.
 fn splits(count: usize, keys: u16, k: usize) -> bool {
     let mut points = [[0i32, 0]; 1000];
     let mut number = 0u16;

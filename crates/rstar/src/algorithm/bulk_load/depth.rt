@@ -1,4 +1,4 @@
-//! How deep a load goes.
+//! The depth of a bulk load.
 
 ghost use Rattle.std.specs.Prelude.{◌≡◌, ℕ, ◌<◌, ◌≤◌, max, ◌+◌, ◌-◌, ◌*◌};
 ghost use Rattle.rstar_base.specs.Clusters.{IsClusterNumber};
@@ -10,7 +10,7 @@ use rstar_base::clusters::calculate_number_of_clusters_on_axis;
 use rstar_base::object::RTreeObject;
 use rstar_base::params::RTreeParams;
 
-/// Into how many slabs a node of `n` elements is cut along each axis.
+/// The number of slabs along each axis for a node of `n` elements.
 pub(crate) fn slabs_on_axis<T: RTreeObject, Params: RTreeParams>(n: usize) -> usize
     requires large { Params.MAX_SIZE < n }
     requires axes { 2 ≤ T.Envelope.Point.DIMENSIONS }
@@ -20,7 +20,7 @@ pub(crate) fn slabs_on_axis<T: RTreeObject, Params: RTreeParams>(n: usize) -> us
     calculate_number_of_clusters_on_axis::<T, Params>(n).max(2)
 }
 
-/// How many levels of parents a load of `n` elements has below its root.
+/// The number of levels of parents below the root, for a load of `n` elements.
 #[cycle(depth)]
 pub(crate) fn load_depth<T: InSlabs, Params: RTreeParams>(n: usize) -> usize
     requires axes { 2 ≤ T.axes }
@@ -35,7 +35,7 @@ pub(crate) fn load_depth<T: InSlabs, Params: RTreeParams>(n: usize) -> usize
     1 + least_depth_of_parts::<T, Params>(n, clusters, axes)
 }
 
-/// The least depth of the parts of `n` elements, in so many slabs along each of the first axes.
+/// The least depth of the parts of `n` elements, cut into slabs along each of the first axes.
 #[cycle(depth)]
 fn least_depth_of_parts<T: InSlabs, Params: RTreeParams>(
     n: usize,
@@ -60,7 +60,7 @@ fn least_depth_of_parts<T: InSlabs, Params: RTreeParams>(
     depth.min(least_depth_of_parts::<T, Params>(rest, clusters, axes - 1))
 }
 
-/// The size of the last slab, where all others have this size.
+/// The length of the last slab, where the other slabs have length `slab`.
 fn last_slab(n: usize, slab: usize) -> usize
     requires some { 0 < n }
     requires size { 0 < slab }

@@ -1,7 +1,7 @@
-//! The nodes of a load.
+//! The nodes of a bulk load.
 //!
-//! The elements stay in one list: each call takes off those at its end, and the slabs of an axis are cut where they lie. So
-//! an element moves where its key belongs, and then into its leaf.
+//! The elements stay in one list. Slabs are cut in place, and each call takes its part off the end. So an
+//! element moves during partitions, and then once into its leaf.
 
 ghost use Rattle.std.specs.Prelude.{◌≡◌, ℕ, ◌+◌, ◌^◌, ◌<◌, ◌≤◌, length, map, IfOk, OnOk, vec_len};
 ghost use Rattle.std.specs.List.Sorted.{IsPermutation};
@@ -19,7 +19,7 @@ use rstar_base::object::{RTreeObject, partition_envelopes};
 use rstar_base::params::RTreeParams;
 use std::alloc::AllocError;
 
-/// Each element as a leaf.
+/// A leaf for each element.
 fn leaves<T: Covered>(elements: Vec<T>) -> Result<Vec<RTreeNode<T>>, AllocError>
     ensures { IfOk result (λ nodes. nodes.items ≡ map Leaf elements.items) }
 {
@@ -30,7 +30,7 @@ fn leaves<T: Covered>(elements: Vec<T>) -> Result<Vec<RTreeNode<T>>, AllocError>
     Ok(leaves)
 }
 
-/// `widest` grows to the number of these nodes.
+/// Raises `widest` to the number of these nodes, where that is greater.
 fn widen<A>(widest: &mut usize, nodes: &Vec<A>)
     requires counted { widest.old + 1 < 2 ^ 64 }
     ensures narrow { vec_len nodes.now ≤ widest.new }
@@ -40,7 +40,7 @@ fn widen<A>(widest: &mut usize, nodes: &Vec<A>)
     *widest = nodes.len().max(*widest);
 }
 
-/// How many parts so many elements are cut into at most, in so many slabs along each axis.
+/// A bound on the number of parts, for `len` elements and this many slabs along each axis.
 fn parts_at_most(clusters: usize, axes: usize, len: usize) -> usize
     ensures { result ≤ len }
 {
@@ -50,8 +50,8 @@ fn parts_at_most(clusters: usize, axes: usize, len: usize) -> usize
     }
 }
 
-/// A parent of the last `len` elements of a list, which are taken off it, with so many levels of parents below it.
-/// `widest` grows to its number of children, and to that of each parent below.
+/// A parent of the last `len` elements of a list, with this many levels of parents below it. The elements
+/// leave the list. `widest` is raised to the greatest number of children of a parent.
 #[cycle(load)]
 pub(crate) fn load_node<T: InSlabs, Params: RTreeParams>(
     list: &mut Vec<T>,
@@ -87,7 +87,7 @@ pub(crate) fn load_node<T: InSlabs, Params: RTreeParams>(
     })
 }
 
-/// A parent of the last elements of a list as leaves.
+/// A parent whose children are leaves, of the last elements of a list.
 fn leaf_parent<T: InSlabs, Params: RTreeParams>(
     list: &mut Vec<T>,
     len: usize,
@@ -111,8 +111,8 @@ fn leaf_parent<T: InSlabs, Params: RTreeParams>(
     Ok(ParentNode { children, envelope })
 }
 
-/// Puts those of the last `rest` elements of a list that have the greatest keys behind the others: `size` of them, or all
-/// where there are fewer; and gives how many.
+/// Partitions the last `rest` elements of a list so that the `size` elements of the greatest keys come last.
+/// Returns how many they are: `size`, or all where there are fewer.
 pub(super) fn cut_slab<T: RTreeObject>(
     axis: usize,
     list: &mut Vec<T>,
@@ -134,8 +134,8 @@ pub(super) fn cut_slab<T: RTreeObject>(
     size
 }
 
-/// Takes off the last `len` elements of a list, cuts them into slabs along each of the first axes, and puts a node for each
-/// part at the end of the nodes.
+/// Takes off the last `len` elements of a list, cuts them into slabs along each of the first axes, and
+/// pushes a node for each part.
 #[cycle(load)]
 fn load_parts<T: InSlabs, Params: RTreeParams>(
     list: &mut Vec<T>,

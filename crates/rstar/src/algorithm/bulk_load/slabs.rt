@@ -1,4 +1,4 @@
-//! What a load asks of its elements, beside their envelopes: it cuts them along the axes of their points.
+//! The operations on elements that a bulk load needs beside their envelopes.
 
 ghost use Rattle.std.specs.List.{AllByRecursion};
 ghost use Rattle.std.specs.Prelude.{◌≡◌, ℕ, ◌<◌, ◌≤◌, max, length};
@@ -13,15 +13,15 @@ use rstar_base::object::{self, RTreeObject};
 use rstar_base::params::RTreeParams;
 use rstar_base::point::Point;
 
-/// An element that a load cuts off in slabs.
+/// An element that a bulk load can cut into slabs.
 pub trait InSlabs: Covered {
     ghost axes: { ℕ };
 
-    /// How many axes there are.
+    /// The number of axes.
     fn axes() -> usize
         ensures { result ≡ axes };
 
-    /// The merge of the envelopes of all elements, each asked once; of none, the empty envelope.
+    /// The merge of the envelopes of all elements; the empty envelope where there are none.
     fn envelope_of_all(list: &[Self]) -> Self::Cover
         ensures hull { result ≡ hull Self.Cover.boxes Self.object.box_of list.now }
         ensures own { AllByRecursion Self.object.IsValue list.now };
@@ -34,7 +34,7 @@ pub trait InSlabs: Covered {
         ensures { CutsSlab (λ t. Self.Cover.boxes.axis_key (Self.object.box_of t) axis) size rest list.old.items result
             list.new.items };
 
-    /// How many slabs so many elements are cut in on each axis.
+    /// The number of slabs along each axis, for `n` elements.
     fn slabs_on_axis<Params: RTreeParams>(n: usize) -> usize
         requires large { Params.MAX_SIZE < n }
         requires axes { 2 ≤ axes }

@@ -1,4 +1,4 @@
-//! Neighbours in one stated order.
+//! Neighbours in the stated order: by distance, and at equal distance by `Ord`.
 
 ghost use Rattle.std.specs.Prelude.{◌≡◌};
 ghost use Rattle.rstar.specs.ByOrder.{search_by_order, neighbors_left, IsSearchingByOrder, GivesByOrder};
@@ -13,25 +13,11 @@ use rstar_base::object::{Distance, PointDistance, PointOf, RTreeObject};
 use rstar_base::point::{Point, RTreeNum, known};
 use std::alloc::AllocError;
 
-/// The elements of a tree with their squared distances to a point in one stated order, and then `None`: the nearest
-/// first, and at equal distance the least by their own order. It is one order, up to elements that compare equal.
+/// The elements of a tree with their squared distances, by distance and at equal distance by `Ord`.
 ///
-/// It searches as `NearestNeighborDistance2Iterator` does, but opens a waiting parent before it gives an element at the
-/// same distance: so after each neighbour just the parents that are no farther than it were opened. A distance is
-/// computed once for each child of an opened parent; elements are compared where their distances are equal. It takes
-/// memory where more than 32 nodes wait; a refusal comes once, and then `None`.
-///
-/// ```rust
-/// let is_next = match neighbors.next() {
-///     Some(Ok((element, distance))) => {
-///         distance == wanted[k].0
-///             && *element == wanted[k].1
-///             && is_as_told(neighbors.opened(), opened.get(k))
-///     }
-///     _ => false,
-/// };
-/// ```
-/// *`crates/rstar_vectors/src/by_order.rt`*
+/// The traversal is that of `NearestNeighborDistance2Iterator`, but it visits a waiting parent before it
+/// yields an element at the same distance. So after each neighbour exactly the parents at most as far were
+/// visited. A push takes memory where more than 32 nodes wait. A refusal comes once, and then `None`.
 pub type NearestNeighborByOrderIterator<'a, T> = NeighborsByOrder<
     'a,
     ParentNode<T>,
@@ -40,18 +26,8 @@ pub type NearestNeighborByOrderIterator<'a, T> = NeighborsByOrder<
     PointOf<T>,
 >;
 
-/// What a `NearestNeighborByOrderIterator` is, by the types that it holds: a root's, a node's, a scalar's, a point's.
-///
-/// ```rust
-/// let mut neighbors = tree.nearest_neighbor_iter_by_order(place);
-/// let mut all = Vec::new(alloc);
-/// while let Some(found) = neighbors.next() {
-///     let item = found?;
-///     all.push(item)?;
-/// }
-/// Ok((all, neighbors.opened()))
-/// ```
-/// *`crates/rstar_vectors/src/by_order.rt`*
+/// The type of `NearestNeighborByOrderIterator`. Its parameters are the types of root, node, scalar and
+/// point.
 #[derive(Drop)]
 pub struct NeighborsByOrder<'a, R, N, S, P> {
     search: NeighborSearch<'a, R, N, S, ParentsFirst>,
@@ -78,8 +54,7 @@ impl<'a, T: PointDistance + Ord> NeighborsByOrder<
         }
     }
 
-    /// How many parents were opened so far, the root among them, held at the greatest `usize`; 0 before the first
-    /// `next`.
+    /// The number of parents visited so far. The root counts; the number is clamped to the greatest `usize`.
     pub fn opened(&self) -> usize
         ensures { result ≡ (search_by_order self.now).opened }
     {

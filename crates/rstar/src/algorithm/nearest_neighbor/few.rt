@@ -1,5 +1,5 @@
-//! The first few elements in the order of their distances: those found so far stand in a sorted list, and what is farther
-//! than a full list is left out (Roussopoulos et al. 1995).
+//! The k nearest for small k: a sorted list of the best elements found so far prunes what is farther than
+//! its last (Roussopoulos et al. 1995).
 
 ghost use Rattle.std.specs.Prelude.{◌≡◌, ◌≤◌, ◌<ℤ◌, ◌+◌, ◌++◌, ◌∷◌, [], List, ℕ, true, false, length, pos, map, OnOk, IfOk};
 ghost use Rattle.std.specs.List.{AllByRecursion, insert};
@@ -19,16 +19,17 @@ use rstar_base::heap::SmallHeap;
 use std::alloc::AllocError;
 use std::marker::PhantomData;
 
-/// The parents that wait, the nearest on top.
+/// The priority queue of parents, the nearest on top.
 type Parents<'a, T> = SmallHeap<Waiting<&'a ParentNode<T>, <T as Measured>::Distance, AnyFirst>>;
 
 /// The elements found so far, the nearest first.
 type Found<'a, T, E> = Vec<Waiting<&'a T, <T as Measured>::Distance, E>>;
 
-/// So many elements, the nearest to a point first, with their squared distances; all where there are fewer. Of several at
-/// equal distance those come first that `E` says. A list of those found so far is sorted as each goes in, so it costs less
-/// than a heap of all that wait only where few are asked for. It has room for a number of them before the first is looked
-/// for.
+/// The first `most` elements by distance with their squared distances; all where there are fewer. `E` breaks
+/// ties.
+///
+/// Each element found is inserted into a sorted list, so this costs less than a priority queue only for
+/// small `most`. `room` is the capacity that the list starts with.
 pub(crate) fn first_few<'a, T: Measured, E: TieOrder<T>>(
     root: &'a ParentNode<T>,
     point: &T::Place,
@@ -58,7 +59,7 @@ pub(crate) fn first_few<'a, T: Measured, E: TieOrder<T>>(
     lent(&found)
 }
 
-/// The elements of a list of what was found, with their distances.
+/// The elements found, with their distances.
 fn lent<'a, T, S: Copy, E>(found: &Vec<Waiting<&'a T, S, E>>) -> Result<Vec<(&'a T, S)>, AllocError>
     ensures { IfOk result (λ all. all.items ≡ map (λ w. (w.node, w.distance)) found.now.items) }
 {
@@ -69,7 +70,7 @@ fn lent<'a, T, S: Copy, E>(found: &Vec<Waiting<&'a T, S, E>>) -> Result<Vec<(&'a
     Ok(all)
 }
 
-/// Whether a list has as many as asked for, each nearer than a distance.
+/// Whether a list holds as many elements as asked for, each nearer than a distance.
 fn is_beyond<'a, T, S: SquaredDistance, E: TieOrder<T>>(
     found: &[Waiting<&'a T, S, E>],
     most: usize,
@@ -85,7 +86,7 @@ fn is_beyond<'a, T, S: SquaredDistance, E: TieOrder<T>>(
     }
 }
 
-/// Opens nodes: parents wait, and elements are found, but for those that are beyond what was found.
+/// Visits nodes: parents are queued and elements are kept, unless they are farther than a full list.
 fn open<'a, T: Measured, E: TieOrder<T>>(
     heap: &mut Parents<'a, T>,
     found: &mut Found<'a, T, E>,
@@ -114,7 +115,7 @@ fn open<'a, T: Measured, E: TieOrder<T>>(
     Ok(())
 }
 
-/// Opens one node.
+/// Visits one node.
 fn offer<'a, T: Measured, E: TieOrder<T>>(
     heap: &mut Parents<'a, T>,
     found: &mut Found<'a, T, E>,
@@ -165,8 +166,8 @@ fn offer<'a, T: Measured, E: TieOrder<T>>(
     }
 }
 
-/// Puts an item into a list of so many at the most, the greatest first. Where the list is full its last item goes out, or
-/// the new one where that is not greater.
+/// Inserts an item into a sorted list of at most `most` items, the greatest first. A full list drops its
+/// last item, or the new one where that is not greater.
 fn keep<X: Ord + Drop>(found: &mut Vec<X>, most: usize, item: X) -> Result<(), AllocError>
     requires { Rises (flip_args X.cmp) found.old.items }
     ensures falls { Rises (flip_args X.cmp) found.new.items }
@@ -182,7 +183,7 @@ fn keep<X: Ord + Drop>(found: &mut Vec<X>, most: usize, item: X) -> Result<(), A
     put(found, item)
 }
 
-/// Puts an item into a list whose greatest come first.
+/// Inserts an item into a sorted list, the greatest first.
 fn put<X: Ord + Drop>(found: &mut Vec<X>, item: X) -> Result<(), AllocError>
     ensures falls { Rises (flip_args X.cmp) found.old.items → Rises (flip_args X.cmp) found.new.items }
     ensures put { OnOk result ((place : ℕ) × (found.new.items ≡ insert found.old.items place item)) }
@@ -194,7 +195,7 @@ fn put<X: Ord + Drop>(found: &mut Vec<X>, item: X) -> Result<(), AllocError>
     }
 }
 
-/// Whether the last of a list is less than an item.
+/// Whether the last item of a list is less than an item.
 fn is_behind<X: Ord>(items: &[X], item: &X) -> bool
     ensures last { (front : List X) (last : X) → items.now ≡ front ++ last ∷ [] → result ≡ is_lt (X.cmp last item.now) }
     ensures none { items.now ≡ [] → result ≡ false }
@@ -205,7 +206,7 @@ fn is_behind<X: Ord>(items: &[X], item: &X) -> bool
     }
 }
 
-/// Where an item goes into a list whose greatest come first: behind those that are not less.
+/// The place of a new item in a sorted list, the greatest first: behind the items that are not less.
 fn place_of<X: Ord>(items: &[X], item: &X) -> usize
     ensures bound { result ≤ length items.now }
     ensures falls { Rises (flip_args X.cmp) items.now → Rises (flip_args X.cmp) (insert items.now result item.now) }

@@ -1,4 +1,4 @@
-//! The first elements in the order of their distances, by any order of those at equal distance.
+//! The k nearest, with ties broken by a given order.
 
 ghost use Rattle.std.specs.Prelude.{◌≡◌, pos, map, IfOk};
 ghost use Rattle.std.specs.List.{AllByRecursion};
@@ -15,12 +15,11 @@ use crate::algorithm::nearest_neighbor::waiting::TieOrder;
 use crate::node::{ParentNode, RTreeNode};
 use std::alloc::{AllocError, Global};
 
-/// Up to so many are found by a list that is sorted as each goes in.
+/// The greatest number of elements that a sorted list finds; more are found by a priority queue.
 const FEW: usize = 32;
 
-/// So many elements, the nearest to a point first, with their squared distances; all where there are fewer. Of several
-/// at equal distance those come first that `E` says, by which the ties of `O` go. The list has room for a number of them
-/// before the first is looked for.
+/// The first `most` elements by distance with their squared distances; all where there are fewer. `E` breaks
+/// ties, and `O` orders nodes so that the ties go by `E`. `room` is the capacity that the list starts with.
 pub(crate) fn first_nearest<'a, T: Measured, O: TieOrder<RTreeNode<T>>, E: TieOrder<T>>(
     root: &'a ParentNode<T>,
     point: &T::Place,
@@ -41,7 +40,7 @@ pub(crate) fn first_nearest<'a, T: Measured, O: TieOrder<RTreeNode<T>>, E: TieOr
     take_first(&mut search, *root.children.allocator(), point, most, room)
 }
 
-/// Takes so many of the elements that wait, as `first_nearest` does.
+/// Takes the first `most` elements from a priority queue, as `first_nearest` does.
 fn take_first<'a, T: Measured, O: TieOrder<RTreeNode<T>>>(
     search: &mut NodeSearch<'a, T, O>,
     alloc: Global,

@@ -1,4 +1,4 @@
-//! What a search for neighbours asks of its elements, beside their envelopes: how far they are from a point.
+//! The distances that a search for neighbours needs from its elements and envelopes.
 
 ghost use Rattle.std.specs.Prelude.{◌≡◌, ℤ, List, Some, pos, int_le};
 ghost use Rattle.std.specs.Int.{int_min};
@@ -12,7 +12,7 @@ use rstar_base::envelope::Envelope;
 use rstar_base::object::{Distance, PointDistance, PointOf, RTreeObject};
 use rstar_base::point::{self, Point, RTreeNum};
 
-/// A squared distance: it stands for a number, and is ordered as that.
+/// A squared distance: an ordered number.
 pub trait SquaredDistance: Copy + Ord {
     ghost number: { Self → ℤ };
 
@@ -46,12 +46,12 @@ impl<S: RTreeNum> SquaredDistance for S {
     ghost narrow = { S.narrow };
 }
 
-/// An element that is at a distance from each point, and its envelope too.
+/// An element with a distance to each point, and envelopes with distances too.
 pub trait Measured: Covered {
-    /// The type of the points.
+    /// The point type.
     type Place;
 
-    /// The type of the squared distances.
+    /// The type of squared distances.
     type Distance: SquaredDistance;
 
     // The coordinates of a point.
@@ -59,7 +59,7 @@ pub trait Measured: Covered {
 
     ghost distances: { Distances Self };
 
-    /// Does nothing but tell that the point's coordinates are in their range.
+    /// Does nothing. Its contract says that the point's coordinates are in the range.
     fn known(place: &Self::Place)
         ensures range { Self.Cover.is_point (at place.now) };
 
@@ -67,7 +67,7 @@ pub trait Measured: Covered {
     fn distance_2(&self, place: &Self::Place) -> Self::Distance
         ensures { Self.Distance.number result ≡ pos (distances.distance_2 self.now (at place.now)) };
 
-    /// The squared distance where it is at most the limit, and else `None`.
+    /// The squared distance where it is at most the limit, and `None` elsewhere.
     fn distance_2_if_less_or_equal(
         &self,
         place: &Self::Place,
@@ -80,7 +80,7 @@ pub trait Measured: Covered {
     fn cover_distance_2(cover: &Self::Cover, place: &Self::Place) -> Self::Distance
         ensures { Self.Distance.number result ≡ pos (Self.Cover.boxes.distance_2 cover.now (at place.now)) };
 
-    /// The squared distance within which an envelope has an element.
+    /// MINMAXDIST of an envelope: a squared distance within which it has an element.
     fn cover_min_max_dist_2(cover: &Self::Cover, place: &Self::Place) -> Self::Distance
         ensures { Self.Distance.number result ≡ pos (Self.Cover.boxes.min_max_dist_2 cover.now (at place.now)) };
 

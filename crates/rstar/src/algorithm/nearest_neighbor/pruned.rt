@@ -1,4 +1,4 @@
-//! The search for one neighbour, which leaves out what lies farther than some element surely does.
+//! The search for one nearest element, with pruning by MINMAXDIST.
 
 ghost use Rattle.std.specs.Prelude.{◌≡◌, ◌≤◌, ◌+◌, ◌++◌, [], ◌∷◌, List, pos, OnOk, IfOk, IfSome, IfNone, MatchOption};
 ghost use Rattle.std.specs.Int.{int_min};
@@ -18,7 +18,7 @@ use rstar_base::heap::SmallHeap;
 use std::alloc::AllocError;
 use std::marker::PhantomData;
 
-/// An element of least squared distance to a point, with that distance; `None` exactly where there is no element.
+/// A nearest element to a point with its squared distance; `None` exactly where there is no element.
 pub(crate) fn one_nearest<'a, T: Measured>(
     root: &'a ParentNode<T>,
     point: &T::Place,
@@ -51,7 +51,7 @@ pub(crate) fn one_nearest<'a, T: Measured>(
     Ok(None)
 }
 
-/// The distance at which a node waits, where it does not lie above the bound.
+/// The distance at which a node is queued, where it is at most the bound.
 #[tactic(auto, unfolding(crate::specs::Nodes::node_distance, crate::specs::Nodes::fold_tree))]
 fn distance_within<T: Measured>(
     node: &RTreeNode<T>,
@@ -75,7 +75,7 @@ fn distance_within<T: Measured>(
     }
 }
 
-/// A distance within which a node has an element.
+/// A squared distance within which a node has an element.
 #[tactic(auto, unfolding(crate::specs::Nodes::node_box, crate::specs::Nodes::fold_tree))]
 fn reach_of<T: Measured>(node: &RTreeNode<T>, point: &T::Place) -> T::Distance
     ensures { T.Distance.number result ≡ pos
@@ -98,7 +98,7 @@ fn lowered<S: SquaredDistance>(bound: Option<S>, reach: S) -> S
     }
 }
 
-/// Lets a node wait that does not lie above the bound, and gives the bound that it leaves.
+/// Queues a node that is not beyond the bound, and returns the new bound.
 fn offer<'a, T: Measured>(
     heap: &mut Heap<'a, T, AnyFirst>,
     node: &'a RTreeNode<T>,
@@ -132,7 +132,7 @@ fn offer<'a, T: Measured>(
     Ok(Some(lowered(bound, reach)))
 }
 
-/// Lets the nodes wait that do not lie above the bound, and gives the bound that they leave.
+/// Queues the nodes that are not beyond the bound, and returns the new bound.
 fn open_within<'a, T: Measured>(
     heap: &mut Heap<'a, T, AnyFirst>,
     children: &'a [RTreeNode<T>],

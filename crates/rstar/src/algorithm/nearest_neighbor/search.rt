@@ -1,4 +1,4 @@
-//! A search for neighbours: the nodes that wait in a heap, the nearest first.
+//! The traversal behind the neighbour iterators: a priority queue of nodes, the nearest first.
 
 ghost use Rattle.std.specs.Prelude.{◌≡◌, ◌<◌, ◌≤◌, ◌∷◌, ◌++◌, [], pos, OnOk, OnErr, IfOk, IfErr, IfSome, IfNone};
 ghost use Rattle.std.specs.List.Sorted.{IsPermutation};
@@ -18,16 +18,16 @@ use rstar_base::heap::SmallHeap;
 use std::alloc::AllocError;
 use std::marker::PhantomData;
 
-/// The nodes that wait, the nearest on top.
+/// The priority queue of nodes, the nearest on top.
 pub(crate) type Heap<'a, T, O> = SmallHeap<Waiting<&'a RTreeNode<T>, <T as Measured>::Distance, O>>;
 
-/// Does nothing but tell that a search which is held by value fits in memory.
+/// Does nothing. Its contract says that a search held by value fits in memory.
 pub(crate) fn fits<S: SquaredDistance>()
     ensures heap { FitsInMemory (heap_row S.row) }
     ensures search { FitsInMemory (search_row S.row) }
 {}
 
-/// The distance at which a node waits: an element's own, and a parent's envelope's.
+/// The distance at which a node is queued: an element's own, or that of a parent's envelope.
 #[tactic(auto, unfolding(crate::specs::Nodes::node_distance, crate::specs::Nodes::fold_tree))]
 #[inline(always)]
 pub(crate) fn distance_to<T: Measured>(node: &RTreeNode<T>, point: &T::Place) -> T::Distance
@@ -39,25 +39,25 @@ pub(crate) fn distance_to<T: Measured>(node: &RTreeNode<T>, point: &T::Place) ->
     }
 }
 
-/// How far a search has come.
+/// The stage of a search.
 #[derive(Drop)]
 enum Stage {
     /// The root waits.
     Fresh,
-    /// The root was opened.
+    /// The root was visited.
     Running,
     /// Memory was refused.
     Ended,
 }
 
-/// A search for neighbours, but for its point, which each call is lent: so what it holds by value is of bounded size,
-/// and a generic function may hold it. Its parameters are the types that it holds, a root's, a node's and a scalar's:
-/// so the check can follow its drop where an iterator over it is passed to a function that takes any iterator.
+/// A search for neighbours without its point, which each call borrows. So the size of the value is bounded,
+/// and a generic function may hold it. The parameters are the types of root, node and scalar, so that its
+/// drop can be checked for any iterator.
 #[derive(Drop)]
 pub(crate) struct NeighborSearch<'a, R, N, S, O> {
     root: &'a R,
     heap: SmallHeap<Waiting<&'a N, S, O>>,
-    /// How many parents were opened, held at the greatest `usize`.
+    /// The number of parents visited, clamped to the greatest `usize`.
     pub(crate) opened: usize,
     stage: Stage,
 }
@@ -95,7 +95,7 @@ impl<'a, T: Measured, O: TieOrder<RTreeNode<T>>> NeighborSearch<
         }
     }
 
-    /// The nearest element that was not given yet, with its distance.
+    /// The nearest element not yet yielded, with its squared distance.
     pub(crate) fn next_neighbor(
         &mut self,
         point: &T::Place,
@@ -137,7 +137,7 @@ impl<'a, T: Measured, O: TieOrder<RTreeNode<T>>> NeighborSearch<
         }
     }
 
-    /// Opens the root where it waits.
+    /// Visits the root where it waits.
     fn begin(&mut self, point: &T::Place) -> Result<(), AllocError>
         requires unrefused { IsUnrefused self.old.stage }
         requires ready { IsReady T.Cover.boxes T.distances (T.at point.now) T.Distance.cmp O.order T.Distance.number
@@ -162,7 +162,7 @@ impl<'a, T: Measured, O: TieOrder<RTreeNode<T>>> NeighborSearch<
         }
     }
 
-    /// Opens the root.
+    /// Visits the root.
     fn open_root(&mut self, point: &T::Place) -> Result<(), AllocError>
         requires { IsReadyAt T.Cover.boxes T.distances (T.at point.now) T.Distance.cmp O.order T.Distance.number
             T.object Fresh self.old.root.now self.old.heap self.old.opened }
@@ -182,7 +182,7 @@ impl<'a, T: Measured, O: TieOrder<RTreeNode<T>>> NeighborSearch<
         Ok(())
     }
 
-    /// Opens the nearest waiting parents until an element is nearest.
+    /// Visits the nearest waiting parents until an element is nearest.
     fn advance(&mut self, point: &T::Place) -> Result<Option<(&'a T, T::Distance)>, AllocError>
         requires { IsRunning T.Cover.boxes T.distances (T.at point.now) T.Distance.cmp O.order T.Distance.number
             T.object self.old.root.now self.old.heap self.old.opened }
@@ -213,7 +213,7 @@ impl<'a, T: Measured, O: TieOrder<RTreeNode<T>>> NeighborSearch<
         Ok(None)
     }
 
-    /// Lets these nodes wait too.
+    /// Queues these nodes.
     fn add_children(
         &mut self,
         children: &'a [RTreeNode<T>],

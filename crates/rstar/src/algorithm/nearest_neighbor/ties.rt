@@ -1,4 +1,4 @@
-//! All elements of least distance.
+//! All elements at the least distance.
 
 ghost use Rattle.std.specs.Prelude.{◌≡◌, ℕ, List, [], pos, map, IfOk, IfSome, IfNone, OnOk};
 ghost use Rattle.rstar.specs.Lists.{AreSomeNearest};
@@ -12,8 +12,8 @@ use crate::algorithm::nearest_neighbor::waiting::AnyFirst;
 use crate::node::ParentNode;
 use std::alloc::AllocError;
 
-/// All elements of least squared distance to a point, one at least, with that distance; `None` exactly where there is no
-/// element.
+/// All elements at the least squared distance to a point, at least one, with that distance. `None` exactly
+/// where there is no element.
 #[tactic(auto, using(crate::proofs::Ties::ready_at))]
 pub(crate) fn all_nearest<'a, T: Measured>(
     root: &'a ParentNode<T>,
@@ -36,7 +36,7 @@ pub(crate) fn all_nearest<'a, T: Measured>(
     Ok(Some((all, least)))
 }
 
-/// Takes the elements at a distance that is the least of those that wait, or less than it.
+/// Takes the waiting elements at squared distance `least`, where none is nearer.
 fn take_ties<'a, T: Measured>(
     search: &mut NodeSearch<'a, T, AnyFirst>,
     point: &T::Place,

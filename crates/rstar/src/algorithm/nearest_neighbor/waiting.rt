@@ -1,4 +1,4 @@
-//! What waits in a search's heap: a node at its distance, and which of two at equal distance comes first.
+//! The items of the priority queue: a node and its distance, with an order for ties.
 
 ghost use Rattle.std.proofs.Common.{rules};
 ghost use Rattle.std.specs.Cmp.{IsTotalOrder, partial_order_from_own_ties};
@@ -13,18 +13,18 @@ use crate::node::RTreeNode;
 use std::cmp::Ordering;
 use std::marker::PhantomData;
 
-/// Which of two nodes at equal distance a search takes first.
+/// The order of nodes at equal distance.
 pub(crate) trait TieOrder<N> {
     ghost order: { N → N → Ordering };
 
-    /// How they stand: the lesser comes first.
+    /// Compares two nodes; the lesser comes first.
     fn compare(a: &N, b: &N) -> Ordering
         ensures { result ≡ order a.now b.now };
 
     ghost total: { IsTotalOrder order };
 }
 
-/// Any of them comes first.
+/// No order: any node may come first.
 pub(crate) struct AnyFirst;
 
 impl<N> TieOrder<N> for AnyFirst {
@@ -37,7 +37,7 @@ impl<N> TieOrder<N> for AnyFirst {
     ghost total = { Prim.search (comparing, rules) };
 }
 
-/// Elements come by their own order.
+/// Elements come in their own order.
 pub(crate) struct OwnOrder;
 
 impl<T: Ord> TieOrder<T> for OwnOrder {
@@ -50,7 +50,7 @@ impl<T: Ord> TieOrder<T> for OwnOrder {
     ghost total = { T.total };
 }
 
-/// A parent comes before an element, and elements come by their own order.
+/// Parents come before elements, and elements in their own order.
 pub(crate) struct ParentsFirst;
 
 impl<T: Covered + Ord> TieOrder<RTreeNode<T>> for ParentsFirst {
@@ -69,8 +69,8 @@ impl<T: Covered + Ord> TieOrder<RTreeNode<T>> for ParentsFirst {
     ghost total = { Prim.search (comparing, rules) };
 }
 
-/// A node and the distance at which it waits. The nearer of two is the greater, so that a heap gives it first; of two
-/// at equal distance, the one that comes first.
+/// A node and its distance. The nearer of two is the greater, so that a priority queue pops it first. At
+/// equal distance the one that comes first is the greater.
 #[derive(Drop)]
 pub(crate) struct Waiting<N, S, O> {
     pub(crate) node: N,

@@ -1,7 +1,7 @@
-//! Taking out the earliest, by `Ord`, of the selected elements. Nothing here takes memory.
+//! Removal of the earliest selected element by `Ord`. Nothing here takes memory.
 //!
-//! A recursion that reads finds below which child it lies; it is then taken out of that child in the same way. So one
-//! path is changed, and at each level of it what is accepted below is read once.
+//! A read-only recursion finds the child below which it lies; then it is removed below that child in the
+//! same way. So one path changes, and each level of it is read once.
 
 ghost use Rattle.std.specs.Prelude.{◌≡◌, ◌≢◌, ℕ, [], false, None, IfNone, vec_capacity, slice_index_or};
 ghost use Rattle.rstar_base.specs.Hulls.{hull};
@@ -14,7 +14,7 @@ use crate::algorithm::removal::{drop_child, is_childless, take_leaf};
 use crate::needs::{Covered, Merges, Question};
 use crate::node::{ParentNode, RTreeNode, envelope_for_children};
 
-/// The earliest, by `Ord`, of the selected elements below a node; the leftmost of those before which none comes.
+/// The earliest selected element below a node by `Ord`; the leftmost of several.
 #[cycle(earliest)]
 fn earliest_in<'a, T: Covered + Ord, R: Question<T>>(
     node: &'a RTreeNode<T>,
@@ -43,7 +43,7 @@ fn earliest_in<'a, T: Covered + Ord, R: Question<T>>(
     }
 }
 
-/// The same below some nodes, with the place of the node that it lies below.
+/// The same below several nodes, with the place of the node that it lies below.
 #[cycle(earliest)]
 fn earliest_below<'a, T: Covered + Ord, R: Question<T>>(
     nodes: &'a [RTreeNode<T>],
@@ -58,7 +58,7 @@ fn earliest_below<'a, T: Covered + Ord, R: Question<T>>(
     found
 }
 
-/// The element that was found, or the next one, with its place, where that comes before it.
+/// The earlier of the element found and the next one, with its place.
 fn earlier<'a, T: Ord>(
     found: Option<(usize, &'a T)>,
     place: usize,
@@ -81,10 +81,8 @@ fn earlier<'a, T: Ord>(
     }
 }
 
-/// Takes out the earliest, by `Ord`, of the selected elements below a parent, and makes its envelope anew where one of
-/// its children's changed; `changed` then tells whether its own did.
-///
-/// At each level it reads once what is accepted there, and it changes one path.
+/// Removes the earliest selected element below a parent by `Ord`, and recomputes envelopes where a child's
+/// changed. `changed` says whether the parent's own envelope did.
 #[cycle(take_earliest)]
 pub(crate) fn take_earliest<T: Covered + Ord, R: Question<T>>(
     node: &mut ParentNode<T>,
@@ -114,8 +112,8 @@ pub(crate) fn take_earliest<T: Covered + Ord, R: Question<T>>(
     taken
 }
 
-/// Takes out the earliest of the selected elements below the node at this place, and drops a parent that lost its last
-/// child; `changed` tells whether a node went, or changed its envelope.
+/// Removes the earliest selected element below the node at a place, and drops a parent without children.
+/// `changed` says whether a node was dropped or changed its envelope.
 #[cycle(take_earliest)]
 fn take_at<T: Covered + Ord, R: Question<T>>(
     children: &mut Vec<RTreeNode<T>>,
@@ -144,7 +142,7 @@ fn take_at<T: Covered + Ord, R: Question<T>>(
     taken
 }
 
-/// Takes out the earliest of the selected elements below a parent, which may be left without children.
+/// Removes the earliest selected element below a parent, which may be left without children.
 #[cycle(take_earliest)]
 fn take_inside<T: Covered + Ord, R: Question<T>>(
     child: &mut RTreeNode<T>,

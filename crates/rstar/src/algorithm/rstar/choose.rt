@@ -1,4 +1,4 @@
-//! Which child an element goes into.
+//! Choice of the subtree for an insertion (Beckmann et al. 1990).
 
 ghost use Rattle.std.specs.Prelude.{◌<◌, length, IfSome};
 
@@ -8,8 +8,9 @@ use rstar_base::envelope::Envelope;
 use rstar_base::object::{Distance, RTreeObject};
 use rstar_base::point::RTreeNum;
 
-/// The child that an element with this envelope goes into: among those that contain the envelope, the first of least
-/// area; where there is none, the first that has to grow least. `above_leaves` says that the children hold leaves.
+/// The place of the child for a new envelope: of the children that contain it, the first of least area;
+/// where none does, the first with the least enlargement. `above_leaves` says that the children's children
+/// are leaves.
 pub(crate) fn choose_subtree<T: RTreeObject>(
     children: &[RTreeNode<T>],
     envelope: &T::Envelope,
@@ -46,8 +47,7 @@ fn smallest_container<T: RTreeObject>(
     best
 }
 
-/// The first child whose envelope, merged with the new one, has the least overlap increase, then the least area
-/// increase, then the least area.
+/// The first child with the least overlap enlargement; then the least area enlargement, then the least area.
 fn least_grown<T: RTreeObject>(
     children: &[RTreeNode<T>],
     envelope: &T::Envelope,
@@ -68,8 +68,8 @@ fn least_grown<T: RTreeObject>(
     best
 }
 
-/// How a child grows that takes the envelope in: by overlap with the others, which counts where the children hold
-/// leaves, and by area; and its area afterwards.
+/// The enlargement of a child by a new envelope: of its overlap with the other children, where
+/// `above_leaves` is true, and of its area; and its area afterwards.
 fn growth<T: RTreeObject>(
     children: &[RTreeNode<T>],
     index: usize,
@@ -89,7 +89,7 @@ fn growth<T: RTreeObject>(
     (overlap, area.clamped_sub(own.area()), area)
 }
 
-/// By how much the overlaps with the other children grow where the child's own envelope grows to `merged`.
+/// The enlargement of the overlaps with the other children, where the child's envelope grows to `merged`.
 fn overlap_increase<T: RTreeObject>(
     children: &[RTreeNode<T>],
     index: usize,

@@ -1,4 +1,4 @@
-//! Insertion below a root whose memory was prepared: nothing here takes memory, and nothing can fail.
+//! Insertion into prepared memory. Nothing here takes memory, and nothing can fail.
 
 ghost use Rattle.std.specs.Prelude.{◌≡◌, ◌+◌, ◌<◌, ◌≤◌, [], ◌∷◌, ◌++◌, false, length, vec_len, vec_capacity, IfSome, IfNone};
 ghost use Rattle.std.specs.List.{AllByRecursion};
@@ -17,7 +17,7 @@ use crate::node::{ParentNode, RTreeNode, envelope_for_children};
 use rstar_base::params::RTreeParams;
 use std::mem;
 
-/// Makes a place behind the items of a list: where it is full, they go over into the last spare list.
+/// Makes room for one more item: the items of a full list move into the last spare list.
 fn take_place<A: Drop>(list: &mut Vec<A>, widest: usize, spares: &mut Vec<Vec<A>>)
     requires narrow { vec_len list.old < widest }
     requires spares { AllByRecursion (IsSpare widest) spares.old.items }
@@ -37,8 +37,8 @@ fn take_place<A: Drop>(list: &mut Vec<A>, widest: usize, spares: &mut Vec<Vec<A>
     }
 }
 
-/// Adds a child that the node's envelope covers already. Where the list is full and may grow, the children go over into a
-/// spare one. An overflow is cut in two, and the second part handed out.
+/// Adds a child that the node's envelope already covers. An overfull node is split, and the second part
+/// returned.
 fn add_child<T: Placed, Params: RTreeParams>(
     node: &mut ParentNode<T>,
     child: RTreeNode<T>,
@@ -100,8 +100,8 @@ fn add_child<T: Placed, Params: RTreeParams>(
     })
 }
 
-/// Inserts an element below the node, whose children are trees of `levels` levels of parents. A second part that the
-/// node's parent has to take in is handed out.
+/// Inserts an element below a node with `levels` levels of parents below it, and returns the second part of
+/// a split node.
 #[cycle(insert)]
 fn insert_below<T: Placed, Params: RTreeParams>(
     node: &mut ParentNode<T>,
@@ -157,7 +157,8 @@ fn insert_below<T: Placed, Params: RTreeParams>(
     }
 }
 
-/// Inserts an element into one of some trees of `levels` levels of parents, and hands out its second part.
+/// Inserts an element into one of several trees with `levels` levels of parents, and returns the second part
+/// of a split node.
 #[cycle(insert)]
 fn insert_in_child<T: Placed, Params: RTreeParams>(
     children: &mut Vec<RTreeNode<T>>,
@@ -200,7 +201,7 @@ fn insert_in_child<T: Placed, Params: RTreeParams>(
     }
 }
 
-/// Puts a new root above the old one and a second part.
+/// Makes a new root above the old one and a second part.
 fn grow_root<T: Placed, Params: RTreeParams>(
     root: &mut ParentNode<T>,
     second: ParentNode<T>,
@@ -224,8 +225,8 @@ fn grow_root<T: Placed, Params: RTreeParams>(
     root.children.push_reserved(RTreeNode::Parent(second));
 }
 
-/// Inserts an element from the root, whose children are trees of `levels` levels of parents. The root grows a level
-/// where it is split. The answer is the number of levels afterwards.
+/// Inserts an element below the root, which has `levels` levels of parents below it, and returns the new
+/// number of levels.
 pub(crate) fn insert_at_root<T: Placed, Params: RTreeParams>(
     root: &mut ParentNode<T>,
     t: T,

@@ -1,5 +1,5 @@
-//! What an insertion asks of its elements, beside their envelopes: the measures by which it chooses among nodes, and sorts
-//! and cuts them, go by their points.
+//! The operations on elements that an insertion needs beside their envelopes: they choose, sort and split
+//! nodes.
 
 ghost use Rattle.std.specs.Prelude.{◌≡◌, ◌+◌, ◌<◌, ◌≤◌, [], ◌++◌, length, vec_len, vec_capacity};
 ghost use Rattle.std.specs.List.Sorted.{IsPermutation};
@@ -11,9 +11,9 @@ use rstar_base::envelope::Envelope;
 use rstar_base::object::RTreeObject;
 use rstar_base::params::RTreeParams;
 
-/// An element that an insertion places.
+/// An element that an insertion can place.
 pub trait Placed: Covered {
-    /// The place of the child that an element with this envelope goes into.
+    /// The place of the child for a new envelope.
     fn choose_subtree(
         children: &[RTreeNode<Self>],
         envelope: &Self::Cover,
@@ -22,7 +22,7 @@ pub trait Placed: Covered {
         requires { 0 < length children.now }
         ensures { result < length children.now };
 
-    /// Cuts a list of nodes in two, each part with at least the least number.
+    /// Splits a list of nodes in two, each part with at least `MIN_SIZE` nodes.
     fn split_in_place<Params: RTreeParams>(
         list: &mut Vec<RTreeNode<Self>>,
         spare: &mut Vec<RTreeNode<Self>>,
@@ -37,7 +37,7 @@ pub trait Placed: Covered {
         ensures first_capacity { vec_capacity list.new ≡ vec_capacity list.old }
         ensures second_capacity { vec_capacity spare.old ≤ vec_capacity spare.new };
 
-    /// Sorts nodes by the distances of their envelopes' centers from that of an envelope.
+    /// Sorts nodes by the distance between their centers and that of an envelope.
     fn sort_by_distance(list: &mut [RTreeNode<Self>], envelope: &Self::Cover)
         ensures { IsPermutation list.old list.new };
 }

@@ -1,4 +1,4 @@
-//! The memory of an insertion, which is taken before the first change.
+//! The memory of an insertion, taken before the first change.
 
 ghost use Rattle.std.specs.Prelude.{◌≡◌, ◌+◌, ◌<◌, ◌≤◌, max, OnOk, IfSome, IfNone, vec_len};
 ghost use Rattle.std.specs.List.{AllByRecursion};
@@ -8,7 +8,8 @@ ghost use Rattle.rstar.specs.Kept.{IsSpare};
 use rstar_base::params::RTreeParams;
 use std::alloc::{AllocError, Global};
 
-/// How many spare lists an insertion wants below a root with so many levels of parents, where a `usize` counts them.
+/// The number of spare lists for an insertion below a root with this many levels of parents; `None` where it
+/// exceeds a `usize`.
 pub(crate) fn lists_wanted<Params: RTreeParams>(levels: usize) -> Option<usize>
     ensures some { IfSome result (λ n. n ≡ spare_lists Params.REINSERTION_COUNT (1 + levels)) }
     ensures none { IfNone result (usize.MAX < spare_lists Params.REINSERTION_COUNT (1 + levels)) }
@@ -20,7 +21,7 @@ pub(crate) fn lists_wanted<Params: RTreeParams>(levels: usize) -> Option<usize>
     Params::REINSERTION_COUNT.max(1).checked_mul(each)
 }
 
-/// Tops the spare lists up to so many. Each can hold `widest` children.
+/// Adds spare lists up to this number, each with room for `widest` children.
 pub(crate) fn top_up<A: Drop>(
     spares: &mut Vec<Vec<A>>,
     wanted: usize,

@@ -1,5 +1,5 @@
-//! Forced reinsertion: a lowest parent that has too many children hands some out, and they go in again from the root.
-//! All memory was prepared: nothing here takes any, and nothing can fail.
+//! Forced reinsertion (Beckmann et al. 1990): an overfull lowest parent hands out some children, which are
+//! inserted again from the root. Nothing here takes memory, and nothing can fail.
 
 ghost use Rattle.std.specs.Prelude.{◌≡◌, ◌+◌, ◌*◌, ◌<◌, ◌≤◌, [], ◌∷◌, ◌++◌, false, length, vec_len, vec_capacity, None};
 ghost use Rattle.std.specs.List.{AllByRecursion};
@@ -22,25 +22,25 @@ use rstar_base::object::{Distance, PointDistance, PointOf, RTreeObject};
 use rstar_base::params::RTreeParams;
 use std::cmp::Ordering;
 
-/// The squared distance from an element's centre to a point.
+/// The squared distance from an element's center to a point.
 fn centre_distance<T: RTreeObject>(t: &T, point: &PointOf<T>) -> Distance<T> {
     t.envelope().center().distance_2(point)
 }
 
-/// How two elements compare by the distance from their centres to a point.
+/// Compares two elements by the distance from their centers to a point.
 fn compare_centres<T: RTreeObject>(point: &PointOf<T>, a: &T, b: &T) -> Ordering {
     centre_distance(a, point).cmp(&centre_distance(b, point))
 }
 
-/// Puts the elements in an order that rises by the distance from their centres to a point. It takes no memory.
+/// Sorts elements by the distance from their centers to a point. It takes no memory.
 pub(super) fn sort_by_distance<T: RTreeObject>(list: &mut [T], point: &PointOf<T>)
     ensures { IsPermutation list.old list.new }
 {
     list.sort_unstable_by(|a: &T, b: &T| -> Ordering { compare_centres(point, a, b) });
 }
 
-/// Takes a child in that a node has no room for, and hands out the `REINSERTION_COUNT` children whose centres lie farthest
-/// from the node's centre, the farthest one last.
+/// Adds a child to a full node, and hands out the `REINSERTION_COUNT` children whose centers are farthest
+/// from the node's center, the farthest last.
 fn hand_out<T: Placed, Params: RTreeParams>(
     node: &mut ParentNode<T>,
     child: RTreeNode<T>,
@@ -70,8 +70,7 @@ fn hand_out<T: Placed, Params: RTreeParams>(
     node.envelope = envelope_for_children(&node.children);
 }
 
-/// Adds a leaf that the node's envelope covers already. Where the list is full and may grow, the children go over into the
-/// spare one. An overflow hands children out.
+/// Adds a leaf that the node's envelope already covers. An overfull node hands out children.
 fn add_leaf<T: Placed, Params: RTreeParams>(
     node: &mut ParentNode<T>,
     t: T,
@@ -105,8 +104,8 @@ fn add_leaf<T: Placed, Params: RTreeParams>(
     node.children.push_reserved(leaf);
 }
 
-/// Inserts an element below the node, whose children are trees of `levels` levels of parents, and splits none: where
-/// the lowest parent has too many children then, it hands some out.
+/// Inserts an element below a node with `levels` levels of parents below it. An overfull lowest parent hands
+/// out children, and no node is split.
 #[cycle(first)]
 fn insert_first<T: Placed, Params: RTreeParams>(
     node: &mut ParentNode<T>,
@@ -158,7 +157,7 @@ fn insert_first<T: Placed, Params: RTreeParams>(
     }
 }
 
-/// Inserts an element into one of some trees of `levels` levels of parents, and splits none.
+/// Inserts an element into one of several trees with `levels` levels of parents, and splits no node.
 #[cycle(first)]
 fn insert_first_in_child<T: Placed, Params: RTreeParams>(
     children: &mut Vec<RTreeNode<T>>,
@@ -198,8 +197,8 @@ fn insert_first_in_child<T: Placed, Params: RTreeParams>(
     }
 }
 
-/// Inserts each leaf of a list from the root, whose children are trees of `levels` levels of parents: the last leaf
-/// first. The list is empty then. The answer is the number of levels afterwards.
+/// Inserts each leaf of a list from the root, the last leaf first, and returns the new number of levels. The
+/// list is empty then.
 fn insert_again<T: Placed, Params: RTreeParams>(
     root: &mut ParentNode<T>,
     handed: &mut Vec<RTreeNode<T>>,
@@ -238,9 +237,8 @@ fn insert_again<T: Placed, Params: RTreeParams>(
     current
 }
 
-/// Inserts an element from the root, whose children are trees of `levels` levels of parents. With `REINSERTION_COUNT`
-/// above 0 the first overflow hands children of its parent out, which then go in again; every other overflow is split.
-/// The answer is the number of levels afterwards.
+/// Inserts an element from the root, and returns the new number of levels. With `REINSERTION_COUNT` above 0
+/// the first overfull parent hands out children, which are reinserted; every other overfull node is split.
 pub(crate) fn insert_with_reinsertion<T: Placed, Params: RTreeParams>(
     root: &mut ParentNode<T>,
     t: T,

@@ -1,4 +1,4 @@
-//! How a list of children is cut in two.
+//! The split of an overfull list of children (Beckmann et al. 1990).
 
 ghost use Rattle.std.specs.Prelude.{◌≡◌, ◌+◌, ◌*◌, ◌<◌, ◌≤◌, ℕ, [], ◌++◌, ◌&&◌, ◌||◌, not, take, drop, length, vec_len, vec_capacity, pos, unsigned_abs, int_lt};
 ghost use Rattle.std.specs.List.Sorted.{IsPermutation, IsSortedByKey};
@@ -11,7 +11,7 @@ use rstar_base::params::RTreeParams;
 use rstar_base::point::{Point, RTreeNum};
 use std::mem;
 
-/// Moves what lies from `at` on into the spare list, in its order. It takes no memory.
+/// Moves the items from `at` on into the spare list. It takes no memory.
 pub(crate) fn cut_at<A: Drop>(list: &mut Vec<A>, at: usize, spare: &mut Vec<A>)
     requires within { at ≤ vec_len list.old }
     requires empty { spare.old.items ≡ [] }
@@ -59,7 +59,7 @@ pub(crate) fn move_over<A>(list: &mut Vec<A>, empty: &mut Vec<A>)
     mem::swap(list, empty);
 }
 
-/// Makes a place behind the items of a list: where it is full, they go over into the empty list. It takes no memory.
+/// Makes room for one more item: the items of a full list move into the empty list. It takes no memory.
 pub(crate) fn make_place<A>(list: &mut Vec<A>, empty: &mut Vec<A>)
     requires empty { empty.old.items ≡ [] }
     requires room { vec_len list.old < vec_capacity empty.old }
@@ -74,7 +74,7 @@ pub(crate) fn make_place<A>(list: &mut Vec<A>, empty: &mut Vec<A>)
     }
 }
 
-/// The overlap of the two parts at a cut, and the clamped sum of their areas.
+/// The overlap of the two parts at a cut, and the sum of their areas, clamped.
 fn measures_at<T: RTreeObject>(list: &[T], k: usize) -> (Distance<T>, Distance<T>)
     requires { k ≤ length list.now }
     ensures overlap { T.Envelope.Point.Scalar.value result.0
@@ -98,7 +98,7 @@ fn is_less<S: RTreeNum>(a: S, b: S) -> bool
     a < b
 }
 
-/// Whether the one pair is below the other, by the first numbers and, where these are equal, by the second.
+/// Whether a pair is less than another, by the first numbers and then by the second.
 fn is_below<S: RTreeNum>(x: (S, S), y: (S, S)) -> bool
     ensures { result ≡ (int_lt (S.value x.0) (S.value y.0)
         || (not (int_lt (S.value y.0) (S.value x.0)) && int_lt (S.value x.1) (S.value y.1))) }
@@ -124,7 +124,7 @@ fn least_cut<T: RTreeObject, Params: RTreeParams>(list: &[T]) -> usize
     best
 }
 
-/// The least single sum of the two parts' perimeter values over the allowed cuts of a list.
+/// The least sum of the two parts' perimeter values, over the allowed cuts of a list.
 fn least_perimeter<T: RTreeObject, Params: RTreeParams>(list: &[T]) -> Distance<T>
     requires { Params.MAX_SIZE < length list.now }
 {
@@ -138,7 +138,7 @@ fn least_perimeter<T: RTreeObject, Params: RTreeParams>(list: &[T]) -> Distance<
     least
 }
 
-/// The clamped sum of the two parts' perimeter values at a cut.
+/// The sum of the two parts' perimeter values at a cut, clamped.
 fn perimeter_at<T: RTreeObject>(list: &[T], k: usize) -> Distance<T>
     requires { k ≤ length list.now }
 {
@@ -148,8 +148,7 @@ fn perimeter_at<T: RTreeObject>(list: &[T], k: usize) -> Distance<T>
         .clamped_add(envelope_of_all(back).perimeter_value())
 }
 
-/// The first axis of least perimeter, by the order of the children along it. Each axis is sorted on the list as the one
-/// before left it.
+/// The first axis of least perimeter. Each axis sorts the list as the axis before left it.
 fn least_axis<T: RTreeObject, Params: RTreeParams>(list: &mut [T]) -> usize
     requires many { Params.MAX_SIZE < length list.old }
     requires axes { 0 < T.Envelope.Point.DIMENSIONS }
@@ -182,7 +181,7 @@ fn arrange<T: RTreeObject, Params: RTreeParams>(list: &mut [T])
     }
 }
 
-/// Cuts the list in two parts of an arrangement, by a least cut. It takes no memory.
+/// Splits the list at a least cut, after it is sorted along the best axis. It takes no memory.
 pub(crate) fn split_in_place<T: RTreeObject, Params: RTreeParams>(
     list: &mut Vec<T>,
     spare: &mut Vec<T>,
