@@ -138,6 +138,9 @@ class Library:
         for word in [*chosen]:
             if word.crate == "rstar_run" or 0 < sum(map(len, word.own()[1])) <= SHORT:
                 chosen += cited("\n".join(word.lines[1:]), word.path, self.known)
+        for word in chosen:
+            named = set(re.findall(r"`(\w+)`", word.comment)) - {word.name}
+            chosen += [one for one in self.known.values() if one.path == word.path and one.name in named and one not in chosen]
         return chosen
 
 

@@ -76,9 +76,9 @@ class Word:
         self.comment, self.lines = comment, [line]
 
     def own(self):
-        """Its parameters, where it is a record, and its equations or fields; none of a word that callers only pass on."""
+        """Its parameters, where it is a record, and its equations or fields; none where these are a type's private ones."""
         first, *rest = [line.strip() for line in self.lines if not line.strip().startswith("--")]
-        if first.startswith("unfoldable"):
+        if first.startswith("unfoldable") or re.search(r"\bit\.", " ".join(rest)):
             return [], []
         if " record " in first:
             head, _, body = " ".join([first, *rest]).partition(" where ")
@@ -100,7 +100,7 @@ def words(crate):
         word, comment, above = None, [], False
         for line in path.read_text().splitlines():
             bare, indent, named = line.strip(), len(line) - len(line.lstrip()), WORD.match(line.strip())
-            if word and bare and (indent > word.indent or bare.split()[0] == word.name):
+            if word and bare and (indent > word.indent or bare.split()[0] in (word.name, "}")):
                 word.lines.append(line)
             elif bare.startswith("--"):
                 comment = [*comment, bare[3:]] if above else [bare[3:]]
@@ -109,7 +109,7 @@ def words(crate):
                 found[crate, path.stem, named[1]] = word
             elif bare:
                 word = None
-            above = bare.startswith("--") and not bare.startswith("-- ----")
+            above = bare.startswith("--") and not bare.startswith("-- ----") or above and bare.endswith("mutual")
     return found
 
 
