@@ -4,7 +4,7 @@
     out/rstar_run pack < points | scripts/picture.py > tree.svg        from the standard library alone
     scripts/picture.py --places 2000 > points                          so many places around forty towns, always the same
 
-The bytes are those of docs/DEFINITIONS.md, "Stored trees"; `unpack` checks them, and this draws what they say. Below
+The bytes are those of docs/DEFINITIONS.md, `Spells`; `unpack` checks them, and this draws what they say. Below
 stands how many parents each level has, from the root down, in its colour.
 """
 

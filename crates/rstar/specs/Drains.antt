@@ -21,7 +21,7 @@ use Rattle.rstar.specs.Taking.{IsPast, IsRestAt}
 abbrev pub drained : {T F D Q E P S X : Type 0} → DrainIterator T F D Q E P S X → RTree T D E P S X
 drained it = it.tree.now
 
--- the elements that are left in that tree
+-- the elements that are left in the tree of a drain
 abbrev pub left_in_tree : {T F D Q E P S X : Type 0} → DrainIterator T F D Q E P S X → List T
 left_in_tree it = elements_in (drained it)
 

@@ -1,7 +1,4 @@
--- The stored form of a tree of points. All numbers are little-endian: `RST1`, the number of points (8 bytes), the
--- height (1 byte, 0 to 64: the levels of parents), and the root where the height is not 0. A parent is the number of
--- its children (8 bytes), its box (32 bytes: the lower and then the upper corner), and its children in order. A leaf is
--- its point (16 bytes: x, then y, each in two's complement).
+-- The stored form of a tree of points: which bytes spell which tree.
 use Rattle.std.specs.Prelude.{◌≡◌, ◌<◌, ◌≤◌, ◌^◌, ◌-◌, ℕ, ℤ, zero, suc, List, [], ◌∷◌, ◌++◌, length, map, pos, negsuc, slice_index_or}
 use Rattle.std.specs.List.{AllByRecursion, flat_map}
 use Rattle.std.specs.Int.{w64, to_le_bytes, cast_unsigned}
@@ -99,7 +96,10 @@ root_spelling (suc h) t = spelling t
 abbrev pub magic : List ℕ
 magic = 82 ∷ 83 ∷ 84 ∷ 49 ∷ []
 
--- the bytes are the stored form of the tree
+-- the bytes are the stored form of the tree. All numbers are little-endian: `RST1`, the number of points (8 bytes),
+-- the height (1 byte, 0 to 64: the levels of parents), and the root where the height is not 0. A parent is the number
+-- of its children (8 bytes), its box (32 bytes: the lower, then the upper corner), and its children in order. A leaf
+-- is its point (16 bytes: x, then y, in two's complement).
 pub record Spells (bytes : List ℕ) (t : Tree) : Type 0 where
   pub height : ℕ
   pub low : height ≤ 64

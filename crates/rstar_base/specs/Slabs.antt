@@ -29,19 +29,19 @@ pub record IsAroundSoFar {T : Type 0} (key : T → ℤ) (pivot : ℤ) (less at :
 abbrev pub elements_left : {T : Type 0} → ClusterGroupIterator T → List T
 elements_left it = it.remaining.items
 
--- the length of its slabs
+-- the length of the slabs of an iterator
 abbrev pub slab_size_of : {T : Type 0} → ClusterGroupIterator T → ℕ
 slab_size_of it = it.slab_size
 
--- the axis along which it cuts
+-- the axis along which an iterator cuts
 abbrev pub dimension_of : {T : Type 0} → ClusterGroupIterator T → ℕ
 dimension_of it = it.cluster_dimension
 
--- the number of slabs left
+-- the number of slabs that an iterator has left
 abbrev pub slabs_left : {T : Type 0} → ClusterGroupIterator T → ℕ
 slabs_left it = div_ceil (length (elements_left it)) (slab_size_of it)
 
--- its slabs have elements, and its axis exists
+-- an iterator whose slabs have elements and whose axis exists
 abbrev pub IsCutting : {T : Type 0} → ℕ → ClusterGroupIterator T → Type 0
 IsCutting axes it = (0 < slab_size_of it) × (dimension_of it < axes)
 
@@ -59,7 +59,8 @@ GivesSlab key s before result after =
     (λ given. (before ≢ []) × MatchResult given (λ slab. IsSlabOf key s before slab.items after)
     (λ _. (s < length before) × (after ≡ [])))
 
--- the same of an iterator, by the keys on its axis
+-- a call of `next`: the slab of the greatest keys on its axis (`IsSlabOf`) while elements are left. A refusal drops
+-- the rest; the last slab is never refused.
 abbrev pub GivesNextSlab : {T : Type 0} → (T → ℕ → ℤ) → ClusterGroupIterator T → Option (Result (Vec T) AllocError)
     → ClusterGroupIterator T → Type 0
 GivesNextSlab key old result new =

@@ -36,7 +36,8 @@ PrintsSome Kind old new held held' (Err stop.Memory) = Prints old new held [] he
 PrintsSome Kind old new held held' (Err stop.Input) = ⊥
 PrintsSome Kind old new held held' (Err stop.Output) = (text : List ℕ) × Kind text × AppendsFront old new (held ++ text)
 
--- a text is written whole, and the status is this one; or a write failed, the status is 4, and a front of it is written
+-- the text is written whole, and the status is this one; or a write failed, the status is 4, and a prefix of the text
+-- is written
 abbrev pub Tells : Option (List ℕ) → Option (List ℕ) → List ℕ → ℕ → ℕ → Type 0
 Tells old new text told status =
     ((status ≡ told) × Appends old new text) ⊎ ((status ≡ 4) × AppendsFront old new text)

@@ -101,7 +101,8 @@ EndsBefore (Err stop.Memory) n rest = ⊤
 EndsBefore (Err stop.Input) n rest = ⊤
 EndsBefore (Err stop.Output) n rest = ⊤
 
--- a run that ends so has turns behind it, which are the lines of the input from the first on, and say `said`
+-- a run: its turns (a line, with those of a load) answer the first lines of the input with `said`, and it ends before
+-- the rest (`EndsBefore`)
 pub record RunSays (input : Option (List ℕ)) (ended : Result (Unit {0}) Stop) (said : List ℕ) : Type 0 where
   pub turns : List (List (List ℕ))
   pub rest : List (List ℕ)

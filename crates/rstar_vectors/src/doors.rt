@@ -1,4 +1,4 @@
-//! An element type of a user's own: a place with two doors.
+//! An element type of one's own: a place with two doors.
 
 ghost use Rattle.rstar_vectors.specs.Doors.{doors_objects, doors_distances};
 ghost use Rattle.rstar_vectors.specs.laws.DoorsLaws.{doors_object_law, doors_laws, doors_equal};
@@ -8,13 +8,12 @@ use rstar_base::envelope::Envelope;
 use rstar_base::object::{EqualEnvelopes, PointDistance, RTreeObject};
 use rstar_base::point::{Point, least};
 
-/// A place with two doors. It is as far away as its nearer door, and contains the points at which
-/// a door is.
+/// A place with two doors. Its distance is that of the nearer door, and it contains the points of its doors.
 #[derive(PartialEq, Drop)]
 pub struct Doors<P> {
-    /// The one door.
+    /// The first door.
     pub front: P,
-    /// The other door.
+    /// The second door.
     pub back: P,
 }
 

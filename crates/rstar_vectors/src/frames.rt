@@ -1,4 +1,4 @@
-//! An element type of a user's own: the outline of a box.
+//! An element type of one's own: the outline of a box.
 
 ghost use Rattle.std.specs.Prelude.{◌≡◌, pos};
 ghost use Rattle.rstar_base.specs.Boxes.{merge_boxes};
@@ -15,17 +15,17 @@ use rstar_base::envelope::Envelope;
 use rstar_base::object::{PointDistance, RTreeObject, contains_by_distance, up_to};
 use rstar_base::point::{Point, least};
 
-/// The outline of the box between two opposite corners. It is as far from a point inside as its nearest face, and as far as
-/// the box from a point outside.
+/// The outline of the box between two opposite corners. From a point inside, its distance is that of the
+/// nearest face; from a point outside, that of the box.
 #[derive(Clone, Copy, PartialEq, Drop)]
 pub struct Frame<P> {
-    /// The one corner.
+    /// The first corner.
     pub one: P,
-    /// The corner opposite to it.
+    /// The opposite corner.
     pub other: P,
 }
 
-/// The squared distance from a point inside a box to the nearest face, held at the greatest scalar; 0 with no axis.
+/// The squared distance from a point inside a box to the nearest face, clamped; 0 without an axis.
 fn nearest_face<P: Point>(one: &P, other: &P, point: &P) -> P::Scalar
     ensures { P.Scalar.value result ≡ pos (nearest_face P.Scalar.high
         (merge_boxes (corner P.DIMENSIONS (P.coord one.now)) (corner P.DIMENSIONS (P.coord other.now)))

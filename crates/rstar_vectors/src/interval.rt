@@ -1,4 +1,4 @@
-//! An envelope of a user's own: a stretch of the number line with a level.
+//! An envelope type of one's own: an interval with a level.
 
 ghost use Rattle.std.specs.Prelude.{◌≡◌, pos, min, unsigned_abs};
 ghost use Rattle.std.specs.Int.{int_min, int_max};
@@ -9,7 +9,7 @@ use rstar_base::envelope::Envelope;
 use rstar_base::point::{Point, RTreeNum, greatest, least, not_above};
 use std::marker::Model;
 
-/// The numbers between two ends, both included, with the greatest level of what was merged.
+/// An interval with the greatest level of the intervals merged into it.
 #[derive(Clone, Copy, Debug, PartialEq, Drop)]
 pub struct Stretch {
     from: i64,
@@ -33,7 +33,7 @@ impl Model for Stretch {
 }
 
 impl Stretch {
-    /// The numbers between two ends, given in either order.
+    /// The interval between two ends, in either order.
     pub fn new(a: i64, b: i64, level: u8) -> Self
         ensures { result ≡ (int_min a b, int_max a b, level) }
     {
@@ -44,7 +44,7 @@ impl Stretch {
         }
     }
 
-    /// The greatest level of what was merged; 0 for the empty stretch.
+    /// The greatest level merged; 0 for the empty interval.
     pub fn level(&self) -> u8
         ensures { result ≡ self.now.2 }
     {
@@ -52,7 +52,7 @@ impl Stretch {
     }
 }
 
-/// How far `to` lies above `from`, held at the greatest scalar; 0 where it lies below.
+/// The length from `from` to `to`, clamped; 0 where `to` is below `from`.
 fn length<S: RTreeNum>(from: S, to: S) -> S
     ensures { S.value result ≡ pos (min (length_between (S.value from) (S.value to)) (unsigned_abs S.high)) }
 {
@@ -63,14 +63,14 @@ fn length<S: RTreeNum>(from: S, to: S) -> S
     }
 }
 
-/// How far `at` lies from the numbers between two ends, held at the greatest scalar.
+/// The distance from `at` to an interval, clamped.
 fn gap<S: RTreeNum>(from: S, to: S, at: S) -> S
     ensures { S.value result ≡ pos (min (gap_between (S.value from) (S.value to) (S.value at)) (unsigned_abs S.high)) }
 {
     greatest(length(at, from), length(to, at))
 }
 
-/// The square of the gap, held at the greatest scalar.
+/// The squared distance from `at` to an interval, clamped.
 fn squared_gap<S: RTreeNum>(from: S, to: S, at: S) -> S
     ensures { S.value result
         ≡ pos (held_square (unsigned_abs S.high) (gap_between (S.value from) (S.value to) (S.value at))) }
@@ -79,7 +79,7 @@ fn squared_gap<S: RTreeNum>(from: S, to: S, at: S) -> S
     gap.clamped_mul(gap)
 }
 
-/// The square of the distance to the nearer end, held at the greatest scalar.
+/// The squared distance from `at` to the nearer end, clamped.
 pub(crate) fn squared_nearer_end<S: RTreeNum>(from: S, to: S, at: S) -> S
     ensures { S.value result
         ≡ pos (held_square (unsigned_abs S.high) (nearer_end (S.value from) (S.value to) (S.value at))) }

@@ -1,6 +1,6 @@
-//! What joins give, and how many pairs of nodes they open.
+//! Tests of joins: the pairs, and how many pairs of nodes are visited.
 //!
-//! What is done to trees is generic, and a test gives it elements.
+//! Steps on trees are generic, and a test gives them elements.
 
 ghost use Rattle.std.specs.Prelude.{◌≡◌, ◌≤◌, min, map, IfOk};
 ghost use Rattle.std.specs.List.Sorted.{IsPermutation};
@@ -25,11 +25,10 @@ type Corners = ([i32; 2], [i32; 2]);
 /// A rectangle with a number.
 type Numbered = GeomWithData<Rectangle<[i32; 2]>, u64>;
 
-/// Pairs of elements, and how many pairs of nodes were opened for them.
+/// Pairs of elements, and the number of pairs of nodes visited.
 pub type Paired<'a, T, U> = (Vec<(&'a T, &'a U)>, usize);
 
-/// The pairs of elements of two trees that meet: those that a scan of all pairs finds, in some order; and how many pairs of
-/// nodes were opened for them.
+/// The join of two trees as a list, with the number of pairs of nodes visited.
 pub(crate) fn joined<'a, T: RTreeObject, U: InEnvelope<T::Envelope>, Params: RTreeParams>(
     alloc: Global,
     left: &'a RTree<T, Params>,
@@ -52,7 +51,7 @@ pub(crate) fn joined<'a, T: RTreeObject, U: InEnvelope<T::Envelope>, Params: RTr
     }
 }
 
-/// The pairs of a fence and a point that meet.
+/// The join of a tree of fences and one of points.
 pub fn fences_joined<'a>(
     alloc: Global,
     left: &'a RTree<Fence>,
@@ -72,7 +71,7 @@ pub fn fences_joined<'a>(
     joined(alloc, left, right)
 }
 
-/// Whether a join of two trees of these elements counts so.
+/// Whether a join of two trees of these elements has these counts.
 fn meets<T: RTreeObject + Copy, U: InEnvelope<T::Envelope> + Copy>(
     alloc: Global,
     lefts: &[T],
@@ -89,7 +88,7 @@ fn meets<T: RTreeObject + Copy, U: InEnvelope<T::Envelope> + Copy>(
     is_so
 }
 
-/// Whether elements meet others so, those points so, each in either order, and the points themselves so.
+/// Whether all joins of these elements have these counts, in either order.
 fn meet<
     T: InEnvelope<<U as RTreeObject>::Envelope> + Copy,
     U: InEnvelope<<T as RTreeObject>::Envelope> + Copy,
@@ -108,7 +107,7 @@ fn meet<
         & meets(alloc, points, points, own)
 }
 
-/// Rectangles between these corners, with a number each.
+/// Rectangles between these corners, numbered.
 fn numbered(alloc: Global, corners: &[Corners]) -> Vec<Numbered> {
     let mut all = Vec::new(alloc);
     for (one, other) in corners {
@@ -120,11 +119,11 @@ fn numbered(alloc: Global, corners: &[Corners]) -> Vec<Numbered> {
     all
 }
 
-/// The corners of the rectangles of two trees, and the counts of pairs and of pairs of nodes opened: of these trees, and
-/// of the first with one of points.
+/// The corners of the rectangles of two trees, and the counts of pairs and of visited pairs of nodes: of the
+/// two trees, and of the first with one of points.
 type Meeting = (&'static [Corners], &'static [Corners], [(usize, usize); 2]);
 
-/// Whether each row of a table is so with these points, and the points with themselves.
+/// Whether all rows of a table hold.
 fn all_meet(alloc: Global, rows: &[Meeting], points: &[[i32; 2]], own: (usize, usize)) -> bool {
     for (lefts, rights, counts) in rows {
         let lefts = numbered(alloc, lefts);
@@ -186,9 +185,9 @@ fn pairs_that_intersect(rt: HostRuntime) {
     }
 }
 
-/// What a scan asks of two elements: whether their envelopes meet.
+/// An element that a scan can test for intersection.
 trait Touching {
-    /// Whether its envelope meets another's.
+    /// Whether the envelopes of two elements intersect.
     fn touches(&self, other: &Self) -> bool;
 }
 
@@ -198,7 +197,7 @@ impl<T: RTreeObject> Touching for T {
     }
 }
 
-/// Whether pairs are those that a scan of two lists finds, in some order, and there are some.
+/// Whether pairs are those that a scan of two lists finds, in some order, at least one.
 fn are_scanned<T: Touching + PartialEq>(
     paired: Result<Paired<'_, T, T>, AllocError>,
     lefts: &[T],
@@ -220,7 +219,7 @@ fn are_scanned<T: Touching + PartialEq>(
     has_all && 0 < wanted && pairs.len() == wanted
 }
 
-/// Whether a join of the loads of two lists gives what a scan of the lists finds.
+/// Whether a join of two bulk loads gives the pairs that a scan finds.
 fn met_as_scanned<T: RTreeObject + PartialEq + Copy>(
     alloc: Global,
     lefts: &[T],
@@ -236,7 +235,7 @@ fn met_as_scanned<T: RTreeObject + PartialEq + Copy>(
     is_so
 }
 
-/// Whether a join of two loads gives so many pairs, and one of the first with itself.
+/// Whether joins of two bulk loads, and of the first with itself, give this many pairs.
 fn met_by_loads<T: RTreeObject + Copy>(
     alloc: Global,
     lefts: &[T],
@@ -255,8 +254,8 @@ fn met_by_loads<T: RTreeObject + Copy>(
     is_so
 }
 
-/// Whether a tree of these elements in small nodes has so many levels of parents below its root, or more, and a join of it
-/// with itself gives as many pairs as there are elements.
+/// Whether a tree of small nodes has at least this many levels of parents below its root, and its join with
+/// itself gives one pair for each element.
 fn meets_itself_at_depth<T: RTreeObject + Copy>(
     alloc: Global,
     elements: &[T],
@@ -269,7 +268,7 @@ fn meets_itself_at_depth<T: RTreeObject + Copy>(
     is_so
 }
 
-/// How many points, the first of them, and the step from each to the next.
+/// The number of points, the first one, and the step from each to the next.
 type Steps = (usize, [i32; 2], [i32; 2]);
 
 // Loads of unequal height; and rstar's `test_trivial_intersections`: so many points that lie between so many others, and
@@ -296,7 +295,7 @@ fn a_deep_tree_meets_itself(rt: HostRuntime) {
     assert!(rt; meets_itself_at_depth(rt.alloc(), &line, 13));
 }
 
-/// So many rectangles, spread by two factors.
+/// Rectangles of this number, spread by two factors.
 fn spread(alloc: Global, count: u64, across: u64, along: u64) -> Vec<Rectangle<[i64; 2]>> {
     let mut all = Vec::new(alloc);
     for number in 0..count {

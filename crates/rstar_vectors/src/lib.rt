@@ -1,4 +1,4 @@
-//! Tests that cross the crates, on fixed sequences, and types of a user's own.
+//! Tests over all crates, and types of one's own.
 #![tactic(auto)]
 
 #[cfg(test)]

@@ -1,4 +1,4 @@
-//! Loads: what loaded trees look like, and that they take insertions; clones; the text of a tree.
+//! Tests of bulk loads, clones and the debug text of a tree.
 
 ghost use Rattle.std.specs.Prelude.{◌≡◌, ◌≤◌, ◌<◌, false, IfOk};
 ghost use Rattle.rstar.specs.Clones.{ClonesEqual};
@@ -24,7 +24,7 @@ use std::fmt::Debug;
 
 // ---- what a root shows
 
-/// The elements below some nodes, at most `levels` levels of parents down, left to right, into a list.
+/// Appends the elements below some nodes, left to right, at most `levels` levels of parents down.
 pub(crate) fn gather<N: Node>(
     nodes: &[N],
     levels: usize,
@@ -45,7 +45,7 @@ where
     Ok(())
 }
 
-/// How many elements lie below some nodes, at most `levels` levels of parents down.
+/// The number of elements below some nodes, at most `levels` levels of parents down.
 fn count_below<N: Node>(nodes: &[N], levels: usize) -> usize {
     let mut count = 0usize;
     for node in nodes {
@@ -59,7 +59,7 @@ fn count_below<N: Node>(nodes: &[N], levels: usize) -> usize {
     count
 }
 
-/// Whether there is an axis on which two boxes do not overlap but at a border.
+/// Whether two boxes are disjoint on some axis, or share a border there.
 fn are_parted<P: Point>(one: &AABB<P>, other: &AABB<P>) -> bool {
     for axis in 0..P::DIMENSIONS {
         if one.upper().nth(axis) <= other.lower().nth(axis)
@@ -73,7 +73,7 @@ fn are_parted<P: Point>(one: &AABB<P>, other: &AABB<P>) -> bool {
 
 /// A node whose envelope is a box.
 trait Boxed: Node {
-    /// Whether its box and another's are parted.
+    /// Whether two nodes are parted on some axis.
     fn is_parted_from(&self, other: &Self) -> bool;
 }
 
@@ -83,7 +83,7 @@ impl<P: Point> Boxed for RTreeNode<P> {
     }
 }
 
-/// Whether the boxes of any two of some nodes are parted.
+/// Whether any two of some nodes are parted on some axis.
 fn are_all_parted<N: Boxed>(nodes: &[N]) -> bool {
     for k in 0..nodes.len() {
         for before in 0..k {
@@ -95,9 +95,9 @@ fn are_all_parted<N: Boxed>(nodes: &[N]) -> bool {
     true
 }
 
-/// Whether the children of a parent, so many levels above the lowest of them, are as a load cuts them: more than `wide`
-/// points below them, at most half of them below each, at most `most` children, and any two of these parted. `least` becomes
-/// the least number of children of a parent of leaves, where that is less.
+/// Whether the parents below are cut as a bulk load cuts them: more than `wide` points, at most half of them
+/// below each child, at most `most` children, and any two children parted. `least` becomes the least number
+/// of children of a parent of leaves, where that is less.
 fn is_cut<N: Boxed>(
     children: &[N],
     levels: usize,
@@ -128,7 +128,7 @@ fn is_cut<N: Boxed>(
         && are_all_parted(children)
 }
 
-/// Whether so many elements lie below nodes that are parents, in rising order.
+/// Whether nodes have these numbers of elements, in ascending order.
 fn has_parts<N: Node>(alloc: Global, nodes: &[N], parts: &[usize]) -> bool {
     let levels = levels_of(nodes);
     let mut counts = Vec::new(alloc);
@@ -157,8 +157,7 @@ pub(crate) fn are_same<V: Ord + Copy>(alloc: Global, mut list: Vec<V>, items: &[
     }
 }
 
-/// Whether a load of these points has them all, and is loaded; and whether it takes more of them, one after another, and
-/// stands after each.
+/// Whether a bulk load of these points has them all and is cut, and takes more of them one after another.
 fn loads_well<P: Point + Copy + Ord, Params: RTreeParams>(
     alloc: Global,
     points: &[P],
@@ -183,7 +182,7 @@ fn loads_well<P: Point + Copy + Ord, Params: RTreeParams>(
     is_so
 }
 
-/// Points as `points` gives them, with a third coordinate.
+/// The points of `points`, with a third coordinate.
 pub(crate) fn deep_points(alloc: Global, count: usize) -> Vec<[i32; 3]> {
     let mut points = Vec::new(alloc);
     for i in 0..count {
@@ -300,7 +299,8 @@ const OF_FOUR_AXES: [[i32; 4]; 40] = [
 
 const EQUAL: [[i32; 2]; 300] = [[0, 1]; 300];
 
-/// Whether loads of points of two axes, and of equal ones, are as they should be, in nodes of either size.
+/// Whether bulk loads of points of two axes, and of equal points, are as they should be, for both node
+/// sizes.
 fn loads_well_at_both_sizes<P: Point + Copy + Ord>(
     alloc: Global,
     points: &[P],
@@ -339,7 +339,7 @@ fn loads_of_many_sizes_are_loaded_and_take_insertions(rt: HostRuntime) {
     }
 }
 
-/// Whether each of some nodes is a parent that has its elements in such parts.
+/// Whether each of some nodes is a parent with these parts.
 fn all_have_parts<N: Node>(alloc: Global, nodes: &[N], parts: &[usize]) -> bool {
     for node in nodes {
         let is_so = match node.children() {
@@ -353,11 +353,11 @@ fn all_have_parts<N: Node>(alloc: Global, nodes: &[N], parts: &[usize]) -> bool 
     true
 }
 
-/// The levels of parents below a root, how many elements are below each child of it, in rising order, and where these are
-/// alike how many are below each child of such a child: where none are given, that is not asked.
+/// The levels of parents below a root, the number of elements of each child, ascending, and of each child of
+/// a child. An empty list is not tested.
 type Parts<'a> = (usize, &'a [usize], &'a [usize]);
 
-/// Whether a tree stands, and has so many elements, in such parts.
+/// Whether a tree is whole and has this many elements, in these parts.
 fn is_in_parts<T: RTreeObject>(
     alloc: Global,
     tree: &RTree<T>,
@@ -371,7 +371,7 @@ fn is_in_parts<T: RTreeObject>(
         & (parts.2.is_empty() || all_have_parts(alloc, nodes, parts.2))
 }
 
-/// The same of a clone of a tree; not where the tree is refused that.
+/// The same of a clone of a tree; false where the clone is refused.
 fn clone_is_in_parts<T: RTreeObject + Copy>(
     alloc: Global,
     tree: &RTree<T>,
@@ -390,7 +390,7 @@ fn clone_is_in_parts<T: RTreeObject + Copy>(
     }
 }
 
-/// The same of a load of these elements, and of its clone.
+/// The same of a bulk load of these elements, and of its clone.
 fn load_is_in_parts<T: RTreeObject + Copy>(alloc: Global, elements: &[T], parts: &Parts<'_>) -> bool
     requires { 2 ≤ T.Envelope.Point.DIMENSIONS }
 {
@@ -402,7 +402,8 @@ fn load_is_in_parts<T: RTreeObject + Copy>(alloc: Global, elements: &[T], parts:
     is_so
 }
 
-/// Whether the root of a load, made by itself, has so many elements below each child; no elements make no root.
+/// Whether the root of a bulk load has these numbers of elements below its children. No elements give no
+/// root.
 fn root_has_parts<T: RTreeObject>(alloc: Global, elements: Vec<T>, parts: &[usize]) -> bool
     requires { 2 ≤ T.Envelope.Point.DIMENSIONS }
 {
@@ -445,7 +446,7 @@ fn loads_and_clones_have_their_parts(rt: HostRuntime) {
 
 // ---- clones and texts
 
-/// What a value shows; nothing where memory is refused.
+/// The debug text of a value; empty where memory is refused.
 pub(crate) fn shown<V: Debug>(alloc: Global, value: &V) -> String {
     match format!(in alloc; "{value:?}") {
         Ok(text) => text,
@@ -453,12 +454,12 @@ pub(crate) fn shown<V: Debug>(alloc: Global, value: &V) -> String {
     }
 }
 
-/// Whether this text is what a value shows, and not empty.
+/// Whether the debug text of a value is this one, and not empty.
 pub(crate) fn shows<V: Debug>(alloc: Global, value: &V, text: &str) -> bool {
     !text.is_empty() && shown(alloc, value).as_str() == text
 }
 
-/// Whether a copy of a tree shows what the tree shows, and an element that goes into the copy does not go into the tree.
+/// Whether a clone shows what the tree shows, and an insertion into the clone leaves the tree.
 fn stays_alone<T: RTreeObject + Copy + Debug>(
     alloc: Global,
     tree: &RTree<T>,
@@ -477,7 +478,7 @@ fn stays_alone<T: RTreeObject + Copy + Debug>(
         & shows(alloc, tree.root(), text)
 }
 
-/// The same of a load of these elements and its clone; and whether the load shows a text, where one is given.
+/// The same of a bulk load of these elements, which shows the text where one is given.
 fn loads_cloned_alone<T: RTreeObject + Copy + Debug>(
     alloc: Global,
     elements: &[T],
@@ -532,7 +533,7 @@ fn loads_show_their_elements_and_clones_the_same(rt: HostRuntime) {
 
 // ---- callers
 
-/// Three points, loaded.
+/// A bulk load of three points.
 pub fn points_loaded(alloc: Global, more: [i64; 2]) -> Result<RTree<[i64; 2]>, AllocError>
     ensures { IfOk result (IsWholeTree ⟦<AABB<[i64; 2]> as Envelope>⟧.boxes ⟦<[i64; 2] as RTreeObject>⟧.object
         ⟦<DefaultParams as RTreeParams>⟧.MAX_SIZE) }
@@ -540,7 +541,7 @@ pub fn points_loaded(alloc: Global, more: [i64; 2]) -> Result<RTree<[i64; 2]>, A
     RTree::bulk_load(Vec::from_array(alloc, [[0, 0], [5, 5], more])?)
 }
 
-/// Whether a tree has an element at a point, and how many there are after one more.
+/// Whether a tree has an element at a point, and its size after one more insertion.
 pub fn found_and_count<T: PointDistance>(
     mut tree: RTree<T>,
     point: PointOf<T>,
@@ -556,7 +557,7 @@ pub fn found_and_count<T: PointDistance>(
     (found, count)
 }
 
-/// Whether that is so of a load of these elements; not where one more has an empty envelope.
+/// The same of a bulk load; false where the further element has an empty envelope.
 fn found_in_load<T: PointDistance + Copy>(
     alloc: Global,
     elements: &[T],
@@ -584,7 +585,7 @@ fn callers_load_query_and_insert(rt: HostRuntime) {
     );
 }
 
-/// Whether a load of two elements contains such a one.
+/// Whether a bulk load of two elements contains an element.
 fn load_contains<T: EqualEnvelopes>(alloc: Global, one: T, other: T, wanted: &T) -> bool
     requires { 2 ≤ T.Envelope.Point.DIMENSIONS }
 {
@@ -602,7 +603,7 @@ fn load_contains<T: EqualEnvelopes>(alloc: Global, one: T, other: T, wanted: &T)
     }
 }
 
-/// Whether loads of two elements, each with a number, and each with its envelope beside it, contain the first.
+/// Whether bulk loads of two elements contain the first, with numbers and with cached envelopes.
 fn loads_contain_the_first<R: EqualEnvelopes + Copy>(alloc: Global, one: R, other: R) -> bool
     requires { 2 ≤ R.Envelope.Point.DIMENSIONS }
 {

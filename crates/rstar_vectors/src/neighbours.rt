@@ -1,4 +1,4 @@
-//! Callers that loop over neighbours, at concrete types and at any.
+//! Loops over neighbours, at concrete types and at any.
 
 ghost use Rattle.std.specs.Prelude.{◌≡◌, ℕ, [], pos, min, map, Ok, IfOk, IfSome, IfNone};
 ghost use Rattle.std.specs.Iterator.{IsFinite, Drains};
@@ -24,7 +24,7 @@ use std::alloc::{AllocError, Global};
 /// A place.
 type At = [i64; 2];
 
-/// All elements of a tree, the nearest to a place first, and how many parents are opened for them.
+/// All elements of a tree, the nearest first, and the number of parents visited.
 pub(crate) fn in_order<'a, T: PointDistance>(
     alloc: Global,
     tree: &'a RTree<T>,
@@ -47,7 +47,7 @@ pub(crate) fn in_order<'a, T: PointDistance>(
     Ok((all, neighbors.opened()))
 }
 
-/// All that an iterator over results gives, by a `for`, up to its end or its first refusal.
+/// All items of an iterator over results, by a `for`, or its first refusal.
 fn listed<A: Drop, I: Iterator<Item = Result<A, AllocError>>>(
     alloc: Global,
     items: I,
@@ -64,7 +64,7 @@ fn listed<A: Drop, I: Iterator<Item = Result<A, AllocError>>>(
     Ok(all)
 }
 
-/// The points nearest to a place, the nearest first: so many, or all. `take` ends the loop after so many.
+/// The `most` nearest points by `take`, the nearest first; all where there are fewer.
 fn nearest_points<'a>(
     alloc: Global,
     tree: &'a RTree<At>,
@@ -80,7 +80,7 @@ fn nearest_points<'a>(
     listed(alloc, tree.nearest_neighbor_iter(place).take(most))
 }
 
-/// All points, the nearest to a place first, collected.
+/// All points by `try_collect`, the nearest first.
 fn points_in_order<'a>(
     alloc: Global,
     tree: &'a RTree<At>,
@@ -95,7 +95,7 @@ fn points_in_order<'a>(
     tree.nearest_neighbor_iter(place).try_collect(alloc)
 }
 
-/// An element nearest to a place with its squared distance, by the function over a root.
+/// A nearest element with its squared distance, by the function over a root.
 pub(crate) fn one_below<'a, T: PointDistance>(
     tree: &'a RTree<T>,
     place: PointOf<T>,
@@ -108,7 +108,7 @@ pub(crate) fn one_below<'a, T: PointDistance>(
     nearest_neighbor_with_distance_2(tree.root(), place)
 }
 
-/// All elements nearest to a place with their squared distance, by the function over a root.
+/// All elements at the least squared distance, by the function over a root.
 pub(crate) fn all_below<'a, T: PointDistance>(
     tree: &'a RTree<T>,
     place: PointOf<T>,
@@ -126,7 +126,7 @@ mod tests {
     use super::*;
     use crate::scenarios::{inserted, let_go};
 
-    /// Whether these are the elements that are lent, in this order.
+    /// Whether these elements are given, in this order.
     fn are_lent<T: PartialEq>(lent: Result<Vec<&T>, AllocError>, wanted: &[T]) -> bool {
         match &lent {
             Ok(all) => {

@@ -1,8 +1,8 @@
-//! Node sizes beside the default ones, from the smallest that are lawful to the largest.
+//! Node sizes, from the smallest that are lawful to the largest.
 
 use rstar::RTreeParams;
 
-/// Small nodes, of which one child goes in again.
+/// Small nodes, with one child reinserted.
 pub(crate) struct Small;
 
 impl RTreeParams for Small {
@@ -31,7 +31,7 @@ impl RTreeParams for Small {
     ghost reinsertion_leaves = { Prim.omega arith };
 }
 
-/// Small nodes, which are split at once.
+/// Small nodes without reinsertion.
 pub(crate) struct Splitting;
 
 impl RTreeParams for Splitting {
@@ -60,7 +60,7 @@ impl RTreeParams for Splitting {
     ghost reinsertion_leaves = { Prim.omega arith };
 }
 
-/// Nodes of which nearly all children go in again.
+/// Nodes with nearly all children reinserted.
 pub(crate) struct Emptying;
 
 impl RTreeParams for Emptying {
@@ -89,7 +89,7 @@ impl RTreeParams for Emptying {
     ghost reinsertion_leaves = { Prim.omega arith };
 }
 
-/// Large nodes, of which one child goes in again.
+/// Large nodes, with one child reinserted.
 pub(crate) struct Large;
 
 impl RTreeParams for Large {
@@ -118,7 +118,7 @@ impl RTreeParams for Large {
     ghost reinsertion_leaves = { Prim.omega arith };
 }
 
-/// Nodes of ten to forty.
+/// Nodes of ten to forty children.
 pub(crate) struct Tens;
 
 impl RTreeParams for Tens {
@@ -176,7 +176,7 @@ impl RTreeParams for Wide {
     ghost reinsertion_leaves = { Prim.omega arith };
 }
 
-/// The largest numbers that are lawful.
+/// The largest lawful numbers.
 pub(crate) struct Huge;
 
 impl RTreeParams for Huge {

@@ -1,4 +1,5 @@
-//! Every selection, look-up and payload reference by a caller: at points, at rectangles with a number, or at any type.
+//! Callers of each selection, look-up and payload borrow: at points, at rectangles with a number, or at any
+//! type.
 
 ghost use Rattle.std.specs.Prelude.{◌≡◌, min, map, filter, true, pos, int_le, IfOk, IsTrue, not};
 ghost use Rattle.std.specs.List.{list_any};
@@ -21,10 +22,10 @@ use rstar::{
 };
 use std::alloc::{AllocError, Global};
 
-/// Elements, and how many parents were opened for them.
+/// Elements, and the number of parents visited.
 pub type Walked<'a, T> = (Vec<&'a T>, usize);
 
-/// What a walk gives, and how many parents it has opened at its end.
+/// All elements of a selection iterator, and the number of parents it has visited at its end.
 pub fn walked<'a, T: RTreeObject, Func: SelectionFunction<T>>(
     alloc: Global,
     mut walk: SelectionIterator<'a, T, Func>,
@@ -92,7 +93,7 @@ fn near<'a, T: PointDistance>(
     }
 }
 
-/// The elements that an envelope touches, by `locate_in_envelope_intersecting`.
+/// The elements that an envelope intersects, by `locate_in_envelope_intersecting`.
 pub(crate) fn touched<'a, T: RTreeObject>(
     alloc: Global,
     tree: &'a RTree<T>,
@@ -131,8 +132,8 @@ fn here<'a, T: PointDistance>(
 /// An envelope, a point, and a squared distance.
 pub(crate) type Asked<T> = (<T as RTreeObject>::Envelope, PointOf<T>, Distance<T>);
 
-/// What five questions give: all elements, those in an envelope, those that it touches, those that contain a point, and
-/// those within a distance of it.
+/// The answer to one of five questions: all elements, those inside an envelope, those that intersect it,
+/// those that contain a point, and those within a distance of it.
 pub(crate) fn selected<'a, T: PointDistance>(
     alloc: Global,
     tree: &'a RTree<T>,
@@ -186,7 +187,7 @@ pub fn either_at<T: PointDistance>(
     (tree.locate_at_point(one), tree.locate_at_point_int(other))
 }
 
-/// Writes a number into an element that contains a point, and whether there is one.
+/// Writes a number into an element that contains a point. Whether there is one.
 pub fn renumber<R: PointDistance>(
     tree: &mut RTree<GeomWithData<R, u64>>,
     point: PointOf<R>,
@@ -238,7 +239,7 @@ pub fn renumber_int<R: PointDistance>(
     }
 }
 
-/// Writes a number into a fence that contains a point, and whether there is one.
+/// Writes a number into a fence that contains a point. Whether there is one.
 pub fn renumber_fence(tree: &mut RTree<Fence>, point: [i64; 2], number: u64) -> bool
     requires { IsWholeTree ⟦<AABB<[i64; 2]> as Envelope>⟧.boxes ⟦<Fence as RTreeObject>⟧.object
         ⟦<DefaultParams as RTreeParams>⟧.MAX_SIZE tree.old }
@@ -258,7 +259,7 @@ mod tests {
     use super::*;
     use crate::scenarios::{fences, inserted, let_go};
 
-    /// Whether an element that contains a point carries a number, by both look-ups.
+    /// Whether an element that contains a point has this number, by both look-ups.
     fn carries<R: PointDistance>(
         tree: &RTree<GeomWithData<R, u64>>,
         point: PointOf<R>,
@@ -275,7 +276,7 @@ mod tests {
         }
     }
 
-    /// Whether a tree has as many elements as a list, and so many of the list's are there, by a walk for each.
+    /// Whether a tree has as many elements as a list, and this many of the list's are there.
     fn gives_of<T: EqualEnvelopes>(
         alloc: Global,
         tree: &RTree<T>,
@@ -294,8 +295,9 @@ mod tests {
         tree.size() == elements.len() && there == count
     }
 
-    /// Whether writes at a point, by both look-ups in turn, change one element of a tree, where one contains that point,
-    /// and none where none does. What is written is read at another point, where an element carries a number at first.
+    /// Whether writes at a point, by both look-ups, change one element where one contains the point, and
+    /// none elsewhere. The result is read at another point, where an element has the number `number` at
+    /// first.
     fn writes<R: PointDistance + EqualEnvelopes + Copy>(
         alloc: Global,
         elements: &[GeomWithData<R, u64>],

@@ -1,4 +1,4 @@
-//! Calls in generic code with all that they promise, at points and at an element type of one's own.
+//! Callers in generic code with all that the calls promise, at points and at an element type of one's own.
 
 ghost use Rattle.std.specs.Prelude.{◌≡◌, ◌∷◌, ◌≤◌, List, [], false, length, map, filter, min, IfOk, IfSome, MatchOption};
 ghost use Rattle.std.specs.Iterator.{IsFinite};
@@ -15,7 +15,7 @@ use rstar_base::object::RTreeObject;
 use rstar_base::point::Point;
 use std::alloc::{AllocError, Global};
 
-/// Two elements of any type.
+/// A tree of two elements of any type.
 fn pair<T: RTreeObject>(alloc: Global, first: T, second: T) -> Result<RTree<T>, InsertError<T>>
     requires dimensions { 2 ≤ T.Envelope.Point.DIMENSIONS }
     requires first { T.Envelope.boxes.is_empty (T.object.box_of first) ≡ false }
@@ -45,7 +45,7 @@ fn two_points(alloc: Global) -> Result<usize, InsertError<[i64; 2]>> {
     Ok(tree.size())
 }
 
-/// All elements, by a `collect`.
+/// All elements, by `collect`.
 fn listed<'a, T: RTreeObject>(alloc: Global, tree: &'a RTree<T>) -> Result<Vec<&'a T>, AllocError>
     requires { IsWholeTree T.Envelope.boxes T.object ⟦<DefaultParams as RTreeParams>⟧.MAX_SIZE tree.now }
     ensures { IfOk result (λ v. map (λ r. r.now) v.items ≡ elements_in tree.now) }
@@ -56,7 +56,7 @@ fn listed<'a, T: RTreeObject>(alloc: Global, tree: &'a RTree<T>) -> Result<Vec<&
     }
 }
 
-/// How many items an iterator gives, by a `for`.
+/// The number of items of an iterator, by a `for`.
 fn counted<I: Iterator>(items: I) -> usize
 where
     I::Item: Drop,
@@ -71,7 +71,7 @@ where
     count
 }
 
-/// How many elements there are inside an envelope; none where the walk is refused.
+/// The number of elements inside an envelope; `None` where the iterator is refused.
 fn counted_inside<T: RTreeObject>(tree: &RTree<T>, envelope: T::Envelope) -> Option<usize>
     requires { IsWholeTree T.Envelope.boxes T.object ⟦<DefaultParams as RTreeParams>⟧.MAX_SIZE tree.now }
     ensures { IfSome result (λ count. count ≡ min (length (filter
@@ -83,7 +83,7 @@ fn counted_inside<T: RTreeObject>(tree: &RTree<T>, envelope: T::Envelope) -> Opt
     }
 }
 
-/// The first element inside an envelope that a `next` gives.
+/// The first element inside an envelope, by one `next`.
 fn first_inside<T: RTreeObject>(
     tree: &RTree<T>,
     envelope: T::Envelope,
@@ -100,7 +100,7 @@ fn first_inside<T: RTreeObject>(
     }
 }
 
-/// Whether a tree gives two elements, and so many, one at least, inside an envelope.
+/// Whether a tree has two elements, and this many inside an envelope, at least one.
 fn gives_two<T: RTreeObject>(alloc: Global, tree: &RTree<T>, area: T::Envelope, near: usize) -> bool
 where
     T::Envelope: Copy,
@@ -116,7 +116,7 @@ where
         }
 }
 
-/// Whether a tree of two elements gives both, and so many, one at least, inside an envelope.
+/// The same of a tree of these two elements.
 fn gives_both<T: RTreeObject>(
     alloc: Global,
     first: T,

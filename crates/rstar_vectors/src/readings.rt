@@ -1,4 +1,4 @@
-//! Visits that read: what each visit comes to first, its reference given by a break.
+//! Visits that read: the first element of each, given by a break.
 
 ghost use Rattle.std.specs.Prelude.{◌≡◌, filter};
 ghost use Rattle.std.specs.declared.ops.ControlFlow.TheVariants.{Break};
@@ -17,14 +17,14 @@ use std::ops::ControlFlow;
 
 type At = [i64; 2];
 
-/// Breaks with the element that it is called at.
+/// Breaks with the element.
 fn at_once<'a, T>(element: &'a T) -> ControlFlow<&'a T>
     ensures { result ≡ Break element.entry }
 {
     ControlFlow::Break(element)
 }
 
-/// The first element that a selection function selects, by `locate_with_selection_function_int`.
+/// The first selected element, by `locate_with_selection_function_int`.
 fn first_selected<T: PointDistance>(tree: &RTree<T>, point: PointOf<T>) -> Option<&T>
     requires { IsWholeTree T.Envelope.boxes T.object ⟦<DefaultParams as RTreeParams>⟧.MAX_SIZE tree.now }
     ensures { IsFirst (filter (λ t. T.distances.contains_point t
@@ -45,8 +45,8 @@ fn first_below<T: PointDistance>(root: &ParentNode<T>, point: PointOf<T>) -> Opt
     select_nodes(root, &func, &mut at_once).break_value()
 }
 
-/// The first element in an envelope, by `locate_in_envelope_int`, the first that it touches, by
-/// `locate_in_envelope_intersecting_int`, and the first that contains a point, by `locate_all_at_point_int`.
+/// The first element inside an envelope, the first that it intersects, and the first that contains a point,
+/// each by its visit.
 fn come_upon<T: PointDistance>(
     tree: &RTree<T>,
     area: T::Envelope,
@@ -87,10 +87,10 @@ mod tests {
     use rstar::primitives::Rectangle;
     use std::alloc::Global;
 
-    /// Whether there is an element inside an envelope, one that it touches, and one at a point.
+    /// Whether there is an element inside an envelope, one that intersects it, and one at a point.
     type Told = (bool, bool, bool);
 
-    /// Whether visits come upon an element of a tree as told: inside an envelope, touched by it, and at a point.
+    /// Whether visits find elements of a tree as expected.
     fn comes_upon<T: PointDistance + Copy>(
         alloc: Global,
         elements: &[T],

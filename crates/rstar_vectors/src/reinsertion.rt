@@ -1,4 +1,4 @@
-//! Forced reinsertion: trees stay whole and sized, and a fixed sequence of points takes its shape.
+//! Forced reinsertion: trees stay whole and sized, and a fixed sequence of points gives a fixed shape.
 
 ghost use Rattle.std.specs.Prelude.{◌≤◌};
 ghost use Rattle.rstar.specs.Trees.{IsWholeTree};
@@ -14,8 +14,8 @@ use rstar::{
 };
 use std::alloc::Global;
 
-/// Whether elements go into a tree, one after another, and it stands after each with one more, where each parent has from
-/// `least` to `most` children.
+/// Whether elements can be inserted one after another, each time with one element more and from `least` to
+/// `most` children for each parent.
 pub(crate) fn all_go_in<T: RTreeObject + Copy, Params: RTreeParams>(
     tree: &mut RTree<T, Params>,
     elements: &[T],
@@ -36,7 +36,7 @@ pub(crate) fn all_go_in<T: RTreeObject + Copy, Params: RTreeParams>(
     true
 }
 
-/// Whether trees of all these node sizes stand after each insertion, with these sizes.
+/// Whether trees of all these node sizes are whole after each insertion.
 fn all_stand_at_each_size<T: EqualEnvelopes + PointDistance + Copy>(
     alloc: Global,
     elements: &[T],

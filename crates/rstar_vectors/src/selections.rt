@@ -1,6 +1,6 @@
-//! What selections give, and how many parents they open.
+//! Tests of selections: the elements, and how many parents are visited.
 //!
-//! What is asked of a tree is generic, and a test gives it elements.
+//! Steps on trees are generic, and a test gives them elements.
 
 ghost use Rattle.std.specs.Prelude.{◌≡◌, ◌<◌, true, false, pos, int_le, int_lt, map, filter, IfOk};
 ghost use Rattle.rstar.specs.Selections.{IsLawful};
@@ -17,7 +17,7 @@ use std::alloc::{AllocError, Global};
 use std::cell::Cell;
 use std::ops::ControlFlow;
 
-/// Whether a function selects so many elements of a tree, and opens so many parents for them, where the tree stands.
+/// Whether a function selects this many elements of a tree and visits this many parents.
 fn selects<T: RTreeObject + Copy, Func: SelectionFunction<T>>(
     alloc: Global,
     elements: &[T],
@@ -49,8 +49,8 @@ fn chosen<'a, T: RTreeObject, Func: SelectionFunction<T>>(
     Ok(all)
 }
 
-/// Whether walks give so many elements in an envelope, by `locate_in_envelope`, and so many of all, by `iter`, each with
-/// the parents opened.
+/// Whether iterators give this many elements inside an envelope, and this many in all, each with the parents
+/// visited.
 fn select_so<T: RTreeObject + Copy>(
     alloc: Global,
     elements: &[T],
@@ -65,7 +65,7 @@ fn select_so<T: RTreeObject + Copy>(
     is_so
 }
 
-/// Points, two corners, how many points are between them, of all the points there are, each with the parents opened.
+/// Points, two corners, and how many points are between them and in all, each with the parents visited.
 type Row<'a> = (
     &'a [[i32; 2]],
     ([i32; 2], [i32; 2]),
@@ -88,13 +88,13 @@ fn a_selection_opens_what_its_question_reaches(rt: HostRuntime) {
     }
 }
 
-/// Selects the points in the left half of a map that is 100 wide. A selection function of a user's own says which
-/// envelopes it accepts and which elements it selects; that it is lawful is proved where it is made.
+/// A selection function of one's own: it selects the points in the left half of a map that is 100 wide. Its
+/// `new` says that it is lawful.
 #[derive(Drop)]
 pub(crate) struct LeftHalf;
 
 impl LeftHalf {
-    /// The points whose first coordinate is below 50.
+    /// Selects the points whose first coordinate is below 50.
     pub(crate) fn new() -> Self
         ensures { IsLawful ⟦<AABB<[i32; 2]> as Envelope>⟧.boxes ⟦<[i32; 2] as RTreeObject>⟧.object
             (⟦<LeftHalf as SelectionFunction<[i32; 2]>>⟧.accepts result)
@@ -131,7 +131,7 @@ fn left_points<'a>(
     chosen(alloc, tree, LeftHalf::new())
 }
 
-/// Whether a tree of points has so many of them in the left half.
+/// Whether a tree of points has this many in the left half.
 fn as_many_lie_left(alloc: Global, points: &[[i32; 2]], count: usize) -> bool {
     let tree = inserted::<[i32; 2], DefaultParams>(alloc, points);
     let is_so = has_len(left_points(alloc, &tree), count);
@@ -175,7 +175,7 @@ impl SelectionFunction<[i32; 2]> for LeftOnly {
     }
 }
 
-/// Points, and how many of them are selected, with the parents opened.
+/// Points, and how many of them are selected, with the parents visited.
 type Selected<'a> = (&'a [[i32; 2]], (usize, usize));
 
 // A function that is not lawful misses some. Where no parent is accepted, none is opened: of the last three trees not
@@ -205,7 +205,7 @@ fn unlawful_functions_give_less(rt: HostRuntime) {
     }
 }
 
-/// Selects all, and counts the leaves that it is asked for.
+/// Selects all elements, and counts the leaves that it is called with.
 #[derive(Drop)]
 struct CountingFunc<'a> {
     asked: &'a Cell<u32>,
@@ -226,7 +226,7 @@ impl<'a, T: RTreeObject> SelectionFunction<T> for CountingFunc<'a> {
     }
 }
 
-/// Whether a function, whose leaves a cell counts, is asked of none when a walk begins, and of one more at each of its
+/// Whether a function is called with no leaf when an iterator is made, and with one more at each of its
 /// first calls.
 fn asks_one_by_one<T: RTreeObject, Func: SelectionFunction<T>>(
     tree: &RTree<T>,
@@ -267,7 +267,7 @@ fn a_leaf_is_asked_when_the_walk_comes_to_it(rt: HostRuntime) {
     assert!(rt; asks_of_these(rt.alloc(), &ALONG_A_LINE, func, &asked));
 }
 
-/// Whether a visit of the elements in an envelope ends at the call that breaks, whose break is the answer.
+/// Whether a visit of the elements inside an envelope ends at the call that breaks, and returns the break.
 fn ends_at<T: RTreeObject + Copy>(
     alloc: Global,
     elements: &[T],
@@ -297,8 +297,8 @@ fn a_visit_ends_at_a_break(rt: HostRuntime) {
     assert!(rt; ends_at(rt.alloc(), &ALONG_A_LINE, area, 3));
 }
 
-/// Whether an element is one, whether the envelope contains it, whether it intersects it, whether the element contains
-/// the point, and whether it lies within the distance.
+/// Five answers of a scan for one element: whether it is there, is inside the envelope, intersects it,
+/// contains the point, and lies within the distance.
 fn answers<T: PointDistance>(element: &T, asked: &Asked<T>) -> [bool; 5] {
     let (area, point, limit) = asked;
     let envelope = element.envelope();
@@ -311,7 +311,7 @@ fn answers<T: PointDistance>(element: &T, asked: &Asked<T>) -> [bool; 5] {
     ]
 }
 
-/// The same of each element of a list: a scan.
+/// The answers of a scan for each element of a list.
 fn scanned<T: PointDistance>(alloc: Global, elements: &[T], asked: &Asked<T>) -> Vec<[bool; 5]> {
     let mut all = Vec::new(alloc);
     for element in elements {
@@ -320,7 +320,7 @@ fn scanned<T: PointDistance>(alloc: Global, elements: &[T], asked: &Asked<T>) ->
     all
 }
 
-/// How many elements of a list answer each of the five questions.
+/// How many elements of a list pass each of the five questions.
 fn counted(scan: &[[bool; 5]]) -> [usize; 5] {
     let mut counts = [0usize; 5];
     for answers in scan {
@@ -331,8 +331,8 @@ fn counted(scan: &[[bool; 5]]) -> [usize; 5] {
     counts
 }
 
-/// Whether those elements of a list that answer a question, as a scan of it says, were found, and as many; of equal ones
-/// one is enough.
+/// Whether the elements found are those of a list that pass a question, and as many. Of equal ones one is
+/// enough.
 fn are_answers<T: PartialEq>(
     found: &[&T],
     elements: &[T],
@@ -355,7 +355,7 @@ fn are_answers<T: PartialEq>(
     found.len() == count
 }
 
-/// The same of what a walk gave.
+/// The same of what an iterator gave.
 fn gives<T: PartialEq>(
     walked: Result<Walked<'_, T>, AllocError>,
     elements: &[T],
@@ -402,8 +402,7 @@ fn called(calls: &mut usize) -> ControlFlow<()> {
     ControlFlow::Continue(())
 }
 
-/// Whether visits of what the envelope intersects and of what contains the point have so many calls, and look-ups at the
-/// point find an element exactly where there is one.
+/// Whether visits have this many calls, and look-ups find an element exactly where there is one.
 fn visits_find<T: PointDistance>(
     tree: &RTree<T>,
     area: T::Envelope,
@@ -423,8 +422,7 @@ where
     touched == touching && located == at && one.is_some() == (at > 0) && other.is_some() == (at > 0)
 }
 
-/// How many elements a tree of some has, how many of them an envelope contains, how many it intersects, how many contain
-/// a point, and how many lie within a squared distance of it; none where the tree answers otherwise than a scan.
+/// The five counts of a tree of these elements; `None` where a call and a scan differ.
 pub(crate) fn found<T: PointDistance + PartialEq + Copy>(
     alloc: Global,
     elements: &[T],
@@ -474,7 +472,7 @@ fn a_thousand_points_are_found_as_by_a_scan(rt: HostRuntime) {
     }
 }
 
-/// A rectangle at each of some points.
+/// A rectangle at each point.
 fn rectangles(alloc: Global, points: &[[i32; 2]]) -> Vec<Rectangle<[i32; 2]>> {
     let mut all = Vec::new(alloc);
     for point in points {
@@ -485,8 +483,8 @@ fn rectangles(alloc: Global, points: &[[i32; 2]]) -> Vec<Rectangle<[i32; 2]>> {
     all
 }
 
-/// One rectangle, three, or a thousand; two corners of a box, a point and a squared distance; and where there are few, how
-/// many of the rectangles the box contains and intersects, how many contain the point, and how many lie so near.
+/// The number of rectangles, two corners of a box, a point and a squared distance, and the counts of the
+/// last four questions where there are few.
 type About = (usize, [i32; 2], [i32; 2], [i32; 2], i32, [usize; 4]);
 
 // The third of three rectangles intersects the first two.
@@ -510,7 +508,7 @@ const ABOUT_RECTANGLES: [About; 17] = [
     (1000, [200, 0], [200, 0], [200, 0], 9, [0; 4]),
 ];
 
-/// Whether counts of five questions are those of the last four, where these are told.
+/// Whether counts are as expected, where they are given.
 fn are_told(counts: Option<[usize; 5]>, count: usize, told: [usize; 4]) -> bool {
     let [inside, touching, at, near] = told;
     match counts {

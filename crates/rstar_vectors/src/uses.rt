@@ -1,4 +1,4 @@
-//! Worked uses: each a struct that hides its tree, with contracts in the words of its user over a plain list.
+//! Worked uses: each is a struct that hides its tree, with contracts over a plain list.
 
 mod dispatch;
 pub mod geofence;

@@ -1,4 +1,4 @@
-//! Visits that write: elements with payloads, each written in its place.
+//! Visits that write payloads.
 
 ghost use Rattle.std.specs.Prelude.{◌≡◌, ◌≤◌, if◌then◌else◌, map};
 ghost use Rattle.rstar.specs.Nodes.{elements_of, IsWhole};
@@ -11,7 +11,7 @@ use rstar::primitives::GeomWithData;
 use rstar::{DefaultParams, Envelope, RTree, RTreeObject, RTreeParams};
 use std::ops::ControlFlow;
 
-/// Gives the number 0 to all elements that an envelope touches, and changes nothing else.
+/// Sets the number of each element that an envelope intersects to 0, and changes nothing else.
 pub fn clear<R: RTreeObject>(tree: &mut RTree<GeomWithData<R, u64>>, area: R::Envelope)
     requires whole { IsWholeTree R.Envelope.boxes ⟦<GeomWithData<R, u64> as RTreeObject>⟧.object
         ⟦<DefaultParams as RTreeParams>⟧.MAX_SIZE tree.old }
@@ -64,7 +64,7 @@ mod tests {
     /// An element with a number.
     type Numbered<R> = GeomWithData<R, u64>;
 
-    /// The sum of the numbers of the elements below a root, held at the greatest `u64`.
+    /// The sum of the numbers of the elements below a root, clamped to the greatest `u64`.
     fn sum<R: RTreeObject>(root: &ParentNode<Numbered<R>>) -> u64 {
         let mut sum = 0u64;
         let _end: ControlFlow<()> = select_nodes(
@@ -78,9 +78,9 @@ mod tests {
         sum
     }
 
-    /// What a visit of all that adds 10 to each number breaks with at its first call, 0 where it does not break, and the
-    /// sums of the numbers after it, after a visit of what an envelope contains, after one of what contains a point, each
-    /// of which adds 1 to a number, and after one of what another envelope intersects, which clears it.
+    /// The break of a visit that adds 10 to each number, 0 where none breaks, and the sums of the numbers
+    /// after each of four visits: that one, two that add 1 inside an envelope and at a point, and one that
+    /// clears what an envelope intersects.
     fn visited<R: PointDistance + Copy>(
         alloc: Global,
         elements: &[Numbered<R>],
@@ -119,8 +119,8 @@ mod tests {
         )
     }
 
-    /// The sums of the numbers of these elements before and after those are cleared, below the root of a load, that an
-    /// envelope touches; none where the load is refused.
+    /// The sums of the numbers of a bulk load before and after a clearing below its root; `None` where the
+    /// load is refused.
     fn cleared_below<R: RTreeObject>(
         elements: Vec<Numbered<R>>,
         area: R::Envelope,
@@ -152,8 +152,8 @@ mod tests {
     /// The corners of a box.
     type Corners = ([i64; 2], [i64; 2]);
 
-    /// Fences; whether a visit breaks; the box of the visits, and the one by which fences are cleared; the least and the
-    /// greatest number that the visit breaks with, and the four sums.
+    /// Fences, whether a visit breaks, the box of the visits, the box of the clearing, the least and the
+    /// greatest break, and the four sums.
     type Row = (
         &'static [Outlined],
         bool,

@@ -1,7 +1,7 @@
-//! A geofence service: fences are added and taken down, and a point is asked for the fences that contain it.
+//! A geofence service: fences are added and removed, and a point is asked for the fences that contain it.
 //!
-//! It is the example of docs/CALLING.md. The tree stands inside a struct that keeps it whole, so that callers know of a list
-//! of fences alone. What is done to the tree is generic: it is proved once for all elements.
+//! The tree stands inside a struct that keeps it whole, so callers know of a list of fences alone. Functions
+//! over the tree are generic: each is proved once for all elements.
 
 ghost use Rattle.std.specs.Prelude.{◌≡◌, ◌∷◌, ◌↔◌, [], true, false, length, map, filter, IsTrue, IfOk, IfErr, OnOk, OnErr};
 ghost use Rattle.std.specs.List.{Contains};
@@ -23,7 +23,7 @@ use rstar::{
 use std::alloc::{AllocError, Global};
 use std::marker::Model;
 
-/// A rectangle with the number of what it fences in.
+/// A rectangle with the number of the fence.
 pub type Fence = GeomWithData<Rectangle<[i64; 2]>, u64>;
 
 /// The fence between two opposite corners, in any order, with a number.
@@ -35,7 +35,7 @@ pub fn fence(number: u64, one: [i64; 2], other: [i64; 2]) -> Fence
     Fence::new(Rectangle::from_corners(one, other), number)
 }
 
-/// Fences, in a tree. Equal ones may be there more than once, and each counts.
+/// Fences, in a tree. Equal ones each count.
 #[derive(Drop)]
 pub struct Fences {
     tree: RTree<Fence>,
@@ -56,7 +56,7 @@ impl Model for Fences {
 }
 
 impl Fences {
-    /// No fence. It takes no memory yet.
+    /// No fence. It takes no memory.
     pub fn new(alloc: Global) -> Fences
         ensures { result ≡ [] }
     {
@@ -65,8 +65,7 @@ impl Fences {
         }
     }
 
-    /// One fence more. It is refused where memory is, or where one more cannot be counted: then it is handed back, and
-    /// the fences are as they were.
+    /// Adds a fence. A refusal hands it back and leaves the fences as they were.
     pub fn add(&mut self, fence: Fence) -> Result<(), InsertError<Fence>>
         requires filled { is_empty_box (box_of fence) ≡ false }
         ensures added { OnOk result (IsPermutation (fence ∷ self.old) self.new) }
@@ -76,7 +75,7 @@ impl Fences {
         self.tree.insert(fence)
     }
 
-    /// Takes a fence down, one of those that are equal, and says whether it was there. It takes no memory.
+    /// Removes one fence that equals this one. Whether there was one. It takes no memory.
     pub fn remove(&mut self, fence: &Fence) -> bool
         ensures there { IsTrue result ↔ Contains self.old fence.now }
         ensures gone { result ≡ true → IsPermutation self.old (fence.now ∷ self.new) }
@@ -85,7 +84,7 @@ impl Fences {
         taken_out(&mut self.tree, fence)
     }
 
-    /// The fences that contain a point, in some order. Borders belong to a fence. It is refused where memory is.
+    /// The fences that contain a point, in some order. Borders belong to a fence. Memory may be refused.
     pub fn at(&self, alloc: Global, point: [i64; 2]) -> Result<Vec<&Fence>, AllocError>
         ensures { IfOk result (λ found. IsPermutation (filter (covers point) self.now)
             (map (λ fence. fence.now) found.items)) }
@@ -93,20 +92,21 @@ impl Fences {
         all_at(alloc, &self.tree, point)
     }
 
-    /// How many fences there are.
+    /// The number of fences.
     pub fn len(&self) -> usize
         ensures { result ≡ length self.now }
     {
         self.tree.size()
     }
 
-    /// How many fences lie in a box, and the sum of their numbers, held at the greatest `u64`. It is refused where memory is.
+    /// The number of fences inside a box, and the sum of their numbers, clamped to the greatest `u64`.
+    /// Memory may be refused.
     pub fn count_and_sum_in(&self, area: AABB<[i64; 2]>) -> Result<(usize, u64), AllocError> {
         count_and_sum(&self.tree, area)
     }
 }
 
-/// Takes one element that equals this one out of a tree, and says whether there was one.
+/// Removes one element that equals this one. Whether there was one.
 fn taken_out<T: EqualEnvelopes>(tree: &mut RTree<T>, element: &T) -> bool
     requires { IsWholeTree T.Envelope.boxes T.object ⟦<DefaultParams as RTreeParams>⟧.MAX_SIZE tree.old }
     ensures taken { result ≡ true → (t : T) × (T.eq t element.now ≡ true)
@@ -138,7 +138,7 @@ fn all_at<'a, T: PointDistance>(
     }
 }
 
-/// How many elements of a tree lie in an envelope, and the sum of their numbers, held at the greatest `u64`.
+/// The number of elements inside an envelope, and the sum of their numbers, clamped to the greatest `u64`.
 fn count_and_sum<R: RTreeObject>(
     tree: &RTree<GeomWithData<R, u64>>,
     envelope: R::Envelope,
@@ -167,11 +167,11 @@ mod tests {
     /// A fence's number and two corners.
     type Row = (u64, [i64; 2], [i64; 2]);
 
-    /// Two corners of a box, the count of the fences in it and the sum of their numbers; a point, how many fences contain it,
-    /// and how many when the first is taken down.
+    /// Two corners of a box, the count of the fences in it and the sum of their numbers; a point, and how
+    /// many fences contain it, before and after the first is removed.
     type Told = ([i64; 2], [i64; 2], (usize, u64), [i64; 2], usize, usize);
 
-    /// Whether fences, added one after another, tell this.
+    /// Whether these fences answer so.
     fn tell(alloc: Global, list: &[Row], told: &Told) -> bool {
         let (one, other, inside, point, before, after) = *told;
         let mut fences = Fences::new(alloc);

@@ -1,8 +1,8 @@
-//! An overlap finder: parts are laid down, and all pairs of them that lie over each other are asked for.
+//! An overlap finder: parts are laid down, and all pairs of parts that overlap are asked for.
 //!
-//! The pairs come of the join of the tree with itself, and not of two trees, since a part may overlap any other. That join
-//! gives each pair in both orders, and each part with itself; of these the finder keeps the pairs whose first part has the
-//! lesser number. So each pair comes once, and pieces of one part, which share its number, are not told of.
+//! The pairs come from the join of the tree with itself, which gives each pair in both orders. The finder
+//! keeps the pairs whose first part has the lesser number. So each pair comes once, and pieces of one part,
+//! which share its number, do not count.
 
 ghost use Rattle.std.specs.Prelude.{◌≡◌, ◌∷◌, ◌&&◌, [], false, map, filter, nat_lt, IfOk, IfErr, OnOk, OnErr};
 ghost use Rattle.std.specs.List.Sorted.{IsPermutation};
@@ -22,7 +22,7 @@ pub type Piece = GeomWithData<Rectangle<[i64; 2]>, u64>;
 /// Two pieces.
 type Pair<'a, T> = (&'a T, &'a T);
 
-/// Pieces of parts, in a tree. Equal ones may be there more than once, and each counts.
+/// Pieces of parts, in a tree. Equal ones each count.
 #[derive(Drop)]
 pub struct Layout {
     tree: RTree<Piece>,
@@ -43,7 +43,7 @@ impl Model for Layout {
 }
 
 impl Layout {
-    /// No piece. It takes no memory yet.
+    /// No piece. It takes no memory.
     pub fn new(alloc: Global) -> Layout
         ensures { result ≡ [] }
     {
@@ -52,8 +52,7 @@ impl Layout {
         }
     }
 
-    /// One piece more. It is refused where memory is, or where one more cannot be counted: then it is handed back, and
-    /// the layout is as it was.
+    /// Adds a piece. A refusal hands it back and leaves the layout as it was.
     pub fn lay(&mut self, piece: Piece) -> Result<(), InsertError<Piece>>
         requires filled { is_empty_box (box_of piece) ≡ false }
         ensures laid { OnOk result (IsPermutation (piece ∷ self.old) self.new) }
@@ -63,8 +62,8 @@ impl Layout {
         self.tree.insert(piece)
     }
 
-    /// The pairs of pieces of two parts that lie over each other, each pair once, the lesser number first, in some order.
-    /// Touching is enough. It is refused where memory is.
+    /// The pairs of pieces of two parts that overlap, each pair once, the lesser number first, in some
+    /// order. Touching is enough. Memory may be refused.
     pub fn overlaps(&self, alloc: Global) -> Result<Vec<(&Piece, &Piece)>, AllocError>
         ensures { IfOk result (λ pairs. IsPermutation (map (λ pair. (pair.0.now, pair.1.now)) pairs.items)
             (overlaps self.now)) }
@@ -73,7 +72,7 @@ impl Layout {
     }
 }
 
-/// The pairs of elements of a tree that meet, the first of which has the lesser number.
+/// The pairs of elements of a tree that intersect, the lesser number first.
 fn met_in_order<R: RTreeObject>(
     alloc: Global,
     tree: &RTree<GeomWithData<R, u64>>,
@@ -112,7 +111,7 @@ mod tests {
         }
     }
 
-    /// Whether pieces, laid one after another, overlap so.
+    /// Whether these pieces overlap so.
     fn overlap(alloc: Global, list: &[Row], numbers: &[(u64, u64)]) -> bool {
         let mut layout = Layout::new(alloc);
         let mut is_so = true;

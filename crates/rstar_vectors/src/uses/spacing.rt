@@ -1,4 +1,4 @@
-//! A layout checker: the parts on a board that stand too near a rectangle.
+//! A layout checker: the parts on a board that are too near a rectangle.
 
 ghost use Rattle.std.specs.Prelude.{◌≡◌, ◌∷◌, ◌+ℤ◌, ◌-ℤ◌, [], false, filter, map, pos, int_lt, IfOk, OnOk, OnErr};
 ghost use Rattle.std.specs.Int.{int_min, int_max};
@@ -11,12 +11,10 @@ use rstar::{AABB, DefaultParams, Envelope, InsertError, RTree, RTreeObject, RTre
 use std::alloc::{AllocError, Global};
 use std::marker::Model;
 
-/// The rectangle that a part takes, and the part's number.
+/// The rectangle of a part, and its number.
 pub type Part = GeomWithData<Rectangle<[i64; 2]>, u64>;
 
-/// The parts on a board, in a tree.
-///
-/// Their coordinates are `i32`, so that none is cut off where room is added to them.
+/// The parts on a board, in a tree. Their coordinates are `i32`, so that added room never overflows.
 #[derive(Drop)]
 pub struct Board {
     parts: RTree<Part>,
@@ -45,7 +43,7 @@ impl Board {
         }
     }
 
-    /// One part more, between two corners. Parts may lie upon each other. A refusal leaves all as it was, and tells why.
+    /// Adds a part between two corners. Parts may overlap. A refusal leaves the board as it was.
     pub fn add(
         &mut self,
         number: u64,
@@ -58,8 +56,8 @@ impl Board {
         self.parts.insert(part(number, one, other))
     }
 
-    /// The parts that stand too near the rectangle between two corners: on no axis farther from it than `room`. It is
-    /// refused where the allocator refuses the list, and looks at no part that lies under a parent that is farther.
+    /// The parts too near the rectangle between two corners: on no axis farther from it than `room`. Memory
+    /// may be refused.
     pub fn too_near(
         &self,
         alloc: Global,
@@ -89,7 +87,7 @@ fn part(number: u64, one: (i32, i32), other: (i32, i32)) -> Part
     Part::new(Rectangle::from_corners(from, to), number)
 }
 
-/// The least and the greatest of two numbers, with so much room below and above.
+/// The lesser and the greater of two numbers, with this much room below and above.
 fn stretched(one: i32, other: i32, room: u32) -> (i64, i64)
     ensures least { result.0 ≡ int_min one other -ℤ pos room }
     ensures greatest { result.1 ≡ int_max one other +ℤ pos room }
@@ -103,7 +101,7 @@ fn stretched(one: i32, other: i32, room: u32) -> (i64, i64)
     }
 }
 
-/// The box between two corners, with so much room around it on every side.
+/// The box between two corners, with this much room around it.
 fn around(one: (i32, i32), other: (i32, i32), room: u32) -> AABB<[i64; 2]>
     ensures { result ≡ with_room room (box_between one other) }
 {
@@ -122,7 +120,7 @@ mod tests {
     /// The corners of a rectangle, a limit, and the numbers of the parts that are not farther.
     type Question = ((i32, i32), (i32, i32), u32, &'static [u64]);
 
-    /// Whether parts with just these numbers were found, in this order.
+    /// Whether parts with these numbers are found, in this order.
     fn are_found(found: Result<Vec<&Part>, AllocError>, numbers: &[u64]) -> bool {
         match &found {
             Ok(parts) => {
@@ -140,7 +138,7 @@ mod tests {
         }
     }
 
-    /// Whether of parts that are added one after another those with these numbers stand too near rectangles.
+    /// Whether the parts with these numbers are too near these rectangles.
     fn stand_too_near(alloc: Global, parts: &[Row], questions: &[Question]) -> bool {
         let mut board = Board::new(alloc);
         let mut is_so = true;
