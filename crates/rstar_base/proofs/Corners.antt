@@ -1,17 +1,11 @@
 -- Boxes between corners, axis by axis.
-use Rattle.std.proofs.Common.{◌≡◌, ◌<◌, ℕ, ℤ, zero, suc, Bool, true, List, ◌∷◌, refl, ap, arith, IsTrue}
+use Rattle.std.proofs.Common.{◌≡◌, ◌<◌, ℕ, ℤ, zero, suc, true, List, ◌∷◌, refl, ap, IsTrue}
 use Rattle.std.specs.Prelude.{int_le}
 use Rattle.std.specs.Int.{int_min, int_max}
-use Rattle.rstar_base.specs.Points.{table, all_below}
-use Rattle.rstar_base.specs.laws.PointLemmas.{and_parts}
+use Rattle.rstar_base.specs.Points.{table}
 use Rattle.rstar_base.specs.Boxes.{between_corners, box_of_corners}
 use Rattle.rstar_base.specs.laws.BoxLaws.{corners-same}
 use Rattle.rstar_base.specs.Distances.{nearest_on_axis, nearest_point}
-
-pub all_below-each : (n : ℕ) (t : ℕ → Bool) (k : ℕ) → k < n → IsTrue (all_below n t) → IsTrue (t k)
-all_below-each zero t k l h = absurd (omega arith)
-all_below-each (suc n) t zero l h = (and_parts (t zero) (all_below n (λ i. t (suc i))) h).0
-all_below-each (suc n) t (suc k) l h = all_below-each n (λ i. t (suc i)) k (omega arith) (and_parts (t zero) (all_below n (λ i. t (suc i))) h).1
 
 pub le_along : (a b x y : ℤ) → a ≡ x → b ≡ y → IsTrue (int_le x y) → int_le a b ≡ true
 le_along a b x y h k l = rw (h, k) l

@@ -6,7 +6,7 @@ use Rattle.std.proofs.lemmas.Int.{ints}
 use Rattle.std.proofs.lemmas.Bool.Decides.{nat_tests}
 use Rattle.num_traits.specs.Laws.{between, Checks}
 use Rattle.rstar_base.specs.Scalars.{InRange}
-use Rattle.rstar_base.specs.Points.{all_below, table, IsPoint}
+use Rattle.rstar_base.specs.Points.{table, IsPoint}
 use Rattle.rstar_base.specs.laws.PointLemmas.{and_parts, and_both, and_left, and_right, table-get, all_below-same}
 use Rattle.rstar_base.specs.Boxes.{in_range, box_of_corners, IsBox}
 use Rattle.rstar_base.specs.laws.BoxLaws.{corners-same, corners-box}
@@ -60,11 +60,6 @@ not_right a b h = sym (and_right a b (sym h))
 
 pub exact : (low high z : ℤ) → in_range low high z ≡ true → between z low high ≡ z
 exact low high z h = let p = fits_within low high z h in let a = p.0 in let b = p.1 in grind (arith, ints)
-
-pub all_below-at : (n : ℕ) (t : ℕ → Bool) → all_below n t ≡ true → (k : ℕ) → k < n → t k ≡ true
-all_below-at zero t h k l = absurd (omega arith)
-all_below-at (suc n) t h zero l = (and_parts _ _ h).0
-all_below-at (suc n) t h (suc k) l = all_below-at n (λ i. t (suc i)) (and_parts _ _ h).1 k (omega arith)
 
 pub sum_below-same : (n : ℕ) (f g : ℕ → ℕ) → AreSame n f g → sum_below n f ≡ sum_below n g
 sum_below-same zero f g h = refl

@@ -84,6 +84,12 @@ pub and_both : (a b : Bool) → IsTrue a → IsTrue b → IsTrue (a && b)
 and_both true b h k = k
 and_both false b h k = cc
 
+pub all_below-each : (n : ℕ) (t : ℕ → Bool) (k : ℕ) → k < n → IsTrue (all_below n t) → IsTrue (t k)
+all_below-each zero t k l h = absurd (omega arith)
+all_below-each (suc n) t zero l h = (and_parts (t zero) (all_below n (λ i. t (suc i))) h).0
+all_below-each (suc n) t (suc k) l h =
+    all_below-each n (λ i. t (suc i)) k (omega arith) (and_parts (t zero) (all_below n (λ i. t (suc i))) h).1
+
 -- where t holds of each number below n, and where it fails at one
 pub all_below-true : (n : ℕ) (t : ℕ → Bool) → ((k : ℕ) → k < n → true ≡ t k) → true ≡ all_below n t
 all_below-true zero t h = refl

@@ -3,8 +3,8 @@ use Rattle.std.specs.Prelude.{◌≡◌, ◌<◌, ◌<ℤ◌, ◌≤ℤ◌, ◌&
 use Rattle.std.specs.Int.{int_min, int_max}
 use Rattle.std.proofs.Common.{refl, ap, arith, sym, ◌∙◌}
 use Rattle.std.proofs.lemmas.Int.{ints}
-use Rattle.rstar_base.specs.Points.{IsPoint, table, all_below}
-use Rattle.rstar_base.specs.laws.PointLemmas.{and_parts, and_both, all_below-true, table-get}
+use Rattle.rstar_base.specs.Points.{IsPoint, table}
+use Rattle.rstar_base.specs.laws.PointLemmas.{and_parts, and_both, all_below-each, all_below-true, table-get}
 use Rattle.rstar_base.specs.Boxes.{between_corners, box_of_corners, is_upright, is_empty_box, empty_box, IsBox}
 use Rattle.rstar_base.specs.laws.BoxLaws.{corners-empty, corners-same, corners-upright, min_max, differ}
 use Rattle.rstar_base.specs.BoxData.{box_data}
@@ -58,12 +58,6 @@ branch_key false a b i d z h k = k refl
 
 no_higher : (high z : ℤ) → z ≤ℤ high → IsTrue (int_le high z) → high ≡ z
 no_higher high z h k = grind (arith, ints)
-
-all_below-each : (n : ℕ) (t : ℕ → Bool) (k : ℕ) → k < n → IsTrue (all_below n t) → IsTrue (t k)
-all_below-each zero t k l h = absurd (omega arith)
-all_below-each (suc n) t zero l h = (and_parts (t zero) (all_below n (λ i. t (suc i))) h).0
-all_below-each (suc n) t (suc k) l h =
-    all_below-each n (λ i. t (suc i)) k (omega arith) (and_parts (t zero) (all_below n (λ i. t (suc i))) h).1
 
 not_between : (low high a b : ℤ) → low <ℤ pos 0 → pos 0 <ℤ high → IsTrue (int_le high a) → IsTrue (int_le b low)
     → IsTrue (int_le a b) → ⊥

@@ -1,11 +1,11 @@
 use Rattle.std.proofs.Common.{ℕ, ◌+ℤ◌, ◌*ℤ◌}
 use Rattle.std.specs.Prelude.{int_div}
 use Rattle.num_traits.specs.Laws.{between}
-use Rattle.rstar_base.proofs.SegmentLemmas.{all_below-at}
+use Rattle.rstar_base.specs.laws.PointLemmas.{all_below-each}
 use Rattle.rstar_base.proofs.segments.stepped.Goals as goal
 
 pub generated-requires : goal.generated-requires
-generated-requires g c = λ i l. (l, (c.requires.after, (c.requires.before, all_below-at g.P.Point.DIMENSIONS _ c.requires.fits i l)))
+generated-requires g c = λ i l. (l, (c.requires.after, (c.requires.before, all_below-each g.P.Point.DIMENSIONS _ i l c.requires.fits)))
 
 pub returns : goal.returns
 returns g c =

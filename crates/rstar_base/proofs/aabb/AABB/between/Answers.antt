@@ -2,7 +2,8 @@ use Rattle.std.specs.Prelude.{int_le}
 use Rattle.std.proofs.Common.{sym, ◌∙◌}
 use Rattle.rstar_base.specs.laws.BoxLaws.{corners-same, corners-box}
 use Rattle.rstar_base.specs.laws.RectangleLaws.{box_or_empty-upright}
-use Rattle.rstar_base.proofs.Corners.{all_below-each, le_along}
+use Rattle.rstar_base.specs.laws.PointLemmas.{all_below-each}
+use Rattle.rstar_base.proofs.Corners.{le_along}
 use Rattle.rstar_base.proofs.aabb.AABB.between.Goals as goal
 
 pub invariant_of-result : goal.invariant_of-result

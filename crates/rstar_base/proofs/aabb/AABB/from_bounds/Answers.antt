@@ -1,6 +1,7 @@
 use Rattle.std.specs.Prelude.{int_le}
 use Rattle.rstar_base.specs.laws.BoxLaws.{corners-same, corners-box}
-use Rattle.rstar_base.proofs.Corners.{all_below-each, le_along}
+use Rattle.rstar_base.specs.laws.PointLemmas.{all_below-each}
+use Rattle.rstar_base.proofs.Corners.{le_along}
 use Rattle.rstar_base.proofs.aabb.AABB.from_bounds.Goals as goal
 
 pub invariant_of-result : goal.invariant_of-result
