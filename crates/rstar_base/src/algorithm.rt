@@ -1,3 +1,4 @@
 //! The parts of a traversal.
 
+pub mod envelope_selection;
 pub mod selection_functions;
