@@ -1,6 +1,6 @@
 -- The distance of boxes keeps the laws.
-use Rattle.std.specs.Prelude.{◌≡◌, ◌≢◌, ◌↔◌, ◌&&◌, ◌==◌, ◌+◌, ◌*◌, ◌≤◌, ◌≤ℤ◌, ◌<ℤ◌, ℕ, ℤ, Bool, true, false, min, max, zero, suc, List, [], ◌∷◌, length, pos, int_le, unsigned_abs}
-use Rattle.std.proofs.Common.{refl, ap, sym, ◌∙◌, arith}
+use Rattle.std.specs.Prelude.{◌≡◌, ◌≢◌, ◌&&◌, ◌==◌, ◌+◌, ◌*◌, ◌≤◌, ◌≤ℤ◌, ◌<ℤ◌, ℕ, ℤ, true, false, min, max, zero, suc, List, [], ◌∷◌, length, pos, int_le, unsigned_abs}
+use Rattle.std.proofs.Common.{refl, ap, ◌∙◌, arith}
 use Rattle.std.proofs.lemmas.Int.{ints}
 use Rattle.rstar_base.specs.Measures.{extent}
 use Rattle.rstar_base.specs.Boxes.{merge_boxes, contains_box, boxes_intersect}
