@@ -10,6 +10,7 @@ pub mod Elements
 pub mod Counts
 pub mod Sums
 pub mod BoxData
+pub mod Gaps
 pub mod PointElements
 pub mod NodeSizes
 pub mod BoxElements

@@ -6,6 +6,7 @@ pub mod BoxEq
 pub mod Leasts
 pub mod DistanceLaws
 pub mod BoxEnvelopes
+pub mod GapBoxes
 pub mod CountedLaws
 pub mod CarrierLaws
 pub mod BoxElementLaws

@@ -14,6 +14,8 @@ ghost use Rattle.rstar_base.specs.Points.{table, all_below, IsPoint};
 ghost use Rattle.rstar_base.specs.Rectangles.{box_or_empty};
 ghost use Rattle.rstar_base.specs.Scalars.{InRange};
 
+mod gaps;
+
 use crate::axes::{
     clamped_product, clamped_sum, copied_point, every_axis, filled, generated, greatest_point,
     least_point,

@@ -7,6 +7,8 @@ ghost use Rattle.rstar_base.specs.BoxData.{box_data};
 ghost use Rattle.rstar_base.specs.Envelopes.{Boxes, EnvelopeLaws};
 ghost use Rattle.rstar_base.specs.Counts.{counted_boxes};
 
+mod gaps;
+
 use crate::aabb::AABB;
 use crate::point::Point;
 use std::alloc::AllocError;

@@ -6,6 +6,7 @@ pub mod algorithm;
 mod axes;
 pub mod clusters;
 pub mod envelope;
+pub mod gaps;
 pub mod heap;
 pub mod mint;
 pub mod object;

@@ -187,7 +187,7 @@ fn pairs_that_intersect(rt: HostRuntime) {
 }
 
 /// What a scan asks of two elements: whether their envelopes meet.
-trait Touching {
+pub(crate) trait Touching {
     /// Whether its envelope meets another's.
     fn touches(&self, other: &Self) -> bool;
 }
@@ -297,7 +297,12 @@ fn a_deep_tree_meets_itself(rt: HostRuntime) {
 }
 
 /// So many rectangles, spread by two factors.
-fn spread(alloc: Global, count: u64, across: u64, along: u64) -> Vec<Rectangle<[i64; 2]>> {
+pub(crate) fn spread(
+    alloc: Global,
+    count: u64,
+    across: u64,
+    along: u64,
+) -> Vec<Rectangle<[i64; 2]>> {
     let mut all = Vec::new(alloc);
     for number in 0..count {
         let x = (number.wrapping_mul(across) % 101) as i64;

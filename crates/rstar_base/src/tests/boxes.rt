@@ -2,6 +2,7 @@
 
 use crate::aabb::{AABB, upright};
 use crate::envelope::{Counted, Envelope};
+use crate::gaps::EnvelopeDistance;
 use crate::object::PointDistance;
 use crate::point::{Point, RTreeNum};
 use num_traits::Zero;
@@ -342,4 +343,34 @@ fn a_min_max_distance_is_that_of_a_corner(rt: HostRuntime) {
     let boxed = AABB::from_corners([7018, 2121, 8120], [7297, 2302, 8194]);
     let corner = [7018, 2302, 8120].distance_2(&place);
     assert!(rt; boxed.min_max_dist_2(&place) == 18005 && corner == 18005);
+}
+
+/// Whether two envelopes lie so far apart from either side, squared: 0 exactly where they intersect.
+fn lie_apart<E: EnvelopeDistance>(one: &E, other: &E, apart: ScalarOf<E>) -> bool {
+    one.distance_2_to_envelope(other) == apart
+        && other.distance_2_to_envelope(one) == apart
+        && one.intersects(other) == apart.is_zero()
+}
+
+// Two boxes by their corners, and their squared distance, held at the greatest scalar.
+#[test]
+fn boxes_lie_apart(rt: HostRuntime) {
+    type Row = ([i8; 2], [i8; 2], [i8; 2], [i8; 2], i8);
+    const ROWS: [Row; 7] = [
+        ([0, 0], [2, 2], [2, 2], [3, 3], 0),
+        ([0, 0], [2, 2], [1, -4], [1, 4], 0),
+        ([0, 0], [2, 2], [3, 3], [4, 4], 2),
+        ([0, 0], [2, 2], [0, 7], [9, 9], 25),
+        ([0, 0], [2, 2], [-9, -7], [-8, -6], 100),
+        ([0, 0], [2, 2], [13, 1], [14, 1], 121),
+        ([-128, 0], [-128, 0], [127, 0], [127, 0], 127),
+    ];
+    for &(a, b, c, d, apart) in &ROWS {
+        let one = AABB::from_corners(a, b);
+        let other = AABB::from_corners(c, d);
+        assert!(rt;
+            lie_apart(&one, &other, apart)
+                && lie_apart(&Counted::new(one), &Counted::new(other), apart)
+        );
+    }
 }
