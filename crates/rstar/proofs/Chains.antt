@@ -7,7 +7,11 @@ use Rattle.std.proofs.lemmas.Iterator.Consumers.{YieldsList-from_shown, YieldsLi
 use Rattle.rstar.specs.declared.iterators.selection.SelectionIterator.{SelectionIterator}
 use Rattle.rstar.specs.declared.node.ParentNode.{ParentNode}
 use Rattle.rstar.specs.declared.iterators.joins.IntersectionIterator.{IntersectionIterator}
+use Rattle.rstar_base.specs.Envelopes.{Boxes}
+use Rattle.rstar_base.specs.Elements.{Objects}
+use Rattle.rstar.specs.declared.iterators.joins.selves.SelfIntersectionIterator.{SelfIntersectionIterator}
 use Rattle.rstar.specs.Joins.{pairs_to_come, GivesPair}
+use Rattle.rstar.specs.SelfJoins.{own_to_come, GivesOwnPair}
 use Rattle.rstar.specs.Selections.{to_come, IsMade, GivesNext}
 
 pub selection_list : {T F E : Type 0} {accepts : F → E → Bool} {selects : F → T → Bool} {it : SelectionIterator T F E} (xs : List T)
@@ -38,3 +42,15 @@ pub pairs_end : {T E U F : Type 0} {meets : E → F → Bool} {left_box : T → 
     → pairs_to_come meets left_box right_box it ≡ xs → (ys : List (Bor T × Bor U)) (t : IntersectionIterator T U E F) → Yields (GivesPair meets left_box right_box) it ys t
     → (u : IntersectionIterator T U E F) → GivesPair meets left_box right_box t None u → map (λ (p : Bor T × Bor U). (p.0.now, p.1.now)) ys ≡ xs
 pairs_end it xs e ys t y u last = (YieldsList-end (pairs_list {it = it} xs e) ys t y None u refl last).0
+
+-- and of a join of a tree with itself
+pub own_list : {T E : Type 0} {v : Boxes E} {o : Objects T E} {meets : E → E → Bool} {it : SelfIntersectionIterator T E} (xs : List (T × T))
+    → own_to_come meets o.box_of it ≡ xs → YieldsList (GivesOwnPair v o meets) (λ (p : Bor T × Bor T). (p.0.now, p.1.now)) it xs
+own_list {T} {E} {v} {o} {meets} {it} xs e =
+    subst (YieldsList (GivesOwnPair v o meets) (λ (p : Bor T × Bor T). (p.0.now, p.1.now)) it) e
+    (YieldsList-from_shown (GivesOwnPair v o meets) (λ (p : Bor T × Bor T). (p.0.now, p.1.now)) (own_to_come meets o.box_of) (λ s t h. ap length h.gives.0) (λ s x t h. h.gives) it)
+
+pub own_end : {T E : Type 0} {v : Boxes E} {o : Objects T E} {meets : E → E → Bool} (it : SelfIntersectionIterator T E) (xs : List (T × T))
+    → own_to_come meets o.box_of it ≡ xs → (ys : List (Bor T × Bor T)) (t : SelfIntersectionIterator T E) → Yields (GivesOwnPair v o meets) it ys t
+    → (u : SelfIntersectionIterator T E) → GivesOwnPair v o meets t None u → map (λ (p : Bor T × Bor T). (p.0.now, p.1.now)) ys ≡ xs
+own_end it xs e ys t y u last = (YieldsList-end (own_list {it = it} xs e) ys t y None u refl last).0

@@ -1,7 +1,7 @@
 -- What the walk of a join gives of whole nodes, and what it opens: the join of their elements, reordered, and all that Meet counts.
 use Rattle.std.proofs.Common.{◌≡◌, ◌≢◌, ℕ, ℤ, zero, suc, ◌+◌, ◌≤◌, min, List, [], ◌∷◌, ◌++◌, map, refl, ap, ◌∙◌, sym, subst, arith, Bool, true, false, append-nil, if◌then◌else◌, flat_map, sum_by, take, drop, inl, inr, ◌⊎◌, max}
 use Rattle.std.specs.List.{AllByRecursion}
-use Rattle.std.specs.Prelude.{⊤}
+use Rattle.std.specs.Prelude.{⊤, Option, Some, None}
 use Rattle.std.specs.Borrow.{Bor}
 use Rattle.std.specs.List.Sorted.{IsPermutation}
 use Rattle.std.proofs.lemmas.Bool.{true≢false}
@@ -16,21 +16,20 @@ use Rattle.rstar.specs.declared.node.RTreeNode.{RTreeNode, Leaf, Parent}
 use Rattle.rstar.specs.declared.node.ParentNode.{ParentNode}
 use Rattle.rstar.specs.declared.iterators.joins.IntersectionIterator.{IntersectionIterator}
 use Rattle.rstar.specs.Heights.{levels_below}
-use Rattle.rstar_base.specs.Counts.{usize_max}
 use Rattle.rstar.specs.Walks.{IsLevel}
 use Rattle.rstar.specs.Nodes.{elements, all_elements, elements_of, envelope_of, children_of, node_box, is_leaf_node, total, IsTree, IsElement, IsInner, AreWhole, IsWhole}
 use Rattle.rstar.specs.Lists.{product}
 use Rattle.rstar.specs.Meets.{opened_to, both_leaves, count_parents, meet, meet_of_roots, meet_of_shown, pairs_at, opens_at, all_pairs, all_opens, pairs_from_roots}
 use Rattle.rstar.specs.Shown.{parent, row_of, shown}
-use Rattle.rstar.specs.JoinWalks.{frame_of, marked_items, rows_beside, Frame, IsMetPair, IsFrame, AreFrames, met_of, unasked_of, in_hand, frames_of, pairs_below, opens_below, pairs_from_frames, opens_from_frames, HasItsPaths}
-use Rattle.rstar.specs.Joins.{SeenLaws, meets_by, join}
+use Rattle.rstar.specs.JoinWalks.{AreJoinable, CountsPairs, IsNextPair}
+use Rattle.rstar.specs.Joins.{SeenLaws, meets_by, join, left_root, right_root, meet_by, pairs_to_come, IsJoining, GivesPair}
 use Rattle.rstar.proofs.Rows.{is_leaf, is_parent, elements-Leaf, elements-Parent, node_box-Leaf, node_box-Parent, total-map}
 use Rattle.rstar.proofs.Heights.{levels_are}
 use Rattle.rstar.proofs.Walks.{tree-weaker}
+use Rattle.rstar.proofs.Nearness.{box-value}
 use Rattle.rstar.proofs.Trees.{sound, all_sound, values-of, box_is_hull, merged_is_hull}
 use Rattle.rstar.proofs.PairRows.{the_pair, sum_by-same, product-none, node-cases, leaf-found, opened, opened_to-Leaf, opened_to-Parent, sum_by-row, meet-Leaf, meet-Parent, meet-roots, count_parents-Leaf, count_parents-Parent, is_leaf-Leaf, pairs-leaves, opens-leaves}
-use Rattle.rstar.proofs.PairWalks.{one-frame, fresh}
-use Rattle.rstar.proofs.Marked.{marked-zero}
+use Rattle.rstar.proofs.PairWalks.{idle-pairs, idle-count, at_most}
 use Rattle.rstar.proofs.Meets.{IsJoined, all-joined, join-none, hull-meets-left, hull-meets-right}
 
 -- what comes after a node holds the same elements, and lies one level lower, but for a leaf
@@ -114,11 +113,6 @@ leaves-test T E U F l r apart t u is is' =
     true≢false (sym (ap (λ x. both_leaves x r) is ∙ ap (λ c. if c then is_leaf_node r else false) (is_leaf-Leaf T E t) ∙ ap is_leaf_node is' ∙ is_leaf-Leaf U F u) ∙ apart)
 
 -- ---- whole nodes
-
-module _ {T E : Type 0} {IsPoint : List ℤ → Type 0} {v : Boxes E} {o : Objects T E} (laws : EnvelopeLaws IsPoint v) (ok : ObjectLaws v o) where
-  -- the envelope of a whole node is a value
-  box-value : (h : ℕ) (n : RTreeNode T E) → IsTree (IsInner v o) (IsElement v o) h n → v.IsValue (node_box o.box_of n)
-  box-value h n hn = subst v.IsValue (sym (box_is_hull laws ok h n hn)) (hull-value laws o.box_of (elements n) (values-of laws ok (elements n) (sound v o h n hn)))
 
 module _ {T E U F : Type 0} {IsPoint IsPoint' : List ℤ → Type 0} {v : Boxes E} {w : Boxes F} {o : Objects T E} {o' : Objects U F} {seen : F → E}
     (laws : EnvelopeLaws IsPoint v) (laws' : EnvelopeLaws IsPoint' w) (same : SeenLaws w v seen) (ok : ObjectLaws v o) (ok' : ObjectLaws w o') where
@@ -302,68 +296,49 @@ module _ {T E U F : Type 0} (meets : E → F → Bool) (left_box : T → E) (rig
 
 -- ---- the start of a walk
 
-module _ {T E U F : Type 0} (meets : E → F → Bool) (left_box : T → E) (right_box : U → F) (it : IntersectionIterator T U E F)
-    (none : it.path.items ≡ []) where
-  alone : frames_of it ≡ in_hand it ∷ []
-  alone = ap (λ l. l ++ in_hand it ∷ []) none
+pub whole-levels : {T E : Type 0} (v : Boxes E) (o : Objects T E) (h : ℕ) (ns : List (RTreeNode T E)) → AreWhole v o h ns → AreWhole v o (levels_below ns) ns
+whole-levels v o h [] whole = tt
+whole-levels v o h (n ∷ ns) whole =
+    let some : (n ∷ ns) ≢ [] = λ e. cc in
+    subst (λ k. AreWhole v o k (n ∷ ns)) (sym (levels_are (IsInner v o) (IsElement v o) (λ p q. q.1) h (n ∷ ns) some whole)) whole
 
-  pub starts : IsFrame meets left_box right_box it.path.capacity (in_hand it) → it.marks ≡ 0 → it.later.now ≡ it.rights.now
-      → (count : ℕ) → it.opened ≡ min count usize_max → count + all_opens meets left_box right_box it.lefts.now it.rights.now ≡ meet_of_roots meets left_box right_box it.left.now it.right.now
-      → HasItsPaths meets left_box right_box it
-  starts at unmarked untouched count counted all = record {
-    frames = subst (AreFrames meets left_box right_box (it.path.capacity + 1)) (sym alone) (one-frame meets left_box right_box (it.path.capacity + 1) it.path.capacity (in_hand it) refl at);
-    count = record {
-      count = count;
-      counted = counted;
-      all =
-          let e = ap (opens_from_frames meets left_box right_box) alone in
-          let k = rows_beside it.rights.now in
-          let f : opens_below meets left_box right_box (met_of (in_hand it) ++ unasked_of (in_hand it)) ≡ all_opens meets left_box right_box it.lefts.now it.rights.now =
-          (λ i. opens_below meets left_box right_box (marked_items (unmarked i) (product (take k it.lefts.now) it.asked.now) ++ (product (take k it.lefts.now) (untouched i) ++ product (drop k it.lefts.now) it.rights.now)))
-          ∙ ap (opens_below meets left_box right_box) (fresh meets left_box right_box it.lefts it.asked it.rights) in
-          omega (arith, e, f, all);
-    };
-  }
+all-level : {T E : Type 0} (v : Boxes E) (o : Objects T E) (h : ℕ) (ns : List (RTreeNode T E)) → AreWhole v o h ns → AllByRecursion (IsLevel h) ns
+all-level v o h ns whole = all_map _ (IsLevel h) (tree-weaker (IsInner v o) (λ p. children_of p ≢ []) (IsElement v o) (λ t. ⊤) (λ p q. q.1) (λ t q. tt) h) ns whole
 
-module _ {T E U F : Type 0} (meets : E → F → Bool) (left_box : T → E) (right_box : U → F) (ls : Bor (List (RTreeNode T E))) (asked rs : Bor (List (RTreeNode U F))) where
-  -- a frame with no nodes on the left gives nothing, and another one all pairs
-  pub starts-none : (frames : List (Frame T E U F)) → frames ≡ [] → ls.now ≡ [] → pairs_from_frames meets left_box right_box (frames ++ (frame_of ls asked 0 rs rs) ∷ []) ≡ []
-  starts-none frames none empty =
-      ap (λ fs. pairs_from_frames meets left_box right_box (fs ++ (frame_of ls asked 0 rs rs) ∷ [])) none
-      ∙ ap (pairs_below meets left_box right_box) (fresh meets left_box right_box ls asked rs) ∙ ap (λ l. pairs_below meets left_box right_box (product l rs.now)) empty
+pub joinable : {T E U F : Type 0} (v : Boxes E) (w : Boxes F) (o : Objects T E) (o' : Objects U F) (room h k : ℕ) (ls : List (RTreeNode T E)) (rs : List (RTreeNode U F))
+    → AreWhole v o h ls → AreWhole w o' k rs → max h k ≤ room → AreJoinable room ls rs
+joinable v w o o' room h k ls rs hl hr fits = record {
+  left_height = h;
+  right_height = k;
+  left = all-level v o h ls hl;
+  right = all-level w o' k rs hr;
+  fits = fits;
+}
 
-  pub starts-all : (frames : List (Frame T E U F)) → frames ≡ [] → pairs_from_frames meets left_box right_box (frames ++ (frame_of ls asked 0 rs rs) ∷ []) ≡ all_pairs meets left_box right_box ls.now rs.now
-  starts-all frames none =
-      ap (λ fs. pairs_from_frames meets left_box right_box (fs ++ (frame_of ls asked 0 rs rs) ∷ [])) none
-      ∙ ap (pairs_below meets left_box right_box) (fresh meets left_box right_box ls asked rs)
-
-  -- the first frame: slices with no nodes, and the nodes below two whole roots
-  pub fits-none : (room : ℕ) → ls.now ≡ [] → rs.now ≡ [] → IsFrame meets left_box right_box room (frame_of ls asked 0 rs rs)
-  fits-none room none none' = record {
-    left_height = 0;
-    right_height = 0;
-    lefts = subst (AllByRecursion (IsLevel 0)) (sym none) tt;
-    met = subst (AllByRecursion (IsMetPair meets left_box right_box 0 0)) (sym (marked-zero (product (take (rows_beside rs.now) ls.now) asked.now))) tt;
-    later = subst (AllByRecursion (IsLevel 0)) (sym none') tt;
-    rights = subst (AllByRecursion (IsLevel 0)) (sym none') tt;
-    no_more = omega arith;
-    fits = omega arith;
-  }
-
-pub fits-whole : {T E U F : Type 0} (v : Boxes E) (w : Boxes F) (o : Objects T E) (o' : Objects U F) (meets : E → F → Bool) (ls : Bor (List (RTreeNode T E))) (asked rs : Bor (List (RTreeNode U F)))
-    (as' : List (RTreeNode T E)) (bs : List (RTreeNode U F)) (room h k : ℕ) → ls.now ≡ as' → rs.now ≡ bs → as' ≢ [] → bs ≢ [] → AreWhole v o h as' → AreWhole w o' k bs
-    → max (levels_below as') (levels_below bs) ≤ room → IsFrame meets o.box_of o'.box_of room (frame_of ls asked 0 rs rs)
-fits-whole v w o o' meets ls asked rs as' bs room h k is is' some some' hl hr fits =
-    let a = levels_are (IsInner v o) (IsElement v o) (λ p q. q.1) h as' some hl in
-    let b = levels_are (IsInner w o') (IsElement w o') (λ p q. q.1) k bs some' hr in
-    let rights = subst (AllByRecursion (IsLevel k)) (sym is') (all_map _ (IsLevel k) (tree-weaker (IsInner w o') (λ p. children_of p ≢ []) (IsElement w o') (λ t. ⊤) (λ p q. q.1) (λ t q. tt) k) bs hr) in
+-- a call of the walk is one of the join
+pub next-gives : {T E U F : Type 0} (meets : E → F → Bool) (left_box : T → E) (right_box : U → F) (old new : IntersectionIterator T U E F) (r : Option (Bor T × Bor U))
+    → left_root new ≡ left_root old → right_root new ≡ right_root old → IsJoining meets left_box right_box old → IsNextPair meets left_box right_box old.walk r new.walk
+    → GivesPair meets left_box right_box old r new
+unfolding IsJoining pairs_to_come
+next-gives meets left_box right_box old new None left right joining next =
+    let all = meet_by meets left_box right_box old in
+    let count = next.on.count all joining.count in
     record {
-      left_height = h;
-      right_height = k;
-      lefts = subst (AllByRecursion (IsLevel h)) (sym is) (all_map _ (IsLevel h) (tree-weaker (IsInner v o) (λ p. children_of p ≢ []) (IsElement v o) (λ t. ⊤) (λ p q. q.1) (λ t q. tt) h) as' hl);
-      met = subst (AllByRecursion (IsMetPair meets o.box_of o'.box_of h k)) (sym (marked-zero (product (take (rows_beside rs.now) ls.now) asked.now))) tt;
-      later = rights;
-      rights = rights;
-      no_more = omega arith;
-      fits = omega (arith, a, b, fits);
+      gives = (next.given.0, idle-pairs meets left_box right_box new.walk next.given.1);
+      left = left;
+      right = right;
+      joining = record { walk = next.on.walk; count = subst (λ n. CountsPairs meets left_box right_box n new.walk) (sym (λ i. meet_of_roots meets left_box right_box (left i) (right i))) count };
+      ended = idle-count meets left_box right_box new.walk next.given.1 all count;
+      at_most = at_most meets left_box right_box all new.walk count;
+    }
+next-gives meets left_box right_box old new (Some p) left right joining next =
+    let all = meet_by meets left_box right_box old in
+    let count = next.on.count all joining.count in
+    record {
+      gives = next.given;
+      left = left;
+      right = right;
+      joining = record { walk = next.on.walk; count = subst (λ n. CountsPairs meets left_box right_box n new.walk) (sym (λ i. meet_of_roots meets left_box right_box (left i) (right i))) count };
+      ended = tt;
+      at_most = at_most meets left_box right_box all new.walk count;
     }

@@ -46,6 +46,7 @@ pub mod PairRows
 pub mod Alike
 pub mod Marked
 pub mod PairWalks
+pub mod SelfPairs
 pub mod Meets
 pub mod Joined
 pub mod Replays

@@ -39,7 +39,7 @@ module _ {A E : Type 0} {IsPoint : List ℤ → Type 0} {v : Boxes E} (laws : En
   values : (xs : List A) → AllByRecursion Q xs → AllByRecursion (λ a. v.IsValue (box a)) xs
   values = all_map Q (λ a. v.IsValue (box a)) value
 
-  hull_full : (a : A) (xs : List A) → AllByRecursion Q (a ∷ xs) → v.is_empty (hull v box (a ∷ xs)) ≡ false
+  pub hull_full : (a : A) (xs : List A) → AllByRecursion Q (a ∷ xs) → v.is_empty (hull v box (a ∷ xs)) ≡ false
   hull_full a xs h =
       not_true (v.is_empty (hull v box (a ∷ xs)))
       (λ e. differ _ (laws.merge_is_empty (box a) (hull v box xs) (value a h.0) (hull-value laws box xs (values xs h.1)) e).0 (full a h.0))
@@ -89,6 +89,25 @@ module _ {T E : Type 0} {IsPoint : List ℤ → Type 0} {v : Boxes E} {o : Objec
   within-elements : (ts : List T) → ts ≢ [] → AllByRecursion (IsElement v o) ts → (m : ℕ) → v.min_max_dist_2 (hull v o.box_of ts) p ≤ m → AllByRecursion (λ t. m < d.distance_2 t p) ts → ⊥
   within-elements = hull_within law.laws o.box_of (IsElement v o) (λ t h. law.ok t h.0) (λ t h. h.1) p law.point (λ t. d.distance_2 t p) (λ t h. law.near.within t p law.point h.0 h.1)
 
+module _ {T E : Type 0} {IsPoint : List ℤ → Type 0} {v : Boxes E} {o : Objects T E} (laws : EnvelopeLaws IsPoint v) (ok : ObjectLaws v o) where
+  -- the envelope of a whole node is a value, and not empty
+  pub box-value : (h : ℕ) (n : RTreeNode T E) → IsTree (IsInner v o) (IsElement v o) h n → v.IsValue (node_box o.box_of n)
+  box-value h n w = subst v.IsValue (sym (box_is_hull laws ok h n w)) (hull-value laws o.box_of (elements n) (values-of laws ok (elements n) (sound v o h n w)))
+
+  pub full-box : (h : ℕ) (n : RTreeNode T E) → IsTree (IsInner v o) (IsElement v o) h n → v.is_empty (node_box o.box_of n) ≡ false
+  full-box zero n w =
+      let l = is_leaf (IsElement v o) n w in
+      subst (λ e. v.is_empty e ≡ false) (sym (ap (node_box o.box_of) l.1 ∙ node_box-Leaf T E o.box_of l.0)) l.2.1
+  full-box (suc h) n w =
+      let q = is_parent _ n w in
+      let box = ap (node_box o.box_of) q.1 ∙ node_box-Parent o.box_of q.0 ∙ q.2.0.0 ∙ sym (merged_is_hull laws ok h (children_of q.0) q.2.1) in
+      subst (λ e. v.is_empty e ≡ false) (sym box) (some (full-box h) (children_of q.0) q.2.0.1 q.2.1)
+    where
+      some : ((n : RTreeNode T E) → IsTree (IsInner v o) (IsElement v o) h n → v.is_empty (node_box o.box_of n) ≡ false)
+          → (ns : List (RTreeNode T E)) → ns ≢ [] → AllByRecursion (IsTree (IsInner v o) (IsElement v o) h) ns → v.is_empty (hull v (node_box o.box_of) ns) ≡ false
+      some each [] none all = absurd (none refl)
+      some each (n ∷ ns) none all = hull_full laws (node_box o.box_of) (IsTree (IsInner v o) (IsElement v o) h) (box-value h) each n ns all
+
 module _ {T E : Type 0} {IsPoint : List ℤ → Type 0} {v : Boxes E} {o : Objects T E} {d : Distances T} {p : List ℤ} (law : IsMeasured IsPoint v o d p) where
   abbrev at : RTreeNode T E → ℕ
   at = distance_of v d p
@@ -98,21 +117,10 @@ module _ {T E : Type 0} {IsPoint : List ℤ → Type 0} {v : Boxes E} {o : Objec
   IsPart n = (h : ℕ) × IsTree (IsInner v o) (IsElement v o) h n
 
   part-value : (n : RTreeNode T E) → IsPart n → v.IsValue (node_box o.box_of n)
-  part-value n w = subst v.IsValue (sym (box_is_hull law.laws law.ok w.0 n w.1)) (hull-value law.laws o.box_of (elements n) (values-of law.laws law.ok (elements n) (sound v o w.0 n w.1)))
+  part-value n w = box-value law.laws law.ok w.0 n w.1
 
   full_at : (h : ℕ) (n : RTreeNode T E) → IsTree (IsInner v o) (IsElement v o) h n → v.is_empty (node_box o.box_of n) ≡ false
-  full_at zero n w =
-      let l = is_leaf (IsElement v o) n w in
-      subst (λ e. v.is_empty e ≡ false) (sym (ap (node_box o.box_of) l.1 ∙ node_box-Leaf T E o.box_of l.0)) l.2.1
-  full_at (suc h) n w =
-      let q = is_parent _ n w in
-      let box = ap (node_box o.box_of) q.1 ∙ node_box-Parent o.box_of q.0 ∙ q.2.0.0 ∙ sym (merged_is_hull law.laws law.ok h (children_of q.0) q.2.1) in
-      subst (λ e. v.is_empty e ≡ false) (sym box) (some (full_at h) (children_of q.0) q.2.0.1 q.2.1)
-    where
-      some : ((n : RTreeNode T E) → IsTree (IsInner v o) (IsElement v o) h n → v.is_empty (node_box o.box_of n) ≡ false)
-          → (ns : List (RTreeNode T E)) → ns ≢ [] → AllByRecursion (IsTree (IsInner v o) (IsElement v o) h) ns → v.is_empty (hull v (node_box o.box_of) ns) ≡ false
-      some each [] none all = absurd (none refl)
-      some each (n ∷ ns) none all = hull_full law.laws (node_box o.box_of) (IsTree (IsInner v o) (IsElement v o) h) (λ n w. part-value n (h, w)) each n ns all
+  full_at = full-box law.laws law.ok
 
   -- an element's or a parent's distance is at least that of its box
   part-near : (n : RTreeNode T E) → IsPart n → v.distance_2 (node_box o.box_of n) p ≤ at n

@@ -12,15 +12,13 @@ use Rattle.std.specs.List.{AllByRecursion}
 use Rattle.std.specs.Borrow.{Bor}
 use Rattle.rstar.specs.declared.node.RTreeNode.{RTreeNode, Leaf, Parent}
 use Rattle.rstar.specs.declared.node.ParentNode.{ParentNode}
-use Rattle.rstar.specs.declared.iterators.joins.IntersectionIterator.{IntersectionIterator}
+use Rattle.rstar.specs.declared.iterators.joins.walk.PairWalk.{PairWalk}
 use Rattle.rstar.specs.Nodes.{is_leaf_node, total}
 use Rattle.rstar_base.specs.Counts.{usize_max}
 use Rattle.rstar.specs.Walks.{IsLevel}
 use Rattle.rstar.specs.Lists.{product}
-use Rattle.rstar.specs.Meets.{opened_to, both_leaves, pairs_at, opens_at, all_pairs, all_opens, meet_of_roots}
-use Rattle.rstar.specs.declared.iterators.joins.PairStep.{PairStep}
-use Rattle.rstar.specs.declared.iterators.joins.PairStep.TheVariants.{Found, Passed, Ended}
-use Rattle.rstar.specs.JoinWalks.{frame_of, marked_items, rows_beside, Frame, IsMetPair, IsFrame, AreFrames, met_of, unasked_of, frames_of, pairs_below, opens_below, pairs_by, pairs_from_frames, opens_from_frames, CountsPairs, all_steps, steps_at, steps_of_pair, steps_of_frame, steps_of_frames, IsGivenPair, IsNearerPair, IsPairStep}
+use Rattle.rstar.specs.Meets.{opened_to, both_leaves, pairs_at, opens_at, all_pairs, all_opens}
+use Rattle.rstar.specs.JoinWalks.{frame_of, marked_items, rows_beside, Frame, IsMetPair, IsFrame, AreFrames, AreJoinable, met_of, unasked_of, in_hand, frames_of, pairs_below, opens_below, pairs_by, opens_by, pairs_from_frames, opens_from_frames, IsIdle, IsWalk, CountsPairs, GoesOn, all_steps, steps_at, steps_of_pair, steps_of_frame, steps_of_frames}
 use Rattle.rstar.proofs.Rows.{no_parent}
 use Rattle.rstar.proofs.Walks.{level-Parent}
 use Rattle.rstar.proofs.PairRows.{the_pair, product-none, node-cases, does_meet, opened, passed, steps-positive, opened_to-Leaf, opened_to-Parent, is_leaf-Leaf, is_leaf-Parent}
@@ -226,12 +224,16 @@ module _ {T E U F : Type 0} (meets : E → F → Bool) (left_box : T → E) (rig
         frames-along (n + 1) (m + 1) (ap (λ k. k + 1) (sym same)) (left ++ news) new (sym is)
         (frames-after (n + 1) (last.0 + 1) left news last.1 last.2 (move.room last.0 last.3))
 
-    pub move-count : (root : ParentNode T E) (root' : ParentNode U F) (count count' : ℕ) → count' ≡ min (count + opens) usize_max
-        → CountsPairs meets left_box right_box root root' old count → CountsPairs meets left_box right_box root root' new count'
-    move-count root root' count count' more h =
-        let a = ap (opens_from_frames meets left_box right_box) was in let b = ap (opens_from_frames meets left_box right_box) is in
-        let c = opens-after left (frame ∷ []) in let d = opens-after left news in let e = move.opened in let f = h.all in
-        record { count = h.count + opens; counted = omega (arith, h.counted, more); all = omega arith }
+    pub move-on : (w w' : PairWalk T U E F) → frames_of w ≡ old → frames_of w' ≡ new → w'.path.capacity ≡ w.path.capacity
+        → ((n : ℕ) → w.opened ≡ min n usize_max → w'.opened ≡ min (n + opens) usize_max) → IsWalk meets left_box right_box w → GoesOn meets left_box right_box w w'
+    move-on w w' before after room more walk = record {
+      walk = subst (AreFrames meets left_box right_box (w'.path.capacity + 1)) (sym after) (move-frames w.path.capacity w'.path.capacity room (subst (AreFrames meets left_box right_box (w.path.capacity + 1)) before walk));
+      room = room;
+      count = λ all h.
+          let a = ap (opens_from_frames meets left_box right_box) (before ∙ was) in let b = ap (opens_from_frames meets left_box right_box) (after ∙ is) in
+          let c = opens-after left (frame ∷ []) in let d = opens-after left news in let e = move.opened in let f = h.whole in
+          record { count = h.count + opens; counted = more h.count h.counted; whole = omega arith };
+    }
 
   -- ---- pairs of nodes
 
@@ -503,38 +505,47 @@ module _ {T E U F : Type 0} (meets : E → F → Bool) (left_box : T → E) (rig
   pub last-frame : (room : ℕ) (xs : List (Frame T E U F)) (x : Frame T E U F) → AreFrames meets left_box right_box (room + 1) (xs ++ x ∷ []) → (k : ℕ) × IsFrame meets left_box right_box k x
   last-frame room xs x at = let last = frames-last (room + 1) xs x at in (last.0, last.3)
 
-  -- a step after a move that gives nothing
-  pub step-after : (old mid new : IntersectionIterator T U E F) (r : PairStep T U) → mid.left.now ≡ old.left.now → mid.right.now ≡ old.right.now
-      → pairs_by meets left_box right_box old ≡ pairs_by meets left_box right_box mid → steps_of_frames (frames_of mid) < steps_of_frames (frames_of old)
-      → IsPairStep meets left_box right_box mid r new → IsPairStep meets left_box right_box old r new
-  step-after old mid new r left right same less step = record {
-    joining = step.joining;
-    left = step.left ∙ left;
-    right = step.right ∙ right;
-    given = given r step.given;
-    nearer = nearer r step.nearer;
-    over = step.over;
-  } where
-    given : (r : PairStep T U) → IsGivenPair (pairs_by meets left_box right_box mid) r (pairs_by meets left_box right_box new) → IsGivenPair (pairs_by meets left_box right_box old) r (pairs_by meets left_box right_box new)
-    given (Found t u) h = same ∙ h
-    given Passed h = same ∙ h
-    given Ended h = (same ∙ h.0, h.1)
+  -- one step after another
+  pub goes-on : {old mid new : PairWalk T U E F} → GoesOn meets left_box right_box old mid → GoesOn meets left_box right_box mid new → GoesOn meets left_box right_box old new
+  goes-on a b = record { walk = b.walk; room = b.room ∙ a.room; count = λ all h. b.count all (a.count all h) }
 
-    nearer : (r : PairStep T U) → IsNearerPair (steps_of_frames (frames_of mid)) r (steps_of_frames (frames_of new)) → IsNearerPair (steps_of_frames (frames_of old)) r (steps_of_frames (frames_of new))
-    nearer (Found t u) h = tt
-    nearer Passed h = omega (arith, h, less)
-    nearer Ended h = tt
+  -- ---- a walk with nothing to read, and one that begins
 
-  -- ---- the count, of the same roots
+  module _ (w : PairWalk T U E F) (idle : IsIdle w) where
+    alone : frames_of w ≡ in_hand w ∷ []
+    alone = ap (λ l. l ++ in_hand w ∷ []) idle.bare
 
-  module _ (left left' : ParentNode T E) (right right' : ParentNode U F) where
-    same-meet : left ≡ left' → right ≡ right' → meet_of_roots meets left_box right_box left right ≡ meet_of_roots meets left_box right_box left' right'
-    same-meet e e' = (λ i. meet_of_roots meets left_box right_box (e i) (e' i))
+    pub idle-pairs : pairs_by meets left_box right_box w ≡ []
+    idle-pairs = move-pairs (move-drop (in_hand w) idle.nothing) [] (frames_of w) [] alone refl
 
-    pub count-at_most : {frames : List (Frame T E U F)} {opened : ℕ} → left ≡ left' → right ≡ right' → CountsPairs meets left_box right_box left right frames opened
-        → opened ≤ meet_of_roots meets left_box right_box left' right'
-    count-at_most e e' h = let same = same-meet e e' in omega (arith, h.all, h.counted)
+    pub idle-opens : opens_by meets left_box right_box w ≡ 0
+    idle-opens = let e = ap (opens_from_frames meets left_box right_box) alone in let m = (move-drop (in_hand w) idle.nothing).opened in omega (arith, e, m)
 
-    pub count-ended : {frames : List (Frame T E U F)} {opened : ℕ} → left ≡ left' → right ≡ right' → opens_from_frames meets left_box right_box frames ≡ 0 → CountsPairs meets left_box right_box left right frames opened
-        → opened ≡ min (meet_of_roots meets left_box right_box left' right') usize_max
-    count-ended e e' nothing h = let same = same-meet e e' in omega (arith, h.all, h.counted, nothing)
+    -- all was opened that there was to open
+    pub idle-count : (all : ℕ) → CountsPairs meets left_box right_box all w → w.opened ≡ min all usize_max
+    idle-count all h = let none = idle-opens in omega (arith, h.whole, h.counted, none)
+
+  pub at_most : (all : ℕ) (w : PairWalk T U E F) → CountsPairs meets left_box right_box all w → w.opened ≤ all
+  at_most all w h = omega (arith, h.whole, h.counted)
+
+  module _ (room : ℕ) (ls : Bor (List (RTreeNode T E))) (asked rs : Bor (List (RTreeNode U F))) where
+    abbrev first : Frame T E U F
+    first = frame_of ls asked 0 rs rs
+
+    pub begins : AreJoinable room ls.now rs.now → AreFrames meets left_box right_box (room + 1) (first ∷ [])
+    begins at = one-frame (room + 1) room first refl (record {
+      left_height = at.left_height;
+      right_height = at.right_height;
+      lefts = at.left;
+      met = subst (AllByRecursion (IsMetPair meets left_box right_box at.left_height at.right_height)) (sym (fresh-met ls asked rs)) tt;
+      later = at.right;
+      rights = at.right;
+      no_more = omega arith;
+      fits = at.fits;
+    })
+
+    pub begins-pairs : pairs_from_frames meets left_box right_box (first ∷ []) ≡ all_pairs meets left_box right_box ls.now rs.now
+    begins-pairs = ap (pairs_below meets left_box right_box) (fresh ls asked rs)
+
+    pub begins-opens : opens_from_frames meets left_box right_box (first ∷ []) ≡ all_opens meets left_box right_box ls.now rs.now
+    begins-opens = let e = ap (opens_below meets left_box right_box) (fresh ls asked rs) in omega (arith, e)

@@ -1,16 +1,15 @@
 -- The inside of a join: the nodes that are still to be paired, and one step.
-use Rattle.std.specs.Prelude.{◌≡◌, ℕ, zero, suc, ◌+◌, ◌*◌, ◌/◌, ◌%◌, ◌<◌, ◌≤◌, nat_le, min, max, Bool, true, List, [], ◌∷◌, ◌++◌, map, flat_map, sum_by, length, take, drop, ⊤, ◌==◌, if◌then◌else◌}
+use Rattle.std.specs.Prelude.{◌≡◌, ℕ, zero, suc, ◌+◌, ◌*◌, ◌/◌, ◌%◌, ◌<◌, ◌≤◌, nat_le, min, max, Bool, true, List, [], ◌∷◌, ◌++◌, map, flat_map, sum_by, length, take, drop, ⊤, Option, MatchOption, ◌==◌, if◌then◌else◌}
 use Rattle.std.specs.List.{AllByRecursion}
 use Rattle.std.specs.Borrow.{Bor}
 use Rattle.rstar.specs.declared.node.RTreeNode.{RTreeNode}
-use Rattle.rstar.specs.declared.node.ParentNode.{ParentNode}
-use Rattle.rstar.specs.declared.iterators.joins.IntersectionIterator.{IntersectionIterator}
-use Rattle.rstar.specs.declared.iterators.joins.Frame.{Frame as Kept}
-use Rattle.rstar.specs.declared.iterators.joins.PairStep.{PairStep}
-use Rattle.rstar.specs.declared.iterators.joins.PairStep.TheVariants.{Found, Passed, Ended}
+use Rattle.rstar.specs.declared.iterators.joins.walk.PairWalk.{PairWalk}
+use Rattle.rstar.specs.declared.iterators.joins.walk.Frame.{Frame as Kept}
+use Rattle.rstar.specs.declared.iterators.joins.walk.PairStep.{PairStep}
+use Rattle.rstar.specs.declared.iterators.joins.walk.PairStep.TheVariants.{Found, Passed, Ended}
 use Rattle.rstar.specs.Nodes.{fold_tree, node_box, total}
 use Rattle.rstar.specs.Lists.{product}
-use Rattle.rstar.specs.Meets.{opened_to, meet_of_roots, pairs_at, opens_at}
+use Rattle.rstar.specs.Meets.{opened_to, pairs_at, opens_at}
 use Rattle.rstar_base.specs.Counts.{usize_max}
 use Rattle.rstar.specs.Walks.{IsLevel}
 
@@ -65,12 +64,25 @@ module _ {T E U F : Type 0} where
   unasked_of frame = product (take (rows_beside frame.rights.now) frame.lefts.now) frame.later.now
       ++ product (drop (rows_beside frame.rights.now) frame.lefts.now) frame.rights.now
 
-  -- the frames of an iterator: those that are left, and behind them the one that is being read
-  abbrev pub in_hand : IntersectionIterator T U E F → Frame T E U F
-  in_hand it = frame_of it.lefts it.asked it.marks it.later it.rights
+  -- the frames of a walk: those that are left, and behind them the one that is being read
+  abbrev pub in_hand : PairWalk T U E F → Frame T E U F
+  in_hand walk = frame_of walk.lefts walk.asked walk.marks walk.later walk.rights
 
-  abbrev pub frames_of : IntersectionIterator T U E F → List (Frame T E U F)
-  frames_of it = it.path.items ++ in_hand it ∷ []
+  abbrev pub frames_of : PairWalk T U E F → List (Frame T E U F)
+  frames_of walk = walk.path.items ++ in_hand walk ∷ []
+
+  -- nothing is left to read
+  pub record IsIdle (walk : PairWalk T U E F) : Type 0 where
+    pub nothing : walk.lefts.now ≡ []
+    pub bare : walk.path.items ≡ []
+
+-- two lists of nodes, each on one level, of which neither is higher than there is room for
+pub record AreJoinable {T E U F : Type 0} (room : ℕ) (lefts : List (RTreeNode T E)) (rights : List (RTreeNode U F)) : Type 0 where
+  pub left_height : ℕ
+  pub right_height : ℕ
+  pub left : AllByRecursion (IsLevel left_height) lefts
+  pub right : AllByRecursion (IsLevel right_height) rights
+  pub fits : max left_height right_height ≤ room
 
 module _ {T E U F : Type 0} (meets : E → F → Bool) (left_box : T → E) (right_box : U → F) where
   -- two nodes on these levels that meet
@@ -112,21 +124,22 @@ module _ {T E U F : Type 0} (meets : E → F → Bool) (left_box : T → E) (rig
   opens_from_frames [] = 0
   opens_from_frames (frame ∷ frames) = opens_from_frames frames + opens_below (met_of frame ++ unasked_of frame)
 
-  -- the pairs opened and those still to be opened are all that Meet counts
-  pub record CountsPairs (left : ParentNode T E) (right : ParentNode U F)
-      (frames : List (Frame T E U F)) (opened : ℕ) : Type 0 where
+  -- room for all frames that may come
+  abbrev pub IsWalk : PairWalk T U E F → Type 0
+  IsWalk walk = AreFrames (walk.path.capacity + 1) (frames_of walk)
+
+  -- the pairs that it still gives, in order, and how many it still opens
+  abbrev pub pairs_by : PairWalk T U E F → List (T × U)
+  pairs_by walk = pairs_from_frames (frames_of walk)
+
+  abbrev pub opens_by : PairWalk T U E F → ℕ
+  opens_by walk = opens_from_frames (frames_of walk)
+
+  -- the pairs opened and those still to be opened are so many
+  pub record CountsPairs (all : ℕ) (walk : PairWalk T U E F) : Type 0 where
     pub count : ℕ
-    pub counted : opened ≡ min count usize_max
-    pub all : count + opens_from_frames frames ≡ meet_of_roots meets left_box right_box left right
-
-  -- what a join on its way keeps: room for all frames that may come, and the count
-  pub record HasItsPaths (it : IntersectionIterator T U E F) : Type 0 where
-    pub frames : AreFrames (it.path.capacity + 1) (frames_of it)
-    pub count : CountsPairs it.left.now it.right.now (frames_of it) it.opened
-
-  -- the pairs that it still gives, in order
-  abbrev pub pairs_by : IntersectionIterator T U E F → List (T × U)
-  pairs_by it = pairs_from_frames (frames_of it)
+    pub counted : walk.opened ≡ min count usize_max
+    pub whole : count + opens_by walk ≡ all
 
 -- ---- steps
 
@@ -164,7 +177,7 @@ steps_of_frames (frame ∷ frames) = steps_of_frames frames + steps_of_frame fra
 abbrev pub IsGivenPair : {T U : Type 0} → List (T × U) → PairStep T U → List (T × U) → Type 0
 IsGivenPair old (Found t u) new = old ≡ (t.now, u.now) ∷ new
 IsGivenPair old Passed new = old ≡ new
-IsGivenPair old Ended new = (old ≡ []) × (new ≡ [])
+IsGivenPair old Ended new = old ≡ []
 
 -- what it did to the steps that are to come
 abbrev pub IsNearerPair : {T U : Type 0} → ℕ → PairStep T U → ℕ → Type 0
@@ -172,19 +185,28 @@ IsNearerPair old (Found t u) new = Unit {0}
 IsNearerPair old Passed new = new < old
 IsNearerPair old Ended new = Unit {0}
 
--- at the end no pair is left to open
-abbrev pub IsPairsOver : {T U : Type 0} → PairStep T U → ℕ → Type 0
-IsPairsOver (Found t u) left = Unit {0}
-IsPairsOver Passed left = Unit {0}
-IsPairsOver Ended left = left ≡ 0
+-- at the end nothing is left to read
+abbrev pub IsOverAfter : {T E U F : Type 0} → PairStep T U → PairWalk T U E F → Type 0
+IsOverAfter (Found t u) new = Unit {0}
+IsOverAfter Passed new = Unit {0}
+IsOverAfter Ended new = IsIdle new
 
--- a step keeps the join and its roots, and goes on
-pub record IsPairStep {T E U F : Type 0} (meets : E → F → Bool) (left_box : T → E) (right_box : U → F)
-    (old : IntersectionIterator T U E F) (r : PairStep T U)
-    (new : IntersectionIterator T U E F) : Type 0 where
-  pub joining : HasItsPaths meets left_box right_box new
-  pub left : new.left.now ≡ old.left.now
-  pub right : new.right.now ≡ old.right.now
-  pub given : IsGivenPair (pairs_by meets left_box right_box old) r (pairs_by meets left_box right_box new)
-  pub nearer : IsNearerPair (steps_of_frames (frames_of old)) r (steps_of_frames (frames_of new))
-  pub over : IsPairsOver r (opens_from_frames meets left_box right_box (frames_of new))
+module _ {T E U F : Type 0} (meets : E → F → Bool) (left_box : T → E) (right_box : U → F) where
+  -- a walk goes on in its room, and what it opens is counted
+  pub record GoesOn (old new : PairWalk T U E F) : Type 0 where
+    pub walk : IsWalk meets left_box right_box new
+    pub room : new.path.capacity ≡ old.path.capacity
+    pub count : (all : ℕ) → CountsPairs meets left_box right_box all old → CountsPairs meets left_box right_box all new
+
+  -- so it does in a step
+  pub record IsPairStep (old : PairWalk T U E F) (r : PairStep T U) (new : PairWalk T U E F) : Type 0 where
+    pub on : GoesOn old new
+    pub given : IsGivenPair (pairs_by meets left_box right_box old) r (pairs_by meets left_box right_box new)
+    pub nearer : IsNearerPair (steps_of_frames (frames_of old)) r (steps_of_frames (frames_of new))
+    pub over : IsOverAfter r new
+
+  -- and in a call that gives the first pair that is to come, or is at the end
+  pub record IsNextPair (old : PairWalk T U E F) (r : Option (Bor T × Bor U)) (new : PairWalk T U E F) : Type 0 where
+    pub on : GoesOn old new
+    pub given : MatchOption r ((pairs_by meets left_box right_box old ≡ []) × IsIdle new)
+        (λ p. pairs_by meets left_box right_box old ≡ (p.0.now, p.1.now) ∷ pairs_by meets left_box right_box new)

@@ -9,7 +9,7 @@ use Rattle.rstar.specs.declared.node.ParentNode.{ParentNode}
 use Rattle.rstar.specs.declared.iterators.joins.IntersectionIterator.{IntersectionIterator}
 use Rattle.rstar.specs.Lists.{product}
 use Rattle.rstar.specs.Meets.{meet_of_roots}
-use Rattle.rstar.specs.JoinWalks.{pairs_by, HasItsPaths}
+use Rattle.rstar.specs.JoinWalks.{pairs_by, IsWalk, CountsPairs}
 use Rattle.rstar_base.specs.Counts.{usize_max}
 
 -- ---- envelopes seen as those of another type
@@ -42,20 +42,25 @@ module _ {T E U F : Type 0} where
 
   -- how many pairs of nodes a join has visited
   abbrev pub pairs_opened : IntersectionIterator T U E F → ℕ
-  pairs_opened it = it.opened
+  pairs_opened it = it.walk.opened
 
 module _ {T E U F : Type 0} (meets : E → F → Bool) (left_box : T → E) (right_box : U → F) where
   -- the pairs that a join still yields, in order
   unfoldable pub pairs_to_come : IntersectionIterator T U E F → List (T × U)
-  pairs_to_come it = pairs_by meets left_box right_box it
-
-  -- what a join keeps between calls of `next`
-  unfoldable pub IsJoining : IntersectionIterator T U E F → Type 0
-  IsJoining it = HasItsPaths meets left_box right_box it
+  pairs_to_come it = pairs_by meets left_box right_box it.walk
 
   -- how many pairs of nodes of its roots intersect
   abbrev pub meet_by : IntersectionIterator T U E F → ℕ
   meet_by it = meet_of_roots meets left_box right_box (left_root it) (right_root it)
+
+  -- what a join keeps between calls of `next`: its traversal, and the count of its pairs of nodes
+  pub record HasItsWalk (it : IntersectionIterator T U E F) : Type 0 where
+    pub walk : IsWalk meets left_box right_box it.walk
+    pub count : CountsPairs meets left_box right_box (meet_by it) it.walk
+
+  -- whether `next` may be called
+  unfoldable pub IsJoining : IntersectionIterator T U E F → Type 0
+  IsJoining it = HasItsWalk it
 
   -- a join at its start: over these roots, with at most one pair of nodes visited, and no more than `meet_of_roots`
   pub record IsJoinMade (left : ParentNode T E) (right : ParentNode U F)

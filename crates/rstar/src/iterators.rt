@@ -11,9 +11,10 @@ pub use crate::algorithm::nearest_neighbor::{
 pub use crate::iterators::drain::DrainIterator;
 pub use crate::iterators::into_iter::IntoIter;
 pub(crate) use crate::iterators::joins::Meets;
-pub use crate::iterators::joins::{InEnvelope, IntersectionIterator};
+pub use crate::iterators::joins::{InEnvelope, IntersectionIterator, SelfIntersectionIterator};
 pub use crate::iterators::selection::SelectionIterator;
 pub use crate::visits::{select_nodes, select_nodes_mut};
+use rstar_base::algorithm::envelope_selection::SelectWithinDistanceOfEnvelope;
 use rstar_base::algorithm::selection_functions::{
     SelectAllFunc, SelectAtPointFunction, SelectInEnvelopeFuncIntersecting,
     SelectInEnvelopeFunction, SelectWithinDistanceFunction,
@@ -40,4 +41,11 @@ pub type LocateWithinDistanceIterator<'a, T> = SelectionIterator<
     'a,
     T,
     SelectWithinDistanceFunction<T>,
+>;
+
+/// The elements whose envelopes lie within a squared distance of an envelope.
+pub type LocateWithinDistanceOfEnvelope<'a, T> = SelectionIterator<
+    'a,
+    T,
+    SelectWithinDistanceOfEnvelope<T>,
 >;

@@ -20,6 +20,7 @@ pub use crate::rtree::RTree;
 pub use rstar_base::aabb::AABB;
 pub use rstar_base::algorithm::selection_functions::SelectionFunction;
 pub use rstar_base::envelope::{Counted, Envelope};
+pub use rstar_base::gaps::EnvelopeDistance;
 pub use rstar_base::object::{EqualEnvelopes, PointDistance, RTreeObject};
 pub use rstar_base::point::{Point, RTreeNum};
 pub use rstar_base::{aabb, envelope, mint, object, point, primitives};

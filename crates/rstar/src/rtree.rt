@@ -13,11 +13,13 @@ mod copies;
 mod drains;
 mod joins;
 mod loads;
+pub mod nearby;
 mod neighbours;
 mod parts;
 mod payloads;
 mod removal;
 mod selections;
+mod self_joins;
 mod texts;
 mod visits;
 

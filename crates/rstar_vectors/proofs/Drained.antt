@@ -7,6 +7,10 @@ use Rattle.std.proofs.lemmas.List.{map-append}
 use Rattle.rstar.specs.declared.iterators.joins.IntersectionIterator.{IntersectionIterator}
 use Rattle.rstar.specs.declared.node.ParentNode.{ParentNode}
 use Rattle.rstar.specs.Joins.{pairs_opened, meet_by, GivesPair}
+use Rattle.rstar.specs.declared.iterators.joins.selves.SelfIntersectionIterator.{SelfIntersectionIterator}
+use Rattle.rstar.specs.SelfJoins.{own_root, own_opened, own_meet, GivesOwnPair}
+use Rattle.rstar_base.specs.Envelopes.{Boxes}
+use Rattle.rstar_base.specs.Elements.{Objects}
 use Rattle.rstar.specs.declared.iterators.selection.SelectionIterator.{SelectionIterator}
 use Rattle.rstar.specs.Selections.{opened_by, reach_by, GivesNext}
 use Rattle.rstar.specs.Nodes.{reach_of}
@@ -53,3 +57,13 @@ module _ {T F E : Type 0} (accepts : F → E → Bool) (selects : F → T → Bo
       let step = y.1.1 in
       all-reached xs y.1.0 end (y.0, y.1.2, y.2)
       ∙ ap₂ (λ (q : F) (r : ParentNode T E). min (reach_of (accepts q) r) usize_max) step.question step.root
+
+module _ {T E : Type 0} {v : Boxes E} {o : Objects T E} {meets : E → E → Bool} where
+  -- the same of a join of a tree with itself
+  pub own-opened : {xs : List (Bor T × Bor T)} (it end : SelfIntersectionIterator T E) → YieldsThen (GivesOwnPair v o meets) it xs None end
+      → own_opened end ≡ min (own_meet meets o.box_of (own_root it)) usize_max
+  own-opened {xs = xs} it end y = by_list xs it y where
+    by_list : (xs : List (Bor T × Bor T)) (it : SelfIntersectionIterator T E) → YieldsThen (GivesOwnPair v o meets) it xs None end
+        → own_opened end ≡ min (own_meet meets o.box_of (own_root it)) usize_max
+    by_list [] it y = y.2.ended ∙ ap (λ (i : SelfIntersectionIterator T E). min (own_meet meets o.box_of (own_root i)) usize_max) (sym y.1)
+    by_list (x ∷ xs) it y = by_list xs y.1.0 (y.0, y.1.2, y.2) ∙ ap (λ (r : ParentNode T E). min (own_meet meets o.box_of r) usize_max) y.1.1.root

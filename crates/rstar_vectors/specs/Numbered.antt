@@ -1,11 +1,11 @@
 -- Rectangles that each carry a number, and what is asked of lists of them.
-use Rattle.std.specs.Prelude.{◌&&◌, ℕ, ℤ, Bool, List, filter, nat_lt}
+use Rattle.std.specs.Prelude.{◌&&◌, ◌==◌, ℕ, ℤ, Bool, List, filter, not}
 use Rattle.rstar_base.specs.declared.primitives.Rectangle.{Rectangle}
 use Rattle.rstar.specs.Boxes.{box_contains_point, boxes_intersect}
-use Rattle.rstar.specs.Lists.{product}
 use Rattle.rstar.specs.Points.{table}
 use Rattle.rstar.specs.Rectangles.{box_or_empty}
 use Rattle.rstar.specs.Segments.{coordinate}
+use Rattle.rstar.specs.SelfJoins.{pairs_behind}
 use Rattle.rstar_vectors.specs.Stretches.{low, high}
 
 -- a rectangle, kept as two corners, and its number
@@ -20,10 +20,10 @@ box_of r = box_or_empty low high 2 (coordinate r.0.lower) (coordinate r.0.upper)
 abbrev pub covers : List ℤ → Numbered → Bool
 covers point r = box_contains_point (box_of r) (table 2 (coordinate point))
 
--- whether two lie over each other, where the first has the lesser number; touching is enough
+-- whether two lie over each other that have two numbers; touching is enough
 abbrev pub overlap : Numbered × Numbered → Bool
-overlap pair = boxes_intersect (box_of pair.0) (box_of pair.1) && nat_lt pair.0.1 pair.1.1
+overlap pair = boxes_intersect (box_of pair.0) (box_of pair.1) && not (pair.0.1 == pair.1.1)
 
--- all pairs that do
+-- all pairs of one and one behind it that do
 abbrev pub overlaps : List Numbered → List (Numbered × Numbered)
-overlaps rs = filter overlap (product rs rs)
+overlaps rs = filter overlap (pairs_behind rs)

@@ -186,7 +186,7 @@ fn pairs_that_intersect(rt: HostRuntime) {
 }
 
 /// An element that a scan can test for intersection.
-trait Touching {
+pub(crate) trait Touching {
     /// Whether the envelopes of two elements intersect.
     fn touches(&self, other: &Self) -> bool;
 }
@@ -296,7 +296,12 @@ fn a_deep_tree_meets_itself(rt: HostRuntime) {
 }
 
 /// Rectangles of this number, spread by two factors.
-fn spread(alloc: Global, count: u64, across: u64, along: u64) -> Vec<Rectangle<[i64; 2]>> {
+pub(crate) fn spread(
+    alloc: Global,
+    count: u64,
+    across: u64,
+    along: u64,
+) -> Vec<Rectangle<[i64; 2]>> {
     let mut all = Vec::new(alloc);
     for number in 0..count {
         let x = (number.wrapping_mul(across) % 101) as i64;

@@ -26,6 +26,8 @@ mod neighbours;
 #[cfg(test)]
 mod node_sizes;
 #[cfg(test)]
+mod pairs;
+#[cfg(test)]
 mod payloads;
 #[cfg(test)]
 mod places;

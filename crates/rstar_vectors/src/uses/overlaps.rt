@@ -1,13 +1,12 @@
 //! An overlap finder: parts are laid down, and all pairs of parts that overlap are asked for.
 //!
-//! The pairs come from the join of the tree with itself, which gives each pair in both orders. The finder
-//! keeps the pairs whose first part has the lesser number. So each pair comes once, and pieces of one part,
-//! which share its number, do not count.
+//! The join of the tree with itself gives each pair of pieces once. The finder drops the pairs of two pieces of
+//! one part, which share its number.
 
-ghost use Rattle.std.specs.Prelude.{◌≡◌, ◌∷◌, ◌&&◌, [], false, map, filter, nat_lt, IfOk, IfErr, OnOk, OnErr};
+ghost use Rattle.std.specs.Prelude.{◌≡◌, ◌==◌, ◌∷◌, ◌&&◌, [], false, map, filter, not, IfOk, IfErr, OnOk, OnErr};
 ghost use Rattle.std.specs.List.Sorted.{IsPermutation};
 ghost use Rattle.rstar.specs.Boxes.{is_empty_box};
-ghost use Rattle.rstar.specs.Lists.{product};
+ghost use Rattle.rstar.specs.SelfJoins.{pairs_behind};
 ghost use Rattle.rstar.specs.Trees.{elements_in, IsWholeTree};
 ghost use Rattle.rstar_vectors.specs.Numbered.{box_of, overlaps};
 
@@ -62,18 +61,18 @@ impl Layout {
         self.tree.insert(piece)
     }
 
-    /// The pairs of pieces of two parts that overlap, each pair once, the lesser number first, in some
-    /// order. Touching is enough. Memory may be refused.
+    /// The pairs of pieces of two parts that overlap, each pair once, in some order. Touching is enough. Memory
+    /// may be refused.
     pub fn overlaps(&self, alloc: Global) -> Result<Vec<(&Piece, &Piece)>, AllocError>
         ensures { IfOk result (λ pairs. IsPermutation (map (λ pair. (pair.0.now, pair.1.now)) pairs.items)
             (overlaps self.now)) }
     {
-        met_in_order(alloc, &self.tree)
+        met_of_two_parts(alloc, &self.tree)
     }
 }
 
-/// The pairs of elements of a tree that intersect, the lesser number first.
-fn met_in_order<R: RTreeObject>(
+/// The pairs of elements of a tree that intersect and have two numbers.
+fn met_of_two_parts<R: RTreeObject>(
     alloc: Global,
     tree: &RTree<GeomWithData<R, u64>>,
 ) -> Result<Vec<Pair<'_, GeomWithData<R, u64>>>, AllocError>
@@ -81,11 +80,11 @@ fn met_in_order<R: RTreeObject>(
         ⟦<DefaultParams as RTreeParams>⟧.MAX_SIZE tree.now }
     ensures { IfOk result (λ pairs. IsPermutation (map (λ pair. (pair.0.now, pair.1.now)) pairs.items)
         (filter (λ pair. R.Envelope.boxes.intersects (R.object.box_of pair.0.0) (R.object.box_of pair.1.0)
-        && nat_lt pair.0.1 pair.1.1) (product (elements_in tree.now) (elements_in tree.now)))) }
+        && not (pair.0.1 == pair.1.1)) (pairs_behind (elements_in tree.now)))) }
 {
-    let met = tree.intersection_candidates_with_other_tree(tree)?;
+    let met = tree.intersecting_pairs()?;
     let mut pairs: Vec<Pair<'_, GeomWithData<R, u64>>> = met.collect(alloc)?;
-    pairs.retain(|&(one, other)| one.data < other.data);
+    pairs.retain(|&(one, other)| one.data != other.data);
     Ok(pairs)
 }
 
@@ -103,7 +102,8 @@ mod tests {
             Ok(all) => {
                 let mut is_so = all.len() == numbers.len();
                 for (one, other) in all {
-                    is_so = is_so && numbers.contains(&(one.data, other.data));
+                    is_so &= numbers.contains(&(one.data, other.data))
+                        || numbers.contains(&(other.data, one.data));
                 }
                 is_so
             }

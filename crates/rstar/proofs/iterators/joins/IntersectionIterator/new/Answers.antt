@@ -1,10 +1,13 @@
-use Rattle.std.proofs.Common.{◌≡◌, ◌≢◌, ◌⊎◌, inl, inr, [], ◌∙◌, sym, refl, arith, ◌+◌}
+use Rattle.std.proofs.Common.{◌≡◌, ◌≢◌, ◌⊎◌, inl, inr, [], ◌∙◌, refl, sym, subst, arith, ◌+◌}
 use Rattle.std.proofs.lemmas.Bool.{true≢false}
 use Rattle.rstar.specs.Joins.{meets_by, IsJoining, pairs_to_come}
 use Rattle.rstar.specs.Meets.{meet_of_roots, pairs_from_roots, all_pairs, all_opens}
 use Rattle.rstar.specs.Nodes.{children_of}
+use Rattle.rstar.specs.Heights.{levels_below}
+use Rattle.rstar.specs.JoinWalks.{AreJoinable}
 use Rattle.rstar.proofs.Walks.{no-items, some-items}
-use Rattle.rstar.proofs.Joined.{starts, starts-none, starts-all, fits-none, fits-whole, roots-counted, roots-apart, roots-empty, roots-refused, roots-met}
+use Rattle.rstar.proofs.PairWalks.{idle-pairs, idle-opens}
+use Rattle.rstar.proofs.Joined.{joinable, whole-levels, roots-counted, roots-apart, roots-empty, roots-refused, roots-met}
 use Rattle.rstar.proofs.iterators.joins.IntersectionIterator.new.Goals as goal
 use Rattle.rstar.proofs.iterators.joins.IntersectionIterator.new.Goals.{then-is_empty, else-is_empty, then-empty-via-then-empty, then-empty-via-else-empty+then-not-meet}
 
@@ -27,7 +30,7 @@ returns-then-empty-clause-gives g c =
           roots-refused meets left_box right_box left right
           (sym w.meet.ensures ∙ w.if-not-meet.true)
     ] in
-    starts-none meets left_box right_box _ _ _ _ c.in_ok-path.ensures.empty refl ∙ sym none
+    idle-pairs meets left_box right_box c.in_ok-walk.walk c.in_ok-walk.ensures.idle ∙ sym none
 
 pub returns-then-empty-clause-joining : goal.returns-then-empty-clause-joining
 unfolding IsJoining
@@ -49,14 +52,27 @@ returns-then-empty-clause-joining g c =
           left right c.requires.left c.requires.right
           (sym w.meet.ensures ∙ w.if-not-meet.true)
     ] in
-    starts meets left_box right_box _ c.in_ok-path.ensures.empty (fits-none meets left_box right_box _ _ _ _ refl refl) refl refl 0 (omega arith) (sym none)
+    let opens = idle-opens meets left_box right_box c.in_ok-walk.walk c.in_ok-walk.ensures.idle in
+    record { walk = c.in_ok-walk.ensures.walk; count = record { count = 0; counted = omega (arith, c.in_ok-walk.ensures.opened); whole = omega (arith, opens, none) } }
+
+pub begin-requires-clause-fits : goal.begin-requires-clause-fits
+begin-requires-clause-fits g c =
+    let v = g.T.Cover.Merges.boxes in
+    let w = g.U.Cover.Merges.boxes in
+    let o = g.T.Covered.object in
+    let o' = g.U.Covered.object in
+    let left = children_of c.args.left.now in
+    let right = children_of c.args.right.now in
+    let room = c.in_ok-walk.walk.path.capacity in
+    subst (λ ls. AreJoinable room ls c.as_slice-2.result.now) (sym c.as_slice.ensures.value) (subst (AreJoinable room left) (sym c.as_slice-2.ensures.value)
+    (joinable v w o o' room (levels_below left) (levels_below right) left right
+    (whole-levels v o c.requires.left.height left c.requires.left.below) (whole-levels w o' c.requires.right.height right c.requires.right.below)
+    (omega (arith, c.requires.levels, c.in_ok-walk.ensures.room))))
 
 pub returns-clause-joining : goal.returns-clause-joining
 unfolding IsJoining
 returns-clause-joining g c =
-    let v = g.T.Cover.Merges.boxes in
-    let w = g.U.Cover.Merges.boxes in
-    let meets = meets_by v g.U.Meets.seen in
+    let meets = meets_by g.T.Cover.Merges.boxes g.U.Meets.seen in
     let left_box = g.T.Covered.object.box_of in
     let right_box = g.U.Covered.object.box_of in
     let left = c.args.left.now in
@@ -72,16 +88,11 @@ returns-clause-joining g c =
     ] in
     let all = roots-counted g.met.T.Cover.Merges.merge_laws g.met.U.Cover.Merges.merge_laws g.met.U.Meets.seen_laws g.met.T.Covered.cover_law g.met.U.Covered.cover_law
     left right c.requires.left c.requires.right does some some' in
-    let here : 1 + all_opens meets left_box right_box c.as_slice.result.now c.as_slice-nodes.result.now ≡ 1 + all_opens meets left_box right_box (children_of left) (children_of right) = λ i. 1 + all_opens meets left_box right_box (c.as_slice.ensures.value i) (c.as_slice-nodes.ensures.value i) in
-    starts meets left_box right_box _ c.in_ok-path.ensures.empty
-    (fits-whole v w g.T.Covered.object g.U.Covered.object meets _ _ _ (children_of left) (children_of right) c.in_ok-path.path.capacity c.requires.left.height c.requires.right.height
-    c.as_slice.ensures.value c.as_slice-nodes.ensures.value some some' c.requires.left.below c.requires.right.below
-    (omega (arith, c.requires.levels, c.in_ok-path.ensures.room)))
-    refl refl 1 (omega arith) (here ∙ sym all)
+    let here : 1 + all_opens meets left_box right_box c.as_slice.result.now c.as_slice-2.result.now ≡ 1 + all_opens meets left_box right_box (children_of left) (children_of right) = λ i. 1 + all_opens meets left_box right_box (c.as_slice.ensures.value i) (c.as_slice-2.ensures.value i) in
+    record { walk = c.begin.ensures.walk; count = record { count = 1; counted = omega arith; whole = omega (arith, c.begin.ensures.opens, here, all) } }
 
 pub returns-clause-made : goal.returns-clause-made
 returns-clause-made g c =
-    let v = g.T.Cover.Merges.boxes in
     let left = c.args.left.now in
     let right = c.args.right.now in
     let does = sym c.meet.ensures ∙ c.if-not-meet.false in
@@ -100,12 +111,9 @@ returns-clause-made g c =
 pub returns-clause-gives : goal.returns-clause-gives
 unfolding pairs_to_come
 returns-clause-gives g c =
-    let v = g.T.Cover.Merges.boxes in
-    let meets = meets_by v g.U.Meets.seen in
+    let meets = meets_by g.T.Cover.Merges.boxes g.U.Meets.seen in
     let left_box = g.T.Covered.object.box_of in
     let right_box = g.U.Covered.object.box_of in
-    let left = c.args.left.now in
-    let right = c.args.right.now in
     let does = sym c.meet.ensures ∙ c.if-not-meet.false in
-    starts-all meets left_box right_box _ _ _ _ c.in_ok-path.ensures.empty
-    ∙ (λ i. all_pairs meets left_box right_box (c.as_slice.ensures.value i) (c.as_slice-nodes.ensures.value i)) ∙ sym (roots-met meets left_box right_box left right does)
+    c.begin.ensures.pairs
+    ∙ (λ i. all_pairs meets left_box right_box (c.as_slice.ensures.value i) (c.as_slice-2.ensures.value i)) ∙ sym (roots-met meets left_box right_box c.args.left.now c.args.right.now does)

@@ -7,4 +7,4 @@ of-the-view : {A B N Z E : Type 0} (f : B → A) (answer : List N → List A) (x
 of-the-view {N = N} f answer xs now r e h = subst (λ (l : List N). IfOk r (λ v. IsPermutation (map f (vec_items v)) (answer l))) e h
 
 pub returns : goal.returns
-returns c = of-the-view _ overlaps _ _ c.met_in_order.result c.self.view_is c.met_in_order.ensures
+returns c = of-the-view _ overlaps _ _ c.met_of_two_parts.result c.self.view_is c.met_of_two_parts.ensures
