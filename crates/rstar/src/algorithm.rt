@@ -6,4 +6,4 @@ pub mod nearest_neighbor;
 pub(crate) mod removal;
 pub mod rstar;
 
-pub use rstar_base::algorithm::selection_functions;
+pub use rstar_base::algorithm::{envelope_selection, selection_functions};
