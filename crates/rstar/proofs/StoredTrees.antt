@@ -124,6 +124,10 @@ pub spelled_of : {X : Type 0} (bytes : List ℕ) (view : X → Tree) (r : Result
 spelled_of bytes view (Ok x) fits g = tree_takes bytes (view x) fits g
 spelled_of bytes view (Err e) fits g = tt
 
+pub only_tree : {X : Type 0} (bytes : List ℕ) (view : X → Tree) (r : Result X StoredError) → IsBytes bytes → Gives view r (tree_at bytes) → IfOk r (λ x. (t : Tree) → Spells bytes t → t ≡ view x)
+only_tree bytes view (Ok x) fits g = λ t s. one_tree bytes t (view x) s (tree_takes bytes (view x) fits g)
+only_tree bytes view (Err e) fits g = tt
+
 pub none_spelled : {X : Type 0} (bytes : List ℕ) (view : X → Tree) (r : Result X StoredError) → Gives view r (tree_at bytes) → IfErr r (λ e. e ≢ NoMemory → (t : Tree) → Spells bytes t → ⊥)
 none_spelled bytes view (Ok x) g = tt
 none_spelled bytes view (Err e) (inl m) = λ other t s. absurd (other m)
