@@ -22,10 +22,10 @@ use Rattle.rstar.proofs.StoredNodes.{point_laws}
 
 -- ---- steps that failed
 
-abbrev failed : {A : Type 0} → StoredError → Result A StoredError
+abbrev pub failed : {A : Type 0} → StoredError → Result A StoredError
 failed e = Err e
 
-err_is : {A : Type 0} (d e : StoredError) → failed {A = A} d ≡ failed e → d ≡ e
+pub err_is : {A : Type 0} (d e : StoredError) → failed {A = A} d ≡ failed e → d ≡ e
 err_is d e h = cc
 
 ok_err : {A : Type 0} (x : A) (e : StoredError) → Ok x ≡ Err e → ⊥

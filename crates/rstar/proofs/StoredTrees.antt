@@ -80,7 +80,7 @@ levels_again : (h : ℕ) (t : Tree) → h ≤ 64 → IsStoredTree h t → levels
 unfolding levels_at
 levels_again h t le is = let low : ltb 64 h ≡ false = le-ltb _ _ le in rw low (root_again h t is)
 
-after_magic : (rest : List ℕ) → tree_at (magic ++ rest) ≡ (number_at rest >>= λ count. levels_at count.0 count.1)
+pub after_magic : (rest : List ℕ) → tree_at (magic ++ rest) ≡ (number_at rest >>= λ count. levels_at count.0 count.1)
 unfolding tree_at
 after_magic rest = let long : ltb (length (magic ++ rest)) 4 ≡ false = let l : length (magic ++ rest) ≡ 4 + length rest = length-append magic rest in le-ltb _ _ (omega (arith, l)) in rw long refl
 

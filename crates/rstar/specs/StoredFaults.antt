@@ -78,3 +78,7 @@ HasFault bytes Trailing =
     (front : List ℕ) × (rest : List ℕ) × (t : Tree) × (bytes ≡ front ++ rest) × (0 < length rest) × Spells front t
 HasFault bytes NoMemory = ⊤
 HasFault bytes TooHigh = ⊥
+
+-- they have no other fault
+abbrev pub IsOnlyFault : List ℕ → StoredError → Type 0
+IsOnlyFault bytes e = (d : StoredError) → d ≢ NoMemory → HasFault bytes d → d ≡ e

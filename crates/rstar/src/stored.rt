@@ -14,7 +14,7 @@ ghost use Rattle.rstar.specs.Shapes.{IsParentTree};
 ghost use Rattle.rstar_base.specs.Points.{IsPoint};
 ghost use Rattle.rstar.specs.Shown.{shown, shown_root};
 ghost use Rattle.rstar.specs.Stored.{Tree, boxes, places, low, high, IsStored, Spells, magic, number, point, spelling, stored_size};
-ghost use Rattle.rstar.specs.StoredFaults.{HasFault};
+ghost use Rattle.rstar.specs.StoredFaults.{HasFault, IsOnlyFault};
 ghost use Rattle.rstar.specs.StoredReading.{Gives, number_at, coordinate_at, point_at, leaf_at, each_at, has_corners, parent_at, node_at, root_at, levels_at, tree_at};
 ghost use Rattle.rstar.specs.Trees.{root_of, IsWholeTree};
 
@@ -314,6 +314,7 @@ pub fn read_stored<Params: RTreeParams>(
     ensures whole { IfOk result (IsWholeTree boxes places Params.MAX_SIZE) }
     ensures none { IfErr result (λ e. e ≢ NoMemory → (t : Tree) → Spells bytes.now t → ⊥) }
     ensures fault { IfErr result (HasFault bytes.now) }
+    ensures one_fault { IfErr result (λ e. e ≢ NoMemory → IsOnlyFault bytes.now e) }
 {
     tree_of(alloc, bytes)
 }
