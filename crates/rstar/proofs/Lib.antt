@@ -58,6 +58,7 @@ pub mod StoredBytes
 pub mod StoredNodes
 pub mod StoredLaws
 pub mod StoredTrees
+pub mod StoredExact
 pub mod StoredFaults
 pub mod StoredRows
 pub mod Roots

@@ -22,10 +22,10 @@ use Rattle.rstar.proofs.StoredNodes.{point_laws}
 
 -- ---- steps that failed
 
-abbrev failed : {A : Type 0} → StoredError → Result A StoredError
+abbrev pub failed : {A : Type 0} → StoredError → Result A StoredError
 failed e = Err e
 
-err_is : {A : Type 0} (d e : StoredError) → failed {A = A} d ≡ failed e → d ≡ e
+pub err_is : {A : Type 0} (d e : StoredError) → failed {A = A} d ≡ failed e → d ≡ e
 err_is d e h = cc
 
 ok_err : {A : Type 0} (x : A) (e : StoredError) → Ok x ≡ Err e → ⊥
@@ -120,21 +120,22 @@ other_corners l u m is_l is_u is other same =
     absurd cc
 
 -- what comes behind a child count and two points
-begins : (below : ℕ) (bytes r0 r1 r2 rest : List ℕ) (count : ℕ) (l u : Place) (ns : List Tree) → count < 2 ^ 64 → bytes ≡ number count ++ r0 → r0 ≡ point l ++ r1 → r1 ≡ point u ++ r2 → r2 ≡ joined (map spelling ns) ++ rest
+begins : (below : ℕ) (bytes r0 r1 r2 rest : List ℕ) (count : ℕ) (l u : Place) (ns : List Tree) → count < 2 ^ 64 → 0 < count → 32 + 16 * count ≤ length r0 → bytes ≡ number count ++ r0 → r0 ≡ point l ++ r1 → r1 ≡ point u ++ r2 → r2 ≡ joined (map spelling ns) ++ rest
     → IsPoint low high 2 l → IsPoint low high 2 u → AllByRecursion (IsStored below) ns → BeginsParent below bytes count (point l ++ point u) ns rest
-begins below bytes r0 r1 r2 rest count l u ns few e0 e1 e2 e3 is_l is_u all = record {
+begins below bytes r0 r1 r2 rest count l u ns few some long e0 e1 e2 e3 is_l is_u all = record {
   parts = e0 ∙ ap (λ (t : List ℕ). number count ++ t) (e1 ∙ ap (λ (t : List ℕ). point l ++ t) (e2 ∙ ap (λ (t : List ℕ). point u ++ t) e3) ∙ sym (append_assoc (point l) (point u) (joined (map spelling ns) ++ rest)))
       ∙ sym (append_assoc (number count) (point l ++ point u) (joined (map spelling ns) ++ rest)) ∙ sym (append_assoc (number count ++ (point l ++ point u)) (joined (map spelling ns)) rest);
-  counted = few;
+  counted = (some, few);
   boxed = let a = point_long l is_l in let b = point_long u is_u in omega (arith, a, b, length-append (point l) (point u));
+  there = let size = ap length e0 ∙ length-append (number count) r0 in omega (arith, long, size, number_long count);
   stored = all;
 }
 
 module _ (below : ℕ) (e : StoredError) (fails : (bytes : List ℕ) → IsBytes bytes → node_at below bytes ≡ Err e → NodeHasFault below bytes e) where
   -- behind the box of a parent
-  children_err : (bytes r0 : List ℕ) (count : ℕ) → IsBytes r0 → count < 2 ^ 64 → bytes ≡ number count ++ r0 → 32 + 16 * count ≤ length r0 → children_at (node_at below) count r0 ≡ Err e → NodeHasFault (suc below) bytes e
+  children_err : (bytes r0 : List ℕ) (count : ℕ) → IsBytes r0 → count < 2 ^ 64 → 0 < count → bytes ≡ number count ++ r0 → 32 + 16 * count ≤ length r0 → children_at (node_at below) count r0 ≡ Err e → NodeHasFault (suc below) bytes e
   unfolding children_at
-  children_err bytes r0 count fits few parts long h =
+  children_err bytes r0 count fits few some parts long h =
       elim (bind_err (point_at r0) _ e h) [
         | inl f ↦ let q = (point_err r0 e fits f).1 in absurd (omega (arith, q, long))
         | inr (l, read_l, h1) ↦
@@ -147,14 +148,14 @@ module _ (below : ℕ) (e : StoredError) (fails : (bytes : List ℕ) → IsBytes
                   elim (bind_err (each_at (node_at below) count u.1) _ e h2) [
                     | inl f ↦
                         let (ns, rest, sep, all, fewer, wrong) = each_err (IsStored below) (node_at below) (node_takes below) e (λ b. NodeHasFault below b e) fails count u.1 t2.0.rest_fits f in
-                        inr (count, point l.0 ++ point u.0, ns, rest, begins below bytes r0 l.1 u.1 rest count l.0 u.0 ns few parts t1.0.parts t2.0.parts sep t1.1 t2.1 all, fewer, wrong)
+                        inr (count, point l.0 ++ point u.0, ns, rest, begins below bytes r0 l.1 u.1 rest count l.0 u.0 ns few some long parts t1.0.parts t2.0.parts sep t1.1 t2.1 all, fewer, wrong)
                     | inr (n, read_n, h3) ↦
                         let t3 = each_takes (IsStored below) (node_at below) (node_takes below) count u.1 n t2.0.rest_fits read_n in
                         elim (chosen_err (has_corners l.0 u.0 (merge_of n.0)) BadBox _ e h3) [
                           | inl p ↦ absurd (ok_err _ e p.1)
                           | inr p ↦
                               let box = hull-value point_laws (shown_box places.box_of) n.0 (each_boxed (IsStored below) (stored_boxed below) n.0 t3.2) in
-                              inl (subst (ParentHasFault below bytes) p.1 (count, point l.0 ++ point u.0, n.0, n.1, begins below bytes r0 l.1 u.1 n.1 count l.0 u.0 n.0 few parts t1.0.parts t2.0.parts t3.0.parts t1.1 t2.1 t3.2, t3.1, other_corners l.0 u.0 (merge_of n.0) t1.1 t2.1 box p.0))
+                              inl (subst (ParentHasFault below bytes) p.1 (count, point l.0 ++ point u.0, n.0, n.1, begins below bytes r0 l.1 u.1 n.1 count l.0 u.0 n.0 few some long parts t1.0.parts t2.0.parts t3.0.parts t1.1 t2.1 t3.2, t3.1, other_corners l.0 u.0 (merge_of n.0) t1.1 t2.1 box p.0))
                         ]
                   ]
             ]
@@ -170,9 +171,10 @@ module _ (below : ℕ) (e : StoredError) (fails : (bytes : List ℕ) → IsBytes
             elim (guard_err (eqb a.0 0) BadLevel _ e h1) [
               | inl p ↦ inl (subst (ParentHasFault below bytes) p.1 (a.0, a.1, t.0.parts, t.1, eqb-true a.0 0 p.0))
               | inr p ↦
+                  let some : 0 < a.0 = (let y : eqb a.0 0 ≡ false = p.0 in grind (arith, y)) in
                   elim (guard_err (ltb (length a.1) (32 + 16 * a.0)) Truncated _ e p.1) [
-                    | inl q ↦ inl (subst (ParentHasFault below bytes) q.1 (inr (a.0, a.1, t.0.parts, t.1, let z : ltb (length a.1) (32 + 16 * a.0) ≡ true = q.0 in grind (arith, z))))
-                    | inr q ↦ children_err bytes a.1 a.0 t.0.rest_fits t.1 t.0.parts (ltb-false (length a.1) (32 + 16 * a.0) q.0) q.1
+                    | inl q ↦ inl (subst (ParentHasFault below bytes) q.1 (inr (a.0, a.1, t.0.parts, t.1, (some, let z : ltb (length a.1) (32 + 16 * a.0) ≡ true = q.0 in grind (arith, z)))))
+                    | inr q ↦ children_err bytes a.1 a.0 t.0.rest_fits t.1 some t.0.parts (ltb-false (length a.1) (32 + 16 * a.0) q.0) q.1
                   ]
             ]
       ]
@@ -234,7 +236,7 @@ module _ (bytes : List ℕ) (count : ℕ) (few : count < 2 ^ 64) (e : StoredErro
               record { height = 0; low = omega arith; whole = refl; counted = omega arith; spelled = ap (λ (k : ℕ). magic ++ number k ++ 0 ∷ []) none },
             )
         | inr p ↦
-            subst (HasFault bytes) p.1 (count, 0, parent boxes.empty end, rest, record { parts = parts; counted = few }, refl, λ same. let z : eqb count 0 ≡ false = p.0 in absurd (grind (arith, z, same)))
+            subst (HasFault bytes) p.1 (count, 0, parent boxes.empty end, rest, record { parts = parts; counted = few }, le, refl, λ same. let z : eqb count 0 ≡ false = p.0 in absurd (grind (arith, z, same)))
       ]
   root_err (suc h) rest le fits parts x =
       elim (bind_err (node_at (suc h) rest) _ e x) [
@@ -255,7 +257,7 @@ module _ (bytes : List ℕ) (count : ℕ) (few : count < 2 ^ 64) (e : StoredErro
                     record { height = suc h; low = le; whole = n.1; counted = omega (arith, same, few); spelled = ap (λ (k : ℕ). magic ++ number k ++ suc h ∷ spelling root.0) (sym same) },
                   )
               | inr p ↦
-                  subst (HasFault bytes) p.1 (count, suc h, root.0, root.1, record { parts = text; counted = few }, n.1, λ same. let z : eqb (length (points_of root.0)) count ≡ false = p.0 in absurd (grind (arith, z, same)))
+                  subst (HasFault bytes) p.1 (count, suc h, root.0, root.1, record { parts = text; counted = few }, le, n.1, λ same. let z : eqb (length (points_of root.0)) count ≡ false = p.0 in absurd (grind (arith, z, same)))
             ]
       ]
 
@@ -263,7 +265,7 @@ module _ (bytes : List ℕ) (count : ℕ) (few : count < 2 ^ 64) (e : StoredErro
   unfolding levels_at
   levels_err [] fits parts x =
       let size : length bytes ≡ 12 = ap length parts ∙ length-append (magic ++ number count) [] ∙ ap (λ (k : ℕ). k + 0) (length-append magic (number count) ∙ ap (λ (k : ℕ). 4 + k) (number_long count)) in
-      subst (HasFault bytes) (err_is Truncated e x) (inl (omega (arith, size)))
+      subst (HasFault bytes) (err_is Truncated e x) (inl (omega (arith, size), λ long. ap (take 4) parts))
   levels_err (h ∷ rest) fits parts x =
       elim (guard_err (ltb 64 h) BadLevel (root_at h count rest) e x) [
         | inl p ↦ subst (HasFault bytes) p.1 (inl (count, h, rest, record { parts = parts; counted = few }, let z : ltb 64 h ≡ true = p.0 in grind (arith, z)))
@@ -274,7 +276,7 @@ tree_err : (bytes : List ℕ) (e : StoredError) → IsBytes bytes → tree_at by
 unfolding tree_at
 tree_err bytes e fits h =
     elim (guard_err (ltb (length bytes) 4) Truncated _ e h) [
-      | inl p ↦ subst (HasFault bytes) p.1 (inl (let z : ltb (length bytes) 4 ≡ true = p.0 in grind (arith, z)))
+      | inl p ↦ let short : length bytes < 4 = (let z : ltb (length bytes) 4 ≡ true = p.0 in grind (arith, z)) in subst (HasFault bytes) p.1 (inl (omega (arith, short), λ long. absurd (omega (arith, short, long))))
       | inr p ↦
           let long = ltb-false (length bytes) 4 p.0 in
           elim (chosen_err (pointwise nat_eq (take 4 bytes) magic) BadMagic _ e p.1) [
@@ -284,7 +286,7 @@ tree_err bytes e fits h =
                 elim (bind_err (number_at (drop 4 bytes)) _ e q.1) [
                   | inl f ↦
                       let n = number_err (drop 4 bytes) e f in
-                      subst (HasFault bytes) (sym n.0) (inl (let short = n.1 in omega (arith, short, long, length-drop 4 bytes)))
+                      subst (HasFault bytes) (sym n.0) (inl (let short = n.1 in omega (arith, short, long, length-drop 4 bytes), λ there. same_text (take 4 bytes) magic (sym q.0)))
                   | inr (a, read, x) ↦
                       let t = number_takes (drop 4 bytes) a (IsBytes-drop 4 bytes fits) read in
                       let front : take 4 bytes ≡ magic = same_text (take 4 bytes) magic (sym q.0) in

@@ -57,7 +57,7 @@ each_takes Q child one (suc n) bytes x fits e =
     let both = Takes-then bytes (spelling a.0.0) a.0.1 (joined (map spelling b.0.0)) b.0.1 first.0 second.0 in
     subst (λ (y : List Tree × List ℕ). Takes bytes (joined (map spelling y.0)) y.1 × (length y.0 ≡ suc n) × AllByRecursion Q y.0) (ok_is (a.0.0 ∷ b.0.0, b.0.1) x b.2) (both, ap suc second.1, (first.1, second.2))
 
-same_corners : (b : Box) (lower upper : Place) → has_corners lower upper b ≡ true → (lowers b ≡ lower) × (uppers b ≡ upper)
+pub same_corners : (b : Box) (lower upper : Place) → has_corners lower upper b ≡ true → (lowers b ≡ lower) × (uppers b ≡ upper)
 same_corners b lower upper e = let p = and_parts (pointwise int_eq (lowers b) lower) (pointwise int_eq (uppers b) upper) e in ((signed_items (lowers b) lower).0 p.0, (signed_items (uppers b) upper).0 p.1)
 
 -- what a parent of such children is
@@ -112,7 +112,7 @@ node_takes (suc h) bytes x fits e = let p = parent_takes (IsStored h) (node_at h
 abbrev pub ReadsNodes : (Tree → Type 0) → (List ℕ → Read Tree) → Type 0
 ReadsNodes Q child = (t : Tree) (rest : List ℕ) → Q t → (child (spelling t ++ rest) ≡ Ok (t, rest)) × (16 ≤ length (spelling t))
 
-each_again : (Q : Tree → Type 0) (child : List ℕ → Read Tree) → ReadsNodes Q child → (ns : List Tree) (rest : List ℕ) → AllByRecursion Q ns
+pub each_again : (Q : Tree → Type 0) (child : List ℕ → Read Tree) → ReadsNodes Q child → (ns : List Tree) (rest : List ℕ) → AllByRecursion Q ns
     → (each_at child (length ns) (joined (map spelling ns) ++ rest) ≡ Ok (ns, rest)) × (16 * length ns ≤ length (joined (map spelling ns)))
 unfolding each_at
 each_again Q child one [] rest all = (refl, omega arith)

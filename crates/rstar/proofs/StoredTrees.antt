@@ -80,7 +80,7 @@ levels_again : (h : ℕ) (t : Tree) → h ≤ 64 → IsStoredTree h t → levels
 unfolding levels_at
 levels_again h t le is = let low : ltb 64 h ≡ false = le-ltb _ _ le in rw low (root_again h t is)
 
-after_magic : (rest : List ℕ) → tree_at (magic ++ rest) ≡ (number_at rest >>= λ count. levels_at count.0 count.1)
+pub after_magic : (rest : List ℕ) → tree_at (magic ++ rest) ≡ (number_at rest >>= λ count. levels_at count.0 count.1)
 unfolding tree_at
 after_magic rest = let long : ltb (length (magic ++ rest)) 4 ≡ false = let l : length (magic ++ rest) ≡ 4 + length rest = length-append magic rest in le-ltb _ _ (omega (arith, l)) in rw long refl
 
@@ -123,6 +123,10 @@ one_spelling a b t s r =
 pub spelled_of : {X : Type 0} (bytes : List ℕ) (view : X → Tree) (r : Result X StoredError) → IsBytes bytes → Gives view r (tree_at bytes) → IfOk r (λ x. Spells bytes (view x))
 spelled_of bytes view (Ok x) fits g = tree_takes bytes (view x) fits g
 spelled_of bytes view (Err e) fits g = tt
+
+pub only_tree : {X : Type 0} (bytes : List ℕ) (view : X → Tree) (r : Result X StoredError) → IsBytes bytes → Gives view r (tree_at bytes) → IfOk r (λ x. (t : Tree) → Spells bytes t → t ≡ view x)
+only_tree bytes view (Ok x) fits g = λ t s. one_tree bytes t (view x) s (tree_takes bytes (view x) fits g)
+only_tree bytes view (Err e) fits g = tt
 
 pub none_spelled : {X : Type 0} (bytes : List ℕ) (view : X → Tree) (r : Result X StoredError) → Gives view r (tree_at bytes) → IfErr r (λ e. e ≢ NoMemory → (t : Tree) → Spells bytes t → ⊥)
 none_spelled bytes view (Ok x) g = tt

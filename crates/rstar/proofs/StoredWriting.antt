@@ -11,14 +11,15 @@ use Rattle.rstar_base.specs.Points.{IsPoint, table}
 use Rattle.rstar_base.proofs.Lists.{all-append}
 use Rattle.rstar.specs.declared.node.RTreeNode.{RTreeNode, Leaf, Parent}
 use Rattle.rstar.specs.declared.node.ParentNode.{ParentNode}
-use Rattle.rstar.specs.Nodes.{IsTree, IsElement, IsInner, children_of, joined}
+use Rattle.rstar.specs.Nodes.{IsTree, IsElement, IsInner, children_of, joined, total}
 use Rattle.rstar.specs.Shapes.{IsParentTree}
 use Rattle.rstar.specs.Shown.{shown, shown_root}
-use Rattle.rstar.specs.Stored.{Place, Box, Tree, low, high, coordinate, boxes, places, merge_of, IsStored, number, point, spelling}
-use Rattle.rstar.proofs.PairRows.{nodes-row}
+use Rattle.rstar.specs.Stored.{Place, Box, Tree, low, high, coordinate, boxes, places, merge_of, IsStored, magic, number, point, spelling, stored_size}
+use Rattle.rstar.proofs.PairRows.{nodes-row, folded-row}
 use Rattle.rstar.proofs.Rows.{shown-Leaf, shown-Parent, no_parent, no_leaf, parent_of}
 use Rattle.rstar.proofs.Trees.{merged_is_hull}
-use Rattle.std.specs.Prelude.{slice_index_or, pos}
+use Rattle.std.specs.Prelude.{slice_index_or, pos, sum_by}
+use Rattle.std.proofs.lemmas.List.Sums.{sum_by-cons, sum_by_more, sum_by_more_le}
 use Rattle.rstar.proofs.StoredBytes.{bytes_of}
 use Rattle.rstar.proofs.StoredLaws.{spelling-parent}
 use Rattle.rstar.proofs.StoredNodes.{merge_same, point_laws, place_laws}
@@ -60,6 +61,10 @@ table_two (x ∷ y ∷ z ∷ p) long = absurd (omega (arith, long))
 
 pub place_is : (p : Place) → length p ≡ 2 → IsPoint low high 2 (table 2 (coordinate p)) → IsPoint low high 2 p
 place_is p long is = subst (IsPoint low high 2) (table_two p long) is
+
+-- the magic, the number of points and the height, one after another
+pub front_put : (start a b d : List ℕ) (count height : ℕ) → start ≡ [] → a ≡ start ++ magic → b ≡ a ++ number count → d ≡ b ++ height ∷ [] → d ≡ magic ++ number count ++ height ∷ []
+front_put start a b d count height none put_a put_b put_d = put_d ∙ ap (λ t. t ++ height ∷ []) (put_b ∙ ap (λ t. t ++ number count) (put_a ∙ ap (λ t. t ++ magic) none))
 
 -- the number of children and the corners, one after another
 pub head_put : (start a b d : List ℕ) (count : ℕ) (e : Box) (lower upper : Place) → length lower ≡ 2 → length upper ≡ 2
@@ -128,3 +133,39 @@ module _ where
         some_item : (ns : List (RTreeNode Place Box)) → ns ≢ [] → 0 < length ns
         some_item [] full = absurd (full refl)
         some_item (n ∷ ns) full = omega arith
+
+-- ---- how many bytes
+
+-- the bytes that a node takes
+abbrev pub size_of : RTreeNode Place Box → ℕ
+size_of n = stored_size (shown n)
+
+pub leaf_size : (n : RTreeNode Place Box) (p : Place) → n ≡ Leaf p → size_of n ≡ 16
+leaf_size n p is = ap size_of is ∙ ap stored_size (shown-Leaf Place Box p)
+
+pub node_size : (n : RTreeNode Place Box) (p : ParentNode Place Box) → n ≡ Parent p → size_of n ≡ stored_size (shown_root p)
+node_size n p is = ap size_of is ∙ ap stored_size (shown-Parent p)
+
+pub parent_size : (p : ParentNode Place Box) → stored_size (shown_root p) ≡ 40 + sum_by size_of (children_of p)
+parent_size p = ap (λ below. 40 + total below) (folded-row (λ t. 16) (λ e below. 40 + total below) (map shown (children_of p))) ∙ ap (λ k. 40 + k) (each (children_of p)) where
+  each : (ns : List (RTreeNode Place Box)) → total (map stored_size (map shown ns)) ≡ sum_by size_of ns
+  each [] = refl
+  each (n ∷ ns) = ap (λ k. size_of n + k) (each ns) ∙ sym (sum_by-cons size_of n ns)
+
+-- the children of a parent so far, and one more
+module _ (ns items : List (RTreeNode Place Box)) (k : ℕ) (n : RTreeNode Place Box) (same : items ≡ ns) (below : k < length items) (is : n ≡ get_or items k n) where
+  pub size_more : sum_by size_of (take (k + 1) ns) ≡ sum_by size_of (take k ns) + size_of n
+  size_more =
+      let here : k < length ns = rw same at below in
+      let at : n ≡ get_or ns k n = rw same at is in
+      sum_by_more size_of ns k n here ∙ ap (λ m. sum_by size_of (take k ns) + size_of m) (sym at)
+
+  pub size_within : sum_by size_of (take k ns) + size_of n ≤ sum_by size_of ns
+  size_within =
+      let here : k < length ns = rw same at below in
+      let at : n ≡ get_or ns k n = rw same at is in
+      let le = sum_by_more_le size_of ns k n here in
+      subst (λ m. sum_by size_of (take k ns) + size_of m ≤ sum_by size_of ns) (sym at) le
+
+pub size_all : (p : ParentNode Place Box) (items : List (RTreeNode Place Box)) (k : ℕ) → items ≡ children_of p → length items ≤ k → 40 + sum_by size_of (take k (children_of p)) ≡ stored_size (shown_root p)
+size_all p items k same ended = ap (λ ns. 40 + sum_by size_of ns) (all_taken (children_of p) items k same ended) ∙ sym (parent_size p)

@@ -13,20 +13,16 @@ use Rattle.rstar.specs.Trees.{elements_in, IsWholeTree}
 use Rattle.rstar.proofs.Heights.{levels_are}
 use Rattle.rstar.proofs.StoredNodes.{root_points, root_shows_none}
 
--- the bytes before the root
-head_put : (start a b d : List ℕ) (count byte : ℕ) → start ≡ [] → a ≡ start ++ magic → b ≡ a ++ number count → d ≡ b ++ byte ∷ [] → d ≡ magic ++ number count ++ byte ∷ []
-head_put start a b d count byte none put_a put_b put_d = put_d ∙ ap (λ t. t ++ byte ∷ []) (put_b ∙ ap (λ t. t ++ number count) (put_a ∙ ap (λ t. t ++ magic) none))
-
 module _ {D P S X : Type 0} (max : ℕ) (tree : RTree Place D Box P S X) where
   -- the points that a whole tree shows are its elements
   pub whole_points : IsWholeTree boxes places max tree → points_of (shown_root tree.root) ≡ elements_in tree
   unfolding IsWholeTree
   whole_points whole = root_points (IsInner boxes places) (IsElement boxes places) whole.root_whole.height tree.root whole.root_whole.below
 
-  pub empty_written : IsWholeTree boxes places max tree → children_of tree.root ≡ [] → (start a b d : List ℕ) (count : ℕ) → start ≡ [] → a ≡ start ++ magic → b ≡ a ++ number count → d ≡ b ++ 0 ∷ [] → count ≡ length (elements_in tree)
+  pub empty_written : IsWholeTree boxes places max tree → children_of tree.root ≡ [] → (d : List ℕ) (count : ℕ) → d ≡ magic ++ number count ++ 0 ∷ [] → count ≡ length (elements_in tree)
       → Spells d (shown_root tree.root)
   unfolding IsWholeTree
-  empty_written whole none start a b d count is put_a put_b put_d counted =
+  empty_written whole none d count put counted =
       let tight : tree.root.envelope ≡ boxes.empty = whole.root_whole.tight ∙ ap (λ ns. hull boxes places.box_of (all_elements ns)) none in
       let shows : shown_root tree.root ≡ parent boxes.empty end = root_shows_none tree.root none tight in
       let zero_of : count ≡ 0 = counted ∙ ap (λ ns. length (all_elements ns)) none in
@@ -35,15 +31,15 @@ module _ {D P S X : Type 0} (max : ℕ) (tree : RTree Place D Box P S X) where
         low = omega arith;
         whole = refl;
         counted = omega arith;
-        spelled = head_put start a b d count 0 is put_a put_b put_d ∙ ap (λ (k : ℕ). magic ++ number k ++ 0 ∷ []) zero_of;
+        spelled = put ∙ ap (λ (k : ℕ). magic ++ number k ++ 0 ∷ []) zero_of;
       })
 
   pub tree_written : IsWholeTree boxes places max tree → children_of tree.root ≢ [] → (levels byte : ℕ) → levels ≡ levels_below (children_of tree.root) → levels ≤ 63 → byte ≡ suc levels
       → ((h : ℕ) → IsParentTree (IsInner boxes places) (IsElement boxes places) h tree.root → IsStored (suc h) (shown_root tree.root))
-      → (start a b d out : List ℕ) (count : ℕ) → start ≡ [] → a ≡ start ++ magic → b ≡ a ++ number count → d ≡ b ++ byte ∷ [] → out ≡ d ++ spelling (shown_root tree.root) → count ≡ length (elements_in tree) → count < 2 ^ 64
+      → (d out : List ℕ) (count : ℕ) → d ≡ magic ++ number count ++ byte ∷ [] → out ≡ d ++ spelling (shown_root tree.root) → count ≡ length (elements_in tree) → count < 2 ^ 64
       → Spells out (shown_root tree.root)
   unfolding IsWholeTree
-  tree_written whole some levels byte deep few up stored start a b d out count is put_a put_b put_d put_out counted fits =
+  tree_written whole some levels byte deep few up stored d out count put_d put_out counted fits =
       let h = whole.root_whole.height in
       let deepness : levels ≡ h = deep ∙ levels_are (IsInner boxes places) (IsElement boxes places) (λ p q. q.1) h (children_of tree.root) some whole.root_whole.below in
       let points : length (points_of (shown_root tree.root)) ≡ count = ap length (whole_points whole) ∙ sym counted in
@@ -52,14 +48,14 @@ module _ {D P S X : Type 0} (max : ℕ) (tree : RTree Place D Box P S X) where
         low = omega (arith, few);
         whole = subst (λ (k : ℕ). IsStored (suc k) (shown_root tree.root)) (sym deepness) (stored h ((whole.root_whole.tight, some), whole.root_whole.below));
         counted = omega (arith, points, fits);
-        spelled = put_out ∙ ap (λ t. t ++ spelling (shown_root tree.root)) (head_put start a b d count byte is put_a put_b put_d)
+        spelled = put_out ∙ ap (λ t. t ++ spelling (shown_root tree.root)) put_d
             ∙ append_assoc (magic ++ number count) (byte ∷ []) (spelling (shown_root tree.root))
             ∙ ap (λ (k : ℕ). magic ++ number count ++ k ∷ spelling (shown_root tree.root)) up
             ∙ ap (λ (k : ℕ). magic ++ number k ++ suc levels ∷ spelling (shown_root tree.root)) (sym points);
       }
 
 module _ {D P S X : Type 0} (max : ℕ) (tree : RTree Place D Box P S X) (whole : IsWholeTree boxes places max tree) (root : ParentNode Place Box) (is : root ≡ tree.root) where
-  pub empty_root_written : vec_len root.children ≡ 0 → (start a b d : List ℕ) (count : ℕ) → start ≡ [] → a ≡ start ++ magic → b ≡ a ++ number count → d ≡ b ++ 0 ∷ [] → count ≡ length (elements_in tree)
+  pub empty_root_written : vec_len root.children ≡ 0 → (d : List ℕ) (count : ℕ) → d ≡ magic ++ number count ++ 0 ∷ [] → count ≡ length (elements_in tree)
       → Spells d (shown_root tree.root)
   empty_root_written length_0 =
       let none : children_of root ≡ [] = nil_from_length root.children.items (omega (arith, length_0, root.children.ok.0)) in
@@ -67,10 +63,10 @@ module _ {D P S X : Type 0} (max : ℕ) (tree : RTree Place D Box P S X) (whole 
 
   pub root_written : (vec_len root.children ≡ 0 → ⊥) → (levels byte : ℕ) → levels ≡ levels_below (children_of tree.root) → levels ≤ 63 → byte ≡ suc levels
       → ((h : ℕ) → IsParentTree (IsInner boxes places) (IsElement boxes places) h root → IsStored (suc h) (shown_root root))
-      → (start a b d out : List ℕ) (count : ℕ) → start ≡ [] → a ≡ start ++ magic → b ≡ a ++ number count → d ≡ b ++ byte ∷ [] → out ≡ d ++ spelling (shown_root root) → count ≡ length (elements_in tree) → count < 2 ^ 64
+      → (d out : List ℕ) (count : ℕ) → d ≡ magic ++ number count ++ byte ∷ [] → out ≡ d ++ spelling (shown_root root) → count ≡ length (elements_in tree) → count < 2 ^ 64
       → Spells out (shown_root tree.root)
-  root_written some levels byte deep few up stored start a b d out count none put_a put_b put_d put_out counted fits =
+  root_written some levels byte deep few up stored d out count put_d put_out counted fits =
       let full : children_of root ≢ [] = λ e. let z = ap length e in some (omega (arith, z, root.children.ok.0)) in
       tree_written max tree whole (subst (λ r. children_of r ≢ []) is full) levels byte deep few up
       (subst (λ r. (h : ℕ) → IsParentTree (IsInner boxes places) (IsElement boxes places) h r → IsStored (suc h) (shown_root r)) is stored)
-      start a b d out count none put_a put_b put_d (put_out ∙ ap (λ r. d ++ spelling (shown_root r)) is) counted fits
+      d out count put_d (put_out ∙ ap (λ r. d ++ spelling (shown_root r)) is) counted fits

@@ -1,5 +1,5 @@
 -- The stored form of a tree of points: which bytes spell which tree.
-use Rattle.std.specs.Prelude.{◌≡◌, ◌<◌, ◌≤◌, ◌^◌, ◌-◌, ℕ, ℤ, zero, suc, List, [], ◌∷◌, ◌++◌, length, map, pos, negsuc, slice_index_or}
+use Rattle.std.specs.Prelude.{◌≡◌, ◌<◌, ◌≤◌, ◌+◌, ◌^◌, ◌-◌, ℕ, ℤ, zero, suc, List, [], ◌∷◌, ◌++◌, length, map, pos, negsuc, slice_index_or}
 use Rattle.std.specs.List.{AllByRecursion, flat_map}
 use Rattle.std.specs.Int.{w64, to_le_bytes, cast_unsigned}
 use Rattle.rstar_base.specs.BoxData.{box_data}
@@ -10,7 +10,7 @@ use Rattle.rstar_base.specs.PointElements.{point_object}
 use Rattle.rstar_base.specs.Points.{IsPoint}
 use Rattle.rstar.specs.Shown.{Shown, leaf, parent, end, nodes_in, fold_shown}
 use Rattle.rstar.specs.Meets.{shown_box}
-use Rattle.rstar.specs.Nodes.{joined}
+use Rattle.rstar.specs.Nodes.{joined, total}
 
 -- ---- trees of points
 
@@ -86,6 +86,10 @@ corners b = point (map (λ x. x.0) b) ++ point (map (λ x. x.1) b)
 -- a node as bytes
 abbrev pub spelling : Tree → List ℕ
 spelling t = fold_shown point (λ b below. number (length below) ++ corners b ++ joined below) t
+
+-- the number of bytes of a tree: 16 for a leaf, 40 for a parent
+abbrev pub stored_size : Tree → ℕ
+stored_size t = fold_shown (λ p. 16) (λ b below. 40 + total below) t
 
 -- the root as bytes, where the height is not 0
 abbrev pub root_spelling : ℕ → Tree → List ℕ

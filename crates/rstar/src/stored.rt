@@ -5,7 +5,7 @@
 //! its children (`u64`, at least 1), the lower and the upper corner of its box, and its children in order. A
 //! leaf is its point, two `i64`.
 
-ghost use Rattle.std.specs.Prelude.{◌≡◌, ◌⊎◌, ◌++◌, Err, suc, ◌≢◌, IfErr, ◌∷◌, [], ◌≤◌, ◌<◌, ◌+◌, ◌*◌, ◌^◌, ℕ, length, map, IfOk, OnOk, vec_len};
+ghost use Rattle.std.specs.Prelude.{◌≡◌, ◌⊎◌, ◌++◌, Err, suc, ◌≢◌, IfErr, ◌∷◌, [], List, ◌≤◌, ◌<◌, ◌+◌, ◌*◌, ◌^◌, ℕ, length, map, min, IfOk, OnOk, vec_len, vec_capacity};
 ghost use Rattle.rstar.specs.declared.node.RTreeNode.{Parent};
 ghost use Rattle.rstar.specs.declared.stored.StoredError.TheVariants.{NoMemory, TooHigh};
 ghost use Rattle.rstar.specs.Kept.{IsKeptTree, AreKept};
@@ -14,8 +14,8 @@ ghost use Rattle.rstar.specs.Heights.{height_of};
 ghost use Rattle.rstar.specs.Shapes.{IsParentTree};
 ghost use Rattle.rstar_base.specs.Points.{IsPoint};
 ghost use Rattle.rstar.specs.Shown.{shown, shown_root};
-ghost use Rattle.rstar.specs.Stored.{Tree, boxes, places, low, high, IsStored, Spells, point, spelling};
-ghost use Rattle.rstar.specs.StoredFaults.{HasFault};
+ghost use Rattle.rstar.specs.Stored.{Tree, boxes, places, low, high, IsStored, Spells, magic, number, point, spelling, stored_size};
+ghost use Rattle.rstar.specs.StoredFaults.{HasFault, IsOnlyFault};
 ghost use Rattle.rstar.specs.StoredReading.{Gives, number_at, coordinate_at, point_at, leaf_at, each_at, has_corners, parent_at, node_at, root_at, levels_at, tree_at};
 ghost use Rattle.rstar.specs.Trees.{root_of, IsWholeTree};
 
@@ -170,7 +170,7 @@ fn parent_at<'a>(
     Ok((ParentNode { children, envelope }, rest))
 }
 
-/// This many nodes with leaves this many levels below, and the bytes after them.
+/// This many nodes with leaves this many levels below, and the bytes after them. So many leaves fit into the bytes.
 #[cycle(read)]
 fn children_at<'a>(
     alloc: Global,
@@ -182,6 +182,7 @@ fn children_at<'a>(
 ) -> Result<(Vec<RTreeNode<[i64; 2]>>, &'a [u8]), StoredError>
     requires counted { widest.old + 1 < 2 ^ 64 }
     requires points { points.old + length bytes.now < 2 ^ 64 }
+    requires there { 16 * count ≤ length bytes.now }
     ensures read { Gives (λ x. (map shown x.0.items, x.1.now)) result (each_at (node_at below) count bytes.now) }
     ensures kept { IfOk result (λ x. AreKept boxes places widest.new below x.0.items) }
     ensures len { IfOk result (λ x. vec_len x.0 ≡ count) }
@@ -293,64 +294,82 @@ pub fn read_stored<Params: RTreeParams>(
     alloc: Global,
     bytes: &[u8],
 ) -> Result<RTree<[i64; 2], Params>, StoredError>
+    ensures first { Gives (λ tree. shown_root (root_of tree)) result (tree_at bytes.now) }
     ensures spelled { IfOk result (λ tree. Spells bytes.now (shown_root (root_of tree))) }
+    ensures one_tree { IfOk result (λ tree. (t : Tree) → Spells bytes.now t → t ≡ shown_root (root_of tree)) }
     ensures whole { IfOk result (IsWholeTree boxes places Params.MAX_SIZE) }
     ensures none { IfErr result (λ e. e ≢ NoMemory → (t : Tree) → Spells bytes.now t → ⊥) }
     ensures fault { IfErr result (HasFault bytes.now) }
+    ensures one_fault { IfErr result (λ e. e ≢ NoMemory → IsOnlyFault bytes.now e) }
 {
     tree_of(alloc, bytes)
 }
 
-/// Appends a point.
-fn put_point(out: &mut Vec<u8>, p: [i64; 2]) -> Result<(), AllocError>
-    ensures spelled { OnOk result (out.new.items ≡ out.old.items ++ point p) }
-    ensures place { OnOk result (IsPoint low high 2 p) }
+/// Appends bytes, for which there is room.
+fn put_bytes(out: &mut Vec<u8>, bytes: &[u8])
+    requires room { vec_len out.old + length bytes.now ≤ vec_capacity out.old }
+    ensures put { out.new.items ≡ out.old.items ++ bytes.now }
+    ensures len { vec_len out.new ≡ vec_len out.old + length bytes.now }
+    ensures capacity { vec_capacity out.new ≡ vec_capacity out.old }
+{
+    for &byte in bytes {
+        out.push_reserved(byte);
+    }
+}
+
+/// Appends a point, for which there is room.
+fn put_point(out: &mut Vec<u8>, p: [i64; 2])
+    requires room { vec_len out.old + 16 ≤ vec_capacity out.old }
+    ensures spelled { out.new.items ≡ out.old.items ++ point p }
+    ensures len { vec_len out.new ≡ vec_len out.old + 16 }
+    ensures capacity { vec_capacity out.new ≡ vec_capacity out.old }
+    ensures place { IsPoint low high 2 p }
 {
     // Does nothing but tell that the coordinates are in their range.
     known(&p);
-    out.extend_from_slice(&p[0].to_le_bytes())?;
-    out.extend_from_slice(&p[1].to_le_bytes())?;
-    Ok(())
+    put_bytes(out, &p[0].to_le_bytes());
+    put_bytes(out, &p[1].to_le_bytes());
 }
 
-/// Appends a node.
+/// Appends a node, for which there is room.
 #[cycle(write)]
-fn put_node(out: &mut Vec<u8>, node: &RTreeNode<[i64; 2]>) -> Result<(), AllocError>
-    ensures spelled { OnOk result (out.new.items ≡ out.old.items ++ spelling (shown node.now)) }
+fn put_node(out: &mut Vec<u8>, node: &RTreeNode<[i64; 2]>)
+    requires room { vec_len out.old + stored_size (shown node.now) ≤ vec_capacity out.old }
+    ensures spelled { out.new.items ≡ out.old.items ++ spelling (shown node.now) }
+    ensures len { vec_len out.new ≡ vec_len out.old + stored_size (shown node.now) }
+    ensures capacity { vec_capacity out.new ≡ vec_capacity out.old }
     ensures stored { (h : ℕ) → IsTree (IsInner boxes places) (IsElement boxes places) h node.now
-        → OnOk result (IsStored h (shown node.now)) }
+        → IsStored h (shown node.now) }
 {
     match node {
-        RTreeNode::Leaf(p) => {
-            put_point(out, *p)?;
-            Ok(())
-        }
-        RTreeNode::Parent(parent) => {
-            put_parent(out, parent)?;
-            Ok(())
-        }
+        RTreeNode::Leaf(p) => put_point(out, *p),
+        RTreeNode::Parent(parent) => put_parent(out, parent),
     }
 }
 
-/// Appends a parent.
+/// Appends a parent, for which there is room.
 #[cycle(write)]
-fn put_parent(out: &mut Vec<u8>, parent: &ParentNode<[i64; 2]>) -> Result<(), AllocError>
-    ensures spelled { OnOk result (out.new.items ≡ out.old.items ++ spelling (shown_root parent.now)) }
+fn put_parent(out: &mut Vec<u8>, parent: &ParentNode<[i64; 2]>)
+    requires room { vec_len out.old + stored_size (shown_root parent.now) ≤ vec_capacity out.old }
+    ensures spelled { out.new.items ≡ out.old.items ++ spelling (shown_root parent.now) }
+    ensures len { vec_len out.new ≡ vec_len out.old + stored_size (shown_root parent.now) }
+    ensures capacity { vec_capacity out.new ≡ vec_capacity out.old }
     ensures stored { (h : ℕ) → IsParentTree (IsInner boxes places) (IsElement boxes places) h parent.now
-        → OnOk result (IsStored (suc h) (shown_root parent.now)) }
+        → IsStored (suc h) (shown_root parent.now) }
 {
-    out.extend_from_slice(&(parent.children.len() as u64).to_le_bytes())?;
-    put_point(out, parent.envelope.lower())?;
-    put_point(out, parent.envelope.upper())?;
+    put_bytes(out, &(parent.children.len() as u64).to_le_bytes());
+    put_point(out, parent.envelope.lower());
+    put_point(out, parent.envelope.upper());
     for node in parent.children.as_slice() {
-        put_node(out, node)?;
+        put_node(out, node);
     }
-    Ok(())
 }
 
 /// The length of a node in bytes, clamped to the greatest `usize`.
 #[cycle(size)]
-fn node_size(node: &RTreeNode<[i64; 2]>) -> usize {
+fn node_size(node: &RTreeNode<[i64; 2]>) -> usize
+    ensures { result ≡ min (stored_size (shown node.now)) usize.MAX }
+{
     match node {
         RTreeNode::Leaf(_) => 16,
         RTreeNode::Parent(parent) => parent_size(parent),
@@ -359,7 +378,9 @@ fn node_size(node: &RTreeNode<[i64; 2]>) -> usize {
 
 /// The length of a parent in bytes, clamped to the greatest `usize`.
 #[cycle(size)]
-fn parent_size(parent: &ParentNode<[i64; 2]>) -> usize {
+fn parent_size(parent: &ParentNode<[i64; 2]>) -> usize
+    ensures { result ≡ min (stored_size (shown_root parent.now)) usize.MAX }
+{
     let mut size: usize = 40;
     for node in parent.children.as_slice() {
         size = size.saturating_add(node_size(node));
@@ -367,10 +388,24 @@ fn parent_size(parent: &ParentNode<[i64; 2]>) -> usize {
     size
 }
 
+/// The bytes before the root, in a list with room for exactly `room` bytes.
+fn headed(alloc: Global, room: usize, count: u64, height: u8) -> Result<Vec<u8>, AllocError>
+    requires { 13 ≤ room }
+    ensures spelled { IfOk result (λ out. out.items ≡ magic ++ number count ++ height ∷ []) }
+    ensures len { IfOk result (λ out. vec_len out ≡ 13) }
+    ensures room { IfOk result (λ out. vec_capacity out ≡ room) }
+{
+    let mut out = Vec::with_capacity(alloc, room)?;
+    put_bytes(&mut out, b"RST1");
+    put_bytes(&mut out, &count.to_le_bytes());
+    out.push_reserved(height);
+    Ok(out)
+}
+
 /// The bytes that spell the tree. `read_stored` reads the same tree from them.
 ///
 /// It is refused with `TooHigh` for a tree of more than 64 levels of parents, and otherwise only with
-/// `NoMemory`. Memory is taken once. The cost is one traversal of the nodes.
+/// `NoMemory`. Memory is taken once, for exactly the bytes written. The cost is one traversal of the nodes.
 ///
 /// ```rust
 /// fn packed<R: Read + Drop>(alloc: Global, input: R) -> Result<Vec<u8>, Fault>
@@ -387,6 +422,8 @@ pub fn write_stored<Params: RTreeParams>(
 ) -> Result<Vec<u8>, StoredError>
     requires { IsWholeTree boxes places Params.MAX_SIZE tree.now }
     ensures spelled { IfOk result (λ out. Spells out.items (shown_root (root_of tree.now))) }
+    ensures one_spelling { IfOk result (λ out. (bytes : List ℕ) → Spells bytes (shown_root (root_of tree.now)) → bytes ≡ out.items) }
+    ensures room { IfOk result (λ out. vec_capacity out ≡ length out.items) }
     ensures refused { IfErr result (λ e. (e ≡ NoMemory) ⊎ ((e ≡ TooHigh) × (64 < height_of (root_of tree.now)))) }
     ensures too_high { 64 < height_of (root_of tree.now) → result ≡ Err TooHigh }
 {
@@ -395,15 +432,14 @@ pub fn write_stored<Params: RTreeParams>(
     if levels > 63 {
         return Err(StoredError::TooHigh);
     }
-    let size = parent_size(root).saturating_add(13);
-    let mut out = Vec::with_capacity(*root.children.allocator(), size)?;
-    out.extend_from_slice(b"RST1")?;
-    out.extend_from_slice(&(tree.size() as u64).to_le_bytes())?;
+    let alloc = *root.children.allocator();
+    let count = tree.size() as u64;
     if root.children.is_empty() {
-        out.push(0)?;
+        let out = headed(alloc, 13, count, 0)?;
         return Ok(out);
     }
-    out.push(levels as u8 + 1)?;
-    put_parent(&mut out, root)?;
+    let room = parent_size(root).saturating_add(13);
+    let mut out = headed(alloc, room, count, levels as u8 + 1)?;
+    put_parent(&mut out, root);
     Ok(out)
 }

@@ -4,8 +4,8 @@
 
 use super::stored::points_of;
 use super::stored_tests::{EMPTY, ONE, answer};
-use rstar::DefaultParams;
 use rstar::stored::{StoredError, read_stored, write_stored};
+use rstar::{DefaultParams, RTree};
 use std::alloc::{AllocError, Global};
 use std::io::Write;
 use std::test::Fail;
@@ -242,9 +242,10 @@ fn spelled(alloc: Global, count: u64, levels: u8, numbers: &[i64]) -> Result<Vec
     Ok(bytes)
 }
 
-/// Whether the point 1 2 below so many levels of parents is told so.
+/// Whether the point 1 2 below so many levels of parents, under such a number of points, is told so.
 fn chain_is_told(
     alloc: Global,
+    count: u64,
     levels: u8,
     answer: Option<StoredError>,
 ) -> Result<bool, AllocError> {
@@ -253,7 +254,7 @@ fn chain_is_told(
         numbers.extend_from_slice(&[1i64, 1, 2, 1, 2])?;
     }
     numbers.extend_from_slice(&[1, 2])?;
-    let bytes = spelled(alloc, 1, levels, &numbers)?;
+    let bytes = spelled(alloc, count, levels, &numbers)?;
     Ok(told(alloc, &bytes) == (true, answer))
 }
 
@@ -274,6 +275,8 @@ fn rows_of_the_format(rt: HostRuntime) -> Result<(), Fail> {
         (
             Some(Truncated),
             &[
+                [2, 245, 13, 20, 61, 9],
+                [2, 245, 13, 20, 53, 0],
                 [0, 3, 0, 0x53, 255, 0],
                 [0, 12, 255, 0, 255, 0],
                 [1, 13, 255, 0, 255, 0],
@@ -289,6 +292,7 @@ fn rows_of_the_format(rt: HostRuntime) -> Result<(), Fail> {
             Some(BadMagic),
             &[
                 [0, 4, 0, 0x53, 255, 0],
+                [0, 12, 3, 0x32, 255, 0],
                 [1, 13, 0, 0x53, 12, 65],
                 [1, 69, 0, 0x53, 255, 0],
             ],
@@ -296,6 +300,7 @@ fn rows_of_the_format(rt: HostRuntime) -> Result<(), Fail> {
         (
             Some(BadLevel),
             &[
+                [0, 13, 4, 1, 12, 65],
                 [1, 13, 12, 65, 255, 0],
                 [1, 21, 13, 0, 255, 0],
                 [1, 69, 12, 65, 255, 0],
@@ -343,8 +348,39 @@ fn rows_of_the_format(rt: HostRuntime) -> Result<(), Fail> {
             "{answer:?}"
         );
     }
-    assert!(rt; chain_is_told(rt.alloc(), 64, None)?);
-    assert!(rt; chain_is_told(rt.alloc(), 65, Some(BadLevel))?);
+    assert!(rt; chain_is_told(rt.alloc(), 1, 64, None)?);
+    assert!(rt; chain_is_told(rt.alloc(), 2, 64, Some(BadCount))?);
+    assert!(rt; chain_is_told(rt.alloc(), 1, 65, Some(BadLevel))?);
+    assert!(rt; chain_is_told(rt.alloc(), 2, 65, Some(BadLevel))?);
+    Ok(())
+}
+
+/// The stored bytes of the tree that points make which go in one by one; none where a call is refused.
+fn stored_one_by_one(alloc: Global, points: &[[i64; 2]]) -> Vec<u8> {
+    let mut tree = RTree::<[i64; 2]>::default(alloc);
+    for &point in points {
+        let _refused = tree.insert(point).is_err();
+    }
+    match write_stored(&tree) {
+        Ok(bytes) => bytes,
+        Err(_) => Vec::new(alloc),
+    }
+}
+
+// The seven points on a line, which forced reinsertion and a split put under two parents.
+#[test]
+fn points_that_went_in_are_spelled_so(rt: HostRuntime) -> Result<(), Fail> {
+    const POINTS: [[i64; 2]; 7] = [
+        [0, 0],
+        [1, 0],
+        [2, 0],
+        [100, 0],
+        [101, 0],
+        [102, 0],
+        [103, 0],
+    ];
+    let line = spelled(rt.alloc(), 7, 2, &ALONG_A_LINE)?;
+    assert_eq!(rt; *stored_one_by_one(rt.alloc(), &POINTS), *line);
     Ok(())
 }
 
