@@ -23,7 +23,7 @@ LIBRARIES = ["rstar_base", "rstar"]
 PROGRAM = ["run", "pack", "unpack", "mode"]
 LIMITS = {"docs/API.md": 30_000, "docs/DEFINITIONS.md": 28_000}
 # A definition of at most so many characters is shown with its own lines.
-SHORT = 120
+SHORT = 108
 # Words that say nothing of an answer by themselves.
 PLAIN = {"pos", "min", "table", "true", "false", "IfOk", "IfSome", "IfErr", "IfNone", "IsTrue"}
 
@@ -40,10 +40,11 @@ def signature(item):
     for _ in range(2):
         text = re.sub(r"<[\w:]+ as (?:Envelope|Point)>::", "", text)
     result = text.rpartition(" -> ")[2] if re.search(r"\) -> [^()]*(\(.*\))?[^()]*$", text) else ""
+    short = re.sub(r"\b(\w*Iterator|Locate\w+)<(?:[^<>]|<[^<>]*>)*>", r"\1", result)
     inside = re.search(rf"fn {item.name}(?:<.*?>)?\((.*)\)", text.removesuffix(" -> " + result))
     names = re.findall(r"(&?(?:mut )?self|\w+)(?=:|,|$| )(?:: [^,]*(?:<[^()]*>|\([^()]*\))?)?", inside[1]) if inside else []
-    method = "." if names[:1] == ["&self"] else ""
-    return f"{method}{item.name}({', '.join(names[len(method):])})" + (f" -> {result}".replace(", AllocError>", ">") if result else "")
+    method = {"&self": ".", "&mut self": "!"}.get(names[0] if names else "", "")
+    return f"{method}{item.name}({', '.join(names[len(method):])})" + (f" -> {short}".replace(", AllocError>", ">") if result and short != "Self" else "")
 
 
 def homes(crate):
@@ -153,6 +154,7 @@ def api_page(library):
             name = f"`{signature(item)}`" if item.kind == "fn" else f"**{item.name}**"
             text = " ".join(item.docs[:item.docs.index("")] if "" in item.docs else item.docs)
             answer = re.split(r"(?<=[.])\s+(?=[A-Z`])", text)[0].removesuffix(".")
+            answer = re.sub(r" \([A-Z][^()]* \d{4}\)", "", answer)
             says, wrong = library.says(item), ", ".join(shown.get(id(item), []))
             lines.append(f"- {name} {answer}" + (f" [{says}]" if says else "") + (f" ✗ {wrong}" if wrong else ""))
     return "\n".join(lines) + "\n"

@@ -21,12 +21,15 @@ impl<T: RTreeObject, Params: RTreeParams> RTree<T, Params> {
     /// where a tree has more than 13 levels of parents.
     ///
     /// ```rust
-    /// let met = tree.intersection_candidates_with_other_tree(tree)?;
-    /// let mut pairs: Vec<Pair<'_, GeomWithData<R, u64>>> = met.collect(alloc)?;
-    /// pairs.retain(|&(one, other)| one.data < other.data);
-    /// Ok(pairs)
+    /// match left.intersection_candidates_with_other_tree(right) {
+    ///     Ok(mut pairs) => match drained(alloc, &mut pairs) {
+    ///         Ok(all) => Ok((all, pairs.opened())),
+    ///         Err(refused) => Err(refused),
+    ///     },
+    ///     Err(refused) => Err(refused),
+    /// }
     /// ```
-    /// *`crates/rstar_vectors/src/uses/overlaps.rt`*
+    /// *`crates/rstar_vectors/src/joins.rt`*
     #[tactic(auto, unfolding(crate::specs::Trees::IsWholeTree))]
     pub fn intersection_candidates_with_other_tree<
         'a,

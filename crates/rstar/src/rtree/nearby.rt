@@ -20,7 +20,8 @@ impl<T: RTreeObject, Params: RTreeParams> RTree<T, Params>
 where
     T::Envelope: EnvelopeDistance,
 {
-    /// The elements whose envelopes are at most a distance away from an envelope, in some order. Distances are squared.
+    /// The elements at most a distance away from an envelope, in some order. Distances are squared, and taken to the
+    /// elements' envelopes.
     ///
     /// It visits the parents whose envelopes are no farther. Memory may be refused for the path of a tree of more than 13
     /// levels of parents.

@@ -20,6 +20,14 @@ impl<T: RTreeObject, Params: RTreeParams> RTree<T, Params> {
     ///
     /// It visits the pairs of nodes whose envelopes intersect, and no more than the join of the tree with itself does.
     /// Memory may be refused for the paths of a tree of more than 12 levels of parents.
+    ///
+    /// ```rust
+    /// let met = tree.intersecting_pairs()?;
+    /// let mut pairs: Vec<Pair<'_, GeomWithData<R, u64>>> = met.collect(alloc)?;
+    /// pairs.retain(|&(one, other)| one.data != other.data);
+    /// Ok(pairs)
+    /// ```
+    /// *`crates/rstar_vectors/src/uses/overlaps.rt`*
     #[tactic(auto, unfolding(crate::specs::Trees::IsWholeTree))]
     pub fn intersecting_pairs(&self) -> Result<SelfIntersectionIterator<'_, T>, AllocError>
         requires { IsWholeTree T.Envelope.boxes T.object Params.MAX_SIZE self.now }
