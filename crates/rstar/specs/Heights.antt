@@ -22,6 +22,7 @@ abbrev pub height_of : {T E : Type 0} → ParentNode T E → ℕ
 height_of root = 1 + levels_below (children_of root)
 
 -- the spare child lists for an insertion into a tree of that height, where an overflow inserts `reinserted` children
--- anew: each of them, and at least one, may split a parent on each level and make a new root
+-- anew: each of them, and at least one, may take one on each level, for the second part of a parent that is split or for a
+-- parent whose list is full, and one for a new root
 abbrev pub spare_lists : ℕ → ℕ → ℕ
 spare_lists reinserted height = max 1 reinserted * (height + reinserted + 2)
