@@ -1,5 +1,5 @@
 -- What the steps of a search for the first few elements keep.
-use Rattle.std.proofs.Common.{Less, Equal, Greater, ◌≡◌, inl, inr, ℕ, ◌+◌, ◌<◌, ◌≤◌, ◌<ℤ◌, ℤ, pos, suc, true, false, List, [], ◌∷◌, ◌++◌, length, length-append, map, refl, ap, sym, ◌∙◌, subst, arith, append_assoc, append-nil, Option, Some, None, slice_get, ◌-◌, All}
+use Rattle.std.proofs.Common.{Less, Equal, Greater, ◌≡◌, inl, inr, ℕ, ◌+◌, ◌<◌, ◌≤◌, ◌<ℤ◌, ◌≤ℤ◌, ℤ, pos, true, false, List, [], ◌∷◌, ◌++◌, length, length-append, map, refl, ap, sym, ◌∙◌, subst, arith, append_assoc, append-nil, Option, Some, None, get_or, slice_get, ◌-◌, All}
 use Rattle.std.specs.Borrow.{Bor}
 use Rattle.std.specs.Prelude.{option_to_list}
 use Rattle.std.specs.Cmp.{IsTotalOrder, nat_cmp_is}
@@ -11,6 +11,8 @@ use Rattle.std.proofs.HeapSift as sifts
 use Rattle.std.proofs.lemmas.Cmp.{int_ranked, by_ranked}
 use Rattle.std.proofs.lemmas.Int.{ints}
 use Rattle.std.proofs.lemmas.List.{length-map}
+use Rattle.std.proofs.lemmas.Option.{get_or_from_slice_get}
+use Rattle.std.proofs.Math.Seq.{get_or-append_seam}
 use Rattle.std.proofs.lemmas.List.Elements.{recursion_from_All}
 use Rattle.std.proofs.lemmas.List.Sums.{sum_by-cons}
 use Rattle.std.proofs.lemmas.List.Sorted.{sum_by-IsPermutation, IsPermutation-refl, IsPermutation-trans, IsPermutation-cons, IsPermutation-append_left, IsPermutation-append_right, IsPermutation-append_comm, IsPermutation-insert, IsPermutation-map, length_permutation}
@@ -24,7 +26,7 @@ use Rattle.rstar_base.proofs.Lists.{all-append, all_first, all_second, all_along
 use Rattle.rstar.specs.declared.node.RTreeNode.{RTreeNode, Leaf, Parent}
 use Rattle.rstar.specs.declared.node.ParentNode.{ParentNode}
 use Rattle.rstar.specs.declared.algorithm.nearest_neighbor.waiting.Waiting.{Waiting}
-use Rattle.rstar.specs.Few.{Keeps, Found, found_elements, waiting_parents, WaitAtDistance, AreFoundSoFar}
+use Rattle.rstar.specs.Few.{KeepsGreatest, Found, found_elements, waiting_parents, WaitAtDistance, AreFoundSoFar}
 use Rattle.rstar.specs.Lists.{AreOrdered, AreFirstOf, IsNotLater, by_distance}
 use Rattle.rstar.specs.Nodes.{elements, parents, all_elements, all_parents, children_of, elements_of, IsWhole}
 use Rattle.rstar.specs.Searches.{nearest_on_top, distance_of}
@@ -36,16 +38,11 @@ use Rattle.rstar.proofs.Searches.{then-first}
 
 -- ---- the last of a list
 
-module _ {A : Type 0} where
-  get-last : (front : List A) (last x : A) → Some x ≡ slice_get (front ++ last ∷ []) (length (front ++ last ∷ []) - 1) → x ≡ last
-  get-last [] last x e = let same : Some x ≡ Some last = e in cc
-  get-last (a ∷ front) last x e =
-      let less : length (a ∷ (front ++ last ∷ [])) - 1 ≡ suc (length (front ++ last ∷ []) - 1) = omega (arith, length-append front (last ∷ [])) in
-      get-last front last x (e ∙ ap (slice_get (a ∷ (front ++ last ∷ []))) less)
-
-  -- the one that is read at its end
-  pub last-is : (xs front : List A) (last x : A) → Some x ≡ slice_get xs (length xs - 1) → xs ≡ front ++ last ∷ [] → x ≡ last
-  last-is xs front last x read is = get-last front last x (subst (λ l. Some x ≡ slice_get l (length l - 1)) is read)
+-- the one that is read at its end
+pub last-is : {A : Type 0} (xs front : List A) (last x : A) → Some x ≡ slice_get xs (length xs - 1) → xs ≡ front ++ last ∷ [] → x ≡ last
+last-is xs front last x read is =
+    let at : length xs - 1 ≡ length front = omega (arith, ap length is, length-append front (last ∷ [])) in
+    sym (get_or_from_slice_get xs (length xs - 1) x last (sym read)) ∙ ap (λ k. get_or xs k last) at ∙ ap (λ l. get_or l (length front) last) is ∙ get_or-append_seam front last [] last
 
 -- a list without its last item is in order too
 pub falls-front : {A : Type 0} (compare : A → A → Ordering) (old front : List A) (r : Option A) → old ≡ front ++ option_to_list r → Rises compare old → Rises compare front
@@ -131,11 +128,8 @@ module _ {T : Type 0} (before : T → T → Type 0) where
 
 -- ---- items that were found, in the order of their elements
 
-no-farther : (a b c : ℤ) → is_lt (int_cmp a b) ≡ false → a <ℤ c → b <ℤ c
-no-farther a b c h less = by_ranked (a <ℤ b) (a ≡ b) (b <ℤ a) (int_cmp a b) (int_ranked a b (int_cmp a b) refl) (λ e l. let no = sym h ∙ ap is_lt e in cc) (λ e l. omega (arith, ints)) (λ e l. omega (arith, ints))
-
-farther : (a b c : ℤ) → is_lt (int_cmp a b) ≡ false → c <ℤ b → c <ℤ a
-farther a b c h less = by_ranked (a <ℤ b) (a ≡ b) (b <ℤ a) (int_cmp a b) (int_ranked a b (int_cmp a b) refl) (λ e l. let no = sym h ∙ ap is_lt e in cc) (λ e l. omega (arith, ints)) (λ e l. omega (arith, ints))
+not-less : (a b : ℤ) → is_lt (int_cmp a b) ≡ false → b ≤ℤ a
+not-less a b h = by_ranked (a <ℤ b) (a ≡ b) (b <ℤ a) (int_cmp a b) (int_ranked a b (int_cmp a b) refl) (λ e l. let no = sym h ∙ ap is_lt e in cc) (λ e l. omega (arith, ints)) (λ e l. omega (arith, ints))
 
 pub less-by : (a b : ℤ) → is_lt (int_cmp a b) ≡ true → a <ℤ b
 less-by a b h = by_ranked (a <ℤ b) (a ≡ b) (b <ℤ a) (int_cmp a b) (int_ranked a b (int_cmp a b) refl) (λ e l. l) (λ e l. let no = sym h ∙ ap is_lt e in cc) (λ e l. let no = sym h ∙ ap is_lt e in cc)
@@ -178,7 +172,8 @@ module _ {T S O : Type 0} (distance : T → ℕ) (value : S → ℤ) (compare : 
   all-nearer (u ∷ w ∷ us) s h f =
       let rest = all-nearer (w ∷ us) s h.1 (λ front last e. f (u ∷ front) last (ap (λ l. u ∷ l) e)) in
       let nearer = sym (ap is_lt (order w.distance u.distance)) ∙ then-first (compare w.distance u.distance) (ties w.node.now u.node.now) h.0.0 in
-      (no-farther (value w.distance) (value u.distance) (value s) nearer rest.0, rest)
+      let no_farther = not-less (value w.distance) (value u.distance) nearer in
+      (omega (arith, ints, no_farther, rest.0), rest)
 
   -- what is nearer than some elements stands before each of these
   all-behind : (us : List (Found T S O)) (s : S) (m : ℕ) (ts : List T) → AllByRecursion IsAt us → AllByRecursion (λ u. value u.distance <ℤ value s) us → value s ≡ pos m → AllByRecursion (λ t. m ≤ distance t) ts
@@ -205,7 +200,7 @@ module _ {T S O : Type 0} (distance : T → ℕ) (value : S → ℤ) (compare : 
     found-snoc (u ∷ us) last = ap (λ l. u.node.now ∷ l) (found-snoc us last)
 
     -- one more item comes
-    pub found-more : (most : ℕ) (w : Found T S O) (old new : List (Found T S O)) (seen : List T) → Keeps top most w old new → Rises (flip_args top) new → IsAt w → AllByRecursion IsAt old
+    pub found-more : (most : ℕ) (w : Found T S O) (old new : List (Found T S O)) (seen : List T) → KeepsGreatest top most w old new → Rises (flip_args top) new → IsAt w → AllByRecursion IsAt old
         → AreFirstOf (IsNotLater distance ties) seen most (found_elements old) → AreFirstOf (IsNotLater distance ties) (w.node.now ∷ seen) most (found_elements new) × AllByRecursion IsAt new
     found-more most w old new seen (inl in') falls e h first =
         let put : IsPermutation (w ∷ old) new = subst (IsPermutation (w ∷ old)) (sym in'.is) (IsPermutation-insert old in'.place w) in
@@ -289,7 +284,7 @@ module _ {T E S O : Type 0} (v : Boxes E) (o : Objects T E) (d : Distances T) (p
 
   -- an element was looked at
   pub so-far-leaf : (scalars : S → S → Ordering) (order : (a b : S) → scalars a b ≡ int_cmp (value a) (value b)) (total : IsTotalOrder compare) (w : Found T S O) (ns : List (RTreeNode T E)) (old new : List (Found T S O))
-      → value w.distance ≡ pos (d.distance_2 w.node.now p) → Keeps (nearest_on_top scalars compare) most w old new → Rises (flip_args (nearest_on_top scalars compare)) new → SoFar (Leaf w.node.now ∷ ns) old → SoFar ns new
+      → value w.distance ≡ pos (d.distance_2 w.node.now p) → KeepsGreatest (nearest_on_top scalars compare) most w old new → Rises (flip_args (nearest_on_top scalars compare)) new → SoFar (Leaf w.node.now ∷ ns) old → SoFar ns new
   so-far-leaf scalars order total w ns old new at keeps falls s =
       let more = found-more (λ t. d.distance_2 t p) value scalars compare order total most w old new s.seen keeps falls at s.at s.first in
       record {
@@ -324,7 +319,7 @@ module _ {T E : Type 0} {IsPoint : List ℤ → Type 0} {v : Boxes E} {o : Objec
   so-far-all-beyond scalars order ties x [] found full nearer least at h = h
   so-far-all-beyond scalars order ties x (w ∷ ws) found full nearer least at h =
       let far = sym (ap is_lt (order w.distance x.distance)) ∙ then-first (scalars w.distance x.distance) (ties w.node.now x.node.now) least.0 in
-      let own = all_map (λ (u : Found T S O). value u.distance <ℤ value x.distance) (λ u. value u.distance <ℤ value w.distance) (λ u less. farther (value w.distance) (value x.distance) (value u.distance) far less) found nearer in
+      let own = all_map (λ (u : Found T S O). value u.distance <ℤ value x.distance) (λ u. value u.distance <ℤ value w.distance) (λ u less. let no_nearer = not-less (value w.distance) (value x.distance) far in omega (arith, ints, no_nearer, less)) found nearer in
       so-far-all-beyond scalars order ties x ws found full nearer least.1 at.1 (so-far-beyond scalars order (Parent w.node.now) (waiting_parents ws) found w.distance full own at.0 h)
 
   -- a parent is opened

@@ -85,14 +85,15 @@ module _ {T E : Type 0} (count : ℕ) where
   roomy-Parent (suc h) p above = rw sub-one (of_parent-Parent _ p)
 
   -- leaves are no parents
-  pub none_roomy : (ns : List (RTreeNode T E)) → all_roomy count 0 ns ≡ 0
-  none_roomy [] = refl
-  none_roomy (n ∷ ns) = let first = sum_by-cons (roomy {T = T} {E = E} count 0) n ns in let rest = none_roomy ns in omega (arith, first, rest)
+  pub none_roomy : (h : ℕ) (ns : List (RTreeNode T E)) → h ≡ 0 → all_roomy count h ns ≡ 0
+  none_roomy (suc h) ns low = absurd (omega (arith, low))
+  none_roomy zero [] low = refl
+  none_roomy zero (n ∷ ns) low = let first = sum_by-cons (roomy {T = T} {E = E} count 0) n ns in let rest = none_roomy zero ns low in omega (arith, first, rest)
 
-  pub roomy-append : (h : ℕ) (xs ys : List (RTreeNode T E)) → all_roomy count h (xs ++ ys) ≡ all_roomy count h xs + all_roomy count h ys
+  roomy-append : (h : ℕ) (xs ys : List (RTreeNode T E)) → all_roomy count h (xs ++ ys) ≡ all_roomy count h xs + all_roomy count h ys
   roomy-append h xs ys = sum_by-append (roomy count h) xs ys
 
-  pub roomy_along : (h : ℕ) (xs ys : List (RTreeNode T E)) → IsPermutation xs ys → all_roomy count h ys ≡ all_roomy count h xs
+  roomy_along : (h : ℕ) (xs ys : List (RTreeNode T E)) → IsPermutation xs ys → all_roomy count h ys ≡ all_roomy count h xs
   roomy_along h xs ys same = sum_by-IsPermutation (roomy count h) xs ys same
 
   -- one node of a list is another
@@ -114,9 +115,9 @@ module _ {T E : Type 0} (count : ℕ) where
       let here = roomy-Parent h q above in omega (arith, one, here)
 
   -- a parent that may be there, with room in its list
-  pub second_room : (h : ℕ) (r : Option (ParentNode T E)) → IfSome r (λ q. count ≤ vec_capacity q.children) → second_roomy count h r ≡ length (as_node r) + all_roomy count h (second_children r)
-  second_room h None room = refl
-  second_room h (Some q) room = let one = room_one count q.children room in omega (arith, one)
+  second_room : (widest h : ℕ) (r : Option (ParentNode T E)) → count ≤ widest → IfSome r (λ q. widest ≤ vec_capacity q.children) → second_roomy count h r ≡ length (as_node r) + all_roomy count h (second_children r)
+  second_room widest h None few room = refl
+  second_room widest h (Some q) few room = let one = room_one count q.children (omega (arith, few, room)) in omega (arith, one)
 
   -- two parents
   pub two_roomy : (h : ℕ) (a b : ParentNode T E) → all_roomy count (h + 1) (Parent a ∷ Parent b ∷ []) ≡ roomy_of count h a + roomy_of count h b
@@ -127,36 +128,47 @@ module _ {T E : Type 0} (count : ℕ) where
       let both : all_roomy count (suc h) (Parent a ∷ Parent b ∷ []) ≡ roomy_of count h a + roomy_of count h b = omega (arith, first, second, one, other) in
       rw add-one both
 
-  -- a lowest parent, and what was cut off it
-  pub lowest_room : (h : ℕ) (a b : ParentNode T E) (r : Option (ParentNode T E)) (before after : ℕ) → h ≡ 0 → IfSome r (λ q. count ≤ vec_capacity q.children)
-      → before + has_room count a.children ≤ after + has_room count b.children + length (as_node r) → before + roomy_of count h a ≤ after + roomy_of count h b + second_roomy count h r
-  lowest_room zero a b r before after low room taken =
-      let none = none_roomy a.children.items in let none' = none_roomy b.children.items in let none'' = none_roomy (second_children r) in
-      let second = second_room zero r room in omega (arith, taken, none, none', none'', second)
-  lowest_room (suc h) a b r before after low room taken = absurd (omega (arith, low))
+  -- a parent and what was cut off it, told of all their children
+  parts_roomy : (widest h : ℕ) (all : List (RTreeNode T E)) (p : ParentNode T E) (r : Option (ParentNode T E)) → count ≤ widest → IsPermutation all (p.children.items ++ second_children r) → IfSome r (λ q. widest ≤ vec_capacity q.children)
+      → roomy_of count h p + second_roomy count h r ≡ has_room count p.children + length (as_node r) + all_roomy count h all
+  parts_roomy widest h all p r few same room =
+      let along = roomy_along h all (p.children.items ++ second_children r) same in
+      let parts = roomy-append h p.children.items (second_children r) in
+      let second = second_room widest h r few room in omega (arith, along, parts, second)
 
-  -- a parent that takes in what was cut off a child, and what is cut off it
-  pub parted_room : (h : ℕ) (a : ParentNode T E) (mid : Vec (RTreeNode T E) Global) (q : ParentNode T E) (b : ParentNode T E) (r : Option (ParentNode T E)) (before between after : ℕ)
-      → vec_capacity mid ≡ vec_capacity a.children → before + all_roomy count h a.children.items ≤ between + all_roomy count h (mid.items ++ Parent q ∷ [])
-      → IsPermutation (mid.items ++ Parent q ∷ []) (b.children.items ++ second_children r) → IfSome r (λ q. count ≤ vec_capacity q.children)
-      → between + has_room count mid ≤ after + has_room count b.children + length (as_node r) → before + roomy_of count h a ≤ after + roomy_of count h b + second_roomy count h r
-  parted_room h a mid q b r before between after held below same room taken =
-      let along = roomy_along h (mid.items ++ Parent q ∷ []) (b.children.items ++ second_children r) same in
-      let parts = roomy-append h b.children.items (second_children r) in
-      let second = second_room h r room in let here = room_same count mid a.children held in omega (arith, here, below, taken, along, parts, second)
-
-  -- a child that lost no room, and what it handed out
-  pub child_room : (h : ℕ) (old : List (RTreeNode T E)) (i : ℕ) (a b : ParentNode T E) (r : Option (ParentNode T E)) (before after : ℕ)
-      → 0 < h → i < length old → Parent a ≡ get_or old i (Parent a)
-      → before + roomy_of count (h - 1) a ≤ after + roomy_of count (h - 1) b + second_roomy count (h - 1) r
-      → before + all_roomy count h old ≤ after + all_roomy count h (set old i (Parent b) ++ as_node r)
-  child_room h old i a b r before after above below is room =
+  -- a child that became another parent and what was cut off it
+  pub child_roomy : (h : ℕ) (old : List (RTreeNode T E)) (i : ℕ) (a b : ParentNode T E) (r : Option (ParentNode T E)) → 0 < h → i < length old → Parent a ≡ get_or old i (Parent a)
+      → all_roomy count h (set old i (Parent b) ++ as_node r) + roomy_of count (h - 1) a ≡ all_roomy count h old + roomy_of count (h - 1) b + second_roomy count (h - 1) r
+  child_roomy h old i a b r above below is =
       let change = roomy_of_set h old i (Parent a) (Parent b) below in
       let at = ap (roomy count h) (sym is) in
       let one = roomy-Parent h a above in let other = roomy-Parent h b above in
       let second = second_node h r above in
       let all = roomy-append h (set old i (Parent b)) (as_node r) in
-      omega (arith, room, change, at, one, other, second, all)
+      omega (arith, change, at, one, other, second, all)
+
+module _ {T E : Type 0} (widest h : ℕ) (a : ParentNode T E) (p : ParentNode T E) (r : Option (ParentNode T E)) (before after : ℕ) where
+  -- the lists of a parent that took a child in, which went before into one of its children or was cut off it, and of what
+  -- is cut off the parent
+  pub lists_parted : (mid : Vec (RTreeNode T E) Global) (all : List (RTreeNode T E)) (between : ℕ) → vec_capacity mid ≡ vec_capacity a.children
+      → before + all_roomy widest h a.children.items ≤ between + all_roomy widest h all → between + all_roomy 0 h all ≤ before + all_roomy 0 h a.children.items
+      → IsPermutation all (p.children.items ++ second_children r) → IfSome r (λ q. widest ≤ vec_capacity q.children)
+      → between + has_room widest mid ≤ after + has_room widest p.children + length (as_node r) → after + length (as_node r) ≤ between
+      → (before + roomy_of widest h a ≤ after + roomy_of widest h p + second_roomy widest h r) × (after + roomy_of 0 h p + second_roomy 0 h r ≤ before + roomy_of 0 h a)
+  lists_parted mid all between held room made same cut taken gone =
+      let parts = parts_roomy widest widest h all p r (omega arith) same cut in
+      let count = parts_roomy 0 widest h all p r (omega arith) same cut in
+      let here = room_same widest mid a.children held in
+      let one = room_one 0 a.children (omega arith) in let other = room_one 0 p.children (omega arith) in
+      (omega (arith, parts, here, room, taken), omega (arith, count, one, other, made, gone))
+
+  -- the same of a lowest parent that took a leaf in
+  pub lists_lowest : (all : List (RTreeNode T E)) → h ≡ 0 → IsPermutation all (p.children.items ++ second_children r) → IfSome r (λ q. widest ≤ vec_capacity q.children)
+      → before + has_room widest a.children ≤ after + has_room widest p.children + length (as_node r) → after + length (as_node r) ≤ before
+      → (before + roomy_of widest h a ≤ after + roomy_of widest h p + second_roomy widest h r) × (after + roomy_of 0 h p + second_roomy 0 h r ≤ before + roomy_of 0 h a)
+  lists_lowest all low = lists_parted a.children all before refl (still widest).0 (still 0).1 where
+    still : (count : ℕ) → (before + all_roomy count h a.children.items ≤ before + all_roomy count h all) × (before + all_roomy count h all ≤ before + all_roomy count h a.children.items)
+    still count = let none = none_roomy count h a.children.items low in let none' = none_roomy count h all low in (omega (arith, none, none'), omega (arith, none, none'))
 
 module _ {T E : Type 0} (Q : ParentNode T E → Type 0) (R : T → Type 0) where
   pub tree_at : (h : ℕ) (p : ParentNode T E) → 0 < h → IsTree Q R h (Parent p) → Q p × AreTrees Q R (h - 1) p.children.items

@@ -1,5 +1,5 @@
 -- What handing leaves out, and putting them in again, does to the lists of a tree.
-use Rattle.std.proofs.Common.{◌≡◌, ℕ, zero, suc, ◌+◌, ◌-◌, ◌*◌, ◌<◌, ◌≤◌, max, List, [], ◌∷◌, ◌++◌, length, get_or, set, sym, ap, ◌∙◌, subst, arith, append_assoc, append-nil, IsPermutation, None, vec_len}
+use Rattle.std.proofs.Common.{◌≡◌, ℕ, ◌+◌, ◌-◌, ◌*◌, ◌<◌, ◌≤◌, max, List, [], ◌∷◌, ◌++◌, length, get_or, set, sym, ap, ◌∙◌, subst, arith, append_assoc, IsPermutation, None, vec_len}
 use Rattle.std.proofs.lemmas.Nat.{mul-le}
 use Rattle.std.proofs.lemmas.List.Sorted.{IsPermutation-trans, IsPermutation-append_left, IsPermutation-to_front}
 use Rattle.rstar_base.specs.Envelopes.{Boxes, EnvelopeLaws}
@@ -11,11 +11,11 @@ use Rattle.rstar.specs.declared.node.ParentNode.{ParentNode}
 use Rattle.rstar.specs.Heights.{spare_lists}
 use Rattle.rstar.specs.Nodes.{all_elements, node_box, IsTree, IsElement}
 use Rattle.rstar.specs.Shapes.{AreTrees, IsAny, HasSize}
-use Rattle.rstar.specs.Kept.{IsKeptInner, HasMergedBox, AreKept, IsKeptTree, IsSizedAfter, has_room, all_roomy, roomy_of}
+use Rattle.rstar.specs.Kept.{IsKeptInner, HasMergedBox, AreKept, IsKeptTree, IsSizedAfter}
 use Rattle.rstar.proofs.Places.{all_set}
 use Rattle.rstar.proofs.Rows.{elements-Leaf, elements-Parent, is_leaf, leaf_of}
 use Rattle.rstar.proofs.Trees.{merged_is_hull}
-use Rattle.rstar.proofs.Insertion.{all_elements-append, all_elements-single, elements_along, bag_of_set, tree_of, whole_of_kept, inner_of_fit, none_roomy, child_room}
+use Rattle.rstar.proofs.Insertion.{all_elements-append, all_elements-single, elements_along, bag_of_set, tree_of, whole_of_kept, inner_of_fit}
 
 module _ {T E : Type 0} where
   -- the last leaf of a list leaves it and goes into the tree
@@ -27,20 +27,6 @@ module _ {T E : Type 0} where
       let moved : old ++ all_elements handed ≡ (old ++ all_elements rest) ++ t ∷ [] = ap (λ (ts : List T). old ++ ts) last ∙ sym (append_assoc old (all_elements rest) (t ∷ [])) in
       IsPermutation-trans start ((old ++ all_elements rest) ++ t ∷ []) (new ++ all_elements rest) (subst (IsPermutation start) moved before)
       (IsPermutation-trans ((old ++ all_elements rest) ++ t ∷ []) (t ∷ old ++ all_elements rest) (new ++ all_elements rest) (IsPermutation-to_front (old ++ all_elements rest) t) (IsPermutation-append_left (all_elements rest) (t ∷ old) new step))
-
-module _ {T E : Type 0} (count : ℕ) where
-  -- a lowest parent, where the list of what was handed out has room, or gave it to the parent
-  pub lowest_left : (h : ℕ) (a b : ParentNode T E) (handed : ℕ) → h ≡ 0 → has_room count a.children + 1 ≤ has_room count b.children + handed → roomy_of count h a + 1 ≤ roomy_of count h b + handed
-  lowest_left zero a b handed low room =
-      let none = none_roomy count a.children.items in let none' = none_roomy count b.children.items in omega (arith, room, none, none')
-  lowest_left (suc h) a b handed low room = absurd (omega (arith, low))
-
-  -- a child, below which that was so
-  pub child_left : (h : ℕ) (old : List (RTreeNode T E)) (i : ℕ) (a b : ParentNode T E) (handed : ℕ) → 0 < h → i < length old → Parent a ≡ get_or old i (Parent a)
-      → roomy_of count (h - 1) a + 1 ≤ roomy_of count (h - 1) b + handed → all_roomy count h old + 1 ≤ all_roomy count h (set old i (Parent b)) + handed
-  child_left h old i a b handed above below is room =
-      let all : 1 + all_roomy count h old ≤ handed + all_roomy count h (set old i (Parent b)) = rw append-nil at (child_room count h old i a b None 1 handed above below is (omega (arith, room))) in
-      omega (arith, all)
 
 module _ {T E : Type 0} (v : Boxes E) (o : Objects T E) (widest : ℕ) where
   -- the last of some leaves

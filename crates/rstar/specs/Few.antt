@@ -40,8 +40,8 @@ pub record StaysOut {X : Type 0} (compare : X → X → Ordering) (most : ℕ) (
   pub is : new ≡ old
 
 -- what becomes of a list of the greatest where one more item comes
-abbrev pub Keeps : {X : Type 0} → (X → X → Ordering) → ℕ → X → List X → List X → Type 0
-Keeps compare most x old new = GoesIn most x old new ⊎ (PushesOut compare most x old new ⊎ StaysOut compare most x old new)
+abbrev pub KeepsGreatest : {X : Type 0} → (X → X → Ordering) → ℕ → X → List X → List X → Type 0
+KeepsGreatest compare most x old new = GoesIn most x old new ⊎ (PushesOut compare most x old new ⊎ StaysOut compare most x old new)
 
 -- ---- the search
 

@@ -24,7 +24,7 @@ abbrev pub has_room : {A : Type 0} → ℕ → Vec A Global → ℕ
 has_room count v = if nat_le count (vec_capacity v) then 1 else 0
 
 -- how many parents have a list that can hold so many children, the node among them, which has its leaves this many levels
--- below
+-- below; every parent has one that can hold 0
 abbrev pub roomy : {T E : Type 0} → ℕ → ℕ → RTreeNode T E → ℕ
 roomy count zero n = 0
 roomy count (suc h) n = of_parent (λ p. has_room count p.children + sum_by (roomy count h) (children_of p)) n

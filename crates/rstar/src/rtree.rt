@@ -217,9 +217,11 @@ impl<T: RTreeObject, Params: RTreeParams> RTree<T, Params> {
         ensures sized { IsSized Params.MIN_SIZE Params.MAX_SIZE (root_of self.old)
             → IsSized Params.MIN_SIZE Params.MAX_SIZE (root_of self.new) }
 
-        // No list with room for all that a parent may have is lost.
+        // No list with room for all that a parent may have is lost, and no more parents are new than spare lists are gone.
         ensures room { vec_len self.old.spares + roomy_of self.old.widest self.old.levels (root_of self.old)
             ≤ vec_len self.new.spares + roomy_of self.old.widest self.new.levels (root_of self.new) }
+        ensures made { vec_len self.new.spares + roomy_of 0 self.new.levels (root_of self.new)
+            ≤ vec_len self.old.spares + roomy_of 0 self.old.levels (root_of self.old) }
     {
         self.levels = insert_with_reinsertion::<_, Params>(
             &mut self.root,

@@ -6,7 +6,7 @@ ghost use Rattle.std.specs.List.{AllByRecursion, insert};
 ghost use Rattle.std.specs.Ordering.{flip_args, is_lt};
 ghost use Rattle.rstar_base.specs.SmallHeaps.{items_of, IsOrdered, Rises};
 ghost use Rattle.rstar.specs.declared.node.RTreeNode.{RTreeNode};
-ghost use Rattle.rstar.specs.Few.{AreFoundSoFar, Keeps, WaitAtDistance, waiting_parents};
+ghost use Rattle.rstar.specs.Few.{AreFoundSoFar, KeepsGreatest, WaitAtDistance, waiting_parents};
 ghost use Rattle.rstar.specs.Lists.{IsNotLater, AreFirstOf};
 ghost use Rattle.rstar.specs.Nodes.{all_parents, elements_of, parents, IsWhole};
 ghost use Rattle.rstar.specs.Searches.{any_first, nearest_on_top};
@@ -171,7 +171,7 @@ fn offer<'a, T: Measured, E: TieOrder<T>>(
 fn keep<X: Ord + Drop>(found: &mut Vec<X>, most: usize, item: X) -> Result<(), AllocError>
     requires { Rises (flip_args X.cmp) found.old.items }
     ensures falls { Rises (flip_args X.cmp) found.new.items }
-    ensures kept { OnOk result (Keeps X.cmp most item found.old.items found.new.items) }
+    ensures kept { OnOk result (KeepsGreatest X.cmp most item found.old.items found.new.items) }
 {
     if found.len() < most {
         return put(found, item);

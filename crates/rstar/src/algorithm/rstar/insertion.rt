@@ -70,10 +70,11 @@ fn add_child<T: Placed, Params: RTreeParams>(
     ensures lengths { IfSome result (λ p. vec_len node.new.children + vec_len p.children
         ≡ vec_len node.old.children + 1) }
 
-    // At most one spare list is used, and no list with room for all that a parent may have is lost.
+    // At most one spare list is used, one by the second part where there is one, and no list with room for all that a
+    // parent may have is lost.
     ensures spares { AllByRecursion (IsSpare widest) spares.new.items }
     ensures used { vec_len spares.old ≤ vec_len spares.new + 1 }
-    ensures fewer { vec_len spares.new ≤ vec_len spares.old }
+    ensures made { vec_len spares.new + length (as_node result) ≤ vec_len spares.old }
     ensures room { vec_len spares.old + has_room widest node.old.children
         ≤ vec_len spares.new + has_room widest node.new.children + length (as_node result) }
     ensures second_room { IfSome result (λ p. widest ≤ vec_capacity p.children) }
@@ -131,9 +132,11 @@ fn insert_below<T: Placed, Params: RTreeParams>(
     ensures places { vec_capacity spares.new ≡ vec_capacity spares.old }
     ensures overfull { IsSpare (widest + 1) overfull.new }
 
-    // No list with room for all that a parent may have is lost.
+    // No list with room for all that a parent may have is lost, and no more parents are new than spare lists are gone.
     ensures room { vec_len spares.old + roomy_of widest levels node.old
         ≤ vec_len spares.new + roomy_of widest levels node.new + second_roomy widest levels result }
+    ensures made { vec_len spares.new + roomy_of 0 levels node.new + second_roomy 0 levels result
+        ≤ vec_len spares.old + roomy_of 0 levels node.old }
 {
     let envelope = t.envelope();
     node.envelope.merge(&envelope);
@@ -192,6 +195,8 @@ fn insert_in_child<T: Placed, Params: RTreeParams>(
     ensures overfull { IsSpare (widest + 1) overfull.new }
     ensures room { vec_len spares.old + all_roomy widest levels children.old.items
         ≤ vec_len spares.new + all_roomy widest levels (children.new.items ++ as_node result) }
+    ensures made { vec_len spares.new + all_roomy 0 levels (children.new.items ++ as_node result)
+        ≤ vec_len spares.old + all_roomy 0 levels children.old.items }
 {
     match &mut children[index] {
         RTreeNode::Parent(child) => {
@@ -254,9 +259,10 @@ pub(crate) fn insert_at_root<T: Placed, Params: RTreeParams>(
     ensures places { vec_capacity spares.new ≡ vec_capacity spares.old }
     ensures overfull { IsSpare (widest + 1) overfull.new }
 
-    // No list with room for all that a parent may have is lost.
+    // No list with room for all that a parent may have is lost, and no more parents are new than spare lists are gone.
     ensures room { vec_len spares.old + roomy_of widest levels root.old
         ≤ vec_len spares.new + roomy_of widest result root.new }
+    ensures made { vec_len spares.new + roomy_of 0 result root.new ≤ vec_len spares.old + roomy_of 0 levels root.old }
 {
     match insert_below::<T, Params>(root, t, levels, widest, spares, overfull) {
         None => levels,

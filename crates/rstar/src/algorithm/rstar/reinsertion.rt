@@ -132,9 +132,10 @@ fn insert_first<T: Placed, Params: RTreeParams>(
         → IsSizedAfter Params.MIN_SIZE Params.MAX_SIZE levels (vec_len node.old.children) node.new None }
     ensures overfull { IsSpare (widest + 1) overfull.new }
 
-    // No list with room for all that a parent may have is lost.
+    // No list with room for all that a parent may have is lost. No parent is new, and none goes.
     ensures room { roomy_of widest levels node.old + 1
         ≤ roomy_of widest levels node.new + has_room widest handed.new }
+    ensures parents { roomy_of 0 levels node.new ≡ roomy_of 0 levels node.old }
 {
     let envelope = t.envelope();
     node.envelope.merge(&envelope);
@@ -188,6 +189,7 @@ fn insert_first_in_child<T: Placed, Params: RTreeParams>(
     ensures overfull { IsSpare (widest + 1) overfull.new }
     ensures room { all_roomy widest levels children.old.items + 1
         ≤ all_roomy widest levels children.new.items + has_room widest handed.new }
+    ensures parents { all_roomy 0 levels children.new.items ≡ all_roomy 0 levels children.old.items }
 {
     match &mut children[index] {
         RTreeNode::Parent(child) => {
@@ -223,6 +225,7 @@ fn insert_again<T: Placed, Params: RTreeParams>(
     ensures places { vec_capacity spares.new ≡ vec_capacity spares.old }
     ensures room { vec_len spares.old + roomy_of widest levels root.old
         ≤ vec_len spares.new + roomy_of widest result root.new }
+    ensures made { vec_len spares.new + roomy_of 0 result root.new ≤ vec_len spares.old + roomy_of 0 levels root.old }
     ensures none { handed.new.items ≡ [] }
     ensures capacity { vec_capacity handed.new ≡ vec_capacity handed.old }
     ensures overfull { IsSpare (widest + 1) overfull.new }
@@ -262,9 +265,10 @@ pub(crate) fn insert_with_reinsertion<T: Placed, Params: RTreeParams>(
     ensures spares { AllByRecursion (IsSpare widest) spares.new.items }
     ensures overfull { IsSpare (widest + 1) overfull.new }
 
-    // No list with room for all that a parent may have is lost.
+    // No list with room for all that a parent may have is lost, and no more parents are new than spare lists are gone.
     ensures room { vec_len spares.old + roomy_of widest levels root.old
         ≤ vec_len spares.new + roomy_of widest result root.new }
+    ensures made { vec_len spares.new + roomy_of 0 result root.new ≤ vec_len spares.old + roomy_of 0 levels root.old }
 {
     if Params::REINSERTION_COUNT == 0 {
         return insert_at_root::<T, Params>(root, t, levels, widest, spares, overfull);

@@ -31,3 +31,9 @@ returns-in-Some-clause-room g c =
     let same = ap (all_roomy c.args.widest (c.args.levels + 1)) c.grow_root.ensures.children ∙ two_roomy c.args.widest c.args.levels c.insert_below.new.node c.in-Some.second in
     let own = room_one c.args.widest c.grow_root.new.root.children c.grow_root.ensures.room in
     omega (arith, same, own, c.in-Some.ensures.room, c.grow_root.ensures.used)
+
+pub returns-in-Some-clause-made : goal.returns-in-Some-clause-made
+returns-in-Some-clause-made g c =
+    let same = ap (all_roomy 0 (c.args.levels + 1)) c.grow_root.ensures.children ∙ two_roomy 0 c.args.levels c.insert_below.new.node c.in-Some.second in
+    let own = room_one 0 c.grow_root.new.root.children (omega arith) in
+    omega (arith, same, own, c.in-Some.ensures.made, c.grow_root.ensures.used)

@@ -1,12 +1,20 @@
-use Rattle.std.proofs.Common.{◌≡◌, ◌<◌, ◌++◌, ◌∷◌, [], ap, subst, refl, ◌∙◌, arith, rules, append-nil, vec_len, None}
+use Rattle.std.proofs.Common.{◌≡◌, ◌<◌, ◌≤◌, ◌+◌, ℕ, ◌++◌, ◌∷◌, [], ap, subst, refl, ◌∙◌, arith, rules, append-nil, vec_len, None}
 use Rattle.std.proofs.lemmas.List.{nil_from_length}
 use Rattle.rstar.specs.declared.node.RTreeNode.{Leaf, Parent}
 use Rattle.rstar.specs.declared.node.RTreeNode.TheVariants.{outs-Parent}
 use Rattle.rstar.specs.Nodes.{IsElement}
 use Rattle.rstar.specs.Kept.{IsKeptInner, has_room}
-use Rattle.rstar.proofs.Insertion.{leaf_added, hull_grown, child_at, tree_at, sized_leaf, sized_child, no_leaf_above, room_same}
-use Rattle.rstar.proofs.Reinsertion.{leaf_handed, child_handed, made_anew, sized_kept, lowest_left, child_left}
+use Rattle.rstar.proofs.Insertion.{leaf_added, hull_grown, child_at, tree_at, sized_leaf, sized_child, no_leaf_above, room_same, room_one, none_roomy, child_roomy}
+use Rattle.rstar.proofs.Reinsertion.{leaf_handed, child_handed, made_anew, sized_kept}
 use Rattle.rstar.proofs.algorithm.rstar.reinsertion.+first.Goals as goal
+
+-- ---- numbers of lists, by lemmas that read no more than they need
+
+room_above : (handed before after a b : ℕ) → after + a ≡ before + b + 0 → a + 1 ≤ b + handed → before + 1 ≤ after + handed
+room_above handed before after a b lists h = omega arith
+
+parents_above : (before after a b : ℕ) → after + a ≡ before + b + 0 → b ≡ a → after ≡ before
+parents_above before after a b lists h = omega arith
 
 -- ---- below a node
 
@@ -28,7 +36,13 @@ insert_first-returns-then-levels-eq0 g t c =
           sized_kept g.Params.RTreeParams.MIN_SIZE g.Params.RTreeParams.MAX_SIZE c.args.levels (vec_len c.args.node.now.children) (c.args.node.now.children.items ++ Leaf c.args.t ∷ []) c.add_leaf.new.handed.items c.add_leaf.new.node
           (sized_leaf g.Params.RTreeParams.MIN_SIZE g.Params.RTreeParams.MAX_SIZE g.Params.RTreeParams.min_positive c.args.levels c.args.t c.args.node.now.children.items c.if-levels-eq0.true sized.0) c.add_leaf.ensures.same (c.add_leaf.ensures.most sized.1) c.add_leaf.ensures.least;
       overfull = c.add_leaf.ensures.overfull;
-      room = lowest_left c.args.widest c.args.levels c.args.node.now c.add_leaf.new.node (has_room c.args.widest c.add_leaf.new.handed) c.if-levels-eq0.true c.add_leaf.ensures.room;
+      room = let none = none_roomy c.args.widest c.args.levels c.args.node.now.children.items c.if-levels-eq0.true in
+          let none' = none_roomy c.args.widest c.args.levels c.add_leaf.new.node.children.items c.if-levels-eq0.true in
+          omega (arith, none, none', c.add_leaf.ensures.room);
+      parents = let none = none_roomy 0 c.args.levels c.args.node.now.children.items c.if-levels-eq0.true in
+          let none' = none_roomy 0 c.args.levels c.add_leaf.new.node.children.items c.if-levels-eq0.true in
+          let one = room_one 0 c.args.node.now.children (omega arith) in let other = room_one 0 c.add_leaf.new.node.children (omega arith) in
+          omega (arith, none, none', one, other);
     }
 
 pub insert_first-returns-then-not-is_empty-clause-kept : goal.insert_first-returns-then-not-is_empty-clause-kept
@@ -66,6 +80,7 @@ insert_first_in_child-unreachable-requires g t c =
 pub insert_first_in_child-returns : goal.insert_first_in_child-returns
 insert_first_in_child-returns g t c =
     let grown = child_handed g.met.T.Cover.Merges.merge_laws g.met.T.Covered.cover_law c.args.widest c.args.levels c.args.t c.args.children.now.items c.args.index c.in-Parent.child c.insert_first.new.node c.insert_first.new.handed.items c.requires.above (subst (λ n. c.args.index < n) c.args.children.now.ok.0 c.requires.index) (rw c.in-Parent.is at c.index_mut.ensures.value) c.requires.below (rw c.in-Parent.child-is at c.insert_first.ensures.bag) c.insert_first.ensures.kept in
+    let lists = λ (count : ℕ). rw append-nil at (child_roomy count c.args.levels c.args.children.now.items c.args.index c.in-Parent.child c.insert_first.new.node None c.requires.above (subst (λ n. c.args.index < n) c.args.children.now.ok.0 c.requires.index) (rw c.in-Parent.is at c.index_mut.ensures.value)) in
     record {
       bag = simp (c.in-Parent.is, outs-Parent) grown.0;
       below = simp (c.in-Parent.is, outs-Parent) grown.1;
@@ -75,7 +90,8 @@ insert_first_in_child-returns g t c =
       length = refl;
       capacity = refl;
       overfull = c.insert_first.ensures.overfull;
-      room = simp (c.in-Parent.is, outs-Parent) (child_left c.args.widest c.args.levels c.args.children.now.items c.args.index c.in-Parent.child c.insert_first.new.node (has_room c.args.widest c.insert_first.new.handed) c.requires.above (subst (λ n. c.args.index < n) c.args.children.now.ok.0 c.requires.index) (rw c.in-Parent.is at c.index_mut.ensures.value) (rw c.in-Parent.child-is at c.insert_first.ensures.room));
+      room = simp (c.in-Parent.is, outs-Parent) (room_above (has_room c.args.widest c.insert_first.new.handed) _ _ _ _ (lists c.args.widest) (rw c.in-Parent.child-is at c.insert_first.ensures.room));
+      parents = simp (c.in-Parent.is, outs-Parent) (parents_above _ _ _ _ (lists 0) (rw c.in-Parent.child-is at c.insert_first.ensures.parents));
     }
 
 -- ---- what stands there already
@@ -128,6 +144,18 @@ pub insert_first-returns-clause-room : goal.insert_first-returns-clause-room
 insert_first-returns-clause-room g t c =
     let held = room_same c.args.widest c.insert_first_in_child.new.children c.args.node.now.children c.insert_first_in_child.ensures.capacity in
     omega (arith, held, c.insert_first_in_child.ensures.room)
+
+pub insert_first-returns-then-not-is_empty-clause-parents : goal.insert_first-returns-then-not-is_empty-clause-parents
+insert_first-returns-then-not-is_empty-clause-parents g t c =
+    let one = room_one 0 c.insert_first_in_child.new.children (omega arith) in
+    let other = room_one 0 c.args.node.now.children (omega arith) in
+    omega (arith, one, other, c.insert_first_in_child.ensures.parents)
+
+pub insert_first-returns-clause-parents : goal.insert_first-returns-clause-parents
+insert_first-returns-clause-parents g t c =
+    let one = room_one 0 c.insert_first_in_child.new.children (omega arith) in
+    let other = room_one 0 c.args.node.now.children (omega arith) in
+    omega (arith, one, other, c.insert_first_in_child.ensures.parents)
 
 pub insert_first_in_child-index_mut-requires : goal.insert_first_in_child-index_mut-requires
 insert_first_in_child-index_mut-requires g t c = c.requires.index

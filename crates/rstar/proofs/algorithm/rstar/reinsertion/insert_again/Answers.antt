@@ -16,6 +16,7 @@ loop-leaf-init g c = record {
   fewer = omega arith;
   places = refl;
   room = omega arith;
+  made = omega arith;
   capacity = refl;
   overfull = c.requires.overfull;
 }
@@ -47,6 +48,7 @@ loop-leaf-preserved g c =
       fewer = omega (arith, c.loop-leaf.invariant.fewer, c.insert_at_root-current.ensures.fewer);
       places = c.insert_at_root-current.ensures.places ∙ c.loop-leaf.invariant.places;
       room = omega (arith, c.loop-leaf.invariant.room, c.insert_at_root-current.ensures.room);
+      made = omega (arith, c.loop-leaf.invariant.made, c.insert_at_root-current.ensures.made);
       capacity = c.in-Some.ensures.capacity ∙ c.loop-leaf.invariant.capacity;
       overfull = c.insert_at_root-current.ensures.overfull;
     }

@@ -21,6 +21,7 @@ invariant-loop-leaf g l = record {
   fewer : vec_len l.spares ≤ vec_len l.initial.spares;
   places : vec_capacity l.spares ≡ vec_capacity l.initial.spares;
   room : vec_len l.initial.spares + roomy_of l.widest l.levels l.initial.root ≤ vec_len l.spares + roomy_of l.widest l.current l.root;
+  made : vec_len l.spares + roomy_of 0 l.current l.root ≤ vec_len l.initial.spares + roomy_of 0 l.levels l.initial.root;
   capacity : vec_capacity l.handed ≡ vec_capacity l.initial.handed;
   overfull : IsSpare (l.widest + 1) l.overfull;
 }

@@ -65,3 +65,11 @@ returns-else-widest-capacity-clause-room g c =
     let held = room_same c.args.widest c.insert_again-grown.new.handed c.insert_first.new.handed c.insert_again-grown.ensures.capacity in
     let none = room_none c.args.widest c.insert_again-grown.new.handed (omega (arith, c.capacity.ensures, c.if-widest-capacity.false)) in
     omega (arith, c.take_last-handed.ensures.len, c.insert_first.ensures.room, c.insert_again-grown.ensures.room, held, none)
+
+pub returns-then-widest-capacity-clause-made : goal.returns-then-widest-capacity-clause-made
+returns-then-widest-capacity-clause-made g c =
+    omega (arith, c.take_last-handed.ensures.len, c.insert_first.ensures.parents, c.insert_again-grown.ensures.made, c.push_reserved.ensures.len)
+
+pub returns-else-widest-capacity-clause-made : goal.returns-else-widest-capacity-clause-made
+returns-else-widest-capacity-clause-made g c =
+    omega (arith, c.take_last-handed.ensures.len, c.insert_first.ensures.parents, c.insert_again-grown.ensures.made)
