@@ -2,13 +2,14 @@
 //!
 //! What is done to trees is generic, and a test gives it elements.
 
-ghost use Rattle.std.specs.Prelude.{◌≡◌, ◌≤◌, min, map, IfOk};
+ghost use Rattle.std.specs.Prelude.{◌≡◌, ◌≤◌, min, map, filter, pos, int_le, IfOk};
 ghost use Rattle.std.specs.List.Sorted.{IsPermutation};
 ghost use Rattle.rstar.specs.Boxes.{boxes_intersect};
 ghost use Rattle.rstar.specs.SelfJoins.{self_join, own_meet};
 ghost use Rattle.rstar.specs.Trees.{root_of, elements_in, IsWholeTree};
 
 use crate::joins::{Paired, Touching, joined, spread};
+use crate::payloads::{Walked, walked};
 use crate::scenarios::{ALONG_A_LINE, counts, drained, in_steps, inserted, let_go, loaded};
 use crate::uses::geofence::Fence;
 use rstar::object::Distance;
@@ -141,7 +142,27 @@ fn equal_points_meet_each_other(rt: HostRuntime) {
     assert!(rt; found == 780 && meet_each_other(rt.alloc(), &ALONG_A_LINE, (0, 3)));
 }
 
-/// Whether so many elements of a tree lie within a distance of an envelope.
+/// The elements within a squared distance of an envelope, and the number of parents visited.
+pub(crate) fn near_envelope<'a, T: RTreeObject>(
+    alloc: Global,
+    tree: &'a RTree<T>,
+    envelope: T::Envelope,
+    limit: Distance<T>,
+) -> Result<Walked<'a, T>, AllocError>
+where
+    T::Envelope: EnvelopeDistance,
+    requires { IsWholeTree T.Envelope.boxes T.object ⟦<DefaultParams as RTreeParams>⟧.MAX_SIZE tree.now }
+    ensures given { IfOk result (λ r. map (λ t. t.now) r.0.items
+        ≡ filter (λ t. int_le (pos (T.Envelope.apart envelope (T.object.box_of t)))
+        (T.Envelope.Point.Scalar.value limit)) (elements_in tree.now)) }
+{
+    match tree.locate_within_distance_of_envelope(envelope, limit) {
+        Ok(walk) => walked(alloc, walk),
+        Err(refused) => Err(refused),
+    }
+}
+
+/// Whether this many elements of a tree lie within a squared distance of an envelope.
 fn lie_near<T: RTreeObject + Copy>(
     alloc: Global,
     elements: &[T],
@@ -153,12 +174,9 @@ where
     T::Envelope: EnvelopeDistance,
 {
     let tree = inserted::<T, DefaultParams>(alloc, elements);
-    let found = match tree.locate_within_distance_of_envelope(envelope, limit) {
-        Ok(mut walk) => drained(alloc, &mut walk).map_or(0, |all| all.len()),
-        Err(_) => usize::MAX,
-    };
+    let is_so = counts(near_envelope(alloc, &tree, envelope, limit), count, None);
     let_go(tree);
-    found == count
+    is_so
 }
 
 // Points along a line, and a box above it.
