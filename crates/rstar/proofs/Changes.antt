@@ -188,7 +188,7 @@ module _ {T E : Type 0} (K : T → T → Type 0) (same : (t : T) → K t t) (Q :
       subst (λ m. IsChanged K 0 m m) (sym l.1) (IsLeafOf-Leaf T E _ l.0 (IsLeafOf-Leaf T E _ l.0 (same l.0)))
   nodes-refl (suc h) n w =
       let p = is_parent _ n w in
-      subst (λ m. IsChanged K (suc h) m m) (sym p.1) (IsParentOf-Parent _ p.0 (IsParentOf-Parent _ p.0 (record { envelope = refl; capacity = refl; children = AllZip-refl (IsChanged K h) (IsTree Q R h) (nodes-refl h) (children_of p.0) p.2.1 })))
+      subst (λ m. IsChanged K (suc h) m m) (sym p.1) (IsParentOf-Parent _ p.0 (IsParentOf-Parent _ p.0 (record { envelope = refl; children = AllZip-refl (IsChanged K h) (IsTree Q R h) (nodes-refl h) (children_of p.0) p.2.1 })))
 
   pub changed-refl : (h : ℕ) (ns : List (RTreeNode T E)) → AllByRecursion (IsTree Q R h) ns → AllZip (IsChanged K h) ns ns
   changed-refl h = AllZip-refl (IsChanged K h) (IsTree Q R h) (nodes-refl h)
@@ -219,13 +219,11 @@ module _ {T E : Type 0} (K : T → T → Type 0) (same : (t : T) → K t t) (Q :
         subst Z (sym e) (subst (λ m. IsChanged K (suc h) m (Parent (change_below way f h p.0))) (sym p.1)
         (IsParentOf-Parent _ p.0 (IsParentOf-Parent _ (change_below way f h p.0) (record {
           envelope = refl;
-          capacity = refl;
           children = set-changed h (children_of p.0) (way p.0) (Parent p.0) _ p.2.1 (λ lt. at-changed h (child_at p.0 (way p.0)) (tree_at h (children_of p.0) (way p.0) (Parent p.0) p.2.1 lt));
         }))))
 
     pub below-changed : (h : ℕ) (p : ParentNode T E) → AllByRecursion (IsTree Q R h) (children_of p) → IsChangedParent (IsChanged K h) p (change_below way f h p)
     below-changed h p w = record {
       envelope = refl;
-      capacity = refl;
       children = set-changed h (children_of p) (way p) (Parent p) _ w (λ lt. at-changed h (child_at p (way p)) (tree_at h (children_of p) (way p) (Parent p) w lt));
     }

@@ -8,6 +8,7 @@ use Rattle.rstar_base.specs.Elements.{Objects, ObjectLaws}
 use Rattle.rstar_base.specs.Hulls.{hull}
 use Rattle.rstar_base.specs.Points.{IsPoint}
 use Rattle.rstar_base.specs.Scalars.{InRange}
+use Rattle.rstar_base.specs.Segments.{coordinate}
 use Rattle.rstar_base.specs.laws.BoxLaws.{corners-box, corners-upright, le_same}
 use Rattle.rstar_base.specs.laws.BoxEnvelopes.{box_laws}
 use Rattle.rstar_base.proofs.Lists.{all-append}
@@ -20,7 +21,7 @@ use Rattle.rstar.specs.Meets.{shown_box}
 use Rattle.rstar.specs.Kept.{IsKeptInner, IsKeptTree, AreKept}
 use Rattle.rstar.specs.declared.stored.StoredError.TheVariants.{BadBox, BadCount}
 use Rattle.rstar.specs.StoredReading.{Read, number_at, point_at, leaf_at, each_at, children_at, parent_at, node_at, has_corners, root_at, ended}
-use Rattle.rstar.specs.Stored.{Place, Box, Tree, low, high, boxes, places, coordinate, merge_of, points_of}
+use Rattle.rstar.specs.Stored.{Place, Box, Tree, low, high, boxes, places, merge_of, points_of}
 use Rattle.rstar.proofs.Rows.{elements-Leaf, elements-Parent, shown-Leaf, shown-Parent, is_leaf, is_parent}
 use Rattle.rstar.proofs.Insertion.{trees_map, inner_of_fit, all_elements-append, all_elements-single}
 use Rattle.rstar.proofs.PairRows.{shown-box, folded-row}

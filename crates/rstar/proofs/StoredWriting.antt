@@ -7,6 +7,7 @@ use Rattle.std.proofs.lemmas.Int.{to_z-of_z}
 use Rattle.std.proofs.lemmas.List.Elements.{recursion_from_All}
 use Rattle.num_traits.specs.Ints.{signed-bounds}
 use Rattle.rstar_base.specs.Scalars.{InRange}
+use Rattle.rstar_base.specs.Segments.{coordinate}
 use Rattle.rstar_base.specs.Points.{IsPoint, table}
 use Rattle.rstar_base.proofs.Lists.{all-append}
 use Rattle.rstar.specs.declared.node.RTreeNode.{RTreeNode, Leaf, Parent}
@@ -14,7 +15,7 @@ use Rattle.rstar.specs.declared.node.ParentNode.{ParentNode}
 use Rattle.rstar.specs.Nodes.{IsTree, IsElement, IsInner, children_of, joined, total}
 use Rattle.rstar.specs.Shapes.{IsParentTree}
 use Rattle.rstar.specs.Shown.{shown, shown_root}
-use Rattle.rstar.specs.Stored.{Place, Box, Tree, low, high, coordinate, boxes, places, merge_of, IsStored, magic, number, point, spelling, stored_size}
+use Rattle.rstar.specs.Stored.{Place, Box, Tree, low, high, boxes, places, merge_of, IsStored, magic, number, point, spelling, stored_size}
 use Rattle.rstar.proofs.PairRows.{nodes-row, folded-row}
 use Rattle.rstar.proofs.Rows.{shown-Leaf, shown-Parent, no_parent, no_leaf, parent_of}
 use Rattle.rstar.proofs.Trees.{merged_is_hull}

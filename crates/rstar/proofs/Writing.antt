@@ -1,5 +1,5 @@
 -- Visits that write, one part of a list after another.
-use Rattle.std.proofs.Common.{◌≡◌, ◌<◌, ℕ, suc, zero, ◌+◌, ◌≤◌, ◌∙◌, List, [], ◌∷◌, ◌++◌, ◌⊎◌, inl, inr, ap, subst, sym, refl, Bool, true, false, if◌then◌else◌, map, arith, length, append_assoc, slice_set, slice_index_or, append-nil, vec_capacity, length-append, Vec}
+use Rattle.std.proofs.Common.{◌≡◌, ◌<◌, ℕ, suc, zero, ◌+◌, ◌≤◌, ◌∙◌, List, [], ◌∷◌, ◌++◌, ◌⊎◌, inl, inr, ap, subst, sym, refl, Bool, true, false, if◌then◌else◌, map, arith, length, append_assoc, slice_set, slice_index_or, append-nil, length-append, Vec}
 use Rattle.std.proofs.lemmas.List.{map-append, with_items_is}
 use Rattle.std.proofs.lemmas.List.Concat.{flat_map-append}
 use Rattle.std.specs.Vec.{with_items}
@@ -14,7 +14,7 @@ use Rattle.rstar.specs.declared.node.ParentNode.{ParentNode}
 use Rattle.rstar.specs.Nodes.{total, children_of, elements, all_elements, IsTree}
 use Rattle.rstar.specs.Shapes.{IsAny, AreTrees}
 use Rattle.rstar.specs.Changes.{KeepsBox, IsChanged}
-use Rattle.rstar.specs.Visits.{Marked, marked_by, unmarked, without_marks, Writes, IsWritten, IsWrittenWithin, Keeps, marked, all_marked, marked_of}
+use Rattle.rstar.specs.Visits.{Marked, marked_by, unmarked, without_marks, Writes, IsWritten, IsWrittenWithin, KeepsBoxes, marked, all_marked, marked_of}
 use Rattle.rstar.specs.Walks.{steps}
 use Rattle.rstar.proofs.Places.{AllZip-append}
 use Rattle.rstar.proofs.Changes.{changed-refl}
@@ -110,7 +110,7 @@ module _ {V T E B : Type 0} (o : Objects T E) (accepts : E → Bool) (selects : 
     pub is : new ≡ done ++ rest
     pub at : length done ≡ index
     pub go : (r : ControlFlow B (Unit {0})) (w : V) (us : List T) → Writes step now (all_marked accepts selects rest) r w us → Writes step first (all_marked accepts selects old) r w (all_elements done ++ us)
-    pub changed : Keeps o step → (h : ℕ) → AreTrees IsAny IsAny h old → AllZip (IsChanged (KeepsBox o) h) before done
+    pub changed : KeepsBoxes o step → (h : ℕ) → AreTrees IsAny IsAny h old → AllZip (IsChanged (KeepsBox o) h) before done
 
   pub halfway-start : (v : V) (ns : List (RTreeNode T E)) → IsHalfway v v 0 ns ns
   halfway-start v ns = record { before = []; done = []; rest = ns; was = refl; is = refl; at = refl; go = λ r w us a. a; changed = λ k h a. tt }
@@ -146,7 +146,7 @@ module _ {V T E B : Type 0} (o : Objects T E) (accepts : E → Bool) (selects : 
 
     -- it was visited, and the visit goes on
     pub halfway-next : (u : V) → Writes step now (marked accepts selects n) (Continue tt) u (elements m)
-        → (Keeps o step → (h : ℕ) → IsTree IsAny IsAny h n → IsChanged (KeepsBox o) h n m) → IsHalfway first u (index + 1) old (slice_set new index m)
+        → (KeepsBoxes o step → (h : ℕ) → IsTree IsAny IsAny h n → IsChanged (KeepsBox o) h n m) → IsHalfway first u (index + 1) old (slice_set new index m)
     halfway-next u a one = record {
       before = at.half.before ++ n ∷ [];
       done = at.half.done ++ m ∷ [];
@@ -169,8 +169,8 @@ module _ {V T E B : Type 0} (o : Objects T E) (accepts : E → Bool) (selects : 
         (at.half.go (Break b) w _ (subst (λ l. Writes step now (all_marked accepts selects l) (Break b) w (elements m ++ without_marks (all_marked accepts selects at.more))) (sym at.rest_is)
         (Writes-break step now (marked accepts selects n) (all_marked accepts selects at.more) (elements m) b w a)))
 
-    pub halfway-break-changed : (Keeps o step → (h : ℕ) → IsTree IsAny IsAny h n → IsChanged (KeepsBox o) h n m)
-        → Keeps o step → (h : ℕ) → AreTrees IsAny IsAny h old → AllZip (IsChanged (KeepsBox o) h) old (slice_set new index m)
+    pub halfway-break-changed : (KeepsBoxes o step → (h : ℕ) → IsTree IsAny IsAny h n → IsChanged (KeepsBox o) h n m)
+        → KeepsBoxes o step → (h : ℕ) → AreTrees IsAny IsAny h old → AllZip (IsChanged (KeepsBox o) h) old (slice_set new index m)
     halfway-break-changed one k h w =
         let mid = all-middle (IsTree IsAny IsAny h) at.half.before n at.more (subst (AllByRecursion (IsTree IsAny IsAny h)) old-here w) in
         subst (λ l. AllZip (IsChanged (KeepsBox o) h) l (slice_set new index m)) (sym old-here)
@@ -186,7 +186,7 @@ module _ {V T E B : Type 0} (o : Objects T E) (accepts : E → Bool) (selects : 
 
   pub halfway-end : {first now : V} {index : ℕ} {old new : List (RTreeNode T E)} → IsHalfway first now index old new → length new ≤ index
       → Writes step first (all_marked accepts selects old) (Continue tt) now (all_elements new)
-      × (Keeps o step → (h : ℕ) → AreTrees IsAny IsAny h old → AllZip (IsChanged (KeepsBox o) h) old new)
+      × (KeepsBoxes o step → (h : ℕ) → AreTrees IsAny IsAny h old → AllZip (IsChanged (KeepsBox o) h) old new)
   halfway-end {first} {now} {index} {old} {new} half le =
       let none = none-left half le half.rest refl in
       let is : new ≡ half.done = half.is ∙ ap (λ l. half.done ++ l) none ∙ append-nil half.done in
@@ -218,13 +218,13 @@ module _ {V T E B : Type 0} (o : Objects T E) (accepts : E → Bool) (selects : 
       subst (λ a. IsChanged (KeepsBox o) 0 a m) (sym is) (subst (λ a. IsChanged (KeepsBox o) 0 (Leaf t) a) (sym left) (IsLeafOf-Leaf T E _ t (IsLeafOf-Leaf T E _ u k)))
   leaf-changed n m t u is left k (suc h) w = absurd (no_parent _ t (subst (IsTree IsAny IsAny (suc h)) is w))
 
-  pub parent-changed : (n m : RTreeNode T E) (p q : ParentNode T E) → n ≡ Parent p → m ≡ Parent q → q.envelope ≡ p.envelope → vec_capacity q.children ≡ vec_capacity p.children
+  pub parent-changed : (n m : RTreeNode T E) (p q : ParentNode T E) → n ≡ Parent p → m ≡ Parent q → q.envelope ≡ p.envelope
       → ((h : ℕ) → AreTrees IsAny IsAny h (children_of p) → AllZip (IsChanged (KeepsBox o) h) (children_of p) (children_of q))
       → (h : ℕ) → IsTree IsAny IsAny h n → IsChanged (KeepsBox o) h n m
-  parent-changed n m p q is left envelope capacity below zero w = absurd (no_leaf _ p (subst (IsTree IsAny IsAny 0) is w))
-  parent-changed n m p q is left envelope capacity below (suc h) w =
+  parent-changed n m p q is left envelope below zero w = absurd (no_leaf _ p (subst (IsTree IsAny IsAny 0) is w))
+  parent-changed n m p q is left envelope below (suc h) w =
       subst (λ a. IsChanged (KeepsBox o) (suc h) a m) (sym is) (subst (λ a. IsChanged (KeepsBox o) (suc h) (Parent p) a) (sym left)
-      (IsParentOf-Parent _ p (IsParentOf-Parent _ q (record { envelope = envelope; capacity = capacity; children = below h (parent_of _ p (subst (IsTree IsAny IsAny (suc h)) is w)).1 }))))
+      (IsParentOf-Parent _ p (IsParentOf-Parent _ q (record { envelope = envelope; children = below h (parent_of _ p (subst (IsTree IsAny IsAny (suc h)) is w)).1 }))))
 
   pub parent-written : (v : V) (n m : RTreeNode T E) (p q : ParentNode T E) (r : ControlFlow B (Unit {0})) (w : V) → n ≡ Parent p → m ≡ Parent q → accepts p.envelope ≡ true
       → Writes step v (all_marked accepts selects (children_of p)) r w (all_elements (children_of q)) → Writes step v (marked accepts selects n) r w (elements m)

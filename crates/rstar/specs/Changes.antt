@@ -1,7 +1,7 @@
 -- A change of a tree's elements that leaves its nodes as they are.
 -- T is the element's type, D the type of the node sizes, E its envelope's, P its point's, S its scalar's, X what a
 -- scalar's text is refused with.
-use Rattle.std.specs.Prelude.{◌≡◌, ℕ, zero, suc, vec_capacity}
+use Rattle.std.specs.Prelude.{◌≡◌, ℕ, zero, suc}
 use Rattle.std.specs.List.{AllZip}
 use Rattle.rstar_base.specs.Elements.{Objects}
 use Rattle.rstar.specs.declared.node.RTreeNode.{RTreeNode}
@@ -17,7 +17,6 @@ KeepsBox o t u = (o.box_of u ≡ o.box_of t) × (o.IsValue t → o.IsValue u)
 pub record IsChangedParent {T E : Type 0} (K : RTreeNode T E → RTreeNode T E → Type 0)
     (p q : ParentNode T E) : Type 0 where
   pub envelope : q.envelope ≡ p.envelope
-  pub capacity : vec_capacity q.children ≡ vec_capacity p.children
   pub children : AllZip K p.children.items q.children.items
 
 -- the second node is the first, with its elements changed as K allows; its leaves lie h levels below

@@ -1,5 +1,5 @@
 -- The stored form of a tree of points: which bytes spell which tree.
-use Rattle.std.specs.Prelude.{◌≡◌, ◌<◌, ◌≤◌, ◌+◌, ◌^◌, ◌-◌, ℕ, ℤ, zero, suc, List, [], ◌∷◌, ◌++◌, length, map, pos, negsuc, slice_index_or}
+use Rattle.std.specs.Prelude.{◌≡◌, ◌<◌, ◌≤◌, ◌+◌, ◌^◌, ◌-◌, ℕ, ℤ, zero, suc, List, [], ◌∷◌, ◌++◌, length, map, pos, negsuc}
 use Rattle.std.specs.List.{AllByRecursion, flat_map}
 use Rattle.std.specs.Int.{w64, to_le_bytes, cast_unsigned}
 use Rattle.rstar_base.specs.BoxData.{box_data}
@@ -8,6 +8,7 @@ use Rattle.rstar_base.specs.Envelopes.{Boxes}
 use Rattle.rstar_base.specs.Hulls.{hull}
 use Rattle.rstar_base.specs.PointElements.{point_object}
 use Rattle.rstar_base.specs.Points.{IsPoint}
+use Rattle.rstar_base.specs.Segments.{coordinate}
 use Rattle.rstar.specs.Shown.{Shown, leaf, parent, end, nodes_in, fold_shown}
 use Rattle.rstar.specs.Meets.{shown_box}
 use Rattle.rstar.specs.Nodes.{joined, total}
@@ -33,10 +34,6 @@ low = negsuc (2 ^ 63 - 1)
 -- the greatest coordinate
 abbrev pub high : ℤ
 high = pos (2 ^ 63 - 1)
-
--- the coordinate of a point on an axis
-abbrev pub coordinate : Place → ℕ → ℤ
-coordinate p axis = slice_index_or p axis (pos 0)
 
 -- the envelope type of these boxes
 abbrev pub boxes : Boxes Box

@@ -110,9 +110,9 @@ pub record IsWrittenWithin {V T B : Type 0} (step : V → MutBor T → ControlFl
   pub within : WritesWithin step all first selects ts r us last
 
 -- each call of the visitor keeps the envelope of the element, and a value stays one
-abbrev pub Keeps : {V T E B : Type 0} → Objects T E
+abbrev pub KeepsBoxes : {V T E B : Type 0} → Objects T E
     → (V → MutBor T → ControlFlow B (Unit {0}) → MutBor T → V → Type 0) → Type 0
-Keeps {V} {T} {E} {B} o step = (v : V) (x : MutBor T) (r : ControlFlow B (Unit {0})) (y : MutBor T) (w : V)
+KeepsBoxes {V} {T} {E} {B} o step = (v : V) (x : MutBor T) (r : ControlFlow B (Unit {0})) (y : MutBor T) (w : V)
     → step v x r y w → KeepsBox o x.now y.now
 
 -- the elements below a node, each marked where a walk below the accepted parents comes to it and selects it

@@ -6,7 +6,7 @@ ghost use Rattle.rstar_base.specs.Selections.{IsLawful};
 ghost use Rattle.rstar.specs.Changes.{KeepsBox, IsChanged, IsChangedParent};
 ghost use Rattle.rstar.specs.Nodes.{all_given, given_of, children_of, elements, all_elements, elements_of, IsTree, IsWhole};
 ghost use Rattle.rstar.specs.Shapes.{AreTrees, IsAny};
-ghost use Rattle.rstar.specs.Visits.{IsFirst, Visits, VisitsWithin, Writes, WritesWithin, Keeps, marked, all_marked};
+ghost use Rattle.rstar.specs.Visits.{IsFirst, Visits, VisitsWithin, Writes, WritesWithin, KeepsBoxes, marked, all_marked};
 
 use crate::needs::{Covered, Question};
 use crate::node::{ParentNode, RTreeNode};
@@ -171,7 +171,7 @@ fn visit_node_mut<T: Covered, F: Question<T>, V: FnMut(&mut T) -> ControlFlow<B>
     requires { (state : V) (x : _) → V.pre state x }
     ensures written { Writes V.step visitor.old (marked (F.accepts func.now) (F.selects func.now) node.old)
         result visitor.new (elements node.new) }
-    ensures changed { Keeps T.object V.step → (h : ℕ) → IsTree IsAny IsAny h node.old
+    ensures changed { KeepsBoxes T.object V.step → (h : ℕ) → IsTree IsAny IsAny h node.old
         → IsChanged (KeepsBox T.object) h node.old node.new }
 {
     match node {
@@ -202,7 +202,7 @@ fn visit_nodes_mut<T: Covered, F: Question<T>, V: FnMut(&mut T) -> ControlFlow<B
     requires { (state : V) (x : _) → V.pre state x }
     ensures written { Writes V.step visitor.old (all_marked (F.accepts func.now) (F.selects func.now) nodes.old)
         result visitor.new (all_elements nodes.new) }
-    ensures changed { Keeps T.object V.step → (h : ℕ) → AreTrees IsAny IsAny h nodes.old
+    ensures changed { KeepsBoxes T.object V.step → (h : ℕ) → AreTrees IsAny IsAny h nodes.old
         → AllZip (IsChanged (KeepsBox T.object) h) nodes.old nodes.new }
 {
     let mut index = 0;
@@ -225,7 +225,7 @@ pub fn select_nodes_mut<
     B: Drop,
 >(root: &mut ParentNode<T>, func: &F, visitor: &mut V) -> ControlFlow<B>
     requires callable { (state : V) (x : _) → V.pre state x }
-    requires keeps { Keeps T.object V.step }
+    requires keeps { KeepsBoxes T.object V.step }
     ensures written { WritesWithin V.step (IsWhole T.Envelope.boxes T.object root.old
         × IsLawful T.Envelope.boxes T.object (F.accepts func.now) (F.selects func.now))
         visitor.old (F.selects func.now) (elements_of root.old) result (elements_of root.new) visitor.new }

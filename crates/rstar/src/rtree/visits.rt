@@ -4,7 +4,7 @@ ghost use Rattle.std.specs.Prelude.{filter};
 ghost use Rattle.rstar_base.specs.Points.{table};
 ghost use Rattle.rstar_base.specs.Selections.{IsLawful};
 ghost use Rattle.rstar.specs.Trees.{elements_in, HasSameOutline, IsWholeTree};
-ghost use Rattle.rstar.specs.Visits.{IsVisit, IsVisitWithin, IsWritten, IsWrittenWithin, Keeps, marked_by};
+ghost use Rattle.rstar.specs.Visits.{IsVisit, IsVisitWithin, IsWritten, IsWrittenWithin, KeepsBoxes, marked_by};
 
 use crate::rtree::RTree;
 use crate::visits::{select_nodes, select_nodes_mut};
@@ -78,7 +78,7 @@ impl<T: RTreeObject, Params: RTreeParams> RTree<T, Params> {
         visitor: V,
     ) -> ControlFlow<B>
         requires callable { (state : V) (x : _) → V.pre state x }
-        requires keeps { Keeps T.object V.step }
+        requires keeps { KeepsBoxes T.object V.step }
         requires whole { IsWholeTree T.Envelope.boxes T.object Params.MAX_SIZE self.old }
         ensures written { IsWritten V.step visitor
             (marked_by (λ t. T.Envelope.boxes.contains envelope (T.object.box_of t)) (elements_in self.old))
@@ -109,7 +109,7 @@ impl<T: RTreeObject, Params: RTreeParams> RTree<T, Params> {
         visitor: V,
     ) -> ControlFlow<B>
         requires callable { (state : V) (x : _) → V.pre state x }
-        requires keeps { Keeps T.object V.step }
+        requires keeps { KeepsBoxes T.object V.step }
         requires whole { IsWholeTree T.Envelope.boxes T.object Params.MAX_SIZE self.old }
         ensures written { IsWritten V.step visitor
             (marked_by (λ t. T.Envelope.boxes.intersects envelope (T.object.box_of t)) (elements_in self.old))
@@ -129,7 +129,7 @@ impl<T: RTreeObject, Params: RTreeParams> RTree<T, Params> {
         B: Drop,
     >(&mut self, func: F, mut visitor: V) -> ControlFlow<B>
         requires callable { (state : V) (x : _) → V.pre state x }
-        requires keeps { Keeps T.object V.step }
+        requires keeps { KeepsBoxes T.object V.step }
         requires whole { IsWholeTree T.Envelope.boxes T.object Params.MAX_SIZE self.old }
         ensures written { IsWrittenWithin V.step
             (IsLawful T.Envelope.boxes T.object (F.accepts func) (F.selects func))
@@ -167,7 +167,7 @@ impl<T: PointDistance, Params: RTreeParams> RTree<T, Params> {
         visitor: V,
     ) -> ControlFlow<B>
         requires callable { (state : V) (x : _) → V.pre state x }
-        requires keeps { Keeps T.object V.step }
+        requires keeps { KeepsBoxes T.object V.step }
         requires whole { IsWholeTree T.Envelope.boxes T.object Params.MAX_SIZE self.old }
         ensures written { IsWritten V.step visitor
             (marked_by (λ t. T.distances.contains_point t

@@ -61,7 +61,7 @@ visit_node_mut-returns-then-should_unpack_parent g t c =
           (subst (λ l. Writes (goal.V-step g) c.args.visitor.now (all_marked accepts selects l) c.visit_nodes_mut.result c.visit_nodes_mut.new.visitor (all_elements (with_items p.children new).items)) value
           (subst (λ l. Writes (goal.V-step g) c.args.visitor.now (all_marked accepts selects c.as_mut_slice.result.now) c.visit_nodes_mut.result c.visit_nodes_mut.new.visitor (all_elements l)) (sym (refilled p.children new long)) c.visit_nodes_mut.ensures.written)));
       changed = simp (c.in-Parent.is, outs-Parent)
-          (λ k. parent-changed o accepts selects (goal.V-step g) (Parent p) (Parent (record p { children = with_items p.children new })) p (record p { children = with_items p.children new }) refl refl refl refl
+          (λ k. parent-changed o accepts selects (goal.V-step g) (Parent p) (Parent (record p { children = with_items p.children new })) p (record p { children = with_items p.children new }) refl refl refl
           (λ h w. subst (AllZip (IsChanged (KeepsBox o) h) (children_of p)) (sym (refilled p.children new long))
           (subst (λ l. AllZip (IsChanged (KeepsBox o) h) l new) value (c.visit_nodes_mut.ensures.changed k h (subst (AreTrees IsAny IsAny h) (sym value) w)))));
     }

@@ -35,7 +35,6 @@ returns-then-is_empty-clause-written g c =
 pub returns-then-is_empty-clause-changed : goal.returns-then-is_empty-clause-changed
 returns-then-is_empty-clause-changed g c = λ h w. record {
   envelope = refl;
-  capacity = refl;
   children = changed-refl (KeepsBox g.T.RTreeObject.object) (λ t. (refl, λ is. is)) IsAny IsAny h (children_of c.args.root.now) w;
 }
 
@@ -72,7 +71,6 @@ returns-clause-changed g c = λ h w.
     let long : length new ≡ length (children_of root) = (let a = ap length value in let b = c.visit_nodes_mut.auto.nodes in omega (arith, a, b)) in
     record {
       envelope = refl;
-      capacity = refl;
       children = subst (AllZip (IsChanged (KeepsBox o) h) (children_of root)) (sym (refilled root.children new long))
           (subst (λ l. AllZip (IsChanged (KeepsBox o) h) l new) value (c.visit_nodes_mut.ensures.changed c.requires.keeps h (subst (AreTrees IsAny IsAny h) (sym value) w)));
     }
