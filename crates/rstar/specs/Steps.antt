@@ -85,13 +85,13 @@ AreNearestWith distance value k ts ns = AreFirstWith (IsNoFarther distance) dist
 
 -- ---- commands and replies
 
--- commands may be given these replies in turn, by what one step may do: from the old list, one step after another, to the
--- new list
-abbrev pub RunBy : {T C R : Type 0} → (List T → C → R → List T → Type 0) → List T → List C → List R → List T → Type 0
-RunBy step old [] [] new = IsPermutation old new
-RunBy {T} step old (c ∷ cs) (r ∷ rs) new = (mid : List T) × step old c r mid × RunBy step mid cs rs new
-RunBy step old [] (r ∷ rs) new = ⊥
-RunBy step old (c ∷ cs) [] new = ⊥
+-- commands may be given these replies in turn, by what one step may do: from the old state, one step after another, to a
+-- state that is the same as the new one; a state may be a list, or a tree
+abbrev pub RunBy : {A C R : Type 0} → (A → A → Type 0) → (A → C → R → A → Type 0) → A → List C → List R → A → Type 0
+RunBy same step old [] [] new = same old new
+RunBy {A} same step old (c ∷ cs) (r ∷ rs) new = (mid : A) × step old c r mid × RunBy same step mid cs rs new
+RunBy same step old [] (r ∷ rs) new = ⊥
+RunBy same step old (c ∷ cs) [] new = ⊥
 
 module _ {T E P S X : Type 0} (q : Questions T E P S) where
   -- whether a query selects an element
@@ -136,7 +136,7 @@ module _ {T E P S X : Type 0} (q : Questions T E P S) where
 
   -- the commands may be given these replies in turn: from the old list, one step after another, to the new list
   abbrev pub Run : List T → List (Command T E P S X) → List (Reply T E P S X) → List T → Type 0
-  Run = RunBy Step
+  Run = RunBy IsPermutation Step
 
   -- what is asked of a command: no element that it brings has an empty envelope, and loads have two dimensions
   abbrev pub IsFit : ℕ → Command T E P S X → Type 0
