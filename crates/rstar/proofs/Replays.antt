@@ -8,6 +8,8 @@ use Rattle.std.specs.List.{AllByRecursion}
 use Rattle.std.specs.List.Sorted.{IsPermutation}
 use Rattle.std.proofs.lemmas.List.Elements.{filter-append}
 use Rattle.std.proofs.lemmas.List.Sorted.{IsPermutation-refl, IsPermutation-map, IsPermutation-append, length_permutation}
+use Rattle.rstar_base.specs.Envelopes.{Boxes}
+use Rattle.rstar_base.specs.Elements.{Objects}
 use Rattle.rstar_base.proofs.Along.{IsPermutation-same}
 use Rattle.rstar.specs.declared.replay.Command.{Command}
 use Rattle.rstar.specs.declared.replay.Command.TheVariants as command
@@ -18,7 +20,8 @@ use Rattle.rstar.specs.Joins.{join}
 use Rattle.rstar.specs.Gathering.{Gathers}
 use Rattle.rstar.specs.Lists.{product, IsLeast, NoneSelected}
 use Rattle.rstar.specs.Steps.{Questions, TakesOne, TakesFirst, TakesSome, Step, RunBy, IsInsertion}
-use Rattle.rstar.specs.Trees.{IsUnchanged}
+use Rattle.rstar.specs.StepsOfTrees.{StepOfTree, RunOfTree}
+use Rattle.rstar.specs.Trees.{elements_in, IsUnchanged}
 use Rattle.rstar.proofs.Ties.{filter-along}
 
 -- ---- bags
@@ -126,37 +129,49 @@ module _ {T E P S X : Type 0} (q : Questions T E P S) where
 none_left : {A : Type 0} (xs ys all : List A) → xs ++ ys ≡ all → length ys ≡ 0 → xs ≡ all
 none_left xs ys all are none = grind (arith, common_steps)
 
-module _ {T C R : Type 0} (step : List T → C → R → List T → Type 0) where
+module _ {A C R : Type 0} (step : A → C → R → A → Type 0) where
+  abbrev Runs : A → List C → List R → A → Type 0
+  Runs = RunBy (λ old new. new ≡ old) step
+
   -- whatever follows, the run goes on to it from here
-  abbrev pub RunsTo : List T → List C → List R → List T → Type 0
-  RunsTo old cs rs mid = (more : List C) (answers : List R) (last : List T) → RunBy step mid more answers last → RunBy step old (cs ++ more) (rs ++ answers) last
+  abbrev pub RunsTo : A → List C → List R → A → Type 0
+  RunsTo old cs rs mid = (more : List C) (answers : List R) (last : A) → Runs mid more answers last → Runs old (cs ++ more) (rs ++ answers) last
 
   -- one step more
-  pub run_more : (old mid new : List T) (cs : List C) (rs : List R) (c : C) (r : R) → RunsTo old cs rs mid → step mid c r new → RunsTo old (cs ++ c ∷ []) (rs ++ r ∷ []) new
+  pub run_more : (old mid new : A) (cs : List C) (rs : List R) (c : C) (r : R) → RunsTo old cs rs mid → step mid c r new → RunsTo old (cs ++ c ∷ []) (rs ++ r ∷ []) new
   run_more old mid new cs rs c r runs one = λ more answers last run.
-      subst (λ (ds : List C). RunBy step old ds ((rs ++ r ∷ []) ++ answers) last) (sym (append_assoc cs (c ∷ []) more))
-      (subst (λ (ss : List R). RunBy step old (cs ++ c ∷ more) ss last) (sym (append_assoc rs (r ∷ []) answers))
+      subst (λ (ds : List C). Runs old ds ((rs ++ r ∷ []) ++ answers) last) (sym (append_assoc cs (c ∷ []) more))
+      (subst (λ (ss : List R). Runs old (cs ++ c ∷ more) ss last) (sym (append_assoc rs (r ∷ []) answers))
       (runs (c ∷ more) (r ∷ answers) last (new, one, run)))
 
   -- at the end
-  run_done : (old new : List T) (cs : List C) (rs : List R) → RunsTo old cs rs new → RunBy step old cs rs new
+  run_done : (old new : A) (cs : List C) (rs : List R) → RunsTo old cs rs new → Runs old cs rs new
   run_done old new cs rs runs =
-      subst (λ (ds : List C). RunBy step old ds rs new) (append-nil cs)
-      (subst (λ (ss : List R). RunBy step old (cs ++ []) ss new) (append-nil rs) (runs [] [] new (IsPermutation-refl new)))
+      subst (λ (ds : List C). Runs old ds rs new) (append-nil cs) (subst (λ (ss : List R). Runs old (cs ++ []) ss new) (append-nil rs) (runs [] [] new refl))
 
   -- the same where commands come from a list of which none is left
-  pub run_whole : (old new : List T) (cs rest all : List C) (rs : List R) → cs ++ rest ≡ all → length rest ≡ 0 → RunsTo old cs rs new → RunBy step old all rs new
-  run_whole old new cs rest all rs are none runs = subst (λ (ds : List C). RunBy step old ds rs new) (none_left cs rest all are none) (run_done old new cs rs runs)
+  pub run_whole : (old new : A) (cs rest all : List C) (rs : List R) → cs ++ rest ≡ all → length rest ≡ 0 → RunsTo old cs rs new → Runs old all rs new
+  run_whole old new cs rest all rs are none runs = subst (λ (ds : List C). Runs old ds rs new) (none_left cs rest all are none) (run_done old new cs rs runs)
 
-  -- a run by such steps is one by steps of another kind, where each of them is one
-  pub run-weaker : (other : List T → C → R → List T → Type 0) → ((old : List T) (c : C) (r : R) (new : List T) → step old c r new → other old c r new)
-      → (old : List T) (cs : List C) (rs : List R) (new : List T) → RunBy step old cs rs new → RunBy other old cs rs new
-  run-weaker other each old [] [] new run = run
-  run-weaker other each old (c ∷ cs) (r ∷ rs) new run = (run.0, each old c r run.0 run.1, run-weaker other each run.0 cs rs new run.2)
-  run-weaker other each old [] (r ∷ rs) new run = run
-  run-weaker other each old (c ∷ cs) [] new run = run
+-- a run by such steps is one by steps of another kind over what a state shows, where each of them is one
+pub run_shown : {A B C R : Type 0} (show : A → B) (same : A → A → Type 0) (alike : B → B → Type 0) (step : A → C → R → A → Type 0) (other : B → C → R → B → Type 0)
+    → ((old new : A) → same old new → alike (show old) (show new)) → ((old : A) (c : C) (r : R) (new : A) → step old c r new → other (show old) c r (show new))
+    → (old : A) (cs : List C) (rs : List R) (new : A) → RunBy same step old cs rs new → RunBy alike other (show old) cs rs (show new)
+run_shown show same alike step other none each old [] [] new run = none old new run
+run_shown show same alike step other none each old (c ∷ cs) (r ∷ rs) new run =
+    (show run.0, each old c r run.0 run.1, run_shown show same alike step other none each run.0 cs rs new run.2)
+run_shown show same alike step other none each old [] (r ∷ rs) new run = run
+run_shown show same alike step other none each old (c ∷ cs) [] new run = run
 
 -- ---- trees
+
+-- what a run does to a tree, over the list of its elements
+pub run_listed : {T D E P S X : Type 0} (v : Boxes E) (o : Objects T E) (max reinserted : ℕ) (step : List T → Command T E P S X → Reply T E P S X → List T → Type 0)
+    (old : RTree T D E P S X) (cs : List (Command T E P S X)) (rs : List (Reply T E P S X)) (new : RTree T D E P S X)
+    → RunOfTree v o max reinserted step old cs rs new → RunBy IsPermutation step (elements_in old) cs rs (elements_in new)
+run_listed {T} {D} {E} {P} {S} {X} v o max reinserted step =
+    run_shown elements_in (λ (old new : RTree T D E P S X). new ≡ old) IsPermutation (StepOfTree v o max reinserted step) step
+    (λ old new same. IsPermutation-same (elements_in old) (elements_in new) (sym (ap elements_in same))) (λ old c r new one. one.answered)
 
 pub unchanged : {T D E P S X : Type 0} (old new : RTree T D E P S X) → new ≡ old → IsUnchanged old new
 unchanged {T} {D} {E} {P} {S} {X} old new e = subst (λ (tree : RTree T D E P S X). IsUnchanged old tree) (sym e) (record { shown = refl; size = refl; elements = refl; envelopes = refl })

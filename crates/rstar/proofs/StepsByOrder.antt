@@ -1,6 +1,7 @@
 -- The stated order is one in which distances never fall: what is first in it is a nearest one, and each step of the
 -- second reading is one of the first.
 use Rattle.std.proofs.Common.{ℕ, ℤ, List, Option, Some, None}
+use Rattle.std.specs.List.Sorted.{IsPermutation}
 use Rattle.std.specs.declared.cmp.Ordering.{Ordering}
 use Rattle.rstar_base.proofs.Lists.{all_map}
 use Rattle.rstar.specs.declared.replay.Command.{Command}
@@ -12,7 +13,7 @@ use Rattle.rstar.specs.Steps.{Questions, TakesFirst, IsFirstWith, AreFirstWith, 
 use Rattle.rstar.specs.StepsByOrder.{stated_order, StepByOrder, RunByOrder}
 use Rattle.rstar.proofs.ByOrder.{no-nearer}
 use Rattle.rstar.proofs.InOrder.{ordered-by}
-use Rattle.rstar.proofs.Replays.{run-weaker}
+use Rattle.rstar.proofs.Replays.{run_shown}
 
 -- ---- an order that is finer than another
 
@@ -38,42 +39,42 @@ finer : {T E P S : Type 0} (q : Questions T E P S) (compare : T → T → Orderi
 finer q compare p = no-nearer (λ x. q.distance_2 x p) compare
 
 module _ {T E P S X : Type 0} (q : Questions T E P S) (compare : T → T → Ordering) where
-  pub first-reading : (old : List T) (c : Command T E P S X) (r : Reply T E P S X) (new : List T) → StepByOrder q compare old c r new → Step q old c r new
-  first-reading old (command.Load list) r new h = h
-  first-reading old (command.Insert t) r new h = h
-  first-reading old (command.Remove t) r new h = h
-  first-reading old (command.RemoveAtPoint p) r new h = h
-  first-reading old (command.Drain asked n) r new h = h
-  first-reading old (command.Ask asked) r new h = h
-  first-reading old (command.Contains t) r new h = h
-  first-reading old (command.Join list) r new h = h
-  first-reading old (command.PopNearest p) (reply.Taken found) new h = taken-coarser (stated_order q compare p) (IsNoFarther (λ x. q.distance_2 x p)) (finer q compare p) old found new h
-  first-reading old (command.PopNearest p) reply.Done new h = h
-  first-reading old (command.PopNearest p) (reply.Elements xs) new h = h
-  first-reading old (command.PopNearest p) (reply.Has found) new h = h
-  first-reading old (command.PopNearest p) (reply.Nearest found) new h = h
-  first-reading old (command.PopNearest p) (reply.Neighbours ns) new h = h
-  first-reading old (command.PopNearest p) (reply.Pairs ps) new h = h
-  first-reading old (command.PopNearest p) reply.NoMemory new h = h
-  first-reading old (command.PopNearest p) reply.TooMany new h = h
-  first-reading old (command.Nearest p) (reply.Nearest found) new h = (one-coarser (stated_order q compare p) (IsNoFarther (λ x. q.distance_2 x p)) (finer q compare p) (λ x. q.distance_2 x p) q.value old found h.0, h.1)
-  first-reading old (command.Nearest p) reply.Done new h = h
-  first-reading old (command.Nearest p) (reply.Taken found) new h = h
-  first-reading old (command.Nearest p) (reply.Elements xs) new h = h
-  first-reading old (command.Nearest p) (reply.Has found) new h = h
-  first-reading old (command.Nearest p) (reply.Neighbours ns) new h = h
-  first-reading old (command.Nearest p) (reply.Pairs ps) new h = h
-  first-reading old (command.Nearest p) reply.NoMemory new h = h
-  first-reading old (command.Nearest p) reply.TooMany new h = h
-  first-reading old (command.Neighbours p k) (reply.Neighbours ns) new h = (some-coarser (stated_order q compare p) (IsNoFarther (λ x. q.distance_2 x p)) (finer q compare p) (λ x. q.distance_2 x p) q.value k old ns.items h.0, h.1)
-  first-reading old (command.Neighbours p k) reply.Done new h = h
-  first-reading old (command.Neighbours p k) (reply.Taken found) new h = h
-  first-reading old (command.Neighbours p k) (reply.Elements xs) new h = h
-  first-reading old (command.Neighbours p k) (reply.Has found) new h = h
-  first-reading old (command.Neighbours p k) (reply.Nearest found) new h = h
-  first-reading old (command.Neighbours p k) (reply.Pairs ps) new h = h
-  first-reading old (command.Neighbours p k) reply.NoMemory new h = h
-  first-reading old (command.Neighbours p k) reply.TooMany new h = h
+  pub first_reading : (old : List T) (c : Command T E P S X) (r : Reply T E P S X) (new : List T) → StepByOrder q compare old c r new → Step q old c r new
+  first_reading old (command.Load list) r new h = h
+  first_reading old (command.Insert t) r new h = h
+  first_reading old (command.Remove t) r new h = h
+  first_reading old (command.RemoveAtPoint p) r new h = h
+  first_reading old (command.Drain asked n) r new h = h
+  first_reading old (command.Ask asked) r new h = h
+  first_reading old (command.Contains t) r new h = h
+  first_reading old (command.Join list) r new h = h
+  first_reading old (command.PopNearest p) (reply.Taken found) new h = taken-coarser (stated_order q compare p) (IsNoFarther (λ x. q.distance_2 x p)) (finer q compare p) old found new h
+  first_reading old (command.PopNearest p) reply.Done new h = h
+  first_reading old (command.PopNearest p) (reply.Elements xs) new h = h
+  first_reading old (command.PopNearest p) (reply.Has found) new h = h
+  first_reading old (command.PopNearest p) (reply.Nearest found) new h = h
+  first_reading old (command.PopNearest p) (reply.Neighbours ns) new h = h
+  first_reading old (command.PopNearest p) (reply.Pairs ps) new h = h
+  first_reading old (command.PopNearest p) reply.NoMemory new h = h
+  first_reading old (command.PopNearest p) reply.TooMany new h = h
+  first_reading old (command.Nearest p) (reply.Nearest found) new h = (one-coarser (stated_order q compare p) (IsNoFarther (λ x. q.distance_2 x p)) (finer q compare p) (λ x. q.distance_2 x p) q.value old found h.0, h.1)
+  first_reading old (command.Nearest p) reply.Done new h = h
+  first_reading old (command.Nearest p) (reply.Taken found) new h = h
+  first_reading old (command.Nearest p) (reply.Elements xs) new h = h
+  first_reading old (command.Nearest p) (reply.Has found) new h = h
+  first_reading old (command.Nearest p) (reply.Neighbours ns) new h = h
+  first_reading old (command.Nearest p) (reply.Pairs ps) new h = h
+  first_reading old (command.Nearest p) reply.NoMemory new h = h
+  first_reading old (command.Nearest p) reply.TooMany new h = h
+  first_reading old (command.Neighbours p k) (reply.Neighbours ns) new h = (some-coarser (stated_order q compare p) (IsNoFarther (λ x. q.distance_2 x p)) (finer q compare p) (λ x. q.distance_2 x p) q.value k old ns.items h.0, h.1)
+  first_reading old (command.Neighbours p k) reply.Done new h = h
+  first_reading old (command.Neighbours p k) (reply.Taken found) new h = h
+  first_reading old (command.Neighbours p k) (reply.Elements xs) new h = h
+  first_reading old (command.Neighbours p k) (reply.Has found) new h = h
+  first_reading old (command.Neighbours p k) (reply.Nearest found) new h = h
+  first_reading old (command.Neighbours p k) (reply.Pairs ps) new h = h
+  first_reading old (command.Neighbours p k) reply.NoMemory new h = h
+  first_reading old (command.Neighbours p k) reply.TooMany new h = h
 
-  pub first-reading-run : (old : List T) (cs : List (Command T E P S X)) (rs : List (Reply T E P S X)) (new : List T) → RunByOrder q compare old cs rs new → Run q old cs rs new
-  first-reading-run = run-weaker (StepByOrder q compare) (Step q) first-reading
+  pub first_reading-run : (old : List T) (cs : List (Command T E P S X)) (rs : List (Reply T E P S X)) (new : List T) → RunByOrder q compare old cs rs new → Run q old cs rs new
+  first_reading-run = run_shown (λ ts. ts) IsPermutation IsPermutation (StepByOrder q compare) (Step q) (λ old new same. same) first_reading

@@ -86,12 +86,12 @@ AreNearestWith distance value k ts ns = AreFirstWith (IsNoFarther distance) dist
 
 -- ---- commands and replies
 
--- a run: commands and their replies, step by step, from the first list to the last
-abbrev pub RunBy : {T C R : Type 0} → (List T → C → R → List T → Type 0) → List T → List C → List R → List T → Type 0
-RunBy step old [] [] new = IsPermutation old new
-RunBy {T} step old (c ∷ cs) (r ∷ rs) new = (mid : List T) × step old c r mid × RunBy step mid cs rs new
-RunBy step old [] (r ∷ rs) new = ⊥
-RunBy step old (c ∷ cs) [] new = ⊥
+-- a run: commands and their replies, step by step, from the first state, a list or a tree, to one that is the same as the last
+abbrev pub RunBy : {A C R : Type 0} → (A → A → Type 0) → (A → C → R → A → Type 0) → A → List C → List R → A → Type 0
+RunBy same step old [] [] new = same old new
+RunBy {A} same step old (c ∷ cs) (r ∷ rs) new = (mid : A) × step old c r mid × RunBy same step mid cs rs new
+RunBy same step old [] (r ∷ rs) new = ⊥
+RunBy same step old (c ∷ cs) [] new = ⊥
 
 module _ {T E P S X : Type 0} (q : Questions T E P S) where
   -- whether a query selects an element
@@ -137,7 +137,7 @@ module _ {T E P S X : Type 0} (q : Questions T E P S) where
 
   -- a run by `Step`
   abbrev pub Run : List T → List (Command T E P S X) → List (Reply T E P S X) → List T → Type 0
-  Run = RunBy Step
+  Run = RunBy IsPermutation Step
 
   -- a command that may be run: no element in it has an empty envelope, and the points of a load or a join have at
   -- least two axes

@@ -28,4 +28,4 @@ module _ {T E P S X : Type 0} (q : Questions T E P S) (compare : T → T → Ord
 
   -- a run by `StepByOrder`
   abbrev pub RunByOrder : List T → List (Command T E P S X) → List (Reply T E P S X) → List T → Type 0
-  RunByOrder = RunBy StepByOrder
+  RunByOrder = RunBy IsPermutation StepByOrder

@@ -1,12 +1,13 @@
 //! Commands, run over a tree as a scan would run them over a list of its elements.
 
-ghost use Rattle.std.specs.Prelude.{◌≡◌, ◌<◌, ◌↔◌, ◌⊎◌, IfOk, OnErr};
+ghost use Rattle.std.specs.Prelude.{◌≡◌, ◌<◌, ◌↔◌, ◌⊎◌, List, IfOk, OnErr};
 ghost use Rattle.std.specs.List.{AllByRecursion};
 ghost use Rattle.rstar.specs.declared.replay.Reply.TheVariants.{TooMany};
 ghost use Rattle.rstar.specs.Clones.{ClonesEqual};
 ghost use Rattle.rstar.specs.Heights.{height_of, spare_lists};
 ghost use Rattle.rstar.specs.Steps.{Questions, questions_of, IsFit, IsInsertion, IsRefusal, Step, Run};
 ghost use Rattle.rstar.specs.StepsByOrder.{StepByOrder, RunByOrder};
+ghost use Rattle.rstar.specs.StepsOfTrees.{RunOfTree};
 ghost use Rattle.rstar.specs.Trees.{root_of, size_of, elements_in, IsUnchanged, IsWholeTree};
 
 mod answers;
@@ -136,7 +137,7 @@ pub fn step<T: PointDistance + EqualEnvelopes + Clone, Params: RTreeParams>(
     }
 }
 
-/// Runs commands in order by `step` (`Run`).
+/// Runs commands in order by `step` (`Run`, and `RunOfTree` for the trees between).
 ///
 /// An error means that the list of replies was refused, before any command was run.
 pub fn replay<T: PointDistance + EqualEnvelopes + Clone, Params: RTreeParams>(
@@ -147,6 +148,8 @@ pub fn replay<T: PointDistance + EqualEnvelopes + Clone, Params: RTreeParams>(
     requires clones { ClonesEqual T.is_clone }
     requires fit { AllByRecursion (IsFit ⟦<T as Scanned>⟧.questions T.Envelope.Point.DIMENSIONS) commands.items }
     ensures run { IfOk result (λ replies. Run ⟦<T as Scanned>⟧.questions (elements_in tree.old) commands.items replies.items (elements_in tree.new)) }
+    ensures steps { IfOk result (λ replies. RunOfTree T.Envelope.boxes T.object Params.MAX_SIZE Params.REINSERTION_COUNT
+        (Step ⟦<T as Scanned>⟧.questions) tree.old commands.items replies.items tree.new) }
     ensures none_run { OnErr result (tree.new ≡ tree.old) }
     ensures whole { IsWholeTree T.Envelope.boxes T.object Params.MAX_SIZE tree.new }
 {
@@ -172,6 +175,7 @@ pub fn replay<T: PointDistance + EqualEnvelopes + Clone, Params: RTreeParams>(
 /// }
 /// ```
 /// *`crates/rstar_run/src/store.rt`*
+#[tactic(auto, using(crate::proofs::StepsByOrder::first_reading))]
 pub fn step_by_order<T: PointDistance + EqualEnvelopes + Clone + Ord, Params: RTreeParams>(
     tree: &mut RTree<T, Params>,
     command: Command<T>,
@@ -181,8 +185,9 @@ pub fn step_by_order<T: PointDistance + EqualEnvelopes + Clone + Ord, Params: RT
     requires fit { IsFit ⟦<T as Scanned>⟧.questions T.Envelope.Point.DIMENSIONS command }
     ensures step { StepByOrder ⟦<T as Scanned>⟧.questions T.cmp (elements_in tree.old) command result
         (elements_in tree.new) }
-    ensures first_reading { Step ⟦<T as Scanned>⟧.questions (elements_in tree.old) command result
-        (elements_in tree.new) }
+    ensures first_reading { (old new : List T) (asked : _) (given : _)
+        → StepByOrder {X = T.Envelope.Point.Scalar.FromStrRadixErr} ⟦<T as Scanned>⟧.questions T.cmp old asked given new
+        → Step ⟦<T as Scanned>⟧.questions old asked given new }
     ensures whole { IsWholeTree T.Envelope.boxes T.object Params.MAX_SIZE tree.new }
     ensures refused { IsRefusal result → IsUnchanged tree.old tree.new }
     ensures too_many { (result ≡ TooMany) ↔ (IsInsertion command × ((size_of tree.old ≡ usize.MAX)
@@ -196,7 +201,7 @@ pub fn step_by_order<T: PointDistance + EqualEnvelopes + Clone + Ord, Params: RT
     }
 }
 
-/// Runs commands in order by `step_by_order` (`RunByOrder`).
+/// Runs commands in order by `step_by_order` (`RunByOrder`, and `RunOfTree` for the trees between).
 ///
 /// An error means that the list of replies was refused, before any command was run.
 pub fn replay_by_order<T: PointDistance + EqualEnvelopes + Clone + Ord, Params: RTreeParams>(
@@ -210,6 +215,8 @@ pub fn replay_by_order<T: PointDistance + EqualEnvelopes + Clone + Ord, Params: 
         commands.items replies.items (elements_in tree.new)) }
     ensures first_reading { IfOk result (λ replies. Run ⟦<T as Scanned>⟧.questions (elements_in tree.old)
         commands.items replies.items (elements_in tree.new)) }
+    ensures steps { IfOk result (λ replies. RunOfTree T.Envelope.boxes T.object Params.MAX_SIZE Params.REINSERTION_COUNT
+        (StepByOrder ⟦<T as Scanned>⟧.questions T.cmp) tree.old commands.items replies.items tree.new) }
     ensures none_run { OnErr result (tree.new ≡ tree.old) }
     ensures whole { IsWholeTree T.Envelope.boxes T.object Params.MAX_SIZE tree.new }
 {

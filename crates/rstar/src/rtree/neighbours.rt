@@ -1,12 +1,12 @@
 //! Neighbours.
 
-ghost use Rattle.std.specs.Prelude.{◌≡◌, ◌+◌, ◌≤◌, ℕ, [], ◌∷◌, pos, map, IfOk, IfSome, IfNone, OnErr};
+ghost use Rattle.std.specs.Prelude.{◌≡◌, ◌+◌, ◌≤◌, ℕ, List, [], ◌∷◌, pos, map, IfOk, IfSome, IfNone, OnErr};
 ghost use Rattle.std.specs.List.{AllByRecursion};
 ghost use Rattle.std.specs.List.Sorted.{IsPermutation};
 ghost use Rattle.rstar_base.specs.Points.{table};
 ghost use Rattle.rstar.specs.ByOrder.{search_by_order, IsSearchingByOrder};
 ghost use Rattle.rstar.specs.Lists.{IsNearest, AreNearest, AreSomeNearest, AreNearestOf};
-ghost use Rattle.rstar.specs.Lists.{IsLeast, IsNotLater, AreFirstOf};
+ghost use Rattle.rstar.specs.Lists.{by_distance, IsLeast, IsNotLater, AreFirstOf, AreAlike};
 ghost use Rattle.rstar.specs.Neighbors.{with_distances, search_of, IsSearching, HasBegun};
 ghost use Rattle.rstar.specs.Nodes.{envelope_of};
 ghost use Rattle.rstar.specs.Trees.{root_of, size_of, elements_in, IsWholeTree};
@@ -247,7 +247,7 @@ impl<T: PointDistance + Ord, Params: RTreeParams> RTree<T, Params> {
     }
 
     /// The first `most` elements in the stated order with their squared distances. Where there are fewer it
-    /// gives all.
+    /// gives all. They are one list, up to elements that compare equal.
     ///
     /// The cost and the refusals are those of `first_neighbors`.
     #[tactic(auto, unfolding(crate::specs::Trees::IsWholeTree))]
@@ -260,6 +260,11 @@ impl<T: PointDistance + Ord, Params: RTreeParams> RTree<T, Params> {
         ensures first { IfOk result (λ found. AreFirstOf (IsNotLater (λ t. T.distances.distance_2 t
             (table T.Envelope.Point.DIMENSIONS (T.Envelope.Point.coord point.now))) T.cmp) (elements_in self.now) most
             (map (λ n. n.0.now) found.items)) }
+        ensures only { IfOk result (λ found. (other : List T) → AreFirstOf (IsNotLater (λ t. T.distances.distance_2 t
+            (table T.Envelope.Point.DIMENSIONS (T.Envelope.Point.coord point.now))) T.cmp) (elements_in self.now) most
+            other → AreAlike (by_distance (λ t. T.distances.distance_2 t
+            (table T.Envelope.Point.DIMENSIONS (T.Envelope.Point.coord point.now))) T.cmp)
+            (map (λ n. n.0.now) found.items) other) }
         ensures distances { IfOk result (λ found. AllByRecursion (λ n. T.Envelope.Point.Scalar.value n.1
             ≡ pos (T.distances.distance_2 n.0.now
             (table T.Envelope.Point.DIMENSIONS (T.Envelope.Point.coord point.now)))) found.items) }
