@@ -5,7 +5,7 @@
 use super::stored::points_of;
 use super::stored_tests::{EMPTY, ONE, answer};
 use rstar::stored::{StoredError, read_stored, write_stored};
-use rstar::{DefaultParams, RTree};
+use rstar::DefaultParams;
 use std::alloc::{AllocError, Global};
 use std::io::Write;
 use std::test::Fail;
@@ -352,35 +352,6 @@ fn rows_of_the_format(rt: HostRuntime) -> Result<(), Fail> {
     assert!(rt; chain_is_told(rt.alloc(), 2, 64, Some(BadCount))?);
     assert!(rt; chain_is_told(rt.alloc(), 1, 65, Some(BadLevel))?);
     assert!(rt; chain_is_told(rt.alloc(), 2, 65, Some(BadLevel))?);
-    Ok(())
-}
-
-/// The stored bytes of the tree that points make which go in one by one; none where a call is refused.
-fn stored_one_by_one(alloc: Global, points: &[[i64; 2]]) -> Vec<u8> {
-    let mut tree = RTree::<[i64; 2]>::default(alloc);
-    for &point in points {
-        let _refused = tree.insert(point).is_err();
-    }
-    match write_stored(&tree) {
-        Ok(bytes) => bytes,
-        Err(_) => Vec::new(alloc),
-    }
-}
-
-// The seven points on a line, which forced reinsertion and a split put under two parents.
-#[test]
-fn points_that_went_in_are_spelled_so(rt: HostRuntime) -> Result<(), Fail> {
-    const POINTS: [[i64; 2]; 7] = [
-        [0, 0],
-        [1, 0],
-        [2, 0],
-        [100, 0],
-        [101, 0],
-        [102, 0],
-        [103, 0],
-    ];
-    let line = spelled(rt.alloc(), 7, 2, &ALONG_A_LINE)?;
-    assert_eq!(rt; *stored_one_by_one(rt.alloc(), &POINTS), *line);
     Ok(())
 }
 
