@@ -4,8 +4,15 @@
 An edit has the form of the gate's: a line `file: PATH`, then pairs of lines `old: TEXT` and `new: TEXT`. Each crate is
 proved first, over what earlier checks kept in its out/. What a check costs is to read that work, and one wrong body leaves
 the other functions as they are. So edits of different functions are tried together, each batch over its own copy, and the
-check must say of each edited function that it is not proved; an edit of which a batch says nothing is tried alone. There
-are as many copies as there are processors, or JOBS. The status is 1 where an edit was not refused.
+check must say of each edited function that it is not proved; an edit of which a batch says nothing is tried alone. Edits of
+modules that stand in the tests alone are checked with the tests. There are as many copies as there are processors, or JOBS.
+The status is 1 where an edit was not refused.
+
+No clause says when the allocator refuses. So a body that answers `NoMemory` wherever no other refusal is asked for meets the
+contract of a call that takes memory, and has no edit. Tests of rstar_vectors refuse it:
+
+    RTree::insert    insertion::insertions_shape_the_tree, uses::geofence::tests::fences_in_boxes_and_at_points
+    RTree::drain     removal::drains_that_are_given_up, removal::callers_drain_and_insert_again
 """
 
 import concurrent.futures
@@ -22,6 +29,7 @@ ROOT = Path(__file__).resolve().parent.parent
 JOBS = int(os.environ.get("JOBS") or os.cpu_count() or 1)
 BATCH = 10
 
+TESTED = re.compile(r"^#\[cfg\(test\)\]\n(?:pub )?mod (\w+);", re.M)
 FUNCTION = re.compile(r"^\s*(?:pub(?:\([^)]*\))?\s+)?(?:const\s+)?fn\s+(\w+)", re.M)
 TOLD = re.compile(r"^(?:note: )?(?P<path>\S+?):(?P<line>\d+):\d+:")
 # What a proof file says of a name that the edit took away, and what is said of a text that does not read.
@@ -57,6 +65,12 @@ class Edit:
             (crate / file).write_text(text.replace(old, new))
         return None
 
+    def is_tested(self, crate):
+        """Whether it changes a module that stands in the tests alone."""
+        roots = [crate / "src" / name for name in ("lib.rt", "main.rt")]
+        tested = {name for root in roots if root.exists() for name in TESTED.findall(root.read_text())}
+        return any(modules(file)[:1] and modules(file)[0] in tested for file, _, _ in self.changes)
+
     def function(self, crate):
         """The file and the function that all replacements stand in; None where they stand in more than one."""
         found = set()
@@ -83,11 +97,10 @@ def is_of(parts, place):
     return parts[-1:] == [name] and all(module in parts for module in outer)
 
 
-def check(crate):
-    """Checks a copy of a crate, and gives the status and what the check says."""
-    done = subprocess.run(
-        ["rt", "check", "--jobs", "1"], cwd=crate, stdout=subprocess.PIPE, stderr=subprocess.STDOUT, text=True
-    )
+def check(crate, tests):
+    """Checks a copy of a crate, with its tests or without, and gives the status and what the check says."""
+    words = ["rt", "check", "--jobs", "1"] + ["--test"] * tests
+    done = subprocess.run(words, cwd=crate, stdout=subprocess.PIPE, stderr=subprocess.STDOUT, text=True)
     return done.returncode, done.stdout.splitlines()
 
 
@@ -147,7 +160,7 @@ def try_batch(edits, home, copy):
         hindered = edit.apply(copy)
         if hindered:
             return {edit.name: "NOT TRIED: " + hindered} if len(edits) == 1 else {e.name: None for e in edits}
-    status, said = check(copy)
+    status, said = check(copy, edits[0].tests)
     if len(edits) == 1:
         return {edits[0].name: verdict(status, said, told_lines(said))}
     verdicts = {}
@@ -163,15 +176,17 @@ def try_batch(edits, home, copy):
 
 
 def batches_of(edits, home):
-    """The edits in batches: no two of functions with one name in a batch."""
+    """The edits in batches: no two of functions with one name in a batch, and none of tests beside another."""
     batches = []
     for edit in edits:
-        edit.place = edit.function(home)
+        edit.place, edit.tests = edit.function(home), edit.is_tested(home)
         if edit.place is None:
             batches.append([edit])
             continue
         for batch in batches:
-            if batch[0].place and len(batch) < BATCH and all(other.place[1] != edit.place[1] for other in batch):
+            if not batch[0].place or batch[0].tests != edit.tests or len(batch) == BATCH:
+                continue
+            if all(other.place[1] != edit.place[1] for other in batch):
                 batch.append(edit)
                 break
         else:
@@ -191,16 +206,19 @@ def copy_for(name, room):
     return room / "crates" / name
 
 
-def try_crate(name, rooms):
-    """Tries all edits of a crate, prints a line for each, and gives the lines."""
+def try_crate(name, wanted, rooms):
+    """Tries the edits of a crate that are wanted, or all, prints a line for each, and gives the lines."""
     home = ROOT / "crates" / name
-    edits = [Edit(path) for path in sorted((home / "edits").glob("*.edit"))]
+    edits = [Edit(path) for path in sorted((home / "edits").glob("*.edit")) if not wanted or path.stem in wanted]
+    if len(edits) < len(wanted):
+        sys.exit(f"{name} has not all of these edits: " + " ".join(sorted(wanted)))
     if not edits:
         return []
-    status, said = subprocess.getstatusoutput(f"cd '{home}' && rt check")
-    if status != 0:
-        sys.exit(f"{name} itself is not proved: " + next((l for l in said.splitlines() if "error" in l), said[-200:]))
     batches = batches_of(edits, home)
+    for tests in sorted({batch[0].tests for batch in batches}):
+        status, said = check(home, tests)
+        if status != 0:
+            sys.exit(f"{name} itself is not proved: " + next((l for l in said if "error" in l), (said or ["no word"])[-1]))
     copies = queue.Queue()
     for number in range(min(JOBS, len(batches))):
         copies.put(copy_for(name, rooms / f"{name}-{number}"))
@@ -224,11 +242,14 @@ def try_crate(name, rooms):
 
 
 def main():
-    names = sys.argv[1:] or re.findall(r"^([a-z0-9_]+):", (ROOT / "crates.txt").read_text(), re.M)
+    wanted = {}
+    for word in sys.argv[1:] or re.findall(r"^([a-z0-9_]+):", (ROOT / "crates.txt").read_text(), re.M):
+        name, _, edit = word.partition("/")
+        wanted.setdefault(name, set()).update({edit} - {""})
     lines = []
     with tempfile.TemporaryDirectory() as room:
-        for name in names:
-            lines += try_crate(name, Path(room))
+        for name, edits in wanted.items():
+            lines += try_crate(name, edits, Path(room))
     words = ("NOT REFUSED", "NOT TRIED", "BY NAMES ALONE")
     for word in words:
         for line in [line for line in lines if f": {word}" in line]:

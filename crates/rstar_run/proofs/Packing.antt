@@ -15,13 +15,14 @@ use Rattle.rstar.specs.Stored.{Place, Box, Tree, boxes, places, Spells}
 use Rattle.rstar.specs.StoredFaults.{HasFault}
 use Rattle.rstar.specs.Trees.{root_of, elements_in, IsWholeTree}
 use Rattle.rstar.specs.declared.iterators.into_iter.IntoIter.{IntoIter}
+use Rattle.rstar.specs.declared.node.ParentNode.{ParentNode}
 use Rattle.rstar.specs.declared.rtree.RTree.{RTree}
 use Rattle.rstar.specs.declared.stored.StoredError.{StoredError}
 use Rattle.rstar.specs.declared.stored.StoredError.TheVariants.{NoMemory, TooHigh}
 use Rattle.rstar_run.specs.Items.{Point}
 use Rattle.rstar_run.specs.Lines.{lines_of}
 use Rattle.rstar_run.specs.Points.{points_in}
-use Rattle.rstar_run.specs.Stored.{Packs, AreRefused, Unpacks}
+use Rattle.rstar_run.specs.Stored.{LoadsInput, Packs, AreRefused, Unpacks}
 use Rattle.rstar_run.specs.declared.stored.Fault.{Fault}
 use Rattle.rstar_run.specs.declared.stored.Fault.TheVariants as fault
 
@@ -38,14 +39,18 @@ whole_root most tree whole = whole.root_whole
 -- ---- faults
 
 module _ (input : Option (List ℕ)) where
-  -- a load of the points that were read is not stored
-  pub pack_refused : {D : Type 0} (tree : RTree Place D Box Point ℤ ParseIntError) → IsWholeTree boxes places 6 tree → (points : List Point) → IfSome input (λ text. points_in (lines_of text) ≡ Some points)
-      → IsPermutation points (elements_in tree) → (points ≢ [] → IsLoaded boxes places 6 2 (root_of tree)) → (e : StoredError) → (e ≡ NoMemory) ⊎ ((e ≡ TooHigh) × (64 < height_of (root_of tree)))
+  -- a tree that is loaded of the points that were read
+  pub input-loaded : {D : Type 0} (tree : RTree Place D Box Point ℤ ParseIntError) → IsWholeTree boxes places 6 tree → (points : List Point) → IfSome input (λ text. points_in (lines_of text) ≡ Some points)
+      → IsPermutation points (elements_in tree) → (points ≢ [] → IsLoaded boxes places 6 2 (root_of tree)) → LoadsInput input (root_of tree)
+  input-loaded tree whole points read same loaded =
+      record { points = points; read = read; just_those = same; whole = whole_root 6 tree whole; loaded = loaded }
+
+  -- it is not stored
+  pub pack_refused : (root : ParentNode Point Box) → LoadsInput input root → (e : StoredError) → (e ≡ NoMemory) ⊎ ((e ≡ TooHigh) × (64 < height_of root))
       → (r : Result (Vec ℕ) Fault) → IsErrAnd r (λ f. f ≡ fault.Stored e) → Packs input r
-  pack_refused tree whole points read same loaded e why (Ok bytes) h = absurd h
-  pack_refused tree whole points read same loaded e (inl none) (Err f) h = subst (λ (g : Fault). Packs input (Err g)) (sym h) (inl none)
-  pack_refused tree whole points read same loaded e (inr (is, high)) (Err f) h = subst (λ (g : Fault). Packs input (Err g)) (sym h)
-      (inr (is, record { points = points; root = root_of tree; read = read; just_those = same; whole = whole_root 6 tree whole; loaded = loaded; high = high }))
+  pack_refused root loads e why (Ok bytes) h = absurd h
+  pack_refused root loads e (inl none) (Err f) h = subst (λ (g : Fault). Packs input (Err g)) (sym h) (inl none)
+  pack_refused root loads e (inr (is, high)) (Err f) h = subst (λ (g : Fault). Packs input (Err g)) (sym h) (inr (is, root, loads, high))
 
   -- of bytes that are all of the input
   pub spells_input : (read : List ℕ) → IfSome input (λ bytes. read ≡ bytes) → (t : Tree) → Spells read t → IfSome input (λ bytes. Spells bytes t)

@@ -8,6 +8,7 @@ use Rattle.std.specs.declared.num.ParseIntError.{ParseIntError}
 use Rattle.rstar.specs.Heights.{height_of}
 use Rattle.rstar.specs.Loaded.{IsLoaded}
 use Rattle.rstar.specs.Nodes.{elements_of, IsWhole}
+use Rattle.rstar.specs.Shown.{shown_root}
 use Rattle.rstar.specs.Stored.{Tree, boxes, places, points_of, Spells}
 use Rattle.rstar.specs.StoredFaults.{HasFault}
 use Rattle.rstar.specs.declared.node.ParentNode.{ParentNode}
@@ -77,28 +78,21 @@ pub record Answers {A : Type 0} (Kind : Result A Fault → Type 0) (text : A →
 
 -- ---- packing
 
--- bytes that spell a tree of these points
-abbrev pub SpellsTreeOf : List Point → List ℕ → Type 0
-SpellsTreeOf points bytes = (t : Tree) × Spells bytes t × IsPermutation points (points_of t)
-
--- the lines of an input are points, and a load of them, in nodes of at most 6, has more than 64 levels of parents
-pub record LoadsTooHigh (input : Option (List ℕ)) : Type 0 where
+-- the lines of an input are points, and this is the root of their load, of two axes, with the default size of a node
+pub record LoadsInput (input : Option (List ℕ)) (root : ParentNode Point Box) : Type 0 where
   pub points : List Point
-  pub root : ParentNode Point Box
   pub read : IfSome input (λ text. points_in (lines_of text) ≡ Some points)
   pub just_those : IsPermutation points (elements_of root)
   pub whole : IsWhole boxes places root
   pub loaded : points ≢ [] → IsLoaded boxes places 6 2 root
-  pub high : 64 < height_of root
 
--- the answer of `pack`: bytes that spell a tree of the points in the input's lines, or why there are none
+-- the answer of `pack`: bytes that spell a bulk load of the points in the input's lines, or why there are none
 abbrev pub Packs : Option (List ℕ) → Result (Vec ℕ) Fault → Type 0
-Packs input (Ok bytes) =
-    (points : List Point) × IfSome input (λ text. points_in (lines_of text) ≡ Some points)
-    × SpellsTreeOf points bytes.items
+Packs input (Ok bytes) = (root : ParentNode Point Box) × LoadsInput input root × Spells bytes.items (shown_root root)
 Packs input (Err Usage) = ⊥
 Packs input (Err (Stop stop)) = StopsReading input stop
-Packs input (Err (Stored error)) = (error ≡ NoMemory) ⊎ ((error ≡ TooHigh) × LoadsTooHigh input)
+Packs input (Err (Stored error)) =
+    (error ≡ NoMemory) ⊎ ((error ≡ TooHigh) × (root : ParentNode Point Box) × LoadsInput input root × (64 < height_of root))
 
 -- `pack` writes that answer
 abbrev pub Packed : Option (List ℕ) → Option (List ℕ) → Option (List ℕ) → ℕ → Type 0
