@@ -20,6 +20,10 @@ use rstar_base::params::{DefaultParams, RTreeParams};
 /// on, a number for each level, was reserved when the drain was made. Dropping or forgetting it does nothing more, so
 /// the tree is then the one of its last `next`.
 ///
+/// A `next` merges the envelopes of all children of the parents on its path anew, from the lowest up to the first whose
+/// own stays as it was; of the lowest, where it is wide, it keeps a part merged. So a drain of everything below a root of
+/// n parents may merge some n²/2 envelopes for each element that a parent has.
+///
 /// `Path` is the list of these numbers. Users leave it out.
 ///
 /// ```rust
