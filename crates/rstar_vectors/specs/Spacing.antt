@@ -4,8 +4,8 @@ use Rattle.std.specs.Int.{int_min, int_max}
 use Rattle.rstar.specs.Boxes.{boxes_intersect}
 
 -- the box between two corners, which are opposite ones
-abbrev pub box_between : ℤ × ℤ → ℤ × ℤ → List (ℤ × ℤ)
-box_between one other =
+abbrev pub box_of_pairs : ℤ × ℤ → ℤ × ℤ → List (ℤ × ℤ)
+box_of_pairs one other =
     (int_min one.0 other.0, int_max one.0 other.0) ∷ (int_min one.1 other.1, int_max one.1 other.1) ∷ []
 
 -- a box with so much room around it, on every side

@@ -3,7 +3,7 @@
 ghost use Rattle.std.specs.Prelude.{◌≡◌, ◌∷◌, ◌+ℤ◌, ◌-ℤ◌, [], false, filter, map, pos, int_lt, IfOk, OnOk, OnErr};
 ghost use Rattle.std.specs.Int.{int_min, int_max};
 ghost use Rattle.std.specs.List.Sorted.{IsPermutation};
-ghost use Rattle.rstar_vectors.specs.Spacing.{box_between, with_room, is_too_near};
+ghost use Rattle.rstar_vectors.specs.Spacing.{box_of_pairs, with_room, is_too_near};
 
 use crate::payloads::touched;
 use rstar::primitives::{GeomWithData, Rectangle};
@@ -52,7 +52,7 @@ impl Board {
         one: (i32, i32),
         other: (i32, i32),
     ) -> Result<(), InsertError<Part>>
-        ensures added { OnOk result (IsPermutation ((box_between one other, number) ∷ self.old) self.new) }
+        ensures added { OnOk result (IsPermutation ((box_of_pairs one other, number) ∷ self.old) self.new) }
         ensures refused { OnErr result (self.new ≡ self.old) }
     {
         self.parts.insert(part(number, one, other))
@@ -68,7 +68,7 @@ impl Board {
         room: u32,
     ) -> Result<Vec<&Part>, AllocError>
         ensures { IfOk result (λ found. map (λ part. (⟦<Part as RTreeObject>⟧.object.box_of part.now, part.now.1))
-            found.items ≡ filter (λ part. is_too_near room (box_between one other) part.0) self.now) }
+            found.items ≡ filter (λ part. is_too_near room (box_of_pairs one other) part.0) self.now) }
     {
         match touched(alloc, &self.parts, around(one, other, room)) {
             Ok((found, _opened)) => Ok(found),
@@ -79,7 +79,7 @@ impl Board {
 
 /// The part between two corners.
 fn part(number: u64, one: (i32, i32), other: (i32, i32)) -> Part
-    ensures place { ⟦<Part as RTreeObject>⟧.object.box_of result ≡ box_between one other }
+    ensures place { ⟦<Part as RTreeObject>⟧.object.box_of result ≡ box_of_pairs one other }
     ensures number { result.1 ≡ number }
     ensures filled { ⟦<AABB<[i64; 2]> as Envelope>⟧.boxes.is_empty (⟦<Part as RTreeObject>⟧.object.box_of result)
         ≡ false }
@@ -105,7 +105,7 @@ fn stretched(one: i32, other: i32, room: u32) -> (i64, i64)
 
 /// The box between two corners, with so much room around it on every side.
 fn around(one: (i32, i32), other: (i32, i32), room: u32) -> AABB<[i64; 2]>
-    ensures { result ≡ with_room room (box_between one other) }
+    ensures { result ≡ with_room room (box_of_pairs one other) }
 {
     let x = stretched(one.0, other.0, room);
     let y = stretched(one.1, other.1, room);
