@@ -14,7 +14,7 @@ use Rattle.rstar.specs.Nodes.{Layer, layer_of, children_of, elements, all_elemen
 use Rattle.rstar.specs.Shapes.{IsAny}
 use Rattle.rstar.specs.Heights.{levels, levels_below}
 use Rattle.rstar.specs.Shown.{parent, more, row_of, shown, shown_root, outline, outline_row}
-use Rattle.rstar.specs.Kept.{IsNarrow, IsSpare}
+use Rattle.rstar.specs.Kept.{HasAtMost, IsSpare}
 use Rattle.rstar.specs.Trees.{WholeTree, HasSameOutline, elements_in, root_of}
 use Rattle.rstar.specs.Ways.{child_at, change_at, change_below}
 use Rattle.rstar.specs.Changes.{KeepsBox, IsChangedParent, IsChanged, IsChangedTree}
@@ -169,13 +169,13 @@ module _ {T E : Type 0} (v : Boxes E) (o : Objects T E) where
         wide = subst (λ n. max ≤ n) (sym w.widest) whole.wide;
         wide_fits = subst (λ n. n + 1 < 2 ^ 64) (sym w.widest) whole.wide_fits;
         narrow = let a = whole.narrow in let e = w.widest in omega arith;
-        narrow_below = subst (λ n. AllByRecursion (IsTree (IsNarrow n) IsAny h) (children_of (root_of new))) (sym w.widest)
-            (trees-kept (KeepsBox o) (IsNarrow old.widest) IsAny (λ t u k a. tt) (narrow-kept old.widest) h (children_of (root_of old)) (children_of (root_of new)) w.root.children whole.narrow_below);
+        narrow_below = subst (λ n. AllByRecursion (IsTree (HasAtMost n) IsAny h) (children_of (root_of new))) (sym w.widest)
+            (trees-kept (KeepsBox o) (HasAtMost old.widest) IsAny (λ t u k a. tt) (narrow-kept old.widest) h (children_of (root_of old)) (children_of (root_of new)) w.root.children whole.narrow_below);
         spares = subst (λ n. AllByRecursion (IsSpare n) new.spares.items) (sym w.widest) (subst (λ s. AllByRecursion (IsSpare old.widest) s.items) (sym w.spares) whole.spares);
         none_over = ap (λ s. s.items) w.overfull ∙ whole.none_over;
       }
     where
-      narrow-kept : (widest h : ℕ) (p q : ParentNode T E) → IsChangedParent (IsChanged (KeepsBox o) h) p q → IsNarrow widest p → IsNarrow widest q
+      narrow-kept : (widest h : ℕ) (p q : ParentNode T E) → IsChangedParent (IsChanged (KeepsBox o) h) p q → HasAtMost widest p → HasAtMost widest q
       narrow-kept widest h p q w is = let e = AllZip-long (IsChanged (KeepsBox o) h) (children_of p) (children_of q) w.children in omega arith
 
 -- ---- a change at the end of a way

@@ -13,7 +13,7 @@ use Rattle.rstar.specs.Nodes.{fold_tree, elements, elements_of, envelopes, envel
 use Rattle.rstar.specs.Shown.{shown, shown_root, parent, row_of}
 use Rattle.rstar.specs.Shapes.{AreTrees, IsAny}
 use Rattle.rstar.specs.Heights.{levels, levels_below, first_of}
-use Rattle.rstar.specs.Kept.{IsNarrow, IsSpare}
+use Rattle.rstar.specs.Kept.{HasAtMost, IsSpare}
 use Rattle.rstar.specs.Walks.{IsLevel}
 use Rattle.rstar.specs.Trees.{IsUnchanged, IsWholeTree}
 use Rattle.rstar.specs.Clones.{ClonesEqual, IsNodeClone, IsParentClone}
@@ -138,8 +138,8 @@ module _ {T E : Type 0} (is_clone : T → T → Type 0) where
       whole_cloned = trees_cloned (IsInner v o) (IsInner v o) (IsElement v o)
           (λ k a b d inner. (d.envelope ∙ inner.0 ∙ ap (hull v o.box_of) (sym (elements_same k a b d)), none_cloned k a b d inner.1)) h p q c
 
-      pub narrow_cloned : (widest : ℕ) → AreTrees (IsNarrow widest) IsAny h (children_of p) → AreTrees (IsNarrow widest) IsAny h (children_of q)
-      narrow_cloned widest = trees_cloned (IsNarrow widest) (IsNarrow widest) IsAny
+      pub narrow_cloned : (widest : ℕ) → AreTrees (HasAtMost widest) IsAny h (children_of p) → AreTrees (HasAtMost widest) IsAny h (children_of q)
+      narrow_cloned widest = trees_cloned (HasAtMost widest) (HasAtMost widest) IsAny
           (λ k a b d few. omega (arith, few, AllZip-long (IsNodeClone is_clone k) (children_of a) (children_of b) d.children)) h p q c
 
   -- the clone of a leaf, and of a parent

@@ -19,7 +19,7 @@ use Rattle.rstar.specs.declared.node.ParentNode.{ParentNode}
 use Rattle.rstar.specs.declared.node.RTreeNode.{RTreeNode, Leaf, Parent}
 use Rattle.rstar.specs.Nodes.{elements, all_elements, elements_of, children_of, node_box, IsTree, IsElement, IsInner, AreWhole, IsLeafOf, IsParentOf}
 use Rattle.rstar.specs.Shapes.{IsParentTree, AreTrees, IsAny}
-use Rattle.rstar.specs.Kept.{IsNarrow}
+use Rattle.rstar.specs.Kept.{HasAtMost}
 use Rattle.rstar.specs.Lists.{NoneEmpty}
 use Rattle.rstar.specs.Loaded.{IsSlabSize, IsPartSize, EndsAt, IsParted, IsCutAbove, HasSmallParent}
 use Rattle.rstar.specs.Loads.{part_bound, HasNodeOf, AddsParts, IsUnderway, IsFresh, IsFreshNode}
@@ -277,7 +277,7 @@ module _ {T E : Type 0} where
         small = f.small;
       })
     where
-      wider : (q : ParentNode T E) → IsNarrow old q → IsNarrow new q
+      wider : (q : ParentNode T E) → HasAtMost old q → HasAtMost new q
       wider q narrow = omega (arith, narrow, le)
 
   -- one node is the only part
@@ -320,7 +320,7 @@ module _ {T E : Type 0} where
         let same : IsPermutation ts (elements_of p) = rw these adds.parts.same in
         let good : AllByRecursion (IsFreshNode v o most widest axes b) p.children.items = rw these (all_map (IsFreshNode v o most old axes b) (IsFreshNode v o most widest axes b) (fresh_wider v o most old widest axes b le) adds.added adds.parts.good) in
         let whole : AreWhole v o (suc b) p.children.items = all_map (IsFreshNode v o most widest axes b) (IsTree (IsInner v o) (IsElement v o) (suc b)) (parent_map (IsFresh v o most widest axes b) (IsParentTree (IsInner v o) (IsElement v o) b) (λ q f. f.whole)) p.children.items good in
-        let narrow : AreTrees (IsNarrow widest) IsAny (suc b) p.children.items = all_map (IsFreshNode v o most widest axes b) (IsTree (IsNarrow widest) IsAny (suc b)) (parent_map (IsFresh v o most widest axes b) (IsParentTree (IsNarrow widest) IsAny b) (λ q f. f.narrow)) p.children.items good in
+        let narrow : AreTrees (HasAtMost widest) IsAny (suc b) p.children.items = all_map (IsFreshNode v o most widest axes b) (IsTree (HasAtMost widest) IsAny (suc b)) (parent_map (IsFresh v o most widest axes b) (IsParentTree (HasAtMost widest) IsAny b) (λ q f. f.narrow)) p.children.items good in
         let key : T → ℕ → ℤ = λ t axis. v.axis_key (o.box_of t) axis in
         let cuts : AllByRecursion (IsParentOf (IsCutAbove key most axes b)) p.children.items = all_map (IsFreshNode v o most widest axes b) (IsParentOf (IsCutAbove key most axes b)) (parent_map (IsFresh v o most widest axes b) (IsCutAbove key most axes b) (λ q f. f.cut)) p.children.items good in
         let small : All (λ n. length (elements n) ≤ part_bound axes c (length ts)) p.children.items = rw these adds.parts.small in

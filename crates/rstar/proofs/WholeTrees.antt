@@ -7,7 +7,7 @@ use Rattle.rstar.specs.declared.node.ParentNode.{ParentNode}
 use Rattle.rstar.specs.Nodes.{IsTree, IsElement, IsInner, AreWhole, children_of}
 use Rattle.rstar.specs.Shapes.{AreTrees, IsAny, HasSize, IsSized}
 use Rattle.rstar.specs.Heights.{levels_below}
-use Rattle.rstar.specs.Kept.{IsNarrow, IsKeptInner, AreKept, IsKeptTree}
+use Rattle.rstar.specs.Kept.{HasAtMost, IsKeptInner, AreKept, IsKeptTree}
 use Rattle.rstar.proofs.Heights.{levels_are}
 use Rattle.rstar.proofs.Rows.{is_parent, parent_of, IsParentOf-Parent}
 use Rattle.rstar.proofs.Insertion.{trees_map}
@@ -17,21 +17,21 @@ some_item [] full = absurd (full refl)
 some_item (x ∷ xs) full = omega arith
 
 module _ {T E : Type 0} (v : Boxes E) (o : Objects T E) (widest : ℕ) where
-  pub all_kept : (h : ℕ) → ((n : RTreeNode T E) → IsTree (IsInner v o) (IsElement v o) h n → IsTree (IsNarrow widest) IsAny h n → IsTree (IsKeptInner v o widest) (IsElement v o) h n)
-      → (ns : List (RTreeNode T E)) → AreWhole v o h ns → AreTrees (IsNarrow widest) IsAny h ns → AreKept v o widest h ns
+  pub all_kept : (h : ℕ) → ((n : RTreeNode T E) → IsTree (IsInner v o) (IsElement v o) h n → IsTree (HasAtMost widest) IsAny h n → IsTree (IsKeptInner v o widest) (IsElement v o) h n)
+      → (ns : List (RTreeNode T E)) → AreWhole v o h ns → AreTrees (HasAtMost widest) IsAny h ns → AreKept v o widest h ns
   all_kept h one [] w r = tt
   all_kept h one (n ∷ ns) w r = (one n w.0 r.0, all_kept h one ns w.1 r.1)
 
-  pub tree_kept : (h : ℕ) (n : RTreeNode T E) → IsTree (IsInner v o) (IsElement v o) h n → IsTree (IsNarrow widest) IsAny h n → IsTree (IsKeptInner v o widest) (IsElement v o) h n
+  pub tree_kept : (h : ℕ) (n : RTreeNode T E) → IsTree (IsInner v o) (IsElement v o) h n → IsTree (HasAtMost widest) IsAny h n → IsTree (IsKeptInner v o widest) (IsElement v o) h n
   tree_kept zero n w r = w
   tree_kept (suc h) n w r =
       let p = is_parent _ n w in
-      let q = parent_of _ p.0 (subst (IsTree (IsNarrow widest) IsAny (suc h)) p.1 r) in
+      let q = parent_of _ p.0 (subst (IsTree (HasAtMost widest) IsAny (suc h)) p.1 r) in
       subst (IsTree (IsKeptInner v o widest) (IsElement v o) (suc h)) (sym p.1)
       (IsParentOf-Parent _ p.0 ((record { tight = p.2.0.0; narrow = q.0 }, some_item p.0.children.items p.2.0.1), all_kept h (tree_kept h) p.0.children.items p.2.1 q.1))
 
   -- whole trees within the bound, by the levels that their first leaf shows
-  pub kept_at : (h n : ℕ) (ns : List (RTreeNode T E)) → n ≡ levels_below ns → AreWhole v o h ns → AreTrees (IsNarrow widest) IsAny h ns → AreKept v o widest n ns
+  pub kept_at : (h n : ℕ) (ns : List (RTreeNode T E)) → n ≡ levels_below ns → AreWhole v o h ns → AreTrees (HasAtMost widest) IsAny h ns → AreKept v o widest n ns
   kept_at h n [] is w r = tt
   kept_at h n (m ∷ ms) is w r =
       subst (λ (k : ℕ). AreKept v o widest k (m ∷ ms)) (sym (is ∙ levels_are (IsInner v o) (IsElement v o) (λ p q. q.1) h (m ∷ ms) (λ none. cc) w)) (all_kept h (tree_kept h) (m ∷ ms) w r)
@@ -43,7 +43,7 @@ module _ {T E : Type 0} (v : Boxes E) (o : Objects T E) (widest : ℕ) where
     some_child q some none = let long = ap length none in absurd (omega (arith, long, some))
 
   -- what is kept of the bound
-  pub narrow_of : (h : ℕ) (ns : List (RTreeNode T E)) → AreKept v o widest h ns → AreTrees (IsNarrow widest) IsAny h ns
+  pub narrow_of : (h : ℕ) (ns : List (RTreeNode T E)) → AreKept v o widest h ns → AreTrees (HasAtMost widest) IsAny h ns
   narrow_of = trees_map (λ p k. k.0.narrow) (λ t k. tt)
 
 module _ {T E : Type 0} (min max : ℕ) (positive : 0 < min) where

@@ -10,8 +10,8 @@ use Rattle.rstar.specs.Nodes.{children_of, node_box, of_parent, IsElement, IsTig
 use Rattle.rstar.specs.Shapes.{AreTrees, IsParentTree, IsAny, HasSize}
 
 -- at most `widest` children
-abbrev pub IsNarrow : {T E : Type 0} → ℕ → ParentNode T E → Type 0
-IsNarrow widest p = length p.children.items ≤ widest
+abbrev pub HasAtMost : {T E : Type 0} → ℕ → ParentNode T E → Type 0
+HasAtMost widest p = length p.children.items ≤ widest
 
 -- an empty list that can hold so many items
 abbrev pub IsSpare : {A : Type 0} → ℕ → Vec A Global → Type 0
@@ -48,7 +48,7 @@ module _ {T E : Type 0} (v : Boxes E) (o : Objects T E) (widest : ℕ) where
   -- tight, and not too wide
   pub record IsKept (p : ParentNode T E) : Type 0 where
     pub tight : IsTight v o p
-    pub narrow : IsNarrow widest p
+    pub narrow : HasAtMost widest p
 
   -- the same of a parent that is not the root
   abbrev pub IsKeptInner : ParentNode T E → Type 0
@@ -58,7 +58,7 @@ module _ {T E : Type 0} (v : Boxes E) (o : Objects T E) (widest : ℕ) where
   pub record HasMergedBox (p : ParentNode T E) : Type 0 where
     pub merged : p.envelope ≡ hull v (node_box o.box_of) p.children.items
     pub some : 0 < length p.children.items
-    pub narrow : IsNarrow widest p
+    pub narrow : HasAtMost widest p
 
 module _ {T E : Type 0} (v : Boxes E) (o : Objects T E) (widest : ℕ) where
   -- trees of such parents over elements

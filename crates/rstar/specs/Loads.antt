@@ -10,7 +10,7 @@ use Rattle.rstar.specs.declared.node.ParentNode.{ParentNode}
 use Rattle.rstar.specs.declared.node.RTreeNode.{RTreeNode}
 use Rattle.rstar.specs.Nodes.{elements, all_elements, elements_of, IsParentOf, IsElement, IsInner}
 use Rattle.rstar.specs.Shapes.{IsParentTree, IsAny}
-use Rattle.rstar.specs.Kept.{IsNarrow}
+use Rattle.rstar.specs.Kept.{HasAtMost}
 use Rattle.rstar.specs.Loaded.{IsPartSize, EndsAt, IsParted, IsCutAbove, HasSmallParent}
 
 -- the last n items of a list, and those in front of them
@@ -75,7 +75,7 @@ module _ {T E : Type 0} (key : T → ℕ → ℤ) (Good : RTreeNode T E → Type
 pub record IsFresh {T E : Type 0} (v : Boxes E) (o : Objects T E) (most widest axes h : ℕ)
     (p : ParentNode T E) : Type 0 where
   pub whole : IsParentTree (IsInner v o) (IsElement v o) h p
-  pub narrow : IsParentTree (IsNarrow widest) IsAny h p
+  pub narrow : IsParentTree (HasAtMost widest) IsAny h p
   pub cut : IsCutAbove (λ t axis. v.axis_key (o.box_of t) axis) most axes h p
   pub small : EndsAt most axes h (length (elements_of p)) → HasSmallParent most h p
 

@@ -11,7 +11,7 @@ use Rattle.rstar.specs.Nodes.{children_of, elements_of, envelopes_of, IsWhole}
 use Rattle.rstar.specs.Shown.{shown_root, outline}
 use Rattle.rstar.specs.Shapes.{AreTrees, IsAny}
 use Rattle.rstar.specs.Heights.{levels_below}
-use Rattle.rstar.specs.Kept.{IsNarrow, IsSpare}
+use Rattle.rstar.specs.Kept.{HasAtMost, IsSpare}
 
 -- the root of a tree
 abbrev pub root_of : {T D E P S X : Type 0} → RTree T D E P S X → ParentNode T E
@@ -53,8 +53,8 @@ module _ {T D E P S X : Type 0} (v : Boxes E) (o : Objects T E) (max : ℕ) wher
     -- no parent has more children than the tree's bound, which is at least `max` and can be counted past
     pub wide : max ≤ tree.widest
     pub wide_fits : tree.widest + 1 < 2 ^ 64
-    pub narrow : IsNarrow tree.widest (root_of tree)
-    pub narrow_below : AreTrees (IsNarrow tree.widest) IsAny root_whole.height (children_of (root_of tree))
+    pub narrow : HasAtMost tree.widest (root_of tree)
+    pub narrow_below : AreTrees (HasAtMost tree.widest) IsAny root_whole.height (children_of (root_of tree))
     -- each spare list can hold as many as the bound
     pub spares : AllByRecursion (IsSpare tree.widest) tree.spares.items
     -- nothing is left of an overflow

@@ -8,7 +8,7 @@ use Rattle.rstar_run.specs.Grammar.{line_of, entry_of}
 use Rattle.rstar_run.specs.Items.{Item, Command, Reply, StoreStep, IsRectangle}
 use Rattle.rstar_run.specs.Requests.{Asks}
 use Rattle.rstar_run.specs.Statuses.{status_of}
-use Rattle.rstar_run.specs.Texts.{Spells, end_text}
+use Rattle.rstar_run.specs.Texts.{SpellsReply, end_text}
 use Rattle.rstar_run.specs.Lines.{lines_of, TakesLines}
 use Rattle.rstar_run.specs.Prints.{AppendsFront, Prints, Tells}
 use Rattle.rstar_run.specs.declared.command.Entry.{Entry}
@@ -42,7 +42,7 @@ Lists (line ∷ lines) items =
 -- the store takes a step by a command of this kind, and the reply is said
 abbrev pub StepSays : (Command → Type 0) → List Item → List ℕ → List Item → Type 0
 StepSays Kind old said new =
-    (c : Command) × Kind c × ((reply : Reply) × StoreStep old c reply new × Spells reply said)
+    (c : Command) × Kind c × ((reply : Reply) × StoreStep old c reply new × SpellsReply reply said)
 
 -- the command is a load of so many items, those of these lines
 abbrev pub IsLoad : ℕ → List (List ℕ) → Command → Type 0

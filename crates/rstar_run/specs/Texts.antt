@@ -25,18 +25,18 @@ pub record AreIds (items : List Item) (ids : List ℕ) : Type 0 where
   pub ascending : IsNonDecreasing ids
 
 -- the line of a reply
-abbrev pub Spells : Reply → List ℕ → Type 0
-Spells reply.Done text = text ≡ codes "ok\n"
-Spells (reply.Taken None) text = text ≡ codes "-\n"
-Spells (reply.Taken (Some item)) text = text ≡ id_text item ++ codes "\n"
-Spells (reply.Elements items) text =
+abbrev pub SpellsReply : Reply → List ℕ → Type 0
+SpellsReply reply.Done text = text ≡ codes "ok\n"
+SpellsReply (reply.Taken None) text = text ≡ codes "-\n"
+SpellsReply (reply.Taken (Some item)) text = text ≡ id_text item ++ codes "\n"
+SpellsReply (reply.Elements items) text =
     (ids : List ℕ) × AreIds items.items ids × (text ≡ list_text decimal ids ++ codes "\n")
-Spells (reply.Neighbours found) text = text ≡ list_text neighbour_text found.items ++ codes "\n"
-Spells _ _ = ⊥
+SpellsReply (reply.Neighbours found) text = text ≡ list_text neighbour_text found.items ++ codes "\n"
+SpellsReply _ _ = ⊥
 
 -- no text spells the reply: it says that memory was refused or that the tree is full, or no line asks for it
 abbrev pub HasNoText : Reply → Type 0
-HasNoText reply = (text : List ℕ) → Spells reply text → ⊥
+HasNoText reply = (text : List ℕ) → SpellsReply reply text → ⊥
 
 -- what is said where a run stops; nothing after a failed write
 abbrev pub stop_text : Stop → List ℕ

@@ -2,7 +2,7 @@
 
 ghost use Rattle.std.specs.Prelude.{◌≡◌, ◌++◌, ℕ, List, codes, decimal, Err, IfErr, OnOk};
 ghost use Rattle.rstar_run.specs.Prints.{AppendsFront, Prints, PrintsSome};
-ghost use Rattle.rstar_run.specs.Texts.{list_text, id_text, neighbour_text, HasNoText, Spells};
+ghost use Rattle.rstar_run.specs.Texts.{list_text, id_text, neighbour_text, HasNoText, SpellsReply};
 
 use super::print::Printer;
 use super::program::Stop;
@@ -51,7 +51,7 @@ pub fn print_reply<W: Write>(
     output: &mut W,
     reply: Reply<Item>,
 ) -> Result<(), Stop>
-    ensures printed { PrintsSome (Spells reply) (W.contents output.old) (W.contents output.new)
+    ensures printed { PrintsSome (SpellsReply reply) (W.contents output.old) (W.contents output.new)
         printer.old.held.items printer.new.held.items result }
     ensures silent { result ≡ Err Stop.Memory → HasNoText reply }
 {

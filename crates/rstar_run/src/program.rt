@@ -10,7 +10,7 @@ ghost use Rattle.rstar_run.specs.Modes.{mode_of, mode_named};
 ghost use Rattle.rstar_run.specs.Prints.{AppendsFront, Prints, Printed, PrintsSome};
 ghost use Rattle.rstar_run.specs.Runs.{IsNoLine, ReadsLoad, Turn, RunSays, Ran};
 ghost use Rattle.rstar_run.specs.Statuses.{status_of};
-ghost use Rattle.rstar_run.specs.Texts.{HasNoText, Spells, end_text, stop_text};
+ghost use Rattle.rstar_run.specs.Texts.{HasNoText, SpellsReply, end_text, stop_text};
 ghost use Rattle.rstar_run.specs.declared.program.Stop.TheVariants.{Memory};
 
 use super::answers::{print_number, print_reply};
@@ -155,7 +155,7 @@ fn run_command<W: Write>(
 ) -> Result<(), Stop>
     requires { IsFit questions 2 command }
     ensures printed { PrintsSome (λ text. (reply : Reply) × StoreStep store.old command reply store.new
-        × Spells reply text) (W.contents output.old) (W.contents output.new) printer.old.held.items
+        × SpellsReply reply text) (W.contents output.old) (W.contents output.new) printer.old.held.items
         printer.new.held.items result }
     ensures silent { result ≡ Err Stop.Memory → (reply : Reply) × StoreStep store.old command reply store.new
         × HasNoText reply }

@@ -100,12 +100,22 @@ fn first_inside<T: RTreeObject>(
     }
 }
 
-/// Whether a tree has two elements, and this many inside an envelope, at least one.
-fn gives_two<T: RTreeObject>(alloc: Global, tree: &RTree<T>, area: T::Envelope, near: usize) -> bool
+/// Asks that values of a type may move to another thread, and be shared with one.
+fn crosses_threads<X: Send + Sync>(_value: &X) {}
+
+/// Whether a tree has two elements, and this many inside an envelope, at least one. It may cross threads where its
+/// elements and their envelopes may.
+fn gives_two<T: RTreeObject + Send + Sync>(
+    alloc: Global,
+    tree: &RTree<T>,
+    area: T::Envelope,
+    near: usize,
+) -> bool
 where
-    T::Envelope: Copy,
+    T::Envelope: Copy + Send + Sync,
     requires { IsWholeTree T.Envelope.boxes T.object ⟦<DefaultParams as RTreeParams>⟧.MAX_SIZE tree.now }
 {
+    crosses_threads(tree);
     tree.size() == 2
         && tree.root().children().len() == 2
         && counted_inside(tree, area) == Some(near)
@@ -117,7 +127,7 @@ where
 }
 
 /// The same of a tree of these two elements.
-fn gives_both<T: RTreeObject>(
+fn gives_both<T: RTreeObject + Send + Sync>(
     alloc: Global,
     first: T,
     second: T,
@@ -125,7 +135,7 @@ fn gives_both<T: RTreeObject>(
     near: usize,
 ) -> bool
 where
-    T::Envelope: Copy,
+    T::Envelope: Copy + Send + Sync,
     requires { 2 ≤ T.Envelope.Point.DIMENSIONS }
 {
     if first.envelope().is_empty() || second.envelope().is_empty() {

@@ -51,7 +51,6 @@ fn gather_among<T: Covered, R: Question<T>>(
     requires room { most ≤ vec_capacity taken.old }
     ensures gathers { GathersAmong T.Cover.boxes T.object (R.accepts func.now) (R.selects func.now) most
         children.old.items taken.old.items children.new.items taken.new.items }
-    ensures room { vec_capacity children.new ≡ vec_capacity children.old }
     ensures capacity { vec_capacity taken.new ≡ vec_capacity taken.old }
 {
     for i in (0..children.len()).rev() {
@@ -98,7 +97,6 @@ fn swap_leaf_out<T: Covered>(children: &mut Vec<RTreeNode<T>>, index: usize) -> 
     requires leaf { (n : _) → is_a_leaf (slice_index_or children.old.items index n) ≡ true }
     ensures node { Leaf result ≡ slice_index_or children.old.items index (Leaf result) }
     ensures out { IsSwappedOut children.old.items index children.new.items }
-    ensures room { vec_capacity children.new ≡ vec_capacity children.old }
 {
     element_of(children.swap_remove(index))
 }
@@ -108,7 +106,6 @@ fn swap_leaf_out<T: Covered>(children: &mut Vec<RTreeNode<T>>, index: usize) -> 
 fn swap_out<T: Covered>(children: &mut Vec<RTreeNode<T>>, index: usize)
     requires { index < vec_len children.old }
     ensures out { IsSwappedOut children.old.items index children.new.items }
-    ensures room { vec_capacity children.new ≡ vec_capacity children.old }
 {
     let _ = children.swap_remove(index);
 }

@@ -3,7 +3,7 @@
 //! Steps that not every call needs stay out of line (`#[inline(never)]`), so that the path down is short.
 
 ghost use Rattle.std.specs.Prelude.{◌≡◌, ℕ, ◌-◌, ◌<◌, ◌≤◌, true, false, None, IfNone, length, replicate};
-ghost use Rattle.std.specs.Prelude.{vec_len, vec_capacity, slice_index_or};
+ghost use Rattle.std.specs.Prelude.{vec_len, slice_index_or};
 ghost use Rattle.std.specs.List.{remove};
 ghost use Rattle.rstar_base.specs.Hulls.{hull};
 ghost use Rattle.rstar.specs.declared.node.RTreeNode.{Leaf};
@@ -144,7 +144,6 @@ fn take_among<T: Covered, R: Question<T>>(
 ) -> Option<T>
     ensures takes { Takes T.Cover.boxes T.object (R.accepts func.now) (R.selects func.now)
         children.old.items path.old rest.old result children.new.items path.new rest.new }
-    ensures capacity { vec_capacity children.new ≡ vec_capacity children.old }
     ensures same { IfNone result (children.new ≡ children.old) }
     ensures unchanged { changed.new ≡ false → hull T.Cover.boxes (node_box T.object.box_of) children.new.items
         ≡ hull T.Cover.boxes (node_box T.object.box_of) children.old.items }
@@ -226,7 +225,6 @@ fn take_leaf<T: Covered>(children: &mut Vec<RTreeNode<T>>, index: usize) -> T
     requires leaf { (n : _) → is_a_leaf (slice_index_or children.old.items index n) ≡ true }
     ensures node { Leaf result ≡ slice_index_or children.old.items index (Leaf result) }
     ensures items { children.new.items ≡ remove children.old.items index }
-    ensures capacity { vec_capacity children.new ≡ vec_capacity children.old }
 {
     element_of(children.remove(index))
 }
@@ -247,7 +245,6 @@ pub(super) fn element_of<T: Covered>(leaf: RTreeNode<T>) -> T
 fn drop_child<T: Covered>(children: &mut Vec<RTreeNode<T>>, index: usize)
     requires { index < vec_len children.old }
     ensures items { children.new.items ≡ remove children.old.items index }
-    ensures capacity { vec_capacity children.new ≡ vec_capacity children.old }
 {
     let _ = children.remove(index);
 }

@@ -18,6 +18,9 @@ use rstar_base::params::{DefaultParams, RTreeParams};
 /// With a lawful selection function it removes all selected elements, and never another one. After each
 /// `next` the tree is whole. Dropping or forgetting the drain changes nothing more. `next` takes no memory:
 /// the path was reserved before. `Path` is the list of that path, which users leave out.
+///
+/// A `next` merges the children of each parent on its path, up to the first whose envelope stays. So a drain of
+/// n parents below one root, of k elements each, merges at most some k * n²/2 envelopes.
 pub struct DrainIterator<
     'a,
     T: RTreeObject,

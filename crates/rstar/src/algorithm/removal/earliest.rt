@@ -3,7 +3,7 @@
 //! A read-only recursion finds the child below which it lies; then it is removed below that child in the
 //! same way. So one path changes, and each level of it is read once.
 
-ghost use Rattle.std.specs.Prelude.{◌≡◌, ◌≢◌, ℕ, [], false, None, IfNone, vec_capacity, slice_index_or};
+ghost use Rattle.std.specs.Prelude.{◌≡◌, ◌≢◌, ℕ, [], false, None, IfNone, slice_index_or};
 ghost use Rattle.rstar_base.specs.Hulls.{hull};
 ghost use Rattle.rstar.specs.Earliest.{earliest, lent, earlier_at, IsGivenAt, IsEarliestOf};
 ghost use Rattle.rstar.specs.Kept.{IsKept, AreKept};
@@ -126,7 +126,6 @@ fn take_at<T: Covered + Ord, R: Question<T>>(
         children.old.items [] None result children.new.items [] None }
     ensures first { (d : _) → result ≡ earliest T.cmp
         (given (R.accepts func.now) (R.selects func.now) (slice_index_or children.old.items place d)) }
-    ensures capacity { vec_capacity children.new ≡ vec_capacity children.old }
     ensures unchanged { changed.new ≡ false → hull T.Cover.boxes (node_box T.object.box_of) children.new.items
         ≡ hull T.Cover.boxes (node_box T.object.box_of) children.old.items }
 {

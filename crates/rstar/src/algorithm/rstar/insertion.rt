@@ -7,7 +7,7 @@ ghost use Rattle.rstar_base.specs.Hulls.{hull};
 ghost use Rattle.rstar.specs.declared.node.RTreeNode.{Parent};
 ghost use Rattle.rstar.specs.Nodes.{node_box, all_elements};
 ghost use Rattle.rstar.specs.Shapes.{AreSized, IsSizedTree};
-ghost use Rattle.rstar.specs.Kept.{IsNarrow, IsSpare, IsKept, HasMergedBox, AreKept, IsKeptTree, IsSizedAfter, second_children, as_node};
+ghost use Rattle.rstar.specs.Kept.{HasAtMost, IsSpare, IsKept, HasMergedBox, AreKept, IsKeptTree, IsSizedAfter, second_children, as_node};
 ghost use Rattle.rstar.specs.Kept.{has_room, all_roomy, roomy_of, second_roomy};
 
 use crate::algorithm::rstar::placing::Placed;
@@ -48,7 +48,7 @@ fn add_child<T: Placed, Params: RTreeParams>(
 ) -> Option<ParentNode<T>>
     requires covered { node.old.envelope
         ≡ hull T.Cover.boxes (node_box T.object.box_of) (node.old.children.items ++ child ∷ []) }
-    requires narrow { IsNarrow widest node.old }
+    requires narrow { HasAtMost widest node.old }
     requires wide { Params.MAX_SIZE ≤ widest }
     requires spares { AllByRecursion (IsSpare widest) spares.old.items }
     requires enough { 0 < vec_len spares.old }

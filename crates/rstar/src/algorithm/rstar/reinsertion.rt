@@ -9,7 +9,7 @@ ghost use Rattle.rstar.specs.declared.node.RTreeNode.{Leaf};
 ghost use Rattle.rstar.specs.Heights.{spare_lists};
 ghost use Rattle.rstar.specs.Nodes.{node_box, all_elements};
 ghost use Rattle.rstar.specs.Shapes.{AreSized, IsSizedTree};
-ghost use Rattle.rstar.specs.Kept.{IsNarrow, IsSpare, IsKept, HasMergedBox, AreKept, IsKeptTree, IsSizedAfter};
+ghost use Rattle.rstar.specs.Kept.{HasAtMost, IsSpare, IsKept, HasMergedBox, AreKept, IsKeptTree, IsSizedAfter};
 ghost use Rattle.rstar.specs.Kept.{has_room, all_roomy, roomy_of};
 
 use crate::algorithm::rstar::insertion::insert_at_root;
@@ -80,7 +80,7 @@ fn add_leaf<T: Placed, Params: RTreeParams>(
 )
     requires covered { node.old.envelope
         ≡ hull T.Cover.boxes (node_box T.object.box_of) (node.old.children.items ++ Leaf t ∷ []) }
-    requires narrow { IsNarrow widest node.old }
+    requires narrow { HasAtMost widest node.old }
     requires wide { Params.MAX_SIZE ≤ widest }
     requires reinserts { 0 < Params.REINSERTION_COUNT }
     requires spare { IsSpare widest handed.old }

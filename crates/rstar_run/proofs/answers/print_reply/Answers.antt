@@ -1,6 +1,6 @@
 use Rattle.std.proofs.Common.{rules, ◌++◌, map, decimal, ap, sym, subst, codes}
 use Rattle.std.proofs.lemmas.List.Sorted.{IsNonDecreasingBy-from_sort_by_key, IsPermutation-map}
-use Rattle.rstar_run.specs.Texts.{list_text, id_text, AreIds, Spells}
+use Rattle.rstar_run.specs.Texts.{list_text, id_text, AreIds, SpellsReply}
 use Rattle.rstar_run.proofs.Ids.{ascending}
 use Rattle.rstar_run.proofs.Prints.{printed_some, list_text-map}
 use Rattle.rstar_run.proofs.answers.print_reply.Goals as goal
@@ -14,5 +14,5 @@ returns-in-Elements-clause-printed g c =
     let are = subst (λ items. AreIds c.in-Elements.items.items (map (λ item. item.1) items)) (sym c.as_slice.ensures.value) (record { just_those = those; ascending = up }) in
     let text = list_text id_text c.as_slice.result.now ++ codes "\n" in
     let spelled = ap (λ l. l ++ codes "\n") (sym (list_text-map decimal (λ item. item.1) c.as_slice.result.now)) in
-    printed_some _ _ _ _ (Spells c.args.reply) text (subst (λ reply. Spells reply text) (sym c.in-Elements.is) (ids, are, spelled))
+    printed_some _ _ _ _ (SpellsReply c.args.reply) text (subst (λ reply. SpellsReply reply text) (sym c.in-Elements.is) (ids, are, spelled))
     c.print_list-in-Elements.result c.print_list-in-Elements.ensures.all c.print_list-in-Elements.ensures.front c.print_list-in-Elements.ensures.stop

@@ -2,7 +2,7 @@ use Rattle.std.proofs.Common.{Bool, ◌≡◌, ◌∙◌, ◌∷◌, ◌++◌, [
 use Rattle.std.specs.Global.{Vec}
 use Rattle.rstar.specs.declared.replay.Command.TheVariants as command
 use Rattle.rstar_run.specs.Items.{Item, Reply, StoreStep}
-use Rattle.rstar_run.specs.Texts.{Spells}
+use Rattle.rstar_run.specs.Texts.{SpellsReply}
 use Rattle.rstar_run.specs.Grammar.{line_of}
 use Rattle.rstar_run.specs.Words.{words_of}
 use Rattle.rstar_run.specs.Lines.{bytes_left}
@@ -61,7 +61,7 @@ returns-in_err-run_command-in-Request g c =
     let means = sym (c.parse_line.ensures ∙ ap (λ t. line_of (words_of t)) c.text.ensures) ∙ c.in-Request.is in
     let took = c.next_line.ensures.line (c.in_ok-next_line.was ∙ ap Ok c.if-not-branch.false) in
     said_some (bytes_left g.R.Read.remaining c.args.lines.now) (bytes_left g.R.Read.remaining c.next_line.new.lines) c.args.lines.now.number c.next_line.new.lines.number c.args.store.now c.run_command-in-Request.new.store
-    (g.W.Write.contents c.args.output.now) _ (g.W.Write.contents c.run_command-in-Request.new.output) c.args.printer.now.held.items _ c.run_command-in-Request.new.printer.held.items (bytes ∷ []) (λ text. (reply : Reply) × StoreStep c.args.store.now c.command_of.result reply c.run_command-in-Request.new.store × Spells reply text) (_, took, refl) c.in_ok-next_line.ensures.number
+    (g.W.Write.contents c.args.output.now) _ (g.W.Write.contents c.run_command-in-Request.new.output) c.args.printer.now.held.items _ c.run_command-in-Request.new.printer.held.items (bytes ∷ []) (λ text. (reply : Reply) × StoreStep c.args.store.now c.command_of.result reply c.run_command-in-Request.new.store × SpellsReply reply text) (_, took, refl) c.in_ok-next_line.ensures.number
     (λ text k. subst (λ l. LineSays c.args.store.now l [] text c.run_command-in-Request.new.store) (sym means) (refl, (c.command_of.result, c.command_of.ensures.asked, k))) c.in_ok-next_line.ensures.shown
     c.in_err-run_command-in-Request.field-0.0 c.in_err-run_command-in-Request.ensures.printed c.from_residual-in_err-run_command-in-Request.result c.from_residual-in_err-run_command-in-Request.ensures.1
 
@@ -73,7 +73,7 @@ returns-in_err-run_command-in-Load g c =
     let list = c.in_ok-list-in-Load.list in
     let load = c.in_ok-list-in-Load.ensures.load in
     said_some (bytes_left g.R.Read.remaining c.args.lines.now) (bytes_left g.R.Read.remaining c.read_load.new.lines) c.args.lines.now.number c.read_load.new.lines.number c.args.store.now c.run_command.new.store
-    (g.W.Write.contents c.args.output.now) _ (g.W.Write.contents c.run_command.new.output) c.args.printer.now.held.items _ c.run_command.new.printer.held.items (bytes ∷ load.0.lines) (λ text. (reply : Reply) × StoreStep c.args.store.now (command.Load list) reply c.run_command.new.store × Spells reply text) (_, took, load.0.taken)
+    (g.W.Write.contents c.args.output.now) _ (g.W.Write.contents c.run_command.new.output) c.args.printer.now.held.items _ c.run_command.new.printer.held.items (bytes ∷ load.0.lines) (λ text. (reply : Reply) × StoreStep c.args.store.now (command.Load list) reply c.run_command.new.store × SpellsReply reply text) (_, took, load.0.taken)
     (omega (arith, c.in_ok-next_line.ensures.number, load.0.count))
     (λ text k. subst (λ l. LineSays c.args.store.now l load.0.lines text c.run_command.new.store) (sym means) (command.Load list, (list, refl, load.0.lists, load.1), k)) (prints_both c.in_ok-next_line.ensures.shown c.in_ok-list-in-Load.ensures.shown)
     c.in_err-run_command-in-Load.field-0.0 c.in_err-run_command-in-Load.ensures.printed c.from_residual-in_err-run_command-in-Load.result c.from_residual-in_err-run_command-in-Load.ensures.1
@@ -84,7 +84,7 @@ returns-in_ok-run_command-in-Request g c =
     let means = sym (c.parse_line.ensures ∙ ap (λ t. line_of (words_of t)) c.text.ensures) ∙ c.in-Request.is in
     let took = c.next_line.ensures.line (c.in_ok-next_line.was ∙ ap Ok c.if-not-branch.false) in
     said_all (bytes_left g.R.Read.remaining c.args.lines.now) (bytes_left g.R.Read.remaining c.next_line.new.lines) c.args.lines.now.number c.next_line.new.lines.number c.args.store.now c.run_command-in-Request.new.store
-    (g.W.Write.contents c.args.output.now) _ (g.W.Write.contents c.run_command-in-Request.new.output) c.args.printer.now.held.items _ c.run_command-in-Request.new.printer.held.items (bytes ∷ []) (λ text. (reply : Reply) × StoreStep c.args.store.now c.command_of.result reply c.run_command-in-Request.new.store × Spells reply text) (_, took, refl) c.in_ok-next_line.ensures.number
+    (g.W.Write.contents c.args.output.now) _ (g.W.Write.contents c.run_command-in-Request.new.output) c.args.printer.now.held.items _ c.run_command-in-Request.new.printer.held.items (bytes ∷ []) (λ text. (reply : Reply) × StoreStep c.args.store.now c.command_of.result reply c.run_command-in-Request.new.store × SpellsReply reply text) (_, took, refl) c.in_ok-next_line.ensures.number
     (λ text k. subst (λ l. LineSays c.args.store.now l [] text c.run_command-in-Request.new.store) (sym means) (refl, (c.command_of.result, c.command_of.ensures.asked, k))) c.in_ok-next_line.ensures.shown
     c.in_ok-run_command-in-Request.ensures.printed
 
@@ -96,7 +96,7 @@ returns-in_ok-run_command-in-Load g c =
     let list = c.in_ok-list-in-Load.list in
     let load = c.in_ok-list-in-Load.ensures.load in
     said_all (bytes_left g.R.Read.remaining c.args.lines.now) (bytes_left g.R.Read.remaining c.read_load.new.lines) c.args.lines.now.number c.read_load.new.lines.number c.args.store.now c.run_command.new.store
-    (g.W.Write.contents c.args.output.now) _ (g.W.Write.contents c.run_command.new.output) c.args.printer.now.held.items _ c.run_command.new.printer.held.items (bytes ∷ load.0.lines) (λ text. (reply : Reply) × StoreStep c.args.store.now (command.Load list) reply c.run_command.new.store × Spells reply text) (_, took, load.0.taken)
+    (g.W.Write.contents c.args.output.now) _ (g.W.Write.contents c.run_command.new.output) c.args.printer.now.held.items _ c.run_command.new.printer.held.items (bytes ∷ load.0.lines) (λ text. (reply : Reply) × StoreStep c.args.store.now (command.Load list) reply c.run_command.new.store × SpellsReply reply text) (_, took, load.0.taken)
     (omega (arith, c.in_ok-next_line.ensures.number, load.0.count))
     (λ text k. subst (λ l. LineSays c.args.store.now l load.0.lines text c.run_command.new.store) (sym means) (command.Load list, (list, refl, load.0.lists, load.1), k)) (prints_both c.in_ok-next_line.ensures.shown c.in_ok-list-in-Load.ensures.shown)
     c.in_ok-run_command-in-Load.ensures.printed

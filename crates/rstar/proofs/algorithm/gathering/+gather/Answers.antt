@@ -28,7 +28,6 @@ pub gather_among-loop-i-init : goal.gather_among-loop-i-init
 gather_among-loop-i-init g t c = record {
   gathering = gathering_begins g.T.Cover.Merges.boxes g.T.Covered.object (g.R.Question.accepts c.args.func.now) (g.R.Question.selects c.args.func.now) c.args.most c.args.children.now.items c.args.taken.now.items c.len-i.result (c.len-i.ensures ∙ c.args.children.now.ok.0);
   unvisited = λ k d lt. refl;
-  room = refl;
   capacity = refl;
 }
 
@@ -56,7 +55,6 @@ gather_among-loop-i-preserved-then-is_selected_leaf g t c =
     record {
       gathering = rw c.push_reserved.ensures.items after;
       unvisited = after.first;
-      room = c.swap_leaf_out.ensures.room ∙ c.loop-i.invariant.room;
       capacity = c.push_reserved.ensures.capacity ∙ c.loop-i.invariant.capacity;
     }
 
@@ -72,7 +70,6 @@ gather_among-loop-i-preserved g t c =
     record {
       gathering = after;
       unvisited = after.first;
-      room = c.loop-i.invariant.room;
       capacity = c.gather_inside.ensures.capacity ∙ c.loop-i.invariant.capacity;
     }
 
@@ -88,7 +85,6 @@ gather_among-loop-i-preserved-then-is_childless g t c =
     record {
       gathering = after;
       unvisited = after.first;
-      room = c.swap_out.ensures.room ∙ c.loop-i.invariant.room;
       capacity = c.gather_inside.ensures.capacity ∙ c.loop-i.invariant.capacity;
     }
 

@@ -8,6 +8,5 @@ abbrev pub invariant-gather_among-loop-i : goal.invariant-gather_among-loop-i
 invariant-gather_among-loop-i g l = record {
   gathering : Gathering g.T.Cover.Merges.boxes g.T.Covered.object (g.R.Question.accepts l.func) (g.R.Question.selects l.func) l.most l.initial.children.items l.initial.taken.items l.children.items l.taken.items l.i;
   unvisited : (k : ℕ) (d : RTreeNode g.row.T.Denot g.row.T-Cover.Denot) → k < l.i → get_or l.children.items k d ≡ get_or l.initial.children.items k d;
-  room : vec_capacity l.children ≡ vec_capacity l.initial.children;
   capacity : vec_capacity l.taken ≡ vec_capacity l.initial.taken;
 }

@@ -1,4 +1,4 @@
-use Rattle.std.proofs.Common.{true, false, ◌≡◌, ◌∙◌, ◌<◌, sym, refl, arith, ap, length, suc, ◌+◌, ◌-◌, get_or, get_or-set_same, Vec, ℕ, ◌≤◌, vec_len, vec_capacity}
+use Rattle.std.proofs.Common.{true, false, ◌≡◌, ◌∙◌, ◌<◌, sym, refl, arith, ap, length, suc, ◌+◌, ◌-◌, get_or, get_or-set_same, Vec, ℕ, ◌≤◌, vec_len}
 use Rattle.rstar.specs.declared.node.RTreeNode.{Leaf}
 use Rattle.rstar.specs.declared.node.RTreeNode.TheVariants.{outs-Leaf, outs-Parent}
 use Rattle.rstar.specs.Taking.{selects_in, is_selected_leaf, is_childless, lower_numbers}
@@ -99,7 +99,6 @@ take_among-returns-then-is_selected_leaf g t c = record {
       rw (c.set_first.ensures, c.take_leaf-taken.ensures.items)
       (gives_leaf g.T.Cover.Merges.boxes g.T.Covered.object (g.R.Question.accepts c.args.func.now) (g.R.Question.selects c.args.func.now) c.args.children.now.items c.args.path.now c.args.rest.now c.loop-passed.children.items c.loop-passed.path c.loop-passed.rest c.loop-passed.passed c.loop-passed.invariant.scanned i next c.take_leaf-taken.result c.take_leaf-taken.ensures.node
       (sym (ap (selects_in (g.R.Question.selects c.args.func.now)) (outs-Leaf _)) ∙ chosen ∙ sym c.is_selected_leaf.ensures ∙ c.if-is_selected_leaf.true));
-  capacity = c.take_leaf-taken.ensures.capacity ∙ ap vec_capacity c.loop-passed.invariant.same;
   same = tt;
   unchanged = λ told. told_none told;
 }
@@ -108,7 +107,6 @@ pub take_among-returns : goal.take_among-returns
 take_among-returns g t c = record {
   takes = rw c.set_first-2.ensures
       (finishes g.T.Cover.Merges.boxes g.T.Covered.object (g.R.Question.accepts c.args.func.now) (g.R.Question.selects c.args.func.now) c.args.children.now.items c.args.path.now c.args.rest.now c.loop-passed.children.items c.loop-passed.path c.loop-passed.rest c.loop-passed.passed c.loop-passed.invariant.scanned (omega (arith, c.args.children.now.ok.0, ap length c.loop-passed.invariant.scanned.same)) c.len-2.result (c.len-2.ensures ∙ c.loop-passed.children.ok.0));
-  capacity = ap vec_capacity c.loop-passed.invariant.same;
   same = c.loop-passed.invariant.same;
   unchanged = λ told. ap (λ (v : Vec _ _). hull g.T.Cover.Merges.boxes (node_box g.T.Covered.object.box_of) v.items) c.loop-passed.invariant.same;
 }
