@@ -3,6 +3,7 @@
 ghost use Rattle.std.specs.Ordering.{int_cmp};
 ghost use Rattle.rstar_base.specs.SmallHeaps.{IsOrdered};
 
+use super::slabs::is_marked;
 use crate::heap::SmallHeap;
 use std::alloc::Global;
 
@@ -11,6 +12,8 @@ use std::alloc::Global;
 enum Step {
     /// Pushes the numbers from one up to another, without that.
     Push(i32, i32),
+    /// Pushes them between two marks, each again where it is refused and handed back; those below a third are not refused.
+    Refused(i32, i32, i32),
     /// Extends it by these numbers at once.
     Extend(i32, i32),
     /// Pops the numbers from one down to another, with that.
@@ -32,6 +35,21 @@ fn pushes(heap: &mut SmallHeap<i32>, from: i32, end: i32) -> bool
     true
 }
 
+/// The same, where a number from `sure` on may be refused and handed back, and is pushed again.
+fn pushes_again(heap: &mut SmallHeap<i32>, from: i32, end: i32, sure: i32) -> bool
+    requires { IsOrdered int_cmp heap.old }
+    ensures { IsOrdered int_cmp heap.new }
+{
+    for number in from..end {
+        if let Err(refused) = heap.push(number) {
+            if number < sure || refused != number || heap.push(refused).is_err() {
+                return false;
+            }
+        }
+    }
+    true
+}
+
 /// Whether the next numbers are those from one down to another, with that.
 fn pops_down(heap: &mut SmallHeap<i32>, from: i32, end: i32) -> bool
     requires { IsOrdered int_cmp heap.old }
@@ -46,12 +64,15 @@ fn pops_down(heap: &mut SmallHeap<i32>, from: i32, end: i32) -> bool
 }
 
 /// Whether a step goes as it says.
-fn goes(heap: &mut SmallHeap<i32>, step: &Step) -> bool
+fn goes(alloc: Global, heap: &mut SmallHeap<i32>, step: &Step) -> bool
     requires { IsOrdered int_cmp heap.old }
     ensures { IsOrdered int_cmp heap.new }
 {
     match step {
         Step::Push(from, end) => pushes(heap, *from, *end),
+        Step::Refused(from, end, sure) => {
+            is_marked(alloc) & pushes_again(heap, *from, *end, *sure) & is_marked(alloc)
+        }
         Step::Extend(from, end) => heap.extend(*from..*end).is_ok(),
         Step::Pop(from, end) => pops_down(heap, *from, *end),
         Step::End => heap.pop().is_none(),
@@ -62,7 +83,7 @@ fn goes(heap: &mut SmallHeap<i32>, step: &Step) -> bool
 fn all_go(alloc: Global, steps: &[Step]) -> bool {
     let mut heap = SmallHeap::new(alloc);
     for step in steps {
-        if !goes(&mut heap, step) {
+        if !goes(alloc, &mut heap, step) {
             return false;
         }
     }
@@ -82,12 +103,13 @@ fn the_greatest_leaves_first(rt: HostRuntime) {
         Step::End,
     ];
     assert!(rt; all_go(rt.alloc(), &first));
-    // Twenty of forty numbers left: twelve more find their places inline, which takes no memory.
+    // Twenty of forty numbers left: twelve more find their places inline, which takes no memory; of those after them one needs a
+    // longer list.
     let twelve_more = [
         Step::Push(1, 41),
         Step::Pop(40, 21),
-        Step::Push(100, 112),
-        Step::Pop(111, 100),
+        Step::Refused(100, 150, 112),
+        Step::Pop(149, 100),
         Step::Pop(20, 1),
     ];
     assert!(rt; all_go(rt.alloc(), &twelve_more));

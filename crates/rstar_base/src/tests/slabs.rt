@@ -98,6 +98,17 @@ fn slabs_have_their_sizes_and_come_from_the_greatest_on(rt: HostRuntime) {
     }
 }
 
+/// How many bytes a mark asks for. `scripts/refuse_memory.sh` refuses each allocation after one such, up to the next, one a run.
+const MARK: usize = 10007;
+
+/// Asks for a list that nothing but a mark asks for, and whether it was had.
+pub(super) fn is_marked(alloc: Global) -> bool {
+    match &Vec::<u8>::with_capacity(alloc, MARK) {
+        Ok(list) => MARK <= list.capacity(),
+        Err(_) => false,
+    }
+}
+
 /// Whether slabs come until all elements came, or, where memory for one is refused, none comes after it.
 fn come_to_an_end<T: RTreeObject>(elements: Vec<T>, clusters: usize, axis: usize) -> bool
     requires clusters { 0 < clusters }
@@ -116,10 +127,18 @@ fn come_to_an_end<T: RTreeObject>(elements: Vec<T>, clusters: usize, axis: usize
     came == count && slabs.next().is_none()
 }
 
-/// Nine points in three slabs; `rt try --test --fail-alloc N` refuses the Nth allocation.
+/// Whether the points [0, 0], [-1, -1], .. come so between two marks.
+fn come_between_marks(alloc: Global, count: usize, clusters: usize) -> bool {
+    let points = falling(alloc, count);
+    is_marked(alloc) & (clusters == 0 || come_to_an_end(points, clusters, 0)) & is_marked(alloc)
+}
+
+// Three points in one slab, which is the list itself, so that no allocation can be refused, and nine in three, of which two are
+// lists of their own: `scripts/refuse_memory.sh` counts these two.
 #[test]
 fn a_refused_slab_ends_the_slabs(rt: HostRuntime) {
-    assert!(rt; come_to_an_end(falling(rt.alloc(), 9), 3, 0));
+    assert!(rt; come_between_marks(rt.alloc(), 3, 1));
+    assert!(rt; come_between_marks(rt.alloc(), 9, 3));
 }
 
 #[test]
