@@ -11,7 +11,7 @@ ghost use Rattle.rstar.specs.Nodes.{parents_of};
 ghost use Rattle.rstar.specs.Trees.{root_of, elements_in, IsWholeTree};
 
 use crate::neighbour_rows::{fits, is_as_told};
-use crate::scenarios::{ALONG_A_LINE, Outlined, fences_of, inserted, let_go, loaded};
+use crate::scenarios::{ALONG_A_LINE, Outlined, alone, fences_of, inserted, let_go, loaded};
 use rstar::algorithm::nearest_neighbor::NearestNeighborByOrderIterator;
 use rstar::object::{Distance, PointDistance, PointOf, RTreeObject};
 use rstar::point::{Point, RTreeNum};
@@ -119,17 +119,6 @@ fn lends<T: PartialEq, D: PartialEq + Copy>(
     }
 }
 
-/// The same of elements that were lent with a count of parents.
-fn lends_all<T: PartialEq, D: PartialEq + Copy>(
-    lent: Result<(Vec<(&T, D)>, usize), AllocError>,
-    wanted: &[(D, T)],
-) -> bool {
-    match &lent {
-        Ok((all, _opened)) => are_lent(all, wanted),
-        Err(_) => false,
-    }
-}
-
 /// Whether the calls that list elements in the stated order lend just these: all, and the first half.
 fn lists<T: PointDistance + Ord>(
     alloc: Global,
@@ -143,7 +132,7 @@ where
     requires whole { IsWholeTree T.Envelope.boxes T.object ⟦<DefaultParams as RTreeParams>⟧.MAX_SIZE tree.now }
 {
     let half = wanted.len() / 2;
-    lends_all(in_stated_order(alloc, tree, place), wanted)
+    lends(alone(in_stated_order(alloc, tree, place)), wanted)
         && lends(tree.first_neighbors_by_order(&place, half), &wanted[..half])
 }
 

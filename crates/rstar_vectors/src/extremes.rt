@@ -131,7 +131,8 @@ where
     requires { IsNarrow T.Envelope.Point.row }
 {
     let tree = inserted::<T, DefaultParams>(alloc, elements);
-    let is_so = (tree.size() == elements.len()) & answers(alloc, &tree, place, distances, &[]);
+    let is_so = (tree.size() == elements.len())
+        & matches!(answers(alloc, &tree, place, distances, &[]), Ok(true));
     let_go(tree);
     is_so
 }

@@ -98,7 +98,11 @@ fn a_list_is_cut_by_overlap_and_area(rt: HostRuntime) {
 }
 
 /// Whether one of some nodes has so many children, none for a leaf, and this envelope.
-fn has_node<T: RTreeObject>(nodes: &[RTreeNode<T>], count: usize, envelope: &T::Envelope) -> bool {
+pub(crate) fn has_node<T: RTreeObject>(
+    nodes: &[RTreeNode<T>],
+    count: usize,
+    envelope: &T::Envelope,
+) -> bool {
     for node in nodes {
         let held = match node {
             RTreeNode::Leaf(_) => 0,

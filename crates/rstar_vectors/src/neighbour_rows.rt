@@ -1,25 +1,28 @@
 //! Neighbours: rows, a plain scan beside the tree, and elements that note when they are asked.
 
-ghost use Rattle.std.specs.Prelude.{◌≡◌, ◌≤◌};
+ghost use Rattle.std.proofs.Common.{rules};
+ghost use Rattle.std.specs.Cmp.{on_total, partial_order_from_own_ties};
+ghost use Rattle.std.specs.Cmp.Rules.{comparing};
 ghost use Rattle.std.specs.Mem.{FitsInMemory};
+ghost use Rattle.std.specs.Ordering.{as_partial_cmp, eq_by_cmp};
+ghost use Rattle.std.specs.Prelude.{◌≡◌, ◌≤◌};
 ghost use Rattle.rstar_base.specs.Elements.{carried_objects, carried_distances};
 ghost use Rattle.rstar_base.specs.Sizes.{IsNarrow};
 ghost use Rattle.rstar_base.specs.laws.CarrierLaws.{carried_laws};
-ghost use Rattle.rstar.specs.Neighbors.{with_distances, IsSearching};
+ghost use Rattle.rstar.specs.Neighbors.{IsSearching};
 ghost use Rattle.rstar.specs.Trees.{IsWholeTree};
 ghost use Rattle.rstar_vectors.specs.Fits.{iterator_row, alone_row, ordered_row};
 
 use crate::neighbours::{all_below, in_order, one_below};
-use crate::scenarios::{ALONG_A_LINE, inserted, let_go, loaded, points};
-use rstar::algorithm::nearest_neighbor::{
-    NearestNeighborDistance2Iterator, NearestNeighborIterator,
-};
+use crate::scenarios::{ALONG_A_LINE, alone, inserted, let_go, loaded, points};
+use rstar::algorithm::nearest_neighbor::NearestNeighborDistance2Iterator;
 use rstar::object::{Distance, PointDistance, PointOf, RTreeObject};
 use rstar::point::Point;
 use rstar::primitives::{Line, Rectangle};
 use rstar::{DefaultParams, Envelope, RTree, RTreeParams};
 use std::alloc::{AllocError, Global};
 use std::cell::Cell;
+use std::cmp::Ordering;
 
 type At = [i32; 2];
 
@@ -36,15 +39,16 @@ fn is_next<T: PointDistance>(
     neighbors: &mut NearestNeighborDistance2Iterator<'_, T>,
     distance: Distance<T>,
     opened: Option<&usize>,
-) -> bool
+) -> Result<bool, AllocError>
     requires { IsSearching T.Envelope.boxes T.object T.distances T.Envelope.Point.DIMENSIONS
         T.Envelope.Point.coord T.Envelope.Point.Scalar.cmp T.Envelope.Point.Scalar.value neighbors.old }
     ensures { IsSearching T.Envelope.boxes T.object T.distances T.Envelope.Point.DIMENSIONS
         T.Envelope.Point.coord T.Envelope.Point.Scalar.cmp T.Envelope.Point.Scalar.value neighbors.new }
 {
     match neighbors.next() {
-        Some(Ok((_, found))) => found == distance && is_as_told(neighbors.opened(), opened),
-        _ => false,
+        Some(Ok((_, found))) => Ok(found == distance && is_as_told(neighbors.opened(), opened)),
+        Some(Err(refused)) => Err(refused),
+        None => Ok(false),
     }
 }
 
@@ -54,17 +58,17 @@ fn gives<T: PointDistance>(
     neighbors: &mut NearestNeighborDistance2Iterator<'_, T>,
     distances: &[Distance<T>],
     opened: &[usize],
-) -> bool
+) -> Result<bool, AllocError>
     requires { IsSearching T.Envelope.boxes T.object T.distances T.Envelope.Point.DIMENSIONS
         T.Envelope.Point.coord T.Envelope.Point.Scalar.cmp T.Envelope.Point.Scalar.value neighbors.old }
 {
     let is_fresh = neighbors.opened() == 0;
     for k in 0..distances.len() {
-        if !is_next(neighbors, distances[k], opened.get(k)) {
-            return false;
+        if !is_next(neighbors, distances[k], opened.get(k))? {
+            return Ok(false);
         }
     }
-    is_fresh && neighbors.next().is_none()
+    Ok(is_fresh && neighbors.next().is_none())
 }
 
 /// Does nothing but tell that an iterator over neighbours, which holds a point by value, fits in memory.
@@ -129,11 +133,10 @@ fn is_least<P, T: Away<P>>(
     found: Result<Option<(&T, T::Far)>, AllocError>,
     place: &P,
     least: &[T::Far],
-) -> bool {
-    match found {
-        Ok(Some((element, one))) => is_at(least, &one) && element.far(place) == one,
-        Ok(None) => least.is_empty(),
-        Err(_) => false,
+) -> Result<bool, AllocError> {
+    match found? {
+        Some((element, one)) => Ok(is_at(least, &one) && element.far(place) == one),
+        None => Ok(least.is_empty()),
     }
 }
 
@@ -142,11 +145,10 @@ fn is_least_alone<P, T: Away<P>>(
     found: Result<Option<&T>, AllocError>,
     place: &P,
     least: &[T::Far],
-) -> bool {
-    match found {
-        Ok(Some(element)) => is_at(least, &element.far(place)),
-        Ok(None) => least.is_empty(),
-        Err(_) => false,
+) -> Result<bool, AllocError> {
+    match found? {
+        Some(element) => Ok(is_at(least, &element.far(place))),
+        None => Ok(least.is_empty()),
     }
 }
 
@@ -155,22 +157,10 @@ fn are_at<P, T: Away<P>>(
     found: Result<Vec<&T>, AllocError>,
     place: &P,
     distances: &[T::Far],
-) -> bool {
+) -> Result<bool, AllocError> {
     match &found {
-        Ok(all) => lie_at(all, place, distances),
-        Err(_) => false,
-    }
-}
-
-/// The same of elements that were found with a count of parents.
-fn are_in_order<P, T: Away<P>>(
-    found: Result<(Vec<&T>, usize), AllocError>,
-    place: &P,
-    distances: &[T::Far],
-) -> bool {
-    match &found {
-        Ok((all, _opened)) => lie_at(all, place, distances),
-        Err(_) => false,
+        Ok(all) => Ok(lie_at(all, place, distances)),
+        Err(_) => Err(AllocError),
     }
 }
 
@@ -178,20 +168,20 @@ fn are_in_order<P, T: Away<P>>(
 pub(crate) fn are_first<T, D: PartialEq + Copy>(
     found: Result<Vec<(&T, D)>, AllocError>,
     distances: &[D],
-) -> bool {
+) -> Result<bool, AllocError> {
     match &found {
         Ok(all) => {
             if all.len() != distances.len() {
-                return false;
+                return Ok(false);
             }
             for k in 0..distances.len() {
                 if all[k].1 != distances[k] {
-                    return false;
+                    return Ok(false);
                 }
             }
-            true
+            Ok(true)
         }
-        Err(_) => false,
+        Err(_) => Err(AllocError),
     }
 }
 
@@ -200,23 +190,29 @@ fn are_least<P, T: Away<P>>(
     found: Result<Option<(Vec<&T>, T::Far)>, AllocError>,
     place: &P,
     least: &[T::Far],
-) -> bool {
+) -> Result<bool, AllocError> {
     match &found {
-        Ok(Some((all, one))) => is_at(least, one) && lie_at(all, place, least),
-        Ok(None) => least.is_empty(),
-        Err(_) => false,
+        Ok(Some((all, one))) => Ok(is_at(least, one) && lie_at(all, place, least)),
+        Ok(None) => Ok(least.is_empty()),
+        Err(_) => Err(AllocError),
     }
 }
 
 /// Whether each call that looks for a nearest neighbour finds one at the least of some distances.
-fn calls_find<T: PointDistance>(tree: &RTree<T>, place: PointOf<T>, least: &[Distance<T>]) -> bool
+fn calls_find<T: PointDistance>(
+    tree: &RTree<T>,
+    place: PointOf<T>,
+    least: &[Distance<T>],
+) -> Result<bool, AllocError>
 where
     PointOf<T>: Copy,
     requires whole { IsWholeTree T.Envelope.boxes T.object ⟦<DefaultParams as RTreeParams>⟧.MAX_SIZE tree.now }
 {
-    is_least_alone(tree.nearest_neighbor(place), &place, least)
-        && is_least(tree.nearest_neighbor_with_distance_2(place), &place, least)
-        && is_least(one_below(tree, place), &place, least)
+    Ok(
+        is_least_alone(tree.nearest_neighbor(place), &place, least)?
+            && is_least(tree.nearest_neighbor_with_distance_2(place), &place, least)?
+            && is_least(one_below(tree, place), &place, least)?,
+    )
 }
 
 /// Whether the iterator without distances gives all at some squared distances, a call that lends the first of them all,
@@ -227,33 +223,35 @@ fn calls_find_all<T: PointDistance>(
     place: PointOf<T>,
     distances: &[Distance<T>],
     least: &[Distance<T>],
-) -> bool
+) -> Result<bool, AllocError>
 where
     PointOf<T>: Copy,
     requires narrow { IsNarrow T.Envelope.Point.row }
     requires whole { IsWholeTree T.Envelope.boxes T.object ⟦<DefaultParams as RTreeParams>⟧.MAX_SIZE tree.now }
 {
-    are_in_order(in_order(alloc, tree, place), &place, distances)
-        && are_first(tree.first_neighbors(&place, usize::MAX), distances)
-        && are_first(tree.first_neighbors(&place, least.len()), least)
-        && are_at(tree.nearest_neighbors(&place), &place, least)
-        && are_least(
-            tree.nearest_neighbors_with_distance_2(&place),
-            &place,
-            least,
-        )
-        && are_least(all_below(tree, place), &place, least)
+    Ok(
+        are_at(alone(in_order(alloc, tree, place)), &place, distances)?
+            && are_first(tree.first_neighbors(&place, usize::MAX), distances)?
+            && are_first(tree.first_neighbors(&place, least.len()), least)?
+            && are_at(tree.nearest_neighbors(&place), &place, least)?
+            && are_least(
+                tree.nearest_neighbors_with_distance_2(&place),
+                &place,
+                least,
+            )?
+            && are_least(all_below(tree, place), &place, least)?,
+    )
 }
 
 /// Whether all neighbours of a place lie at these squared distances, by each call that leaves the tree, with so many
-/// parents opened after each, as far as these numbers go.
+/// parents opened after each, as far as these numbers go; or the refusal that a call met.
 pub(crate) fn answers<T: PointDistance>(
     alloc: Global,
     tree: &RTree<T>,
     place: PointOf<T>,
     distances: &[Distance<T>],
     opened: &[usize],
-) -> bool
+) -> Result<bool, AllocError>
 where
     PointOf<T>: Copy,
     requires narrow { IsNarrow T.Envelope.Point.row }
@@ -261,16 +259,18 @@ where
 {
     fits::<PointOf<T>>();
     let least = least_of(distances);
-    gives(
-        &mut tree.nearest_neighbor_iter_with_distance_2(place),
-        distances,
-        opened,
-    ) && gives(
-        &mut tree.nearest_neighbor_iter_with_distance(place),
-        distances,
-        opened,
-    ) && calls_find(tree, place, least)
-        && calls_find_all(alloc, tree, place, distances, least)
+    Ok(
+        gives(
+            &mut tree.nearest_neighbor_iter_with_distance_2(place),
+            distances,
+            opened,
+        )? && gives(
+            &mut tree.nearest_neighbor_iter_with_distance(place),
+            distances,
+            opened,
+        )? && calls_find(tree, place, least)?
+            && calls_find_all(alloc, tree, place, distances, least)?,
+    )
 }
 
 /// Takes one element that equals this one out of a list, and whether there is one.
@@ -345,7 +345,7 @@ where
     requires dimensions { 2 ≤ T.Envelope.Point.DIMENSIONS }
 {
     let mut load = loaded::<T, DefaultParams>(alloc, elements);
-    let is_so = answers(alloc, &load, place, distances, &[])
+    let is_so = matches!(answers(alloc, &load, place, distances, &[]), Ok(true))
         & pops(&mut load, &mut copies(alloc, elements), place, distances);
     let_go(load);
     is_so
@@ -369,7 +369,7 @@ where
     let tree = inserted::<T, DefaultParams>(alloc, elements);
     let wanted = &scanned(alloc, elements, &place);
     let is_so = wanted.starts_with(first)
-        & answers(alloc, &tree, place, wanted, opened)
+        & matches!(answers(alloc, &tree, place, wanted, opened), Ok(true))
         & load_comes_and_goes(alloc, elements, place, wanted);
     let_go(tree);
     is_so
@@ -480,6 +480,44 @@ impl<'a, T> Noting<'a, T> {
     }
 }
 
+impl<'a, T: Ord> PartialEq for Noting<'a, T> {
+    ghost eq = { eq_by_cmp (λ m n. T.cmp m.inner n.inner) };
+
+    ghost laws = { Prim.search (comparing, rules) };
+
+    fn eq(&self, other: &Self) -> bool {
+        self.inner.cmp(&other.inner).is_eq()
+    }
+}
+
+impl<'a, T: Ord> Eq for Noting<'a, T> {
+    ghost laws = { Prim.search (comparing, rules) };
+}
+
+impl<'a, T: Ord> Ord for Noting<'a, T> {
+    ghost cmp = { λ m n. T.cmp m.inner n.inner };
+
+    ghost total = { on_total (λ n. n.inner) T.total };
+
+    ghost matches_partial_cmp = { Prim.search (comparing, rules) };
+
+    ghost matches_eq = { Prim.search (comparing, rules) };
+
+    fn cmp(&self, other: &Self) -> Ordering {
+        self.inner.cmp(&other.inner)
+    }
+}
+
+impl<'a, T: Ord> PartialOrd for Noting<'a, T> {
+    ghost partial_cmp = { as_partial_cmp (λ m n. T.cmp m.inner n.inner) };
+
+    ghost laws = { partial_order_from_own_ties (Prim.search (comparing, rules)) (Prim.search (comparing, rules)) };
+
+    fn partial_cmp(&self, other: &Self) -> Option<Ordering> {
+        Some(self.cmp(other))
+    }
+}
+
 impl<'a, T: RTreeObject> RTreeObject for Noting<'a, T> {
     type Envelope = T::Envelope;
 
@@ -518,30 +556,47 @@ impl<'a, T: PointDistance> PointDistance for Noting<'a, T> {
 /// How many neighbours are looked for, how many are given, and how often near elements and far ones are asked for them.
 type AskedRow = (usize, usize, u32, u32);
 
-/// How many neighbours come, at most so many, before none does or one is refused, and whether one is.
-pub(crate) fn come<T: PointDistance>(
-    neighbors: &mut NearestNeighborIterator<'_, T>,
+/// How many neighbours come, at most so many, before none does or one is refused, and whether one is; none where another
+/// comes after that.
+fn come<A: Copy, I: Iterator<Item = Result<A, AllocError>>>(
+    neighbors: &mut I,
     most: usize,
-) -> (usize, bool)
-    requires { IsSearching T.Envelope.boxes T.object T.distances T.Envelope.Point.DIMENSIONS
-        T.Envelope.Point.coord T.Envelope.Point.Scalar.cmp T.Envelope.Point.Scalar.value
-        (with_distances neighbors.old) }
-    ensures { IsSearching T.Envelope.boxes T.object T.distances T.Envelope.Point.DIMENSIONS
-        T.Envelope.Point.coord T.Envelope.Point.Scalar.cmp T.Envelope.Point.Scalar.value
-        (with_distances neighbors.new) }
+) -> Option<(usize, bool)>
+    requires { I.can_next neighbors.old }
 {
     for turn in 0..most {
         let item = neighbors.next();
         if !matches!(item, Some(Ok(_))) {
-            return (turn, item.is_some());
+            let is_over = neighbors.next().is_none() & neighbors.next().is_none();
+            return is_over.then_some((turn, item.is_some()));
         }
     }
-    (most, false)
+    Some((most, false))
 }
 
-/// Whether near elements and far ones, each with their cell, are asked so often for the first neighbours in a tree; they
-/// are asked as they are inserted, and counted from then on.
-fn asked_so<T: PointDistance + Copy>(
+/// The same by each of the three iterators over neighbours.
+pub(crate) fn come_by<T: PointDistance + Ord, Params: RTreeParams>(
+    tree: &RTree<T, Params>,
+    place: PointOf<T>,
+    which: usize,
+    most: usize,
+) -> Option<(usize, bool)>
+where
+    PointOf<T>: Copy,
+    requires narrow { IsNarrow T.Envelope.Point.row }
+    requires whole { IsWholeTree T.Envelope.boxes T.object Params.MAX_SIZE tree.now }
+{
+    fits::<PointOf<T>>();
+    match which {
+        0 => come(&mut tree.nearest_neighbor_iter(place), most),
+        1 => come(&mut tree.nearest_neighbor_iter_with_distance_2(place), most),
+        _ => come(&mut tree.nearest_neighbor_iter_by_order(place), most),
+    }
+}
+
+/// Whether near elements and far ones, each with their cell, are asked so often for the first neighbours in a tree, by each
+/// iterator; they are asked as they are inserted, and counted from then on.
+fn asked_so<T: PointDistance + Ord + Copy>(
     alloc: Global,
     elements: &[T],
     place: PointOf<T>,
@@ -553,14 +608,15 @@ where
     PointOf<T>: Copy,
     requires narrow { IsNarrow T.Envelope.Point.row }
 {
-    fits::<PointOf<T>>();
     let tree = inserted::<T, DefaultParams>(alloc, elements);
     let mut is_so = true;
     for &(most, given, first, other) in rows {
-        near.set(0);
-        far.set(0);
-        let came = come(&mut tree.nearest_neighbor_iter(place), most);
-        is_so &= (came == (given, false)) & (near.get() == first) & (far.get() == other);
+        for which in 0..3 {
+            near.set(0);
+            far.set(0);
+            let came = come_by(&tree, place, which, most);
+            is_so &= (came == Some((given, false))) & (near.get() == first) & (far.get() == other);
+        }
     }
     let_go(tree);
     is_so
@@ -587,7 +643,7 @@ fn noted<'a, T: Copy>(
 }
 
 /// The same of a tree of elements, of which the first so many lie near and the others far.
-fn note_who_is_asked<T: PointDistance + Copy>(
+fn note_who_is_asked<T: PointDistance + Ord + Copy>(
     alloc: Global,
     elements: &[T],
     first_far: usize,

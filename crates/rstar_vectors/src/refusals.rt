@@ -1,23 +1,28 @@
-//! Calls that may be refused. Where one is, the tree is as it was, and the call, made once more, answers as it does where
-//! nothing is refused; with memory there each answers at once. `scripts/refuse_memory.sh` refuses each allocation between two
-//! marks, one a run.
+//! Calls that may be refused. Where one is, the tree is as it was, and the call, made once more, leaves it as it leaves another
+//! tree, its twin, of which nothing is refused; with memory there each answers at once. `scripts/refuse_memory.sh` refuses each
+//! allocation between two marks, one a run.
 
 ghost use Rattle.std.specs.Prelude.{◌≡◌, ◌≤◌, false};
 ghost use Rattle.rstar_base.specs.Sizes.{IsNarrow};
+ghost use Rattle.rstar.specs.Clones.{ClonesEqual};
+ghost use Rattle.rstar.specs.Stored.{boxes, places};
 ghost use Rattle.rstar.specs.Trees.{IsWholeTree};
 
 use crate::by_order::in_stated_order;
+use crate::insertion::has_node;
 use crate::joins::joined;
 use crate::loads::{shown, shows};
-use crate::neighbour_rows::{answers, come, fits, scanned};
+use crate::neighbour_rows::{answers, come_by, scanned};
 use crate::node_sizes::Tens;
 use crate::payloads::{Asked, selected};
 use crate::removal::drain_some;
-use crate::scenarios::{has_len, inserted, let_go, load_of, loaded, points, stands_with};
+use crate::scenarios::{
+    self, alone, goes_in, inserted, let_go, load_of, loaded, points, stands_with,
+};
 use crate::stored::{ALONG_A_LINE, read_back};
 use crate::trials::Drained;
 use rstar::object::{Distance, PointOf};
-use rstar::stored::StoredError;
+use rstar::stored::{StoredError, read_stored};
 use rstar::{
     AABB, DefaultParams, Envelope, EqualEnvelopes, InsertCause, Point, PointDistance, RTree,
     RTreeObject, RTreeParams,
@@ -36,17 +41,24 @@ pub(crate) fn is_marked(alloc: Global) -> bool {
     }
 }
 
-/// How many items a walk gave; none where it was refused. It takes what the walk gave.
-fn given<A: Copy>(walked: Result<(Vec<A>, usize), AllocError>) -> Option<usize> {
-    match &walked {
-        Ok((all, _opened)) => Some(all.len()),
+/// Whether two trees show the same: their sizes, and all nodes with their envelopes, in order.
+fn are_alike<T: RTreeObject + Debug>(alloc: Global, tree: &RTree<T>, twin: &RTree<T>) -> bool {
+    tree.size() == twin.size() && shows(alloc, tree.root(), &shown(alloc, twin.root()))
+}
+
+// ---- questions, drains that are made, and pops
+
+/// How many items a call gave; none where it was refused. It takes what the call gave.
+fn given<A: Copy>(found: Result<Vec<A>, AllocError>) -> Option<usize> {
+    match &found {
+        Ok(all) => Some(all.len()),
         Err(_) => None,
     }
 }
 
 /// How many elements a question to a tree gives, none where it is refused: the five of `selected`, all pairs of a join of the
-/// tree with itself, and the elements of a clone; and by each call for neighbours all that are asked for, where these lie at
-/// such squared distances.
+/// tree with itself, and all in the stated order, by the iterator and as the first of them; and 1 where the other calls for
+/// neighbours give these squared distances, 0 where one gives others.
 fn told<T: PointDistance + Ord + Copy>(
     alloc: Global,
     tree: &RTree<T>,
@@ -61,22 +73,14 @@ where
     requires whole { IsWholeTree T.Envelope.boxes T.object ⟦<DefaultParams as RTreeParams>⟧.MAX_SIZE tree.now }
 {
     match question {
-        5 => given(joined(alloc, tree, tree)),
-        6 => match tree.clone() {
-            Ok(copy) => {
-                let count = copy.size();
-                let_go(copy);
-                Some(count)
-            }
+        5 => given(alone(joined(alloc, tree, tree))),
+        6 => given(alone(in_stated_order(alloc, tree, asked.1))),
+        7 => given(tree.first_neighbors_by_order(&asked.1, usize::MAX)),
+        8 => match answers(alloc, tree, asked.1, distances, &[]) {
+            Ok(is_so) => Some(usize::from(is_so)),
             Err(_) => None,
         },
-        7 => if answers(alloc, tree, asked.1, distances, &[]) {
-            Some(distances.len())
-        } else {
-            None
-        },
-        8 => given(in_stated_order(alloc, tree, asked.1)),
-        _ => given(selected(alloc, tree, question, asked)),
+        _ => given(alone(selected(alloc, tree, question, asked))),
     }
 }
 
@@ -88,9 +92,6 @@ const DRAINS: [Drained; 5] = [
     Drained::Near,
     Drained::Chosen,
 ];
-
-/// The first of the calls that take an element out.
-const POPS: usize = 14;
 
 /// The same of each call: those questions, each drain that is made and never called, and two that take one element out, a
 /// nearest neighbour and the first in the stated order.
@@ -111,10 +112,10 @@ where
     if call < 9 {
         return told(alloc, &*tree, call, asked, distances);
     }
-    if call < POPS {
+    if call < 14 {
         return drain_some(tree, DRAINS[call - 9], asked, 0, &mut Vec::new(alloc));
     }
-    let popped = if call == POPS {
+    let popped = if call == 14 {
         tree.pop_nearest_neighbor(asked.1)
     } else {
         tree.pop_nearest_neighbor_by_order(asked.1)
@@ -125,11 +126,12 @@ where
     }
 }
 
-/// Whether a call gives so many, at once or, where it was refused and the tree shows the same, once more; and the tree then
-/// shows the same, or has one element less.
+/// Whether a call gives so many, at once or, where it was refused and the tree shows the same, once more; and the tree is then
+/// as its twin is after the same call.
 fn is_answered<T: PointDistance + Ord + Copy + Debug>(
     alloc: Global,
     tree: &mut RTree<T>,
+    twin: &mut RTree<T>,
     call: usize,
     asked: &Asked<T>,
     distances: &[Distance<T>],
@@ -140,33 +142,218 @@ where
     PointOf<T>: Copy,
     requires narrow { IsNarrow T.Envelope.Point.row }
     requires whole { IsWholeTree T.Envelope.boxes T.object ⟦<DefaultParams as RTreeParams>⟧.MAX_SIZE tree.old }
-    ensures { IsWholeTree T.Envelope.boxes T.object ⟦<DefaultParams as RTreeParams>⟧.MAX_SIZE tree.new }
+    requires twin { IsWholeTree T.Envelope.boxes T.object ⟦<DefaultParams as RTreeParams>⟧.MAX_SIZE twin.old }
+    ensures whole { IsWholeTree T.Envelope.boxes T.object ⟦<DefaultParams as RTreeParams>⟧.MAX_SIZE tree.new }
+    ensures twin { IsWholeTree T.Envelope.boxes T.object ⟦<DefaultParams as RTreeParams>⟧.MAX_SIZE twin.new }
 {
-    let before = &shown(alloc, tree.root());
-    let left = tree.size().saturating_sub(usize::from(POPS <= call));
     let is_begun = is_marked(alloc);
     let first = counted(alloc, tree, call, asked, distances);
     let is_ended = is_marked(alloc);
     let is_right = first == Some(wanted)
         || first.is_none()
-            && shows(alloc, tree.root(), before)
+            && are_alike(alloc, tree, twin)
             && counted(alloc, tree, call, asked, distances) == Some(wanted);
     is_begun
         & is_ended
         & is_right
-        & (tree.size() == left)
-        & (POPS <= call || shows(alloc, tree.root(), before))
+        & (counted(alloc, twin, call, asked, distances) == Some(wanted))
+        & are_alike(alloc, tree, twin)
 }
 
-/// Whether an element goes into a tree, at once or, where it was refused for want of memory, was handed back and the tree
-/// shows the same, once more; and the tree then stands with one more.
-fn goes_in<T: EqualEnvelopes + Copy + Debug>(alloc: Global, tree: &mut RTree<T>, element: T) -> bool
-    requires whole { IsWholeTree T.Envelope.boxes T.object ⟦<DefaultParams as RTreeParams>⟧.MAX_SIZE tree.old }
-    requires element { T.Envelope.boxes.is_empty (T.object.box_of element) ≡ false }
-    ensures { IsWholeTree T.Envelope.boxes T.object ⟦<DefaultParams as RTreeParams>⟧.MAX_SIZE tree.new }
+/// All elements of a tree that is taken apart.
+fn taken_apart<T: RTreeObject + Copy>(alloc: Global, tree: RTree<T>) -> Result<Vec<T>, AllocError>
+    requires { IsWholeTree T.Envelope.boxes T.object ⟦<DefaultParams as RTreeParams>⟧.MAX_SIZE tree }
 {
-    let before = &shown(alloc, tree.root());
-    let count = tree.size();
+    match tree.into_iter() {
+        Ok(all) => all.collect(alloc),
+        Err(tree) => {
+            let_go(tree);
+            Err(AllocError)
+        }
+    }
+}
+
+/// Whether a tree is taken apart as its twin is, at once or, where it was refused and is handed back as it was, once more.
+fn is_taken_apart<T: RTreeObject + PartialEq + Copy + Debug>(
+    alloc: Global,
+    tree: RTree<T>,
+    twin: RTree<T>,
+) -> bool
+    requires whole { IsWholeTree T.Envelope.boxes T.object ⟦<DefaultParams as RTreeParams>⟧.MAX_SIZE tree }
+    requires twin { IsWholeTree T.Envelope.boxes T.object ⟦<DefaultParams as RTreeParams>⟧.MAX_SIZE twin }
+{
+    let is_begun = is_marked(alloc);
+    let first = tree.into_iter();
+    let is_ended = is_marked(alloc);
+    let (all, is_same) = match first {
+        Ok(all) => {
+            let list: Result<_, _> = all.collect(alloc);
+            (list, true)
+        }
+        Err(back) => {
+            let is_same = are_alike(alloc, &back, &twin);
+            (taken_apart(alloc, back), is_same)
+        }
+    };
+    let are_same = match (&all, &taken_apart(alloc, twin)) {
+        (Ok(all), Ok(others)) => all.as_slice() == others.as_slice(),
+        _ => false,
+    };
+    is_begun & is_ended & is_same & are_same
+}
+
+/// Whether each call gives as many of a tree of these elements as told, once more where it is refused, and leaves it as its
+/// twin, and the tree is then taken apart.
+fn are_answered<T: PointDistance + Ord + Copy + Debug>(
+    alloc: Global,
+    mut tree: RTree<T>,
+    mut twin: RTree<T>,
+    elements: &[T],
+    asked: &Asked<T>,
+    counts: &[usize],
+) -> bool
+where
+    T::Envelope: Copy,
+    PointOf<T>: Copy,
+    requires narrow { IsNarrow T.Envelope.Point.row }
+    requires whole { IsWholeTree T.Envelope.boxes T.object ⟦<DefaultParams as RTreeParams>⟧.MAX_SIZE tree }
+    requires twin { IsWholeTree T.Envelope.boxes T.object ⟦<DefaultParams as RTreeParams>⟧.MAX_SIZE twin }
+{
+    let distances = &scanned(alloc, elements, &asked.1);
+    let mut is_so = stands_with(&tree, elements.len());
+    for call in 0..counts.len() {
+        is_so &= is_answered(
+            alloc,
+            &mut tree,
+            &mut twin,
+            call,
+            asked,
+            distances,
+            counts[call],
+        );
+    }
+    is_so & is_taken_apart(alloc, tree, twin)
+}
+
+/// Adds numbers of eight bytes.
+fn spell(bytes: &mut Vec<u8>, numbers: &[i64]) {
+    for number in numbers {
+        let _refused = bytes.extend_from_slice(&number.to_le_bytes()).is_err();
+    }
+}
+
+/// A tree of forty points on the line from [0, 39] to [39, 0], from its ends inwards, as it is read: each alone below its parent,
+/// these below one parent, and that below twelve others, each the only child of the one above it. So paths outgrow their twelve
+/// places, and heaps their 32: from [0, 0] each of the forty parents is as near as those before it, and none is left out.
+fn deep(alloc: Global, points: &[[i64; 2]]) -> RTree<[i64; 2]>
+    ensures { IsWholeTree boxes places ⟦<DefaultParams as RTreeParams>⟧.MAX_SIZE result }
+{
+    let mut bytes = Vec::new(alloc);
+    let _refused = bytes.extend_from_slice(b"RST1").is_err();
+    spell(&mut bytes, &[40]);
+    let _refused = bytes.push(14).is_err();
+    for _ in 0..12 {
+        spell(&mut bytes, &[1, 0, 0, 39, 39]);
+    }
+    spell(&mut bytes, &[40, 0, 0, 39, 39]);
+    for &[x, y] in points {
+        spell(&mut bytes, &[1, x, y, x, y, x, y]);
+    }
+    match read_stored(alloc, &bytes) {
+        Ok(tree) => tree,
+        Err(_) => RTree::default(alloc),
+    }
+}
+
+// Of 28 points in a load, and of forty that lie deep and wide: all, those in a box, those that it touches, those at a point,
+// those within a distance, the pairs of the tree with itself, all in the stated order, and whether the other calls for
+// neighbours answer; then the five drains are made, and two points are popped.
+#[test]
+fn calls_that_are_refused(rt: HostRuntime) {
+    let load = points(rt.alloc(), 28);
+    let asked = (AABB::from_corners([0, 0], [50, 50]), [0, 0], 2500);
+    let counts = [28, 7, 7, 1, 7, 28, 28, 28, 1, 0, 0, 0, 0, 0, 1, 1];
+    assert!(rt;
+        are_answered(
+            rt.alloc(),
+            loaded(rt.alloc(), &load),
+            loaded(rt.alloc(), &load),
+            &load,
+            &asked,
+            &counts,
+        )
+    );
+    let mut line = Vec::new(rt.alloc());
+    for k in 0..20 {
+        let _refused = line.push([k, 39 - k]).is_err();
+        let _refused = line.push([39 - k, k]).is_err();
+    }
+    let asked = (AABB::from_corners([0, 0], [9, 39]), [0, 0], 1000);
+    let counts = [40, 10, 10, 0, 22, 40, 40, 40, 1, 0, 0, 0, 0, 0, 1, 1];
+    assert!(rt;
+        are_answered(
+            rt.alloc(),
+            deep(rt.alloc(), &line),
+            deep(rt.alloc(), &line),
+            &line,
+            &asked,
+            &counts,
+        )
+    );
+}
+
+/// Whether each iterator over neighbours in a load of these elements, in nodes of ten to forty, gives all, or is refused once
+/// and then gives none for good, and the load gives all to another one.
+fn ends_once<T: PointDistance + Ord + Copy>(
+    alloc: Global,
+    elements: &[T],
+    place: PointOf<T>,
+) -> bool
+where
+    PointOf<T>: Copy,
+    requires narrow { IsNarrow T.Envelope.Point.row }
+    requires dimensions { 2 ≤ T.Envelope.Point.DIMENSIONS }
+{
+    let count = elements.len();
+    let tree = loaded::<T, Tens>(alloc, elements);
+    let mut is_so = tree.size() == count;
+    for which in 0..3 {
+        let is_begun = is_marked(alloc);
+        let first = come_by(&tree, place, which, usize::MAX);
+        let is_ended = is_marked(alloc);
+        let is_right = match first {
+            Some((came, is_refused)) => is_refused | (came == count),
+            None => false,
+        };
+        let other = come_by(&tree, place, which, usize::MAX);
+        is_so &= is_begun & is_ended & is_right & (other == Some((count, false)));
+    }
+    let_go(tree);
+    is_so
+}
+
+// Forty points in one node of up to forty, where the first growth of an iterator is that of its heap.
+#[test]
+fn an_iterator_is_refused_once(rt: HostRuntime) {
+    assert!(rt; ends_once(rt.alloc(), &points(rt.alloc(), 40), [0, 0]));
+}
+
+// ---- insertions, loads, clones and stored trees
+
+/// Whether an element goes into a tree, at once or, where it was refused for want of memory, was handed back and the tree is as
+/// its twin, once more; and the tree is as its twin where the element goes into that too.
+fn is_taken<T: EqualEnvelopes + Copy + Debug>(
+    alloc: Global,
+    tree: &mut RTree<T>,
+    twin: &mut RTree<T>,
+    element: T,
+) -> bool
+    requires whole { IsWholeTree T.Envelope.boxes T.object ⟦<DefaultParams as RTreeParams>⟧.MAX_SIZE tree.old }
+    requires twin { IsWholeTree T.Envelope.boxes T.object ⟦<DefaultParams as RTreeParams>⟧.MAX_SIZE twin.old }
+    requires element { T.Envelope.boxes.is_empty (T.object.box_of element) ≡ false }
+    ensures whole { IsWholeTree T.Envelope.boxes T.object ⟦<DefaultParams as RTreeParams>⟧.MAX_SIZE tree.new }
+    ensures twin { IsWholeTree T.Envelope.boxes T.object ⟦<DefaultParams as RTreeParams>⟧.MAX_SIZE twin.new }
+{
     let is_begun = is_marked(alloc);
     let first = tree.insert(element);
     let is_ended = is_marked(alloc);
@@ -175,31 +362,87 @@ fn goes_in<T: EqualEnvelopes + Copy + Debug>(alloc: Global, tree: &mut RTree<T>,
         Err(refused) => {
             let is_same = refused.cause == InsertCause::NoMemory
                 && refused.element == element
-                && tree.size() == count
-                && shows(alloc, tree.root(), before);
+                && are_alike(alloc, tree, twin);
             tree.insert(refused.element).is_ok() && is_same
         }
     };
-    is_begun & is_ended & is_in & stands_with(&*tree, count.saturating_add(1))
+    is_begun & is_ended & is_in & goes_in(twin, element) & are_alike(alloc, tree, twin)
 }
 
-/// Whether these elements go into a tree so, one after another.
-fn all_go_in<T: EqualEnvelopes + Copy + Debug>(alloc: Global, elements: &[T]) -> bool {
-    let mut tree: RTree<T> = RTree::default(alloc);
-    let mut is_so = true;
+/// Whether a tree is as its twin, and stays so while these elements go into it, one after another.
+fn are_taken<T: EqualEnvelopes + Copy + Debug>(
+    alloc: Global,
+    tree: &mut RTree<T>,
+    twin: &mut RTree<T>,
+    elements: &[T],
+) -> bool
+    requires whole { IsWholeTree T.Envelope.boxes T.object ⟦<DefaultParams as RTreeParams>⟧.MAX_SIZE tree.old }
+    requires twin { IsWholeTree T.Envelope.boxes T.object ⟦<DefaultParams as RTreeParams>⟧.MAX_SIZE twin.old }
+{
+    let count = tree.size().saturating_add(elements.len());
+    let mut is_so = are_alike(alloc, tree, twin);
     for element in elements {
-        if element.envelope().is_empty() || !goes_in(alloc, &mut tree, *element) {
+        if element.envelope().is_empty() || !is_taken(alloc, tree, twin, *element) {
             is_so = false;
         }
     }
+    is_so & stands_with(&*tree, count)
+}
+
+/// Whether these elements go into an empty tree so; and where the children of the root are told, how many children each of
+/// them has, and its envelope, these are there.
+fn fill_a_tree<T: EqualEnvelopes + Copy + Debug>(
+    alloc: Global,
+    elements: &[T],
+    children: &[(usize, T::Envelope)],
+) -> bool {
+    let mut tree: RTree<T> = RTree::default(alloc);
+    let mut twin: RTree<T> = RTree::default(alloc);
+    let mut is_so = are_taken(alloc, &mut tree, &mut twin, elements);
+    let nodes = tree.root().children();
+    for (count, envelope) in children {
+        is_so &= (nodes.len() == children.len()) & has_node(nodes, *count, envelope);
+    }
     let_go(tree);
+    let_go(twin);
     is_so
 }
 
-/// Whether a load of these elements stands and has as many, at once or once more.
-fn is_loaded<T: RTreeObject + Copy>(alloc: Global, elements: &[T]) -> bool
-    requires { 2 ≤ T.Envelope.Point.DIMENSIONS }
+/// Whether a tree is as a load of these elements, and others go into both.
+fn is_as_loaded<T: EqualEnvelopes + Copy + Debug>(
+    alloc: Global,
+    mut tree: RTree<T>,
+    elements: &[T],
+    others: &[T],
+) -> bool
+    requires dimensions { 2 ≤ T.Envelope.Point.DIMENSIONS }
+    requires whole { IsWholeTree T.Envelope.boxes T.object ⟦<DefaultParams as RTreeParams>⟧.MAX_SIZE tree }
 {
+    let mut twin = loaded(alloc, elements);
+    let is_so = are_taken(alloc, &mut tree, &mut twin, others);
+    let_go(tree);
+    let_go(twin);
+    is_so
+}
+
+/// A clone of a tree; an empty tree where it is refused.
+fn cloned<T: RTreeObject + Copy>(alloc: Global, tree: &RTree<T>) -> RTree<T>
+    requires exact { ClonesEqual T.is_clone }
+    requires whole { IsWholeTree T.Envelope.boxes T.object ⟦<DefaultParams as RTreeParams>⟧.MAX_SIZE tree.now }
+    ensures { IsWholeTree T.Envelope.boxes T.object ⟦<DefaultParams as RTreeParams>⟧.MAX_SIZE result }
+{
+    match tree.clone() {
+        Ok(copy) => copy,
+        Err(_) => RTree::default(alloc),
+    }
+}
+
+/// Whether a load of the first so many elements, and a clone of it, are made at once or once more, and take the others.
+fn are_loaded<T: EqualEnvelopes + Copy + Debug>(alloc: Global, all: &[T], count: usize) -> bool
+    requires dimensions { 2 ≤ T.Envelope.Point.DIMENSIONS }
+    requires exact { ClonesEqual T.is_clone }
+{
+    let (elements, others) = all.split_at(count.min(all.len()));
     let is_begun = is_marked(alloc);
     let first = load_of::<T, DefaultParams>(alloc, elements);
     let is_ended = is_marked(alloc);
@@ -207,13 +450,54 @@ fn is_loaded<T: RTreeObject + Copy>(alloc: Global, elements: &[T]) -> bool
         Ok(tree) => tree,
         Err(_) => loaded(alloc, elements),
     };
-    let is_so = is_begun & is_ended & stands_with(&tree, elements.len());
-    let_go(tree);
+    let is_so = is_begun & is_ended & stands_with(&tree, count);
+    let is_begun = is_marked(alloc);
+    let first = tree.clone();
+    let is_ended = is_marked(alloc);
+    let copy = match first {
+        Ok(copy) => copy,
+        Err(_) => cloned(alloc, &tree),
+    };
     is_so
+        & is_begun
+        & is_ended
+        & is_as_loaded(alloc, copy, elements, others)
+        & is_as_loaded(alloc, tree, elements, others)
 }
 
-// Ten points on a line, the first of them aside, and of those that wrap around: seven, 22 that reinsert and split more, and
-// loads of 25 and of 28.
+/// Whether a tree of these points is written and read back the same, at once or, where either is refused for want of memory,
+/// once more, and the tree that was read takes others as the one that was written.
+fn is_stored(alloc: Global, elements: &[[i64; 2]], others: &[[i64; 2]]) -> bool {
+    let mut tree = inserted::<_, DefaultParams>(alloc, elements);
+    let is_begun = is_marked(alloc);
+    let first = read_back::<DefaultParams, DefaultParams>(alloc, &tree);
+    let is_ended = is_marked(alloc);
+    let again = match first {
+        Err(StoredError::NoMemory) => read_back(alloc, &tree),
+        other => other,
+    };
+    let is_so = match again {
+        Ok(mut read) => {
+            let is_so = are_taken(alloc, &mut read, &mut tree, others);
+            let_go(read);
+            is_so
+        }
+        Err(_) => false,
+    };
+    let_go(tree);
+    is_begun & is_ended & is_so
+}
+
+// The seven points on a line: one list of bytes, and the lists of three parents. `scripts/refuse_memory.sh` counts these four, so
+// that a tree is written by one allocation.
+#[test]
+fn stored_trees_that_are_refused(rt: HostRuntime) {
+    assert!(rt; is_stored(rt.alloc(), &ALONG_A_LINE, &[]));
+}
+
+// Into an empty tree: ten points on a line, the first of them aside; the seven, of which three lie under one parent, and four
+// under another; and 22 that wrap around, which reinsert and split more. Then into loads of 25 and of 28 of these, and into
+// their clones; and into a tree that was read.
 #[test]
 fn insertions_and_loads_that_are_refused(rt: HostRuntime) {
     const TEN: [[i32; 2]; 10] = [
@@ -228,143 +512,21 @@ fn insertions_and_loads_that_are_refused(rt: HostRuntime) {
         [8, 2],
         [9, 1],
     ];
-    assert!(rt; all_go_in(rt.alloc(), &TEN));
-    for &count in &[7, 22] {
-        assert!(rt; all_go_in(rt.alloc(), &points(rt.alloc(), count)));
-    }
+    const OTHERS: [[i64; 2]; 6] = [[1, 1], [101, 1], [3, 3], [4, 1], [104, 0], [50, 2]];
+    assert!(rt; fill_a_tree(rt.alloc(), &TEN, &[]));
+    let left = AABB::from_corners([0, 0], [2, 0]);
+    let right = AABB::from_corners([100, 0], [103, 0]);
+    assert!(rt;
+        fill_a_tree(
+            rt.alloc(),
+            &scenarios::ALONG_A_LINE,
+            &[(3, left), (4, right)]
+        )
+    );
+    let wrapped = points(rt.alloc(), 40);
+    assert!(rt; fill_a_tree(rt.alloc(), wrapped.split_at(22.min(wrapped.len())).0, &[]));
     for &count in &[25, 28] {
-        assert!(rt; is_loaded(rt.alloc(), &points(rt.alloc(), count)));
+        assert!(rt; are_loaded(rt.alloc(), &wrapped, count));
     }
-}
-
-/// Whether a tree is taken apart into so many elements, at once or, where it was refused and is handed back as it was, once
-/// more.
-fn is_taken_apart<T: RTreeObject + Copy + Debug>(
-    alloc: Global,
-    tree: RTree<T>,
-    count: usize,
-) -> bool
-    requires { IsWholeTree T.Envelope.boxes T.object ⟦<DefaultParams as RTreeParams>⟧.MAX_SIZE tree }
-{
-    let before = &shown(alloc, tree.root());
-    let is_begun = is_marked(alloc);
-    let first = tree.into_iter();
-    let is_ended = is_marked(alloc);
-    let is_so = match first {
-        Ok(all) => has_len(all.collect(alloc), count),
-        Err(back) => {
-            let is_same = back.size() == count && shows(alloc, back.root(), before);
-            match back.into_iter() {
-                Ok(all) => has_len(all.collect(alloc), count) && is_same,
-                Err(tree) => {
-                    let_go(tree);
-                    false
-                }
-            }
-        }
-    };
-    is_begun && is_ended && is_so
-}
-
-/// Whether each call gives as many of a load of these elements as told, once more where it is refused, and the load is then
-/// taken apart.
-fn are_answered<T: PointDistance + Ord + Copy + Debug>(
-    alloc: Global,
-    elements: &[T],
-    asked: &Asked<T>,
-    counts: &[usize],
-) -> bool
-where
-    T::Envelope: Copy,
-    PointOf<T>: Copy,
-    requires narrow { IsNarrow T.Envelope.Point.row }
-    requires dimensions { 2 ≤ T.Envelope.Point.DIMENSIONS }
-{
-    let mut tree = loaded::<T, DefaultParams>(alloc, elements);
-    let left = elements.len().saturating_sub(2);
-    let mut is_so = true;
-    let distances = &scanned(alloc, elements, &asked.1);
-    for call in 0..counts.len() {
-        is_so &= is_answered(alloc, &mut tree, call, asked, distances, counts[call]);
-    }
-    is_so &= stands_with(&tree, left);
-    is_so & is_taken_apart(alloc, tree, left)
-}
-
-// Of 28 points, in two levels of parents below the root: all, those in a box, those that it touches, those at a point, those
-// within a distance, the pairs of the tree with itself, a clone, by each call for neighbours all of them, or those that are
-// nearest, and all in the stated order; then the five drains are made, and two points are popped.
-#[test]
-fn calls_that_are_refused(rt: HostRuntime) {
-    let asked = (AABB::from_corners([0, 0], [50, 50]), [0, 0], 2500);
-    let counts = [28, 7, 7, 1, 7, 28, 28, 28, 28, 0, 0, 0, 0, 0, 1, 1];
-    assert!(rt; are_answered(rt.alloc(), &points(rt.alloc(), 28), &asked, &counts));
-}
-
-/// Whether an iterator over neighbours in a load of these elements, in nodes of ten to forty, gives all, or is refused once
-/// and then gives none for good, and the load gives all to another one.
-fn ends_once<T: PointDistance + Copy>(alloc: Global, elements: &[T], place: PointOf<T>) -> bool
-where
-    PointOf<T>: Copy,
-    requires narrow { IsNarrow T.Envelope.Point.row }
-    requires dimensions { 2 ≤ T.Envelope.Point.DIMENSIONS }
-{
-    fits::<PointOf<T>>();
-    let count = elements.len();
-    let tree = loaded::<T, Tens>(alloc, elements);
-    let is_begun = is_marked(alloc);
-    let (came, is_refused, is_over) = {
-        let mut neighbors = tree.nearest_neighbor_iter(place);
-        let (came, is_refused) = come(&mut neighbors, usize::MAX);
-        let is_over = neighbors.next().is_none() && neighbors.next().is_none();
-        (came, is_refused, is_over)
-    };
-    let is_ended = is_marked(alloc);
-    let other = come(&mut tree.nearest_neighbor_iter(place), usize::MAX);
-    let is_so = is_begun
-        & is_ended
-        & is_over
-        & (is_refused | (came == count))
-        & (other == (count, false))
-        & (tree.size() == count);
-    let_go(tree);
-    is_so
-}
-
-// Forty points in one node of up to forty, where the first growth of an iterator is that of its heap.
-#[test]
-fn an_iterator_is_refused_once(rt: HostRuntime) {
-    assert!(rt; ends_once(rt.alloc(), &points(rt.alloc(), 40), [0, 0]));
-}
-
-/// Whether a tree of these points is written and read back with as many, at once or, where either is refused for want of
-/// memory, once more; neither call can change the tree, which is lent for reading.
-fn is_stored(alloc: Global, elements: &[[i64; 2]]) -> bool {
-    let count = elements.len();
-    let tree = inserted::<_, DefaultParams>(alloc, elements);
-    let mut is_so = false;
-    for _ in 0..2 {
-        let is_begun = is_marked(alloc);
-        let first = read_back::<DefaultParams, DefaultParams>(alloc, &tree);
-        let is_ended = is_marked(alloc);
-        match first {
-            Ok(read) => {
-                is_so = is_begun & is_ended & stands_with(&read, count);
-                let_go(read);
-                break;
-            }
-            Err(refused) => if refused != StoredError::NoMemory {
-                break;
-            },
-        }
-    }
-    let_go(tree);
-    is_so
-}
-
-// The seven points on a line: one list of bytes, and the lists of three parents. `scripts/refuse_memory.sh` counts these four, so
-// that a tree is written by one allocation.
-#[test]
-fn stored_trees_that_are_refused(rt: HostRuntime) {
-    assert!(rt; is_stored(rt.alloc(), &ALONG_A_LINE));
+    assert!(rt; is_stored(rt.alloc(), &ALONG_A_LINE, &OTHERS));
 }

@@ -86,6 +86,16 @@ pub(crate) fn counts<A: Copy>(
     }
 }
 
+/// A list without the count beside it.
+pub(crate) fn alone<A: Copy>(
+    found: Result<(Vec<A>, usize), AllocError>,
+) -> Result<Vec<A>, AllocError> {
+    match found {
+        Ok((all, _count)) => Ok(all),
+        Err(refused) => Err(refused),
+    }
+}
+
 /// Whether a list was had, with so many items. It takes the list, too.
 pub(crate) fn has_len<A: Copy>(list: Result<Vec<A>, AllocError>, count: usize) -> bool {
     match &list {

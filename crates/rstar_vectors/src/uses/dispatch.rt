@@ -106,7 +106,7 @@ mod tests {
             is_so &= dispatch.add(place, number).is_ok();
         }
         for &(place, most, nearest, sent) in calls {
-            is_so &= are_first(dispatch.nearest(&place, most), nearest);
+            is_so &= matches!(are_first(dispatch.nearest(&place, most), nearest), Ok(true));
             is_so &= is_sent(dispatch.send(place), sent);
         }
         is_so

@@ -1,5 +1,0 @@
-use Rattle.rstar.specs.Trees.{IsWholeTree}
-use Rattle.rstar_vectors.proofs.refusals.all_go_in.Given as goal
-
-abbrev pub invariant-loop-element : goal.invariant-loop-element
-invariant-loop-element g l = IsWholeTree g.T.Envelope.Envelope.boxes g.T.RTreeObject.object 6 l.tree
