@@ -4,8 +4,8 @@
 
 use super::stored::points_of;
 use super::stored_tests::{EMPTY, ONE, answer};
-use rstar::stored::{StoredError, read_stored, write_stored};
 use rstar::DefaultParams;
+use rstar::stored::{StoredError, read_stored, write_stored};
 use std::alloc::{AllocError, Global};
 use std::io::Write;
 use std::test::Fail;
