@@ -11,12 +11,12 @@ use Rattle.std.proofs.lemmas.Bool.{leb-true, leb-false}
 use Rattle.std.proofs.lemmas.Cmp.{tied_itself}
 use Rattle.std.proofs.lemmas.List.{length-append, map-append}
 use Rattle.std.proofs.lemmas.List.Elements.{filter-append, Contains-append_right}
-use Rattle.std.proofs.lemmas.List.Sorted.{IsPermutation-refl, IsPermutation-sym, IsPermutation-trans, IsPermutation-cons, IsPermutation-middle, IsPermutation-remove, IsPermutation-append, IsPermutation-append_left, IsPermutation-append_right, IsPermutation-append_comm, sum_by-IsPermutation, length_permutation}
+use Rattle.std.proofs.lemmas.List.Sorted.{IsPermutation-refl, IsPermutation-trans, IsPermutation-middle, IsPermutation-remove, IsPermutation-append, IsPermutation-append_left, IsPermutation-append_right, IsPermutation-append_comm, sum_by-IsPermutation, length_permutation}
 use Rattle.std.proofs.lemmas.List.Sums.{sum_by-cons, sum_by-append}
-use Rattle.rstar_base.proofs.Lists.{all-append, all_along, all_map, all_both}
+use Rattle.rstar_base.proofs.Lists.{all-append, all_map, all_both}
 use Rattle.rstar.specs.Lists.{IsNotAfter, AreOrdered, AreFirst, AreFirstOf, AreAlike, product}
 use Rattle.rstar.proofs.InOrder.{more-first}
-use Rattle.rstar.proofs.OneOrder.{one-order}
+use Rattle.rstar.proofs.OneOrder.{only_first}
 use Rattle.rstar.proofs.PairRows.{the_pair, product-none}
 use Rattle.rstar.proofs.Ties.{filter-along}
 use Rattle.rstar_run.specs.Shards.{IsFirstOfTwo}
@@ -250,75 +250,6 @@ module _ {T : Type 0} {order : T → T → Ordering} (total : IsTotalOrder order
     enough = λ less. absurd (omega (arith, full, less));
   }
 
-  -- ---- one answer: two lists of the first k are one list, up to elements that compare equal
-
-  order-append : (ts us : List T) → AreOrdered before ts → AreOrdered before us → AllByRecursion (λ t. AllByRecursion (before t) us) ts → AreOrdered before (ts ++ us)
-  order-append [] us h k least = k
-  order-append (t ∷ ts) us h k least = (all-append (before t) ts us h.0 least.0, order-append ts us h.1 k least.1)
-
-  -- one element put into a list in order
-  placed : (t : T) (us : List T) → AreOrdered before us → (vs : List T) × IsPermutation (t ∷ us) vs × AreOrdered before vs
-  placed t [] h = (t ∷ [], IsPermutation-refl _, (tt, tt))
-  placed t (u ∷ us) h = by_test (placed t us h.1) (is_lt (order u t)) refl
-    where
-      by_test : (vs : List T) × IsPermutation (t ∷ us) vs × AreOrdered before vs → (b : Bool) → is_lt (order u t) ≡ b → (vs : List T) × IsPermutation (t ∷ u ∷ us) vs × AreOrdered before vs
-      by_test rest false e = (t ∷ u ∷ us, IsPermutation-refl _, ((e, all_map (before u) (before t) (λ v k. chain t u v e k) us h.0), h))
-      by_test rest true e = (
-        u ∷ rest.0,
-        IsPermutation-trans _ _ _ (IsPermutation-middle (t ∷ []) u us) (IsPermutation-cons u (t ∷ us) rest.0 rest.1),
-        (all_along (before u) (t ∷ us) rest.0 rest.1 ((sifts.ranks total).one_way u t e, h.0), rest.2),
-      )
-
-  in_order : (ts : List T) → (us : List T) × IsPermutation ts us × AreOrdered before us
-  in_order [] = ([], IsPermutation-refl [], tt)
-  in_order (t ∷ ts) =
-      let rest = in_order ts in
-      let one = placed t rest.0 rest.2 in
-      (one.0, IsPermutation-trans _ _ _ (IsPermutation-cons t ts rest.0 rest.1) one.1, one.2)
-
-  front-alike : (ts us xs ys : List T) → length ts ≡ length us → AreAlike order (ts ++ xs) (us ++ ys) → AreAlike order ts us
-  front-alike [] [] xs ys long h = tt
-  front-alike [] (u ∷ us) xs ys long h = absurd (omega (arith, long))
-  front-alike (t ∷ ts) [] xs ys long h = absurd (omega (arith, long))
-  front-alike (t ∷ ts) (u ∷ us) xs ys long h = (h.0, front-alike ts us xs ys (omega (arith, long)) h.1)
-
-  -- no list is longer that might have been given
-  as-many : (all : List T) (k n : ℕ) (ts : List T) (h : AreFirstOf before all k ts) → n ≤ k → n ≤ length all → n ≤ length ts
-  as-many all k n ts h few within = by_test (leb k (length ts)) refl
-    where
-      by_test : (b : Bool) → leb k (length ts) ≡ b → n ≤ length ts
-      by_test true e = let le = leb-true k (length ts) e in omega (arith, le, few)
-      by_test false e =
-          let less = leb-false k (length ts) e in
-          let none = ap length (h.enough (omega (arith, less))) in
-          let all_long = length_permutation all (ts ++ h.left) h.first.bag in
-          let parts = length-append ts h.left in
-          omega (arith, none, all_long, parts, within)
-
-  within : (all : List T) (k : ℕ) (ts : List T) (h : AreFirstOf before all k ts) → length ts ≤ length all
-  within all k ts h =
-      let all_long = length_permutation all (ts ++ h.left) h.first.bag in
-      let parts = length-append ts h.left in
-      omega (arith, all_long, parts)
-
-  module _ (all : List T) (k : ℕ) (ts us : List T) (h : AreFirstOf before all k ts) (j : AreFirstOf before all k us) where
-    as-long : length ts ≡ length us
-    as-long =
-        let less = as-many all k (length ts) us j h.few (within all k ts h) in
-        let more = as-many all k (length us) ts h j.few (within all k us j) in
-        omega (arith, less, more)
-
-    pub only_first : AreAlike order ts us
-    only_first =
-        let xs = in_order h.left in
-        let ys = in_order j.left in
-        front-alike ts us xs.0 ys.0 as-long
-        (one-order order total (ts ++ xs.0) (us ++ ys.0)
-        (IsPermutation-trans _ _ _ (IsPermutation-sym _ _ (IsPermutation-trans _ _ _ h.first.bag (IsPermutation-append_right ts h.left xs.0 xs.1)))
-        (IsPermutation-trans _ _ _ j.first.bag (IsPermutation-append_right us j.left ys.0 ys.1)))
-        (order-append ts xs.0 h.first.order xs.2 (all_map _ _ (λ t. all_along (before t) h.left xs.0 xs.1) ts h.first.least))
-        (order-append us ys.0 j.first.order ys.2 (all_map _ _ (λ t. all_along (before t) j.left ys.0 ys.1) us j.first.least)))
-
   -- ---- the first of two lists in order
 
   -- the head of the first list comes no later than that of the second
@@ -365,4 +296,4 @@ module _ {T : Type 0} {order : T → T → Ordering} (total : IsTotalOrder order
     merged-shards all more a b = first_of_two k all more one other merged (merged-first a.first.order b.first.order) a b
 
     pub merged-only : (all more given : List T) → AreFirstOf before all k one → AreFirstOf before more k other → AreFirstOf before (all ++ more) k given → AreAlike order merged given
-    merged-only all more given a b so = only_first (all ++ more) k merged given (merged-shards all more a b) so
+    merged-only all more given a b so = only_first order total (all ++ more) k merged given (merged-shards all more a b) so

@@ -1,21 +1,29 @@
 //! Envelopes that count: elements of a user's own, each of which counts once in every parent above it.
 
-ghost use Rattle.std.specs.Prelude.{◌≡◌, min, length};
+ghost use Rattle.std.specs.Prelude.{◌≡◌, ◌<◌, ◌↔◌, ◌⊎◌, min, length, IfOk, OnErr};
+ghost use Rattle.std.specs.List.{AllByRecursion};
 ghost use Rattle.rstar_base.specs.BoxData.{box_data};
 ghost use Rattle.rstar_base.specs.Counts.{counted_objects};
 ghost use Rattle.rstar_base.specs.PointElements.{point_object, point_distances};
 ghost use Rattle.rstar_base.specs.laws.CountedLaws.{counted_element_laws};
 ghost use Rattle.rstar_base.specs.laws.PointElementLaws.{point_distance_laws};
 ghost use Rattle.rstar_vectors.specs.laws.PlaceLaws.{place_equal};
-ghost use Rattle.rstar.specs.Trees.{elements_in, IsWholeTree};
+ghost use Rattle.rstar.specs.declared.replay.Reply.TheVariants.{TooMany};
+ghost use Rattle.rstar.specs.Heights.{height_of, spare_lists};
+ghost use Rattle.rstar.specs.Steps.{IsFit, IsInsertion, IsRefusal, Step, Run};
+ghost use Rattle.rstar.specs.StepsOfTrees.{RunOfTree};
+ghost use Rattle.rstar.specs.Trees.{root_of, size_of, elements_in, IsUnchanged, IsWholeTree};
 
-use crate::scenarios::{inserted, let_go};
+use crate::scenarios::{inserted, let_go, stands_with};
 use crate::trials::{ALL, By, Drained, Order, Step, goes_through};
+use rstar::replay::{Command, Query, Reply, Scanned, all_fit, replay, step};
 use rstar::{
     AABB, Counted, DefaultParams, Envelope, EqualEnvelopes, Point, PointDistance, RTree,
     RTreeObject, RTreeParams,
 };
-use std::alloc::Global;
+use std::alloc::{AllocError, Global};
+
+type At = [i64; 2];
 
 /// A place with a number.
 #[derive(Clone, Copy, PartialEq, Drop)]
@@ -86,6 +94,77 @@ fn counts_all<P: Point + Copy>(alloc: Global, places: &[Place<P>], count: usize)
     is_so
 }
 
+/// Runs one command over places.
+fn step_places(tree: &mut RTree<Place<At>>, command: Command<Place<At>>) -> Reply<Place<At>>
+    requires whole { IsWholeTree ⟦<Counted<[i64; 2]> as Envelope>⟧.boxes ⟦<Place<[i64; 2]> as RTreeObject>⟧.object
+        ⟦<DefaultParams as RTreeParams>⟧.MAX_SIZE tree.old }
+    requires fit { IsFit ⟦<Place<[i64; 2]> as Scanned>⟧.questions 2 command }
+    ensures step { Step ⟦<Place<[i64; 2]> as Scanned>⟧.questions (elements_in tree.old) command result
+        (elements_in tree.new) }
+    ensures whole { IsWholeTree ⟦<Counted<[i64; 2]> as Envelope>⟧.boxes ⟦<Place<[i64; 2]> as RTreeObject>⟧.object
+        ⟦<DefaultParams as RTreeParams>⟧.MAX_SIZE tree.new }
+    ensures refused { IsRefusal result → IsUnchanged tree.old tree.new }
+    ensures too_many { (result ≡ TooMany) ↔ (IsInsertion command × ((size_of tree.old ≡ usize.MAX)
+        ⊎ (usize.MAX < spare_lists ⟦<DefaultParams as RTreeParams>⟧.REINSERTION_COUNT
+        (height_of (root_of tree.old))))) }
+{
+    step(tree, command)
+}
+
+/// Runs commands over places.
+fn replay_places(
+    tree: &mut RTree<Place<At>>,
+    commands: Vec<Command<Place<At>>>,
+) -> Result<Vec<Reply<Place<At>>>, AllocError>
+    requires whole { IsWholeTree ⟦<Counted<[i64; 2]> as Envelope>⟧.boxes ⟦<Place<[i64; 2]> as RTreeObject>⟧.object
+        ⟦<DefaultParams as RTreeParams>⟧.MAX_SIZE tree.old }
+    requires fit { AllByRecursion (IsFit ⟦<Place<[i64; 2]> as Scanned>⟧.questions 2) commands.items }
+    ensures run { IfOk result (λ replies. Run ⟦<Place<[i64; 2]> as Scanned>⟧.questions
+        (elements_in tree.old) commands.items replies.items (elements_in tree.new)) }
+    ensures steps { IfOk result (λ replies. RunOfTree ⟦<Counted<[i64; 2]> as Envelope>⟧.boxes
+        ⟦<Place<[i64; 2]> as RTreeObject>⟧.object ⟦<DefaultParams as RTreeParams>⟧.MAX_SIZE
+        ⟦<DefaultParams as RTreeParams>⟧.REINSERTION_COUNT (Step ⟦<Place<[i64; 2]> as Scanned>⟧.questions)
+        tree.old commands.items replies.items tree.new) }
+    ensures none_run { OnErr result (tree.new ≡ tree.old) }
+    ensures whole { IsWholeTree ⟦<Counted<[i64; 2]> as Envelope>⟧.boxes ⟦<Place<[i64; 2]> as RTreeObject>⟧.object
+        ⟦<DefaultParams as RTreeParams>⟧.MAX_SIZE tree.new }
+{
+    replay(tree, commands)
+}
+
+/// The commands by which places go in, one after another, and so many are drained.
+fn in_and_out(
+    alloc: Global,
+    places: &[Place<At>],
+    most: usize,
+) -> Result<Vec<Command<Place<At>>>, AllocError> {
+    let mut commands = Vec::new(alloc);
+    for place in places {
+        commands.push(Command::Insert(*place))?;
+    }
+    commands.push(Command::Drain(Query::All, most))?;
+    Ok(commands)
+}
+
+/// Whether the root counts each place once after such commands, and after one more drain of one.
+fn counts_after_commands(alloc: Global, places: &[Place<At>], most: usize) -> bool {
+    let commands = match in_and_out(alloc, places, most) {
+        Ok(commands) if all_fit(&commands) => commands,
+        _ => return false,
+    };
+    let mut tree = RTree::default(alloc);
+    let left = places.len().saturating_sub(most);
+    let is_run = replay_places(&mut tree, commands).is_ok();
+    let is_so = is_run & stands_with(&tree, left) & (count_at_root(&tree) == left);
+    let is_out = matches!(
+        step_places(&mut tree, Command::Drain(Query::All, 1)),
+        Reply::Elements(_)
+    );
+    let count = count_at_root(&tree);
+    let_go(tree);
+    is_so & is_out & (count.saturating_add(1) == left)
+}
+
 /// So many places, numbered from 0, on a line that wraps around in both coordinates.
 fn places(alloc: Global, count: usize) -> Vec<Place<[i64; 2]>> {
     let mut places = Vec::new(alloc);
@@ -123,4 +202,9 @@ fn every_element_is_merged_once(rt: HostRuntime) {
         counts_all(rt.alloc(), all.split_at(all.len().min(1000)).0, 1000)
             && goes_through::<_, DefaultParams>(rt.alloc(), all, 500, &none, &STEPS)
     );
+}
+
+#[test]
+fn commands_count_every_element_once(rt: HostRuntime) {
+    assert!(rt; counts_after_commands(rt.alloc(), &places(rt.alloc(), 500), 200));
 }
