@@ -23,7 +23,7 @@ LIBRARIES = ["rstar_base", "rstar"]
 PROGRAM = ["run", "pack", "unpack", "mode"]
 LIMITS = {"docs/API.md": 30_000, "docs/DEFINITIONS.md": 28_000}
 # A definition of at most so many characters is shown with its own lines.
-SHORT = 108
+SHORT = 96
 # Words that say nothing of an answer by themselves.
 PLAIN = {"pos", "min", "table", "true", "false", "IfOk", "IfSome", "IfErr", "IfNone", "IsTrue"}
 
@@ -154,7 +154,7 @@ def api_page(library):
             name = f"`{signature(item)}`" if item.kind == "fn" else f"**{item.name}**"
             text = " ".join(item.docs[:item.docs.index("")] if "" in item.docs else item.docs)
             answer = re.split(r"(?<=[.])\s+(?=[A-Z`])", text)[0].removesuffix(".")
-            answer = re.sub(r" \([A-Z][^()]* \d{4}\)", "", answer)
+            answer = re.sub(r" \([A-Z][^()]* \d{4}\)|, in some order", "", answer)
             says, wrong = library.says(item), ", ".join(shown.get(id(item), []))
             lines.append(f"- {name} {answer}" + (f" [{says}]" if says else "") + (f" ✗ {wrong}" if wrong else ""))
     return "\n".join(lines) + "\n"

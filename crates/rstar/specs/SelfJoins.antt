@@ -22,7 +22,7 @@ abbrev pub pairs_behind : {A : Type 0} → List A → List (A × A)
 pairs_behind [] = []
 pairs_behind (x ∷ xs) = map (λ y. (x, y)) xs ++ pairs_behind xs
 
--- the join of a list of elements with itself: all pairs of a place and one behind it whose envelopes meet
+-- the join of a list with itself: the pairs of a place and one behind it whose envelopes intersect
 abbrev pub self_join : {T E : Type 0} → (E → E → Bool) → (T → E) → List T → List (T × T)
 self_join meets box_of ts = filter (λ p. meets (box_of p.0) (box_of p.1)) (pairs_behind ts)
 
@@ -44,27 +44,29 @@ module _ {T E : Type 0} where
   abbrev pub siblings : List (RTreeNode T E) → List (RTreeNode T E × RTreeNode T E)
   siblings ns = siblings_by (siblings_below (levels_below ns)) ns
 
-  -- ---- what an iterator shows: its root, and how many pairs of nodes it has opened
-
+  -- the root of a join of a tree with itself
   abbrev pub own_root : SelfIntersectionIterator T E → ParentNode T E
   own_root it = it.root.now
 
+  -- how many pairs of nodes it has visited
   abbrev pub own_opened : SelfIntersectionIterator T E → ℕ
   own_opened it = it.walk.opened
 
 module _ {T E : Type 0} (meets : E → E → Bool) (box_of : T → E) where
-  -- what a list of nodes gives, and how many pairs it opens: each parent with itself, and what a join opens of siblings
+  -- the pairs that a list of nodes gives, and how many pairs of nodes it visits: each parent with itself, and what a join
+  -- visits of two nodes of one list
   abbrev pub pairs_within : List (RTreeNode T E) → List (T × T)
   pairs_within ns = pairs_below meets box_of box_of (siblings ns)
 
   abbrev pub opens_within : List (RTreeNode T E) → ℕ
   opens_within ns = all_parents ns + opens_below meets box_of box_of (siblings ns)
 
-  -- how many pairs are opened of a root; 0 where it has no children
+  -- the same of a root's children and the root; 0 without children
   abbrev pub own_meet_of : List (RTreeNode T E) → ℕ
   own_meet_of [] = 0
   own_meet_of (n ∷ ns) = 1 + opens_within (n ∷ ns)
 
+  -- the pairs of nodes visited of a root: each parent with itself, and what a join visits of two nodes of one list
   abbrev pub own_meet : ParentNode T E → ℕ
   own_meet root = own_meet_of (children_of root)
 
@@ -84,6 +86,7 @@ module _ {T E : Type 0} (meets : E → E → Bool) (box_of : T → E) where
   abbrev pub own_opens : SelfIntersectionIterator T E → ℕ
   own_opens it = opens_by meets box_of box_of it.walk + opens_from_lists it.lists.items
 
+  -- the pairs that such a join still yields, in order
   unfoldable pub own_to_come : SelfIntersectionIterator T E → List (T × T)
   own_to_come it = own_pairs it
 
@@ -119,6 +122,7 @@ module _ {T E : Type 0} (v : Boxes E) (o : Objects T E) where
     pub counted : it.walk.opened ≡ min count usize_max
     pub all : count + own_opens meets o.box_of it ≡ own_meet meets o.box_of it.root.now
 
+  -- what it keeps between calls of `next`
   unfoldable pub IsSelfJoining : (E → E → Bool) → SelfIntersectionIterator T E → Type 0
   IsSelfJoining meets it = HasItsLists meets it
 
@@ -131,14 +135,13 @@ module _ {T E : Type 0} (v : Boxes E) (o : Objects T E) where
     pub nearer : r ≡ true → weight_of new.lists.items < weight_of old.lists.items
     pub over : r ≡ false → (own_pairs meets o.box_of new ≡ []) × (own_opens meets o.box_of new ≡ 0)
 
-  -- an iterator as it is made: over this root, with the root opened or nothing
+  -- such a join at its start: over this root, with at most one pair of nodes visited
   pub record IsSelfJoinMade (meets : E → E → Bool) (root : ParentNode T E) (it : SelfIntersectionIterator T E) : Type 0 where
     pub over : own_root it ≡ root
     pub opened : own_opened it ≤ 1
     pub at_most : own_opened it ≤ own_meet meets o.box_of root
 
-  -- a call of `next` gives the first pair that is to come, of the same root, and another may follow; at the end all
-  -- pairs were opened that are counted, and never more
+  -- a call of `next`: it yields the first pair that is to come; at the end it has visited `own_meet` pairs, and never more
   pub record GivesOwnPair (meets : E → E → Bool) (old : SelfIntersectionIterator T E) (r : Option (Bor T × Bor T))
       (new : SelfIntersectionIterator T E) : Type 0 where
     pub gives : YieldsFirstBy (λ p. (p.0.now, p.1.now)) (own_to_come meets o.box_of) old r new

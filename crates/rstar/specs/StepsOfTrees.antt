@@ -26,7 +26,7 @@ module _ {T D E P S X : Type 0} (v : Boxes E) (o : Objects T E) (max reinserted 
     pub too_many : (r ≡ TooMany)
         ↔ (IsInsertion c × ((size_of old ≡ usize_max) ⊎ (usize_max < spare_lists reinserted (height_of (root_of old)))))
 
-  -- commands are given these replies in turn: from the old tree, one step after another, to the new tree
+  -- a run by such steps: commands and their replies, from tree to tree
   abbrev pub RunOfTree
       : RTree T D E P S X → List (Command T E P S X) → List (Reply T E P S X) → RTree T D E P S X → Type 0
   RunOfTree = RunBy (λ old new. new ≡ old) StepOfTree

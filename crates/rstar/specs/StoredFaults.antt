@@ -80,6 +80,6 @@ HasFault bytes Trailing =
 HasFault bytes NoMemory = ⊤
 HasFault bytes TooHigh = ⊥
 
--- they have no other fault
+-- the bytes have this fault alone
 abbrev pub IsOnlyFault : List ℕ → StoredError → Type 0
 IsOnlyFault bytes e = (d : StoredError) → d ≢ NoMemory → HasFault bytes d → d ≡ e

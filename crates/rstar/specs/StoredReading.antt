@@ -13,7 +13,7 @@ abbrev pub ◌>>=◌ : {A B : Type 0} → Result A StoredError → (A → Result
 (Ok x) >>= f = f x
 (Err e) >>= f = Err e
 
--- what a call answered, seen by view, is what reading gives, unless memory was refused
+-- a call answers what reading gives, unless memory is refused
 abbrev pub Gives : {X Y : Type 0} → (X → Y) → Result X StoredError → Result Y StoredError → Type 0
 Gives view (Ok x) read = read ≡ Ok (view x)
 Gives view (Err e) read = (e ≡ NoMemory) ⊎ (read ≡ Err e)
@@ -91,7 +91,7 @@ unfoldable pub levels_at : ℕ → List ℕ → Result Tree StoredError
 levels_at count [] = Err Truncated
 levels_at count (h ∷ rest) = if nat_lt 64 h then Err BadLevel else root_at h count rest
 
--- all of the bytes
+-- the tree of the bytes, or the first fault from left to right
 unfoldable pub tree_at : List ℕ → Result Tree StoredError
 tree_at bytes =
     if nat_lt (length bytes) 4 then Err Truncated

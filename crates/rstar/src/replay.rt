@@ -137,7 +137,7 @@ pub fn step<T: PointDistance + EqualEnvelopes + Clone, Params: RTreeParams>(
     }
 }
 
-/// Runs commands in order by `step` (`Run`, and `RunOfTree` for the trees between).
+/// Runs commands in order by `step` (`Run`, `RunOfTree`).
 ///
 /// An error means that the list of replies was refused, before any command was run.
 pub fn replay<T: PointDistance + EqualEnvelopes + Clone, Params: RTreeParams>(
@@ -201,7 +201,7 @@ pub fn step_by_order<T: PointDistance + EqualEnvelopes + Clone + Ord, Params: RT
     }
 }
 
-/// Runs commands in order by `step_by_order` (`RunByOrder`, and `RunOfTree` for the trees between).
+/// Runs commands in order by `step_by_order` (`RunByOrder`, `RunOfTree`).
 ///
 /// An error means that the list of replies was refused, before any command was run.
 pub fn replay_by_order<T: PointDistance + EqualEnvelopes + Clone + Ord, Params: RTreeParams>(

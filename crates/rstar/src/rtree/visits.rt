@@ -70,7 +70,7 @@ impl<T: RTreeObject, Params: RTreeParams> RTree<T, Params> {
         select_nodes(&self.root, &func, &mut visitor)
     }
 
-    /// As `locate_in_envelope_int`, with a visitor that may write. The visitor must keep the envelope of the
+    /// As `locate_in_envelope_int`, to write. The visitor must keep the envelope of the
     /// element.
     pub fn locate_in_envelope_int_mut<V: FnMut(&mut T) -> ControlFlow<B>, B: Drop>(
         &mut self,
@@ -90,7 +90,7 @@ impl<T: RTreeObject, Params: RTreeParams> RTree<T, Params> {
         self.locate_with_selection_function_int_mut(func, visitor)
     }
 
-    /// As `locate_in_envelope_intersecting_int`, with a visitor that may write. The visitor must keep the
+    /// As `locate_in_envelope_intersecting_int`, to write. The visitor must keep the
     /// envelope of the element.
     ///
     /// ```rust
@@ -121,7 +121,7 @@ impl<T: RTreeObject, Params: RTreeParams> RTree<T, Params> {
         self.locate_with_selection_function_int_mut(func, visitor)
     }
 
-    /// As `locate_with_selection_function_int`, with a visitor that may write. The visitor must keep the
+    /// As `locate_with_selection_function_int`, to write. The visitor must keep the
     /// envelope of the element.
     pub fn locate_with_selection_function_int_mut<
         F: SelectionFunction<T>,
@@ -159,7 +159,7 @@ impl<T: PointDistance, Params: RTreeParams> RTree<T, Params> {
         self.locate_with_selection_function_int(SelectAtPointFunction::new(point), visitor)
     }
 
-    /// As `locate_all_at_point_int`, with a visitor that may write. The visitor must keep the envelope of
+    /// As `locate_all_at_point_int`, to write. The visitor must keep the envelope of
     /// the element.
     pub fn locate_all_at_point_int_mut<V: FnMut(&mut T) -> ControlFlow<B>, B: Drop>(
         &mut self,
