@@ -410,7 +410,7 @@ fn drains_that_are_given_up(rt: HostRuntime) {
     assert!(rt;
         goes_through::<_, DefaultParams>(rt.alloc(), &EIGHT, 0, &far, &ONE_OF_EACH)
             && drains_at_most(rt.alloc(), &ALONG_A_LINE, LeftOnly, 3, &far, 4)
-            && are_given_or_left(rt.alloc(), &EIGHT[..5], &far, 2, 0, [5, 5])
+            && are_given_or_left(rt.alloc(), &EIGHT[..5], &far, 2, 1, [5, 5])
     );
     for calls in 0..8usize {
         assert!(rt; are_given_or_left(rt.alloc(), &ALONG_A_LINE, &far, 0, calls, [5, 5]));
