@@ -1,5 +1,5 @@
 -- What the walk of a join gives of whole nodes, and what it opens: the join of their elements, reordered, and all that Meet counts.
-use Rattle.std.proofs.Common.{◌≡◌, ◌≢◌, ℕ, ℤ, zero, suc, ◌+◌, ◌≤◌, min, List, [], ◌∷◌, ◌++◌, map, refl, ap, ◌∙◌, sym, subst, arith, Bool, true, false, append-nil, if◌then◌else◌, flat_map, sum_by, take, drop, inl, inr, ◌⊎◌, max}
+use Rattle.std.proofs.Common.{◌≡◌, ◌≢◌, ℕ, ℤ, zero, suc, ◌+◌, ◌≤◌, List, [], ◌∷◌, map, refl, ap, ◌∙◌, sym, subst, arith, Bool, true, false, append-nil, if◌then◌else◌, flat_map, sum_by, inl, inr, ◌⊎◌, max}
 use Rattle.std.specs.List.{AllByRecursion}
 use Rattle.std.specs.Prelude.{⊤, Option, Some, None}
 use Rattle.std.specs.Borrow.{Bor}

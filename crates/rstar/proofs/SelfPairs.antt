@@ -7,7 +7,6 @@ use Rattle.std.proofs.lemmas.List.Sorted.{IsPermutation-refl, IsPermutation-appe
 use Rattle.std.proofs.lemmas.List.Elements.{filter-append}
 use Rattle.std.proofs.lemmas.List.Sums.{sum_by-cons, sum_by-append}
 use Rattle.std.proofs.lemmas.List.Concat.{flat_map-append}
-use Rattle.rstar_base.specs.Counts.{usize_max}
 use Rattle.rstar_base.specs.Envelopes.{Boxes, EnvelopeLaws}
 use Rattle.rstar_base.specs.Elements.{Objects, ObjectLaws}
 use Rattle.rstar_base.specs.Hulls.{hull}
@@ -16,11 +15,10 @@ use Rattle.rstar_base.proofs.Lists.{all_map}
 use Rattle.rstar.specs.declared.node.RTreeNode.{RTreeNode, Leaf, Parent}
 use Rattle.rstar.specs.declared.node.ParentNode.{ParentNode}
 use Rattle.rstar.specs.declared.iterators.joins.selves.SelfIntersectionIterator.{SelfIntersectionIterator}
-use Rattle.rstar.specs.Heights.{levels_below}
 use Rattle.rstar.specs.Nodes.{parents, all_parents, elements, all_elements, children_of, node_box, is_leaf_node, fold_tree, IsTree, IsInner, IsElement, AreWhole, IsWhole}
 use Rattle.rstar.specs.Lists.{product}
 use Rattle.rstar.specs.Meets.{opened_to, both_leaves, meet_of_roots, all_pairs, all_opens, pairs_at, opens_at}
-use Rattle.rstar.specs.JoinWalks.{pairs_below, opens_below, opens_by, CountsPairs, IsNextPair}
+use Rattle.rstar.specs.JoinWalks.{pairs_below, opens_below, opens_by, IsNextPair}
 use Rattle.rstar.specs.Joins.{SeenLaws, meets_by, join}
 use Rattle.rstar.specs.SelfJoins.{pairs_behind, self_join, Lists, siblings_by, siblings_below, siblings, pairs_within, opens_within, pairs_from_lists, opens_from_lists, own_pairs, own_opens, own_meet, own_meet_of, own_to_come, list_weight, weight, weight_of, AreLists, HasItsLists, IsSelfJoining, GivesOwnPair}
 use Rattle.rstar.proofs.Rows.{fold_tree-Parent, no_leaf, no_parent, parent_of, is_leaf, is_parent, elements-Leaf, elements-Parent, parents-Parent}

@@ -1,4 +1,4 @@
-use Rattle.std.proofs.Common.{◌≡◌, ◌+◌, ◌++◌, ◌∷◌, [], ◌∙◌, ap, sym, refl, arith, subst, take, length, length-append, append_assoc, append-nil}
+use Rattle.std.proofs.Common.{◌+◌, ◌++◌, ◌∷◌, [], ◌∙◌, ap, sym, refl, arith, subst, take, length, length-append, append_assoc, append-nil}
 use Rattle.std.proofs.lemmas.Bool.{true≢false}
 use Rattle.rstar.specs.Nodes.{AreWhole}
 use Rattle.rstar.specs.Meets.{all_pairs, all_opens}

@@ -1,4 +1,4 @@
-use Rattle.std.proofs.Common.{◌≡◌, ◌+◌, ◌++◌, ◌∷◌, [], ◌∙◌, ap, sym, refl, arith, subst}
+use Rattle.std.proofs.Common.{◌+◌, ◌++◌, ◌∷◌, [], ◌∙◌, ap, sym, refl, arith, subst}
 use Rattle.rstar.specs.Nodes.{children_of, AreWhole}
 use Rattle.rstar.specs.Joins.{meets_by}
 use Rattle.rstar.specs.SelfJoins.{pairs_from_lists, opens_from_lists, opens_within, pairs_within, AreLists, IsSelfJoining, own_to_come}

@@ -1,4 +1,4 @@
-use Rattle.std.proofs.Common.{◌∷◌, ◌++◌, [], ◌∙◌, ap, sym, refl, arith, subst, append-nil, ◌≡◌, ◌+◌}
+use Rattle.std.proofs.Common.{◌∷◌, ◌++◌, [], ◌∙◌, ap, sym, refl, arith, append-nil, ◌≡◌, ◌+◌}
 use Rattle.rstar.specs.JoinWalks.{in_hand, frames_of, opens_from_frames}
 use Rattle.rstar.specs.Joins.{meets_by}
 use Rattle.rstar.proofs.PairWalks.{frames-along, idle-pairs, move-drop, move-pairs, move-nearer, move-on}
