@@ -60,10 +60,7 @@ module _ {T F E : Type 0} (accepts : F → E → Bool) (selects : F → T → Bo
 
 module _ {T E : Type 0} {v : Boxes E} {o : Objects T E} {meets : E → E → Bool} where
   -- the same of a join of a tree with itself
-  pub own-opened : {xs : List (Bor T × Bor T)} (it end : SelfIntersectionIterator T E) → YieldsThen (GivesOwnPair v o meets) it xs None end
+  pub own-opened : (xs : List (Bor T × Bor T)) (it end : SelfIntersectionIterator T E) → YieldsThen (GivesOwnPair v o meets) it xs None end
       → own_opened end ≡ min (own_meet meets o.box_of (own_root it)) usize_max
-  own-opened {xs = xs} it end y = by_list xs it y where
-    by_list : (xs : List (Bor T × Bor T)) (it : SelfIntersectionIterator T E) → YieldsThen (GivesOwnPair v o meets) it xs None end
-        → own_opened end ≡ min (own_meet meets o.box_of (own_root it)) usize_max
-    by_list [] it y = y.2.ended ∙ ap (λ (i : SelfIntersectionIterator T E). min (own_meet meets o.box_of (own_root i)) usize_max) (sym y.1)
-    by_list (x ∷ xs) it y = by_list xs y.1.0 (y.0, y.1.2, y.2) ∙ ap (λ (r : ParentNode T E). min (own_meet meets o.box_of r) usize_max) y.1.1.root
+  own-opened [] it end y = y.2.ended ∙ ap (λ (i : SelfIntersectionIterator T E). min (own_meet meets o.box_of (own_root i)) usize_max) (sym y.1)
+  own-opened (x ∷ xs) it end y = own-opened xs y.1.0 end (y.0, y.1.2, y.2) ∙ ap (λ (r : ParentNode T E). min (own_meet meets o.box_of r) usize_max) y.1.1.root

@@ -1,8 +1,5 @@
 -- Parts of a board as boxes and numbers.
-use Rattle.std.proofs.Common.{◌≡◌, ◌∙◌, ◌<◌, Bool, true, false, if◌then◌else◌, List, [], ◌∷◌, map, filter, min, ℕ, ℤ, pos, int_le, FitsSigned, to_z, of_z, to_z-of_z, refl, ap, ap₂, sym, subst, arith}
-use Rattle.std.specs.Prelude.{nat_le}
-use Rattle.std.proofs.lemmas.Int.{ints}
-use Rattle.std.proofs.lemmas.Bool.Decides.{nat_tests}
+use Rattle.std.proofs.Common.{◌≡◌, ◌∙◌, Bool, true, false, if◌then◌else◌, List, [], ◌∷◌, map, filter, ℕ, ℤ, pos, ◌+ℤ◌, ◌-ℤ◌, int_lt, FitsSigned, to_z, of_z, to_z-of_z, cond, refl, ap, ap₂, sym, subst}
 use Rattle.std.specs.Int.{w32, w64, int_min, int_max}
 use Rattle.std.specs.List.Sorted.{IsPermutation}
 use Rattle.std.proofs.lemmas.List.Sorted.{IsPermutation-map}
@@ -22,19 +19,14 @@ filter-map {A} f g (x ∷ xs) = by_test (g (f x)) (filter-map f g xs)
     by_test true tail = ap (λ l. f x ∷ l) tail
     by_test false tail = tail
 
--- what is near an area among elements, told of their boxes and what else they show
-pub found : {R A E N : Type 0} (near told : E → E → Bool) (area asked : E) (now : R → A) (box : A → E) (number : A → N) (rs : List R) (xs : List A) (shown : List (E × N)) → ((e : E) → near asked e ≡ told asked e)
-    → area ≡ asked → map {B = E × N} (λ t. (box t, number t)) xs ≡ shown
-    → map now rs ≡ filter (λ t. near area (box t)) xs → map {B = E × N} (λ r. (box (now r), number (now r))) rs ≡ filter (λ p. told asked p.0) shown
-found {R} {A} {E} {N} near told area asked now box number rs xs shown means same are given =
+-- what meets an area among elements, told of their boxes and what else they show
+pub found : {R A E N : Type 0} (meets : E → E → Bool) (area asked : E) (now : R → A) (box : A → E) (number : A → N) (rs : List R) (xs : List A) (shown : List (E × N)) → area ≡ asked → map {B = E × N} (λ t. (box t, number t)) xs ≡ shown
+    → map now rs ≡ filter (λ t. meets area (box t)) xs → map {B = E × N} (λ r. (box (now r), number (now r))) rs ≡ filter (λ p. meets asked p.0) shown
+found {R} {A} {E} {N} meets area asked now box number rs xs shown same are given =
     map-twice {B = E × N} (λ t. (box t, number t)) now rs
-    ∙ ap (map {B = E × N} (λ t. (box t, number t))) (given ∙ ap (λ a. filter (λ t. near a (box t)) xs) same ∙ (λ i. filter (λ t. means (box t) i) xs))
-    ∙ sym (filter-map {B = E × N} (λ t. (box t, number t)) (λ p. told asked p.0) xs)
-    ∙ ap (filter (λ (p : E × N). told asked p.0)) are
-
--- a number that is held at a greatest one is at most a limit below that where the number itself is
-pub held : (n high k : ℕ) → k < high → int_le (pos (min n high)) (pos k) ≡ nat_le n k
-held n high k less = grind (arith, ints, nat_tests)
+    ∙ ap (map {B = E × N} (λ t. (box t, number t))) (given ∙ ap (λ a. filter (λ t. meets a (box t)) xs) same)
+    ∙ sym (filter-map {B = E × N} (λ t. (box t, number t)) (λ p. meets asked p.0) xs)
+    ∙ ap (filter (λ (p : E × N). meets asked p.0)) are
 
 -- one element more, told of what elements show
 pub added : {A B : Type 0} (f : A → B) (t : A) (s : B) (old new : List A) (shown : List B) → map f old ≡ shown → f t ≡ s → IsPermutation (t ∷ old) new → IsPermutation (s ∷ shown) (map f new)
@@ -53,6 +45,16 @@ widened a x narrow wide same = to_z-of_z wide ∙ same ∙ to_z-of_z narrow
 -- the least and the greatest of two numbers, told of equal ones
 pub ends : (a b c d : ℤ) → a ≡ c → b ≡ d → ◌≡◌ {A = ℤ × ℤ} (int_min a b, int_max a b) (int_min c d, int_max c d)
 ends a b c d first second = ap₂ {C = ℤ × ℤ} (λ x y. (int_min x y, int_max x y)) first second
+
+-- numbers of 64 bits that are in order, each told of two numbers of 32 bits
+pub axis : (l u a b : ℤ) (room : ℕ) → FitsSigned w32 a → FitsSigned w32 b → FitsSigned w64 l → FitsSigned w64 u
+    → l ≡ int_min (to_z w32 (of_z w32 a)) (to_z w32 (of_z w32 b)) -ℤ pos room → u ≡ int_max (to_z w32 (of_z w32 a)) (to_z w32 (of_z w32 b)) +ℤ pos room → int_lt u l ≡ false
+    → ◌≡◌ {A = ℤ × ℤ} (int_min (to_z w64 (of_z w64 l)) (to_z w64 (of_z w64 u)), int_max (to_z w64 (of_z w64 l)) (to_z w64 (of_z w64 u))) (int_min a b -ℤ pos room, int_max a b +ℤ pos room)
+axis l u a b room fa fb fl fu least greatest order =
+    ends _ _ _ _ (to_z-of_z fl) (to_z-of_z fu)
+    ∙ ap₂ {C = ℤ × ℤ} (λ x y. (x, y))
+    (ap (λ t. cond t u l) order ∙ least ∙ ap₂ (λ x y. int_min x y -ℤ pos room) (to_z-of_z fa) (to_z-of_z fb))
+    (ap (λ t. cond t l u) order ∙ greatest ∙ ap₂ (λ x y. int_max x y +ℤ pos room) (to_z-of_z fa) (to_z-of_z fb))
 
 -- a step before what is known
 pub through : {A : Type 0} {x y z : A} → y ≡ z → x ≡ y → x ≡ z

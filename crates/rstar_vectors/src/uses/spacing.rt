@@ -1,10 +1,11 @@
 //! A layout checker: the parts on a board that are too near a rectangle.
 
-ghost use Rattle.std.specs.Prelude.{◌≡◌, ◌∷◌, ◌<◌, ◌^◌, [], false, filter, map, IfOk, OnOk, OnErr};
+ghost use Rattle.std.specs.Prelude.{◌≡◌, ◌∷◌, ◌+ℤ◌, ◌-ℤ◌, [], false, filter, map, pos, int_lt, IfOk, OnOk, OnErr};
+ghost use Rattle.std.specs.Int.{int_min, int_max};
 ghost use Rattle.std.specs.List.Sorted.{IsPermutation};
-ghost use Rattle.rstar_vectors.specs.Spacing.{box_of_pairs, is_too_near};
+ghost use Rattle.rstar_vectors.specs.Spacing.{box_of_pairs, with_room, is_too_near};
 
-use crate::pairs::near_envelope;
+use crate::payloads::touched;
 use rstar::primitives::{GeomWithData, Rectangle};
 use rstar::{AABB, DefaultParams, Envelope, InsertError, RTree, RTreeObject, RTreeParams};
 use std::alloc::{AllocError, Global};
@@ -13,7 +14,7 @@ use std::marker::Model;
 /// The rectangle of a part, and its number.
 pub type Part = GeomWithData<Rectangle<[i64; 2]>, u64>;
 
-/// The parts on a board, in a tree. Their coordinates are `i32`, so that the square of a limit fits into an `i64`.
+/// The parts on a board, in a tree. Their coordinates are `i32`, so that added room never overflows.
 #[derive(Drop)]
 pub struct Board {
     parts: RTree<Part>,
@@ -55,22 +56,19 @@ impl Board {
         self.parts.insert(part(number, one, other))
     }
 
-    /// The parts too near the rectangle between two corners: at most `limit` away from it, in a straight line. Memory may
-    /// be refused.
+    /// The parts too near the rectangle between two corners: on no axis farther from it than `room`. Memory
+    /// may be refused.
     pub fn too_near(
         &self,
         alloc: Global,
         one: (i32, i32),
         other: (i32, i32),
-        limit: u32,
+        room: u32,
     ) -> Result<Vec<&Part>, AllocError>
-        requires { limit < 2 ^ 31 }
         ensures { IfOk result (λ found. map (λ part. (⟦<Part as RTreeObject>⟧.object.box_of part.now, part.now.1))
-            found.items ≡ filter (λ part. is_too_near limit (box_of_pairs one other) part.0) self.now) }
+            found.items ≡ filter (λ part. is_too_near room (box_of_pairs one other) part.0) self.now) }
     {
-        let area = part(0, one, other).envelope();
-        let limit = i64::from(limit);
-        match near_envelope(alloc, &self.parts, area, limit * limit) {
+        match touched(alloc, &self.parts, around(one, other, room)) {
             Ok((found, _opened)) => Ok(found),
             Err(refused) => Err(refused),
         }
@@ -87,6 +85,29 @@ fn part(number: u64, one: (i32, i32), other: (i32, i32)) -> Part
     let from = [i64::from(one.0), i64::from(one.1)];
     let to = [i64::from(other.0), i64::from(other.1)];
     Part::new(Rectangle::from_corners(from, to), number)
+}
+
+/// The lesser and the greater of two numbers, with this much room below and above.
+fn stretched(one: i32, other: i32, room: u32) -> (i64, i64)
+    ensures least { result.0 ≡ int_min one other -ℤ pos room }
+    ensures greatest { result.1 ≡ int_max one other +ℤ pos room }
+    ensures order { int_lt result.1 result.0 ≡ false }
+{
+    let (one, other, room) = (i64::from(one), i64::from(other), i64::from(room));
+    if other < one {
+        (other - room, one + room)
+    } else {
+        (one - room, other + room)
+    }
+}
+
+/// The box between two corners, with this much room around it.
+fn around(one: (i32, i32), other: (i32, i32), room: u32) -> AABB<[i64; 2]>
+    ensures { result ≡ with_room room (box_of_pairs one other) }
+{
+    let x = stretched(one.0, other.0, room);
+    let y = stretched(one.1, other.1, room);
+    AABB::from_corners([x.0, y.0], [x.1, y.1])
 }
 
 #[cfg(test)]
@@ -124,15 +145,14 @@ mod tests {
         for &(number, one, other) in parts {
             is_so &= board.add(number, one, other).is_ok();
         }
-        for &(one, other, limit, numbers) in questions {
-            is_so &= limit < 1 << 31
-                && are_found(board.too_near(alloc, one, other, limit), numbers);
+        for &(one, other, room, numbers) in questions {
+            is_so &= are_found(board.too_near(alloc, one, other, room), numbers);
         }
         is_so
     }
 
-    // Parts at squared distances of 1, 2 and 10, along an axis and across the corner; corners in any order; and the
-    // greatest limit.
+    // Parts at a distance of 1, 2 and 3 along an axis, and across the corner; corners in any order; and room that reaches
+    // from the least coordinate to the greatest.
     #[test]
     fn parts_too_near(rt: HostRuntime) {
         const PARTS: [Row; 3] = [
@@ -140,15 +160,18 @@ mod tests {
             (8, (5, 5), (9, 9)),
             (9, (9, 10), (5, 5)),
         ];
-        const LEAST: i32 = -2147483647;
-        const QUESTIONS: [Question; 7] = [
-            ((3, 3), (4, 4), 1, &[]),
-            ((3, 3), (4, 4), 2, &[7, 8, 9]),
+        const QUESTIONS: [Question; 6] = [
+            ((3, 3), (4, 4), 0, &[]),
+            ((3, 3), (4, 4), 1, &[7, 8, 9]),
             ((4, 2), (3, 0), 1, &[7]),
-            ((4, 2), (3, 0), 3, &[7]),
-            ((3, 0), (4, 2), 4, &[7, 8, 9]),
-            ((LEAST, 1), (LEAST, 1), 2147483647, &[7]),
-            ((i32::MIN, i32::MIN), (i32::MIN, i32::MIN), 2147483647, &[]),
+            ((4, 2), (3, 0), 2, &[7]),
+            ((3, 0), (4, 2), 3, &[7, 8, 9]),
+            (
+                (i32::MIN, i32::MIN),
+                (i32::MIN, i32::MIN),
+                u32::MAX,
+                &[7, 8, 9],
+            ),
         ];
         assert!(rt; stand_too_near(rt.alloc(), &PARTS, &QUESTIONS));
     }

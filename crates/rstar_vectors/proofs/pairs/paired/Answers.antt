@@ -11,5 +11,5 @@ returns-in-Ok-drained-clause-all g c = let run = c.in-Ok-drained.ensures in list
 
 pub returns-in-Ok-drained-clause-opened : goal.returns-in-Ok-drained-clause-opened
 returns-in-Ok-drained-clause-opened g c =
-    c.opened.ensures ∙ own-opened _ _ c.in-Ok-drained.ensures
+    c.opened.ensures ∙ own-opened _ _ _ c.in-Ok-drained.ensures
     ∙ ap (λ root. min (own_meet g.T.Envelope.Envelope.boxes.intersects g.T.RTreeObject.object.box_of root) usize_max) c.in-Ok.ensures.made.over
