@@ -4,8 +4,8 @@
 
 use super::stored::points_of;
 use super::stored_tests::{EMPTY, ONE, answer};
-use rstar::DefaultParams;
 use rstar::stored::{StoredError, read_stored, write_stored};
+use rstar::{DefaultParams, RTree};
 use std::alloc::{AllocError, Global};
 use std::io::Write;
 use std::test::Fail;
@@ -352,6 +352,35 @@ fn rows_of_the_format(rt: HostRuntime) -> Result<(), Fail> {
     assert!(rt; chain_is_told(rt.alloc(), 2, 64, Some(BadCount))?);
     assert!(rt; chain_is_told(rt.alloc(), 1, 65, Some(BadLevel))?);
     assert!(rt; chain_is_told(rt.alloc(), 2, 65, Some(BadLevel))?);
+    Ok(())
+}
+
+/// The stored bytes of a tree into which these points were inserted, one by one; none where a call is refused.
+fn stored_one_by_one(alloc: Global, points: &[[i64; 2]]) -> Vec<u8> {
+    let mut tree = RTree::<[i64; 2]>::default(alloc);
+    for &point in points {
+        let _refused = tree.insert(point).is_err();
+    }
+    match write_stored(&tree) {
+        Ok(bytes) => bytes,
+        Err(_) => Vec::new(alloc),
+    }
+}
+
+// Seven points on a line, which reinsertion and a split put under two parents: 245 bytes.
+#[test]
+fn inserted_points_are_spelled(rt: HostRuntime) -> Result<(), Fail> {
+    const POINTS: [[i64; 2]; 7] = [
+        [0, 0],
+        [1, 0],
+        [2, 0],
+        [100, 0],
+        [101, 0],
+        [102, 0],
+        [103, 0],
+    ];
+    let line = spelled(rt.alloc(), 7, 2, &ALONG_A_LINE)?;
+    assert_eq!(rt; *stored_one_by_one(rt.alloc(), &POINTS), *line);
     Ok(())
 }
 

@@ -15,7 +15,7 @@ ghost use Rattle.rstar.specs.StepsOfTrees.{RunOfTree};
 ghost use Rattle.rstar.specs.Trees.{root_of, size_of, elements_in, IsUnchanged, IsWholeTree};
 
 use crate::scenarios::{inserted, let_go, stands_with};
-use crate::trials::{ALL, By, Drained, Order, Step, goes_through};
+use crate::trials::{ALL, By, Drained, Order, Step as Turn, goes_through};
 use rstar::replay::{Command, Query, Reply, Scanned, all_fit, replay, step};
 use rstar::{
     AABB, Counted, DefaultParams, Envelope, EqualEnvelopes, Point, PointDistance, RTree,
@@ -184,17 +184,17 @@ fn places(alloc: Global, count: usize) -> Vec<Place<[i64; 2]>> {
 // reinsert, and 1,000 removals. The tree stands after each: each parent counts those below it, each once.
 #[test]
 fn every_element_is_merged_once(rt: HostRuntime) {
-    const STEPS: [Step; 10] = [
-        Step::In(500, ALL),
-        Step::Out(0, 1000, Order::Forward, By::Equality),
-        Step::Drain(Drained::All, 300, 300),
-        Step::Left(700),
-        Step::Drain(Drained::All, 300, 300),
-        Step::Left(400),
-        Step::Drain(Drained::All, 300, 300),
-        Step::Left(100),
-        Step::Drain(Drained::All, 300, 100),
-        Step::Left(0),
+    const STEPS: [Turn; 10] = [
+        Turn::In(500, ALL),
+        Turn::Out(0, 1000, Order::Forward, By::Equality),
+        Turn::Drain(Drained::All, 300, 300),
+        Turn::Left(700),
+        Turn::Drain(Drained::All, 300, 300),
+        Turn::Left(400),
+        Turn::Drain(Drained::All, 300, 300),
+        Turn::Left(100),
+        Turn::Drain(Drained::All, 300, 100),
+        Turn::Left(0),
     ];
     let all = &places(rt.alloc(), 2000);
     let none = (Counted::new(AABB::from_point([0, 0])), [0, 0], 0);

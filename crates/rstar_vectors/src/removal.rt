@@ -10,9 +10,7 @@ ghost use Rattle.rstar.specs.Trees.{elements_in, IsWholeTree};
 use crate::loads::{are_same, deep_points, gather};
 use crate::node_sizes::{Emptying, Wide};
 use crate::payloads::Asked;
-use crate::scenarios::{
-    ALONG_A_LINE, goes_in, inserted, let_go, levels_of, points, stands, stands_with,
-};
+use crate::scenarios::{ALONG_A_LINE, inserted, let_go, levels_of, points, stands, stands_with};
 use crate::selections::LeftOnly;
 use crate::trials::{ALL, By, Drained, Order, State, Step, goes_on, goes_through};
 use rstar::algorithm::selection_functions::{SelectAllFunc, SelectionFunction};
@@ -24,7 +22,7 @@ use rstar::{
 };
 use rstar_base::envelope::copied_envelope;
 use std::alloc::{AllocError, Global};
-use std::mem::ManuallyDrop;
+use std::mem::forget;
 
 type Edge = Line<[i32; 2]>;
 
@@ -184,52 +182,39 @@ pub(crate) fn leaves<T: EqualEnvelopes + PointDistance + Copy, Params: RTreePara
         && stands(&*tree)
 }
 
-/// Drains so many elements into a list, and forgets the drain: `forget` does no more than make a `ManuallyDrop`, and no
-/// clause of it says what the tree is then.
+/// Drains so many elements into a list, and forgets the drain: no clause says what the tree is then.
 fn forgotten_after<T: RTreeObject>(tree: &mut RTree<T>, calls: usize, given: &mut Vec<T>) -> bool
     requires { IsWholeTree T.Envelope.boxes T.object ⟦<DefaultParams as RTreeParams>⟧.MAX_SIZE tree.old }
-    ensures { IsWholeTree T.Envelope.boxes T.object ⟦<DefaultParams as RTreeParams>⟧.MAX_SIZE tree.new }
 {
     match tree.drain() {
         Ok(mut drain) => {
             let came = call(&mut drain, calls, given);
-            let _forgotten = ManuallyDrop::new(drain);
+            forget(drain);
             came == calls
         }
         Err(_) => false,
     }
 }
 
-/// Whether a tree stands after a drain that is dropped after so many calls and one that is forgotten after so many, what was
-/// given and what is left are these elements, and one more goes in.
-fn are_given_or_left<T: PointDistance + Ord + Copy>(
+/// Whether a tree stands after a drain that is forgotten after so many calls, and what was given and what is left are these
+/// elements.
+fn are_given_or_left<T: RTreeObject + Ord + Copy>(
     alloc: Global,
     elements: &[T],
-    asked: &Asked<T>,
-    dropped: usize,
-    forgotten: usize,
-    one: T,
-) -> bool
-where
-    PointOf<T>: Copy,
-{
+    calls: usize,
+) -> bool {
     let mut tree = inserted::<T, DefaultParams>(alloc, elements);
     let mut all = Vec::new(alloc);
-    let left = elements
-        .len()
-        .saturating_sub(dropped)
-        .saturating_sub(forgotten);
-    let is_so = (drain_some(&mut tree, Drained::All, asked, dropped, &mut all) == Some(dropped))
-        & forgotten_after(&mut tree, forgotten, &mut all)
-        & stands_with(&tree, left)
+    let is_so = forgotten_after(&mut tree, calls, &mut all)
+        & (all.len() == calls)
+        & (tree.size().saturating_add(calls) == elements.len())
+        & stands(&tree)
         & gather(
             tree.root().children(),
             levels_of(tree.root().children()),
             &mut all,
         )
-        .is_ok()
-        & goes_in(&mut tree, one)
-        & stands_with(&tree, left.saturating_add(1));
+        .is_ok();
     let_go(tree);
     are_same(alloc, all, elements) && is_so
 }
@@ -385,8 +370,7 @@ fn elements_of_loads_give_way_to_others(rt: HostRuntime) {
 }
 
 // For each number of calls: a drain that is dropped after them, with an insertion and one more, of seven points and of five;
-// and one that is forgotten after them, with an insertion. Of five points a drain that is dropped, and then one that is
-// forgotten. And a drain by a function that is not lawful, and one element by each of the drains
+// and one that is forgotten after them. And a drain by a function that is not lawful, and one element by each of the drains
 // of what lies in a box and of what is near.
 #[test]
 fn drains_that_are_given_up(rt: HostRuntime) {
@@ -410,10 +394,9 @@ fn drains_that_are_given_up(rt: HostRuntime) {
     assert!(rt;
         goes_through::<_, DefaultParams>(rt.alloc(), &EIGHT, 0, &far, &ONE_OF_EACH)
             && drains_at_most(rt.alloc(), &ALONG_A_LINE, LeftOnly, 3, &far, 4)
-            && are_given_or_left(rt.alloc(), &EIGHT[..5], &far, 2, 1, [5, 5])
     );
     for calls in 0..8usize {
-        assert!(rt; are_given_or_left(rt.alloc(), &ALONG_A_LINE, &far, 0, calls, [5, 5]));
+        assert!(rt; are_given_or_left(rt.alloc(), &ALONG_A_LINE, calls));
         for &count in &[5, 7] {
             let came = calls.min(count);
             let steps = [
