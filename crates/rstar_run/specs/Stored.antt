@@ -1,10 +1,9 @@
 -- What is answered where trees are packed and unpacked.
-use Rattle.std.specs.Prelude.{◌≡◌, ◌≢◌, ◌⊎◌, ◌<◌, ℕ, ℤ, List, [], codes, Option, IfSome, Some, Result, Ok, Err}
+use Rattle.std.specs.Prelude.{◌≡◌, ◌≢◌, ◌⊎◌, ◌<◌, ℕ, List, [], codes, Option, IfSome, Some, Result, Ok, Err}
 use Rattle.std.specs.Global.{Vec}
 use Rattle.std.specs.Cmp.Lexicographic.{slice_cmp}
 use Rattle.std.specs.List.Sorted.{IsPermutation, IsSorted}
 use Rattle.std.specs.Ordering.{int_cmp}
-use Rattle.std.specs.declared.num.ParseIntError.{ParseIntError}
 use Rattle.rstar.specs.Heights.{height_of}
 use Rattle.rstar.specs.Loaded.{IsLoaded}
 use Rattle.rstar.specs.Nodes.{elements_of, IsWhole}
