@@ -9,13 +9,16 @@ ghost use Rattle.std.specs.Prelude.{◌≡◌, ◌≤◌};
 ghost use Rattle.rstar_base.specs.Elements.{carried_objects, carried_distances};
 ghost use Rattle.rstar_base.specs.Sizes.{IsNarrow};
 ghost use Rattle.rstar_base.specs.laws.CarrierLaws.{carried_laws};
-ghost use Rattle.rstar.specs.Neighbors.{IsSearching};
+ghost use Rattle.rstar.specs.ByOrder.{IsSearchingByOrder};
+ghost use Rattle.rstar.specs.Neighbors.{with_distances, IsSearching};
 ghost use Rattle.rstar.specs.Trees.{IsWholeTree};
 ghost use Rattle.rstar_vectors.specs.Fits.{iterator_row, alone_row, ordered_row};
 
 use crate::neighbours::{all_below, in_order, one_below};
 use crate::scenarios::{ALONG_A_LINE, alone, inserted, let_go, loaded, points};
-use rstar::algorithm::nearest_neighbor::NearestNeighborDistance2Iterator;
+use rstar::algorithm::nearest_neighbor::{
+    NearestNeighborByOrderIterator, NearestNeighborDistance2Iterator, NearestNeighborIterator,
+};
 use rstar::object::{Distance, PointDistance, PointOf, RTreeObject};
 use rstar::point::Point;
 use rstar::primitives::{Line, Rectangle};
@@ -558,11 +561,49 @@ type AskedRow = (usize, usize, u32, u32);
 
 /// How many neighbours come, at most so many, before none does or one is refused, and whether one is; none where another
 /// comes after that.
-fn come<A: Copy, I: Iterator<Item = Result<A, AllocError>>>(
-    neighbors: &mut I,
+fn come<T: PointDistance>(
+    neighbors: &mut NearestNeighborIterator<'_, T>,
     most: usize,
 ) -> Option<(usize, bool)>
-    requires { I.can_next neighbors.old }
+    requires { IsSearching T.Envelope.boxes T.object T.distances T.Envelope.Point.DIMENSIONS
+        T.Envelope.Point.coord T.Envelope.Point.Scalar.cmp T.Envelope.Point.Scalar.value
+        (with_distances neighbors.old) }
+{
+    for turn in 0..most {
+        let item = neighbors.next();
+        if !matches!(item, Some(Ok(_))) {
+            let is_over = neighbors.next().is_none() & neighbors.next().is_none();
+            return is_over.then_some((turn, item.is_some()));
+        }
+    }
+    Some((most, false))
+}
+
+/// The same, with distances.
+fn come_with_distance<T: PointDistance>(
+    neighbors: &mut NearestNeighborDistance2Iterator<'_, T>,
+    most: usize,
+) -> Option<(usize, bool)>
+    requires { IsSearching T.Envelope.boxes T.object T.distances T.Envelope.Point.DIMENSIONS
+        T.Envelope.Point.coord T.Envelope.Point.Scalar.cmp T.Envelope.Point.Scalar.value neighbors.old }
+{
+    for turn in 0..most {
+        let item = neighbors.next();
+        if !matches!(item, Some(Ok(_))) {
+            let is_over = neighbors.next().is_none() & neighbors.next().is_none();
+            return is_over.then_some((turn, item.is_some()));
+        }
+    }
+    Some((most, false))
+}
+
+/// The same in the stated order.
+fn come_in_stated_order<T: PointDistance + Ord>(
+    neighbors: &mut NearestNeighborByOrderIterator<'_, T>,
+    most: usize,
+) -> Option<(usize, bool)>
+    requires { IsSearchingByOrder T.Envelope.boxes T.object T.distances T.cmp T.Envelope.Point.DIMENSIONS
+        T.Envelope.Point.coord T.Envelope.Point.Scalar.cmp T.Envelope.Point.Scalar.value neighbors.old }
 {
     for turn in 0..most {
         let item = neighbors.next();
@@ -589,8 +630,8 @@ where
     fits::<PointOf<T>>();
     match which {
         0 => come(&mut tree.nearest_neighbor_iter(place), most),
-        1 => come(&mut tree.nearest_neighbor_iter_with_distance_2(place), most),
-        _ => come(&mut tree.nearest_neighbor_iter_by_order(place), most),
+        1 => come_with_distance(&mut tree.nearest_neighbor_iter_with_distance_2(place), most),
+        _ => come_in_stated_order(&mut tree.nearest_neighbor_iter_by_order(place), most),
     }
 }
 

@@ -285,8 +285,9 @@ fn calls_that_are_refused(rt: HostRuntime) {
     );
     let mut line = Vec::new(rt.alloc());
     for k in 0..20 {
-        let _refused = line.push([k, 39 - k]).is_err();
-        let _refused = line.push([39 - k, k]).is_err();
+        let other = 39i64.saturating_sub(k);
+        let _refused = line.push([k, other]).is_err();
+        let _refused = line.push([other, k]).is_err();
     }
     let asked = (AABB::from_corners([0, 0], [9, 39]), [0, 0], 1000);
     let counts = [40, 10, 10, 0, 22, 40, 40, 40, 1, 0, 0, 0, 0, 0, 1, 1];

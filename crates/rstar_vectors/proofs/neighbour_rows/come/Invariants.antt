@@ -1,4 +1,5 @@
+use Rattle.rstar.specs.Neighbors.{with_distances, IsSearching}
 use Rattle.rstar_vectors.proofs.neighbour_rows.come.Given as goal
 
 abbrev pub invariant-loop-turn : goal.invariant-loop-turn
-invariant-loop-turn g l = g.I.Iterator.can_next l.neighbors
+invariant-loop-turn g l = IsSearching g.T.Envelope.Envelope.boxes g.T.RTreeObject.object g.T.PointDistance.distances g.T.Envelope.Point.Point.DIMENSIONS g.T.Envelope.Point.Point.coord g.T.Envelope.Point.Scalar.Ord.cmp g.T.Envelope.Point.Scalar.Number.value (with_distances l.neighbors)
