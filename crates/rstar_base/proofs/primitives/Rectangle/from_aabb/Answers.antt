@@ -3,8 +3,8 @@ use Rattle.rstar_base.specs.Boxes.{IsBox}
 use Rattle.rstar_base.specs.laws.RectangleLaws.{box_or_empty-same}
 use Rattle.rstar_base.proofs.primitives.Rectangle.from_aabb.Goals as goal
 
-pub returns : goal.returns
-returns g c =
+pub returns-clause-is : goal.returns-clause-is
+returns-clause-is g c =
     let low = g.P.Scalar.Bounded.low in
     let high = g.P.Scalar.Bounded.high in
     let n = g.P.Point.DIMENSIONS in
