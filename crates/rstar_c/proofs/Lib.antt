@@ -1,0 +1,5 @@
+mod Equal
+mod Listed
+mod Puts
+mod Rows
+mod Values

@@ -1,0 +1,5 @@
+pub mod Answers
+pub mod Handles
+pub mod Items
+pub mod Owned
+pub mod Put

@@ -1,0 +1,131 @@
+//! Questions of any tree of elements with numbers, answered into a caller's lists.
+
+ghost use Rattle.std.specs.Prelude.{◌≡◌, filter, int_le, pos, IfOk, OnErr};
+ghost use Rattle.rstar.specs.Joins.{join};
+ghost use Rattle.rstar.specs.SelfJoins.{self_join};
+ghost use Rattle.rstar.specs.Trees.{elements_in, IsWholeTree};
+ghost use Rattle.rstar_base.specs.Points.{table};
+ghost use Rattle.rstar_c.specs.Answers.{ArePairsGiven};
+ghost use Rattle.rstar_c.specs.Put.{AreWritten};
+
+use crate::put::{put_numbers, put_pairs};
+use rstar::object::{Distance, PointOf};
+use rstar::{Envelope, Point, PointDistance, RTree, RTreeNum, RTreeObject, RTreeParams};
+use rstar_base::primitives::GeomWithData;
+use std::alloc::AllocError;
+
+/// Writes the numbers of the elements that an envelope intersects into a list, from a place on and as far as it reaches. It
+/// gives the place behind the last, also where the list ends before.
+pub(crate) fn put_meeting<R: RTreeObject, Params: RTreeParams>(
+    tree: &RTree<GeomWithData<R, u64>, Params>,
+    envelope: R::Envelope,
+    out: &mut [u64],
+    from: usize,
+) -> Result<usize, AllocError>
+    requires { IsWholeTree R.Envelope.boxes ⟦<GeomWithData<R, u64> as RTreeObject>⟧.object Params.MAX_SIZE tree.now }
+    ensures written { IfOk result (AreWritten (λ t. t.1) (filter (λ t. R.Envelope.boxes.intersects envelope
+        (⟦<GeomWithData<R, u64> as RTreeObject>⟧.object.box_of t))
+        (elements_in tree.now)) from out.old out.new) }
+    ensures refused { OnErr result (out.new ≡ out.old) }
+{
+    match tree.locate_in_envelope_intersecting(envelope) {
+        Ok(walk) => Ok(put_numbers(walk, out, from)),
+        Err(refused) => Err(refused),
+    }
+}
+
+/// The same of those that an envelope contains.
+pub(crate) fn put_inside<R: RTreeObject, Params: RTreeParams>(
+    tree: &RTree<GeomWithData<R, u64>, Params>,
+    envelope: R::Envelope,
+    out: &mut [u64],
+    from: usize,
+) -> Result<usize, AllocError>
+    requires { IsWholeTree R.Envelope.boxes ⟦<GeomWithData<R, u64> as RTreeObject>⟧.object Params.MAX_SIZE tree.now }
+    ensures written { IfOk result (AreWritten (λ t. t.1) (filter (λ t. R.Envelope.boxes.contains envelope
+        (⟦<GeomWithData<R, u64> as RTreeObject>⟧.object.box_of t))
+        (elements_in tree.now)) from out.old out.new) }
+    ensures refused { OnErr result (out.new ≡ out.old) }
+{
+    match tree.locate_in_envelope(envelope) {
+        Ok(walk) => Ok(put_numbers(walk, out, from)),
+        Err(refused) => Err(refused),
+    }
+}
+
+/// The same of those that contain a point.
+pub(crate) fn put_at<R: PointDistance, Params: RTreeParams>(
+    tree: &RTree<GeomWithData<R, u64>, Params>,
+    point: PointOf<R>,
+    out: &mut [u64],
+    from: usize,
+) -> Result<usize, AllocError>
+    requires { IsWholeTree R.Envelope.boxes ⟦<GeomWithData<R, u64> as RTreeObject>⟧.object Params.MAX_SIZE tree.now }
+    ensures written { IfOk result (AreWritten (λ t. t.1) (filter (λ t. ⟦<GeomWithData<R, u64> as PointDistance>⟧.distances.contains_point t
+        (table R.Envelope.Point.DIMENSIONS (R.Envelope.Point.coord point)))
+        (elements_in tree.now)) from out.old out.new) }
+    ensures refused { OnErr result (out.new ≡ out.old) }
+{
+    match tree.locate_all_at_point(point) {
+        Ok(walk) => Ok(put_numbers(walk, out, from)),
+        Err(refused) => Err(refused),
+    }
+}
+
+/// The same of those within a squared distance of a point.
+pub(crate) fn put_within<R: PointDistance, Params: RTreeParams>(
+    tree: &RTree<GeomWithData<R, u64>, Params>,
+    point: PointOf<R>,
+    distance: Distance<R>,
+    out: &mut [u64],
+    from: usize,
+) -> Result<usize, AllocError>
+    requires { IsWholeTree R.Envelope.boxes ⟦<GeomWithData<R, u64> as RTreeObject>⟧.object Params.MAX_SIZE tree.now }
+    ensures written { IfOk result (AreWritten (λ t. t.1) (filter (λ t. int_le (pos (⟦<GeomWithData<R, u64> as PointDistance>⟧.distances.distance_2 t
+        (table R.Envelope.Point.DIMENSIONS (R.Envelope.Point.coord point)))) (R.Envelope.Point.Scalar.value distance))
+        (elements_in tree.now)) from out.old out.new) }
+    ensures refused { OnErr result (out.new ≡ out.old) }
+{
+    match tree.locate_within_distance(point, distance) {
+        Ok(walk) => Ok(put_numbers(walk, out, from)),
+        Err(refused) => Err(refused),
+    }
+}
+
+/// Writes the numbers of the pairs of elements that intersect into two lists: each pair of places once.
+pub(crate) fn put_own_pairs<R: RTreeObject, Params: RTreeParams>(
+    tree: &RTree<GeomWithData<R, u64>, Params>,
+    first: &mut [u64],
+    second: &mut [u64],
+) -> Result<usize, AllocError>
+    requires { IsWholeTree R.Envelope.boxes ⟦<GeomWithData<R, u64> as RTreeObject>⟧.object Params.MAX_SIZE tree.now }
+    ensures given { IfOk result (λ found. ArePairsGiven (λ t. t.1) (self_join R.Envelope.boxes.intersects
+        ⟦<GeomWithData<R, u64> as RTreeObject>⟧.object.box_of (elements_in tree.now))
+        first.old first.new second.old second.new found) }
+    ensures refused { OnErr result ((first.new ≡ first.old) × (second.new ≡ second.old)) }
+{
+    match tree.intersecting_pairs() {
+        Ok(pairs) => Ok(put_pairs(pairs, first, second)),
+        Err(refused) => Err(refused),
+    }
+}
+
+/// The same of the pairs of an element of each of two trees.
+pub(crate) fn put_pairs_between<R: RTreeObject, Params: RTreeParams>(
+    tree: &RTree<GeomWithData<R, u64>, Params>,
+    other: &RTree<GeomWithData<R, u64>, Params>,
+    first: &mut [u64],
+    second: &mut [u64],
+) -> Result<usize, AllocError>
+    requires this { IsWholeTree R.Envelope.boxes ⟦<GeomWithData<R, u64> as RTreeObject>⟧.object Params.MAX_SIZE tree.now }
+    requires other { IsWholeTree R.Envelope.boxes ⟦<GeomWithData<R, u64> as RTreeObject>⟧.object Params.MAX_SIZE other.now }
+    ensures given { IfOk result (λ found. ArePairsGiven (λ t. t.1) (join R.Envelope.boxes.intersects
+        ⟦<GeomWithData<R, u64> as RTreeObject>⟧.object.box_of ⟦<GeomWithData<R, u64> as RTreeObject>⟧.object.box_of
+        (elements_in tree.now) (elements_in other.now)) first.old first.new second.old second.new found) }
+    ensures refused { OnErr result ((first.new ≡ first.old) × (second.new ≡ second.old)) }
+{
+    match tree.intersection_candidates_with_other_tree(other) {
+        Ok(pairs) => Ok(put_pairs(pairs, first, second)),
+        Err(refused) => Err(refused),
+    }
+}

@@ -1,0 +1,6 @@
+//! What C calls.
+
+mod changes;
+mod neighbours;
+mod pairs;
+mod selections;

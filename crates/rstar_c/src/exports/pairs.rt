@@ -1,0 +1,126 @@
+//! The pairs of rectangles that meet.
+
+ghost use Rattle.std.specs.Prelude.{◌≡◌, ◌≢◌, ◌↔◌, length};
+ghost use Rattle.rstar.specs.Joins.{join};
+ghost use Rattle.rstar.specs.SelfJoins.{self_join};
+ghost use Rattle.rstar_base.specs.Boxes.{boxes_intersect};
+ghost use Rattle.rstar_c.specs.Answers.{ArePairsGiven};
+ghost use Rattle.rstar_c.specs.Handles.{items_in};
+ghost use Rattle.rstar_c.specs.Items.{box_of, number};
+
+use crate::index::{Index, taken};
+use crate::statuses::{BAD_LENGTH, NO_MEMORY, OK};
+use crate::store::Store;
+use std::alloc::Global;
+
+/// Writes the IDs of the pairs of rectangles that meet: each pair once, and none with itself. Touching is enough.
+#[unsafe(no_mangle)]
+pub extern "C" fn rstar_index_pairs(
+    alloc: Global,
+    index: &mut Index,
+    first: &mut [u64],
+    second: &mut [u64],
+    found: &mut usize,
+) -> i32
+    ensures same { items_in index.new ≡ items_in index.old }
+    ensures given { result ≡ OK → ArePairsGiven number (self_join boxes_intersect box_of (items_in index.old))
+        first.old first.new second.old second.new found.new }
+    ensures lengths { (result ≡ BAD_LENGTH) ↔ (length first.old ≢ length second.old) }
+    ensures refused { result ≢ OK → result ≢ BAD_LENGTH → result ≡ NO_MEMORY }
+    ensures unwritten { result ≢ OK → (first.new ≡ first.old) × (second.new ≡ second.old) × (found.new ≡ found.old) }
+{
+    if first.len() != second.len() {
+        return BAD_LENGTH;
+    }
+    let Some(store) = taken(alloc, index) else {
+        *found = 0;
+        return OK;
+    };
+    let status = match store.put_pairs(first, second) {
+        Ok(count) => {
+            *found = count;
+            OK
+        }
+        Err(_) => NO_MEMORY,
+    };
+    *index = Index::of(store);
+    status
+}
+
+/// Writes the IDs of the pairs of a rectangle of one index and one of another that meet.
+#[unsafe(no_mangle)]
+pub extern "C" fn rstar_index_pairs_between(
+    alloc: Global,
+    index: &mut Index,
+    other: &mut Index,
+    first: &mut [u64],
+    second: &mut [u64],
+    found: &mut usize,
+) -> i32
+    ensures same { items_in index.new ≡ items_in index.old }
+    ensures other { items_in other.new ≡ items_in other.old }
+    ensures given { result ≡ OK → ArePairsGiven number
+        (join boxes_intersect box_of box_of (items_in index.old) (items_in other.old))
+        first.old first.new second.old second.new found.new }
+    ensures lengths { (result ≡ BAD_LENGTH) ↔ (length first.old ≢ length second.old) }
+    ensures refused { result ≢ OK → result ≢ BAD_LENGTH → result ≡ NO_MEMORY }
+    ensures unwritten { result ≢ OK → (first.new ≡ first.old) × (second.new ≡ second.old) × (found.new ≡ found.old) }
+{
+    if first.len() != second.len() {
+        return BAD_LENGTH;
+    }
+    let Some(store) = taken(alloc, index) else {
+        *found = 0;
+        return OK;
+    };
+    let status = put_with(alloc, &store, other, first, second, found);
+    *index = Index::of(store);
+    status
+}
+
+/// Writes the IDs of the pairs of a rectangle of a store and one of another index that meet.
+fn put_with(
+    alloc: Global,
+    store: &Store,
+    other: &mut Index,
+    first: &mut [u64],
+    second: &mut [u64],
+    found: &mut usize,
+) -> i32
+    ensures other { items_in other.new ≡ items_in other.old }
+    ensures given { result ≡ OK → ArePairsGiven number (join boxes_intersect box_of box_of store.now (items_in other.old))
+        first.old first.new second.old second.new found.new }
+    ensures unwritten { result ≢ OK → (first.new ≡ first.old) × (second.new ≡ second.old) × (found.new ≡ found.old) }
+    ensures refused { result ≢ OK → result ≡ NO_MEMORY }
+{
+    match taken(alloc, other) {
+        Some(held) => {
+            let status = put_held(store, &held, first, second, found);
+            *other = Index::of(held);
+            status
+        }
+        None => put_held(store, &Store::new(alloc), first, second, found),
+    }
+}
+
+/// The same of two stores.
+fn put_held(
+    store: &Store,
+    other: &Store,
+    first: &mut [u64],
+    second: &mut [u64],
+    found: &mut usize,
+) -> i32
+    ensures given { result ≡ OK → ArePairsGiven number (join boxes_intersect box_of box_of store.now other.now)
+        first.old first.new second.old second.new found.new }
+    ensures unwritten { result ≢ OK → (first.new ≡ first.old) × (second.new ≡ second.old) × (found.new ≡ found.old) }
+    ensures refused { result ≢ OK → result ≡ NO_MEMORY }
+{
+    match store.put_pairs_with(other, first, second) {
+        Ok(count) => {
+            *found = count;
+            OK
+        }
+        Err(_) => NO_MEMORY,
+    }
+}

@@ -1,0 +1,27 @@
+//! What a call answers.
+
+ghost use Rattle.std.specs.Prelude.{◌≡◌, OnOk, OnErr};
+
+use std::alloc::AllocError;
+
+/// It was done.
+pub const OK: i32 = 0;
+/// Memory was refused.
+pub const NO_MEMORY: i32 = 1;
+/// The tree cannot count one more rectangle.
+pub const TOO_MANY: i32 = 2;
+/// Two lists that go together have not the lengths that they must have.
+pub const BAD_LENGTH: i32 = 3;
+/// The list has not room for all that would be taken out.
+pub const NO_ROOM: i32 = 4;
+
+/// The status of a call that only memory can refuse.
+pub(crate) fn done(call: Result<(), AllocError>) -> i32
+    ensures ok { OnOk call (result ≡ OK) }
+    ensures refused { OnErr call (result ≡ NO_MEMORY) }
+{
+    match call {
+        Ok(()) => OK,
+        Err(_) => NO_MEMORY,
+    }
+}
