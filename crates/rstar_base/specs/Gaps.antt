@@ -17,7 +17,7 @@ gap_sum (x ∷ xs) (y ∷ ys) = gap x y * gap x y + gap_sum xs ys
 abbrev pub boxes_apart : ℤ → List (ℤ × ℤ) → List (ℤ × ℤ) → ℕ
 boxes_apart high a b = min (gap_sum a b) (unsigned_abs high)
 
--- The laws of a distance of envelopes, over their values.
+-- the laws of a distance of envelopes, over their values
 pub record GapLaws {E : Type 0} (v : Boxes E) (apart : E → E → ℕ) : Type 0 where
   pub symmetric : (a b : E) → v.IsValue a → v.IsValue b → apart a b ≡ apart b a
   pub touching : (a b : E) → v.IsValue a → v.IsValue b → (apart a b ≡ 0) ↔ (v.intersects a b ≡ true)

@@ -30,6 +30,7 @@ where
             (λ t. int_le (pos (T.Envelope.apart envelope (T.object.box_of t)))
             (T.Envelope.Point.Scalar.value squared_max_distance)) }
     {
+        // The call only tells the proof that the envelope is a value.
         let _known = envelope.is_empty();
         SelectWithinDistanceOfEnvelope {
             envelope,
