@@ -5,7 +5,7 @@ use Rattle.std.specs.List.Sorted.{IsPermutation}
 use Rattle.std.proofs.lemmas.Int.{ints}
 use Rattle.std.proofs.lemmas.List.{map-append, length-map}
 use Rattle.std.proofs.lemmas.List.Sorted.{IsPermutation-trans, IsPermutation-append_right}
-use Rattle.rstar_base.proofs.Lists.{all_along, all_map}
+use Rattle.rstar_base.proofs.Lists.{all-append, all_along, all_map}
 use Rattle.rstar_base.specs.Elements.{Distances}
 use Rattle.rstar_base.specs.Envelopes.{Boxes}
 use Rattle.rstar_base.specs.Points.{table}
@@ -118,6 +118,13 @@ begun-at far able l limit p at waiting now most given is same are nearest =
     subst (λ q. AreNearestOf (far q) (filter (passes (far q) limit able) now) most given) same
     (subst (λ ts. AreNearestOf (far p) (filter (passes (far p) limit able) ts) most given) are
     (subst (λ m. AreNearestOf (far p) (filter (passes (far p) m able) waiting) most given) is nearest))
+
+pub told-at : {T P N : Type 0} (far : P → T → ℕ) (value : N → ℤ) (seen : N → T) (p at : P) (given : List N) → p ≡ at → AllByRecursion (λ n. value n ≡ pos (far p (seen n))) given → AllByRecursion (λ n. value n ≡ pos (far at (seen n))) given
+told-at far value seen p at given same told = subst (λ q. AllByRecursion (λ n. value n ≡ pos (far q (seen n))) given) same told
+
+-- one more is told of
+pub one-told : {N : Type 0} (P : N → Type 0) (given more : List N) (n : N) → more ≡ given ++ n ∷ [] → AllByRecursion P given → P n → AllByRecursion P more
+one-told P given more n pushed are is = subst (AllByRecursion P) (sym pushed) (all-append P given (n ∷ []) are (is, tt))
 
 -- a call of `next` that gave an element, told from the point where the search began
 module _ {T P : Type 0} (d : Distances T) (axes : ℕ) (coord : P → ℕ → ℤ) (at : P) where

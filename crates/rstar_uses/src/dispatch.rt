@@ -102,6 +102,9 @@ impl Dispatch {
             (λ t. ⟦<Vehicle as PointDistance>⟧.distances.distance_2 t (table 2 (⟦<[i64; 2] as Point>⟧.coord place)))
             (filter (λ t. able t && int_le (pos (⟦<Vehicle as PointDistance>⟧.distances.distance_2 t
             (table 2 (⟦<[i64; 2] as Point>⟧.coord place)))) limit) self.now) most (map (λ n. n.0.now) found.items)) }
+        ensures distances { IfOk result (λ found. AllByRecursion (λ n. n.1 ≡ pos
+            (⟦<Vehicle as PointDistance>⟧.distances.distance_2 n.0.now (table 2 (⟦<[i64; 2] as Point>⟧.coord place))))
+            found.items) }
     {
         let mut neighbors = self.free.nearest_neighbor_iter_with_distance_2(place);
         first_able(alloc, &mut neighbors, limit, most, is_able)
@@ -141,12 +144,15 @@ fn first_able<'a, T: PointDistance, F: Fn(&T) -> bool>(
         T.Envelope.Point.coord T.Envelope.Point.Scalar.cmp T.Envelope.Point.Scalar.value neighbors.old }
     requires going_on { IsGoingOn (search_of neighbors.old) }
     requires callable { F.IsAlwaysCallable is_able }
-    ensures { IfOk result (λ found. (able : T → Bool) → Decides F.Fn is_able able → AreNearestOf
+    ensures first { IfOk result (λ found. (able : T → Bool) → Decides F.Fn is_able able → AreNearestOf
         (λ t. T.distances.distance_2 t (table T.Envelope.Point.DIMENSIONS
         (T.Envelope.Point.coord (search_of neighbors.old).point)))
         (filter (λ t. able t && int_le (pos (T.distances.distance_2 t (table T.Envelope.Point.DIMENSIONS
         (T.Envelope.Point.coord (search_of neighbors.old).point)))) (T.Envelope.Point.Scalar.value limit))
         (elements_waiting (search_of neighbors.old))) most (map (λ n. n.0.now) found.items)) }
+    ensures distances { IfOk result (λ found. AllByRecursion (λ n. T.Envelope.Point.Scalar.value n.1
+        ≡ pos (T.distances.distance_2 n.0.now (table T.Envelope.Point.DIMENSIONS
+        (T.Envelope.Point.coord (search_of neighbors.old).point)))) found.items) }
 {
     let mut found = Vec::new(alloc);
     'search: while found.len() < most {

@@ -1,5 +1,7 @@
-use Rattle.std.proofs.Common.{rules, ◌≡◌, ◌∙◌, ◌≤◌, true, false, length, refl, sym}
-use Rattle.rstar_uses.proofs.Able.{none-found, one-found, passed-over, found-full, found-all, found-near, came, reaches}
+use Rattle.std.proofs.Common.{rules, ◌≡◌, ◌∙◌, ◌≤◌, true, false, length, pos, refl, sym, subst}
+use Rattle.std.specs.List.{AllByRecursion}
+use Rattle.rstar.specs.Points.{table}
+use Rattle.rstar_uses.proofs.Able.{none-found, one-found, one-told, passed-over, found-full, found-all, found-near, came, reaches}
 use Rattle.rstar_uses.proofs.dispatch.first_able.Goals as goal
 
 pub search-init : goal.search-init
@@ -10,14 +12,15 @@ search-init g c = record {
   point = refl;
   few = search rules;
   found = λ able decides. none-found _ _ able _ _ _ c.new-found.ensures.items;
+  told = subst (AllByRecursion _) (sym c.new-found.ensures.items) tt;
 }
 
-pub returns-in_default : goal.returns-in_default
-returns-in_default g c = λ able decides.
+pub returns-in_default-clause-first : goal.returns-in_default-clause-first
+returns-in_default-clause-first g c = λ able decides.
     found-all _ _ able _ _ _ _ _ (c.search.invariant.found able decides) c.search.invariant.few (c.in_default.ensures.steps.0.none c.search.invariant.going_on)
 
-pub returns-then-not-not_above : goal.returns-then-not-not_above
-returns-then-not-not_above g c = λ able decides.
+pub returns-then-not-not_above-clause-first : goal.returns-then-not-not_above-clause-first
+returns-then-not-not_above-clause-first g c = λ able decides.
     let step = rw c.in_ok-element.was at c.in-Some.ensures.steps in
     let here = came _ _ _ _ _ _ _ _ _ c.search.invariant.point step.0 in
     let beyond : c.not_above.result ≡ false = search rules in
@@ -41,6 +44,8 @@ search-preserved-in-Continue-branch-2 g c =
       found = λ able decides. one-found _ _ able _ _ _ _ _ _ _ c.in_ok-push.ensures.items (c.search.invariant.found able decides) here.0 here.1
           (sym (decides c.in_ok-element.element.now c.is_able.result (record { shown = c.in_ok-element.element; shows = refl; says = record { met = c.is_able.ensures } })) ∙ c.if-is_able.true)
           (reaches g.T.PointDistance.distances g.T.Envelope.Point.Point.DIMENSIONS g.T.Envelope.Point.Point.coord _ _ _ _ _ _ c.in_ok-element.element.now c.search.invariant.point step.1 c.not_above.ensures within);
+      told = one-told _ _ _ _ c.in_ok-push.ensures.items c.search.invariant.told (subst (λ p. g.T.Envelope.Point.Scalar.Number.value c.in_ok-element.distance
+          ≡ pos (g.T.PointDistance.distances.distance_2 c.in_ok-element.element.now (table g.T.Envelope.Point.Point.DIMENSIONS (g.T.Envelope.Point.Point.coord p)))) c.search.invariant.point step.1);
     }
 
 pub search-smaller : goal.search-smaller
@@ -58,7 +63,8 @@ search-preserved g c =
       few = c.search.invariant.few;
       found = λ able decides. passed-over _ _ able _ _ _ _ _ (c.search.invariant.found able decides) here.0
           (sym (decides c.in_ok-element.element.now c.is_able.result (record { shown = c.in_ok-element.element; shows = refl; says = record { met = c.is_able.ensures } })) ∙ c.if-is_able.false);
+      told = c.search.invariant.told;
     }
 
-pub returns : goal.returns
-returns g c = λ able decides. found-full _ _ able _ _ _ _ _ (c.search.invariant.found able decides) c.search.invariant.few (search rules)
+pub returns-clause-first : goal.returns-clause-first
+returns-clause-first g c = λ able decides. found-full _ _ able _ _ _ _ _ (c.search.invariant.found able decides) c.search.invariant.few (search rules)
