@@ -1,12 +1,19 @@
--- Equal vehicles.
-use Rattle.std.proofs.Common.{◌≡◌, ◌∙◌, ◌&&◌, ◌==◌, ◌↔◌, ◌∷◌, ℕ, ℤ, Bool, true, List, IsTrue, refl, sym, ap₂, subst, eqb-true, eq-eqb}
+-- Vehicles: how far they wait, and equal ones.
+use Rattle.std.proofs.Common.{◌≡◌, ◌∙◌, ◌&&◌, ◌==◌, ◌↔◌, ◌∷◌, ℕ, ℤ, Bool, true, List, pos, IsTrue, refl, sym, ap₂, subst, eqb-true, eq-eqb}
 use Rattle.std.specs.Cmp.Lexicographic.{pointwise}
 use Rattle.std.specs.Cmp.Rules.{signed_items}
 use Rattle.std.specs.List.{Contains, list_any}
 use Rattle.std.specs.List.Sorted.{IsPermutation}
 use Rattle.std.specs.Ordering.{int_eq}
+use Rattle.rstar_base.specs.PointElements.{point_distances}
 use Rattle.rstar_base.specs.laws.PointLemmas.{and_parts}
+use Rattle.rstar.specs.Points.{table}
+use Rattle.rstar.specs.Segments.{coordinate}
 use Rattle.rstar_uses.proofs.Lists.{there-if}
+
+-- how far a vehicle waits from a place
+abbrev pub far : List ℤ → List ℤ × ℕ → ℕ
+far place v = (point_distances (pos 9223372036854775807) 2 coordinate).distance_2 v.0 (table 2 (coordinate place))
 
 -- what `==` answers
 abbrev pub same : List ℤ × ℕ → List ℤ × ℕ → Bool

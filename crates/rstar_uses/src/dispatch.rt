@@ -1,6 +1,6 @@
 //! A dispatch planner: vehicles that are free, of which the nearest is sent.
 
-ghost use Rattle.std.specs.Prelude.{◌≡◌, ◌∷◌, ◌&&◌, ◌↔◌, ℕ, ℤ, Bool, List, [], true, false, map, filter, pos, int_le, IsTrue, IfOk, IfSome, IfNone, OnOk, OnErr};
+ghost use Rattle.std.specs.Prelude.{◌≡◌, ◌==◌, ◌∷◌, ◌&&◌, ◌↔◌, ◌%◌, ℕ, ℤ, Bool, List, [], true, false, map, filter, pos, int_le, IsTrue, IfOk, IfSome, IfNone, OnOk, OnErr};
 ghost use Rattle.std.specs.List.{AllByRecursion, Contains, list_any};
 ghost use Rattle.std.specs.List.Sorted.{IsPermutation};
 ghost use Rattle.rstar.specs.Lists.{IsNearest, AreNearestOf};
@@ -235,15 +235,26 @@ mod tests {
         is_so
     }
 
+    /// The nearest vehicles with an odd number from the origin.
+    fn nearest_odd(
+        alloc: Global,
+        dispatch: &Dispatch,
+        limit: i64,
+        most: usize,
+    ) -> Result<Vec<(&Vehicle, i64)>, AllocError>
+        ensures { IfOk result (λ found. AreNearestOf
+            (λ t. ⟦<Vehicle as PointDistance>⟧.distances.distance_2 t (table 2 (λ _. pos 0)))
+            (filter (λ t. t.1 % 2 == 1 && int_le (pos (⟦<Vehicle as PointDistance>⟧.distances.distance_2 t
+            (table 2 (λ _. pos 0)))) limit) dispatch.now) most (map (λ n. n.0.now) found.items)) }
+    {
+        dispatch.nearest_able(alloc, [0, 0], limit, most, |one| one.data % 2 == 1)
+    }
+
     /// Whether vehicles with an odd number are found so from the origin.
     fn are_found(alloc: Global, dispatch: &Dispatch, questions: &[Question]) -> bool {
         let mut is_so = true;
         for &(limit, most, distances) in questions {
-            let odd = |vehicle: &Vehicle| vehicle.data % 2 == 1;
-            is_so &= are_at(
-                dispatch.nearest_able(alloc, [0, 0], limit, most, odd),
-                distances,
-            );
+            is_so &= are_at(nearest_odd(alloc, dispatch, limit, most), distances);
         }
         is_so
     }

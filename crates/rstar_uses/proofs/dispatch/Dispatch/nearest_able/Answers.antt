@@ -1,15 +1,9 @@
-use Rattle.std.proofs.Common.{◌∙◌, ℕ, ℤ, List, pos, to_z-of_z}
+use Rattle.std.proofs.Common.{◌∙◌, to_z-of_z}
 use Rattle.std.proofs.lemmas.Result.{IfOk-weaker}
-use Rattle.rstar_base.specs.PointElements.{point_distances}
-use Rattle.rstar.specs.Points.{table}
-use Rattle.rstar.specs.Segments.{coordinate}
 use Rattle.rstar.proofs.InOrder.{begun-left}
 use Rattle.rstar_uses.proofs.Able.{begun-at, told-at}
+use Rattle.rstar_uses.proofs.Vehicles.{far}
 use Rattle.rstar_uses.proofs.dispatch.Dispatch.nearest_able.Goals as goal
-
--- how far a vehicle waits from a place
-abbrev far : List ℤ → List ℤ × ℕ → ℕ
-far place v = (point_distances (pos 9223372036854775807) 2 coordinate).distance_2 v.0 (table 2 (coordinate place))
 
 pub returns : goal.returns
 returns g c =
