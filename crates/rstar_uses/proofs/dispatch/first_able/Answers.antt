@@ -1,4 +1,4 @@
-use Rattle.std.proofs.Common.{rules, ◌≡◌, ◌∙◌, ◌≤◌, true, false, length, pos, refl, sym, subst}
+use Rattle.std.proofs.Common.{rules, ◌≡◌, ◌∙◌, true, false, pos, refl, sym, subst}
 use Rattle.std.specs.List.{AllByRecursion}
 use Rattle.rstar.specs.Points.{table}
 use Rattle.rstar_uses.proofs.Able.{none-found, one-found, one-told, passed-over, found-full, found-all, found-near, came, reaches}
