@@ -11,7 +11,7 @@ The status is 1 where an edit was not refused.
 No clause says when the allocator refuses. So a body that answers `NoMemory` wherever no other refusal is asked for meets the
 contract of a call that takes memory, and has no edit. Tests of rstar_vectors refuse it:
 
-    RTree::insert    insertion::insertions_shape_the_tree, uses::geofence::tests::fences_in_boxes_and_at_points
+    RTree::insert    insertion::insertions_shape_the_tree
     RTree::drain     removal::drains_that_are_given_up, removal::callers_drain_and_insert_again
 """
 

@@ -77,7 +77,7 @@ impl<T: RTreeObject> RTree<T> {
     ///     }
     /// }
     /// ```
-    /// *`crates/rstar_vectors/src/uses/geofence.rt`*
+    /// *`crates/rstar_uses/src/geofence.rt`*
     pub fn new(alloc: Global) -> Self
         requires dimensions { 2 ≤ T.Envelope.Point.DIMENSIONS }
         ensures none { elements_in result ≡ [] }
@@ -160,7 +160,7 @@ impl<T: RTreeObject, Params: RTreeParams> RTree<T, Params> {
     ///     self.tree.insert(fence)
     /// }
     /// ```
-    /// *`crates/rstar_vectors/src/uses/geofence.rt`*
+    /// *`crates/rstar_uses/src/geofence.rt`*
     pub fn insert(&mut self, t: T) -> Result<(), InsertError<T>>
         requires whole { IsWholeTree T.Envelope.boxes T.object Params.MAX_SIZE self.old }
         requires element { T.Envelope.boxes.is_empty (T.object.box_of t) ≡ false }

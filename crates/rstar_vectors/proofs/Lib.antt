@@ -4,5 +4,3 @@ pub mod Faces
 pub mod FirstSeen
 pub mod Fits
 pub mod LeftHalf
-pub mod Numbered
-pub mod Spacing

@@ -11,9 +11,8 @@ ghost use Rattle.rstar.specs.Trees.{root_of, elements_in, IsWholeTree};
 
 use crate::node_sizes::Splitting;
 use crate::scenarios::{
-    ALONG_A_LINE, counts, drained, in_steps, inserted, let_go, levels_of, loaded,
+    ALONG_A_LINE, Fence, counts, drained, in_steps, inserted, let_go, levels_of, loaded,
 };
-use crate::uses::geofence::Fence;
 use rstar::iterators::InEnvelope;
 use rstar::primitives::{GeomWithData, Rectangle};
 use rstar::{AABB, DefaultParams, Envelope, Point, RTree, RTreeObject, RTreeParams};

@@ -48,6 +48,4 @@ mod stored;
 #[cfg(test)]
 mod trials;
 #[cfg(test)]
-mod uses;
-#[cfg(test)]
 mod visits;

@@ -10,8 +10,7 @@ ghost use Rattle.rstar.specs.Trees.{root_of, elements_in, IsWholeTree};
 ghost use Rattle.rstar.specs.Visits.{IsOneOf};
 ghost use Rattle.rstar_vectors.specs.Callers.{IsRenumbered};
 
-use crate::scenarios::drained;
-use crate::uses::geofence::Fence;
+use crate::scenarios::{Fence, drained};
 use rstar::algorithm::selection_functions::{SelectEqualsFunction, SelectionFunction};
 use rstar::iterators::SelectionIterator;
 use rstar::object::{Distance, PointOf};
@@ -94,7 +93,7 @@ fn near<'a, T: PointDistance>(
 }
 
 /// The elements that an envelope intersects, by `locate_in_envelope_intersecting`.
-pub(crate) fn touched<'a, T: RTreeObject>(
+fn touched<'a, T: RTreeObject>(
     alloc: Global,
     tree: &'a RTree<T>,
     area: T::Envelope,

@@ -8,12 +8,11 @@ ghost use Rattle.std.specs.Prelude.{◌≤◌, None, IfOk};
 ghost use Rattle.std.specs.Iterator.{IsFinite, YieldsThen};
 ghost use Rattle.rstar.specs.Trees.{IsWholeTree};
 
-use crate::uses::geofence::{Fence, fence};
 use rstar::algorithm::bulk_load::none_empty;
 use rstar::node::{ParentNode, RTreeNode};
 use rstar::object::{Distance, PointOf};
 use rstar::point::RTreeNum;
-use rstar::primitives::Rectangle;
+use rstar::primitives::{GeomWithData, Rectangle};
 use rstar::{Envelope, Point, PointDistance, RTree, RTreeObject, RTreeParams};
 use std::alloc::{AllocError, Global};
 
@@ -104,6 +103,9 @@ pub(crate) fn has_len<A: Copy>(list: Result<Vec<A>, AllocError>, count: usize) -
     }
 }
 
+/// A rectangle with a number.
+pub type Fence = GeomWithData<Rectangle<[i64; 2]>, u64>;
+
 /// So many fences, ten in a row and ten apart, each so wide and so high, numbered from a number on.
 pub(crate) fn fences(alloc: Global, count: u8, side: u8, first: u8) -> Vec<Fence> {
     let mut all = Vec::new(alloc);
@@ -124,7 +126,9 @@ pub(crate) type Outlined = (u64, [i64; 2], [i64; 2]);
 pub(crate) fn fences_of(alloc: Global, rows: &[Outlined]) -> Vec<Fence> {
     let mut all = Vec::new(alloc);
     for &(number, one, other) in rows {
-        let _refused = all.push(fence(number, one, other)).is_err();
+        let _refused = all
+            .push(Fence::new(Rectangle::from_corners(one, other), number))
+            .is_err();
     }
     all
 }

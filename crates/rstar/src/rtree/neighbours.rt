@@ -208,7 +208,7 @@ impl<T: PointDistance, Params: RTreeParams> RTree<T, Params> {
     ///     self.free.first_neighbors(place, most)
     /// }
     /// ```
-    /// *`crates/rstar_vectors/src/uses/dispatch.rt`*
+    /// *`crates/rstar_uses/src/dispatch.rt`*
     #[tactic(auto, unfolding(crate::specs::Trees::IsWholeTree))]
     pub fn first_neighbors(
         &self,

@@ -117,7 +117,7 @@ impl<T: EqualEnvelopes, Params: RTreeParams> RTree<T, Params> {
     ///     None => false,
     /// }
     /// ```
-    /// *`crates/rstar_vectors/src/uses/geofence.rt`*
+    /// *`crates/rstar_uses/src/geofence.rt`*
     pub fn remove(&mut self, t: &T) -> Option<T>
         requires { IsWholeTree T.Envelope.boxes T.object Params.MAX_SIZE self.old }
         ensures taken { IfSome result (λ x. IsPermutation (elements_in self.old) (x ∷ elements_in self.new)) }

@@ -57,7 +57,7 @@ impl<T: RTreeObject, Params: RTreeParams> RTree<T, Params> {
     /// }
     /// Ok((count, sum))
     /// ```
-    /// *`crates/rstar_vectors/src/uses/geofence.rt`*
+    /// *`crates/rstar_uses/src/geofence.rt`*
     pub fn locate_in_envelope(
         &self,
         envelope: T::Envelope,

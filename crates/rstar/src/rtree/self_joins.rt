@@ -27,7 +27,7 @@ impl<T: RTreeObject, Params: RTreeParams> RTree<T, Params> {
     /// pairs.retain(|&(one, other)| one.data != other.data);
     /// Ok(pairs)
     /// ```
-    /// *`crates/rstar_vectors/src/uses/overlaps.rt`*
+    /// *`crates/rstar_uses/src/overlaps.rt`*
     #[tactic(auto, unfolding(crate::specs::Trees::IsWholeTree))]
     pub fn intersecting_pairs(&self) -> Result<SelfIntersectionIterator<'_, T>, AllocError>
         requires { IsWholeTree T.Envelope.boxes T.object Params.MAX_SIZE self.now }

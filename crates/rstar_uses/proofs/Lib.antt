@@ -1,0 +1,5 @@
+pub mod Able
+pub mod Limits
+pub mod Lists
+pub mod Numbered
+pub mod Vehicles
