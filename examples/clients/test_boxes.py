@@ -43,7 +43,7 @@ class Turns:
 
     def an_id(self, there):
         """One that is there, or one that is not; None where there is none."""
-        found = sorted(self.table) if there else [number for number in range(300) if number not in self.table]
+        found = sorted(self.table) if there else [number for number in range(100) if number not in self.table]
         return self.draw.choice(found) if found else None
 
     def insert(self):
@@ -88,13 +88,13 @@ class Turns:
             assert self.table.pop(number) == box
 
     def many(self):
-        added = {number: scan.a_box(self.draw) for number in range(300, 340) if number not in self.table}
+        added = {number: scan.a_box(self.draw) for number in range(100, 140) if number not in self.table}
         self.boxes.insert_all(added.items())
         assert self.boxes.remove_all(list(added)[::2]) == list(added.items())[::2]
         self.table |= dict(list(added.items())[1::2])
 
     def load(self):
-        self.table = {number: scan.a_box(self.draw) for number in range(self.draw.randrange(200))}
+        self.table = {number: scan.a_box(self.draw) for number in range(self.draw.randrange(140))}
         self.boxes.load(self.table.items())
 
 

@@ -40,7 +40,8 @@ class Turns:
         self.index, self.draw, self.items, self.next = index, draw, [], 0
 
     def change(self):
-        kinds = [self.insert] * 6 + [self.remove, self.again, self.remove_at, self.pop, self.drain_inside, self.drain_hit]
+        kinds = [self.remove, self.again, self.remove_at, self.pop, self.drain_inside, self.drain_hit]
+        kinds += [self.insert] * 6 if len(self.items) < 120 else []
         kinds += [self.load] if self.draw.random() < 0.02 else []
         kind = self.draw.choice(kinds)
         kind()
@@ -61,7 +62,7 @@ class Turns:
             self.index.insert(*self.items[-1])
 
     def load(self):
-        self.items = [self.a_row() for _ in range(self.draw.randrange(300))]
+        self.items = [self.a_row() for _ in range(self.draw.randrange(200))]
         self.index.load(self.items)
 
     def remove(self):
