@@ -8,14 +8,16 @@
         boxes.hit((0, 0, 2, 2))                        # [(7, (1, 1, 3, 3)), (8, (2, 2, 4, 4))]
         boxes.near((9, 9), 1)                          # [(8, (2, 2, 4, 4), 50)]: and the squared distance
         boxes.pairs()                                  # [(7, 8)]: each two that meet, once
+        boxes.ask_all([("at", 2, 2), ("hit", 0, 0, 9, 9)])     # many questions, sent at once
         boxes.remove(7)                                # (1, 1, 3, 3)
 
-Each ID is there once. Answers have the corners, the lower one first. A change is in the journal before it is answered:
-killed at any moment and started again, the boxes are those that were answered, and perhaps a change that was not.
+Each ID is there once. Answers have the corners, the lower one first. A change is in the journal before it is answered. Killed
+at any moment and started again, the boxes are those that were answered. A change that was in hand may be there too, and of many
+changes at once the first ones.
 """
 
 from journal import Journal
-from vaikrone import PROGRAM, ROW, STEP, Index, tested
+from vaikrone import PROGRAM, ROW, STEP, Index, Progress, tested
 
 
 def upright(number, box):
@@ -91,11 +93,13 @@ class Boxes:
 
     def load(self, rows, tell=None):
         """Holds just these boxes, an (ID, box) each."""
-        boxes = {}
-        for number, box in (upright(*row) for row in rows):
+        boxes, tell = {}, tell or Progress()
+        for at, (number, box) in enumerate(upright(*row) for row in rows):
             if number in boxes:
                 raise ValueError(f"the ID {number} comes twice")
             boxes[number] = box
+            if at % STEP == 0:
+                tell("tested", at)
         try:
             if self.journal:
                 self.journal.rewrite(boxes.items())
@@ -159,6 +163,16 @@ class Boxes:
             if len(kept) == most or len(found) < asked:
                 return kept
             seen, asked = asked, min(4 * asked, 2**64 - 1)
+
+    def ask_all(self, questions):
+        """Sends many questions at once, as `Index.ask_all`: each `inside`, `hit`, `at`, `within` or `near`."""
+        questions = list(questions)
+        for name, *_ in questions:
+            if name not in ("inside", "hit", "at", "within", "near"):
+                raise ValueError(f"{name!r} is no question")
+        answers = zip(questions, self.index.ask_all(questions))
+        near = lambda found: [(number, self.boxes[number], distance) for number, distance in found]
+        return [near(found) if name == "near" else self.with_corners(found) for (name, *_), found in answers]
 
     def pairs(self):
         """Each two IDs whose boxes meet, once, the lesser one first; touching is enough."""

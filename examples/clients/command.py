@@ -7,7 +7,7 @@ import sys
 from boxes import Boxes
 from degrees import Degrees, Whole, whole
 from files import read
-from vaikrone import PROGRAM, Refused
+from vaikrone import PROGRAM, Progress, Refused
 
 # Of each word: the method, and its arguments: an ID, a box, a point, a square of a distance, or a count.
 WORDS = {
@@ -22,10 +22,10 @@ WORDS = {
     "near-within": ("near", ["POINT", "COUNT", "SQUARE"]),
     "pairs": ("pairs", []),
     "size": ("__len__", []),
-    "remove-at": ("remove_at", ["POINT"]),
+    "removeat": ("remove_at", ["POINT"]),
     "pop": ("pop", ["POINT"]),
-    "drain-in": ("drain_inside", ["BOX", "COUNT"]),
-    "drain-hit": ("drain_hit", ["BOX", "COUNT"]),
+    "drain in": ("drain_inside", ["BOX", "COUNT"]),
+    "drain hit": ("drain_hit", ["BOX", "COUNT"]),
 }
 LENGTHS = {"BOX": 4, "POINT": 2}
 
@@ -41,14 +41,15 @@ def usage():
 
 def asked(boxes, words, units):
     """The answer to a question's words."""
-    if words[0] not in WORDS:
-        raise ValueError(f"{words[0]!r} is none of {', '.join(WORDS)}")
-    name, kinds = WORDS[words[0]]
-    rest, arguments = words[1:], []
+    length = 2 if words[0] == "drain" else 1
+    word, rest, arguments = " ".join(words[:length]), words[length:], []
+    if word not in WORDS:
+        raise ValueError(f"{word!r} is none of {', '.join(WORDS)}")
+    name, kinds = WORDS[word]
     readers = {"ID": whole, "COUNT": whole, "BOX": units.box, "POINT": units.point, "SQUARE": units.square}
     wanted = sum(LENGTHS.get(kind, 1) for kind in kinds)
     if len(rest) != wanted:
-        raise ValueError(f"{words[0]}: {wanted} numbers are wanted, and not {len(rest)}")
+        raise ValueError(f"{word}: {wanted} numbers are wanted, and not {len(rest)}")
     for kind in kinds:
         length = LENGTHS.get(kind)
         arguments.append(readers[kind](rest[:length] if length else rest[0]))
@@ -92,7 +93,8 @@ def main(words=None):
     try:
         with Boxes(chosen.journal, chosen.program, chosen.sync) as boxes:
             if chosen.load:
-                boxes.load(read(chosen.load, units))
+                tell = Progress()
+                boxes.load(read(chosen.load, units, tell), tell)
             return answer_all(boxes, [chosen.words] if chosen.words else map(str.split, sys.stdin), units)
     except (OSError, ValueError, Refused) as fault:
         print(f"vaikrone: {fault}", file=sys.stderr)

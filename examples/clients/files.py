@@ -8,16 +8,17 @@ import json
 from decimal import Decimal
 
 from degrees import Degrees, Whole, whole
+from vaikrone import STEP, Progress
 
 
-def read(path, units=Whole):
+def read(path, units=Whole, tell=None):
     """The rectangles of a file, by the end of its name: .csv, or .json or .geojson."""
-    return read_csv(path, units) if str(path).endswith(".csv") else read_geojson(path, units)
+    return read_csv(path, units, tell) if str(path).endswith(".csv") else read_geojson(path, units)
 
 
-def read_csv(path, units=Whole):
+def read_csv(path, units=Whole, tell=None):
     """Lines ID,X1,Y1,X2,Y2, two opposite corners. A first line that begins with no digit is a heading."""
-    rows = []
+    rows, tell = [], tell or Progress()
     with open(path, newline="", encoding="utf-8-sig") as file:
         lines = csv.reader(file)
         for words in lines:
@@ -28,6 +29,8 @@ def read_csv(path, units=Whole):
                 if len(box) != 4:
                     raise ValueError(f"ID,X1,Y1,X2,Y2 is wanted, and not {','.join(words)}")
                 rows.append((whole(number), units.box(box)))
+                if len(rows) % STEP == 0:
+                    tell("read", len(rows))
             except ValueError as fault:
                 raise ValueError(f"{path}, line {lines.line_num}: {fault}") from None
     return rows

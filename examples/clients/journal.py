@@ -5,7 +5,7 @@
     remove 7
 
 A last line without an end was cut off by a kill. Nobody had its answer, and it is dropped. Any other line that is none of
-these is a ValueError, and the file stays as it is.
+these is a ValueError, and the file stays as it is. A file with `.lock` behind its name keeps a second process away.
 """
 
 import errno

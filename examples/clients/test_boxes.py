@@ -111,6 +111,7 @@ class ById(unittest.TestCase):
         self.assertEqual(boxes.near(point, most, limit), [row for row in every if row[2] <= limit][:most], told)
         test = lambda number, box: number % part == 0 and box[0] <= point[0]
         self.assertEqual(boxes.near(point, most, test=test), [row for row in every if test(*row[:2])][:most], told)
+        self.assertEqual(boxes.ask_all([("near", *point, most), ("hit", *box)]), [every[:most], boxes.hit(box)], told)
         self.assertEqual(len(boxes), len(table), told)
 
     def test_turns_as_a_scan(self):
@@ -135,6 +136,7 @@ class ById(unittest.TestCase):
             (KeyError, lambda b: b.move(8, (0, 0, 1, 1))),
             (KeyError, lambda b: b.remove(8)),
             (KeyError, lambda b: b.remove_all([7, 8])),
+            (ValueError, lambda b: b.ask_all([("hit", 0, 0, 1, 1), ("insert", 8, 0, 0, 1, 1)])),
             (ValueError, lambda b: b.load([(1, (0, 0, 1, 1)), (1, (0, 0, 1, 1))])),
         ]
         with tempfile.TemporaryDirectory() as room, Boxes(f"{room}/j") as boxes:

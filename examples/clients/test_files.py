@@ -124,12 +124,12 @@ class OfTheCommand(WithFiles):
                 move 8 6 6 7 7
                 pairs
                 size
-                remove-at 1 1
+                removeat 1 1
                 pop 0 0
                 insert 9 0 0 1 1
                 insert 10 0 0 1 1
-                drain-in 0 0 1 1 1
-                drain-hit 0 0 0 0 9
+                drain in 0 0 1 1 1
+                drain hit 0 0 0 0 9
                 insert 11 0 0 1 1
                 remove 11
                 pop 0 0"""

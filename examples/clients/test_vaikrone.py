@@ -8,8 +8,11 @@ import io
 import random
 import select
 import signal
+import tempfile
+import threading
 import unittest
 from contextlib import redirect_stderr
+from pathlib import Path
 from unittest import mock
 
 import scan
@@ -171,6 +174,28 @@ class OfLines(unittest.TestCase):
         with self.assertRaises(Refused):
             closed.load([(1, (0, 0, 1, 1))])
 
+    def test_an_end_amid_many_is_told(self):
+        rows = [(number, (0, 0, 1, 1)) for number in range(1000)]
+        for turn in range(20):
+            index = Index()
+            index.load(rows)
+            killer = threading.Timer(turn / 1000, index.process.kill)
+            killer.start()
+            with self.assertRaises(Refused, msg=turn):
+                while True:
+                    answers = index.ask_all([("hit", 0, 0, 1, 1)] * 300)
+                    self.assertTrue(all(len(answer) == 1000 for answer in answers), turn)
+            killer.join()
+            self.assertEqual(index.process.returncode, -signal.SIGKILL, turn)
+
+    def test_the_beginning_of_an_answer_is_none(self):
+        with tempfile.TemporaryDirectory() as room:
+            program = Path(room, "program")
+            program.write_text("#!/bin/sh\nread line\nprintf '12 3'\n")
+            program.chmod(0o755)
+            with self.assertRaisesRegex(Refused, "the program has ended"):
+                Index(str(program)).at((1, 1))
+
     def test_what_breaks_off_ends_the_process(self):
         def interrupted(index):
             select.select([index.process.stdout], [], [])
@@ -185,11 +210,12 @@ class OfLines(unittest.TestCase):
     def test_long_loads_tell_how_far_they_are(self):
         rows, told = [(number, (0, 0, 1, 1)) for number in range(50)], []
         with Index() as index, mock.patch.object(vaikrone, "STEP", 20):
-            index.load(rows, lambda done, count: told.append((done, count)))
-            self.assertEqual(told, [(20, 50), (40, 50), (50, 50)])
-            with mock.patch.object(vaikrone, "monotonic", side_effect=[0, 0.5, 1.2, 1.2, 1.5]), redirect_stderr(io.StringIO()) as said:
+            index.load(rows, lambda *words: told.append(words))
+            self.assertEqual(told, [("prepared", 20), ("prepared", 40), ("sent", 20), ("sent", 40), ("sent", 50)])
+            clock = mock.Mock(side_effect=[0, 0.5, 1.25, 1.25, 1.5, 2, 2.5, 2.5])
+            with mock.patch.object(vaikrone, "monotonic", clock), redirect_stderr(io.StringIO()) as said:
                 index.load(rows)
-            self.assertEqual(said.getvalue(), "load: 40 of 50 rows, 1 s\n")
+            self.assertEqual(said.getvalue(), "load: 40 rows prepared, 1 s\nload: 50 rows sent, 2 s\n")
             self.assertEqual(len(index), 50)
 
 

@@ -92,22 +92,16 @@ def line(name, numbers):
     return " ".join([word, *map(str, tested(name, kinds, numbers))]) + "\n"
 
 
-def tested_rows(rows):
-    """The row of each (ID, box), as a load has it."""
-    return [" ".join(map(str, tested("load", ROW, (number, *box)))) for number, box in rows]
-
-
-def progress():
+class Progress:
     """Tells on standard error how far a load is, once a second, where it takes longer than that."""
-    start = last = monotonic()
 
-    def tell(done, count):
-        nonlocal last
-        if monotonic() - last >= 1:
-            last = monotonic()
-            print(f"load: {done:,} of {count:,} rows, {last - start:.0f} s", file=sys.stderr, flush=True)
+    def __init__(self):
+        self.start = self.last = monotonic()
 
-    return tell
+    def __call__(self, what, rows):
+        if monotonic() - self.last >= 1:
+            self.last = monotonic()
+            print(f"load: {rows:,} rows {what}, {self.last - self.start:.0f} s", file=sys.stderr, flush=True)
 
 
 class Index:
@@ -181,24 +175,29 @@ class Index:
 
     def answer(self):
         """The next answer."""
-        text = self.process.stdout.readline().rstrip("\n") if self.process.returncode is None else ""
-        if not text or text.startswith("error: "):
-            raise Refused(text or "the program has ended", self.close())
-        return text
+        line = self.process.stdout.readline() if self.process.returncode is None else ""
+        if line.startswith("error: "):
+            raise Refused(line.rstrip("\n"), self.close())
+        if not line.endswith("\n"):  # a killed program may leave the beginning of an answer
+            raise Refused("the program has ended", self.close())
+        return line.rstrip("\n")
 
     def load(self, rows, tell=None):
-        """Holds just the rectangles of these rows, an (ID, box) each. All rows are tested before one is sent."""
-        self.load_rows(tested_rows(rows), tell)
+        """Holds just the rectangles of these rows, an (ID, box) each. All are tested before one is sent.
 
-    def load_rows(self, rows, tell=None):
-        """The same for rows that `tested_rows` made; `tell` is called with the rows sent and their number."""
-        tell = tell or progress()
+        `tell` is called now and then with a word and a number of rows.
+        """
+        tell, lines = tell or Progress(), []
+        for number, box in rows:
+            lines.append(" ".join(map(str, tested("load", ROW, (number, *box)))))
+            if len(lines) % STEP == 0:
+                tell("prepared", len(lines))
         with self.to_the_end():
-            self.send(f"load {len(rows)}\n")
-            for start in range(0, len(rows), STEP):
-                some = rows[start : start + STEP]
+            self.send(f"load {len(lines)}\n")
+            for start in range(0, len(lines), STEP):
+                some = lines[start : start + STEP]
                 self.send("\n".join(some) + "\n")
-                tell(start + len(some), len(rows))
+                tell("sent", start + len(some))
             self.answer()
 
     def insert(self, number, box):
