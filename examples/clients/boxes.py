@@ -87,12 +87,12 @@ class Boxes:
 
     def remove_all(self, numbers):
         """Takes many out, and gives them, an (ID, box) each; none where one is not there."""
-        taken = self.with_corners(dict.fromkeys(numbers))
+        taken = self.with_corners(dict.fromkeys(tested("an ID", "Q", (number,))[0] for number in numbers))
         self.change([(number, None) for number, _ in taken], [("remove", number, *box) for number, box in taken])
         return taken
 
     def load(self, rows, tell=None):
-        """Holds just these boxes, an (ID, box) each."""
+        """Holds just these boxes, an (ID, box) each. Bad rows change nothing; what fails behind them closes all."""
         boxes, tell = {}, tell or Progress()
         for at, (number, box) in enumerate(upright(*row) for row in rows):
             if number in boxes:

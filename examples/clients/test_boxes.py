@@ -136,6 +136,7 @@ class ById(unittest.TestCase):
             (KeyError, lambda b: b.move(8, (0, 0, 1, 1))),
             (KeyError, lambda b: b.remove(8)),
             (KeyError, lambda b: b.remove_all([7, 8])),
+            (ValueError, lambda b: b.remove(7.0)),
             (ValueError, lambda b: b.ask_all([("hit", 0, 0, 1, 1), ("insert", 8, 0, 0, 1, 1)])),
             (ValueError, lambda b: b.load([(1, (0, 0, 1, 1)), (1, (0, 0, 1, 1))])),
         ]
