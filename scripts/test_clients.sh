@@ -27,7 +27,7 @@ for answers in examples/*.out; do
 done
 try scripts/damage_stored.py --cases 1000 --program "$VAIKRONE"
 for tests in examples/*/test_*.py; do
-    try python3 -W error "$tests"
+    try python3 "$tests"
 done
 if [[ -e scripts/test_bindings.sh ]]; then
     try scripts/test_bindings.sh quick

@@ -99,6 +99,8 @@ def main(words=None):
     except (OSError, ValueError, Refused) as fault:
         print(f"vaikrone: {fault}", file=sys.stderr)
         return 2
+    except KeyboardInterrupt:
+        return 130
 
 
 def answer_all(boxes, questions, units):
