@@ -10,7 +10,8 @@ out=$PWD/crates/rstar_run/out/rstar_run
 if [[ -z ${VAIKRONE:-} && ! -x $out ]]; then
     (cd crates/rstar_run && rt run < ../../examples/first.txt)
 fi
-export VAIKRONE=${VAIKRONE:-$out}
+VAIKRONE=$(realpath "${VAIKRONE:-$out}")
+export VAIKRONE
 
 failed=()
 try() {
