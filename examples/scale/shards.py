@@ -11,6 +11,7 @@ is asked for, the lower corner comes first: X1 <= X2, Y1 <= Y2.
 
 from array import array
 from bisect import bisect_left, bisect_right
+from contextlib import suppress
 from itertools import chain
 from math import isqrt
 from pathlib import Path
@@ -104,8 +105,12 @@ def tiles(rows, count):
 
 
 def connect(address):
-    """A client of the cluster, whose workers have these two files from it."""
+    """A client of the cluster, whose workers have these two files from it: the first, and those that come soon after it."""
     client = Client(address)
+    client.wait_for_workers(1, timeout=60)
+    with suppress(TimeoutError):
+        while True:
+            client.wait_for_workers(len(client.scheduler_info()["workers"]) + 1, timeout=2)
     for name in ("clients/vaikrone.py", "scale/shards.py"):
         client.upload_file(str(Path(__file__).resolve().parents[1] / name))
     return client

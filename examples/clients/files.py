@@ -1,0 +1,81 @@
+"""Reads rectangles from CSV and boxes from GeoJSON: each an (ID, box). A fault is a ValueError with its place.
+
+    boxes.load(read("islands.csv", Degrees))
+"""
+
+import csv
+import json
+from decimal import Decimal
+
+from degrees import Degrees, Whole, whole
+from vaikrone import STEP, Progress
+
+
+def read(path, units=Whole, tell=None):
+    """The rectangles of a file, by the end of its name: .csv, or .json or .geojson."""
+    return read_csv(path, units, tell) if str(path).endswith(".csv") else read_geojson(path, units)
+
+
+def read_csv(path, units=Whole, tell=None):
+    """Lines ID,X1,Y1,X2,Y2, two opposite corners. A first line that begins with no digit is a heading."""
+    rows, tell = [], tell or Progress()
+    with open(path, newline="", encoding="utf-8-sig") as file:
+        lines = csv.reader(file)
+        for words in lines:
+            if not words or (lines.line_num == 1 and not words[0].strip()[:1].isdigit()):
+                continue
+            try:
+                number, *box = words
+                if len(box) != 4:
+                    raise ValueError(f"ID,X1,Y1,X2,Y2 is wanted, and not {','.join(words)}")
+                rows.append((whole(number), units.box(box)))
+                if len(rows) % STEP == 0:
+                    tell("read", len(rows))
+            except ValueError as fault:
+                raise ValueError(f"{path}, line {lines.line_num}: {fault}") from None
+    return rows
+
+
+def read_geojson(path, units=Degrees):
+    """Of each feature its `bbox`, or else the least box around its coordinates.
+
+    Its ID is the feature's `id`, or its property `id`, or its place in the file, from 0 on.
+    """
+    with open(path, encoding="utf-8") as file:
+        top = json.load(file, parse_float=Decimal)
+    features = top.get("features", [top]) if isinstance(top, dict) else []
+    rows = []
+    for place, feature in enumerate(features):
+        try:
+            number = feature.get("id", (feature.get("properties") or {}).get("id", place))
+            rows.append((whole(number), units.box(box_of(feature))))
+        except (ValueError, TypeError, AttributeError) as fault:
+            raise ValueError(f"{path}, feature {place}: {fault}") from None
+    return rows
+
+
+def box_of(feature):
+    if "bbox" in feature:
+        bbox = feature["bbox"]
+        half = len(bbox) // 2  # with heights a box has six numbers
+        west, south, east, north = *bbox[:2], *bbox[half : half + 2]
+        if west > east:
+            raise ValueError(f"the box from {west} to {east} goes over the 180th meridian: cut it in two")
+        return west, south, east, north
+    positions = list(positions_of(feature.get("geometry", feature)))
+    if not positions:
+        raise ValueError("there are no coordinates")
+    xs, ys = [p[0] for p in positions], [p[1] for p in positions]
+    return min(xs), min(ys), max(xs), max(ys)
+
+
+def positions_of(part):
+    """All positions of a geometry, of a collection of them, or of a list of coordinates."""
+    if isinstance(part, dict):
+        part = part.get("coordinates") or part.get("geometries") or []
+    if isinstance(part, list):
+        if part and not isinstance(part[0], (list, dict)):
+            yield part
+        else:
+            for inner in part:
+                yield from positions_of(inner)
