@@ -1,8 +1,8 @@
 -- What stands in the caller's lists after a call.
-use Rattle.std.specs.Prelude.{◌≡◌, ◌+◌, ℕ, ℤ, Bool, false, List, [], ◌∷◌, ◌++◌, pos, map, filter, min, length, ⊤}
-use Rattle.std.specs.List.{flat_map, All}
+use Rattle.std.specs.Prelude.{◌≡◌, ◌+◌, ℕ, ℤ, Bool, true, List, ◌++◌, pos, map, filter, min, length}
+use Rattle.std.specs.List.{flat_map, All, AllByRecursion}
 use Rattle.std.specs.List.Sorted.{IsPermutation}
-use Rattle.rstar.specs.Lists.{AreFirstOf, NoneSelected}
+use Rattle.rstar.specs.Lists.{AreFirstOf}
 use Rattle.rstar_base.specs.Counts.{usize_max}
 use Rattle.rstar_c.specs.declared.items.Place.{Place}
 use Rattle.rstar_c.specs.Items.{Item, number, distance_to, is_before}
@@ -38,6 +38,15 @@ pub record AreNearestEach (places : List Place) (most : ℕ) (items : List Item)
   pub ids : ids_new ≡ over (flat_map (λ r. map number r.1) rows) ids_old
   pub distances : distances_new ≡ over (flat_map (λ r. map (λ item. pos (distance_to r.0 item)) r.1) rows) distances_old
   pub counted : written ≡ min (length (flat_map (λ r. map number r.1) rows)) usize_max
+
+-- the chosen items are taken out: their IDs, in some order, over what stood there, and how many they are
+pub record IsDrained (chosen : Item → Bool) (before after : List Item) (old new : List ℕ) (found : ℕ) : Type 0 where
+  pub taken : List Item
+  pub bag : IsPermutation before (taken ++ after)
+  pub selected : AllByRecursion (λ item. chosen item ≡ true) taken
+  pub counted : found ≡ length taken
+  pub all : length taken ≡ length (filter chosen before)
+  pub written : new ≡ over (map number taken) old
 
 -- these pairs, in some order: the numbers of their first and of their second items over two lists, and how many pairs there
 -- are

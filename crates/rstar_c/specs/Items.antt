@@ -1,8 +1,8 @@
 -- Rectangles with IDs, as the tree holds them, and what is asked of lists of them.
-use Rattle.std.specs.Prelude.{◌≡◌, ◌^◌, ◌-◌, ◌&&◌, ◌==◌, ℕ, ℤ, Bool, List, [], ◌∷◌, pos, negsuc, int_le, map, filter}
+use Rattle.std.specs.Prelude.{◌^◌, ◌-◌, ℕ, ℤ, Bool, List, [], ◌∷◌, pos, negsuc, int_le, map}
 use Rattle.std.specs.Int.{int_min, int_max}
-use Rattle.std.specs.Ordering.{int_eq, int_cmp, nat_cmp, ordering_then}
-use Rattle.std.specs.Cmp.Lexicographic.{pointwise, slice_cmp}
+use Rattle.std.specs.Ordering.{int_cmp, nat_cmp, ordering_then}
+use Rattle.std.specs.Cmp.Lexicographic.{slice_cmp}
 use Rattle.std.specs.declared.cmp.Ordering.{Ordering}
 use Rattle.rstar_base.specs.declared.primitives.Rectangle.{Rectangle}
 use Rattle.rstar_base.specs.Boxes.{box_of_corners, boxes_intersect, contains_box}

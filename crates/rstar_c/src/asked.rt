@@ -1,8 +1,10 @@
 //! Questions of any tree of elements with numbers, answered into a caller's lists.
 
-ghost use Rattle.std.specs.Prelude.{◌≡◌, filter, int_le, pos, IfOk, OnErr};
+ghost use Rattle.std.specs.Prelude.{◌≡◌, filter, int_le, pos, IfOk, IfNone, IfSome, OnErr};
+ghost use Rattle.rstar.specs.Clones.{ClonesEqual};
 ghost use Rattle.rstar.specs.Joins.{join};
 ghost use Rattle.rstar.specs.SelfJoins.{self_join};
+ghost use Rattle.rstar.specs.Steps.{selects, TakesSome};
 ghost use Rattle.rstar.specs.Trees.{elements_in, IsWholeTree};
 ghost use Rattle.rstar_base.specs.Points.{table};
 ghost use Rattle.rstar_c.specs.Answers.{ArePairsGiven};
@@ -10,7 +12,10 @@ ghost use Rattle.rstar_c.specs.Put.{AreWritten};
 
 use crate::put::{put_numbers, put_pairs};
 use rstar::object::{Distance, PointOf};
-use rstar::{Envelope, Point, PointDistance, RTree, RTreeNum, RTreeObject, RTreeParams};
+use rstar::replay::{Command, Query, Reply, Scanned, step};
+use rstar::{
+    Envelope, EqualEnvelopes, Point, PointDistance, RTree, RTreeNum, RTreeObject, RTreeParams,
+};
 use rstar_base::primitives::GeomWithData;
 use std::alloc::AllocError;
 
@@ -127,5 +132,24 @@ pub(crate) fn put_pairs_between<R: RTreeObject, Params: RTreeParams>(
     match tree.intersection_candidates_with_other_tree(other) {
         Ok(pairs) => Ok(put_pairs(pairs, first, second)),
         Err(refused) => Err(refused),
+    }
+}
+
+/// Takes the elements out that a query selects, up to so many. `None` where memory is refused; all is as it was then.
+pub(crate) fn drained<T: PointDistance + EqualEnvelopes + Clone, Params: RTreeParams>(
+    tree: &mut RTree<T, Params>,
+    query: Query<T>,
+    most: usize,
+) -> Option<Vec<T>>
+    requires whole { IsWholeTree T.Envelope.boxes T.object Params.MAX_SIZE tree.old }
+    requires clones { ClonesEqual T.is_clone }
+    ensures taken { IfSome result (λ taken. TakesSome (selects ⟦<T as Scanned>⟧.questions query) most
+        (elements_in tree.old) taken.items (elements_in tree.new)) }
+    ensures refused { IfNone result (elements_in tree.new ≡ elements_in tree.old) }
+    ensures whole { IsWholeTree T.Envelope.boxes T.object Params.MAX_SIZE tree.new }
+{
+    match step(tree, Command::Drain(query, most)) {
+        Reply::Elements(taken) => Some(taken),
+        _ => None,
     }
 }

@@ -1,6 +1,7 @@
 //! What C calls.
 
 mod changes;
+mod drains;
 mod neighbours;
 mod pairs;
 mod selections;

@@ -3,7 +3,7 @@
 ghost use Rattle.std.specs.Prelude.{◌≡◌, ◌+◌, length, map, min};
 ghost use Rattle.std.specs.Iterator.{IsFinite};
 ghost use Rattle.rstar_c.specs.Items.{corners_of, number};
-ghost use Rattle.rstar_c.specs.Put.{put_from, IsPut, IsTwicePut};
+ghost use Rattle.rstar_c.specs.Put.{over, put_from, IsPut, IsTwicePut};
 
 use crate::items::{Corners, Item, corners_of};
 use rstar_base::primitives::GeomWithData;
@@ -90,6 +90,22 @@ pub(crate) fn put_neighbours<R, S: Copy + Drop>(
         next = next.saturating_add(1);
     }
     next
+}
+
+/// Writes the numbers of a list into another, as far as that reaches, and gives how many they are.
+pub(crate) fn put_list<R>(items: &[GeomWithData<R, u64>], ids: &mut [u64]) -> usize
+    ensures counted { result ≡ length items.now }
+    ensures written { ids.new ≡ over (map (λ t. t.1) items.now) ids.old }
+{
+    let (count, room) = (items.len(), room_in(ids));
+    let mut next = 0;
+    for item in items {
+        if next < room {
+            ids[next] = item.data;
+        }
+        next = next.saturating_add(1);
+    }
+    count
 }
 
 /// Writes the corners and the numbers of all items that an iterator gives into two lists, as far as these reach, and gives

@@ -1,13 +1,15 @@
 //! The questions: which rectangles are asked for.
 
-ghost use Rattle.std.specs.Prelude.{◌≡◌, ◌+◌, Bool, filter, length, IfOk, OnOk, OnErr};
-ghost use Rattle.rstar_c.specs.Answers.{AreFound, IsFound};
+ghost use Rattle.std.specs.Prelude.{◌≡◌, ◌≢◌, ◌+◌, ◌<◌, Bool, filter, length, IfOk, IfNone, IfSome, OnOk, OnErr};
+ghost use Rattle.rstar.specs.Steps.{TakesSome};
+ghost use Rattle.rstar_c.specs.Answers.{AreFound, IsDrained, IsFound};
 ghost use Rattle.rstar_c.specs.Items.{Item, covers, is_within, lies_in, meets, number};
 ghost use Rattle.rstar_c.specs.Put.{AreWritten};
 
 use crate::asked::{put_at, put_inside, put_meeting, put_within};
-use crate::items::{Corners, Place, between};
-use crate::put::room_in;
+use crate::items::{Corners, Item, Place, between};
+use crate::put::{put_list, room_in};
+use crate::statuses::{NO_MEMORY, NO_ROOM, OK};
 use crate::store::Store;
 use std::alloc::AllocError;
 
@@ -110,6 +112,27 @@ impl Question for i64 {
     }
 }
 
+/// A question whose answers can be taken out.
+pub(crate) trait Drain: Question {
+    /// Takes these rectangles out, up to so many. `None` where memory is refused; all is as it was then.
+    fn drain(self, store: &mut Store, shape: &Self::Shape, most: usize) -> Option<Vec<Item>>
+        ensures taken { IfSome result
+            (λ taken. TakesSome (Self.chosen self shape.now) most store.old taken.items store.new) }
+        ensures refused { IfNone result (store.new ≡ store.old) };
+}
+
+impl Drain for Meeting {
+    fn drain(self, store: &mut Store, shape: &Corners, most: usize) -> Option<Vec<Item>> {
+        store.drain_meeting(shape, most)
+    }
+}
+
+impl Drain for Inside {
+    fn drain(self, store: &mut Store, shape: &Corners, most: usize) -> Option<Vec<Item>> {
+        store.drain_inside(shape, most)
+    }
+}
+
 /// Asks one shape, into a list from its begin, and gives how many rectangles there are.
 pub(crate) fn put_found<Q: Question>(
     store: &Store,
@@ -147,4 +170,34 @@ pub(crate) fn put_each<Q: Question>(
     }
     offsets[shapes.len()] = next;
     Ok(())
+}
+
+/// Takes the rectangles out that a question chooses, and writes their IDs, where the list has room for them.
+pub(crate) fn put_drained<Q: Drain>(
+    store: &mut Store,
+    question: Q,
+    shape: &Q::Shape,
+    ids: &mut [u64],
+    found: &mut usize,
+) -> i32
+    ensures drained { result ≡ OK → IsDrained (Q.chosen question shape.now) store.old store.new ids.old ids.new found.new }
+    ensures unchanged { result ≢ OK → (store.new ≡ store.old) × (ids.new ≡ ids.old) }
+    ensures room { result ≡ NO_ROOM → (found.new ≡ length (filter (Q.chosen question shape.now) store.old))
+        × (length ids.old < found.new) }
+    ensures refused { result ≢ OK → result ≢ NO_ROOM → (result ≡ NO_MEMORY) × (found.new ≡ found.old) }
+{
+    let Ok(count) = put_found(store, question, shape, &mut []) else {
+        return NO_MEMORY;
+    };
+    if ids.len() < count {
+        *found = count;
+        return NO_ROOM;
+    }
+    match question.drain(store, shape, count) {
+        Some(taken) => {
+            *found = put_list(&taken, ids);
+            OK
+        }
+        None => NO_MEMORY,
+    }
 }

@@ -5,16 +5,18 @@ ghost use Rattle.std.specs.List.{All, Contains};
 ghost use Rattle.std.specs.List.Sorted.{IsPermutation};
 ghost use Rattle.rstar.specs.Joins.{join};
 ghost use Rattle.rstar.specs.Lists.{IsLeast, NoneSelected};
+ghost use Rattle.rstar.specs.Steps.{TakesSome};
 ghost use Rattle.rstar.specs.Trees.{elements_in, IsWholeTree};
 ghost use Rattle.rstar.specs.SelfJoins.{self_join};
 ghost use Rattle.rstar_base.specs.Boxes.{boxes_intersect, is_empty_box};
 ghost use Rattle.rstar_c.specs.Answers.{AreNearestPut, AreNearestEach, ArePairsGiven};
-ghost use Rattle.rstar_c.specs.Items.{Item, box_of, corners_of, is_before, item_of, items_of, number};
+ghost use Rattle.rstar_c.specs.Items.{Item, box_of, corners_of, is_before, item_of, items_of, lies_in, meets, number};
 ghost use Rattle.rstar_c.specs.Put.{over};
 
-use crate::asked::{put_own_pairs, put_pairs_between};
-use crate::items::{Corners, Item, NodeSizes, Place, item};
+use crate::asked::{drained, put_own_pairs, put_pairs_between};
+use crate::items::{Corners, Item, NodeSizes, Place, between, item};
 use crate::put::{put_items, put_neighbours, room_in};
+use rstar::replay::Query;
 use rstar::{AABB, Envelope, EqualEnvelopes, InsertError, RTree, RTreeObject, RTreeParams};
 use std::alloc::{AllocError, Global};
 use std::marker::Model;
@@ -28,6 +30,7 @@ pub struct Store {
 // Contracts see the list of the items. The tree is whole.
 impl Model for Store {
     ghost use Rattle.std.specs.Prelude.{List};
+    ghost use Rattle.rstar.specs.Steps.{TakesSome};
     ghost use Rattle.rstar.specs.Trees.{elements_in, IsWholeTree};
     ghost use Rattle.rstar_c.specs.Items.{Item};
 
@@ -175,6 +178,22 @@ impl Store {
         ensures refused { OnErr result ((first.new ≡ first.old) × (second.new ≡ second.old)) }
     {
         put_pairs_between(&self.tree, &other.tree, first, second)
+    }
+
+    /// Takes the rectangles that meet a box out, up to so many. `None` where memory is refused; all is as it was then.
+    pub(crate) fn drain_meeting(&mut self, corners: &Corners, most: usize) -> Option<Vec<Item>>
+        ensures taken { IfSome result (λ taken. TakesSome (meets corners.now) most self.old taken.items self.new) }
+        ensures refused { IfNone result (self.new ≡ self.old) }
+    {
+        drained(&mut self.tree, Query::Hit(between(corners)), most)
+    }
+
+    /// Takes the rectangles inside a box out, up to so many. `None` where memory is refused; all is as it was then.
+    pub(crate) fn drain_inside(&mut self, corners: &Corners, most: usize) -> Option<Vec<Item>>
+        ensures taken { IfSome result (λ taken. TakesSome (lies_in corners.now) most self.old taken.items self.new) }
+        ensures refused { IfNone result (self.new ≡ self.old) }
+    {
+        drained(&mut self.tree, Query::In(between(corners)), most)
     }
 
     /// Takes out the first rectangle in the order of neighbours.

@@ -1,4 +1,4 @@
-use Rattle.std.proofs.Common.{◌≡◌, ◌+◌, ◌∙◌, ap, sym, min, length, map}
+use Rattle.std.proofs.Common.{◌+◌, ◌∙◌, ap, sym, min, length, map}
 use Rattle.std.proofs.lemmas.List.{length-map}
 use Rattle.std.proofs.lemmas.Simd.{map-map}
 use Rattle.rstar.proofs.Chains.{selection_end}

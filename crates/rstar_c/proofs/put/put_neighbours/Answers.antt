@@ -1,6 +1,4 @@
-use Rattle.std.proofs.Common.{◌∙◌, ◌+◌, set, ap, sym, take, map, length, min}
-use Rattle.std.proofs.lemmas.List.{take_all}
-use Rattle.std.proofs.Math.Seq.{take-suc}
+use Rattle.std.proofs.Common.{◌∙◌, ◌+◌, set, ap, sym, map, length, min}
 use Rattle.rstar_base.specs.Counts.{usize_max}
 use Rattle.rstar_c.specs.Put.{put_from}
 use Rattle.rstar_c.proofs.Puts.{put_none, one-more-put, no-more-put, one-more-counted, one-more-taken, low-min, below-top}

@@ -1,7 +1,5 @@
-use Rattle.std.proofs.Common.{◌≡◌, ◌∙◌, ◌+◌, ◌<◌, ◌≤◌, ◌^◌, set, ap, ℕ, List, [], min, sym, refl, subst, arith, Option, None}
-use Rattle.std.specs.Iterator.{Yields, Drains}
-use Rattle.rstar_base.specs.Counts.{usize_max}
-use Rattle.rstar_c.specs.Put.{IsPut, put_from}
+use Rattle.std.proofs.Common.{◌∙◌, set, ap, sym, subst}
+use Rattle.std.specs.Iterator.{Drains}
 use Rattle.rstar_c.proofs.Puts.{put_none, one-more-put, no-more-put, one-more-counted, low-min, below-top}
 use Rattle.rstar_c.proofs.put.put_numbers.Goals as goal
 use Rattle.rstar_c.proofs.put.put_numbers.Goals.{then-next-room, else-next-room}

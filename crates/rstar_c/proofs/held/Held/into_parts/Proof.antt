@@ -4,7 +4,7 @@ use mir.Val.{Val, vptr}
 use base.Logic.{SProp, ent, id⊢}
 use base.Fml.{ftrue, fsep}
 use prog.Wp.{WpFn}
-use types.Kit.{‵, raw, ◌⊛◌, ◌$◌, ◌∵◌, !, qed, by, move, keep, drop, split, join, fsplit, fjoin, suffices, done}
+use types.Kit.{‵, raw, ◌⊛◌, ◌$◌, ◌∵◌, !, qed, move, keep, split, join, fsplit, suffices, done}
 use types.Run.{stop, fld, of_opd, no_more, and_then, returns, enter}
 use types.ByLocal.{alloc_all, pass_all, free_all, look_at, get, get_in, sets}
 use types.Part.{agg, sub, whole}
@@ -16,7 +16,7 @@ use denote.Steps.{nothing, heard}
 use contract.Monad.{fact}
 use denote.Triple.Walked.{says, Stays, stay_dropped, walk_of, ends_at, Goes-dropped}
 use Rattle.std.proofs.raw_atomic.Walks.{proved_at}
-use Rattle.rstar_c.proofs.Values.{both, P, H, both_good, held_out, parts_in, only_one}
+use Rattle.rstar_c.proofs.Values.{both, H, both_good, held_out, parts_in, only_one}
 use Rattle.rstar_c.specs.contracts.held.Held.into_parts as f
 use Rattle.rstar_c.proofs.held.Held.into_parts.Statement.{statement}
 use Rattle.rstar_c.proofs.held.Held.into_parts.Code as code

@@ -1,10 +1,10 @@
 -- `of` keeps the address, and with it what the parts own.
-use Rattle.std.proofs.Common.{◌≡◌, List, [], ◌∷◌, ◌++◌, refl, sym, subst}
+use Rattle.std.proofs.Common.{List, [], ◌∷◌, ◌++◌, refl, sym, subst}
 use mir.Val.{Val, vptr}
 use base.Logic.{SProp, ent, id⊢}
 use base.Fml.{ftrue, fsep}
 use prog.Wp.{WpFn}
-use types.Kit.{‵, raw, ◌⊛◌, ◌$◌, ◌∵◌, !, qed, by, move, keep, drop, split, join, fsplit, fjoin, suffices, done}
+use types.Kit.{‵, ◌⊛◌, ◌$◌, ◌∵◌, !, qed, move, keep, split, join, fsplit, suffices, done}
 use types.Run.{stop, fld, of_opd, no_more, and_then, returns, enter}
 use types.ByLocal.{alloc_all, pass_all, free_all, look_at, get, get_in, sets}
 use types.Part.{agg, sub, whole}
@@ -15,7 +15,7 @@ use denote.Signature.{plain}
 use denote.Steps.{nothing}
 use denote.Triple.Walked.{says, Stays, stay_dropped, walk_of, ends_at, Goes-dropped}
 use Rattle.std.proofs.raw_atomic.Walks.{proved_at}
-use Rattle.rstar_c.proofs.Values.{both, P, H, both_good, parts_out, held_in}
+use Rattle.rstar_c.proofs.Values.{both, P, both_good, parts_out, held_in}
 use Rattle.rstar_c.specs.contracts.held.Held.of as f
 use Rattle.rstar_c.proofs.held.Held.of.Statement.{statement}
 use Rattle.rstar_c.proofs.held.Held.of.Code as code
