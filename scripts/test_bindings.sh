@@ -74,6 +74,16 @@ check_memory() {
   echo "$1: valgrind finds nothing"
 }
 
+# The tests of Rust. Under valgrind all but the one that forgets an iterator.
+check_rust() {
+  cd "$top/bindings/rust"
+  cargo test --offline --quiet
+  [[ $quick == quick ]] && return
+  cargo test --offline --quiet --test ported --config \
+    'target."cfg(unix)".runner = "valgrind -q --error-exitcode=1 --leak-check=full --errors-for-leak-kinds=definite"' \
+    -- --skip drains
+}
+
 say names
 check_names
 say examples
@@ -81,9 +91,9 @@ check_examples
 say C
 check_c
 say Rust
-(cd "$top/bindings/rust" && cargo test --offline --quiet)
+(check_rust)
 if [[ -x $top/bindings/python/run_tests.sh ]]; then
   say Python
-  "$top/bindings/python/run_tests.sh"
+  "$top/bindings/python/run_tests.sh" ${quick:+"$quick"}
 fi
 say 'all passed'

@@ -1,4 +1,4 @@
-/* Times of the library: the best of nine rounds, one line each, and the sums of the answers. rstar_bench prints the same of rstar. */
+/* Times of the library, the best of nine rounds each, and the sums of the answers. rstar_bench prints the same of rstar. */
 #include "rstar.h"
 
 #include <inttypes.h>

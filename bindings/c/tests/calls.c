@@ -1,5 +1,5 @@
-/* calls [COUNT] [SEED]: random calls of every function, beside the scan. The first call that does not answer as the scan ends the
- * run: its number, its name and what differs are printed. */
+/* calls [COUNT] [SEED]: random calls of every function, beside the scan. The first call that does not answer as the scan
+ * ends the run: its number, its name and what differs are printed. */
 #include "scan.h"
 
 #include <inttypes.h>

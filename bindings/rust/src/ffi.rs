@@ -1,7 +1,8 @@
 //! The calls of rstar.h, safely: all `unsafe` of the crate stands here.
 //!
-//! What the library asks of its caller holds thus. A handle is made empty, lives in an [`Index`] that nothing copies, and is cleared
-//! with it. No pointer of a slice or a reference is null. Each array is filled before the call, and is a list of its own.
+//! What the library asks of its caller holds thus. A handle is made empty, lives in an [`Index`] that
+//! nothing copies, and is cleared with it. No pointer of a slice or a reference is null. Each array is
+//! filled before the call, and is a list of its own.
 
 use crate::{Envelope, Point};
 use std::cell::UnsafeCell;
@@ -172,7 +173,8 @@ impl Index {
         }
     }
 
-    // SAFETY of each call below: the handle is used by this call alone, since an index is not `Sync` and no call calls back.
+    // SAFETY of each call below: the handle is used by this call alone, since an index is not `Sync`
+    // and the library calls nothing of this crate.
 
     pub fn len(&self) -> usize {
         unsafe { rstar_index_len(self.handle.get()) }

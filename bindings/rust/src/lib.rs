@@ -1,4 +1,5 @@
-//! rstar's calls over a tree of 64-bit rectangles whose answers are proved. The tree is the C library `librstar.a`.
+//! rstar's calls over a tree of 64-bit rectangles whose answers are proved. The tree is that of the
+//! C library `librstar.a`.
 //!
 //! ```
 //! use vaikrone::primitives::{GeomWithData, Rectangle};
@@ -18,12 +19,15 @@
 //! What differs from rstar:
 //!
 //! - Coordinates are `i64`, in two dimensions. Squared distances are held at `i64::MAX`.
-//! - A distance, and whether an object contains a point, is that of its envelope. For points and rectangles that is rstar's answer.
-//! - An iterator finds all its answers when it is made. A drain takes all of them out then, also where it is dropped early.
-//! - A tree may be sent to another thread, and only one thread at a time may use it: [`RTree`] is `Send` and not `Sync`.
+//! - A distance is that of an object's envelope, and so is whether an object contains a point. For
+//!   points and rectangles that is rstar's answer.
+//! - An iterator finds all its answers when it is made, but for `nearest_neighbor_iter`. A drain takes
+//!   all of them out then, also where it is dropped early.
+//! - A tree may be sent to another thread, and one thread at a time may use it: [`RTree`] is `Send` and
+//!   not `Sync`.
 //!
-//! Where memory is refused, the program aborts, as with `Vec`. Where the tree is too deep or a count does not fit, a call panics and
-//! has changed nothing.
+//! Where memory is refused, the program aborts, as with `Vec`. Where the tree is too deep or a count
+//! does not fit, a call panics and has changed nothing.
 
 #![deny(unsafe_code)]
 

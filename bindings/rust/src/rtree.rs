@@ -35,7 +35,8 @@ impl<T> RTree<T> {
         self.objects.iter()
     }
 
-    /// All objects, to write. It is an error to change an envelope: the tree finds the object by its old one, and does not remove it.
+    /// All objects, to write. It is an error to change an envelope: the tree finds the object by its
+    /// old one, and does not remove it.
     pub fn iter_mut(&mut self) -> impl Iterator<Item = &mut T> {
         self.objects.iter_mut()
     }
@@ -154,8 +155,8 @@ impl<T: RTreeObject<Envelope = Envelope>> RTree<T> {
         }
     }
 
-    /// All objects, the nearest to a point first. The tree is asked for 8 of them, and for four times as many each time that these
-    /// are used up. So the first k cost as much as some questions of up to 4 k.
+    /// All objects, the nearest to a point first. The tree is asked for the 8 nearest, and for four times
+    /// as many whenever these are used up.
     pub fn nearest_neighbor_iter(&self, query_point: Point) -> impl Iterator<Item = &T> {
         let neighbors = self.nearest_neighbor_iter_with_distance_2(query_point);
         neighbors.map(|neighbor| neighbor.0)
@@ -235,7 +236,8 @@ impl<T: RTreeObject<Envelope = Envelope>> RTree<T> {
     }
 }
 
-/// Neighbours by growing lists. Those of a longer list that came already are left out: equally near ones may come in another order.
+/// Neighbours by growing lists. Those of a longer list that came already are left out: equally near ones
+/// may come in another order.
 struct Neighbors<'a> {
     index: &'a Index,
     point: Point,
