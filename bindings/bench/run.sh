@@ -1,5 +1,5 @@
 #!/usr/bin/env bash
-# Prints a table of times: the library from C, and rstar itself in Rust, each in its own process, one after the other.
+# Prints a table of times: the library from C, the same in Rust by the crate vaikrone, and rstar itself. Each runs alone.
 #
 #   bindings/bench/run.sh
 #
@@ -12,18 +12,27 @@ folder=${RSTAR_LIB_DIR:-$here/../../out/library}
 work=$(mktemp -d)
 trap 'rm -rf "$work"' EXIT
 
-cc -std=gnu11 -O2 -Wall -Wextra -I"$folder" "$here/bench.c" "$folder/librstar.a" -o "$work/bench"
-cp -r "$here/rstar_bench" "$work/rstar_bench"
-options=(--release --quiet --manifest-path "$work/rstar_bench/Cargo.toml")
+# build NAME FOLDER WORD..
+build() {
+  CARGO_TARGET_DIR=$work/target cargo build --release --quiet --manifest-path "$2/Cargo.toml" "${@:3}"
+  cp "$work/target/release/$1" "$work/$1"
+}
+options=()
 [[ -n ${RSTAR_CRATE:-} ]] && options+=(--offline --config "patch.crates-io.rstar.path='$RSTAR_CRATE'")
 [[ -n ${RSTAR_WORKSPACE:-} ]] && options+=(--config "$RSTAR_WORKSPACE/.cargo/config.toml")
-CARGO_TARGET_DIR=$work/target cargo build "${options[@]}"
+cp -r "$here/rstar_bench" "$work/copy" # which gets a Cargo.lock
+build rstar_bench "$work/copy" "${options[@]}"
+build vaikrone_bench "$here/vaikrone_bench" --offline
+cc -std=gnu11 -O2 -Wall -Wextra -I"$folder" "$here/bench.c" "$folder/librstar.a" -o "$work/bench"
 
-"$work/bench" >"$work/ours"
-"$work/target/release/rstar_bench" >"$work/theirs"
-diff <(grep '^answers' "$work/ours") <(grep '^answers' "$work/theirs") || { echo 'the answers differ' >&2; exit 1; }
-echo '| | `librstar.a` from C | rstar, in Rust |'
-echo '|---|---|---|'
-awk -F'\t' 'NR == FNR { theirs[$1] = $2; next }
-  $1 == "answers" { next }
-  { print "| " $1 " | " $2 " | " ($1 in theirs ? theirs[$1] : "–") " |" }' "$work/theirs" "$work/ours"
+for program in bench vaikrone_bench rstar_bench; do
+  "$work/$program" >"$work/$program.out"
+  diff <(grep '^answers' "$work/bench.out") <(grep '^answers' "$work/$program.out") || { echo 'the answers differ' >&2; exit 1; }
+done
+echo '| | C | Rust, vaikrone | Rust, rstar |'
+echo '|---|---|---|---|'
+awk -F'\t' 'FILENAME != last { file++; last = FILENAME }
+  file == 3 && $1 != "answers" { print "| " $1 " | " $2 " | " cell(1, $1) " | " cell(2, $1) " |" }
+  { of[file, $1] = $2 }
+  function cell(file, name) { return (file, name) in of ? of[file, name] : "–" }' \
+  "$work/vaikrone_bench.out" "$work/rstar_bench.out" "$work/bench.out"

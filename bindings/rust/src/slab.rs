@@ -53,3 +53,16 @@ impl<T> Slab<T> {
         self.places.into_iter().flatten()
     }
 }
+
+#[cfg(test)]
+mod tests {
+    use super::Slab;
+
+    #[test]
+    fn a_place_is_used_again() {
+        let mut slab = Slab::new(vec!['a', 'b']);
+        assert_eq!((slab.take(0), slab.next_id()), ('a', 0));
+        slab.put('c');
+        assert_eq!((slab.next_id(), *slab.get(0)), (2, 'c'));
+    }
+}
