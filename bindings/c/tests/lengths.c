@@ -50,9 +50,6 @@ static void try_lists(void) {
     BAD(tree.load(&tree_index, boxes, 3, ids, 2));
     BAD(tree.load(&tree_index, boxes, 0, ids, 1));
     BAD(tree.load(&other_index, boxes, 2, ids, 3));
-    BAD(tree.items(&tree_index, boxes, 3, ids, 4, &found));
-    BAD(tree.items(&tree_index, boxes, 4, ids, 3, &found));
-    BAD(tree.items(&other_index, boxes, 1, ids, 0, &found));
 }
 
 static void try_batches(void) {

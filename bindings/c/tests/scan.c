@@ -200,12 +200,11 @@ bool scan_index_contains(rstar_index *index, uint64_t id, const rstar_box *box) 
 
 rstar_status scan_index_items(rstar_index *index, rstar_box *boxes, size_t boxes_len, uint64_t *ids, size_t ids_len,
                               size_t *found) {
-    if (boxes_len != ids_len) {
-        return RSTAR_BAD_LENGTH;
-    }
-    for (size_t i = 0; i < len_of(index) && i < ids_len; i++) {
-        boxes[i] = items_of(index)[i].box;
-        ids[i] = items_of(index)[i].id;
+    for (size_t i = 0; i < len_of(index); i++) {
+        if (i < boxes_len) {
+            boxes[i] = items_of(index)[i].box;
+        }
+        put(ids, ids_len, i, items_of(index)[i].id);
     }
     *found = len_of(index);
     return RSTAR_OK;
