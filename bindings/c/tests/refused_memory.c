@@ -1,5 +1,7 @@
 /* Each allocation of the library is refused in turn: one alone, and one with all that follow. After each refusal the status is
- * RSTAR_NO_MEMORY, and rectangles and arrays are as they were. It is linked with --wrap=malloc and --wrap=realloc. */
+ * RSTAR_NO_MEMORY, and rectangles and arrays are as they were. It is linked with --wrap=malloc and --wrap=realloc.
+ *
+ * This does not hold of the arrays of a call for many questions: it may have written the answers to the first of them. */
 #include "scan.h"
 
 #include <stdio.h>
@@ -224,6 +226,10 @@ static void expect_same_items(const char *otherwise) {
     }
 }
 
+static bool is_batch(call *run) {
+    return run == meeting_each || run == inside_each || run == at_each || run == within_each || run == nearest_each;
+}
+
 /* Runs a call of the tree with an allocation refused, and says whether there was one. */
 static bool is_refused_at(call *run, size_t allocation, bool all_that_follow) {
     memset(&output, 0x5a, sizeof output);
@@ -244,18 +250,20 @@ static bool is_refused_at(call *run, size_t allocation, bool all_that_follow) {
     if (status != RSTAR_NO_MEMORY) {
         fail("the status is not RSTAR_NO_MEMORY");
     }
-    if (memcmp(&output, &untouched, sizeof output)) {
+    if (!is_batch(run) && memcmp(&output, &untouched, sizeof output)) {
         fail("an array is not as it was");
     }
     expect_same_items("the rectangles are not as they were");
     return true;
 }
 
-/* Refuses each allocation of a call alone, and then with all that follow. In the end the call does as the scan. */
+/* Refuses each allocation of a call, with all that follow and alone, until the call is not refused. Then it did as the scan. A
+ * refused call may keep memory that it got, so the next try may ask for less. */
 static void try_call(const char *name, call *run) {
     step_name = name;
-    for (size_t allocation = 0; is_refused_at(run, allocation, true); allocation++) {
-        is_refused_at(run, allocation, false);
+    size_t allocation = 0;
+    while (is_refused_at(run, allocation, true) && is_refused_at(run, allocation, false)) {
+        allocation++;
     }
     size_t found_by_tree = found;
     if (run(&scan, scans, &scan_output) != RSTAR_OK || found != found_by_tree) {
