@@ -79,8 +79,8 @@ check_rust() {
   cd "$top/bindings/rust"
   cargo test --offline --quiet
   [[ $quick == quick ]] && return
-  cargo test --offline --quiet --test ported --config \
-    'target."cfg(unix)".runner = "valgrind -q --error-exitcode=1 --leak-check=full --errors-for-leak-kinds=definite"' \
+  local valgrind='valgrind -q --error-exitcode=1 --leak-check=full --show-leak-kinds=definite --errors-for-leak-kinds=definite'
+  cargo test --offline --quiet --test ported --config "target.'cfg(unix)'.runner = '$valgrind'" \
     -- --skip drains
 }
 

@@ -1,4 +1,4 @@
-/* Times of the library, the best of nine rounds each, and the sums of the answers. rstar_bench prints the same of rstar. */
+/* Times of the library, the best of three rounds each, and the sums of the answers. rstar_bench prints the same of rstar. */
 #include "rstar.h"
 
 #include <inttypes.h>
@@ -6,7 +6,7 @@
 #include <stdlib.h>
 #include <time.h>
 
-enum { ITEMS = 100000, QUESTIONS = 10000, NEAREST = 10, ROOM = 1000, ROUNDS = 9 };
+enum { ITEMS = 100000, QUESTIONS = 10000, NEAREST = 10, ROOM = 1000, ROUNDS = 3 };
 
 static rstar_box boxes[ITEMS], areas[QUESTIONS];
 static rstar_point points[QUESTIONS];

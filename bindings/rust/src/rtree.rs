@@ -155,7 +155,7 @@ impl<T: RTreeObject<Envelope = Envelope>> RTree<T> {
         }
     }
 
-    /// All objects, the nearest to a point first. The tree is asked for the 8 nearest, and for four times
+    /// All objects, the nearest to a point first. The tree is asked for the 16 nearest, and for four times
     /// as many whenever these are used up.
     pub fn nearest_neighbor_iter(&self, query_point: Point) -> impl Iterator<Item = &T> {
         let neighbors = self.nearest_neighbor_iter_with_distance_2(query_point);
@@ -258,7 +258,7 @@ impl<'a> Neighbors<'a> {
     }
 
     fn grow(&mut self) {
-        self.asked = (4 * self.asked).max(8).min(self.index.len());
+        self.asked = (4 * self.asked).max(16).min(self.index.len());
         let mut nearest = self.index.nearest(&self.point, self.asked);
         nearest.retain(|neighbor| self.seen.insert(neighbor.0));
         self.batch = nearest.into_iter();

@@ -7,7 +7,7 @@ use std::time::Instant;
 const ITEMS: usize = 100_000;
 const QUESTIONS: usize = 10_000;
 const NEAREST: usize = 10;
-const ROUNDS: usize = 9;
+const ROUNDS: usize = 3;
 
 type Box = ([i64; 2], [i64; 2]);
 type Object = GeomWithData<Rectangle<[i64; 2]>, u64>;
