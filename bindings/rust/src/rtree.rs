@@ -242,7 +242,7 @@ struct Neighbors<'a> {
     index: &'a Index,
     point: Point,
     asked: usize,
-    seen: HashSet<u64>,
+    given: Vec<u64>,
     batch: std::vec::IntoIter<(u64, i64)>,
 }
 
@@ -252,7 +252,7 @@ impl<'a> Neighbors<'a> {
             index,
             point,
             asked: 0,
-            seen: HashSet::new(),
+            given: Vec::new(),
             batch: Vec::new().into_iter(),
         }
     }
@@ -260,7 +260,9 @@ impl<'a> Neighbors<'a> {
     fn grow(&mut self) {
         self.asked = (4 * self.asked).max(16).min(self.index.len());
         let mut nearest = self.index.nearest(&self.point, self.asked);
-        nearest.retain(|neighbor| self.seen.insert(neighbor.0));
+        let given: HashSet<u64> = self.given.iter().copied().collect();
+        nearest.retain(|neighbor| !given.contains(&neighbor.0));
+        self.given.extend(nearest.iter().map(|neighbor| neighbor.0));
         self.batch = nearest.into_iter();
     }
 }
