@@ -1,0 +1,73 @@
+"""The library: refused memory, where it is found, and the examples of the docstrings."""
+
+import doctest
+import os
+import subprocess
+import sys
+import unittest
+from pathlib import Path
+
+import vaikrone
+from vaikrone import _index
+
+REFUSED = """
+import resource
+from array import array
+from vaikrone import Index
+
+def limit(megabytes):
+    held = int(open("/proc/self/statm").read().split()[0]) * resource.getpagesize()
+    hard = resource.getrlimit(resource.RLIMIT_AS)[1]
+    resource.setrlimit(resource.RLIMIT_AS, (held + (megabytes << 20) if megabytes else hard, hard))
+
+def refused(call, *arguments):
+    try:
+        call(*arguments)
+    except MemoryError:
+        return True
+
+boxes, ids = array("q", [3]) * (4 << 20), array("Q", [7]) * (1 << 20)
+index = Index([(1, 1, 2, 2)])
+limit(8)
+assert refused(index.load, boxes, ids), "the load was not refused"
+limit(0)
+assert len(index) == 1 and (0, (1, 1, 2, 2)) in index, "a refused load changed the index"
+index = Index(boxes, ids)
+limit(2)
+assert refused(index.query, (0, 0, 9, 9)) and refused(index.pairs) and refused(index.items), "an answer was not refused"
+assert refused(index.drain, (0, 0, 9, 9)), "the drain was not refused"
+limit(0)
+assert len(index) == 1 << 20, "a refused drain changed the index"
+index, count = Index(), 0
+limit(8)
+while count < 1 << 22 and not refused(index.insert, count, (count, 0, count, 0)):
+    count += 1
+limit(0)
+assert 1000 < count < 1 << 22, f"{count} insertions, and none was refused"
+assert sorted(index.items()[1].tolist()) == list(range(count)), "a refused insertion changed the index"
+print("refused", count)
+"""
+
+
+def python(code, **environment):
+    return subprocess.run([sys.executable, "-c", code], env={**os.environ, **environment}, capture_output=True, text=True)
+
+
+class Library(unittest.TestCase):
+    @unittest.skipUnless(sys.platform == "linux", "memory is limited as Linux does it")
+    def test_refused_memory(self):
+        done = python(REFUSED)
+        self.assertTrue(done.stdout.startswith("refused"), done.stderr)
+
+    def test_it_is_named_by_the_environment(self):
+        beside = str(Path(vaikrone.__file__).with_name("librstar.so"))
+        ask = "import vaikrone; print(vaikrone.Index([(0, 0, 1, 1)]).at((1, 1)).tolist())"
+        self.assertEqual(python(ask, VAIKRONE_LIBRARY=beside).stdout, "[0]\n")
+        missing = python(ask, VAIKRONE_LIBRARY="/nowhere/librstar.so")
+        self.assertIn("ImportError: vaikrone finds no library: /nowhere/librstar.so", missing.stderr)
+
+
+def load_tests(loader, tests, pattern):
+    for module in (vaikrone, _index):
+        tests.addTests(doctest.DocTestSuite(module))
+    return tests
