@@ -15,7 +15,7 @@ Name: vaikrone
 Version: 0.1.0
 Summary: An R*-tree over rectangles, whose answers are proved
 License: MIT OR Apache-2.0
-Requires-Python: >=3.8
+Requires-Python: >=3.10
 """
 WHEEL = """\
 Wheel-Version: 1.0

@@ -5,7 +5,7 @@ from __future__ import annotations
 from array import array
 from ctypes import c_bool, c_int64, c_size_t, c_uint64
 from threading import Lock
-from typing import TYPE_CHECKING, Any, Iterable, Optional, Sequence, Tuple, Union
+from typing import TYPE_CHECKING, Any, Iterable, Sequence
 
 from ._library import Handle, calls, check
 from ._numbers import SIGNED, UNSIGNED, Rows, address, apart, box_of, given, point_of, rows_of, within_bits, zeros
@@ -13,12 +13,13 @@ from ._numbers import SIGNED, UNSIGNED, Rows, address, apart, box_of, given, poi
 if TYPE_CHECKING:
     import numpy
 
-    Numbers = Union[numpy.ndarray[Any, Any], array[int]]
+    Numbers = numpy.ndarray[Any, Any] | array[int]
+    Buffer = Numbers | memoryview
     Box = Sequence[float]
     Point = Sequence[float]
-    Boxes = Union[numpy.ndarray[Any, Any], array[int], memoryview, Iterable[Box]]
-    Points = Union[numpy.ndarray[Any, Any], array[int], memoryview, Iterable[Point]]
-    IDs = Union[numpy.ndarray[Any, Any], array[int], memoryview, Iterable[int]]
+    Boxes = Buffer | Iterable[Box]
+    Points = Buffer | Iterable[Point]
+    IDs = Buffer | Iterable[int]
 
 _GREATEST = 2**63 - 1
 _LONGEST_ROOM = 16384
@@ -61,7 +62,7 @@ class Index:
     True
     """
 
-    def __init__(self, boxes: Optional[Boxes] = None, ids: Optional[IDs] = None) -> None:
+    def __init__(self, boxes: Boxes | None = None, ids: IDs | None = None) -> None:
         """The rectangles of `boxes`, loaded at once, with the IDs of `ids`, or else 0, 1, 2 and so on."""
         self._handle = Handle()
         self._lock = Lock()
@@ -75,7 +76,7 @@ class Index:
     def __del__(self, clear: Any = calls.clear) -> None:
         clear(self._handle)
 
-    def load(self, boxes: Boxes, ids: Optional[IDs] = None) -> None:
+    def load(self, boxes: Boxes, ids: IDs | None = None) -> None:
         """Puts rectangles in the place of all that the index holds."""
         box_rows = rows_of(boxes, SIGNED, 4)
         id_rows = rows_of(array(UNSIGNED, range(box_rows.length)) if ids is None else ids, UNSIGNED, 1)
@@ -102,7 +103,7 @@ class Index:
         with self._lock:
             return calls.remove(self._handle, number, packed)
 
-    def __contains__(self, item: Tuple[int, Box]) -> bool:
+    def __contains__(self, item: tuple[int, Box]) -> bool:
         """`(id, box) in index`: whether there is a rectangle with this ID and this box."""
         id, box = item
         number, packed = _id(id), box_of(box)
@@ -119,7 +120,7 @@ class Index:
         with self._lock:
             calls.clear(self._handle)
 
-    def items(self) -> Tuple[Numbers, Numbers]:
+    def items(self) -> tuple[Numbers, Numbers]:
         """The boxes and the IDs of all rectangles, so that `Index(*index.items())` is a copy.
 
         Each box has its lower corner first. Boxes are an array of shape (n, 4), or without numpy of 4 * n numbers.
@@ -172,7 +173,7 @@ class Index:
         """
         return self._ids(_by(predicate, _DRAIN), box_of(box))
 
-    def query_many(self, boxes: Boxes, predicate: str = "intersects") -> Tuple[Numbers, Numbers]:
+    def query_many(self, boxes: Boxes, predicate: str = "intersects") -> tuple[Numbers, Numbers]:
         """The same as `query` for many boxes at once: offsets and IDs.
 
         Those for box i are `ids[offsets[i]:offsets[i + 1]]`.
@@ -183,15 +184,15 @@ class Index:
         """
         return self._ids_of_each(_by(predicate, _SELECT_EACH), rows_of(boxes, SIGNED, 4))
 
-    def at_many(self, points: Points) -> Tuple[Numbers, Numbers]:
+    def at_many(self, points: Points) -> tuple[Numbers, Numbers]:
         """The same as `at` for many points at once: offsets and IDs, as of `query_many`."""
         return self._ids_of_each(calls.at_each, rows_of(points, SIGNED, 2))
 
-    def within_many(self, points: Points, squared_distance: float) -> Tuple[Numbers, Numbers]:
+    def within_many(self, points: Points, squared_distance: float) -> tuple[Numbers, Numbers]:
         """The same as `within` for many points at once: offsets and IDs, as of `query_many`."""
         return self._ids_of_each(calls.within_each, rows_of(points, SIGNED, 2), _distance(squared_distance))
 
-    def nearest(self, point: Point, k: int = 1) -> Tuple[Numbers, Numbers]:
+    def nearest(self, point: Point, k: int = 1) -> tuple[Numbers, Numbers]:
         """The IDs and the squared distances of the k rectangles nearest to the point, the nearest first.
 
         They are fewer than k where the index holds fewer.
@@ -207,7 +208,7 @@ class Index:
             check(calls.nearest(self._handle, packed, address(ids), most, address(distances), most, self._found))
         return given(ids, most), given(distances, most)
 
-    def nearest_many(self, points: Points, k: int = 1) -> Tuple[Numbers, Numbers]:
+    def nearest_many(self, points: Points, k: int = 1) -> tuple[Numbers, Numbers]:
         """The same as `nearest` for n points at once, m for each: k, or the number of rectangles where that is less.
 
         Arrays of numpy have the shape (n, m). Without numpy, those of point i begin at i * m.
@@ -221,7 +222,7 @@ class Index:
             check(calls.nearest_each(self._handle, *rows[:2], most, *arrays, self._found))
         return given(ids, size, rows.length, most), given(distances, size, rows.length, most)
 
-    def pop_nearest(self, point: Point) -> Optional[Tuple[int, Tuple[int, int, int, int], int]]:
+    def pop_nearest(self, point: Point) -> tuple[int, tuple[int, int, int, int], int] | None:
         """Takes a rectangle out that is nearest to the point, and gives its ID, its box and its squared distance.
 
         None: there is no rectangle.
@@ -236,7 +237,7 @@ class Index:
             check(calls.pop_nearest(self._handle, packed, number, address(box), distance, is_found))
         return (number.value, (box[0], box[1], box[2], box[3]), distance.value) if is_found else None
 
-    def pairs(self) -> Tuple[Numbers, Numbers]:
+    def pairs(self) -> tuple[Numbers, Numbers]:
         """The pairs of rectangles that intersect, each once: the IDs of the first of each, and of the second.
 
         >>> first, second = Index([(0, 0, 2, 2), (2, 2, 4, 4), (9, 9, 9, 9)]).pairs()
@@ -246,7 +247,7 @@ class Index:
         with self._lock:
             return self._pairs(calls.pairs)
 
-    def pairs_with(self, other: Index) -> Tuple[Numbers, Numbers]:
+    def pairs_with(self, other: Index) -> tuple[Numbers, Numbers]:
         """The pairs of a rectangle of this index and one of another that it intersects: the IDs here, and there.
 
         >>> here, there = Index([(0, 0, 2, 2)], [7]).pairs_with(Index([(1, 1, 3, 3)], [8]))
@@ -264,7 +265,7 @@ class Index:
     def __repr__(self) -> str:
         return f"<vaikrone.{type(self).__name__} of {len(self)} rectangles>"
 
-    def __reduce__(self) -> Tuple[Any, ...]:
+    def __reduce__(self) -> tuple[Any, ...]:
         """Pickles and copies by what the index holds, whether numpy is installed or not."""
         boxes, ids = self.items()
         return type(self), (array(SIGNED, boxes.tobytes()), array(UNSIGNED, ids.tobytes()))
@@ -282,7 +283,7 @@ class Index:
             self._room = zeros(UNSIGNED, min(2 * count, _LONGEST_ROOM))
         return given(ids, count)
 
-    def _ids_of_each(self, select: Any, rows: Rows, *more: Any) -> Tuple[Numbers, Numbers]:
+    def _ids_of_each(self, select: Any, rows: Rows, *more: Any) -> tuple[Numbers, Numbers]:
         offsets, ids = zeros(SIGNED, rows.length + 1), zeros(UNSIGNED, 8 * rows.length)
         with self._lock:
             question = self._handle, *rows[:2], *more, address(offsets), len(offsets)
@@ -292,7 +293,7 @@ class Index:
                 check(select(*question, address(ids), len(ids)))
         return given(offsets, rows.length + 1), given(ids, offsets[-1])
 
-    def _pairs(self, join: Any, *other: Any) -> Tuple[Numbers, Numbers]:
+    def _pairs(self, join: Any, *other: Any) -> tuple[Numbers, Numbers]:
         room = max(64, calls.len(self._handle))
         while True:
             first, second = zeros(UNSIGNED, room), zeros(UNSIGNED, room)

@@ -98,7 +98,10 @@ def _array_of(values: Sequence[Any], code: str, width: int) -> array[int]:
         if any(len(row) != width for row in values):
             raise ValueError(f"each row is {width} numbers")
         values = list(chain.from_iterable(values))
-    return array(code, map(whole, values))
+    try:
+        return array(code, values)
+    except TypeError:  # a float that is whole, or what array refuses
+        return array(code, map(whole, values))
 
 
 def _converted(view: memoryview, code: str) -> array[int]:
