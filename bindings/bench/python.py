@@ -1,7 +1,8 @@
 #!/usr/bin/env python3
 """Times from Python: vaikrone beside rtree and shapely, which are Debian's python3-rtree and python3-shapely.
 
-    PYTHONPATH=bindings/python VAIKRONE_LIBRARY=out/library/librstar.so /usr/bin/python3 -W ignore bindings/bench/python.py
+    export PYTHONPATH=bindings/python VAIKRONE_LIBRARY=out/library/librstar.so
+    /usr/bin/python3 -W ignore bindings/bench/python.py
 
 100,000 rectangles with sides up to 4,000 lie at random in a square of 2,000,000. They are asked 10,000 boxes with sides up to
 20,000, and 10,000 points for 10 neighbours each. A time is the best of three rounds, or of as many as the argument says: of

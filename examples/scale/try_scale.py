@@ -3,8 +3,8 @@
 
     python3 examples/scale/try_scale.py RECTANGLES [SHARDS [turn]]
 
-The cluster is at DASK, or else tcp://127.0.0.1:8786; all its workers have the package vaikrone. With `turn` rectangles go into
-the shards in turn, wherever they lie. Up to 10,000 rectangles a scan answers too, and is compared.
+The cluster is at DASK, or else tcp://127.0.0.1:8786; all its workers have the package vaikrone. With `turn` rectangles go
+into the shards in turn, wherever they lie. Up to 10,000 rectangles a plain scan is compared too.
 """
 
 import os

@@ -160,11 +160,14 @@ class Refused(unittest.TestCase):
 
     def test_points(self):
         for call, more in (("at", ()), ("within", (1,)), ("nearest", (1,)), ("pop_nearest", ())):
-            for error, point in ((ValueError, (1,)), (ValueError, (1, 2, 3)), (OverflowError, (2**63, 1)), (TypeError, 7)):
-                self.refuses(error, call, point, *more)
+            self.refuses(ValueError, call, (1,), *more)
+            self.refuses(ValueError, call, (1, 2, 3), *more)
+            self.refuses(OverflowError, call, (2**63, 1), *more)
+            self.refuses(TypeError, call, 7, *more)
 
     def test_numbers(self):
-        for error, number in ((OverflowError, -1), (OverflowError, 2**64), (ValueError, 1.5), (TypeError, "1"), (TypeError, None)):
+        large = (OverflowError, -1), (OverflowError, 2**64)
+        for error, number in (*large, (ValueError, 1.5), (TypeError, "1"), (TypeError, None)):
             self.refuses(error, "insert", number, (1, 2, 3, 4))
             self.refuses(error, "remove", number, (1, 2, 3, 4))
             self.refuses(error, "__contains__", (number, (1, 2, 3, 4)))
@@ -193,12 +196,26 @@ class Refused(unittest.TestCase):
         ):
             self.refuses(error, "load", boxes)
             self.refuses(error, "query_many", boxes)
-        for error, points in ((ValueError, [(1, 2, 3)]), (ValueError, array("q", [1])), (TypeError, [1]), (OverflowError, [(1, 2**63)])):
+        for error, points in (
+            (ValueError, [(1, 2, 3)]),
+            (ValueError, array("q", [1])),
+            (TypeError, [1]),
+            (OverflowError, [(1, 2**63)]),
+        ):
             self.refuses(error, "at_many", points)
             self.refuses(error, "within_many", points, 1)
             self.refuses(error, "nearest_many", points, 1)
-        for error, ids in ((ValueError, [1, 2]), (ValueError, range(4)), (OverflowError, [1, 2, -3]), (OverflowError, [1, 2, 2**64]),
-                           (OverflowError, array("q", [1, 2, -3])), (TypeError, [1, 2, "3"]), (TypeError, 3), (TypeError, b"123")):  # fmt: skip
+        for error, ids in (
+            (ValueError, [1, 2]),
+            (ValueError, range(4)),
+            (ValueError, [1, 2, 3.5]),
+            (OverflowError, [1, 2, -3]),
+            (OverflowError, [1, 2, 2**64]),
+            (OverflowError, array("q", [1, 2, -3])),
+            (TypeError, [1, 2, "3"]),
+            (TypeError, 3),
+            (TypeError, b"123"),
+        ):
             self.refuses(error, "load", BOXES, ids)
 
     def test_others(self):

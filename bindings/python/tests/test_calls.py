@@ -69,8 +69,10 @@ class Trial:
 
     def in_some_form(self, numbers):
         """The same whole numbers as a tuple, a list, an array, or floats where these are exact."""
-        exact = all(abs(n) < 2**53 for n in numbers)
-        return self.random.choice((tuple, list, lambda n: array("q", n), lambda n: list(map(float, n)) if exact else n))(numbers)
+        forms = [tuple, list, lambda n: array("q", n)]
+        if all(abs(n) < 2**53 for n in numbers):
+            forms.append(lambda n: list(map(float, n)))
+        return self.random.choice(forms)(numbers)
 
     def in_some_rows(self, rows):
         flat = array("q", chain.from_iterable(rows))
@@ -195,7 +197,8 @@ class Trial:
         self.items = [(number, scan.upright(box)) for number, box in rows]
 
     def copies(self):
-        self.index = self.random.choice((copy.copy, copy.deepcopy, lambda index: pickle.loads(pickle.dumps(index))))(self.index)
+        by_pickle = lambda index: pickle.loads(pickle.dumps(index))
+        self.index = self.random.choice((copy.copy, copy.deepcopy, by_pickle))(self.index)
         self.all_items()
 
     def clear(self):

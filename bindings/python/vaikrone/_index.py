@@ -171,7 +171,15 @@ class Index:
         >>> index.drain((0, 0, 4, 4)).tolist(), len(index)
         ([0], 1)
         """
-        return self._ids(_by(predicate, _DRAIN), box_of(box))
+        drain, packed = _by(predicate, _DRAIN), box_of(box)
+        with self._lock:  # without room nothing is taken out, and so no ID is lost where memory is refused
+            check(drain(self._handle, packed, address(self._room), 0, self._found))
+            count = self._found.value
+            ids = zeros(UNSIGNED, count)
+            answer = given(ids, count)
+            if count:
+                check(drain(self._handle, packed, address(ids), count, self._found))
+        return answer
 
     def query_many(self, boxes: Boxes, predicate: str = "intersects") -> tuple[Numbers, Numbers]:
         """The same as `query` for many boxes at once: offsets and IDs.
