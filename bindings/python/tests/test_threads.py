@@ -3,10 +3,11 @@
 import sys
 import unittest
 from threading import Thread
+from time import sleep
 
 from vaikrone import Index
 
-EACH, THREADS = 2000, 4
+EACH, THREADS = 1000, 4
 
 
 def run(*calls):
@@ -24,10 +25,10 @@ def run(*calls):
         thread.start()
     for thread in threads:
         thread.join(120)
+        if errors:
+            raise errors[0]
         if thread.is_alive():
             raise AssertionError("a thread hangs")
-    if errors:
-        raise errors[0]
 
 
 class Threads(unittest.TestCase):
@@ -40,16 +41,19 @@ class Threads(unittest.TestCase):
 
     def test_questions_beside_insertions(self):
         """An answer holds all that was in before the question, and nothing that came in after the answer."""
-        index, begun, done = Index(), [0] * THREADS, [0] * THREADS
+        index, begun, done, turns = Index(), [0] * THREADS, [0] * THREADS, [0] * 3
 
         def insert(t):
             for n in range(EACH):
+                while n > 5 * min(turns) + 5:  # so that questions come all the while
+                    sleep(0)
                 begun[t] = n + 1
                 index.insert(t * EACH + n, (n, t, n + 1, t + 1))
                 done[t] = n + 1
 
         def ask(k):
-            for turn in range(300):
+            while sum(done) < EACH * THREADS:
+                turn = turns[k] = turns[k] + 1
                 before = [t * EACH + n for t in range(THREADS) for n in range(done[t])]
                 if (turn + k) % 3 == 0:
                     ids = index.query_many([(0, 0, EACH, THREADS)])[1].tolist()
