@@ -7,6 +7,7 @@ cd "$(dirname "$0")"
 python=${PYTHON:-python3}
 export STEPS=100000
 [ "${1-}" != quick ] || STEPS=10000
+unset VAIKRONE_LIBRARY PYTHONPATH
 scratch=$(mktemp -d)
 trap 'rm -rf "$scratch"' EXIT
 "$python" -m pip install --quiet --no-index --target "$scratch/with" . 2> "$scratch/log" || { cat "$scratch/log"; exit 1; }

@@ -2,8 +2,10 @@
 
 import doctest
 import os
+import shutil
 import subprocess
 import sys
+import tempfile
 import unittest
 from pathlib import Path
 
@@ -52,6 +54,23 @@ print("refused", count)
 def python(code, **environment):
     return subprocess.run([sys.executable, "-c", code], env={**os.environ, **environment}, capture_output=True, text=True)
 
+GIVEN_BACK = """
+from array import array
+from resource import RUSAGE_SELF, getrusage
+from vaikrone import Index
+
+boxes = array("q", range(80000))
+for turn in range(200):
+    if turn == 10:
+        before = getrusage(RUSAGE_SELF).ru_maxrss
+    index = Index(boxes)
+    index.load(boxes)
+    index.drain((0, 0, 40000, 40000))
+    if turn % 2:
+        index.clear()
+print(getrusage(RUSAGE_SELF).ru_maxrss - before)
+"""
+
 
 class Library(unittest.TestCase):
     @unittest.skipUnless(sys.platform == "linux", "memory is limited as Linux does it")
@@ -59,10 +78,17 @@ class Library(unittest.TestCase):
         done = python(REFUSED)
         self.assertTrue(done.stdout.startswith("refused"), done.stderr)
 
+    @unittest.skipUnless(sys.platform == "linux", "memory is told as Linux does it")
+    def test_memory_is_given_back(self):
+        done = python(GIVEN_BACK)
+        self.assertLess(int(done.stdout), 20000, f"kilobytes more {done.stderr}")
+
     def test_it_is_named_by_the_environment(self):
-        beside = str(Path(vaikrone.__file__).with_name("librstar.so"))
+        library = os.environ.get("VAIKRONE_LIBRARY") or Path(vaikrone.__file__).with_name("librstar.so")
         ask = "import vaikrone; print(vaikrone.Index([(0, 0, 1, 1)]).at((1, 1)).tolist())"
-        self.assertEqual(python(ask, VAIKRONE_LIBRARY=beside).stdout, "[0]\n")
+        with tempfile.TemporaryDirectory() as folder:
+            other = shutil.copy(library, Path(folder) / "another.so")
+            self.assertEqual(python(ask, VAIKRONE_LIBRARY=str(other)).stdout, "[0]\n")
         missing = python(ask, VAIKRONE_LIBRARY="/nowhere/librstar.so")
         self.assertIn("ImportError: vaikrone finds no library: /nowhere/librstar.so", missing.stderr)
 

@@ -16,6 +16,7 @@ except ImportError:
     numpy = None  # type: ignore[assignment]
 
 SIGNED, UNSIGNED = "q", "Q"
+_ZERO = {SIGNED: array(SIGNED, [0]), UNSIGNED: array(UNSIGNED, [0])}
 _BOX, _POINT = Struct("4q"), Struct("2q")
 _EMPTY = c_int64()  # the library takes no null pointer, so what is empty lies here
 
@@ -45,7 +46,7 @@ def point_of(point: Iterable[Any]) -> bytes:
 
 
 def _packed(form: Struct, values: Iterable[Any], width: int, message: str) -> bytes:
-    """The bytes of a box or a point: the library reads them where they lie."""
+    """The bytes of a box or a point: the library reads them where they lie, which is at a multiple of eight."""
     values = tuple(values)
     try:
         return form.pack(*values)
@@ -108,7 +109,11 @@ def _converted(view: memoryview, code: str) -> array[int]:
     if view.format not in tuple("hHiIfd"):
         raise TypeError(f"64-bit integers are needed, not a buffer of format {view.format!r}")
     values: Any = view.tolist()
-    return array(code, map(whole, chain.from_iterable(values) if view.ndim == 2 else values))
+    if view.ndim == 2:
+        values = list(chain.from_iterable(values))
+    if view.format in "fd" and not all(map(float.is_integer, values)):
+        raise ValueError("a number of the buffer is not whole")
+    return array(code, map(int, values))
 
 
 def _least(view: memoryview) -> int:
@@ -125,7 +130,7 @@ def apart(ids: Rows, boxes: Rows) -> Rows:
 
 def zeros(code: str, count: int) -> array[int]:
     """An array that the library writes to; it has an address also where it is to hold nothing."""
-    return array(code, [0]) * max(count, 1)
+    return _ZERO[code] * max(count, 1)
 
 
 def address(numbers: array[int]) -> int:
@@ -135,4 +140,7 @@ def address(numbers: array[int]) -> int:
 def given(numbers: array[int], count: int, *shape: int) -> Any:
     """The first so many numbers, to the caller: as a numpy array where numpy is installed. None is copied."""
     del numbers[count:]
-    return numpy.frombuffer(numbers, numbers.typecode).reshape(shape or -1) if numpy else numbers
+    if numpy is None:
+        return numbers
+    flat = numpy.frombuffer(numbers, numbers.typecode)
+    return flat.reshape(shape) if shape else flat
