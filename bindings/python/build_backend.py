@@ -8,11 +8,11 @@ from pathlib import Path
 from sysconfig import get_platform
 
 HERE = Path(__file__).resolve().parent
-NAME = "vaikrone-0.1.0"
+NAME = "vaikrone-0.14.0"  # with the version of rstar
 METADATA = """\
 Metadata-Version: 2.1
 Name: vaikrone
-Version: 0.1.0
+Version: 0.14.0
 Summary: An R*-tree over rectangles, whose answers are proved
 License: MIT OR Apache-2.0
 Requires-Python: >=3.10
@@ -35,6 +35,8 @@ def build_wheel(wheel_directory, config_settings=None, metadata_directory=None):
     files["vaikrone/py.typed"] = b""
     files["vaikrone/librstar.so"] = library.read_bytes()
     files[info + "METADATA"] = METADATA.encode()
+    for name in ("LICENSE-MIT", "LICENSE-APACHE"):
+        files[info + name] = (HERE.parents[1] / name).read_bytes()
     files[info + "WHEEL"] = WHEEL.format(tag).encode()
     record = [f"{name},sha256={digest(content)},{len(content)}\n" for name, content in files.items()]
     files[info + "RECORD"] = "".join(record + [info + "RECORD,,\n"]).encode()

@@ -12,4 +12,3 @@
 from ._index import Index
 
 __all__ = ["Index"]
-__version__ = "0.1.0"
