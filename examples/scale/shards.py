@@ -66,7 +66,7 @@ class Shard:
 
     def near(self, points, most):
         """For each point the nearest, in one order: by distance, corners and ID. Each is six numbers of the list."""
-        return [list(chain.from_iterable(self.keys(point, most))) for point in points]
+        return [list(chain.from_iterable(self.keys(point, most))) for point in tuples(points, 2)]
 
     def keys(self, point, most):
         """Of equal distances the index may give any: where the last one has more behind it, all at most as far are asked."""
@@ -76,9 +76,9 @@ class Shard:
         boxes = [self.box(number) for number in ids]
         return sorted((distance(box, point), *box, number) for box, number in zip(boxes, ids))[:most]
 
-    def ask(self, name, questions, width, *more):
+    def ask(self, name, questions, *more):
         """The answers to questions that came as bytes, as bytes."""
-        return packed(getattr(self, name)(tuples(array("q", questions), width), *more))
+        return packed(getattr(self, name)(array("q", questions), *more))
 
     def meeting(self, box):
         """The rows that meet a box."""
@@ -148,7 +148,7 @@ class Shards:
         for closed in [shard.close() for shard in self.shards]:
             closed.result()
 
-    def ask(self, name, questions, width, shards_of_each, *more):
+    def ask(self, name, questions, shards_of_each, *more):
         """Each question to its shards, one call for each shard: the answers of each question."""
         own, answers, calls = [[] for _ in self.shards], [[] for _ in questions], []
         for q, shards in enumerate(shards_of_each):
@@ -158,7 +158,7 @@ class Shards:
             if numbers:
                 self.asked += len(numbers)
                 data = array("q", chain.from_iterable([questions[q] for q in numbers])).tobytes()
-                calls.append((numbers, shard.ask(name, data, width, *more)))
+                calls.append((numbers, shard.ask(name, data, *more)))
         for numbers, call in calls:
             for q, answer in zip(numbers, unpacked(*call.result())):
                 answers[q].append(answer)
@@ -167,7 +167,7 @@ class Shards:
     def hit(self, boxes):
         """A selection of the whole is the union of the shards' selections; one whose box does not meet has none."""
         offsets, shards = (numbers.tolist() for numbers in self.map.query_many(boxes))
-        answers = self.ask("hit", boxes, 4, [shards[a:b] for a, b in zip(offsets, offsets[1:])])
+        answers = self.ask("hit", boxes, [shards[a:b] for a, b in zip(offsets, offsets[1:])])
         return [found[0] if len(found) == 1 else sorted(chain(*found)) for found in answers]
 
     def near(self, points, most):
@@ -175,12 +175,12 @@ class Shards:
 
         First the shard whose box is nearest is asked, then all whose box is no farther than the last that it gave.
         """
-        first = [self.map.nearest(point)[0].tolist() for point in points]
-        found = [sum(one, []) for one in self.ask("near", points, 2, first, most)]
+        first = tuples(array("Q", self.map.nearest_many(points)[0].tobytes()), 1) or [()] * len(points)
+        found = [sum(one, []) for one in self.ask("near", points, first, most)]
         limits = [keys[-KEY] if keys and len(keys) == KEY * most else GREATEST for keys in found]
         within = [self.map.within(point, limit).tolist() for point, limit in zip(points, limits)]
         others = [[k for k in shards if k not in one] for shards, one in zip(within, first)]
-        more = self.ask("near", points, 2, others, most)
+        more = self.ask("near", points, others, most)
         merged = [sorted(tuples(chain(one, *others), KEY))[:most] for one, others in zip(found, more)]
         return [[(key[-1], key[0]) for key in keys] for keys in merged]
 

@@ -96,7 +96,7 @@ def by_scan(rows, others, side):
     return [[meeting(box) for box in boxes(side)[:100]], [near(point) for point in points(side)[:100]], pairs]
 
 
-def main(count, shards=12, *turn):
+def main(count, shards=3, *turn):
     count, side = int(count), isqrt(10 * int(count))
     rows = timed("rectangles drawn", lambda: drawn(count, side, 1))
     others = drawn(count // 100, side, 2)
