@@ -17,10 +17,11 @@ import resource
 from array import array
 from vaikrone import Index
 
+all_memory = resource.getrlimit(resource.RLIMIT_AS)
+
 def limit(megabytes):
     held = int(open("/proc/self/statm").read().split()[0]) * resource.getpagesize()
-    hard = resource.getrlimit(resource.RLIMIT_AS)[1]
-    resource.setrlimit(resource.RLIMIT_AS, (held + (megabytes << 20) if megabytes else hard, hard))
+    resource.setrlimit(resource.RLIMIT_AS, (held + (megabytes << 20), all_memory[1]))
 
 def refused(call, *arguments):
     try:
@@ -32,19 +33,19 @@ boxes, ids = array("q", [3]) * (4 << 20), array("Q", [7]) * (1 << 20)
 index = Index([(1, 1, 2, 2)])
 limit(8)
 assert refused(index.load, boxes, ids), "the load was not refused"
-limit(0)
+resource.setrlimit(resource.RLIMIT_AS, all_memory)
 assert len(index) == 1 and (0, (1, 1, 2, 2)) in index, "a refused load changed the index"
 index = Index(boxes, ids)
 limit(2)
 assert refused(index.query, (0, 0, 9, 9)) and refused(index.pairs) and refused(index.items), "an answer was not refused"
 assert refused(index.drain, (0, 0, 9, 9)), "the drain was not refused"
-limit(0)
+resource.setrlimit(resource.RLIMIT_AS, all_memory)
 assert len(index) == 1 << 20, "a refused drain changed the index"
 index, count = Index(), 0
 limit(8)
 while count < 1 << 22 and not refused(index.insert, count, (count, 0, count, 0)):
     count += 1
-limit(0)
+resource.setrlimit(resource.RLIMIT_AS, all_memory)
 assert 1000 < count < 1 << 22, f"{count} insertions, and none was refused"
 assert sorted(index.items()[1].tolist()) == list(range(count)), "a refused insertion changed the index"
 print("refused", count)
