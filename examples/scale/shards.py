@@ -1,7 +1,7 @@
 """Rectangles in shards on a Dask cluster: each shard is an index of the package vaikrone, on one of the workers.
 
     from shards import Shards, connect, tiles
-    with connect("tcp://127.0.0.1:8786") as client, Shards(client, rows, tiles(rows, 12), 12) as shards:
+    with connect("tcp://127.0.0.1:8786") as client, Shards(client, rows, tiles(rows, 3), 3) as shards:
         shards.hit([(1, 1, 9, 9)])     # [[7, 8]]: for each box the IDs, ascending
         shards.near([(5, 5)], 2)       # [[(7, 18), (8, 20)]]: for each point the nearest IDs with squared distances
 
