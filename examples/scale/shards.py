@@ -1,7 +1,7 @@
-"""Rectangles in shards on a Dask cluster: each shard is a process of the proved program, on one of the workers.
+"""Rectangles in shards on a Dask cluster: each shard is an index of the package vaikrone, on one of the workers.
 
     from shards import Shards, connect, tiles
-    with connect("tcp://127.0.0.1:8786") as client, Shards(client, program, rows, tiles(rows, 12), 12) as shards:
+    with connect("tcp://127.0.0.1:8786") as client, Shards(client, rows, tiles(rows, 3), 3) as shards:
         shards.hit([(1, 1, 9, 9)])     # [[7, 8]]: for each box the IDs, ascending
         shards.near([(5, 5)], 2)       # [[(7, 18), (8, 20)]]: for each point the nearest IDs with squared distances
 
@@ -12,18 +12,15 @@ is asked for, the lower corner comes first: X1 <= X2, Y1 <= Y2.
 from array import array
 from bisect import bisect_left, bisect_right
 from contextlib import suppress
-from itertools import chain
+from itertools import chain, islice
 from math import isqrt
 from pathlib import Path
 
 from dask.distributed import Client
-from vaikrone import Index, Refused
+from vaikrone import Index
 
-GREATEST = 2**63 - 1  # distances are held at it, as the program holds them
-
-
-def meets(a, b):
-    return a[0] <= b[2] and b[0] <= a[2] and a[1] <= b[3] and b[1] <= a[3]
+GREATEST = 2**63 - 1  # distances are held at it, as the package holds them
+KEY = 6  # a neighbour as it crosses the cluster: distance, corners and ID
 
 
 def distance(box, point):
@@ -31,57 +28,72 @@ def distance(box, point):
     return min(across[0] ** 2 + across[1] ** 2, GREATEST)
 
 
-def load(index, rows):
-    """Lets the program hold just these rectangles."""
-    pipe = index.process.stdin
-    pipe.write(f"load {len(rows) // 5}\n")
-    for start in range(0, len(rows), 50000):
-        some = map(str, rows[start : start + 50000])
-        pipe.write("".join(" ".join(row) + "\n" for row in zip(*[some] * 5)))
-    pipe.flush()
-    answer = index.process.stdout.readline().rstrip("\n")
-    if answer != "ok":
-        raise Refused(answer, index.close())
+def split(rows):
+    """The IDs of rows, and their boxes."""
+    boxes = array("q", bytes(8 * 4 * (len(rows) // 5)))
+    for k in range(4):
+        boxes[k::4] = rows[k + 1 :: 5]
+    return rows[::5], boxes
+
+
+def tuples(numbers, width):
+    return list(zip(*[iter(numbers)] * width))
+
+
+def packed(lists):
+    """Lists of numbers as bytes: their lengths, and all numbers. These cross the cluster faster than lists."""
+    return array("q", map(len, lists)).tobytes(), array("q", chain.from_iterable(lists)).tobytes()
+
+
+def unpacked(lengths, numbers):
+    left = iter(array("q", numbers))
+    return [list(islice(left, length)) for length in array("q", lengths)]
 
 
 class Shard:
-    """On a worker: one process of the program, and the rows that it holds, by ID."""
+    """On a worker: an index of rectangles, and their boxes by ID."""
 
-    def __init__(self, program, rows):
-        self.rows = array("q", rows)
-        self.index = Index(program)
-        load(self.index, self.rows)
+    def __init__(self, rows):
+        self.ids, self.boxes = split(array("q", rows))
+        self.index = Index(self.boxes, self.ids)
 
-    def row(self, number):
-        at = 5 * bisect_left(range(len(self.rows) // 5), number, key=lambda k: self.rows[5 * k])
-        return self.rows[at : at + 5]
+    def box(self, number):
+        at = 4 * bisect_left(self.ids, number)
+        return self.boxes[at : at + 4]
 
     def hit(self, boxes):
-        return [self.index.hit(box) for box in boxes]
+        offsets, ids = (numbers.tolist() for numbers in self.index.query_many(boxes))
+        return [sorted(ids[a:b]) for a, b in zip(offsets, offsets[1:])]
 
     def near(self, points, most):
-        """For each point the nearest as tuples that compare as the program orders them: by distance, corners and ID."""
-        return [[(d, *self.row(n)[1:], n) for n, d in self.index.near(point, most)] for point in points]
+        """For each point the nearest, in one order: by distance, corners and ID. Each is six numbers of the list."""
+        return [list(chain.from_iterable(self.keys(point, most))) for point in tuples(points, 2)]
+
+    def keys(self, point, most):
+        """Of equal distances the index may give any: where the last one has more behind it, all at most as far are asked."""
+        ids, distances = (numbers.tolist() for numbers in self.index.nearest(point, most + 1))
+        if len(ids) > most > 0 and distances[most - 1] == distances[most]:
+            ids = self.index.within(point, distances[most]).tolist()
+        boxes = [self.box(number) for number in ids]
+        return sorted((distance(box, point), *box, number) for box, number in zip(boxes, ids))[:most]
+
+    def ask(self, name, questions, *more):
+        """The answers to questions that came as bytes, as bytes."""
+        return packed(getattr(self, name)(array("q", questions), *more))
 
     def meeting(self, box):
         """The rows that meet a box."""
-        return b"".join(self.row(n).tobytes() for n in self.index.hit(box))
+        ids = self.index.query(box).tolist()
+        return array("q", chain.from_iterable((number, *self.box(number)) for number in ids)).tobytes()
 
-    def join(self, others):
-        """The pairs of an ID of this shard and an ID of the other rows, where the rectangles meet."""
-        others, pairs = array("q", others), array("q")
-        for k in range(0, len(others), 5):
-            for n in self.index.hit(others[k + 1 : k + 5]):
-                pairs.extend((n, others[k]))
-        return pairs.tobytes()
-
-    def memory(self):
-        """The most megabytes that the program has held, where the system is Linux."""
-        status = Path(f"/proc/{self.index.process.pid}/status").read_text()
-        return int(status.split("VmHWM:")[1].split()[0]) // 1024
+    def join(self, rows):
+        """The pairs of an ID of this shard and an ID of other rows, where the rectangles meet."""
+        ids, boxes = split(array("q", rows))
+        here, there = self.index.pairs_with(Index(boxes, ids))
+        return here.tobytes(), there.tobytes()
 
     def close(self):
-        return self.index.close()
+        self.index.clear()
 
 
 def cuts(numbers, parts):
@@ -105,21 +117,21 @@ def tiles(rows, count):
 
 
 def connect(address):
-    """A client of the cluster, whose workers have these two files from it: the first, and those that come soon after it."""
+    """A client of the cluster: the first worker, and those that come soon after it. They have this file from it, and the
+    package by themselves."""
     client = Client(address)
     client.wait_for_workers(1, timeout=60)
     with suppress(TimeoutError):
         while True:
             client.wait_for_workers(len(client.scheduler_info()["workers"]) + 1, timeout=2)
-    for name in ("clients/vaikrone.py", "scale/shards.py"):
-        client.upload_file(str(Path(__file__).resolve().parents[1] / name))
+    client.upload_file(str(Path(__file__).resolve()))
     return client
 
 
 class Shards:
-    """All shards: each row lies in the one that `place` names, from 0 to count - 1."""
+    """All shards: each row lies in the one that `place` names, from 0 to count - 1. `map` holds the box of each."""
 
-    def __init__(self, client, program, rows, place, count):
+    def __init__(self, client, rows, place, count):
         parts = [array("q") for _ in range(count)]
         for k in range(0, len(rows), 5):
             row = rows[k : k + 5]
@@ -131,7 +143,8 @@ class Shards:
                 self.boxes.append((min(part[1::5]), min(part[2::5]), max(part[3::5]), max(part[4::5])))
                 at = [workers[k % len(workers)]]
                 data = client.scatter(part.tobytes(), workers=at, hash=False)
-                made.append(client.submit(Shard, str(program), data, workers=at, actor=True, pure=False))
+                made.append(client.submit(Shard, data, workers=at, actor=True, pure=False))
+        self.map = Index(self.boxes)
         self.shards = [future.result() for future in made]
 
     def __enter__(self):
@@ -141,47 +154,47 @@ class Shards:
         for closed in [shard.close() for shard in self.shards]:
             closed.result()
 
-    def ask(self, name, questions, is_for, *more):
-        """Each question to the shards that it is for, one call for each shard: the answers of each question."""
-        answers, calls = [[] for _ in questions], []
-        for k, shard in enumerate(self.shards):
-            own = [q for q in range(len(questions)) if is_for(k, q)]
-            if own:
-                self.asked += len(own)
-                calls.append((own, getattr(shard, name)([questions[q] for q in own], *more)))
-        for own, call in calls:
-            for q, answer in zip(own, call.result()):
+    def ask(self, name, questions, shards_of_each, *more):
+        """Each question to its shards, one call for each shard: the answers of each question."""
+        own, answers, calls = [[] for _ in self.shards], [[] for _ in questions], []
+        for q, shards in enumerate(shards_of_each):
+            for k in shards:
+                own[k].append(q)
+        for shard, numbers in zip(self.shards, own):
+            if numbers:
+                self.asked += len(numbers)
+                data = array("q", chain.from_iterable([questions[q] for q in numbers])).tobytes()
+                calls.append((numbers, shard.ask(name, data, *more)))
+        for numbers, call in calls:
+            for q, answer in zip(numbers, unpacked(*call.result())):
                 answers[q].append(answer)
         return answers
 
     def hit(self, boxes):
         """A selection of the whole is the union of the shards' selections; one whose box does not meet has none."""
-        answers = self.ask("hit", boxes, lambda k, q: meets(self.boxes[k], boxes[q]))
-        return [sorted(chain(*found)) for found in answers]
+        offsets, shards = (numbers.tolist() for numbers in self.map.query_many(boxes))
+        answers = self.ask("hit", boxes, [shards[a:b] for a, b in zip(offsets, offsets[1:])])
+        return [found[0] if len(found) == 1 else sorted(chain(*found)) for found in answers]
 
     def near(self, points, most):
         """The first so many of the whole are the first of those that each shard gives, in one order.
 
         First the shard whose box is nearest is asked, then all whose box is no farther than the last that it gave.
         """
-
-        def away(k, q):
-            return distance(self.boxes[k], points[q])
-
-        first = [min(range(len(self.boxes)), key=lambda k: away(k, q), default=None) for q in range(len(points))]
-        found = [sum(one, []) for one in self.ask("near", points, lambda k, q: k == first[q], most)]
-        limits = [keys[-1][0] if keys and len(keys) == most else GREATEST for keys in found]
-        more = self.ask("near", points, lambda k, q: k != first[q] and away(k, q) <= limits[q], most)
-        merged = [sorted(chain(one, *others))[:most] for one, others in zip(found, more)]
+        first = tuples(array("Q", self.map.nearest_many(points)[0].tobytes()), 1) or [()] * len(points)
+        found = [sum(one, []) for one in self.ask("near", points, first, most)]
+        limits = [keys[-KEY] if keys and len(keys) == KEY * most else GREATEST for keys in found]
+        within = [self.map.within(point, limit).tolist() for point, limit in zip(points, limits)]
+        others = [[k for k in shards if k not in one] for shards, one in zip(within, first)]
+        more = self.ask("near", points, others, most)
+        merged = [sorted(tuples(chain(one, *others), KEY))[:most] for one, others in zip(found, more)]
         return [[(key[-1], key[0]) for key in keys] for keys in merged]
 
     def join(self, other):
         """The pairs of an ID here and one of the other shards, where the rectangles meet: shard against shard."""
-        calls = []
-        for box, shard in zip(self.boxes, self.shards):
-            for other_box, other_shard in zip(other.boxes, other.shards):
-                if meets(box, other_box):
-                    self.asked += 1
-                    calls.append(shard.join(other_shard.meeting(box).result()))
-        pairs = array("q", b"".join(call.result() for call in calls))
-        return sorted(zip(pairs[::2], pairs[1::2]))
+        both = [(self.shards[k], self.boxes[k], other.shards[m]) for k, m in zip(*self.map.pairs_with(other.map))]
+        self.asked += len(both)
+        wanted = [(shard, other_shard.meeting(box)) for shard, box, other_shard in both]
+        calls = [shard.join(rows.result()) for shard, rows in wanted]
+        ids = [[array("Q", numbers) for numbers in call.result()] for call in calls]
+        return sorted(chain.from_iterable(zip(here, there) for here, there in ids))

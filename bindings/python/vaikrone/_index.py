@@ -1,0 +1,311 @@
+"""The index itself."""
+
+from __future__ import annotations
+
+from array import array
+from ctypes import c_bool, c_int64, c_size_t, c_uint64
+from threading import Lock
+from typing import TYPE_CHECKING, Any, Iterable, Sequence
+
+from ._library import Handle, calls, check
+from ._numbers import SIGNED, UNSIGNED, Rows, address, apart, box_of, given, point_of, rows_of, within_bits, zeros
+
+if TYPE_CHECKING:
+    import numpy
+
+    Numbers = numpy.ndarray[Any, Any] | array[int]
+    Buffer = Numbers | memoryview
+    Box = Sequence[float]
+    Point = Sequence[float]
+    Boxes = Buffer | Iterable[Box]
+    Points = Buffer | Iterable[Point]
+    IDs = Buffer | Iterable[int]
+
+_GREATEST = 2**63 - 1
+_LONGEST_ROOM = 16384
+_SELECT = {"intersects": calls.meeting, "contains": calls.inside}
+_SELECT_EACH = {"intersects": calls.meeting_each, "contains": calls.inside_each}
+_DRAIN = {"intersects": calls.drain_meeting, "contains": calls.drain_inside}
+
+
+def _by(predicate: str, functions: dict[str, Any]) -> Any:
+    if predicate not in functions:
+        raise ValueError(f"predicate is one of {', '.join(functions)}, not {predicate!r}")
+    return functions[predicate]
+
+
+def _id(number: int) -> int:
+    return within_bits(number, 0, 2**64 - 1)
+
+
+def _distance(number: float) -> int:
+    return within_bits(number, -(2**63), _GREATEST)
+
+
+class Index:
+    """Rectangles with IDs.
+
+    A box is (min_x, min_y, max_x, max_y), or any two opposite corners. Its border belongs to it. Coordinates are whole
+    numbers from -2**63 to 2**63 - 1, IDs from 0 to 2**64 - 1. IDs and boxes may stand many times. Distances are squared,
+    and held at 2**63 - 1.
+
+    Many boxes are an array of shape (n, 4), a buffer of 4 * n 64-bit integers, or a sequence of boxes. Answers are arrays
+    of numpy, or of the module array where numpy is not installed.
+
+    A wrong argument raises TypeError, ValueError or OverflowError, refused memory MemoryError. Then the index is as it
+    was. Threads may share an index: one call at a time goes on, and the others wait.
+
+    >>> index = Index([(0, 0, 2, 2), (5, 5, 9, 9)], ids=[7, 8])
+    >>> index
+    <vaikrone.Index of 2 rectangles>
+    >>> (8, (5, 5, 9, 9)) in index
+    True
+    """
+
+    def __init__(self, boxes: Boxes | None = None, ids: IDs | None = None) -> None:
+        """The rectangles of `boxes`, loaded at once, with the IDs of `ids`, or else 0, 1, 2 and so on."""
+        self._handle = Handle()
+        self._lock = Lock()
+        self._found = c_size_t()
+        self._room = zeros(UNSIGNED, 64)
+        if boxes is not None:
+            self.load(boxes, ids)
+        elif ids is not None:
+            raise TypeError("IDs without boxes")
+
+    def __del__(self, clear: Any = calls.clear) -> None:
+        clear(self._handle)
+
+    def load(self, boxes: Boxes, ids: IDs | None = None) -> None:
+        """Puts rectangles in the place of all that the index holds."""
+        box_rows = rows_of(boxes, SIGNED, 4)
+        id_rows = rows_of(array(UNSIGNED, range(box_rows.length)) if ids is None else ids, UNSIGNED, 1)
+        if box_rows.length != id_rows.length:
+            raise ValueError(f"{box_rows.length} boxes, but {id_rows.length} IDs")
+        id_rows = apart(id_rows, box_rows)
+        with self._lock:
+            check(calls.load(self._handle, *box_rows[:2], *id_rows[:2]))
+
+    def insert(self, id: int, box: Box) -> None:
+        """One rectangle more."""
+        number, packed = _id(id), box_of(box)
+        with self._lock:
+            check(calls.insert(self._handle, number, packed))
+
+    def remove(self, id: int, box: Box) -> bool:
+        """Takes one rectangle with this ID and this box out. False: there is none.
+
+        >>> index = Index([(0, 0, 2, 2)])
+        >>> index.remove(0, (0, 0, 2, 2)), index.remove(0, (0, 0, 2, 2))
+        (True, False)
+        """
+        number, packed = _id(id), box_of(box)
+        with self._lock:
+            return calls.remove(self._handle, number, packed)
+
+    def __contains__(self, item: tuple[int, Box]) -> bool:
+        """`(id, box) in index`: whether there is a rectangle with this ID and this box."""
+        id, box = item
+        number, packed = _id(id), box_of(box)
+        with self._lock:
+            return calls.contains(self._handle, number, packed)
+
+    def __len__(self) -> int:
+        """The number of rectangles."""
+        with self._lock:
+            return calls.len(self._handle)
+
+    def clear(self) -> None:
+        """Takes all rectangles out."""
+        with self._lock:
+            calls.clear(self._handle)
+
+    def items(self) -> tuple[Numbers, Numbers]:
+        """The boxes and the IDs of all rectangles, so that `Index(*index.items())` is a copy.
+
+        Each box has its lower corner first. Boxes are an array of shape (n, 4), or without numpy of 4 * n numbers.
+
+        >>> index = Index([(2, 2, 0, 0)], ids=[7])
+        >>> (7, (0, 0, 2, 2)) in Index(*index.items())
+        True
+        """
+        with self._lock:
+            count = calls.len(self._handle)
+            boxes, ids = zeros(SIGNED, 4 * count), zeros(UNSIGNED, count)
+            check(calls.items(self._handle, address(boxes), count, address(ids), count, self._found))
+        return given(boxes, 4 * count, count, 4), given(ids, count)
+
+    def query(self, box: Box, predicate: str = "intersects") -> Numbers:
+        """The IDs of the rectangles that the box intersects, touching included, or that it contains.
+
+        A rectangle is contained also where it touches the border.
+
+        >>> index = Index([(0, 0, 2, 2), (2, 2, 4, 4), (9, 9, 9, 9)])
+        >>> sorted(index.query((2, 2, 5, 5)).tolist())
+        [0, 1]
+        >>> index.query((2, 2, 5, 5), predicate="contains").tolist()
+        [1]
+        """
+        return self._ids(_by(predicate, _SELECT), box_of(box))
+
+    def at(self, point: Point) -> Numbers:
+        """The IDs of the rectangles that the point lies in, or on the border of.
+
+        >>> Index([(0, 0, 2, 2), (5, 5, 9, 9)]).at((2, 1)).tolist()
+        [0]
+        """
+        return self._ids(calls.at, point_of(point))
+
+    def within(self, point: Point, squared_distance: float) -> Numbers:
+        """The IDs of the rectangles whose squared distance from the point is at most this.
+
+        >>> sorted(Index([(0, 0, 2, 2), (5, 5, 9, 9)]).within((2, 5), 9).tolist())
+        [0, 1]
+        """
+        return self._ids(calls.within, point_of(point), _distance(squared_distance))
+
+    def drain(self, box: Box, predicate: str = "intersects") -> Numbers:
+        """Takes the rectangles out that `query` finds, and gives their IDs.
+
+        >>> index = Index([(0, 0, 2, 2), (5, 5, 9, 9)])
+        >>> index.drain((0, 0, 4, 4)).tolist(), len(index)
+        ([0], 1)
+        """
+        drain, packed = _by(predicate, _DRAIN), box_of(box)
+        with self._lock:  # without room nothing is taken out, and so no ID is lost where memory is refused
+            check(drain(self._handle, packed, address(self._room), 0, self._found))
+            count = self._found.value
+            ids = zeros(UNSIGNED, count)
+            answer = given(ids, count)
+            if count:
+                check(drain(self._handle, packed, address(ids), count, self._found))
+        return answer
+
+    def query_many(self, boxes: Boxes, predicate: str = "intersects") -> tuple[Numbers, Numbers]:
+        """The same as `query` for many boxes at once: offsets and IDs.
+
+        Those for box i are `ids[offsets[i]:offsets[i + 1]]`.
+
+        >>> offsets, ids = Index([(0, 0, 2, 2), (5, 5, 9, 9)]).query_many([(6, 6, 7, 7), (3, 3, 4, 4), (1, 1, 2, 2)])
+        >>> offsets.tolist(), ids.tolist()
+        ([0, 1, 1, 2], [1, 0])
+        """
+        return self._ids_of_each(_by(predicate, _SELECT_EACH), rows_of(boxes, SIGNED, 4))
+
+    def at_many(self, points: Points) -> tuple[Numbers, Numbers]:
+        """The same as `at` for many points at once: offsets and IDs, as of `query_many`."""
+        return self._ids_of_each(calls.at_each, rows_of(points, SIGNED, 2))
+
+    def within_many(self, points: Points, squared_distance: float) -> tuple[Numbers, Numbers]:
+        """The same as `within` for many points at once: offsets and IDs, as of `query_many`."""
+        return self._ids_of_each(calls.within_each, rows_of(points, SIGNED, 2), _distance(squared_distance))
+
+    def nearest(self, point: Point, k: int = 1) -> tuple[Numbers, Numbers]:
+        """The IDs and the squared distances of the k rectangles nearest to the point, the nearest first.
+
+        They are fewer than k where the index holds fewer.
+
+        >>> ids, squared_distances = Index([(0, 0, 2, 2), (5, 5, 9, 9)]).nearest((4, 4), 5)
+        >>> ids.tolist(), squared_distances.tolist()
+        ([1, 0], [2, 8])
+        """
+        packed, most = point_of(point), within_bits(k, 0, _GREATEST)
+        with self._lock:
+            most = min(most, calls.len(self._handle))
+            ids, distances = zeros(UNSIGNED, most), zeros(SIGNED, most)
+            check(calls.nearest(self._handle, packed, address(ids), most, address(distances), most, self._found))
+        return given(ids, most), given(distances, most)
+
+    def nearest_many(self, points: Points, k: int = 1) -> tuple[Numbers, Numbers]:
+        """The same as `nearest` for n points at once, m for each: k, or the number of rectangles where that is less.
+
+        Arrays of numpy have the shape (n, m). Without numpy, those of point i begin at i * m.
+        """
+        rows, most = rows_of(points, SIGNED, 2), within_bits(k, 0, _GREATEST)
+        with self._lock:
+            most = min(most, calls.len(self._handle))
+            size = rows.length * most
+            ids, distances = zeros(UNSIGNED, size), zeros(SIGNED, size)
+            arrays = address(ids), size, address(distances), size
+            check(calls.nearest_each(self._handle, *rows[:2], most, *arrays, self._found))
+        return given(ids, size, rows.length, most), given(distances, size, rows.length, most)
+
+    def pop_nearest(self, point: Point) -> tuple[int, tuple[int, int, int, int], int] | None:
+        """Takes a rectangle out that is nearest to the point, and gives its ID, its box and its squared distance.
+
+        None: there is no rectangle.
+
+        >>> index = Index([(0, 0, 2, 2)])
+        >>> index.pop_nearest((4, 4)), index.pop_nearest((4, 4))
+        ((0, (0, 0, 2, 2), 8), None)
+        """
+        packed = point_of(point)
+        number, box, distance, is_found = c_uint64(), zeros(SIGNED, 4), c_int64(), c_bool()
+        with self._lock:
+            check(calls.pop_nearest(self._handle, packed, number, address(box), distance, is_found))
+        return (number.value, (box[0], box[1], box[2], box[3]), distance.value) if is_found else None
+
+    def pairs(self) -> tuple[Numbers, Numbers]:
+        """The pairs of rectangles that intersect, each once: the IDs of the first of each, and of the second.
+
+        >>> first, second = Index([(0, 0, 2, 2), (2, 2, 4, 4), (9, 9, 9, 9)]).pairs()
+        >>> sorted(first.tolist() + second.tolist())
+        [0, 1]
+        """
+        with self._lock:
+            return self._pairs(calls.pairs)
+
+    def pairs_with(self, other: Index) -> tuple[Numbers, Numbers]:
+        """The pairs of a rectangle of this index and one of another that it intersects: the IDs here, and there.
+
+        >>> here, there = Index([(0, 0, 2, 2)], [7]).pairs_with(Index([(1, 1, 3, 3)], [8]))
+        >>> here.tolist(), there.tolist()
+        ([7], [8])
+        """
+        if not isinstance(other, Index):
+            raise TypeError(f"an Index is needed, not {type(other).__name__}")
+        if other is self:  # the library wants two handles
+            other = Index(*self.items())
+        one, two = sorted((self, other), key=id)  # in one order, so that two threads do not wait for each other
+        with one._lock, two._lock:
+            return self._pairs(calls.pairs_between, other._handle)
+
+    def __repr__(self) -> str:
+        return f"<vaikrone.{type(self).__name__} of {len(self)} rectangles>"
+
+    def __reduce__(self) -> tuple[Any, ...]:
+        """Pickles and copies by what the index holds, whether numpy is installed or not."""
+        boxes, ids = self.items()
+        return type(self), (array(SIGNED, boxes.tobytes()), array(UNSIGNED, ids.tobytes()))
+
+    def _ids(self, select: Any, *question: Any) -> Numbers:
+        """The answer of one question. It is asked again where there are more IDs than room."""
+        with self._lock:
+            ids = self._room
+            check(select(self._handle, *question, address(ids), len(ids), self._found))
+            count = self._found.value
+            if count <= len(ids):
+                return given(ids[:count], count)
+            ids = zeros(UNSIGNED, count)
+            check(select(self._handle, *question, address(ids), count, self._found))
+            self._room = zeros(UNSIGNED, min(2 * count, _LONGEST_ROOM))
+        return given(ids, count)
+
+    def _ids_of_each(self, select: Any, rows: Rows, *more: Any) -> tuple[Numbers, Numbers]:
+        offsets, ids = zeros(SIGNED, rows.length + 1), zeros(UNSIGNED, 8 * rows.length)
+        with self._lock:
+            question = self._handle, *rows[:2], *more, address(offsets), len(offsets)
+            check(select(*question, address(ids), len(ids)))
+            if offsets[-1] > len(ids):
+                ids = zeros(UNSIGNED, offsets[-1])
+                check(select(*question, address(ids), len(ids)))
+        return given(offsets, rows.length + 1), given(ids, offsets[-1])
+
+    def _pairs(self, join: Any, *other: Any) -> tuple[Numbers, Numbers]:
+        room = max(64, calls.len(self._handle))
+        while True:
+            first, second = zeros(UNSIGNED, room), zeros(UNSIGNED, room)
+            check(join(self._handle, *other, address(first), room, address(second), room, self._found))
+            if self._found.value <= room:
+                return given(first, self._found.value), given(second, self._found.value)
+            room = self._found.value
