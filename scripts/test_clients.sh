@@ -30,8 +30,12 @@ try scripts/damage_stored.py --cases 1000 --program "$VAIKRONE"
 for tests in examples/*/test_*.py; do
     try python3 "$tests"
 done
-if [[ -e scripts/test_bindings.sh ]]; then
-    try scripts/test_bindings.sh quick
+# `rt ci` proves the library for C and leaves no archive of it; where one was built, what is made of it is tested.
+archive=$PWD/crates/rstar_c/out/librstar_c.a
+if [[ -e $archive ]]; then
+    try env RSTAR_ARCHIVE="$archive" scripts/test_bindings.sh quick
+else
+    echo "the bindings were not tested: scripts/test_bindings.sh builds their library"
 fi
 if ((${#failed[@]})); then
     printf 'FAILED: %s\n' "${failed[@]}"

@@ -30,7 +30,7 @@ typedef struct rstar_index {
     void *at;
 } rstar_index;
 
-#define RSTAR_INDEX_EMPTY {0}
+#define RSTAR_INDEX_EMPTY {false, NULL}
 
 typedef struct rstar_box {
     int64_t one[2];
@@ -41,11 +41,12 @@ typedef struct rstar_point {
     int64_t at[2];
 } rstar_point;
 
-/* What a call answers. After any but RSTAR_OK, handle and arrays are as they were. */
+/* What a call answers. After any but RSTAR_OK the handle is as it was. So are the arrays, but for those of many questions
+ * and of RSTAR_NO_MEMORY: these may have some of the answers. */
 typedef int32_t rstar_status;
 #define RSTAR_OK 0
 #define RSTAR_NO_MEMORY 1  /* memory was refused */
-#define RSTAR_TOO_MANY 2   /* the tree cannot get deeper, or a count does not fit */
+#define RSTAR_TOO_MANY 2   /* the tree cannot count one more rectangle */
 #define RSTAR_BAD_LENGTH 3 /* two arrays that go together have not the lengths that they must have */
 #define RSTAR_NO_ROOM 4    /* the array is too short, and nothing was taken out; `found` says how long it must be */
 
@@ -101,7 +102,8 @@ rstar_status rstar_index_within_each(rstar_index *index, const rstar_point *poin
                                      uint64_t *ids, size_t ids_len);
 
 /* The rectangles nearest to a point, the nearest first: their IDs and their squared distances, as many as the two arrays
- * have room for. Both have one length, which is the number that is asked for; `found` says how many there are of them. */
+ * have room for. Both have one length, which is the number that is asked for; `found` says how many there are of them. At
+ * equal distance the lesser lower corner comes first, then the lesser upper corner, then the lesser ID. */
 rstar_status rstar_index_nearest(rstar_index *index, const rstar_point *point,
                                  uint64_t *ids, size_t ids_len,
                                  int64_t *distances, size_t distances_len, size_t *found);
@@ -127,7 +129,7 @@ rstar_status rstar_index_drain_meeting(rstar_index *index, const rstar_box *box,
 rstar_status rstar_index_drain_inside(rstar_index *index, const rstar_box *box,
                                       uint64_t *ids, size_t ids_len, size_t *found);
 
-/* Takes a rectangle out that is nearest to a point, and writes its ID, its box and its squared distance. `found` is false
+/* Takes the first rectangle out in that order, and writes its ID, its box and its squared distance. `found` is false
  * where there was none, and nothing else is written then. */
 rstar_status rstar_index_pop_nearest(rstar_index *index, const rstar_point *point,
                                      uint64_t *id, rstar_box *box, int64_t *distance, bool *found);
