@@ -10,9 +10,7 @@ ghost use Rattle.rstar.specs.Trees.{root_of, elements_in, IsWholeTree};
 
 use crate::joins::{Paired, Touching, joined, spread};
 use crate::payloads::{Walked, walked};
-use crate::scenarios::{
-    ALONG_A_LINE, Fence, counts, drained, in_steps, inserted, let_go, loaded,
-};
+use crate::scenarios::{ALONG_A_LINE, Fence, counts, drained, in_steps, inserted, let_go, loaded};
 use rstar::object::Distance;
 use rstar::{
     AABB, DefaultParams, Envelope, EnvelopeDistance, Point, RTree, RTreeObject, RTreeParams,
