@@ -16,7 +16,7 @@ use Rattle.rstar.specs.declared.algorithm.nearest_neighbor.by_order.NeighborsByO
 use Rattle.rstar.specs.Lists.{IsNotLater}
 use Rattle.rstar.specs.Neighbors.{Search, shown, elements_waiting, GivesNeighbor}
 use Rattle.rstar.specs.Nodes.{parents_of, far_of}
-use Rattle.rstar.specs.Searches.{parents_first, calls_left, IsReady}
+use Rattle.rstar.specs.inside.Searches.{parents_first, calls_left, IsReady}
 
 -- the iterator over the nodes of a tree
 abbrev pub NearestNeighborByOrderIterator : (T E P S : Type 0) → Type 0

@@ -12,8 +12,8 @@ use Rattle.rstar.specs.contracts.rtree.RTree.{the_row as tree_row}
 use Rattle.rstar.specs.Nodes.{children_of}
 use Rattle.rstar.specs.Trees.{root_of, elements_in, IsWholeTree}
 use Rattle.rstar.specs.Lists.{NoneSelected}
-use Rattle.rstar.specs.Removals.{IsWithout}
-use Rattle.rstar.specs.Taking.{IsPast, IsRestAt}
+use Rattle.rstar.specs.inside.Removals.{IsWithout}
+use Rattle.rstar.specs.inside.Taking.{IsPast, IsRestAt}
 
 -- ---- what it shows: the tree that it drains, the tree's elements, and its question
 

@@ -4,7 +4,7 @@ use Rattle.std.specs.List.{AllByRecursion, flat_map}
 use Rattle.rstar.specs.declared.node.RTreeNode.{RTreeNode}
 use Rattle.rstar.specs.declared.iterators.into_iter.IntoIter.{IntoIter}
 use Rattle.rstar.specs.Nodes.{all_elements}
-use Rattle.rstar.specs.Walks.{IsLevel}
+use Rattle.rstar.specs.inside.Traversals.{IsLevel}
 
 -- the lists of nodes that are not given yet, the one that is being given last
 abbrev pub lists_of : {T E : Type 0} → IntoIter T E → List (List (RTreeNode T E))

@@ -9,7 +9,7 @@ use Rattle.rstar.specs.declared.node.ParentNode.{ParentNode}
 use Rattle.rstar.specs.declared.iterators.joins.IntersectionIterator.{IntersectionIterator}
 use Rattle.rstar.specs.Lists.{product}
 use Rattle.rstar.specs.Meets.{meet_of_roots}
-use Rattle.rstar.specs.JoinWalks.{pairs_by, IsWalk, CountsPairs}
+use Rattle.rstar.specs.inside.PairWalks.{pairs_by, IsWalk, CountsPairs}
 use Rattle.rstar_base.specs.Counts.{usize_max}
 
 -- ---- envelopes seen as those of another type

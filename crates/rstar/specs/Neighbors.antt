@@ -17,7 +17,7 @@ use Rattle.rstar.specs.declared.algorithm.nearest_neighbor.NeighborsWithDistance
 use Rattle.rstar.specs.declared.algorithm.nearest_neighbor.Neighbors.{Neighbors}
 use Rattle.rstar.specs.Nodes.{all_elements, all_parents, all_far, parents_of, far_of}
 use Rattle.rstar_base.specs.Counts.{usize_max}
-use Rattle.rstar.specs.Searches.{NodeSearch, any_first, IsUnrefused, waiting_of, calls_left, IsReady}
+use Rattle.rstar.specs.inside.Searches.{NodeSearch, any_first, IsUnrefused, waiting_of, calls_left, IsReady}
 
 -- the two iterators over the nodes of a tree
 abbrev pub NearestNeighborDistance2Iterator : (T E P S : Type 0) → Type 0

@@ -15,7 +15,7 @@ use Rattle.rstar.specs.contracts.node.RTreeNode.{the_row as node_row}
 use Rattle.rstar.specs.contracts.rtree.RTree.{the_row as tree_row}
 use Rattle.rstar.specs.Nodes.{Layer, layer_of}
 use Rattle.rstar.specs.Trees.{elements_in, HasSameOutline, IsWholeTree}
-use Rattle.rstar.specs.Ways.{IsAt, change_at, change_below, way_to}
+use Rattle.rstar.specs.inside.WaysDown.{IsAt, change_at, change_below, way_to}
 
 -- ---- one element, and the way to it
 

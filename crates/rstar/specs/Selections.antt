@@ -8,7 +8,7 @@ use Rattle.rstar.specs.declared.node.ParentNode.{ParentNode}
 use Rattle.rstar.specs.declared.iterators.selection.SelectionIterator.{SelectionIterator}
 use Rattle.rstar.specs.Nodes.{reach_of}
 use Rattle.rstar_base.specs.Counts.{usize_max}
-use Rattle.rstar.specs.Walks.{given_by, HasItsWay}
+use Rattle.rstar.specs.inside.Traversals.{given_by, HasItsWay}
 
 -- xs is ys with some items left out
 abbrev pub IsPartOf : {A : Type 0} → List A → List A → Type 0

@@ -13,7 +13,7 @@ use Rattle.rstar.specs.Heights.{levels_below}
 use Rattle.rstar.specs.Lists.{product}
 use Rattle.rstar.specs.Nodes.{fold_tree, all_parents, children_of, AreWhole}
 use Rattle.rstar.specs.Meets.{opened_to}
-use Rattle.rstar.specs.JoinWalks.{pairs_below, opens_below, pairs_by, opens_by, IsWalk}
+use Rattle.rstar.specs.inside.PairWalks.{pairs_below, opens_below, pairs_by, opens_by, IsWalk}
 
 -- ---- the answer, over lists
 

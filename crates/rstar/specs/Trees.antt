@@ -11,7 +11,7 @@ use Rattle.rstar.specs.Nodes.{children_of, elements_of, envelopes_of, IsWhole}
 use Rattle.rstar.specs.Shown.{shown_root, outline}
 use Rattle.rstar.specs.Shapes.{AreTrees, IsAny}
 use Rattle.rstar.specs.Heights.{levels_below}
-use Rattle.rstar.specs.Kept.{HasAtMost, IsSpare}
+use Rattle.rstar.specs.inside.ParentBounds.{HasAtMost, IsSpare}
 
 -- the root of a tree
 abbrev pub root_of : {T D E P S X : Type 0} → RTree T D E P S X → ParentNode T E

@@ -12,7 +12,7 @@ use Rattle.rstar.specs.declared.visits.Look.TheVariants.{End, Give, Pass, Open}
 use Rattle.rstar.specs.Nodes.{fold_tree, joined, total, all_given, children_of, envelope_of}
 use Rattle.rstar.specs.Changes.{KeepsBox}
 use Rattle.rstar.specs.Selections.{IsPartOf}
-use Rattle.rstar.specs.Walks.{steps}
+use Rattle.rstar.specs.inside.Traversals.{steps}
 
 -- ---- look-ups
 

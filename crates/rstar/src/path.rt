@@ -1,7 +1,7 @@
 //! The paths of traversals: lists whose first twelve items lie inline.
 
 ghost use Rattle.std.specs.Prelude.{◌≡◌, ◌-◌, ◌<◌, ◌≤◌, true, false, [], ◌∷◌, ◌++◌, length, take, IsOk, IfOk, IfNone, IfSome, slice_set};
-ghost use Rattle.rstar.specs.Paths.{near_items};
+ghost use Rattle.rstar.specs.inside.Paths.{near_items};
 
 use std::alloc::{AllocError, Global};
 use std::marker::Model;
@@ -88,7 +88,7 @@ pub(crate) struct Path<X> {
 
 impl<X> Model for Path<X> {
     ghost use Rattle.std.specs.Prelude.{◌≡◌, ◌+◌, ◌<◌, ◌≤◌, [], ◌++◌, take, vec_capacity};
-    ghost use Rattle.rstar.specs.Paths.{Path as Items, path_code, near_items};
+    ghost use Rattle.rstar.specs.inside.Paths.{Path as Items, path_code, near_items};
 
     ghost Value = { Items X };
 

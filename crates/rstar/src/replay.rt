@@ -108,7 +108,7 @@ pub enum Reply<T: PointDistance> {
 /// `NoMemory` from any command but `Remove`, `RemoveAtPoint` and `Contains`. Both leave the tree as it was,
 /// and a refused `Insert` drops its element. The cost is that of the tree's own call and of the clones in
 /// the reply.
-#[tactic(auto, using(crate::proofs::Replays::too_many, crate::proofs::Replays::unchanged))]
+#[tactic(auto, using(crate::proofs::commands::Replays::too_many, crate::proofs::commands::Replays::unchanged))]
 pub fn step<T: PointDistance + EqualEnvelopes + Clone, Params: RTreeParams>(
     tree: &mut RTree<T, Params>,
     command: Command<T>,
@@ -175,7 +175,7 @@ pub fn replay<T: PointDistance + EqualEnvelopes + Clone, Params: RTreeParams>(
 /// }
 /// ```
 /// *`crates/rstar_run/src/store.rt`*
-#[tactic(auto, using(crate::proofs::StepsByOrder::first_reading))]
+#[tactic(auto, using(crate::proofs::commands::StepsByOrder::first_reading))]
 pub fn step_by_order<T: PointDistance + EqualEnvelopes + Clone + Ord, Params: RTreeParams>(
     tree: &mut RTree<T, Params>,
     command: Command<T>,

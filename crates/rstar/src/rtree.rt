@@ -4,7 +4,7 @@ ghost use Rattle.std.specs.Prelude.{◌≡◌, ◌⊎◌, ◌∷◌, ◌+◌, �
 ghost use Rattle.std.specs.List.Sorted.{IsPermutation};
 ghost use Rattle.rstar.specs.Heights.{height_of, spare_lists};
 ghost use Rattle.rstar.specs.Insertions.{Inserts};
-ghost use Rattle.rstar.specs.Kept.{IsSpare, roomy_of};
+ghost use Rattle.rstar.specs.inside.ParentBounds.{IsSpare, roomy_of};
 ghost use Rattle.rstar.specs.Nodes.{children_of, envelope_of, IsWhole};
 ghost use Rattle.rstar.specs.Shapes.{IsSized};
 ghost use Rattle.rstar.specs.Trees.{root_of, size_of, elements_in, IsUnchanged, IsWholeTree};

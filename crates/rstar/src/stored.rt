@@ -8,7 +8,7 @@
 ghost use Rattle.std.specs.Prelude.{◌≡◌, ◌⊎◌, ◌++◌, Err, suc, ◌≢◌, IfErr, ◌∷◌, [], List, ◌≤◌, ◌<◌, ◌+◌, ◌*◌, ◌^◌, ℕ, length, map, min, IfOk, OnOk, vec_len, vec_capacity};
 ghost use Rattle.rstar.specs.declared.node.RTreeNode.{Parent};
 ghost use Rattle.rstar.specs.declared.stored.StoredError.TheVariants.{NoMemory, TooHigh};
-ghost use Rattle.rstar.specs.Kept.{IsKeptTree, AreKept};
+ghost use Rattle.rstar.specs.inside.ParentBounds.{IsKeptTree, AreKept};
 ghost use Rattle.rstar.specs.Nodes.{IsTree, IsElement, IsInner, elements, all_elements, elements_of};
 ghost use Rattle.rstar.specs.Heights.{height_of};
 ghost use Rattle.rstar.specs.Shapes.{IsParentTree};

@@ -15,10 +15,10 @@ use Rattle.std.proofs.lemmas.List.Sorted.{IsPermutation-refl, IsPermutation-tran
 use Rattle.std.proofs.lemmas.List.Sums.{sum_by-cons, sum_by-append}
 use Rattle.rstar_base.proofs.Lists.{all-append, all_map, all_both}
 use Rattle.rstar.specs.Lists.{IsNotAfter, AreOrdered, AreFirst, AreFirstOf, AreAlike, product}
-use Rattle.rstar.proofs.InOrder.{more-first}
-use Rattle.rstar.proofs.OneOrder.{only_first}
-use Rattle.rstar.proofs.PairRows.{the_pair, product-none}
-use Rattle.rstar.proofs.Ties.{filter-along}
+use Rattle.rstar.proofs.searching.InOrder.{more-first}
+use Rattle.rstar.proofs.searching.OneOrder.{only_first}
+use Rattle.rstar.proofs.joining.PairsByChildren.{the_pair, product-none}
+use Rattle.rstar.proofs.searching.Ties.{filter-along}
 use Rattle.rstar_run.specs.Shards.{IsFirstOfTwo}
 
 -- ---- selections: what is selected of all shards is what is selected of each, one after another

@@ -11,8 +11,8 @@ use Rattle.rstar_base.specs.Envelopes.{Boxes}
 use Rattle.rstar_base.specs.Points.{table}
 use Rattle.rstar.specs.Lists.{AreFirst, AreNearestOf, IsNoFarther}
 use Rattle.rstar.specs.Neighbors.{Search, GivesNeighbor, elements_waiting}
-use Rattle.rstar.proofs.InOrder.{none-first, more-first}
-use Rattle.rstar.proofs.Ties.{filter-along}
+use Rattle.rstar.proofs.searching.InOrder.{none-first, more-first}
+use Rattle.rstar.proofs.searching.Ties.{filter-along}
 
 module _ {T : Type 0} (far : T → ℕ) (limit : ℤ) (able : T → Bool) where
   -- whether it is given

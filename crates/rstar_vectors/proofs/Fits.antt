@@ -4,7 +4,7 @@ use Rattle.std.specs.Mem.{FitsInMemory}
 use denote.RattleType.{RattleType}
 use denote.Param.{layout}
 use Rattle.rstar_base.specs.Sizes.{IsNarrow}
-use Rattle.rstar.proofs.Room.{fits}
+use Rattle.rstar.proofs.searching.Room.{fits}
 use Rattle.rstar_vectors.specs.Fits.{iterator_row, alone_row, ordered_row}
 
 pub iterator_fits : (P S : RattleType) → IsNarrow P → IsNarrow S → FitsInMemory (iterator_row P S)

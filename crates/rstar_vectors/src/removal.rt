@@ -4,7 +4,7 @@
 
 ghost use Rattle.std.specs.Prelude.{◌≡◌, ◌≤◌, false, IfOk, IfSome};
 ghost use Rattle.rstar.specs.Drains.{drained, IsDraining};
-ghost use Rattle.rstar.specs.Removals.{IsWithout};
+ghost use Rattle.rstar.specs.inside.Removals.{IsWithout};
 ghost use Rattle.rstar.specs.Trees.{elements_in, IsWholeTree};
 
 use crate::loads::{are_same, deep_points, gather};

@@ -6,7 +6,7 @@ ghost use Rattle.std.specs.List.Sorted.{IsPermutation};
 ghost use Rattle.rstar.specs.Nodes.{elements_of, IsWhole};
 ghost use Rattle.rstar.specs.Lists.{NoneEmpty};
 ghost use Rattle.rstar.specs.Loaded.{IsLoadDepth, IsLoaded};
-ghost use Rattle.rstar.specs.Loads.{IsFresh};
+ghost use Rattle.rstar.specs.inside.Loads.{IsFresh};
 
 pub(crate) mod depth;
 pub(crate) mod parts;

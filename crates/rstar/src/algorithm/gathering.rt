@@ -2,10 +2,10 @@
 
 ghost use Rattle.std.specs.Prelude.{◌≡◌, ℕ, ◌<◌, ◌≤◌, true, slice_index_or, vec_len, vec_capacity};
 ghost use Rattle.rstar.specs.declared.node.RTreeNode.{Leaf};
-ghost use Rattle.rstar.specs.Gathering.{GathersAmong, GathersInside, IsSwappedOut};
-ghost use Rattle.rstar.specs.Kept.{IsKept, AreKept};
+ghost use Rattle.rstar.specs.inside.Gathering.{GathersAmong, GathersInside, IsSwappedOut};
+ghost use Rattle.rstar.specs.inside.ParentBounds.{IsKept, AreKept};
 ghost use Rattle.rstar.specs.Nodes.{children_of};
-ghost use Rattle.rstar.specs.Taking.{is_a_leaf};
+ghost use Rattle.rstar.specs.inside.Taking.{is_a_leaf};
 
 use crate::algorithm::removal::{element_of, is_childless, is_selected_leaf};
 use crate::needs::{Covered, Question};

@@ -7,11 +7,11 @@ ghost use Rattle.std.specs.Prelude.{vec_len, slice_index_or};
 ghost use Rattle.std.specs.List.{remove};
 ghost use Rattle.rstar_base.specs.Hulls.{hull};
 ghost use Rattle.rstar.specs.declared.node.RTreeNode.{Leaf};
-ghost use Rattle.rstar.specs.Kept.{IsKept, AreKept};
+ghost use Rattle.rstar.specs.inside.ParentBounds.{IsKept, AreKept};
 ghost use Rattle.rstar.specs.Nodes.{node_box};
-ghost use Rattle.rstar.specs.Taking.{IsMerged, IsRest, IsRestAt, Takes, TakesInside};
-ghost use Rattle.rstar.specs.Taking.{with_first, first_number, lower_numbers};
-ghost use Rattle.rstar.specs.Taking.{is_selected_leaf, is_a_leaf, is_childless};
+ghost use Rattle.rstar.specs.inside.Taking.{IsMerged, IsRest, IsRestAt, Takes, TakesInside};
+ghost use Rattle.rstar.specs.inside.Taking.{with_first, first_number, lower_numbers};
+ghost use Rattle.rstar.specs.inside.Taking.{is_selected_leaf, is_a_leaf, is_childless};
 
 pub(crate) mod earliest;
 

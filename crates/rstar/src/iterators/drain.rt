@@ -2,7 +2,7 @@
 
 ghost use Rattle.std.specs.Prelude.{◌≡◌, None};
 ghost use Rattle.std.specs.Iterator.{item_count};
-ghost use Rattle.rstar.specs.Taking.{Removes};
+ghost use Rattle.rstar.specs.inside.Taking.{Removes};
 ghost use Rattle.rstar.specs.Drains.{left_in_tree, IsDraining, TakesNext};
 ghost use Rattle.rstar.specs.Trees.{IsWholeTree};
 

@@ -5,7 +5,7 @@ ghost use Rattle.std.specs.Iterator.{item_count};
 ghost use Rattle.rstar.specs.Heights.{levels_below};
 ghost use Rattle.rstar.specs.Nodes.{children_of, given_of, IsWhole};
 ghost use Rattle.rstar.specs.Selections.{question_of, opened_by, to_come, IsMade, IsWalking, GivesNext};
-ghost use Rattle.rstar.specs.Walks.{HasItsWay, IsStep, IsOver};
+ghost use Rattle.rstar.specs.inside.Traversals.{HasItsWay, IsStep, IsOver};
 ghost use Rattle.rstar.specs.declared.node.RTreeNode.{Leaf, Parent};
 
 use crate::needs::{Covered, Question};

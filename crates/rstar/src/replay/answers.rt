@@ -27,7 +27,7 @@ use rstar_base::point::{Point, RTreeNum};
 use std::alloc::{AllocError, Global};
 
 /// The elements of a query.
-#[tactic(auto, using(crate::proofs::Replays::same_bag))]
+#[tactic(auto, using(crate::proofs::commands::Replays::same_bag))]
 pub(super) fn ask<T: PointDistance + EqualEnvelopes + Clone, Params: RTreeParams>(
     tree: &RTree<T, Params>,
     query: Query<T>,
@@ -100,7 +100,7 @@ fn clones_to_come<'a, T: Covered + Clone, Func: Question<T>>(
 }
 
 /// Whether an element equals this one.
-#[tactic(auto, using(crate::proofs::Replays::same_bag))]
+#[tactic(auto, using(crate::proofs::commands::Replays::same_bag))]
 pub(super) fn contains<T: PointDistance + EqualEnvelopes, Params: RTreeParams>(
     tree: &RTree<T, Params>,
     t: &T,
@@ -112,7 +112,7 @@ pub(super) fn contains<T: PointDistance + EqualEnvelopes, Params: RTreeParams>(
 }
 
 /// A nearest element to a point.
-#[tactic(auto, using(crate::proofs::Replays::same_bag))]
+#[tactic(auto, using(crate::proofs::commands::Replays::same_bag))]
 pub(super) fn nearest<T: PointDistance + EqualEnvelopes + Clone, Params: RTreeParams>(
     tree: &RTree<T, Params>,
     point: PointOf<T>,
@@ -146,7 +146,7 @@ fn nearest_clone<T: PointDistance + Clone, Params: RTreeParams>(
 }
 
 /// The k nearest elements to a point.
-#[tactic(auto, using(crate::proofs::Replays::same_bag))]
+#[tactic(auto, using(crate::proofs::commands::Replays::same_bag))]
 pub(super) fn neighbours<T: PointDistance + EqualEnvelopes + Clone, Params: RTreeParams>(
     tree: &RTree<T, Params>,
     point: PointOf<T>,
@@ -193,7 +193,7 @@ pub(super) fn clones_of_lent<T: Clone, S: Copy>(
 }
 
 /// The join of the tree with a list.
-#[tactic(auto, using(crate::proofs::Replays::same_bag))]
+#[tactic(auto, using(crate::proofs::commands::Replays::same_bag))]
 pub(super) fn join<T: PointDistance + EqualEnvelopes + Clone, Params: RTreeParams>(
     tree: &RTree<T, Params>,
     list: Vec<T>,

@@ -19,7 +19,7 @@ use rstar_base::point::{Point, RTreeNum};
 use std::alloc::AllocError;
 
 /// Removes the first element in the stated order.
-#[tactic(auto, using(crate::proofs::Replays::same_bag))]
+#[tactic(auto, using(crate::proofs::commands::Replays::same_bag))]
 pub(super) fn pop_first<T: PointDistance + EqualEnvelopes + Ord, Params: RTreeParams>(
     tree: &mut RTree<T, Params>,
     point: PointOf<T>,
@@ -37,7 +37,7 @@ pub(super) fn pop_first<T: PointDistance + EqualEnvelopes + Ord, Params: RTreePa
 }
 
 /// The first element in the stated order.
-#[tactic(auto, using(crate::proofs::Replays::same_bag))]
+#[tactic(auto, using(crate::proofs::commands::Replays::same_bag))]
 pub(super) fn first<T: PointDistance + EqualEnvelopes + Clone + Ord, Params: RTreeParams>(
     tree: &RTree<T, Params>,
     point: PointOf<T>,
@@ -74,7 +74,7 @@ fn first_clone<T: PointDistance + Clone + Ord, Params: RTreeParams>(
 }
 
 /// The first k elements in the stated order.
-#[tactic(auto, using(crate::proofs::Replays::same_bag))]
+#[tactic(auto, using(crate::proofs::commands::Replays::same_bag))]
 pub(super) fn first_ones<T: PointDistance + EqualEnvelopes + Clone + Ord, Params: RTreeParams>(
     tree: &RTree<T, Params>,
     point: PointOf<T>,

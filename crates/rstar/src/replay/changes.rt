@@ -23,7 +23,7 @@ use rstar_base::point::{Point, RTreeNum};
 use std::alloc::AllocError;
 
 /// Replaces the tree by a bulk load.
-#[tactic(auto, using(crate::proofs::Replays::same_bag))]
+#[tactic(auto, using(crate::proofs::commands::Replays::same_bag))]
 pub(super) fn load<T: PointDistance + EqualEnvelopes, Params: RTreeParams>(
     tree: &mut RTree<T, Params>,
     list: Vec<T>,
@@ -45,7 +45,7 @@ pub(super) fn load<T: PointDistance + EqualEnvelopes, Params: RTreeParams>(
 }
 
 /// Inserts an element, and drops it where it is refused.
-#[tactic(auto, using(crate::proofs::Replays::same_bag))]
+#[tactic(auto, using(crate::proofs::commands::Replays::same_bag))]
 pub(super) fn insert<T: PointDistance + EqualEnvelopes, Params: RTreeParams>(
     tree: &mut RTree<T, Params>,
     t: T,
@@ -94,7 +94,7 @@ pub(super) fn remove_at_point<T: PointDistance + EqualEnvelopes, Params: RTreePa
 }
 
 /// Removes one nearest element to a point.
-#[tactic(auto, using(crate::proofs::Replays::same_bag))]
+#[tactic(auto, using(crate::proofs::commands::Replays::same_bag))]
 pub(super) fn pop_nearest<T: PointDistance + EqualEnvelopes, Params: RTreeParams>(
     tree: &mut RTree<T, Params>,
     point: PointOf<T>,
@@ -111,7 +111,7 @@ pub(super) fn pop_nearest<T: PointDistance + EqualEnvelopes, Params: RTreeParams
 }
 
 /// Removes up to this many elements of a query.
-#[tactic(auto, using(crate::proofs::Replays::same_bag))]
+#[tactic(auto, using(crate::proofs::commands::Replays::same_bag))]
 pub(super) fn drain<T: PointDistance + EqualEnvelopes, Params: RTreeParams>(
     tree: &mut RTree<T, Params>,
     query: Query<T>,

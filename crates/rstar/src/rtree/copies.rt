@@ -7,7 +7,7 @@ ghost use Rattle.rstar.specs.Nodes.{children_of};
 ghost use Rattle.rstar.specs.Loaded.{IsLoaded};
 ghost use Rattle.rstar.specs.Shapes.{IsSized};
 ghost use Rattle.rstar.specs.Trees.{root_of, elements_in, IsUnchanged, IsWholeTree};
-ghost use Rattle.rstar.specs.Walks.{IsLevel};
+ghost use Rattle.rstar.specs.inside.Traversals.{IsLevel};
 
 use crate::node::{ParentNode, RTreeNode};
 use crate::rtree::RTree;

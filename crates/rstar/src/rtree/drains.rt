@@ -6,7 +6,7 @@ ghost use Rattle.std.specs.List.Sorted.{IsPermutation};
 ghost use Rattle.rstar_base.specs.Points.{table};
 ghost use Rattle.rstar_base.specs.Selections.{IsLawful};
 ghost use Rattle.rstar.specs.Drains.{drained, drain_question, DrainsBy, IsDraining, LeavesRefused};
-ghost use Rattle.rstar.specs.Gathering.{Gathers};
+ghost use Rattle.rstar.specs.inside.Gathering.{Gathers};
 ghost use Rattle.rstar.specs.IntoIters.{left_to_give, IsGiving};
 ghost use Rattle.rstar.specs.Lists.{NoneSelected};
 ghost use Rattle.rstar.specs.Trees.{elements_in, IsWholeTree};

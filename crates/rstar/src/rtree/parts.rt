@@ -2,7 +2,7 @@
 
 ghost use Rattle.std.specs.Prelude.{◌≡◌, ◌≤◌, ◌<◌, ◌+◌, ◌^◌, length};
 ghost use Rattle.rstar.specs.Heights.{levels_below};
-ghost use Rattle.rstar.specs.Kept.{IsKeptTree};
+ghost use Rattle.rstar.specs.inside.ParentBounds.{IsKeptTree};
 ghost use Rattle.rstar.specs.Nodes.{children_of, elements_of};
 ghost use Rattle.rstar.specs.Trees.{root_of, size_of, IsWholeTree};
 

@@ -5,10 +5,10 @@ ghost use Rattle.std.specs.List.{list_any};
 ghost use Rattle.std.specs.List.Sorted.{IsPermutation};
 ghost use Rattle.rstar_base.specs.Points.{table};
 ghost use Rattle.rstar_base.specs.Selections.{IsLawful};
-ghost use Rattle.rstar.specs.Earliest.{earliest};
+ghost use Rattle.rstar.specs.inside.Earliest.{earliest};
 ghost use Rattle.rstar.specs.Lists.{NoneSelected};
 ghost use Rattle.rstar.specs.Nodes.{given_of};
-ghost use Rattle.rstar.specs.Taking.{Removes};
+ghost use Rattle.rstar.specs.inside.Taking.{Removes};
 ghost use Rattle.rstar.specs.Trees.{root_of, size_of, elements_in, IsWholeTree};
 
 use crate::algorithm::removal::earliest::take_earliest;

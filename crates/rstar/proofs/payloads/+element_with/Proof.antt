@@ -42,8 +42,8 @@ use Rattle.rstar.specs.declared.node.RTreeNode.{RTreeNode, Leaf, Parent}
 use Rattle.rstar.specs.declared.node.ParentNode.{ParentNode}
 use Rattle.rstar.specs.contracts.node.ParentNode.{the_row as parent_row}
 use Rattle.rstar.specs.Nodes.{layer_of}
-use Rattle.rstar.specs.Ways.{IsLeaf, IsParent, LendsLeaf, LendsParent, LendsChild, LendsElement, IsAt, child_at, way_to, with_parent, with_child, Leads, put_at}
-use Rattle.rstar.proofs.Ways.{leaf_leads, leaf_put, leaf_at, Down, down}
+use Rattle.rstar.specs.inside.WaysDown.{IsLeaf, IsParent, LendsLeaf, LendsParent, LendsChild, LendsElement, IsAt, child_at, way_to, with_parent, with_child, Leads, put_at}
+use Rattle.rstar.proofs.visiting.WaysDown.{leaf_leads, leaf_put, leaf_at, Down, down}
 use Rattle.rstar.specs.contracts.payloads.leaf_in as leaf
 use Rattle.rstar.specs.contracts.payloads.parent_in as parent
 use Rattle.rstar.specs.contracts.payloads.child_with as child

@@ -1,10 +1,10 @@
 use Rattle.std.proofs.Common.{◌≡◌, ◌∙◌, ◌&&◌, ap, sym, arith, map, length, nat_lt, rules}
 use Rattle.rstar_base.specs.Points.{table}
 use Rattle.rstar.specs.Nodes.{total, children_of}
-use Rattle.rstar.specs.Walks.{steps}
-use Rattle.rstar.specs.Ways.{finds_at, first_at}
-use Rattle.rstar.proofs.Rows.{steps-Parent}
-use Rattle.rstar.proofs.Ways.{finds-Leaf, finds-Parent}
+use Rattle.rstar.specs.inside.Traversals.{steps}
+use Rattle.rstar.specs.inside.WaysDown.{finds_at, first_at}
+use Rattle.rstar.proofs.trees.ByChildren.{steps-Parent}
+use Rattle.rstar.proofs.visiting.WaysDown.{finds-Leaf, finds-Parent}
 use Rattle.rstar.proofs.payloads.+finding.Goals as goal
 
 pub finds-first_finding-requires : goal.finds-first_finding-requires

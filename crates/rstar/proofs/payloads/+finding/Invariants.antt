@@ -1,8 +1,8 @@
 use Rattle.std.proofs.Common.{◌≡◌, ◌+◌, ◌≤◌, length, map}
 use Rattle.rstar_base.specs.Points.{table}
 use Rattle.rstar.specs.Nodes.{total}
-use Rattle.rstar.specs.Walks.{steps}
-use Rattle.rstar.specs.Ways.{first_at}
+use Rattle.rstar.specs.inside.Traversals.{steps}
+use Rattle.rstar.specs.inside.WaysDown.{first_at}
 use Rattle.rstar.proofs.payloads.+finding.Given as goal
 
 abbrev pub decreases-finds : goal.decreases-finds

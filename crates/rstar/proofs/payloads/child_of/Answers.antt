@@ -1,6 +1,6 @@
 use Rattle.std.proofs.Common.{◌∙◌, refl}
 use Rattle.rstar.specs.declared.node.RTreeNode.{Parent}
-use Rattle.rstar.proofs.Ways.{item-or}
+use Rattle.rstar.proofs.visiting.WaysDown.{item-or}
 use Rattle.rstar.proofs.payloads.child_of.Goals as goal
 
 pub returns : goal.returns

@@ -1,6 +1,6 @@
 use Rattle.std.proofs.Common.{◌≡◌, ◌∙◌, ap, refl}
 use Rattle.rstar_base.specs.Points.{table}
-use Rattle.rstar.specs.Ways.{first_at, way_to, with_child, child_at}
+use Rattle.rstar.specs.inside.WaysDown.{first_at, way_to, with_child, child_at}
 use Rattle.rstar.proofs.payloads.child_with.Goals as goal
 
 pub returns : goal.returns

@@ -2,7 +2,7 @@ use Rattle.std.proofs.Common.{◌≡◌, ◌∙◌, refl, ap, subst}
 use Rattle.rstar_base.specs.Points.{table}
 use Rattle.rstar_base.specs.Elements.{carried_distances}
 use Rattle.rstar.specs.Nodes.{layer_of}
-use Rattle.rstar.specs.Ways.{way_to, with_child, child_at, change_at}
+use Rattle.rstar.specs.inside.WaysDown.{way_to, with_child, child_at, change_at}
 use Rattle.rstar.specs.Payloads.{with_data, IsAtPayload}
 use Rattle.rstar.proofs.payloads.payload_below.Goals as goal
 

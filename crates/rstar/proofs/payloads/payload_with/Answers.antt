@@ -2,9 +2,9 @@ use Rattle.std.proofs.Common.{refl, sym, subst}
 use Rattle.rstar_base.specs.Points.{table}
 use Rattle.rstar_base.specs.Elements.{carried_distances}
 use Rattle.rstar.specs.Nodes.{layer_of}
-use Rattle.rstar.specs.Ways.{way_to, IsAt}
+use Rattle.rstar.specs.inside.WaysDown.{way_to, IsAt}
 use Rattle.rstar.specs.Payloads.{with_data}
-use Rattle.rstar.proofs.Ways.{put_changes}
+use Rattle.rstar.proofs.visiting.WaysDown.{put_changes}
 use Rattle.rstar.proofs.payloads.payload_with.Goals as goal
 
 pub returns : goal.returns

@@ -3,7 +3,7 @@ use Rattle.std.proofs.lemmas.Grind.{common_steps}
 use Rattle.std.specs.Vec.Iter.{into_iter_items}
 use Rattle.rstar.specs.Steps.{questions_of, Step}
 use Rattle.rstar.specs.StepsOfTrees.{StepOfTree}
-use Rattle.rstar.proofs.Replays.{run_more, run_whole, run_listed}
+use Rattle.rstar.proofs.commands.Replays.{run_more, run_whole, run_listed}
 use Rattle.rstar.proofs.replay.replay.Goals as goal
 
 pub loop-command-preserved : goal.loop-command-preserved

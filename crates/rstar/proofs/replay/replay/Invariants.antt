@@ -4,7 +4,7 @@ use Rattle.std.specs.Vec.Iter.{into_iter_items}
 use Rattle.rstar.specs.Trees.{IsWholeTree}
 use Rattle.rstar.specs.Steps.{questions_of, IsFit, Step}
 use Rattle.rstar.specs.StepsOfTrees.{StepOfTree}
-use Rattle.rstar.proofs.Replays.{RunsTo}
+use Rattle.rstar.proofs.commands.Replays.{RunsTo}
 use Rattle.rstar.proofs.replay.replay.Given as goal
 
 -- the replies so far are those of a run of the commands so far

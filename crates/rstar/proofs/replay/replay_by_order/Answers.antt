@@ -5,8 +5,8 @@ use Rattle.rstar.specs.Trees.{elements_in}
 use Rattle.rstar.specs.Steps.{questions_of}
 use Rattle.rstar.specs.StepsByOrder.{StepByOrder}
 use Rattle.rstar.specs.StepsOfTrees.{StepOfTree}
-use Rattle.rstar.proofs.Replays.{run_more, run_whole, run_listed}
-use Rattle.rstar.proofs.StepsByOrder.{first_reading-run}
+use Rattle.rstar.proofs.commands.Replays.{run_more, run_whole, run_listed}
+use Rattle.rstar.proofs.commands.StepsByOrder.{first_reading-run}
 use Rattle.rstar.proofs.replay.replay_by_order.Goals as goal
 
 pub loop-command-preserved : goal.loop-command-preserved

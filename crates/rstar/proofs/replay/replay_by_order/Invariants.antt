@@ -5,7 +5,7 @@ use Rattle.rstar.specs.Trees.{IsWholeTree}
 use Rattle.rstar.specs.Steps.{questions_of, IsFit}
 use Rattle.rstar.specs.StepsByOrder.{StepByOrder}
 use Rattle.rstar.specs.StepsOfTrees.{StepOfTree}
-use Rattle.rstar.proofs.Replays.{RunsTo}
+use Rattle.rstar.proofs.commands.Replays.{RunsTo}
 use Rattle.rstar.proofs.replay.replay_by_order.Given as goal
 
 -- the replies so far are those of a run of the commands so far

@@ -2,7 +2,7 @@ use Rattle.std.proofs.Common.{refl}
 use Rattle.rstar.specs.declared.replay.Command.TheVariants as command
 use Rattle.rstar.specs.Steps.{questions_of}
 use Rattle.rstar.specs.Trees.{elements_in}
-use Rattle.rstar.proofs.Replays.{too_many, unchanged}
+use Rattle.rstar.proofs.commands.Replays.{too_many, unchanged}
 use Rattle.rstar.proofs.replay.step.Goals as goal
 
 pub returns-in-Load : goal.returns-in-Load

@@ -1,15 +1,15 @@
 use Rattle.std.proofs.Common.{rules, inr, arith, length, map, ap, false, true}
 use Rattle.std.proofs.lemmas.Result.{err_from_is_err_and}
-use Rattle.rstar.specs.Kept.{IsKeptInner}
+use Rattle.rstar.specs.inside.ParentBounds.{IsKeptInner}
 use Rattle.rstar.specs.Nodes.{IsElement}
 use Rattle.rstar.specs.Shown.{shown}
 use Rattle.rstar.specs.Stored.{boxes, places}
 use Rattle.rstar.specs.StoredReading.{node_at}
-use Rattle.rstar.proofs.Rows.{elements-Parent}
-use Rattle.rstar.proofs.Insertion.{leaf_tree, tree_of}
-use Rattle.rstar.proofs.StoredBytes.{point_takes}
-use Rattle.rstar.proofs.StoredLoops.{goes_on, ends, is_done}
-use Rattle.rstar.proofs.StoredNodes.{leaf_counts, kept_push, points_push, shown_push, point_element, leaf_read, parent_read, parent_kept, parent_shown}
+use Rattle.rstar.proofs.trees.ByChildren.{elements-Parent}
+use Rattle.rstar.proofs.inserting.Insertion.{leaf_tree, tree_of}
+use Rattle.rstar.proofs.storing.Bytes.{point_takes}
+use Rattle.rstar.proofs.storing.Loops.{goes_on, ends, is_done}
+use Rattle.rstar.proofs.storing.Nodes.{leaf_counts, kept_push, points_push, shown_push, point_element, leaf_read, parent_read, parent_kept, parent_shown}
 use Rattle.rstar.proofs.stored.+read.Goals as goal
 
 pub children_at-returns-in_err-node-clause-read : goal.children_at-returns-in_err-node-clause-read

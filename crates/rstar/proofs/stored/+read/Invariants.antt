@@ -1,11 +1,11 @@
 use Rattle.std.proofs.Common.{◌≡◌, ◌≤◌, ◌<◌, ◌+◌, ◌-◌, ◌*◌, ◌^◌, length, map, vec_len}
 use Rattle.std.specs.Prelude.{vec_capacity}
-use Rattle.rstar.specs.Kept.{AreKept}
+use Rattle.rstar.specs.inside.ParentBounds.{AreKept}
 use Rattle.rstar.specs.Nodes.{all_elements}
 use Rattle.rstar.specs.Shown.{shown}
 use Rattle.rstar.specs.Stored.{boxes, places}
 use Rattle.rstar.specs.StoredReading.{each_at, node_at}
-use Rattle.rstar.proofs.StoredLoops.{with_front}
+use Rattle.rstar.proofs.storing.Loops.{with_front}
 use Rattle.rstar.proofs.stored.+read.Given as goal
 
 abbrev pub decreases-children_at : goal.decreases-children_at

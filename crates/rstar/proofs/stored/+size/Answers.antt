@@ -1,5 +1,5 @@
 use Rattle.std.proofs.Common.{◌-◌, ◌^◌, min, ap, sym, ◌∙◌}
-use Rattle.rstar.proofs.StoredWriting.{leaf_size, node_size, size_all}
+use Rattle.rstar.proofs.storing.Writing.{leaf_size, node_size, size_all}
 use Rattle.rstar.proofs.stored.+size.Goals as goal
 
 pub node_size-returns-in-Leaf : goal.node_size-returns-in-Leaf

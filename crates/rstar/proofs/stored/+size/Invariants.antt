@@ -1,7 +1,7 @@
 use Rattle.std.proofs.Common.{◌≡◌, ◌+◌, ◌-◌, ◌^◌, min, take}
 use Rattle.std.specs.Prelude.{sum_by}
 use Rattle.rstar.specs.Nodes.{children_of}
-use Rattle.rstar.proofs.StoredWriting.{size_of}
+use Rattle.rstar.proofs.storing.Writing.{size_of}
 use Rattle.rstar.proofs.stored.+size.Given as goal
 
 abbrev pub invariant-parent_size-loop-node : goal.invariant-parent_size-loop-node

@@ -1,8 +1,8 @@
 use Rattle.std.proofs.Common.{rules, arith, ◌++◌, sym, ap, ◌∙◌, length}
 use Rattle.rstar.specs.Nodes.{children_of, IsTree, IsInner, IsElement}
 use Rattle.rstar.specs.Stored.{boxes, places, number}
-use Rattle.rstar.proofs.Clones.{item_has}
-use Rattle.rstar.proofs.StoredWriting.{number_is, head_put, leaf_spelled, parent_spelled, leaf_stored, parent_stored, push_spelled, push_stored, whole_spelled, whole_stored, leaf_size, node_size, parent_size, size_more, size_within, size_all}
+use Rattle.rstar.proofs.trees.Clones.{item_has}
+use Rattle.rstar.proofs.storing.Writing.{number_is, head_put, leaf_spelled, parent_spelled, leaf_stored, parent_stored, push_spelled, push_stored, whole_spelled, whole_stored, leaf_size, node_size, parent_size, size_more, size_within, size_all}
 use Rattle.rstar.proofs.stored.+write.Goals as goal
 
 pub put_parent-loop-node-init : goal.put_parent-loop-node-init

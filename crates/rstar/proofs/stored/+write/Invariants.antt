@@ -5,7 +5,7 @@ use Rattle.rstar.specs.Nodes.{IsElement, IsInner, children_of, envelope_of, join
 use Rattle.rstar.specs.Shapes.{IsParentTree}
 use Rattle.rstar.specs.Shown.{shown, shown_root}
 use Rattle.rstar.specs.Stored.{boxes, places, IsStored, spelling, stored_size}
-use Rattle.rstar.proofs.StoredWriting.{head_of, size_of}
+use Rattle.rstar.proofs.storing.Writing.{head_of, size_of}
 use Rattle.rstar.proofs.stored.+write.Given as goal
 
 abbrev pub decreases-put_node : goal.decreases-put_node

@@ -1,5 +1,5 @@
 use Rattle.std.proofs.Common.{ap, ◌∙◌, ◌++◌}
-use Rattle.rstar.proofs.StoredWriting.{number_is, front_put}
+use Rattle.rstar.proofs.storing.Writing.{number_is, front_put}
 use Rattle.rstar.proofs.stored.headed.Goals as goal
 
 pub returns-clause-spelled : goal.returns-clause-spelled

@@ -1,5 +1,5 @@
 use Rattle.std.proofs.Common.{rules, ap, ◌∙◌, ◌++◌}
-use Rattle.rstar.proofs.StoredWriting.{number_is, two_put, place_is}
+use Rattle.rstar.proofs.storing.Writing.{number_is, two_put, place_is}
 use Rattle.rstar.proofs.stored.put_point.Goals as goal
 
 pub returns-clause-spelled : goal.returns-clause-spelled

@@ -1,9 +1,9 @@
 use Rattle.std.proofs.Common.{arith}
 use Rattle.rstar.specs.Shown.{shown_root}
 use Rattle.rstar.specs.Trees.{root_of}
-use Rattle.rstar.proofs.StoredTrees.{spelled_of, only_tree, none_spelled}
-use Rattle.rstar.proofs.StoredExact.{one_fault}
-use Rattle.rstar.proofs.StoredFaults.{fault_of}
+use Rattle.rstar.proofs.storing.Trees.{spelled_of, only_tree, none_spelled}
+use Rattle.rstar.proofs.storing.Exact.{one_fault}
+use Rattle.rstar.proofs.storing.Faults.{fault_of}
 use Rattle.rstar.proofs.stored.read_stored.Goals as goal
 
 pub returns-clause-spelled : goal.returns-clause-spelled

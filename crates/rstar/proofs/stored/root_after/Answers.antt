@@ -1,11 +1,11 @@
 use Rattle.std.proofs.Common.{rules, inr, ap, ◌∙◌, sym}
 use Rattle.std.proofs.Common.{Ok}
 use Rattle.rstar.specs.Shown.{shown_root}
-use Rattle.rstar.specs.Kept.{IsKeptInner}
+use Rattle.rstar.specs.inside.ParentBounds.{IsKeptInner}
 use Rattle.rstar.specs.Nodes.{IsElement}
 use Rattle.rstar.specs.Stored.{boxes, places}
-use Rattle.rstar.proofs.StoredNodes.{root_points, root_by}
-use Rattle.rstar.proofs.StoredTrees.{root_other, root_trailing, root_done}
+use Rattle.rstar.proofs.storing.Nodes.{root_points, root_by}
+use Rattle.rstar.proofs.storing.Trees.{root_other, root_trailing, root_done}
 use Rattle.rstar.proofs.stored.root_after.Goals as goal
 
 pub returns-then-points-count-clause-read : goal.returns-then-points-count-clause-read

@@ -1,6 +1,6 @@
 use Rattle.std.proofs.Common.{rules}
-use Rattle.rstar.proofs.StoredTrees.{one_spelling}
-use Rattle.rstar.proofs.Written.{empty_root_written, root_written}
+use Rattle.rstar.proofs.storing.Trees.{one_spelling}
+use Rattle.rstar.proofs.storing.Written.{empty_root_written, root_written}
 use Rattle.rstar.proofs.stored.write_stored.Goals as goal
 
 pub returns-then-is_empty-clause-spelled : goal.returns-then-is_empty-clause-spelled

@@ -1,6 +1,6 @@
 use Rattle.std.proofs.Common.{◌≡◌, ◌≤◌, map}
 use Rattle.rstar.specs.Nodes.{total, all_given}
-use Rattle.rstar.specs.Walks.{steps}
+use Rattle.rstar.specs.inside.Traversals.{steps}
 use Rattle.rstar.proofs.visits.+first_below.Given as goal
 
 abbrev pub decreases-first_below : goal.decreases-first_below

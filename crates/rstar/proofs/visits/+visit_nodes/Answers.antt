@@ -1,5 +1,5 @@
 use Rattle.std.proofs.Common.{arith}
-use Rattle.rstar.proofs.Visiting.{Visits-went_below, Visits-broke_below, Visits-broke}
+use Rattle.rstar.proofs.visiting.Visits.{Visits-went_below, Visits-broke_below, Visits-broke}
 use Rattle.rstar.proofs.visits.+visit_nodes.Goals as goal
 
 pub returns-in-Break-visit_nodes : goal.returns-in-Break-visit_nodes

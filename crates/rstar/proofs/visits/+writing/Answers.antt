@@ -7,9 +7,9 @@ use Rattle.rstar.specs.Nodes.{total, children_of, all_elements}
 use Rattle.rstar.specs.Visits.{Writes, all_marked}
 use Rattle.rstar.specs.Shapes.{IsAny, AreTrees}
 use Rattle.rstar.specs.Changes.{KeepsBox, IsChanged}
-use Rattle.rstar.specs.Walks.{steps}
-use Rattle.rstar.proofs.Rows.{steps-Parent}
-use Rattle.rstar.proofs.Writing.{halfway-start, here, here-steps, halfway-next, halfway-break, halfway-break-changed, halfway-end, parent-refused, node-unchanged, leaf-passed, leaf-called, leaf-changed, parent-written, parent-changed, refilled}
+use Rattle.rstar.specs.inside.Traversals.{steps}
+use Rattle.rstar.proofs.trees.ByChildren.{steps-Parent}
+use Rattle.rstar.proofs.visiting.Writing.{halfway-start, here, here-steps, halfway-next, halfway-break, halfway-break-changed, halfway-end, parent-refused, node-unchanged, leaf-passed, leaf-called, leaf-changed, parent-written, parent-changed, refilled}
 use Rattle.rstar.proofs.visits.+writing.Goals as goal
 
 -- the measure falls

@@ -1,7 +1,7 @@
 use Rattle.std.proofs.Common.{length, ◌-◌, ◌+◌, map}
 use Rattle.rstar.specs.Nodes.{total}
-use Rattle.rstar.specs.Walks.{steps}
-use Rattle.rstar.proofs.Writing.{IsHalfway}
+use Rattle.rstar.specs.inside.Traversals.{steps}
+use Rattle.rstar.proofs.visiting.Writing.{IsHalfway}
 use Rattle.rstar.proofs.visits.+writing.Given as goal
 
 abbrev pub decreases-visit_node_mut : goal.decreases-visit_node_mut

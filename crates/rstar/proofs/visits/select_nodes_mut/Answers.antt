@@ -5,11 +5,11 @@ use Rattle.rstar.specs.Nodes.{children_of, all_elements}
 use Rattle.rstar.specs.Visits.{Writes, all_marked, marked_of}
 use Rattle.rstar.specs.Shapes.{IsAny, AreTrees}
 use Rattle.rstar.specs.Changes.{KeepsBox, IsChanged}
-use Rattle.rstar.proofs.Changes.{changed-refl, root-kept}
-use Rattle.rstar.proofs.Insertion.{trees_map}
-use Rattle.rstar.proofs.Marks.{same-marks, selected-marks, marked-root}
-use Rattle.rstar.proofs.Walks.{no-items}
-use Rattle.rstar.proofs.Writing.{refilled, parent-writes, passed-writes}
+use Rattle.rstar.proofs.visiting.Changes.{changed-refl, root-kept}
+use Rattle.rstar.proofs.inserting.Insertion.{trees_map}
+use Rattle.rstar.proofs.visiting.VisitedMarks.{same-marks, selected-marks, marked-root}
+use Rattle.rstar.proofs.selecting.Traversals.{no-items}
+use Rattle.rstar.proofs.visiting.Writing.{refilled, parent-writes, passed-writes}
 use Rattle.rstar.proofs.visits.select_nodes_mut.Goals.{then-is_empty-via-then-is_empty, then-is_empty-via-else-is_empty+then-not-should_unpack_parent}
 use Rattle.rstar.proofs.visits.select_nodes_mut.Goals as goal
 

@@ -3,7 +3,7 @@
 ghost use Rattle.std.specs.Prelude.{◌≡◌, ℕ, ◌<◌, ◌≤◌, max, ◌+◌, ◌-◌, ◌*◌};
 ghost use Rattle.rstar_base.specs.Clusters.{IsClusterNumber};
 ghost use Rattle.rstar.specs.Loaded.{IsPartSize, IsLoadDepth, GoesDeep, EndsAt};
-ghost use Rattle.rstar.specs.Loads.{part_bound};
+ghost use Rattle.rstar.specs.inside.Loads.{part_bound};
 
 use crate::algorithm::bulk_load::slabs::InSlabs;
 use rstar_base::clusters::calculate_number_of_clusters_on_axis;

@@ -9,7 +9,7 @@ ghost use Rattle.rstar.specs.declared.node.RTreeNode.{Leaf};
 ghost use Rattle.rstar.specs.Nodes.{elements_of};
 ghost use Rattle.rstar.specs.Lists.{NoneEmpty};
 ghost use Rattle.rstar.specs.Loaded.{IsPartSize, GoesDeep};
-ghost use Rattle.rstar.specs.Loads.{AddsParts, CutsSlab, IsFresh, IsFreshNode, front_of, last_of};
+ghost use Rattle.rstar.specs.inside.Loads.{AddsParts, CutsSlab, IsFresh, IsFreshNode, front_of, last_of};
 
 use crate::algorithm::bulk_load::slabs::InSlabs;
 use crate::needs::Covered;

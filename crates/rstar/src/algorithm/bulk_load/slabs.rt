@@ -4,7 +4,7 @@ ghost use Rattle.std.specs.List.{AllByRecursion};
 ghost use Rattle.std.specs.Prelude.{◌≡◌, ℕ, ◌<◌, ◌≤◌, max, length};
 ghost use Rattle.rstar_base.specs.Clusters.{IsClusterNumber};
 ghost use Rattle.rstar_base.specs.Hulls.{hull};
-ghost use Rattle.rstar.specs.Loads.{CutsSlab};
+ghost use Rattle.rstar.specs.inside.Loads.{CutsSlab};
 
 use crate::algorithm::bulk_load::{depth, parts};
 use crate::needs::Covered;

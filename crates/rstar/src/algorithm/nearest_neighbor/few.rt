@@ -6,10 +6,10 @@ ghost use Rattle.std.specs.List.{AllByRecursion, insert};
 ghost use Rattle.std.specs.Ordering.{flip_args, is_lt};
 ghost use Rattle.rstar_base.specs.SmallHeaps.{items_of, IsOrdered, Rises};
 ghost use Rattle.rstar.specs.declared.node.RTreeNode.{RTreeNode};
-ghost use Rattle.rstar.specs.Few.{AreFoundSoFar, KeepsGreatest, WaitAtDistance, waiting_parents};
+ghost use Rattle.rstar.specs.inside.Few.{AreFoundSoFar, KeepsGreatest, WaitAtDistance, waiting_parents};
 ghost use Rattle.rstar.specs.Lists.{IsNotLater, AreFirstOf};
 ghost use Rattle.rstar.specs.Nodes.{all_parents, elements_of, parents, IsWhole};
-ghost use Rattle.rstar.specs.Searches.{any_first, nearest_on_top};
+ghost use Rattle.rstar.specs.inside.Searches.{any_first, nearest_on_top};
 
 use crate::algorithm::nearest_neighbor::measures::{Measured, SquaredDistance};
 use crate::algorithm::nearest_neighbor::search::{distance_to, fits};

@@ -6,7 +6,7 @@ ghost use Rattle.std.specs.declared.cmp.Ordering.{Ordering};
 ghost use Rattle.rstar.specs.declared.algorithm.nearest_neighbor.search.Stage.TheVariants.{Fresh};
 ghost use Rattle.rstar.specs.Lists.{IsNotLater, AreFirstOf};
 ghost use Rattle.rstar.specs.Nodes.{all_elements, elements_of, IsWhole};
-ghost use Rattle.rstar.specs.Searches.{waiting_of, IsReady, TiesBy};
+ghost use Rattle.rstar.specs.inside.Searches.{waiting_of, IsReady, TiesBy};
 
 use crate::algorithm::nearest_neighbor::few::first_few;
 use crate::algorithm::nearest_neighbor::measures::{Measured, SquaredDistance};

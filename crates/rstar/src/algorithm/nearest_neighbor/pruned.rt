@@ -6,8 +6,8 @@ ghost use Rattle.rstar_base.specs.SmallHeaps.{items_of, IsOrdered};
 ghost use Rattle.rstar.specs.declared.node.RTreeNode.{RTreeNode};
 ghost use Rattle.rstar.specs.Lists.{IsNearest};
 ghost use Rattle.rstar.specs.Nodes.{all_parents, elements_of, envelope_of, parents, node_box, IsWhole};
-ghost use Rattle.rstar.specs.Pruned.{IsAbove, IsPruned};
-ghost use Rattle.rstar.specs.Searches.{any_first, nearest_on_top, waiting_nodes, distance_of, AreWaiting};
+ghost use Rattle.rstar.specs.inside.Pruned.{IsAbove, IsPruned};
+ghost use Rattle.rstar.specs.inside.Searches.{any_first, nearest_on_top, waiting_nodes, distance_of, AreWaiting};
 
 use crate::algorithm::nearest_neighbor::measures::{Measured, SquaredDistance};
 use crate::algorithm::nearest_neighbor::search::{Heap, distance_to, fits};

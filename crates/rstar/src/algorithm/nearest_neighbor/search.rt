@@ -4,12 +4,12 @@ ghost use Rattle.std.specs.Prelude.{◌≡◌, ◌<◌, ◌≤◌, ◌∷◌, �
 ghost use Rattle.std.specs.List.Sorted.{IsPermutation};
 ghost use Rattle.std.specs.Mem.{FitsInMemory};
 ghost use Rattle.rstar_base.specs.SmallHeaps.{items_of, IsOrdered};
-ghost use Rattle.rstar.specs.Fits.{heap_row, search_row};
+ghost use Rattle.rstar.specs.inside.Fits.{heap_row, search_row};
 ghost use Rattle.rstar.specs.declared.node.RTreeNode.{Parent};
 ghost use Rattle.rstar.specs.declared.algorithm.nearest_neighbor.search.Stage.TheVariants.{Fresh, Running, Ended};
 ghost use Rattle.rstar.specs.Nodes.{all_elements, all_parents, IsWhole};
 ghost use Rattle.rstar.specs.Neighbors.{IsNeighbor};
-ghost use Rattle.rstar.specs.Searches.{nearest_on_top, waiting_nodes, distance_of, ComesFirst, AreWaiting, IsRunning, IsReady, IsReadyAt, IsUnrefused, held_by, waiting_of};
+ghost use Rattle.rstar.specs.inside.Searches.{nearest_on_top, waiting_nodes, distance_of, ComesFirst, AreWaiting, IsRunning, IsReady, IsReadyAt, IsUnrefused, held_by, waiting_of};
 
 use crate::algorithm::nearest_neighbor::measures::{Measured, SquaredDistance};
 use crate::algorithm::nearest_neighbor::waiting::{TieOrder, Waiting};

@@ -3,8 +3,8 @@
 ghost use Rattle.std.specs.Prelude.{◌≡◌, ℕ, List, [], pos, map, IfOk, IfSome, IfNone, OnOk};
 ghost use Rattle.rstar.specs.Lists.{AreSomeNearest};
 ghost use Rattle.rstar.specs.Nodes.{all_elements, elements_of, IsWhole};
-ghost use Rattle.rstar.specs.Searches.{any_first, waiting_of, IsReady, IsUnrefused};
-ghost use Rattle.rstar.specs.Ties.{IsTied};
+ghost use Rattle.rstar.specs.inside.Searches.{any_first, waiting_of, IsReady, IsUnrefused};
+ghost use Rattle.rstar.specs.inside.Ties.{IsTied};
 
 use crate::algorithm::nearest_neighbor::measures::{Measured, SquaredDistance};
 use crate::algorithm::nearest_neighbor::search::{NeighborSearch, NodeSearch, fits};
@@ -14,7 +14,7 @@ use std::alloc::AllocError;
 
 /// All elements at the least squared distance to a point, at least one, with that distance. `None` exactly
 /// where there is no element.
-#[tactic(auto, using(crate::proofs::Ties::ready_at))]
+#[tactic(auto, using(crate::proofs::searching::Ties::ready_at))]
 pub(crate) fn all_nearest<'a, T: Measured>(
     root: &'a ParentNode<T>,
     point: &T::Place,

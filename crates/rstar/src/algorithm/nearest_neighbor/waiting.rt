@@ -6,7 +6,7 @@ ghost use Rattle.std.specs.Cmp.Rules.{comparing};
 ghost use Rattle.std.specs.Ordering.{as_partial_cmp, eq_by_cmp};
 ghost use Rattle.std.specs.Prelude.{◌≡◌};
 ghost use Rattle.std.specs.declared.cmp.Ordering.{Ordering};
-ghost use Rattle.rstar.specs.Searches.{any_first, parents_first, nearest_on_top};
+ghost use Rattle.rstar.specs.inside.Searches.{any_first, parents_first, nearest_on_top};
 
 use crate::needs::Covered;
 use crate::node::RTreeNode;

@@ -5,10 +5,10 @@
 
 ghost use Rattle.std.specs.Prelude.{◌≡◌, ◌≢◌, ℕ, [], false, None, IfNone, slice_index_or};
 ghost use Rattle.rstar_base.specs.Hulls.{hull};
-ghost use Rattle.rstar.specs.Earliest.{earliest, lent, earlier_at, IsGivenAt, IsEarliestOf};
-ghost use Rattle.rstar.specs.Kept.{IsKept, AreKept};
+ghost use Rattle.rstar.specs.inside.Earliest.{earliest, lent, earlier_at, IsGivenAt, IsEarliestOf};
+ghost use Rattle.rstar.specs.inside.ParentBounds.{IsKept, AreKept};
 ghost use Rattle.rstar.specs.Nodes.{node_box, given, all_given, is_leaf_node};
-ghost use Rattle.rstar.specs.Taking.{Takes, TakesInside};
+ghost use Rattle.rstar.specs.inside.Taking.{Takes, TakesInside};
 
 use crate::algorithm::removal::{drop_child, is_childless, take_leaf};
 use crate::needs::{Covered, Merges, Question};

@@ -7,8 +7,8 @@ ghost use Rattle.rstar_base.specs.Hulls.{hull};
 ghost use Rattle.rstar.specs.declared.node.RTreeNode.{Parent};
 ghost use Rattle.rstar.specs.Nodes.{node_box, all_elements};
 ghost use Rattle.rstar.specs.Shapes.{AreSized, IsSizedTree};
-ghost use Rattle.rstar.specs.Kept.{HasAtMost, IsSpare, IsKept, HasMergedBox, AreKept, IsKeptTree, IsSizedAfter, second_children, as_node};
-ghost use Rattle.rstar.specs.Kept.{has_room, all_roomy, roomy_of, second_roomy};
+ghost use Rattle.rstar.specs.inside.ParentBounds.{HasAtMost, IsSpare, IsKept, HasMergedBox, AreKept, IsKeptTree, IsSizedAfter, second_children, as_node};
+ghost use Rattle.rstar.specs.inside.ParentBounds.{has_room, all_roomy, roomy_of, second_roomy};
 
 use crate::algorithm::rstar::placing::Placed;
 use crate::algorithm::rstar::split::{move_all, move_over};

@@ -3,7 +3,7 @@
 ghost use Rattle.std.specs.Prelude.{◌≡◌, ◌+◌, ◌<◌, ◌≤◌, max, OnOk, IfSome, IfNone, vec_len};
 ghost use Rattle.std.specs.List.{AllByRecursion};
 ghost use Rattle.rstar.specs.Heights.{spare_lists};
-ghost use Rattle.rstar.specs.Kept.{IsSpare};
+ghost use Rattle.rstar.specs.inside.ParentBounds.{IsSpare};
 
 use rstar_base::params::RTreeParams;
 use std::alloc::{AllocError, Global};

@@ -9,8 +9,8 @@ ghost use Rattle.rstar.specs.declared.node.RTreeNode.{Leaf};
 ghost use Rattle.rstar.specs.Heights.{spare_lists};
 ghost use Rattle.rstar.specs.Nodes.{node_box, all_elements};
 ghost use Rattle.rstar.specs.Shapes.{AreSized, IsSizedTree};
-ghost use Rattle.rstar.specs.Kept.{HasAtMost, IsSpare, IsKept, HasMergedBox, AreKept, IsKeptTree, IsSizedAfter};
-ghost use Rattle.rstar.specs.Kept.{has_room, all_roomy, roomy_of};
+ghost use Rattle.rstar.specs.inside.ParentBounds.{HasAtMost, IsSpare, IsKept, HasMergedBox, AreKept, IsKeptTree, IsSizedAfter};
+ghost use Rattle.rstar.specs.inside.ParentBounds.{has_room, all_roomy, roomy_of};
 
 use crate::algorithm::rstar::insertion::insert_at_root;
 use crate::algorithm::rstar::placing::Placed;

@@ -2,7 +2,7 @@
 
 ghost use Rattle.std.specs.Prelude.{◌≡◌, ◌+◌, ◌*◌, ◌<◌, ◌≤◌, ℕ, [], ◌++◌, ◌&&◌, ◌||◌, not, take, drop, length, vec_len, vec_capacity, pos, unsigned_abs, int_lt};
 ghost use Rattle.std.specs.List.Sorted.{IsPermutation, IsSortedByKey};
-ghost use Rattle.rstar.specs.Kept.{has_room};
+ghost use Rattle.rstar.specs.inside.ParentBounds.{has_room};
 ghost use Rattle.rstar.specs.Cuts.{RisesByAxis, IsArrangement, IsAllowedCut, overlap_at, areas_at, IsLeastCut};
 
 use rstar_base::envelope::Envelope;

@@ -4,7 +4,7 @@ ghost use Rattle.std.specs.Prelude.{◌≡◌, ◌≤◌, IsOk, IfOk};
 ghost use Rattle.std.specs.Iterator.{item_count};
 ghost use Rattle.rstar.specs.Heights.{levels_below};
 ghost use Rattle.rstar.specs.Nodes.{children_of, IsWhole};
-ghost use Rattle.rstar.specs.JoinWalks.{IsIdle};
+ghost use Rattle.rstar.specs.inside.PairWalks.{IsIdle};
 ghost use Rattle.rstar.specs.Joins.{meets_by};
 ghost use Rattle.rstar.specs.SelfJoins.{pairs_within, own_opened, own_to_come, HasItsLists, IsSelfJoining, IsSelfJoinMade, IsEntered, GivesOwnPair};
 

@@ -5,7 +5,7 @@ ghost use Rattle.rstar.specs.declared.node.RTreeNode.{Leaf};
 ghost use Rattle.rstar.specs.Nodes.{node_box};
 ghost use Rattle.rstar.specs.Lists.{product};
 ghost use Rattle.rstar.specs.Meets.{opened_to, both_leaves, all_pairs, all_opens};
-ghost use Rattle.rstar.specs.JoinWalks.{marked_items, with_marks, rows_beside, pairs_by, opens_by, AreJoinable, IsFirstPair, IsSingle, IsIdle, IsWalk, IsPairStep, IsNextPair};
+ghost use Rattle.rstar.specs.inside.PairWalks.{marked_items, with_marks, rows_beside, pairs_by, opens_by, AreJoinable, IsFirstPair, IsSingle, IsIdle, IsWalk, IsPairStep, IsNextPair};
 ghost use Rattle.rstar.specs.Joins.{meets_by};
 
 use crate::iterators::joins::Meets;

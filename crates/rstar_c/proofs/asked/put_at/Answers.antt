@@ -1,7 +1,7 @@
 use Rattle.std.proofs.Common.{◌+◌, ◌∙◌, ap, sym, min, length, map}
 use Rattle.std.proofs.lemmas.List.{length-map}
 use Rattle.std.proofs.lemmas.Simd.{map-map}
-use Rattle.rstar.proofs.Chains.{selection_end}
+use Rattle.rstar.proofs.selecting.Chains.{selection_end}
 use Rattle.rstar_base.specs.Counts.{usize_max}
 use Rattle.rstar_c.specs.Put.{put_from}
 use Rattle.rstar_c.proofs.asked.put_at.Goals as goal

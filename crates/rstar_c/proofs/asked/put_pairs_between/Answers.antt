@@ -1,7 +1,7 @@
 use Rattle.std.proofs.Common.{◌∙◌, ap, map, min, refl, sym}
 use Rattle.std.proofs.lemmas.List.{length-map}
 use Rattle.std.proofs.lemmas.Simd.{map-map}
-use Rattle.rstar.proofs.Chains.{pairs_end}
+use Rattle.rstar.proofs.selecting.Chains.{pairs_end}
 use Rattle.rstar_base.specs.Counts.{usize_max}
 use Rattle.rstar_c.specs.Put.{over}
 use Rattle.rstar_c.proofs.Listed.{arranged}

@@ -3,7 +3,7 @@ use Rattle.std.specs.List.Sorted.{IsPermutation}
 use Rattle.std.proofs.lemmas.List.Sorted.{IsPermutation-trans}
 use Rattle.rstar.specs.Shown.{shown_root}
 use Rattle.rstar.specs.Trees.{root_of}
-use Rattle.rstar.proofs.Written.{whole_points}
+use Rattle.rstar.proofs.storing.Written.{whole_points}
 use Rattle.rstar_run.proofs.Packing.{unpack_refused, spells_input}
 use Rattle.rstar_run.proofs.stored.unpacked.Goals as goal
 

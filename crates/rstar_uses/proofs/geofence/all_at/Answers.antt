@@ -1,5 +1,5 @@
 use Rattle.std.proofs.lemmas.Iterator.Consumers.{map_from_collect}
-use Rattle.rstar.proofs.Chains.{selection_list}
+use Rattle.rstar.proofs.selecting.Chains.{selection_list}
 use Rattle.rstar_uses.proofs.geofence.all_at.Goals as goal
 
 pub returns-in-Ok : goal.returns-in-Ok

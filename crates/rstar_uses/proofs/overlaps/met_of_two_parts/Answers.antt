@@ -1,8 +1,8 @@
 use Rattle.std.proofs.Common.{◌≡◌, ◌∙◌, ◌&&◌, Bool, List, Ok, map, filter, IsPermutation, not, ◌==◌, ap, refl, subst, sym, rules, tests}
 use Rattle.std.proofs.lemmas.Iterator.Consumers.{map_from_collect}
 use Rattle.std.proofs.lemmas.List.Elements.{filter_from_retain}
-use Rattle.rstar.proofs.Chains.{own_list}
-use Rattle.rstar.proofs.Ties.{filter-along}
+use Rattle.rstar.proofs.selecting.Chains.{own_list}
+use Rattle.rstar.proofs.searching.Ties.{filter-along}
 use Rattle.rstar.specs.SelfJoins.{pairs_behind}
 use Rattle.rstar.specs.Trees.{elements_in}
 use Rattle.rstar_uses.proofs.Lists.{filter-seen, filter-twice}

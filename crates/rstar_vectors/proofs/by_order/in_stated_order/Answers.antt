@@ -4,8 +4,8 @@ use Rattle.std.proofs.lemmas.List.Sorted.{IsPermutation-sym, IsPermutation-trans
 use Rattle.rstar_base.specs.Points.{table}
 use Rattle.rstar.specs.ByOrder.{GivesByOrder}
 use Rattle.rstar.specs.Lists.{by_distance}
-use Rattle.rstar.proofs.InOrder.{ordered_end}
-use Rattle.rstar.proofs.OneOrder.{one-order}
+use Rattle.rstar.proofs.searching.InOrder.{ordered_end}
+use Rattle.rstar.proofs.searching.OneOrder.{one-order}
 use Rattle.rstar_vectors.proofs.Drained.{none-taken, one-more-taken}
 use Rattle.rstar_vectors.proofs.by_order.in_stated_order.Goals as goal
 

@@ -1,6 +1,6 @@
 use Rattle.std.proofs.Common.{◌∙◌, ap, min, refl}
 use Rattle.rstar_base.specs.Counts.{usize_max}
-use Rattle.rstar.proofs.Chains.{pairs_end}
+use Rattle.rstar.proofs.selecting.Chains.{pairs_end}
 use Rattle.rstar_vectors.proofs.Callers.{met, listed}
 use Rattle.rstar_vectors.proofs.Drained.{all-opened}
 use Rattle.rstar_vectors.proofs.joins.joined.Goals as goal

@@ -1,6 +1,6 @@
 use Rattle.std.proofs.Common.{◌∙◌}
 use Rattle.rstar.specs.Neighbors.{GivesElement}
-use Rattle.rstar.proofs.InOrder.{neighbors_end}
+use Rattle.rstar.proofs.searching.InOrder.{neighbors_end}
 use Rattle.rstar_vectors.proofs.Drained.{none-taken, one-more-taken}
 use Rattle.rstar_vectors.proofs.neighbours.in_order.Goals as goal
 

@@ -1,5 +1,5 @@
 use Rattle.std.proofs.lemmas.Result.{IfOk-weaker}
-use Rattle.rstar.proofs.InOrder.{neighbors_taken}
+use Rattle.rstar.proofs.searching.InOrder.{neighbors_taken}
 use Rattle.rstar_vectors.proofs.neighbours.nearest_points.Goals as goal
 
 pub returns : goal.returns

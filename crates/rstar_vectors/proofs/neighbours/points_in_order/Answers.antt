@@ -1,5 +1,5 @@
 use Rattle.std.proofs.lemmas.Result.{IfOk-weaker}
-use Rattle.rstar.proofs.InOrder.{neighbors_collected}
+use Rattle.rstar.proofs.searching.InOrder.{neighbors_collected}
 use Rattle.rstar_vectors.proofs.neighbours.points_in_order.Goals as goal
 
 pub returns-clause-all : goal.returns-clause-all

@@ -1,7 +1,7 @@
 use Rattle.std.proofs.Common.{◌∙◌, ap, min, refl}
 use Rattle.rstar_base.specs.Counts.{usize_max}
 use Rattle.rstar.specs.SelfJoins.{own_meet}
-use Rattle.rstar.proofs.Chains.{own_end}
+use Rattle.rstar.proofs.selecting.Chains.{own_end}
 use Rattle.rstar_vectors.proofs.Callers.{listed}
 use Rattle.rstar_vectors.proofs.Drained.{own-opened}
 use Rattle.rstar_vectors.proofs.pairs.paired.Goals as goal

@@ -1,5 +1,5 @@
 use Rattle.std.proofs.Common.{◌∙◌, refl}
-use Rattle.rstar.proofs.Chains.{selection_end}
+use Rattle.rstar.proofs.selecting.Chains.{selection_end}
 use Rattle.rstar_vectors.proofs.Drained.{all-reached}
 use Rattle.rstar_vectors.proofs.payloads.walked.Goals as goal
 

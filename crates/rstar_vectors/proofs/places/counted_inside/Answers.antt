@@ -1,6 +1,6 @@
 use Rattle.std.proofs.Common.{◌∙◌, ap, sym, min, length}
 use Rattle.std.proofs.lemmas.List.{length-map}
-use Rattle.rstar.proofs.Chains.{selection_end}
+use Rattle.rstar.proofs.selecting.Chains.{selection_end}
 use Rattle.rstar_base.specs.Counts.{usize_max}
 use Rattle.rstar_vectors.proofs.places.counted_inside.Goals as goal
 

@@ -1,7 +1,7 @@
 use Rattle.std.proofs.Common.{ap, filter, sym, subst, rules}
 use Rattle.rstar.specs.Nodes.{elements_of}
 use Rattle.rstar.specs.Visits.{IsFirst}
-use Rattle.rstar.proofs.Visiting.{visit_all}
+use Rattle.rstar.proofs.visiting.Visits.{visit_all}
 use Rattle.rstar_vectors.proofs.FirstSeen.{first_seen}
 use Rattle.rstar_vectors.proofs.readings.first_below.Goals as goal
 

@@ -1,5 +1,5 @@
 use Rattle.std.proofs.Common.{rules}
-use Rattle.rstar.proofs.Writing.{written_as}
+use Rattle.rstar.proofs.visiting.Writing.{written_as}
 use Rattle.rstar_vectors.proofs.visits.clear.Goals as goal
 
 pub returns-clause-cleared : goal.returns-clause-cleared

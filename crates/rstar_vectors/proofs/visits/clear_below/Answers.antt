@@ -1,5 +1,5 @@
 use Rattle.std.proofs.Common.{rules}
-use Rattle.rstar.proofs.Writing.{written_all, written_as}
+use Rattle.rstar.proofs.visiting.Writing.{written_all, written_as}
 use Rattle.rstar_vectors.proofs.visits.clear_below.Goals as goal
 
 pub returns-clause-cleared : goal.returns-clause-cleared

@@ -1,10 +1,10 @@
 use Rattle.std.proofs.Common.{◌≡◌, ◌∙◌, ◌<◌, ◌≤◌, ◌-◌, ℕ, sym, refl, arith, ap, suc, get_or-set_same}
 use Rattle.rstar.specs.declared.node.RTreeNode.{Leaf}
 use Rattle.rstar.specs.declared.node.RTreeNode.TheVariants.{outs-Leaf, outs-Parent}
-use Rattle.rstar.specs.Taking.{selects_in, is_selected_leaf, is_childless}
-use Rattle.rstar.proofs.Gathered.{gathering_begins, gathering_ends, takes_leaf, goes_inside, drops_childless, leaf_stays, opened, not_opened, same_elements, kept_alike}
-use Rattle.rstar.proofs.Parts.{same_read}
-use Rattle.rstar.proofs.Scans.{kept_anew}
+use Rattle.rstar.specs.inside.Taking.{selects_in, is_selected_leaf, is_childless}
+use Rattle.rstar.proofs.removing.Gathered.{gathering_begins, gathering_ends, takes_leaf, goes_inside, drops_childless, leaf_stays, opened, not_opened, same_elements, kept_alike}
+use Rattle.rstar.proofs.removing.Parts.{same_read}
+use Rattle.rstar.proofs.removing.Scans.{kept_anew}
 use Rattle.rstar.proofs.algorithm.gathering.+gather.Goals as goal
 
 -- ---- the place of a child, and room, by lemmas that read no more than they need

@@ -1,6 +1,6 @@
 use Rattle.std.proofs.Common.{◌≡◌, ℕ, ◌<◌, get_or, vec_capacity}
 use Rattle.rstar.specs.declared.node.RTreeNode.{RTreeNode}
-use Rattle.rstar.proofs.Gathered.{Gathering}
+use Rattle.rstar.proofs.removing.Gathered.{Gathering}
 use Rattle.rstar.proofs.algorithm.gathering.+gather.Given as goal
 
 -- the nodes behind were looked at, and those in front are as they were

@@ -1,4 +1,4 @@
-use Rattle.rstar.proofs.Gathered.{swapped_out}
+use Rattle.rstar.proofs.removing.Gathered.{swapped_out}
 use Rattle.rstar.proofs.algorithm.gathering.swap_leaf_out.Goals as goal
 
 pub returns-clause-out : goal.returns-clause-out

@@ -1,12 +1,12 @@
 use Rattle.std.proofs.Common.{true, false, ◌≡◌, ◌∙◌, ◌<◌, sym, refl, arith, ap, length, suc, ◌+◌, ◌-◌, get_or, get_or-set_same, Vec, ℕ, ◌≤◌, vec_len}
 use Rattle.rstar.specs.declared.node.RTreeNode.{Leaf}
 use Rattle.rstar.specs.declared.node.RTreeNode.TheVariants.{outs-Leaf, outs-Parent}
-use Rattle.rstar.specs.Taking.{selects_in, is_selected_leaf, is_childless, lower_numbers}
-use Rattle.rstar.proofs.Parts.{same_read, same_item, lower_lent, lower_left}
-use Rattle.rstar.proofs.Scans.{begins, gives_leaf, gives_inside, gives_last, passes_any, finishes, some_one, entered, not_entered, kept_anew, kept_still, hull_set, none_gives, along}
+use Rattle.rstar.specs.inside.Taking.{selects_in, is_selected_leaf, is_childless, lower_numbers}
+use Rattle.rstar.proofs.removing.Parts.{same_read, same_item, lower_lent, lower_left}
+use Rattle.rstar.proofs.removing.Scans.{begins, gives_leaf, gives_inside, gives_last, passes_any, finishes, some_one, entered, not_entered, kept_anew, kept_still, hull_set, none_gives, along}
 use Rattle.rstar_base.specs.Hulls.{hull}
 use Rattle.rstar.specs.Nodes.{node_box}
-use Rattle.rstar.proofs.Rows.{node_box-Parent}
+use Rattle.rstar.proofs.trees.ByChildren.{node_box-Parent}
 use Rattle.rstar.proofs.algorithm.removal.+take.Goals as goal
 use Rattle.rstar.proofs.algorithm.removal.+take.Goals.{take_among-then-is_childless, take_among-else-is_childless, take_below-else-is_some-via-then-is_some+else-changed, take_below-else-is_some-via-else-is_some}
 

@@ -1,6 +1,6 @@
 use Rattle.std.proofs.Common.{◌≡◌, ℕ, get_or}
 use Rattle.rstar.specs.declared.node.RTreeNode.{RTreeNode}
-use Rattle.rstar.proofs.Scans.{Scanned}
+use Rattle.rstar.proofs.removing.Scans.{Scanned}
 use Rattle.rstar.proofs.algorithm.removal.+take.Given as goal
 
 -- the nodes behind were passed over, and all are as they were

@@ -1,5 +1,5 @@
 use Rattle.std.proofs.Common.{sym, arith}
-use Rattle.rstar.proofs.Scans.{left_front}
+use Rattle.rstar.proofs.removing.Scans.{left_front}
 use Rattle.rstar.proofs.algorithm.removal.front_of.Goals as goal
 
 pub returns-in-Some-clause-merged : goal.returns-in-Some-clause-merged

@@ -1,6 +1,6 @@
 use Rattle.std.proofs.Common.{◌∙◌, ap, arith, drop}
 use Rattle.std.proofs.lemmas.List.{take_all, length-drop}
-use Rattle.rstar.proofs.Scans.{merged_parts}
+use Rattle.rstar.proofs.removing.Scans.{merged_parts}
 use Rattle.rstar.proofs.algorithm.removal.merge_at.Goals as goal
 
 pub returns-clause-merged : goal.returns-clause-merged

@@ -1,5 +1,5 @@
 use Rattle.std.proofs.Common.{◌++◌, take, ap, sym, ◌∙◌, append_assoc}
-use Rattle.rstar.specs.Paths.{near_items}
+use Rattle.rstar.specs.inside.Paths.{near_items}
 use Rattle.rstar.proofs.path.Path.pop.Goals as goal
 
 pub returns-in-Some-clause-some : goal.returns-in-Some-clause-some

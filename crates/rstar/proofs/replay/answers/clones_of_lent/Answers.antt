@@ -1,5 +1,5 @@
 use Rattle.std.proofs.Common.{◌<◌, ◌≤◌, length, refl, arith}
-use Rattle.rstar.proofs.Firsts.{clone-more, clones-whole}
+use Rattle.rstar.proofs.commands.Firsts.{clone-more, clones-whole}
 use Rattle.rstar.proofs.replay.answers.clones_of_lent.Goals as goal
 
 pub loop-place-preserved : goal.loop-place-preserved

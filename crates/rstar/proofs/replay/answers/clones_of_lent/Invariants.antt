@@ -1,5 +1,5 @@
 use Rattle.std.proofs.Common.{◌≡◌, map, take}
-use Rattle.rstar.proofs.Firsts.{lent}
+use Rattle.rstar.proofs.commands.Firsts.{lent}
 use Rattle.rstar.proofs.replay.answers.clones_of_lent.Given as goal
 
 -- the clones so far

@@ -4,7 +4,7 @@ use Rattle.rstar_base.specs.Points.{table}
 use Rattle.rstar.specs.Lists.{IsNoFarther}
 use Rattle.rstar.specs.Steps.{AreFirstWith}
 use Rattle.rstar.specs.Trees.{elements_in}
-use Rattle.rstar.proofs.Firsts.{lent, distance_ranks, first-clones}
+use Rattle.rstar.proofs.commands.Firsts.{lent, distance_ranks, first-clones}
 use Rattle.rstar.proofs.replay.answers.first_clones.Goals as goal
 
 pub returns : goal.returns

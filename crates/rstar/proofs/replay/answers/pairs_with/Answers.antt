@@ -4,7 +4,7 @@ use Rattle.std.specs.List.Sorted.{IsPermutation}
 use Rattle.std.proofs.lemmas.List.Sorted.{IsPermutation-sym, IsPermutation-trans}
 use Rattle.rstar.specs.Joins.{join}
 use Rattle.rstar.specs.Trees.{elements_in}
-use Rattle.rstar.proofs.Replays.{join-along}
+use Rattle.rstar.proofs.commands.Replays.{join-along}
 use Rattle.rstar.proofs.replay.answers.pairs_with.Goals as goal
 
 pub returns : goal.returns

@@ -2,7 +2,7 @@ use Rattle.std.proofs.Common.{◌≡◌, ℕ, arith}
 use Rattle.rstar_base.specs.Points.{table}
 use Rattle.rstar.specs.Lists.{IsNotLater}
 use Rattle.rstar.specs.Trees.{elements_in}
-use Rattle.rstar.proofs.Firsts.{stated_ranks, first-one, first-none}
+use Rattle.rstar.proofs.commands.Firsts.{stated_ranks, first-one, first-none}
 use Rattle.rstar.proofs.replay.by_order.first_clone.Goals as goal
 
 pub returns-in_default : goal.returns-in_default

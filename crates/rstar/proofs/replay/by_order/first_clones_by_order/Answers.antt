@@ -4,7 +4,7 @@ use Rattle.rstar_base.specs.Points.{table}
 use Rattle.rstar.specs.Lists.{IsNotLater}
 use Rattle.rstar.specs.Steps.{AreFirstWith}
 use Rattle.rstar.specs.Trees.{elements_in}
-use Rattle.rstar.proofs.Firsts.{lent, stated_ranks, first-clones}
+use Rattle.rstar.proofs.commands.Firsts.{lent, stated_ranks, first-clones}
 use Rattle.rstar.proofs.replay.by_order.first_clones_by_order.Goals as goal
 
 pub returns : goal.returns

@@ -1,5 +1,5 @@
 use Rattle.rstar.specs.Trees.{elements_in}
-use Rattle.rstar.proofs.Replays.{gathered_some}
+use Rattle.rstar.proofs.commands.Replays.{gathered_some}
 use Rattle.rstar.proofs.replay.changes.drain_some.Goals as goal
 
 pub returns-clause-taken : goal.returns-clause-taken

@@ -1,5 +1,5 @@
 use Rattle.rstar.specs.Trees.{elements_in}
-use Rattle.rstar.proofs.Replays.{takes_first}
+use Rattle.rstar.proofs.commands.Replays.{takes_first}
 use Rattle.rstar.proofs.replay.changes.pop_nearest.Goals as goal
 
 pub returns-in-Ok-clause-step : goal.returns-in-Ok-clause-step

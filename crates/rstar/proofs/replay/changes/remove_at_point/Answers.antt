@@ -1,5 +1,5 @@
 use Rattle.rstar.specs.Trees.{elements_in}
-use Rattle.rstar.proofs.Replays.{takes_one}
+use Rattle.rstar.proofs.commands.Replays.{takes_one}
 use Rattle.rstar.proofs.replay.changes.remove_at_point.Goals as goal
 
 pub returns-clause-step : goal.returns-clause-step

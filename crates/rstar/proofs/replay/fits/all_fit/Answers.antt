@@ -1,5 +1,5 @@
 use Rattle.std.proofs.Common.{refl, sym}
-use Rattle.rstar.proofs.Places.{all_get, all_more, all_whole}
+use Rattle.rstar.proofs.lists.Items.{all_get, all_more, all_whole}
 use Rattle.rstar.proofs.replay.fits.all_fit.Goals as goal
 
 pub returns-then-not-is_fit : goal.returns-then-not-is_fit

@@ -1,8 +1,8 @@
 use Rattle.std.proofs.Common.{rules, arith, ◌≡◌, length}
 use Rattle.std.proofs.lemmas.List.Sorted.{length_permutation}
 use Rattle.rstar.specs.Nodes.{elements_of}
-use Rattle.rstar.proofs.LoadedTrees.{fresh_tree, none_same}
-use Rattle.rstar.proofs.Walks.{no-items}
+use Rattle.rstar.proofs.loading.LoadedTrees.{fresh_tree, none_same}
+use Rattle.rstar.proofs.selecting.Traversals.{no-items}
 use Rattle.rstar.proofs.rtree.RTree.bulk_load_with_params.Goals as goal
 
 pub returns-clause-whole : goal.returns-clause-whole

@@ -1,7 +1,7 @@
 use Rattle.std.proofs.Common.{◌∙◌, filter, subst}
 use Rattle.rstar.specs.Trees.{elements_in}
 use Rattle.rstar.specs.Visits.{IsOneOf}
-use Rattle.rstar.proofs.Removed.{any_one}
+use Rattle.rstar.proofs.removing.Removed.{any_one}
 use Rattle.rstar.proofs.rtree.RTree.contains.Goals as goal
 
 pub returns : goal.returns

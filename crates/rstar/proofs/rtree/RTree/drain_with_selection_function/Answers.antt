@@ -1,7 +1,7 @@
 use Rattle.std.proofs.Common.{◌≡◌, refl, replicate, rules}
 use Rattle.rstar.specs.Nodes.{children_of}
 use Rattle.rstar.specs.Drains.{IsDraining}
-use Rattle.rstar.proofs.Parts.{past_zeros, rest_none}
+use Rattle.rstar.proofs.removing.Parts.{past_zeros, rest_none}
 use Rattle.rstar.proofs.rtree.RTree.drain_with_selection_function.Goals as goal
 
 pub returns : goal.returns

@@ -1,7 +1,7 @@
 use Rattle.std.proofs.Common.{ℕ, map}
 use Rattle.rstar_base.specs.Points.{table}
 use Rattle.rstar.specs.Trees.{elements_in, IsWholeTree}
-use Rattle.rstar.proofs.ByOrder.{any-ties, first-if-ok}
+use Rattle.rstar.proofs.searching.ByOrder.{any-ties, first-if-ok}
 use Rattle.rstar.proofs.rtree.RTree.first_neighbors.Goals as goal
 
 pub returns-clause-first : goal.returns-clause-first

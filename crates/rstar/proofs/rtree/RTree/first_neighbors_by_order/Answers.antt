@@ -3,8 +3,8 @@ use Rattle.std.specs.Cmp.{nat_cmp_total, on_total, then_total}
 use Rattle.rstar_base.specs.Points.{table}
 use Rattle.rstar.specs.Lists.{by_distance}
 use Rattle.rstar.specs.Trees.{elements_in, IsWholeTree}
-use Rattle.rstar.proofs.ByOrder.{parents-ties}
-use Rattle.rstar.proofs.OneOrder.{only_first_given}
+use Rattle.rstar.proofs.searching.ByOrder.{parents-ties}
+use Rattle.rstar.proofs.searching.OneOrder.{only_first_given}
 use Rattle.rstar.proofs.rtree.RTree.first_neighbors_by_order.Goals as goal
 
 pub returns-clause-first : goal.returns-clause-first

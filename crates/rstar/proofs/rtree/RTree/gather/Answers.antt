@@ -2,9 +2,9 @@ use Rattle.std.proofs.Common.{◌∙◌, sym, subst, refl, List}
 use Rattle.std.proofs.lemmas.List.Sorted.{IsPermutation-refl}
 use Rattle.rstar.specs.Lists.{NoneSelected}
 use Rattle.rstar.specs.Nodes.{children_of, all_elements}
-use Rattle.rstar.proofs.Gathered.{moved_none, none_ended, fewer_gone, whole_left}
-use Rattle.rstar.proofs.Removed.{root_refused}
-use Rattle.rstar.proofs.Walks.{no-items, some-items}
+use Rattle.rstar.proofs.removing.Gathered.{moved_none, none_ended, fewer_gone, whole_left}
+use Rattle.rstar.proofs.removing.Removed.{root_refused}
+use Rattle.rstar.proofs.selecting.Traversals.{no-items, some-items}
 use Rattle.rstar.proofs.rtree.RTree.gather.Goals as goal
 use Rattle.rstar.proofs.rtree.RTree.gather.Goals.{then-is_empty-via-then-is_empty, then-is_empty-via-else-is_empty+then-not-should_unpack_parent}
 

@@ -3,8 +3,8 @@ use Rattle.std.proofs.lemmas.List.Sorted.{length_permutation}
 use Rattle.rstar.specs.Nodes.{all_elements}
 use Rattle.rstar.specs.Trees.{IsWholeTree}
 use Rattle.rstar.specs.Heights.{spare_lists}
-use Rattle.rstar.proofs.Insertion.{whole_of_kept}
-use Rattle.rstar.proofs.WholeTrees.{kept_at, narrow_of, sized_at, levels_kept}
+use Rattle.rstar.proofs.inserting.Insertion.{whole_of_kept}
+use Rattle.rstar.proofs.trees.WholeTrees.{kept_at, narrow_of, sized_at, levels_kept}
 use Rattle.rstar.proofs.rtree.RTree.insert_prepared.Goals as goal
 
 pub insert_with_reinsertion-self-requires-clause-below : goal.insert_with_reinsertion-self-requires-clause-below

@@ -4,7 +4,7 @@ use Rattle.std.proofs.lemmas.Result.{IfOk-weaker}
 use Rattle.rstar.specs.SelfJoins.{self_join}
 use Rattle.rstar.specs.Trees.{elements_in, IsWholeTree}
 use Rattle.rstar.specs.Nodes.{children_of}
-use Rattle.rstar.proofs.SelfPairs.{list-joined, root-fewer}
+use Rattle.rstar.proofs.joining.SelfPairs.{list-joined, root-fewer}
 use Rattle.rstar.proofs.rtree.RTree.intersecting_pairs.Goals as goal
 
 pub returns-clause-all : goal.returns-clause-all

@@ -3,7 +3,7 @@ use Rattle.std.specs.List.Sorted.{IsPermutation}
 use Rattle.std.proofs.lemmas.Result.{IfOk-weaker}
 use Rattle.rstar.specs.Joins.{join, meets_by}
 use Rattle.rstar.specs.Trees.{elements_in, IsWholeTree}
-use Rattle.rstar.proofs.Joined.{roots-joined}
+use Rattle.rstar.proofs.joining.Joined.{roots-joined}
 use Rattle.rstar.proofs.rtree.RTree.intersection_candidates_with_other_tree.Goals as goal
 
 pub returns-clause-all : goal.returns-clause-all

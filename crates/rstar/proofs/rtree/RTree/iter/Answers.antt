@@ -1,6 +1,6 @@
 use Rattle.std.proofs.Common.{◌∙◌, refl}
 use Rattle.std.proofs.lemmas.Result.{IfOk-weaker}
-use Rattle.rstar.proofs.Complete.{filter-every}
+use Rattle.rstar.proofs.selecting.Complete.{filter-every}
 use Rattle.rstar.proofs.rtree.RTree.iter.Goals as goal
 
 pub returns-clause-all : goal.returns-clause-all

@@ -1,6 +1,6 @@
 use Rattle.std.proofs.Common.{ap, filter}
 use Rattle.rstar.specs.Trees.{elements_in}
-use Rattle.rstar.proofs.Visiting.{visit_all}
+use Rattle.rstar.proofs.visiting.Visits.{visit_all}
 use Rattle.rstar.proofs.rtree.RTree.locate_all_at_point_int.Goals as goal
 
 pub returns : goal.returns

@@ -1,4 +1,4 @@
-use Rattle.rstar.proofs.Writing.{written_all}
+use Rattle.rstar.proofs.visiting.Writing.{written_all}
 use Rattle.rstar.proofs.rtree.RTree.locate_all_at_point_int_mut.Goals as goal
 
 pub returns-clause-written : goal.returns-clause-written

@@ -1,6 +1,6 @@
 use Rattle.rstar.specs.Trees.{IsWholeTree}
-use Rattle.rstar.proofs.Complete.{all-root}
-use Rattle.rstar.proofs.Visiting.{one_of}
+use Rattle.rstar.proofs.selecting.Complete.{all-root}
+use Rattle.rstar.proofs.visiting.Visits.{one_of}
 use Rattle.rstar.proofs.rtree.RTree.locate_first.Goals as goal
 
 pub returns : goal.returns

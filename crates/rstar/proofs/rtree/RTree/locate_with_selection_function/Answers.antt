@@ -2,7 +2,7 @@ use Rattle.std.proofs.Common.{◌∙◌, sym, subst, filter}
 use Rattle.std.proofs.lemmas.Result.{IfOk-weaker}
 use Rattle.rstar.specs.Trees.{elements_in, IsWholeTree}
 use Rattle.rstar.specs.Selections.{IsPartOf}
-use Rattle.rstar.proofs.Complete.{all-root, part-root}
+use Rattle.rstar.proofs.selecting.Complete.{all-root, part-root}
 use Rattle.rstar.proofs.rtree.RTree.locate_with_selection_function.Goals as goal
 
 pub returns-clause-all : goal.returns-clause-all

@@ -1,8 +1,8 @@
 use Rattle.std.proofs.Common.{refl}
 use Rattle.rstar.specs.Nodes.{children_of}
 use Rattle.rstar.specs.Trees.{IsWholeTree}
-use Rattle.rstar.proofs.Changes.{same-outline, whole-kept}
-use Rattle.rstar.proofs.Insertion.{trees_map}
+use Rattle.rstar.proofs.visiting.Changes.{same-outline, whole-kept}
+use Rattle.rstar.proofs.inserting.Insertion.{trees_map}
 use Rattle.rstar.proofs.rtree.RTree.locate_with_selection_function_int_mut.Goals as goal
 
 pub returns-clause-written : goal.returns-clause-written

@@ -1,7 +1,7 @@
 use Rattle.std.proofs.Common.{◌∙◌, ap, filter}
 use Rattle.std.proofs.lemmas.Result.{IfOk-weaker}
 use Rattle.rstar.specs.Trees.{elements_in}
-use Rattle.rstar.proofs.Chains.{made_asking}
+use Rattle.rstar.proofs.selecting.Chains.{made_asking}
 use Rattle.rstar.proofs.rtree.RTree.locate_within_distance_of_envelope.Goals as goal
 
 pub returns-clause-all : goal.returns-clause-all

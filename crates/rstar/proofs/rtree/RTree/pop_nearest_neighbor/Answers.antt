@@ -2,8 +2,8 @@ use Rattle.std.proofs.Common.{pos, true, ◌≡◌, IfSome, IfNone, subst}
 use Rattle.rstar_base.specs.Points.{table}
 use Rattle.rstar.specs.Lists.{IsNearest, NoneSelected}
 use Rattle.rstar.specs.Trees.{elements_in, IsWholeTree}
-use Rattle.rstar.proofs.Popped.{popped-nearest, popped-some}
-use Rattle.rstar.proofs.Removed.{none_when}
+use Rattle.rstar.proofs.removing.Popped.{popped-nearest, popped-some}
+use Rattle.rstar.proofs.removing.Removed.{none_when}
 use Rattle.rstar.proofs.rtree.RTree.pop_nearest_neighbor.Given.{Over}
 use Rattle.rstar.proofs.rtree.RTree.pop_nearest_neighbor.Goals as goal
 

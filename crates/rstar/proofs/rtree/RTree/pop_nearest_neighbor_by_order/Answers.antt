@@ -1,11 +1,11 @@
 use Rattle.std.proofs.Common.{pos, int_le, ◌≡◌, filter}
 use Rattle.rstar_base.specs.Points.{table}
-use Rattle.rstar.specs.Earliest.{earliest}
+use Rattle.rstar.specs.inside.Earliest.{earliest}
 use Rattle.rstar.specs.Lists.{IsNearest}
 use Rattle.rstar.specs.Trees.{elements_in, IsWholeTree}
-use Rattle.rstar.proofs.Earliest.{earliest-selected}
-use Rattle.rstar.proofs.PoppedByOrder.{popped-first, popped-one}
-use Rattle.rstar.proofs.Removed.{bag_without, counted_down}
+use Rattle.rstar.proofs.removing.Earliest.{earliest-selected}
+use Rattle.rstar.proofs.removing.PoppedByOrder.{popped-first, popped-one}
+use Rattle.rstar.proofs.removing.Removed.{bag_without, counted_down}
 use Rattle.rstar.proofs.rtree.RTree.pop_nearest_neighbor_by_order.Given.{Over}
 use Rattle.rstar.proofs.rtree.RTree.pop_nearest_neighbor_by_order.Goals as goal
 

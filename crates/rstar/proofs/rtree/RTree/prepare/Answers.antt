@@ -6,7 +6,7 @@ use Rattle.rstar_base.specs.Envelopes.{Boxes}
 use Rattle.rstar_base.specs.Elements.{Objects}
 use Rattle.rstar.specs.declared.node.RTreeNode.{RTreeNode}
 use Rattle.rstar.specs.declared.rtree.RTree.{RTree}
-use Rattle.rstar.specs.Kept.{IsSpare}
+use Rattle.rstar.specs.inside.ParentBounds.{IsSpare}
 use Rattle.rstar.specs.Trees.{IsUnchanged, WholeTree, IsWholeTree}
 use Rattle.rstar.proofs.rtree.RTree.prepare.Goals as goal
 

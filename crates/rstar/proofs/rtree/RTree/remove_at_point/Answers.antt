@@ -1,7 +1,7 @@
 use Rattle.std.proofs.Common.{IfSome, IfNone, subst, true, ◌≡◌}
 use Rattle.rstar.specs.Lists.{NoneSelected}
 use Rattle.rstar.specs.Trees.{elements_in}
-use Rattle.rstar.proofs.Removed.{none_when}
+use Rattle.rstar.proofs.removing.Removed.{none_when}
 use Rattle.rstar.proofs.rtree.RTree.remove_at_point.Goals as goal
 
 pub returns-clause-at_point : goal.returns-clause-at_point

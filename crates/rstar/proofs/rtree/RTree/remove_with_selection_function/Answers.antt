@@ -1,5 +1,5 @@
 use Rattle.rstar.specs.Trees.{elements_in, IsWholeTree}
-use Rattle.rstar.proofs.Removed.{bag_without, counted_down, none_from_start}
+use Rattle.rstar.proofs.removing.Removed.{bag_without, counted_down, none_from_start}
 use Rattle.rstar.proofs.rtree.RTree.remove_with_selection_function.Goals as goal
 
 pub returns-clause-taken : goal.returns-clause-taken

@@ -1,12 +1,12 @@
 use Rattle.std.proofs.Common.{◌∙◌, ap, subst, sym, arith, refl, List}
-use Rattle.rstar.specs.Earliest.{earliest}
+use Rattle.rstar.specs.inside.Earliest.{earliest}
 use Rattle.rstar.specs.Nodes.{children_of, all_elements}
 use Rattle.rstar.specs.Lists.{NoneSelected}
 use Rattle.rstar.specs.Trees.{IsWholeTree}
-use Rattle.rstar.proofs.Walks.{no-items, some-items}
-use Rattle.rstar.proofs.Scans.{none_gives, some_one}
-use Rattle.rstar.proofs.Earliest.{refused_of, empty_of}
-use Rattle.rstar.proofs.Removed.{one_less, none_less, removes, same_tree, leaves, root_refused}
+use Rattle.rstar.proofs.selecting.Traversals.{no-items, some-items}
+use Rattle.rstar.proofs.removing.Scans.{none_gives, some_one}
+use Rattle.rstar.proofs.removing.Earliest.{refused_of, empty_of}
+use Rattle.rstar.proofs.removing.Removed.{one_less, none_less, removes, same_tree, leaves, root_refused}
 use Rattle.rstar.proofs.rtree.RTree.take_earliest.Goals as goal
 use Rattle.rstar.proofs.rtree.RTree.take_earliest.Goals.{then-is_empty-via-then-is_empty, then-is_empty-via-else-is_empty+then-not-should_unpack_parent}
 

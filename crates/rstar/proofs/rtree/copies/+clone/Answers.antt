@@ -1,8 +1,8 @@
 use Rattle.std.proofs.Common.{refl}
 use Rattle.rstar.specs.Nodes.{children_of}
 use Rattle.rstar.specs.Clones.{IsNodeClone}
-use Rattle.rstar.specs.Walks.{IsLevel}
-use Rattle.rstar.proofs.Clones.{zip_push, item_has, zip_whole, leaf_cloned, parent_cloned}
+use Rattle.rstar.specs.inside.Traversals.{IsLevel}
+use Rattle.rstar.proofs.trees.Clones.{zip_push, item_has, zip_whole, leaf_cloned, parent_cloned}
 use Rattle.rstar.proofs.rtree.copies.+clone.Goals as goal
 
 pub cloned_node-returns-in_ok-element-in-Leaf : goal.cloned_node-returns-in_ok-element-in-Leaf

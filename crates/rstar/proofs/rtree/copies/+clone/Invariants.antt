@@ -1,7 +1,7 @@
 use Rattle.std.proofs.Common.{ℕ, take}
 use Rattle.std.specs.List.{AllByRecursion, AllZip}
 use Rattle.rstar.specs.Nodes.{children_of}
-use Rattle.rstar.specs.Walks.{IsLevel}
+use Rattle.rstar.specs.inside.Traversals.{IsLevel}
 use Rattle.rstar.specs.Clones.{IsNodeClone}
 use Rattle.rstar.proofs.rtree.copies.+clone.Given as goal
 

@@ -1,7 +1,7 @@
 use Rattle.std.proofs.Common.{◌++◌, ◌∙◌, ap, sym, arith, map}
 use Rattle.rstar.specs.Nodes.{total, all_given}
-use Rattle.rstar.specs.Walks.{steps}
-use Rattle.rstar.proofs.Visiting.{look-leaf, look-parent}
+use Rattle.rstar.specs.inside.Traversals.{steps}
+use Rattle.rstar.proofs.visiting.Visits.{look-leaf, look-parent}
 use Rattle.rstar.proofs.visits.RefSliceRTreeNodeNodesRef.look.Goals as goal
 
 pub returns-then-should_unpack_leaf : goal.returns-then-should_unpack_leaf

@@ -1,6 +1,6 @@
 use Rattle.std.proofs.Common.{◌∙◌, ap, map, sym}
 use Rattle.std.proofs.lemmas.Simd.{map-map}
-use Rattle.rstar.proofs.Chains.{selection_end}
+use Rattle.rstar.proofs.selecting.Chains.{selection_end}
 use Rattle.rstar_c.specs.Items.{corners_of, number}
 use Rattle.rstar_c.specs.Put.{over}
 use Rattle.rstar_c.proofs.store.Store.put_all.Goals as goal

@@ -1,6 +1,6 @@
 use Rattle.std.proofs.Common.{◌∙◌, to_z-of_z}
 use Rattle.std.proofs.lemmas.Result.{IfOk-weaker}
-use Rattle.rstar.proofs.InOrder.{begun-left}
+use Rattle.rstar.proofs.searching.InOrder.{begun-left}
 use Rattle.rstar_uses.proofs.Able.{begun-at, told-at}
 use Rattle.rstar_uses.proofs.Vehicles.{far}
 use Rattle.rstar_uses.proofs.dispatch.Dispatch.nearest_able.Goals as goal

@@ -1,7 +1,7 @@
 use Rattle.std.proofs.Common.{rules, arith, ◌+◌, ◌-◌, ◌<◌, ◌≤◌, subst, sym, refl}
 use Rattle.std.specs.Int.{div_ceil}
 use Rattle.rstar.specs.Loaded.{IsPartSize, GoesDeep}
-use Rattle.rstar.proofs.Depths.{falls_to_parts, falls_to_rest, slab_positive, bound_slabs, bound_above, depth_above, deep_slabs, ends_slabs}
+use Rattle.rstar.proofs.loading.Depths.{falls_to_parts, falls_to_rest, slab_positive, bound_slabs, bound_above, depth_above, deep_slabs, ends_slabs}
 use Rattle.rstar.proofs.algorithm.bulk_load.depth.+depth.Goals as goal
 
 pub load_depth-least_depth_of_parts-requires : goal.load_depth-least_depth_of_parts-requires

@@ -1,5 +1,5 @@
 use Rattle.std.proofs.Common.{◌+◌, ◌*◌}
-use Rattle.rstar.specs.Loads.{part_bound}
+use Rattle.rstar.specs.inside.Loads.{part_bound}
 use Rattle.rstar.proofs.algorithm.bulk_load.depth.+depth.Given as goal
 
 abbrev pub decreases-load_depth : goal.decreases-load_depth

@@ -1,5 +1,5 @@
 use Rattle.std.proofs.Common.{◌+◌, ◌-◌, ◌%◌, refl}
-use Rattle.rstar.proofs.Depths.{last_begins}
+use Rattle.rstar.proofs.loading.Depths.{last_begins}
 use Rattle.rstar.proofs.algorithm.bulk_load.depth.last_slab.Goals as goal
 
 pub returns-clause-last : goal.returns-clause-last

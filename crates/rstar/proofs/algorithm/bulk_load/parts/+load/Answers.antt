@@ -6,10 +6,10 @@ use Rattle.rstar_base.specs.Clusters.{IsClusterNumber}
 use Rattle.rstar_base.specs.Slabs.{IsSlabOf}
 use Rattle.rstar.specs.Loaded.{GoesDeep, IsPartSize, IsSlabSize}
 use Rattle.rstar.specs.Lists.{NoneEmpty}
-use Rattle.rstar.specs.Loads.{IsFreshNode, IsUnderway, front_of, last_of}
-use Rattle.rstar.proofs.Depths.{cluster_bound, deep_large, deep_parts, deep_slab, slab_positive}
-use Rattle.rstar.proofs.Loads.{parts_parent, one_part, underway_start, underway_more, underway_end, underway_better, fresh_wider, next_size}
-use Rattle.rstar.proofs.Tails.{length_last, length_front, some_last, last_none, front_front, front_has}
+use Rattle.rstar.specs.inside.Loads.{IsFreshNode, IsUnderway, front_of, last_of}
+use Rattle.rstar.proofs.loading.Depths.{cluster_bound, deep_large, deep_parts, deep_slab, slab_positive}
+use Rattle.rstar.proofs.loading.Loads.{parts_parent, one_part, underway_start, underway_more, underway_end, underway_better, fresh_wider, next_size}
+use Rattle.rstar.proofs.lists.Tails.{length_last, length_front, some_last, last_none, front_front, front_has}
 use Rattle.rstar.proofs.algorithm.bulk_load.parts.+load.Goals as goal
 
 -- ---- numbers, by lemmas that read no more than they need

@@ -1,6 +1,6 @@
 use Rattle.std.proofs.Common.{◌≡◌, ◌+◌, ◌-◌, ◌*◌, ◌^◌, ◌<◌, ◌≤◌, length}
 use Rattle.rstar.specs.Lists.{NoneEmpty}
-use Rattle.rstar.specs.Loads.{IsUnderway, IsFreshNode, front_of, last_of}
+use Rattle.rstar.specs.inside.Loads.{IsUnderway, IsFreshNode, front_of, last_of}
 use Rattle.rstar.proofs.algorithm.bulk_load.parts.+load.Given as goal
 
 abbrev pub decreases-load_node : goal.decreases-load_node

@@ -1,8 +1,8 @@
 use Rattle.std.proofs.Common.{ℤ, ◌≡◌, ◌-◌, ◌++◌, length, length-append, arith, ap, sym, subst}
 use Rattle.std.proofs.lemmas.List.Sorted.{length_permutation}
 use Rattle.rstar_base.proofs.Present.{refill-same}
-use Rattle.rstar.specs.Loads.{CutsSlab}
-use Rattle.rstar.proofs.Tails.{taken_as, dropped_as, cut_none, cut_parted}
+use Rattle.rstar.specs.inside.Loads.{CutsSlab}
+use Rattle.rstar.proofs.lists.Tails.{taken_as, dropped_as, cut_none, cut_parted}
 use Rattle.rstar.proofs.algorithm.bulk_load.parts.cut_slab.Goals as goal
 
 pub returns-then-rest-size : goal.returns-then-rest-size

@@ -1,9 +1,9 @@
 use Rattle.std.proofs.Common.{arith, false, ◌≡◌, ◌-◌, length, refl, sym, subst, ◌∙◌, IsPermutation}
 use Rattle.rstar.specs.Lists.{NoneEmpty}
-use Rattle.rstar.specs.Loads.{last_of}
+use Rattle.rstar.specs.inside.Loads.{last_of}
 use Rattle.rstar.specs.Nodes.{all_elements}
-use Rattle.rstar.proofs.Loads.{leaves_parent, leaves_same}
-use Rattle.rstar.proofs.Tails.{dropped_as, last_has, some_last}
+use Rattle.rstar.proofs.loading.Loads.{leaves_parent, leaves_same}
+use Rattle.rstar.proofs.lists.Tails.{dropped_as, last_has, some_last}
 use Rattle.rstar.proofs.algorithm.bulk_load.parts.leaf_parent.Given.{Over}
 use Rattle.rstar.proofs.algorithm.bulk_load.parts.leaf_parent.Goals as goal
 

@@ -1,8 +1,8 @@
 use Rattle.std.proofs.Common.{Some, None}
 use Rattle.rstar_base.specs.Points.{table}
 use Rattle.rstar.specs.Neighbors.{IsSearching, shown}
-use Rattle.rstar.specs.Searches.{any_first}
-use Rattle.rstar.proofs.Progress as progress
+use Rattle.rstar.specs.inside.Searches.{any_first}
+use Rattle.rstar.proofs.selecting.Progress as progress
 use Rattle.rstar.proofs.algorithm.nearest_neighbor.NeighborsParentNodeRTreeNodeDistancePointOfIterator.next.Goals as goal
 
 pub returns-in-Ok-clause-steps : goal.returns-in-Ok-clause-steps

@@ -1,6 +1,6 @@
 use Rattle.std.proofs.Common.{ap}
 use Rattle.rstar.specs.Neighbors.{IsSearching}
-use Rattle.rstar.proofs.Progress.{has-begun}
+use Rattle.rstar.proofs.selecting.Progress.{has-begun}
 use Rattle.rstar.proofs.algorithm.nearest_neighbor.NeighborsWithDistance+ParentNode+T+RTreeNode+T+Distance+T+PointOf+T.new.Goals as goal
 
 pub returns-clause-begun : goal.returns-clause-begun

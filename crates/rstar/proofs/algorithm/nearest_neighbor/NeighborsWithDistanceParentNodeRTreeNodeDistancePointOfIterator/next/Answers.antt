@@ -1,7 +1,7 @@
-use Rattle.rstar.specs.Searches.{any_first}
+use Rattle.rstar.specs.inside.Searches.{any_first}
 use Rattle.rstar_base.specs.Points.{table}
 use Rattle.rstar.specs.Neighbors.{IsSearching}
-use Rattle.rstar.proofs.Progress as progress
+use Rattle.rstar.proofs.selecting.Progress as progress
 use Rattle.rstar.proofs.algorithm.nearest_neighbor.NeighborsWithDistanceParentNodeRTreeNodeDistancePointOfIterator.next.Goals as goal
 
 pub returns-clause-steps : goal.returns-clause-steps

@@ -4,13 +4,13 @@ use Rattle.std.specs.List.{AllByRecursion}
 use Rattle.std.specs.Ordering.{int_cmp}
 use Rattle.rstar_base.specs.SmallHeaps.{items_of}
 use Rattle.rstar.specs.declared.node.RTreeNode.{Parent}
-use Rattle.rstar.specs.Few.{AreFoundSoFar, found_elements, waiting_parents}
+use Rattle.rstar.specs.inside.Few.{AreFoundSoFar, found_elements, waiting_parents}
 use Rattle.rstar.specs.Lists.{IsNotLater, AreFirstOf}
 use Rattle.rstar.specs.Nodes.{all_parents, elements_of}
-use Rattle.rstar.specs.Searches.{any_first}
-use Rattle.rstar.proofs.Few as few
-use Rattle.rstar.proofs.Nearness.{IsMeasured}
-use Rattle.rstar.proofs.Turns as turns
+use Rattle.rstar.specs.inside.Searches.{any_first}
+use Rattle.rstar.proofs.searching.Few as few
+use Rattle.rstar.proofs.searching.Nearness.{IsMeasured}
+use Rattle.rstar.proofs.searching.SearchTurns as turns
 use Rattle.rstar.proofs.algorithm.nearest_neighbor.few.first_few.Given.{Over}
 use Rattle.rstar.proofs.algorithm.nearest_neighbor.few.first_few.Goals as goal
 use Rattle.rstar.proofs.algorithm.nearest_neighbor.few.first_few.Goals.{in-Some+then-is_beyond, in_default}

@@ -1,8 +1,8 @@
 use Rattle.std.specs.Ordering.{flip_args}
 use Rattle.rstar_base.specs.SmallHeaps.{items_of, IsOrdered, Rises}
-use Rattle.rstar.specs.Few.{AreFoundSoFar, WaitAtDistance, waiting_parents}
+use Rattle.rstar.specs.inside.Few.{AreFoundSoFar, WaitAtDistance, waiting_parents}
 use Rattle.rstar.specs.Nodes.{all_parents, elements_of}
-use Rattle.rstar.specs.Searches.{any_first, nearest_on_top}
+use Rattle.rstar.specs.inside.Searches.{any_first, nearest_on_top}
 use Rattle.rstar.proofs.algorithm.nearest_neighbor.few.first_few.Given as goal
 
 abbrev pub invariant-loop-current : goal.invariant-loop-current

@@ -1,7 +1,7 @@
 use Rattle.std.proofs.Common.{◌≡◌, ◌<ℤ◌, true, ap, sym, subst, ◌∙◌}
 use Rattle.std.specs.Ordering.{is_lt, int_cmp}
-use Rattle.rstar.proofs.Few.{last-is, less-by, all-nearer}
-use Rattle.rstar.proofs.Turns as turns
+use Rattle.rstar.proofs.searching.Few.{last-is, less-by, all-nearer}
+use Rattle.rstar.proofs.searching.SearchTurns as turns
 use Rattle.rstar.proofs.algorithm.nearest_neighbor.few.is_beyond.Given.{Over}
 use Rattle.rstar.proofs.algorithm.nearest_neighbor.few.is_beyond.Goals as goal
 

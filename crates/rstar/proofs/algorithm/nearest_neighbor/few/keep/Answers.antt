@@ -1,5 +1,5 @@
 use Rattle.std.specs.Ordering.{flip_args}
-use Rattle.rstar.proofs.Few.{falls-front}
+use Rattle.rstar.proofs.searching.Few.{falls-front}
 use Rattle.rstar.proofs.algorithm.nearest_neighbor.few.keep.Goals as goal
 
 pub returns-clause-falls : goal.returns-clause-falls

@@ -2,13 +2,13 @@ use Rattle.std.proofs.Common.{◌≡◌, ◌∷◌, ◌++◌, pos, refl, arith, 
 use Rattle.std.proofs.lemmas.List.Sorted.{IsPermutation-middle}
 use Rattle.std.specs.Ordering.{int_cmp}
 use Rattle.rstar_base.specs.SmallHeaps.{items_of}
-use Rattle.rstar.specs.Few.{AreFoundSoFar, waiting_parents}
+use Rattle.rstar.specs.inside.Few.{AreFoundSoFar, waiting_parents}
 use Rattle.rstar.specs.Nodes.{parents}
-use Rattle.rstar.specs.Searches.{distance_of}
-use Rattle.rstar.proofs.Few as few
-use Rattle.rstar.proofs.Nearness.{IsMeasured}
-use Rattle.rstar.proofs.Rows.{node_distance-Leaf}
-use Rattle.rstar.proofs.Turns as turns
+use Rattle.rstar.specs.inside.Searches.{distance_of}
+use Rattle.rstar.proofs.searching.Few as few
+use Rattle.rstar.proofs.searching.Nearness.{IsMeasured}
+use Rattle.rstar.proofs.trees.ByChildren.{node_distance-Leaf}
+use Rattle.rstar.proofs.searching.SearchTurns as turns
 use Rattle.rstar.proofs.algorithm.nearest_neighbor.few.offer.Given.{Over}
 use Rattle.rstar.proofs.algorithm.nearest_neighbor.few.offer.Goals as goal
 

@@ -2,7 +2,7 @@ use Rattle.std.proofs.Common.{◌∷◌, [], ◌++◌, ◌+◌, ◌<◌, length,
 use Rattle.std.proofs.lemmas.List.{append-nil, take_more, drop_more, drop_all}
 use Rattle.std.proofs.lemmas.List.Sums.{sum_by-cons, sum_by-append}
 use Rattle.rstar_base.specs.SmallHeaps.{items_of}
-use Rattle.rstar.specs.Few.{AreFoundSoFar, waiting_parents}
+use Rattle.rstar.specs.inside.Few.{AreFoundSoFar, waiting_parents}
 use Rattle.rstar.specs.Nodes.{all_parents, parents}
 use Rattle.rstar.proofs.algorithm.nearest_neighbor.few.open.Goals as goal
 

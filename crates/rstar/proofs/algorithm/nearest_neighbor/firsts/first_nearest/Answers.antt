@@ -1,6 +1,6 @@
 use Rattle.std.proofs.Common.{ap, map, subst, IfOk}
 use Rattle.rstar.specs.Lists.{IsNotLater, AreFirstOf}
-use Rattle.rstar.proofs.Ties.{fresh-elements}
+use Rattle.rstar.proofs.searching.Ties.{fresh-elements}
 use Rattle.rstar.proofs.algorithm.nearest_neighbor.firsts.first_nearest.Goals as goal
 
 pub returns-clause-first : goal.returns-clause-first

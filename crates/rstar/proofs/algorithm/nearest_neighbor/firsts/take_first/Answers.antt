@@ -4,10 +4,10 @@ use Rattle.std.proofs.lemmas.List.{map-append, length-map, length-append}
 use Rattle.rstar_base.proofs.Lists.{all-append}
 use Rattle.rstar.specs.Lists.{IsNotLater, AreFirst}
 use Rattle.rstar.specs.Nodes.{all_elements}
-use Rattle.rstar.specs.Searches.{waiting_of, IsUnrefused}
-use Rattle.rstar.proofs.ByOrder.{all-later, whole-waiting}
-use Rattle.rstar.proofs.InOrder.{none-first, more-first}
-use Rattle.rstar.proofs.Nearness.{IsMeasured}
+use Rattle.rstar.specs.inside.Searches.{waiting_of, IsUnrefused}
+use Rattle.rstar.proofs.searching.ByOrder.{all-later, whole-waiting}
+use Rattle.rstar.proofs.searching.InOrder.{none-first, more-first}
+use Rattle.rstar.proofs.searching.Nearness.{IsMeasured}
 use Rattle.rstar.proofs.algorithm.nearest_neighbor.firsts.take_first.Given.{Over}
 use Rattle.rstar.proofs.algorithm.nearest_neighbor.firsts.take_first.Goals as goal
 

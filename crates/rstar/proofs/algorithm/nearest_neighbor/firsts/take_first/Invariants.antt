@@ -3,7 +3,7 @@ use Rattle.std.specs.List.{AllByRecursion}
 use Rattle.std.specs.declared.cmp.Ordering.{Ordering}
 use Rattle.rstar.specs.Lists.{IsNotLater, AreFirst}
 use Rattle.rstar.specs.Nodes.{all_elements}
-use Rattle.rstar.specs.Searches.{waiting_of, IsReady, IsUnrefused, TiesBy}
+use Rattle.rstar.specs.inside.Searches.{waiting_of, IsReady, IsUnrefused, TiesBy}
 use Rattle.rstar.proofs.algorithm.nearest_neighbor.firsts.take_first.Given as goal
 
 -- the first so far were taken, one a turn, with their distances

@@ -1,9 +1,9 @@
 use Rattle.std.proofs.Common.{◌∷◌, ◌++◌, arith, Some}
 use Rattle.rstar_base.specs.SmallHeaps.{items_of}
-use Rattle.rstar.specs.Searches.{waiting_nodes}
-use Rattle.rstar.proofs.Nearness.{IsMeasured}
-use Rattle.rstar.proofs.Searches.{at-push}
-use Rattle.rstar.proofs.Pruning as pruning
+use Rattle.rstar.specs.inside.Searches.{waiting_nodes}
+use Rattle.rstar.proofs.searching.Nearness.{IsMeasured}
+use Rattle.rstar.proofs.searching.Searches.{at-push}
+use Rattle.rstar.proofs.searching.Pruning as pruning
 use Rattle.std.proofs.lemmas.List.Sorted.{IsPermutation-middle}
 use Rattle.rstar.proofs.algorithm.nearest_neighbor.pruned.offer.Given.{Over}
 use Rattle.rstar.proofs.algorithm.nearest_neighbor.pruned.offer.Goals as goal

@@ -3,11 +3,11 @@ use Rattle.std.specs.Ordering.{int_cmp}
 use Rattle.rstar_base.specs.SmallHeaps.{items_of}
 use Rattle.rstar.specs.declared.node.RTreeNode.{Parent, Leaf}
 use Rattle.rstar.specs.Nodes.{all_parents, elements_of}
-use Rattle.rstar.specs.Pruned.{IsPruned}
-use Rattle.rstar.specs.Searches.{any_first, waiting_nodes}
-use Rattle.rstar.proofs.Nearness.{IsMeasured}
-use Rattle.rstar.proofs.Pruning as pruning
-use Rattle.rstar.proofs.Turns as turns
+use Rattle.rstar.specs.inside.Pruned.{IsPruned}
+use Rattle.rstar.specs.inside.Searches.{any_first, waiting_nodes}
+use Rattle.rstar.proofs.searching.Nearness.{IsMeasured}
+use Rattle.rstar.proofs.searching.Pruning as pruning
+use Rattle.rstar.proofs.searching.SearchTurns as turns
 use Rattle.rstar.proofs.algorithm.nearest_neighbor.pruned.one_nearest.Given.{Over}
 use Rattle.rstar.proofs.algorithm.nearest_neighbor.pruned.one_nearest.Goals as goal
 

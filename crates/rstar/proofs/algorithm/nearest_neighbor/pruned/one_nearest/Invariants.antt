@@ -1,7 +1,7 @@
 use Rattle.rstar_base.specs.SmallHeaps.{items_of}
 use Rattle.rstar.specs.Nodes.{all_parents, elements_of, IsWhole}
-use Rattle.rstar.specs.Pruned.{IsPruned}
-use Rattle.rstar.specs.Searches.{any_first, waiting_nodes, AreWaiting}
+use Rattle.rstar.specs.inside.Pruned.{IsPruned}
+use Rattle.rstar.specs.inside.Searches.{any_first, waiting_nodes, AreWaiting}
 use Rattle.rstar.proofs.algorithm.nearest_neighbor.pruned.one_nearest.Given as goal
 
 abbrev pub invariant-loop-current : goal.invariant-loop-current

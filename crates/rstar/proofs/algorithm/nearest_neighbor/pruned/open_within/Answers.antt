@@ -3,8 +3,8 @@ use Rattle.std.proofs.lemmas.List.{append-nil, take_more, drop_more, drop_all}
 use Rattle.std.proofs.lemmas.List.Sums.{sum_by-cons, sum_by-append}
 use Rattle.rstar_base.specs.SmallHeaps.{items_of}
 use Rattle.rstar.specs.Nodes.{all_parents, parents}
-use Rattle.rstar.specs.Pruned.{IsPruned}
-use Rattle.rstar.specs.Searches.{waiting_nodes}
+use Rattle.rstar.specs.inside.Pruned.{IsPruned}
+use Rattle.rstar.specs.inside.Searches.{waiting_nodes}
 use Rattle.rstar.proofs.algorithm.nearest_neighbor.pruned.open_within.Goals as goal
 
 pub loop-child-init : goal.loop-child-init

@@ -1,8 +1,8 @@
 use Rattle.std.proofs.Common.{◌≤◌, ◌+◌, ◌++◌, drop, take, List}
 use Rattle.rstar_base.specs.SmallHeaps.{items_of, IsOrdered}
 use Rattle.rstar.specs.Nodes.{all_parents}
-use Rattle.rstar.specs.Pruned.{IsPruned}
-use Rattle.rstar.specs.Searches.{any_first, nearest_on_top, waiting_nodes, AreWaiting}
+use Rattle.rstar.specs.inside.Pruned.{IsPruned}
+use Rattle.rstar.specs.inside.Searches.{any_first, nearest_on_top, waiting_nodes, AreWaiting}
 use Rattle.rstar.proofs.algorithm.nearest_neighbor.pruned.open_within.Given as goal
 
 -- the nodes so far are offered

@@ -1,4 +1,4 @@
-use Rattle.rstar.proofs.Fits.{heap_fits, search_fits}
+use Rattle.rstar.proofs.searching.Fits.{heap_fits, search_fits}
 use Rattle.rstar.proofs.algorithm.nearest_neighbor.search.fits.Goals as goal
 
 pub returns : goal.returns

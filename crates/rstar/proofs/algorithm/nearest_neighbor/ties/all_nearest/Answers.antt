@@ -1,9 +1,9 @@
 use Rattle.std.proofs.Common.{◌∷◌, [], ◌++◌, map, sym, subst, ap, ◌∙◌}
 use Rattle.std.specs.List.Sorted.{IsPermutation}
 use Rattle.rstar.specs.Nodes.{all_elements, elements_of}
-use Rattle.rstar.specs.Searches.{waiting_of, IsUnrefused}
-use Rattle.rstar.specs.Ties.{IsTied}
-use Rattle.rstar.proofs.Ties.{tied-first, fresh-elements}
+use Rattle.rstar.specs.inside.Searches.{waiting_of, IsUnrefused}
+use Rattle.rstar.specs.inside.Ties.{IsTied}
+use Rattle.rstar.proofs.searching.Ties.{tied-first, fresh-elements}
 use Rattle.rstar.proofs.algorithm.nearest_neighbor.ties.all_nearest.Goals as goal
 
 pub returns-in_default-clause-none : goal.returns-in_default-clause-none

@@ -1,10 +1,10 @@
 use Rattle.std.proofs.Common.{◌∷◌, [], map, sym, subst, ap, ◌∙◌}
 use Rattle.std.proofs.lemmas.List.{map-append}
 use Rattle.rstar.specs.Nodes.{all_elements}
-use Rattle.rstar.specs.Searches.{waiting_of, IsUnrefused}
-use Rattle.rstar.specs.Ties.{IsTied}
-use Rattle.rstar.proofs.Progress.{given-fewer}
-use Rattle.rstar.proofs.Ties.{tied-over, tied-more, tied-none, close-by, far-by}
+use Rattle.rstar.specs.inside.Searches.{waiting_of, IsUnrefused}
+use Rattle.rstar.specs.inside.Ties.{IsTied}
+use Rattle.rstar.proofs.selecting.Progress.{given-fewer}
+use Rattle.rstar.proofs.searching.Ties.{tied-over, tied-more, tied-none, close-by, far-by}
 use Rattle.rstar.proofs.algorithm.nearest_neighbor.ties.take_ties.Goals as goal
 
 pub returns-else-is_within : goal.returns-else-is_within

@@ -1,7 +1,7 @@
 use Rattle.std.proofs.Common.{◌≡◌, ℕ, List, map, pos}
 use Rattle.rstar.specs.Nodes.{all_elements}
-use Rattle.rstar.specs.Searches.{any_first, waiting_of, calls_left, IsReady, IsUnrefused}
-use Rattle.rstar.specs.Ties.{IsTied}
+use Rattle.rstar.specs.inside.Searches.{any_first, waiting_of, calls_left, IsReady, IsUnrefused}
+use Rattle.rstar.specs.inside.Ties.{IsTied}
 use Rattle.std.specs.Iterator.{size}
 use Rattle.rstar.proofs.algorithm.nearest_neighbor.ties.take_ties.Given as goal
 

@@ -1,7 +1,7 @@
 use Rattle.std.proofs.Common.{List, None, true, false, sym, ◌∙◌, ap, subst}
 use Rattle.std.proofs.lemmas.List.{take_all}
-use Rattle.rstar.specs.Earliest.{earliest, IsEarliestOf}
-use Rattle.rstar.proofs.Earliest.{earliest-leaf, earliest-parent, earliest-opened, one_more}
+use Rattle.rstar.specs.inside.Earliest.{earliest, IsEarliestOf}
+use Rattle.rstar.proofs.removing.Earliest.{earliest-leaf, earliest-parent, earliest-opened, one_more}
 use Rattle.rstar.proofs.algorithm.removal.earliest.+earliest.Goals as goal
 
 pub earliest_in-returns-then-should_unpack_leaf : goal.earliest_in-returns-then-should_unpack_leaf

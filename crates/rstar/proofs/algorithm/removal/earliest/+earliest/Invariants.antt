@@ -1,5 +1,5 @@
 use Rattle.std.proofs.Common.{take}
-use Rattle.rstar.specs.Earliest.{IsEarliestOf}
+use Rattle.rstar.specs.inside.Earliest.{IsEarliestOf}
 use Rattle.rstar.proofs.algorithm.removal.earliest.+earliest.Given as goal
 
 -- the earliest of the nodes so far

@@ -1,13 +1,13 @@
 use Rattle.std.proofs.Common.{[], None, true, sym, ◌∙◌, ap, refl, get_or, get_or-set_same}
 use Rattle.rstar.specs.declared.node.RTreeNode.{Leaf, Parent}
 use Rattle.rstar.specs.declared.node.RTreeNode.TheVariants.{outs-Parent}
-use Rattle.rstar.specs.Earliest.{earliest}
+use Rattle.rstar.specs.inside.Earliest.{earliest}
 use Rattle.rstar.specs.Nodes.{given, all_given, node_box}
-use Rattle.rstar.specs.Taking.{is_a_leaf, is_childless}
-use Rattle.rstar.proofs.Earliest.{earliest-leaf, earliest-some, earliest-there}
-use Rattle.rstar.proofs.Rows.{node_box-Parent}
-use Rattle.rstar.proofs.Scans.{entered, kept_anew, kept_still, hull_set, some_one}
-use Rattle.rstar.proofs.TakenAt.{read_at, leaf_is, no_leaf_here, leaf_selected, given_below, takes_leaf, takes_below, takes_last, takes_nothing}
+use Rattle.rstar.specs.inside.Taking.{is_a_leaf, is_childless}
+use Rattle.rstar.proofs.removing.Earliest.{earliest-leaf, earliest-some, earliest-there}
+use Rattle.rstar.proofs.trees.ByChildren.{node_box-Parent}
+use Rattle.rstar.proofs.removing.Scans.{entered, kept_anew, kept_still, hull_set, some_one}
+use Rattle.rstar.proofs.removing.TakenAt.{read_at, leaf_is, no_leaf_here, leaf_selected, given_below, takes_leaf, takes_below, takes_last, takes_nothing}
 use Rattle.rstar.proofs.algorithm.removal.earliest.+take_earliest.Goals as goal
 
 pub take_at-take_leaf-requires-clause-leaf : goal.take_at-take_leaf-requires-clause-leaf

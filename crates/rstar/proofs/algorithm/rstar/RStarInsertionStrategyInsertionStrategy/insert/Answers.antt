@@ -1,6 +1,6 @@
 use Rattle.std.proofs.Common.{rules}
 use Rattle.rstar.specs.Trees.{root_of}
-use Rattle.rstar.proofs.WholeTrees.{sized_along}
+use Rattle.rstar.proofs.trees.WholeTrees.{sized_along}
 use Rattle.rstar.proofs.algorithm.rstar.RStarInsertionStrategyInsertionStrategy.insert.Goals as goal
 
 pub returns : goal.returns

@@ -2,8 +2,8 @@ use Rattle.std.proofs.Common.{◌≡◌, ◌<◌, ◌≤◌, ℕ, ◌-◌, ◌+�
 use Rattle.rstar.specs.declared.node.RTreeNode.{Leaf, Parent}
 use Rattle.rstar.specs.declared.node.RTreeNode.TheVariants.{outs-Parent}
 use Rattle.rstar.specs.Nodes.{IsElement}
-use Rattle.rstar.specs.Kept.{IsKeptInner, as_node}
-use Rattle.rstar.proofs.Insertion.{leaf_added, hull_grown, added, child_grown, child_at, tree_at, sized_leaf, sized_parts, sized_child, no_leaf_above, room_same, room_one, child_roomy, lists_lowest, lists_parted}
+use Rattle.rstar.specs.inside.ParentBounds.{IsKeptInner, as_node}
+use Rattle.rstar.proofs.inserting.Insertion.{leaf_added, hull_grown, added, child_grown, child_at, tree_at, sized_leaf, sized_parts, sized_child, no_leaf_above, room_same, room_one, child_roomy, lists_lowest, lists_parted}
 use Rattle.rstar.proofs.algorithm.rstar.insertion.+insert.Goals as goal
 
 -- ---- numbers of spare lists, by lemmas that read no more than they need

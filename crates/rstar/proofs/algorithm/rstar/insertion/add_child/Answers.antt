@@ -2,8 +2,8 @@ use Rattle.std.proofs.Common.{arith, ◌++◌, ◌∷◌, [], ◌∙◌, append-
 use Rattle.std.specs.List.{AllByRecursion}
 use Rattle.rstar_base.proofs.Along.{IsPermutation-same}
 use Rattle.rstar_base.proofs.Lists.{all_first, all_second}
-use Rattle.rstar.specs.Kept.{IsSpare}
-use Rattle.rstar.proofs.Insertion.{room_more}
+use Rattle.rstar.specs.inside.ParentBounds.{IsSpare}
+use Rattle.rstar.proofs.inserting.Insertion.{room_more}
 use Rattle.rstar.proofs.algorithm.rstar.insertion.add_child.Goals as goal
 
 pub push_reserved-requires : goal.push_reserved-requires

@@ -1,6 +1,6 @@
 use Rattle.std.proofs.Common.{◌++◌, ◌∷◌, [], length, vec_len, vec_capacity, ap, ◌∙◌, subst, arith}
 use Rattle.std.specs.List.{AllByRecursion}
-use Rattle.rstar.specs.Kept.{IsSpare}
+use Rattle.rstar.specs.inside.ParentBounds.{IsSpare}
 use Rattle.rstar.specs.declared.node.RTreeNode.{Parent}
 use Rattle.rstar_base.proofs.Lists.{all_first, all_second}
 use Rattle.rstar.proofs.algorithm.rstar.insertion.grow_root.Goals as goal

@@ -1,7 +1,7 @@
 use Rattle.std.proofs.Common.{◌+◌, ◌∙◌, ap, arith}
 use Rattle.rstar.specs.Nodes.{all_elements}
-use Rattle.rstar.specs.Kept.{all_roomy}
-use Rattle.rstar.proofs.Insertion.{two_parents, room_one, two_roomy, root_grown, sized_above}
+use Rattle.rstar.specs.inside.ParentBounds.{all_roomy}
+use Rattle.rstar.proofs.inserting.Insertion.{two_parents, room_one, two_roomy, root_grown, sized_above}
 use Rattle.rstar.proofs.algorithm.rstar.insertion.insert_at_root.Goals as goal
 
 pub returns-in-Some-clause-bag : goal.returns-in-Some-clause-bag

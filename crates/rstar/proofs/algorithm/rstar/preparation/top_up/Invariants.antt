@@ -1,6 +1,6 @@
 use Rattle.std.proofs.Common.{◌-◌, ◌≤◌, max, vec_len}
 use Rattle.std.specs.List.{AllByRecursion}
-use Rattle.rstar.specs.Kept.{IsSpare}
+use Rattle.rstar.specs.inside.ParentBounds.{IsSpare}
 use Rattle.rstar.proofs.algorithm.rstar.preparation.top_up.Given as goal
 
 abbrev pub invariant-loop-alloc : goal.invariant-loop-alloc

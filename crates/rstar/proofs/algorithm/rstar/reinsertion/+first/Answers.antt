@@ -3,9 +3,9 @@ use Rattle.std.proofs.lemmas.List.{nil_from_length}
 use Rattle.rstar.specs.declared.node.RTreeNode.{Leaf, Parent}
 use Rattle.rstar.specs.declared.node.RTreeNode.TheVariants.{outs-Parent}
 use Rattle.rstar.specs.Nodes.{IsElement}
-use Rattle.rstar.specs.Kept.{IsKeptInner, has_room}
-use Rattle.rstar.proofs.Insertion.{leaf_added, hull_grown, child_at, tree_at, sized_leaf, sized_child, no_leaf_above, room_same, room_one, none_roomy, child_roomy}
-use Rattle.rstar.proofs.Reinsertion.{leaf_handed, child_handed, made_anew, sized_kept}
+use Rattle.rstar.specs.inside.ParentBounds.{IsKeptInner, has_room}
+use Rattle.rstar.proofs.inserting.Insertion.{leaf_added, hull_grown, child_at, tree_at, sized_leaf, sized_child, no_leaf_above, room_same, room_one, none_roomy, child_roomy}
+use Rattle.rstar.proofs.inserting.Reinsertion.{leaf_handed, child_handed, made_anew, sized_kept}
 use Rattle.rstar.proofs.algorithm.rstar.reinsertion.+first.Goals as goal
 
 -- ---- numbers of lists, by lemmas that read no more than they need

@@ -1,7 +1,7 @@
 use Rattle.std.proofs.Common.{◌++◌, ◌∷◌, [], ◌∙◌, ap, arith, sym, append-nil}
 use Rattle.rstar.specs.declared.node.RTreeNode.{Leaf}
 use Rattle.rstar_base.proofs.Along.{IsPermutation-same}
-use Rattle.rstar.proofs.Insertion.{room_one, room_same, room_more}
+use Rattle.rstar.proofs.inserting.Insertion.{room_one, room_same, room_more}
 use Rattle.rstar.proofs.algorithm.rstar.reinsertion.add_leaf.Goals as goal
 
 pub returns-then-MAX_SIZE-len-clause-room : goal.returns-then-MAX_SIZE-len-clause-room

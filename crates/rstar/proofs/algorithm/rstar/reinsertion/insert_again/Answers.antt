@@ -1,7 +1,7 @@
 use Rattle.std.proofs.Common.{◌≡◌, ◌+◌, ◌∙◌, refl, arith, vec_len}
 use Rattle.std.proofs.lemmas.List.Sorted.{IsPermutation-refl}
 use Rattle.rstar.specs.Nodes.{all_elements}
-use Rattle.rstar.proofs.Reinsertion.{taken_again, leaf_taken, last_leaf, one_less}
+use Rattle.rstar.proofs.inserting.Reinsertion.{taken_again, leaf_taken, last_leaf, one_less}
 use Rattle.rstar.proofs.algorithm.rstar.reinsertion.insert_again.Goals as goal
 
 pub loop-leaf-init : goal.loop-leaf-init

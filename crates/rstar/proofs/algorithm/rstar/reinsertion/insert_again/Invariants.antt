@@ -3,7 +3,7 @@ use Rattle.std.specs.List.{AllByRecursion}
 use Rattle.std.specs.List.Sorted.{IsPermutation}
 use Rattle.rstar.specs.Nodes.{all_elements}
 use Rattle.rstar.specs.Shapes.{IsSizedTree}
-use Rattle.rstar.specs.Kept.{IsSpare, AreKept, IsKeptTree, roomy_of}
+use Rattle.rstar.specs.inside.ParentBounds.{IsSpare, AreKept, IsKeptTree, roomy_of}
 use Rattle.rstar.proofs.algorithm.rstar.reinsertion.insert_again.Given as goal
 
 abbrev pub invariant-loop-leaf : goal.invariant-loop-leaf

@@ -2,10 +2,10 @@ use Rattle.std.proofs.Common.{◌≡◌, ◌+◌, ◌≤◌, ◌∷◌, [], subs
 use Rattle.std.specs.List.{AllByRecursion}
 use Rattle.std.proofs.lemmas.List.Sorted.{IsPermutation-trans}
 use Rattle.rstar.specs.Heights.{spare_lists}
-use Rattle.rstar.specs.Kept.{IsSpare}
+use Rattle.rstar.specs.inside.ParentBounds.{IsSpare}
 use Rattle.rstar_base.proofs.Lists.{all-append, all_first, all_second}
-use Rattle.rstar.proofs.Insertion.{room_one, room_none, room_same}
-use Rattle.rstar.proofs.Reinsertion.{enough_again, some_spare}
+use Rattle.rstar.proofs.inserting.Insertion.{room_one, room_none, room_same}
+use Rattle.rstar.proofs.inserting.Reinsertion.{enough_again, some_spare}
 use Rattle.rstar.proofs.algorithm.rstar.reinsertion.insert_with_reinsertion.Goals as goal
 
 pub take_last-handed-requires : goal.take_last-handed-requires

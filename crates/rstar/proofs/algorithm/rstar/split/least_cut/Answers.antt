@@ -1,6 +1,6 @@
 use Rattle.std.proofs.Common.{◌≡◌, ◌∙◌, ◌||◌, ◌&&◌, not, true, false, Bool, ℕ, ℤ, pos, int_lt, sym, arith, unsigned_abs}
 use Rattle.rstar.specs.Cuts.{overlap_at, areas_at}
-use Rattle.rstar.proofs.Cuts.{below, least_new, least_old}
+use Rattle.rstar.proofs.inserting.Cuts.{below, least_new, least_old}
 use Rattle.rstar.proofs.algorithm.rstar.split.least_cut.Goals as goal
 use Rattle.rstar.proofs.algorithm.rstar.split.least_cut.Goals.{then-is_below, else-is_below}
 

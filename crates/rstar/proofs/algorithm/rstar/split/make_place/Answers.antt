@@ -1,5 +1,5 @@
 use Rattle.std.proofs.Common.{arith}
-use Rattle.rstar.proofs.Insertion.{room_more, room_same}
+use Rattle.rstar.proofs.inserting.Insertion.{room_more, room_same}
 use Rattle.rstar.proofs.algorithm.rstar.split.make_place.Goals as goal
 
 pub returns-then-len-capacity-clause-rooms : goal.returns-then-len-capacity-clause-rooms

@@ -1,6 +1,6 @@
 use Rattle.std.proofs.Common.{ap, map, reverse}
 use Rattle.rstar.specs.IntoIters.{left_to_give, IsGiving}
-use Rattle.rstar.proofs.Giving.{begins_below}
+use Rattle.rstar.proofs.removing.TakenApart.{begins_below}
 use Rattle.rstar.proofs.iterators.into_iter.IntoIter.new.Goals as goal
 
 pub returns-clause-all : goal.returns-clause-all

@@ -1,7 +1,7 @@
 use Rattle.std.proofs.Common.{◌∙◌, ◌∷◌, ◌++◌, [], ap, sym, reverse}
 use Rattle.rstar.specs.IntoIters.{left_to_give, IsGiving}
-use Rattle.rstar.proofs.Walks.{nil-length}
-use Rattle.rstar.proofs.Giving.{gave, went_below, went_back, has_room, goes_on}
+use Rattle.rstar.proofs.selecting.Traversals.{nil-length}
+use Rattle.rstar.proofs.removing.TakenApart.{gave, went_below, went_back, has_room, goes_on}
 use Rattle.rstar.proofs.iterators.into_iter.IntoIterIterator.next.Goals as goal
 
 pub loop-last-smaller-in_default : goal.loop-last-smaller-in_default

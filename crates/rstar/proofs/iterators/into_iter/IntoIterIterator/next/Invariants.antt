@@ -1,6 +1,6 @@
 use Rattle.std.proofs.Common.{◌≡◌, vec_capacity}
 use Rattle.rstar.specs.IntoIters.{lists_of, elements_held, HasItsLists}
-use Rattle.rstar.proofs.Giving.{steps_in}
+use Rattle.rstar.proofs.removing.TakenApart.{steps_in}
 use Rattle.rstar.proofs.iterators.into_iter.IntoIterIterator.next.Given as goal
 
 -- the same elements

@@ -4,10 +4,10 @@ use Rattle.rstar.specs.Joins.{meets_by, IsJoining, pairs_to_come}
 use Rattle.rstar.specs.Meets.{meet_of_roots, pairs_from_roots, all_pairs, all_opens}
 use Rattle.rstar.specs.Nodes.{children_of}
 use Rattle.rstar.specs.Heights.{levels_below}
-use Rattle.rstar.specs.JoinWalks.{AreJoinable}
-use Rattle.rstar.proofs.Walks.{no-items, some-items}
-use Rattle.rstar.proofs.PairWalks.{idle-pairs, idle-opens}
-use Rattle.rstar.proofs.Joined.{joinable, whole-levels, roots-counted, roots-apart, roots-empty, roots-refused, roots-met}
+use Rattle.rstar.specs.inside.PairWalks.{AreJoinable}
+use Rattle.rstar.proofs.selecting.Traversals.{no-items, some-items}
+use Rattle.rstar.proofs.joining.PairWalks.{idle-pairs, idle-opens}
+use Rattle.rstar.proofs.joining.Joined.{joinable, whole-levels, roots-counted, roots-apart, roots-empty, roots-refused, roots-met}
 use Rattle.rstar.proofs.iterators.joins.IntersectionIterator.new.Goals as goal
 use Rattle.rstar.proofs.iterators.joins.IntersectionIterator.new.Goals.{then-is_empty, else-is_empty, then-empty-via-then-empty, then-empty-via-else-empty+then-not-meet}
 

@@ -1,6 +1,6 @@
 use Rattle.std.proofs.Common.{refl}
 use Rattle.rstar.specs.Joins.{meets_by}
-use Rattle.rstar.proofs.Joined.{next-gives}
+use Rattle.rstar.proofs.joining.Joined.{next-gives}
 use Rattle.rstar.proofs.iterators.joins.IntersectionIteratorIterator.next.Goals as goal
 
 pub returns-clause-steps : goal.returns-clause-steps

@@ -2,11 +2,11 @@ use Rattle.std.proofs.Common.{◌∙◌, ◌≡◌, ◌<◌, ◌/◌, ◌%◌, a
 use Rattle.std.proofs.lemmas.Bool.Decides.{nat_tests}
 use Rattle.std.proofs.lemmas.Nat.{div-add-mod'}
 use lib.Count.{count_trailing_zeros}
-use Rattle.rstar.specs.JoinWalks.{marked_items}
+use Rattle.rstar.specs.inside.PairWalks.{marked_items}
 use Rattle.rstar.specs.Lists.{product}
-use Rattle.rstar.proofs.PairRows.{product-none}
-use Rattle.rstar.proofs.Walks.{no-items}
-use Rattle.rstar.proofs.Marked.{marked-zero, lowest-pair, pairs-none}
+use Rattle.rstar.proofs.joining.PairsByChildren.{product-none}
+use Rattle.rstar.proofs.selecting.Traversals.{no-items}
+use Rattle.rstar.proofs.joining.MarkedPairs.{marked-zero, lowest-pair, pairs-none}
 use Rattle.rstar.proofs.iterators.joins.walk.first_marked.Goals as goal
 
 pub returns-then-marks-eq0-clause-none : goal.returns-then-marks-eq0-clause-none

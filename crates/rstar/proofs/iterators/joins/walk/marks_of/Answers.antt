@@ -1,8 +1,8 @@
 use Rattle.std.proofs.Common.{◌∙◌, ap, map}
 use Rattle.rstar.specs.Joins.{meets_by}
-use Rattle.rstar.specs.JoinWalks.{with_marks}
+use Rattle.rstar.specs.inside.PairWalks.{with_marks}
 use Rattle.rstar.specs.Nodes.{node_box}
-use Rattle.rstar.proofs.Marked.{rows-first, rows-few, rows-fit, rows-more, rows-all}
+use Rattle.rstar.proofs.joining.MarkedPairs.{rows-first, rows-few, rows-fit, rows-more, rows-all}
 use Rattle.rstar.proofs.iterators.joins.walk.marks_of.Goals as goal
 
 pub loop-left-init : goal.loop-left-init

@@ -1,7 +1,7 @@
 use Rattle.std.proofs.Common.{length, ◌*◌, ◌≤◌}
 use Rattle.rstar.specs.Nodes.{node_box}
 use Rattle.rstar.specs.Joins.{meets_by}
-use Rattle.rstar.proofs.Marked.{AreRows}
+use Rattle.rstar.proofs.joining.MarkedPairs.{AreRows}
 use Rattle.rstar.proofs.iterators.joins.walk.marks_of.Given as goal
 
 -- of at most 64 pairs there are marks for the rows behind the rest

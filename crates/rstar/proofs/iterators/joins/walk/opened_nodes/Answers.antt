@@ -1,5 +1,5 @@
 use Rattle.std.proofs.Common.{◌∙◌, ap, sym}
-use Rattle.rstar.proofs.PairRows.{opened-single, opened_to-Parent, opened-none, opened-leaf}
+use Rattle.rstar.proofs.joining.PairsByChildren.{opened-single, opened_to-Parent, opened-none, opened-leaf}
 use Rattle.rstar.specs.Meets.{opened_to}
 use Rattle.rstar.proofs.iterators.joins.walk.opened_nodes.Goals as goal
 

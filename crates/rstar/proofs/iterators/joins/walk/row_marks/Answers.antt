@@ -1,5 +1,5 @@
 use Rattle.std.proofs.Common.{sym}
-use Rattle.rstar.proofs.Marked.{row-first, row-fits, row-more, row-all}
+use Rattle.rstar.proofs.joining.MarkedPairs.{row-first, row-fits, row-more, row-all}
 use Rattle.rstar.proofs.iterators.joins.walk.row_marks.Goals as goal
 
 pub loop-node-init : goal.loop-node-init

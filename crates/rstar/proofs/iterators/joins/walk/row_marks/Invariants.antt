@@ -1,7 +1,7 @@
 use Rattle.std.proofs.Common.{length, ◌≤◌, ◌<◌, ◌-◌, ◌^◌}
 use Rattle.rstar.specs.Nodes.{node_box}
 use Rattle.rstar.specs.Joins.{meets_by}
-use Rattle.rstar.proofs.Marked.{IsRow}
+use Rattle.rstar.proofs.joining.MarkedPairs.{IsRow}
 use Rattle.rstar.proofs.iterators.joins.walk.row_marks.Given as goal
 
 -- where there is room, there are marks for the nodes behind the rest

@@ -1,6 +1,6 @@
 use Rattle.std.proofs.Common.{◌∷◌, ◌++◌, [], ap, refl}
-use Rattle.rstar.proofs.Walks.{IsDropped, way-drop, given-drop, nearer-drop}
-use Rattle.rstar.specs.Walks.{slices_of}
+use Rattle.rstar.proofs.selecting.Traversals.{IsDropped, way-drop, given-drop, nearer-drop}
+use Rattle.rstar.specs.inside.Traversals.{slices_of}
 use Rattle.rstar.proofs.iterators.selection.SelectionIterator.back.Goals as goal
 
 pub returns-in-Some-clause-more : goal.returns-in-Some-clause-more

@@ -1,5 +1,5 @@
 use Rattle.std.proofs.Common.{◌∷◌, [], ◌∙◌, sym, refl, arith, inl, inr, length-append}
-use Rattle.rstar.proofs.Walks.{IsKept, first-taken, no-items, way-take, way-opened, given-passed, given-opened, reach-passed, nearer-passed, nearer-opened, room-opened}
+use Rattle.rstar.proofs.selecting.Traversals.{IsKept, first-taken, no-items, way-take, way-opened, given-passed, given-opened, reach-passed, nearer-passed, nearer-opened, room-opened}
 use Rattle.rstar.proofs.iterators.selection.SelectionIterator.enter.Goals as goal
 use Rattle.rstar.proofs.iterators.selection.SelectionIterator.enter.Goals.{then-not-is_empty, else-not-is_empty}
 

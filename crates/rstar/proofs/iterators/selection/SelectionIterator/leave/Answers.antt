@@ -1,5 +1,5 @@
 use Rattle.std.proofs.Common.{refl, sym}
-use Rattle.rstar.proofs.Walks.{first-taken, way-take, given-leaf, reach-leaf, nearer-leaf}
+use Rattle.rstar.proofs.selecting.Traversals.{first-taken, way-take, given-leaf, reach-leaf, nearer-leaf}
 use Rattle.rstar.proofs.iterators.selection.SelectionIterator.leave.Goals as goal
 
 pub returns : goal.returns

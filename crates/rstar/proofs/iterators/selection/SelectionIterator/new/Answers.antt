@@ -2,10 +2,10 @@ use Rattle.std.proofs.Common.{◌≡◌, ◌∙◌, sym, ap, refl, subst, arith,
 use Rattle.std.specs.Prelude.{⊤, ◌≤◌}
 use Rattle.rstar.specs.Nodes.{children_of, envelope_of, reach_of, reach_below, given_of, IsInner, IsElement}
 use Rattle.rstar.specs.Selections.{IsWalking, to_come}
-use Rattle.rstar.specs.Walks.{IsLevel}
+use Rattle.rstar.specs.inside.Traversals.{IsLevel}
 use Rattle.rstar_base.proofs.Lists.{all_map}
-use Rattle.rstar.proofs.Heights.{levels_are}
-use Rattle.rstar.proofs.Walks.{tree-weaker, way-none, way-start, given-start, given-empty, given-refused, reach-asked, reach-refused, no-items, some-items}
+use Rattle.rstar.proofs.trees.Heights.{levels_are}
+use Rattle.rstar.proofs.selecting.Traversals.{tree-weaker, way-none, way-start, given-start, given-empty, given-refused, reach-asked, reach-refused, no-items, some-items}
 use Rattle.rstar.proofs.iterators.selection.SelectionIterator.new.Goals as goal
 use Rattle.rstar.proofs.iterators.selection.SelectionIterator.new.Goals.{then-is_empty-via-then-is_empty, then-is_empty-via-else-is_empty+then-not-should_unpack_parent}
 

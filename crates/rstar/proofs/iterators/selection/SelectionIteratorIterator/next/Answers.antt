@@ -4,7 +4,7 @@ use Rattle.std.specs.Borrow.{Bor}
 use Rattle.rstar.specs.declared.iterators.selection.SelectionIterator.{SelectionIterator}
 use Rattle.rstar.specs.Nodes.{reach_of}
 use Rattle.rstar.specs.Selections.{IsWalking, to_come, root_walked, question_of, reach_by, GivesNext}
-use Rattle.rstar.specs.Walks.{given_by, IsStep, IsOver}
+use Rattle.rstar.specs.inside.Traversals.{given_by, IsStep, IsOver}
 use Rattle.rstar.proofs.iterators.selection.SelectionIteratorIterator.next.Goals as goal
 
 module _ {T F E : Type 0} (accepts : F → E → Bool) (selects : F → T → Bool) (old mid new : SelectionIterator T F E)

@@ -1,6 +1,6 @@
 use Rattle.std.proofs.Common.{◌≡◌}
 use Rattle.rstar.specs.Selections.{root_walked, question_of}
-use Rattle.rstar.specs.Walks.{slices_of, given_by, HasItsWay, steps_of}
+use Rattle.rstar.specs.inside.Traversals.{slices_of, given_by, HasItsWay, steps_of}
 use Rattle.rstar.proofs.iterators.selection.SelectionIteratorIterator.next.Given as goal
 
 -- the same walk, with the same to come

@@ -3,13 +3,13 @@ use Rattle.rstar_base.specs.laws.CarrierLaws.{carried_laws}
 use Rattle.rstar_base.specs.Points.{table}
 use Rattle.rstar_base.specs.Elements.{carried_distances, carried_objects}
 use Rattle.rstar.specs.Nodes.{layer_of, children_of, all_elements, IsInner, IsElement}
-use Rattle.rstar.specs.Ways.{first_at, way_to, LeadsBelow, IsAt, child_at, change_below}
+use Rattle.rstar.specs.inside.WaysDown.{first_at, way_to, LeadsBelow, IsAt, child_at, change_below}
 use Rattle.rstar.specs.Payloads.{with_data, put_payload}
 use Rattle.rstar.specs.Trees.{IsWholeTree}
 use Rattle.rstar.specs.Changes.{KeepsBox, IsChangedParent, IsChanged, IsChangedTree}
-use Rattle.rstar.proofs.Changes.{whole-kept, same-outline, below-changed}
-use Rattle.rstar.proofs.Heights.{levels_are}
-use Rattle.rstar.proofs.Found.{found-below, at-same, search-is-scan, is-below, not-below}
+use Rattle.rstar.proofs.visiting.Changes.{whole-kept, same-outline, below-changed}
+use Rattle.rstar.proofs.trees.Heights.{levels_are}
+use Rattle.rstar.proofs.visiting.FoundElements.{found-below, at-same, search-is-scan, is-below, not-below}
 use Rattle.rstar.proofs.rtree.payloads.RTree+GeomWithData+R+D+Params.locate_at_point_mut.Goals as goal
 
 some-item : {A : Type 0} (xs : List A) (n : ℕ) → n < length xs → xs ≢ []

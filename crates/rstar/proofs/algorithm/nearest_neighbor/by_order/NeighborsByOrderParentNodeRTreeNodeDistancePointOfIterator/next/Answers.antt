@@ -1,9 +1,9 @@
 use Rattle.rstar_base.specs.Points.{table, IsPoint}
 use Rattle.rstar.specs.ByOrder.{IsSearchingByOrder}
-use Rattle.rstar.specs.Searches.{parents_first}
-use Rattle.rstar.proofs.ByOrder.{next-in-order}
-use Rattle.rstar.proofs.Nearness.{IsMeasured}
-use Rattle.rstar.proofs.Progress as progress
+use Rattle.rstar.specs.inside.Searches.{parents_first}
+use Rattle.rstar.proofs.searching.ByOrder.{next-in-order}
+use Rattle.rstar.proofs.searching.Nearness.{IsMeasured}
+use Rattle.rstar.proofs.selecting.Progress as progress
 use Rattle.rstar.proofs.algorithm.nearest_neighbor.by_order.NeighborsByOrderParentNodeRTreeNodeDistancePointOfIterator.next.Given.{Over}
 use Rattle.rstar.proofs.algorithm.nearest_neighbor.by_order.NeighborsByOrderParentNodeRTreeNodeDistancePointOfIterator.next.Goals as goal
 

@@ -4,8 +4,8 @@ use Rattle.std.proofs.lemmas.List.{append-nil, take_more}
 use Rattle.std.proofs.lemmas.List.Sorted.{IsPermutation-refl}
 use lib.Seq.{take_all}
 use Rattle.rstar_base.specs.SmallHeaps.{items_of}
-use Rattle.rstar.specs.Searches.{waiting_nodes, AreWaiting, held_by}
-use Rattle.rstar.proofs.Searches.{at-push, added-push}
+use Rattle.rstar.specs.inside.Searches.{waiting_nodes, AreWaiting, held_by}
+use Rattle.rstar.proofs.searching.Searches.{at-push, added-push}
 use Rattle.rstar.proofs.algorithm.nearest_neighbor.search.NeighborSearch+ParentNode+T+RTreeNode+T+T+Distance+O.add_children.Goals as goal
 
 pub loop-node-init : goal.loop-node-init

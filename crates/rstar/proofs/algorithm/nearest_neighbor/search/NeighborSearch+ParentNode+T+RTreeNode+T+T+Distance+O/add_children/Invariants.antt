@@ -1,7 +1,7 @@
 use Rattle.std.proofs.Common.{◌≡◌, ◌++◌, take}
 use Rattle.std.specs.List.Sorted.{IsPermutation}
 use Rattle.rstar_base.specs.SmallHeaps.{IsOrdered}
-use Rattle.rstar.specs.Searches.{nearest_on_top, waiting_nodes, AreWaiting, held_by}
+use Rattle.rstar.specs.inside.Searches.{nearest_on_top, waiting_nodes, AreWaiting, held_by}
 use Rattle.rstar.proofs.algorithm.nearest_neighbor.search.NeighborSearch+ParentNode+T+RTreeNode+T+T+Distance+O.add_children.Given as goal
 
 -- the nodes so far wait too

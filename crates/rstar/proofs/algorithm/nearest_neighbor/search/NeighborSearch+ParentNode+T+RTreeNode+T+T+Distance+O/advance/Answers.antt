@@ -4,11 +4,11 @@ use Rattle.std.specs.Ordering.{int_cmp}
 use Rattle.std.proofs.lemmas.List.Sorted.{IsPermutation-refl, length_permutation}
 use Rattle.rstar_base.specs.SmallHeaps.{items_of}
 use Rattle.rstar.specs.Nodes.{all_elements}
-use Rattle.rstar.specs.Searches.{waiting_nodes, held_by}
-use Rattle.rstar.proofs.Nearness.{IsMeasured}
-use Rattle.rstar.proofs.Progress.{on_err}
-use Rattle.rstar.proofs.Walks.{nil-length}
-use Rattle.rstar.proofs.Turns as turns
+use Rattle.rstar.specs.inside.Searches.{waiting_nodes, held_by}
+use Rattle.rstar.proofs.searching.Nearness.{IsMeasured}
+use Rattle.rstar.proofs.selecting.Progress.{on_err}
+use Rattle.rstar.proofs.selecting.Traversals.{nil-length}
+use Rattle.rstar.proofs.searching.SearchTurns as turns
 use Rattle.rstar.proofs.algorithm.nearest_neighbor.search.NeighborSearch+ParentNode+T+RTreeNode+T+T+Distance+O.advance.Given.{Over}
 use Rattle.rstar.proofs.algorithm.nearest_neighbor.search.NeighborSearch+ParentNode+T+RTreeNode+T+T+Distance+O.advance.Goals as goal
 

@@ -1,7 +1,7 @@
 use Rattle.std.proofs.Common.{◌≡◌, ◌≤◌}
 use Rattle.std.specs.List.Sorted.{IsPermutation}
 use Rattle.rstar.specs.Nodes.{all_elements, all_parents}
-use Rattle.rstar.specs.Searches.{waiting_nodes, IsRunning, held_by}
+use Rattle.rstar.specs.inside.Searches.{waiting_nodes, IsRunning, held_by}
 use Rattle.rstar.proofs.algorithm.nearest_neighbor.search.NeighborSearch+ParentNode+T+RTreeNode+T+T+Distance+O.advance.Given as goal
 
 -- the search goes on, with the same elements, and no more parents than waited first

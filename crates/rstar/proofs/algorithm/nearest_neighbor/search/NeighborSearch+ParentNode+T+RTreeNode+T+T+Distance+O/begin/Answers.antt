@@ -2,9 +2,9 @@ use Rattle.std.proofs.Common.{◌<◌, sym, subst, arith}
 use Rattle.std.specs.List.Sorted.{IsPermutation}
 use Rattle.std.proofs.lemmas.List.Sorted.{IsPermutation-refl}
 use Rattle.rstar.specs.Nodes.{all_elements, all_parents}
-use Rattle.rstar.specs.Searches.{waiting_nodes, waiting_at, held_by}
-use Rattle.rstar.proofs.Openings.{root-counts}
-use Rattle.rstar.proofs.Progress.{on_err}
+use Rattle.rstar.specs.inside.Searches.{waiting_nodes, waiting_at, held_by}
+use Rattle.rstar.proofs.searching.Openings.{root-counts}
+use Rattle.rstar.proofs.selecting.Progress.{on_err}
 use Rattle.rstar.proofs.algorithm.nearest_neighbor.search.NeighborSearch+ParentNode+T+RTreeNode+T+T+Distance+O.begin.Goals as goal
 
 pub returns-in-Running-clause-bag : goal.returns-in-Running-clause-bag

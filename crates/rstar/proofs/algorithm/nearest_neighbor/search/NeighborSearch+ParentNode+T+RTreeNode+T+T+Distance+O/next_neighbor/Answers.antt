@@ -2,8 +2,8 @@ use Rattle.std.proofs.Common.{◌≡◌, sym, ap, subst, refl, ◌∙◌, arith}
 use Rattle.rstar.specs.declared.algorithm.nearest_neighbor.search.Stage.{Stage}
 use Rattle.rstar.specs.declared.algorithm.nearest_neighbor.search.Stage.TheVariants.{Fresh, Running, Ended}
 use Rattle.rstar.specs.Neighbors.{IsNeighbor}
-use Rattle.rstar.specs.Searches.{ComesFirst, waiting_nodes, waiting_at, waiting_of, held_by, IsUnrefused, IsRunning}
-use Rattle.rstar.proofs.Openings.{gives-from, none-from, ready-running}
+use Rattle.rstar.specs.inside.Searches.{ComesFirst, waiting_nodes, waiting_at, waiting_of, held_by, IsUnrefused, IsRunning}
+use Rattle.rstar.proofs.searching.Openings.{gives-from, none-from, ready-running}
 use Rattle.rstar.proofs.algorithm.nearest_neighbor.search.NeighborSearch+ParentNode+T+RTreeNode+T+T+Distance+O.next_neighbor.Goals as goal
 
 going : (s : Stage) → (s ≡ Ended → ⊥) → IsUnrefused s

@@ -1,8 +1,8 @@
 use Rattle.std.proofs.Common.{◌++◌, sym, subst}
 use Rattle.std.specs.List.Sorted.{IsPermutation}
-use Rattle.rstar.specs.Searches.{waiting_nodes, held_by, IsRunning}
-use Rattle.rstar.proofs.Nearness.{IsMeasured}
-use Rattle.rstar.proofs.Openings.{root-running, root-bag, root-fewer}
+use Rattle.rstar.specs.inside.Searches.{waiting_nodes, held_by, IsRunning}
+use Rattle.rstar.proofs.searching.Nearness.{IsMeasured}
+use Rattle.rstar.proofs.searching.Openings.{root-running, root-bag, root-fewer}
 use Rattle.rstar.proofs.algorithm.nearest_neighbor.search.NeighborSearch+ParentNode+T+RTreeNode+T+T+Distance+O.open_root.Given.{Over}
 use Rattle.rstar.proofs.algorithm.nearest_neighbor.search.NeighborSearch+ParentNode+T+RTreeNode+T+T+Distance+O.open_root.Goals as goal
 

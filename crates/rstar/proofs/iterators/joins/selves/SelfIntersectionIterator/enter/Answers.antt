@@ -2,13 +2,13 @@ use Rattle.std.proofs.Common.{◌+◌, ◌++◌, ◌∷◌, [], ◌∙◌, ap, s
 use Rattle.std.proofs.lemmas.Bool.{true≢false}
 use Rattle.rstar.specs.Nodes.{AreWhole}
 use Rattle.rstar.specs.Meets.{all_pairs, all_opens}
-use Rattle.rstar.specs.JoinWalks.{AreJoinable, pairs_by}
+use Rattle.rstar.specs.inside.PairWalks.{AreJoinable, pairs_by}
 use Rattle.rstar.specs.Joins.{meets_by}
 use Rattle.rstar.specs.SelfJoins.{pairs_from_lists, opens_from_lists, AreLists}
-use Rattle.rstar.proofs.Walks.{nil-length}
-use Rattle.rstar.proofs.Joined.{joinable}
-use Rattle.rstar.proofs.PairWalks.{idle-pairs, idle-opens}
-use Rattle.rstar.proofs.SelfPairs.{own-parent, last-list, taken-none, taken-leaf, taken-parent}
+use Rattle.rstar.proofs.selecting.Traversals.{nil-length}
+use Rattle.rstar.proofs.joining.Joined.{joinable}
+use Rattle.rstar.proofs.joining.PairWalks.{idle-pairs, idle-opens}
+use Rattle.rstar.proofs.joining.SelfPairs.{own-parent, last-list, taken-none, taken-leaf, taken-parent}
 use Rattle.rstar.proofs.iterators.joins.selves.SelfIntersectionIterator.enter.Goals as goal
 
 pub returns-in_default : goal.returns-in_default

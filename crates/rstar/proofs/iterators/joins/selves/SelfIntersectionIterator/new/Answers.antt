@@ -2,9 +2,9 @@ use Rattle.std.proofs.Common.{◌+◌, ◌++◌, ◌∷◌, [], ◌∙◌, ap, s
 use Rattle.rstar.specs.Nodes.{children_of, AreWhole}
 use Rattle.rstar.specs.Joins.{meets_by}
 use Rattle.rstar.specs.SelfJoins.{pairs_from_lists, opens_from_lists, opens_within, pairs_within, AreLists, IsSelfJoining, own_to_come}
-use Rattle.rstar.proofs.Joined.{whole-levels}
-use Rattle.rstar.proofs.PairWalks.{idle-pairs, idle-opens}
-use Rattle.rstar.proofs.SelfPairs.{own-started}
+use Rattle.rstar.proofs.joining.Joined.{whole-levels}
+use Rattle.rstar.proofs.joining.PairWalks.{idle-pairs, idle-opens}
+use Rattle.rstar.proofs.joining.SelfPairs.{own-started}
 use Rattle.rstar.proofs.iterators.joins.selves.SelfIntersectionIterator.new.Goals as goal
 
 pub returns-clause-gives : goal.returns-clause-gives

@@ -1,6 +1,6 @@
 use Rattle.std.proofs.Common.{ap, length, refl, arith}
 use Rattle.rstar.specs.Joins.{meets_by}
-use Rattle.rstar.proofs.SelfPairs.{advanced, gave}
+use Rattle.rstar.proofs.joining.SelfPairs.{advanced, gave}
 use Rattle.rstar.proofs.iterators.joins.selves.SelfIntersectionIteratorIterator.next.Goals as goal
 
 pub returns-in-Some-clause-steps : goal.returns-in-Some-clause-steps

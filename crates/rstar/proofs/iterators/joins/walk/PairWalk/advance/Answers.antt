@@ -1,6 +1,6 @@
 use Rattle.std.proofs.Common.{◌∙◌, refl}
 use Rattle.rstar.specs.Joins.{meets_by}
-use Rattle.rstar.proofs.PairWalks.{goes-on}
+use Rattle.rstar.proofs.joining.PairWalks.{goes-on}
 use Rattle.rstar.proofs.iterators.joins.walk.PairWalk.advance.Goals as goal
 
 pub loop-t-init : goal.loop-t-init

@@ -1,5 +1,5 @@
 use Rattle.std.proofs.Common.{◌≡◌}
-use Rattle.rstar.specs.JoinWalks.{frames_of, pairs_by, GoesOn, steps_of_frames}
+use Rattle.rstar.specs.inside.PairWalks.{frames_of, pairs_by, GoesOn, steps_of_frames}
 use Rattle.rstar.specs.Joins.{meets_by}
 use Rattle.rstar.proofs.iterators.joins.walk.PairWalk.advance.Given as goal
 

@@ -1,7 +1,7 @@
 use Rattle.std.proofs.Common.{◌++◌, ◌∷◌, [], ◌∙◌, ◌+◌, ap, sym, refl, subst}
-use Rattle.rstar.specs.JoinWalks.{frame_of, AreFrames, pairs_from_frames, opens_from_frames}
+use Rattle.rstar.specs.inside.PairWalks.{frame_of, AreFrames, pairs_from_frames, opens_from_frames}
 use Rattle.rstar.specs.Joins.{meets_by}
-use Rattle.rstar.proofs.PairWalks.{begins, begins-pairs, begins-opens}
+use Rattle.rstar.proofs.joining.PairWalks.{begins, begins-pairs, begins-opens}
 use Rattle.rstar.proofs.iterators.joins.walk.PairWalk.begin.Goals as goal
 
 pub returns : goal.returns

@@ -1,7 +1,7 @@
 use Rattle.std.proofs.Common.{◌∷◌, ◌++◌, [], ◌∙◌, ap, sym, refl, arith, append-nil, ◌≡◌, ◌+◌}
-use Rattle.rstar.specs.JoinWalks.{in_hand, frames_of, opens_from_frames}
+use Rattle.rstar.specs.inside.PairWalks.{in_hand, frames_of, opens_from_frames}
 use Rattle.rstar.specs.Joins.{meets_by}
-use Rattle.rstar.proofs.PairWalks.{frames-along, idle-pairs, move-drop, move-pairs, move-nearer, move-on}
+use Rattle.rstar.proofs.joining.PairWalks.{frames-along, idle-pairs, move-drop, move-pairs, move-nearer, move-on}
 use Rattle.rstar.proofs.iterators.joins.walk.PairWalk.go_back.Goals as goal
 
 pub returns-in_default : goal.returns-in_default

@@ -1,9 +1,9 @@
 use Rattle.std.proofs.Common.{◌++◌, ◌∷◌, [], ◌+◌, ap, sym, subst, arith}
 use Rattle.std.specs.List.{AllByRecursion}
-use Rattle.rstar.specs.JoinWalks.{frame_of, AreFrames}
-use Rattle.rstar.specs.Walks.{IsLevel}
+use Rattle.rstar.specs.inside.PairWalks.{frame_of, AreFrames}
+use Rattle.rstar.specs.inside.Traversals.{IsLevel}
 use Rattle.rstar.specs.Joins.{meets_by}
-use Rattle.rstar.proofs.PairWalks.{begins}
+use Rattle.rstar.proofs.joining.PairWalks.{begins}
 use Rattle.rstar.proofs.iterators.joins.walk.PairWalk.idle.Goals as goal
 
 pub returns-clause-walk : goal.returns-clause-walk

@@ -1,9 +1,9 @@
 use Rattle.std.proofs.Common.{List, ◌∷◌, ◌++◌, [], ◌∙◌, ap, refl, arith, append-nil, append_assoc, take, flat_map, sym, ◌≡◌, length}
-use Rattle.rstar.specs.JoinWalks.{frame_of, in_hand, frames_of}
+use Rattle.rstar.specs.inside.PairWalks.{frame_of, in_hand, frames_of}
 use Rattle.rstar.specs.Joins.{meets_by}
 use Rattle.rstar.specs.Meets.{opened_to, both_leaves}
-use Rattle.rstar.proofs.PairRows.{found}
-use Rattle.rstar.proofs.PairWalks.{read-meets, move-read, move-open, open-room, move-pairs, move-nearer, move-on, path-room, last-frame}
+use Rattle.rstar.proofs.joining.PairsByChildren.{found}
+use Rattle.rstar.proofs.joining.PairWalks.{read-meets, move-read, move-open, open-room, move-pairs, move-nearer, move-on, path-room, last-frame}
 use Rattle.rstar.proofs.iterators.joins.walk.PairWalk.read.Goals as goal
 
 first-same : {A : Type 0} (x y : A) (xs ys : List A) → x ∷ xs ≡ y ∷ ys → x ≡ y

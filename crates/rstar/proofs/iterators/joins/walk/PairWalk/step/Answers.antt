@@ -1,10 +1,10 @@
 use Rattle.std.proofs.Common.{◌≡◌, ◌<◌, ◌∙◌, ◌*◌, ◌≤◌, ap, sym, refl, arith, subst, length, min, filter}
 use Rattle.std.proofs.lemmas.Bool.Decides.{nat_tests}
 use Rattle.rstar.specs.Lists.{product}
-use Rattle.rstar.specs.JoinWalks.{marked_items, in_hand, frames_of, rows_beside, IsFirstPair}
+use Rattle.rstar.specs.inside.PairWalks.{marked_items, in_hand, frames_of, rows_beside, IsFirstPair}
 use Rattle.rstar.specs.Joins.{meets_by}
-use Rattle.rstar.proofs.Walks.{no-items}
-use Rattle.rstar.proofs.PairWalks.{parts-are, block-fits, block-some, last-frame, meets_pair, move-row, move-ask, move-pairs, move-nearer, move-on}
+use Rattle.rstar.proofs.selecting.Traversals.{no-items}
+use Rattle.rstar.proofs.joining.PairWalks.{parts-are, block-fits, block-some, last-frame, meets_pair, move-row, move-ask, move-pairs, move-nearer, move-on}
 use Rattle.rstar.proofs.iterators.joins.walk.PairWalk.step.Goals as goal
 
 pub read-requires-clause-met : goal.read-requires-clause-met

@@ -1,0 +1,4 @@
+-- Commands and replays.
+pub mod Replays
+pub mod Firsts
+pub mod StepsByOrder

@@ -1,0 +1,177 @@
+-- Commands over a tree: what its calls give is what a step may give, and a run goes on by one step.
+use Rattle.std.proofs.Common.{◌≡◌, ℕ, ◌+◌, ◌<◌, ◌≤◌, min, Bool, true, false, List, [], ◌∷◌, ◌++◌, refl, ap, sym, ◌∙◌, subst, arith, length, length-append, filter, Option, Some, None, IfSome, IfNone, if◌then◌else◌, append_assoc, append-nil}
+use Rattle.std.specs.Prelude.{◌↔◌}
+use lib.Dec.{leb}
+use Rattle.std.proofs.lemmas.Bool.{leb-true, leb-false}
+use Rattle.std.proofs.lemmas.Grind.{common_steps}
+use Rattle.std.specs.List.{AllByRecursion}
+use Rattle.std.specs.List.Sorted.{IsPermutation}
+use Rattle.std.proofs.lemmas.List.Elements.{filter-append}
+use Rattle.std.proofs.lemmas.List.Sorted.{IsPermutation-refl, IsPermutation-map, IsPermutation-append, length_permutation}
+use Rattle.rstar_base.specs.Envelopes.{Boxes}
+use Rattle.rstar_base.specs.Elements.{Objects}
+use Rattle.rstar_base.proofs.Along.{IsPermutation-same}
+use Rattle.rstar.specs.declared.replay.Command.{Command}
+use Rattle.rstar.specs.declared.replay.Command.TheVariants as command
+use Rattle.rstar.specs.declared.replay.Reply.{Reply}
+use Rattle.rstar.specs.declared.replay.Reply.TheVariants as reply
+use Rattle.rstar.specs.declared.rtree.RTree.{RTree}
+use Rattle.rstar.specs.Joins.{join}
+use Rattle.rstar.specs.inside.Gathering.{Gathers}
+use Rattle.rstar.specs.Lists.{product, IsLeast, NoneSelected}
+use Rattle.rstar.specs.Steps.{Questions, TakesOne, TakesFirst, TakesSome, Step, RunBy, IsInsertion}
+use Rattle.rstar.specs.StepsOfTrees.{StepOfTree, RunOfTree}
+use Rattle.rstar.specs.Trees.{elements_in, IsUnchanged}
+use Rattle.rstar.proofs.searching.Ties.{filter-along}
+
+-- ---- bags
+
+pub same_bag : {T : Type 0} (xs ys : List T) → xs ≡ ys → IsPermutation ys xs
+same_bag xs ys e = IsPermutation-same ys xs (sym e)
+
+-- ---- what is taken out
+
+module _ {T R : Type 0} (elements : R → List T) (old new : R) where
+  pub takes_one : (test : T → Bool) (r : Option T) → IfSome r (λ x. IsPermutation (elements old) (x ∷ elements new)) → IfSome r (λ x. test x ≡ true)
+      → IfNone r (NoneSelected test (elements old)) → IfNone r (new ≡ old) → TakesOne test (elements old) r (elements new)
+  takes_one test None bag passes none kept = (none, IsPermutation-same (elements old) (elements new) (sym (ap elements kept)))
+  takes_one test (Some x) bag passes none kept = (passes, bag)
+
+  pub takes_first : (before : T → T → Type 0) (r : Option T) → IfSome r (λ x. IsPermutation (elements old) (x ∷ elements new)) → IfSome r (IsLeast before (elements old))
+      → IfNone r (elements old ≡ []) → IfNone r (new ≡ old) → TakesFirst before (elements old) r (elements new)
+  takes_first before None bag first none kept = (none, IsPermutation-same (elements old) (elements new) (sym (ap elements kept)))
+  takes_first before (Some x) bag first none kept = (first, bag)
+
+module _ {T : Type 0} (test : T → Bool) where
+  filter_every : (ts : List T) → AllByRecursion (λ t. test t ≡ true) ts → filter test ts ≡ ts
+  filter_every [] h = refl
+  filter_every (t ∷ ts) h = subst (λ b. (if b then t ∷ filter test ts else filter test ts) ≡ t ∷ ts) (sym h.0) (ap (λ l. t ∷ l) (filter_every ts h.1))
+
+  filter_nothing : (ts : List T) → NoneSelected test ts → filter test ts ≡ []
+  filter_nothing [] h = refl
+  filter_nothing (t ∷ ts) h = subst (λ b. (if b then t ∷ filter test ts else filter test ts) ≡ []) (sym h.0) (filter_nothing ts h.1)
+
+  filter_shorter : (ts : List T) → length (filter test ts) ≤ length ts
+  filter_shorter [] = omega arith
+  filter_shorter (t ∷ ts) = by_test (test t) (filter_shorter ts)
+    where
+      by_test : (b : Bool) → length (filter test ts) ≤ length ts → length (if b then t ∷ filter test ts else filter test ts) ≤ length (t ∷ ts)
+      by_test true le = omega (arith, le)
+      by_test false le = omega (arith, le)
+
+  -- so many as were selected of the old list: those taken, and those that are left
+  selected_in : (old taken new : List T) → IsPermutation old (taken ++ new) → AllByRecursion (λ t. test t ≡ true) taken → length (filter test old) ≡ length taken + length (filter test new)
+  selected_in old taken new bag all =
+      sym (length_permutation _ _ (filter-along test old (taken ++ new) bag)) ∙ ap length (filter-append test taken new ∙ ap (λ l. l ++ filter test new) (filter_every taken all)) ∙ length-append taken (filter test new)
+
+  -- n were taken out, or room was made for all of a shorter list, and what is left has none where fewer were taken
+  pub takes_some : (n : ℕ) (old taken new : List T) → IsPermutation old (taken ++ new) → AllByRecursion (λ t. test t ≡ true) taken → length taken ≤ min n (length old)
+      → (length taken < min n (length old) → NoneSelected test new) → TakesSome test n old taken new
+  takes_some n old taken new bag all few ended = record {
+    bag = bag;
+    selected = all;
+    count = by_test (leb (length taken + 1) (min n (length old))) refl;
+  }
+    where
+      whole : length old ≡ length taken + length new
+      whole = sym (length_permutation _ _ bag) ∙ length-append taken new
+
+      all_in : length (filter test old) ≡ length taken + length (filter test new)
+      all_in = selected_in old taken new bag all
+
+      by_test : (b : Bool) → leb (length taken + 1) (min n (length old)) ≡ b → length taken ≡ min n (length (filter test old))
+      by_test true e =
+          let less = leb-true (length taken + 1) (min n (length old)) e in
+          let nothing = ap length (filter_nothing new (ended (omega (arith, less)))) in
+          let a = few in let b = all_in in omega (arith, less, nothing, a, b)
+      by_test false e =
+          let more = leb-false (length taken + 1) (min n (length old)) e in
+          let a = few in let b = all_in in let d = whole in let f = filter_shorter new in omega (arith, more, a, b, d, f)
+
+-- the same of what went to an empty list with room for all of a shorter one, by the names of its caller
+pub gathered_some : {T : Type 0} (test : T → Bool) (most room size : ℕ) (old held new held' items : List T) → held ≡ [] → room ≡ min most size → size ≡ length old
+    → Gathers test room old held new held' → (length held' < room → NoneSelected test new) → items ≡ held' → TakesSome test most old items new
+gathered_some test most room size old held new held' items none is_room is_size moved ended same =
+    let wide : room ≡ min most (length old) = is_room ∙ ap (min most) is_size in
+    let all : held' ≡ moved.more = moved.held_more ∙ ap (λ l. l ++ moved.more) none in
+    let nothing = ap length none in
+    subst (λ l. TakesSome test most old l new) (sym (same ∙ all))
+    (takes_some test most old moved.more new moved.bag moved.selected
+    (subst (λ n. length moved.more ≤ n) wide (subst (λ l. length l ≤ room) all (moved.few (omega (arith, nothing)))))
+    (subst (λ n. length moved.more < n → NoneSelected test new) wide (subst (λ l. length l < room → NoneSelected test new) all ended)))
+
+-- ---- pairs
+
+product-along : {A B : Type 0} (xs : List A) (ys zs : List B) → IsPermutation ys zs → IsPermutation (product xs ys) (product xs zs)
+product-along [] ys zs h = IsPermutation-refl []
+product-along (x ∷ xs) ys zs h = IsPermutation-append _ _ _ _ (IsPermutation-map (λ y. (x, y)) ys zs h) (product-along xs ys zs h)
+
+pub join-along : {T E U F : Type 0} (meets : E → F → Bool) (left_box : T → E) (right_box : U → F) (ts : List T) (us vs : List U) → IsPermutation us vs
+    → IsPermutation (join meets left_box right_box ts us) (join meets left_box right_box ts vs)
+join-along meets left_box right_box ts us vs h = filter-along (λ p. meets (left_box p.0) (right_box p.1)) (product ts us) (product ts vs) (product-along ts us vs h)
+
+-- ---- steps
+
+module _ {T E P S X : Type 0} (q : Questions T E P S) where
+  -- an insertion alone is one too many
+  insertion_alone : (old new : List T) (c : Command T E P S X) → Step q old c reply.TooMany new → IsInsertion c
+  insertion_alone old new (command.Insert t) step = tt
+  insertion_alone old new c step = absurd step
+
+  pub too_many : {A : Type 0} (old new : List T) (c : Command T E P S X) (r : Reply T E P S X) → Step q old c r new → (IsInsertion c → (r ≡ reply.TooMany) ↔ A) → (r ≡ reply.TooMany) ↔ (IsInsertion c × A)
+  too_many old new c r step inserted = (
+    λ is. let alone = insertion_alone old new c (subst (λ s. Step q old c s new) is step) in (alone, (inserted alone).0 is),
+    λ both. (inserted both.0).1 both.1,
+  )
+
+-- ---- runs
+
+none_left : {A : Type 0} (xs ys all : List A) → xs ++ ys ≡ all → length ys ≡ 0 → xs ≡ all
+none_left xs ys all are none = grind (arith, common_steps)
+
+module _ {A C R : Type 0} (step : A → C → R → A → Type 0) where
+  abbrev Runs : A → List C → List R → A → Type 0
+  Runs = RunBy (λ old new. new ≡ old) step
+
+  -- whatever follows, the run goes on to it from here
+  abbrev pub RunsTo : A → List C → List R → A → Type 0
+  RunsTo old cs rs mid = (more : List C) (answers : List R) (last : A) → Runs mid more answers last → Runs old (cs ++ more) (rs ++ answers) last
+
+  -- one step more
+  pub run_more : (old mid new : A) (cs : List C) (rs : List R) (c : C) (r : R) → RunsTo old cs rs mid → step mid c r new → RunsTo old (cs ++ c ∷ []) (rs ++ r ∷ []) new
+  run_more old mid new cs rs c r runs one = λ more answers last run.
+      subst (λ (ds : List C). Runs old ds ((rs ++ r ∷ []) ++ answers) last) (sym (append_assoc cs (c ∷ []) more))
+      (subst (λ (ss : List R). Runs old (cs ++ c ∷ more) ss last) (sym (append_assoc rs (r ∷ []) answers))
+      (runs (c ∷ more) (r ∷ answers) last (new, one, run)))
+
+  -- at the end
+  run_done : (old new : A) (cs : List C) (rs : List R) → RunsTo old cs rs new → Runs old cs rs new
+  run_done old new cs rs runs =
+      subst (λ (ds : List C). Runs old ds rs new) (append-nil cs) (subst (λ (ss : List R). Runs old (cs ++ []) ss new) (append-nil rs) (runs [] [] new refl))
+
+  -- the same where commands come from a list of which none is left
+  pub run_whole : (old new : A) (cs rest all : List C) (rs : List R) → cs ++ rest ≡ all → length rest ≡ 0 → RunsTo old cs rs new → Runs old all rs new
+  run_whole old new cs rest all rs are none runs = subst (λ (ds : List C). Runs old ds rs new) (none_left cs rest all are none) (run_done old new cs rs runs)
+
+-- a run by such steps is one by steps of another kind over what a state shows, where each of them is one
+pub run_shown : {A B C R : Type 0} (show : A → B) (same : A → A → Type 0) (alike : B → B → Type 0) (step : A → C → R → A → Type 0) (other : B → C → R → B → Type 0)
+    → ((old new : A) → same old new → alike (show old) (show new)) → ((old : A) (c : C) (r : R) (new : A) → step old c r new → other (show old) c r (show new))
+    → (old : A) (cs : List C) (rs : List R) (new : A) → RunBy same step old cs rs new → RunBy alike other (show old) cs rs (show new)
+run_shown show same alike step other none each old [] [] new run = none old new run
+run_shown show same alike step other none each old (c ∷ cs) (r ∷ rs) new run =
+    (show run.0, each old c r run.0 run.1, run_shown show same alike step other none each run.0 cs rs new run.2)
+run_shown show same alike step other none each old [] (r ∷ rs) new run = run
+run_shown show same alike step other none each old (c ∷ cs) [] new run = run
+
+-- ---- trees
+
+-- what a run does to a tree, over the list of its elements
+pub run_listed : {T D E P S X : Type 0} (v : Boxes E) (o : Objects T E) (max reinserted : ℕ) (step : List T → Command T E P S X → Reply T E P S X → List T → Type 0)
+    (old : RTree T D E P S X) (cs : List (Command T E P S X)) (rs : List (Reply T E P S X)) (new : RTree T D E P S X)
+    → RunOfTree v o max reinserted step old cs rs new → RunBy IsPermutation step (elements_in old) cs rs (elements_in new)
+run_listed {T} {D} {E} {P} {S} {X} v o max reinserted step =
+    run_shown elements_in (λ (old new : RTree T D E P S X). new ≡ old) IsPermutation (StepOfTree v o max reinserted step) step
+    (λ old new same. IsPermutation-same (elements_in old) (elements_in new) (sym (ap elements_in same))) (λ old c r new one. one.answered)
+
+pub unchanged : {T D E P S X : Type 0} (old new : RTree T D E P S X) → new ≡ old → IsUnchanged old new
+unchanged {T} {D} {E} {P} {S} {X} old new e = subst (λ (tree : RTree T D E P S X). IsUnchanged old tree) (sym e) (record { shown = refl; size = refl; elements = refl; envelopes = refl })

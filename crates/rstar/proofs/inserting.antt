@@ -1,0 +1,4 @@
+-- Insertion, forced reinsertion and splits.
+pub mod Insertion
+pub mod Reinsertion
+pub mod Cuts

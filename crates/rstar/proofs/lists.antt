@@ -1,0 +1,3 @@
+-- Lists, whatever they hold.
+pub mod Items
+pub mod Tails

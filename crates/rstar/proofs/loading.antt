@@ -1,0 +1,4 @@
+-- Bulk loads.
+pub mod Depths
+pub mod Loads
+pub mod LoadedTrees

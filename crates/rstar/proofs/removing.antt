@@ -1,0 +1,11 @@
+-- Removals, drains, and trees that are taken apart.
+pub mod Parts
+pub mod Scans
+pub mod Earliest
+pub mod TakenAt
+pub mod Gathered
+pub mod Removed
+pub mod DrainSteps
+pub mod TakenApart
+pub mod Popped
+pub mod PoppedByOrder

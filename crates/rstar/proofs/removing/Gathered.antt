@@ -1,0 +1,304 @@
+-- One pass that moves selected elements out of a tree.
+use Rattle.std.proofs.Common.{◌≡◌, ◌≢◌, ℕ, ℤ, suc, ◌+◌, ◌-◌, ◌<◌, ◌≤◌, inl, inr, Bool, true, false, List, [], ◌∷◌, ◌++◌, refl, sym, ◌∙◌, ap, subst, arith, length, get_or, set, append_assoc, append-nil, length-append, length-set, get_or-set_same, get_or-set_other, IsPermutation}
+use Rattle.std.specs.List.{AllByRecursion, remove, swap_remove}
+use Rattle.std.proofs.lemmas.List.Sorted.{IsPermutation-refl, IsPermutation-sym, IsPermutation-trans, IsPermutation-append_left, IsPermutation-append_right, IsPermutation-remove, IsPermutation-swap_remove, length_permutation}
+use Rattle.std.proofs.lemmas.Bool.Decides.{eqb_tells}
+use Rattle.rstar_base.specs.Envelopes.{Boxes, EnvelopeLaws}
+use Rattle.rstar_base.specs.Elements.{Objects, ObjectLaws}
+use Rattle.rstar_base.specs.Selections.{IsLawful}
+use Rattle.rstar_base.proofs.Along.{IsPermutation-flat_map}
+use Rattle.rstar_base.proofs.Hulls.{hull_along}
+use Rattle.rstar_base.proofs.Lists.{all-append, all_along}
+use Rattle.rstar.specs.declared.node.RTreeNode.{RTreeNode, Leaf, Parent}
+use Rattle.rstar.specs.declared.node.ParentNode.{ParentNode}
+use Rattle.rstar.specs.declared.rtree.RTree.{RTree}
+use Rattle.rstar.specs.Nodes.{children_of, elements, all_elements}
+use Rattle.rstar.specs.inside.ParentBounds.{IsKept, AreKept}
+use Rattle.rstar.specs.Lists.{NoneSelected}
+use Rattle.rstar.specs.Trees.{root_of, IsWholeTree}
+use Rattle.rstar.specs.inside.Taking.{is_selected_leaf, is_childless}
+use Rattle.rstar.specs.inside.Gathering.{Gathers, GathersAmong, GathersInside, IsSwappedOut}
+use Rattle.rstar.proofs.inserting.Insertion.{whole_of_kept}
+use Rattle.rstar.proofs.removing.Parts.{remove_set, same_read}
+use Rattle.rstar.proofs.lists.Items.{all_set, all_get}
+use Rattle.rstar.proofs.removing.Removed.{kept_of, whole_still}
+use Rattle.rstar.proofs.trees.ByChildren.{elements-Leaf, elements-Parent}
+use Rattle.rstar.proofs.removing.Scans.{IsKeptNode, node_none, no_elements, children_leaf, below_then, whole_again, refused, kept_still}
+use Rattle.rstar.proofs.trees.Trees.{all_sound, values-of, merged_is_hull}
+
+-- ---- lists of elements
+
+module _ {T : Type 0} (selects : T → Bool) (most : ℕ) where
+  pub moved_none : (old held new : List T) → IsPermutation old new → Gathers selects most old held new held
+  moved_none old held new same = record { more = []; held_more = sym (append-nil held); bag = same; selected = tt; few = λ few. few }
+
+  pub moved_one : (old held new : List T) (t : T) → selects t ≡ true → length held < most → IsPermutation old (t ∷ new) → Gathers selects most old held new (held ++ t ∷ [])
+  moved_one old held new t chosen less same = record {
+    more = t ∷ [];
+    held_more = refl;
+    bag = same;
+    selected = (chosen, tt);
+    few = λ few. let long = length-append held (t ∷ []) in omega arith;
+  }
+
+  pub moved_on : (old held mid held' new held'' : List T) → Gathers selects most old held mid held' → Gathers selects most mid held' new held'' → Gathers selects most old held new held''
+  moved_on old held mid held' new held'' f g = record {
+    more = f.more ++ g.more;
+    held_more = g.held_more ∙ ap (λ l. l ++ g.more) f.held_more ∙ append_assoc held f.more g.more;
+    bag = subst (IsPermutation old) (sym (append_assoc f.more g.more new)) (IsPermutation-trans _ _ _ f.bag (IsPermutation-append_right f.more mid (g.more ++ new) g.bag));
+    selected = all-append (λ x. selects x ≡ true) f.more g.more f.selected g.selected;
+    few = λ few. g.few (f.few few);
+  }
+
+  -- out of a part of a list
+  pub moved_part : (part part' rest old new held held' : List T) → Gathers selects most part held part' held' → IsPermutation old (part ++ rest) → IsPermutation (part' ++ rest) new → Gathers selects most old held new held'
+  moved_part part part' rest old new held held' f before after = record {
+    more = f.more;
+    held_more = f.held_more;
+    bag = IsPermutation-trans _ _ _ before (IsPermutation-trans _ _ _ (IsPermutation-append_left rest part (f.more ++ part') f.bag)
+        (subst (λ l. IsPermutation l (f.more ++ new)) (sym (append_assoc f.more part' rest)) (IsPermutation-append_right f.more (part' ++ rest) new after)));
+    selected = f.selected;
+    few = f.few;
+  }
+
+  pub held_longer : (old held new held' : List T) → Gathers selects most old held new held' → length held ≤ length held'
+  held_longer old held new held' f = let long = ap length f.held_more in let both = length-append held f.more in omega arith
+
+  -- none is lost
+  pub moved_count : (old held new held' : List T) → Gathers selects most old held new held' → length held + length old ≡ length held' + length new
+  moved_count old held new held' f =
+      let long = ap length f.held_more in let both = length-append held f.more in let bag = length_permutation _ _ f.bag in let all = length-append f.more new in omega arith
+
+  -- where the list did not grow, the elements stay
+  pub same_elements : (old held new held' : List T) → Gathers selects most old held new held' → length held' ≤ length held → IsPermutation old new
+  same_elements old held new held' f short = by_more f.more f.held_more f.bag where
+    by_more : (more : List T) → held' ≡ held ++ more → IsPermutation old (more ++ new) → IsPermutation old new
+    by_more [] e bag = bag
+    by_more (x ∷ more) e bag = let long = ap length e in let both = length-append held (x ∷ more) in absurd (omega arith)
+
+-- ---- lists of which the item at i went, and the last one took its place
+
+module _ {A : Type 0} where
+  -- by the lengths n and n' of the two
+  pub swapped_out : (xs ys : List A) (i n n' : ℕ) (x : A) → n ≡ length xs → n' ≡ length ys → i < n → x ≡ get_or xs i x → ys ≡ swap_remove xs i x → n' + 1 ≡ n
+      → ((d : A) → i + 1 < n → get_or ys i d ≡ get_or xs (n - 1) d) × ((k : ℕ) (d : A) → k ≢ i → k + 1 < n → get_or ys k d ≡ get_or xs k d) → IsSwappedOut xs i ys
+  swapped_out xs ys i n n' x many many' within here is long at =
+      let inside : i < length xs = omega (arith, many, within) in
+      record {
+        bag = λ y there. subst (λ (z : A). IsPermutation xs (z ∷ ys)) (same_read xs i x y inside here there) (subst (λ (l : List A). IsPermutation xs (x ∷ l)) (sym is) (IsPermutation-swap_remove xs i x inside here));
+        long = omega (arith, many, many', long);
+        last = λ d lt. subst (λ m. get_or ys i d ≡ get_or xs (m - 1) d) many (at.0 d (omega (arith, lt, many)));
+        others = λ k d other lt. at.1 k d other (omega (arith, lt, many));
+      }
+
+module _ {A : Type 0} (F : A → Type 0) where
+  -- what holds of the others, from some place on, holds of all that are left from there on
+  pub each_left : (xs : List A) (i : ℕ) (ys : List A) → IsSwappedOut xs i ys → (low : ℕ) → i < length xs → ((k : ℕ) (d : A) → low ≤ k → k ≢ i → k < length xs → F (get_or xs k d))
+      → (k : ℕ) (d : A) → low ≤ k → k < length ys → F (get_or ys k d)
+  each_left xs i ys out low within others k d on lt =
+      let long = out.long in
+      elim (eqb_tells k i) as (λ _. F (get_or ys k d)) [
+        | inl w ↦
+            let one = w.1 in
+            subst F (sym (ap (λ j. get_or ys j d) one ∙ out.last d (omega (arith, lt, long, one))))
+            (others (length xs - 1) d (omega (arith, on, lt, long)) (λ e. omega (arith, e, lt, long, one)) (omega (arith, within)))
+        | inr w ↦ subst F (sym (out.others k d w.1 (omega (arith, lt, long)))) (others k d on w.1 (omega (arith, lt, long)))
+      ]
+
+  pub all_at : (xs : List A) → ((k : ℕ) (d : A) → k < length xs → F (get_or xs k d)) → AllByRecursion F xs
+  all_at [] each = tt
+  all_at (x ∷ xs) each = (each 0 x (omega arith), all_at xs (λ k d lt. each (suc k) d (omega (arith, lt))))
+
+-- ---- lists of nodes
+
+module _ {T E : Type 0} where
+  -- the elements of one node, and of the others
+  elements_out : (ns : List (RTreeNode T E)) (i : ℕ) (n : RTreeNode T E) → i < length ns → n ≡ get_or ns i n → IsPermutation (all_elements ns) (elements n ++ all_elements (remove ns i))
+  elements_out ns i n within here = IsPermutation-flat_map elements ns (n ∷ remove ns i) (IsPermutation-remove ns i n within here)
+
+  elements_put : (ns : List (RTreeNode T E)) (i : ℕ) (n : RTreeNode T E) → i < length ns → IsPermutation (elements n ++ all_elements (remove ns i)) (all_elements (set ns i n))
+  elements_put ns i n within =
+      let long = length-set ns i n in
+      IsPermutation-sym _ _ (subst (λ (l : List (RTreeNode T E)). IsPermutation (all_elements (set ns i n)) (elements n ++ all_elements l)) (remove_set ns i n within)
+      (elements_out (set ns i n) i n (omega arith) (sym (get_or-set_same ns i n n within))))
+
+  elements_swapped : (ns : List (RTreeNode T E)) (i : ℕ) (n : RTreeNode T E) (ns' : List (RTreeNode T E)) → IsSwappedOut ns i ns' → n ≡ get_or ns i n → IsPermutation (all_elements ns) (elements n ++ all_elements ns')
+  elements_swapped ns i n ns' out here = IsPermutation-flat_map elements ns (n ∷ ns') (out.bag n here)
+
+  -- nothing is selected where nothing is in any node
+  none_each : (selects : T → Bool) (ns : List (RTreeNode T E)) → ((k : ℕ) (d : RTreeNode T E) → k < length ns → NoneSelected selects (elements (get_or ns k d))) → NoneSelected selects (all_elements ns)
+  none_each selects [] each = tt
+  none_each selects (n ∷ ns) each = all-append (λ t. selects t ≡ false) (elements n) (all_elements ns) (each 0 n (omega arith)) (none_each selects ns (λ k d lt. each (suc k) d (omega (arith, lt))))
+
+-- ---- the pass over a list
+
+module _ {T E : Type 0} (v : Boxes E) (o : Objects T E) (accepts : E → Bool) (selects : T → Bool) (most : ℕ) where
+  -- so far it went: the first nodes are left, and below the others nothing is selected where there is still room
+  pub record Gathering (old : List (RTreeNode T E)) (held : List T) (cur : List (RTreeNode T E)) (held' : List T) (left : ℕ) : Type 0 where
+    pub moved : Gathers selects most (all_elements old) held (all_elements cur) held'
+    pub shorter : length cur ≤ length old
+    pub within : left ≤ length cur
+    pub first : (k : ℕ) (d : RTreeNode T E) → k < left → get_or cur k d ≡ get_or old k d
+    pub kept : (w h : ℕ) → AreKept v o w h old → AreKept v o w h cur
+    pub passed : IsLawful v o accepts selects → length held' < most → (w h : ℕ) → AreKept v o w h old
+        → (k : ℕ) (d : RTreeNode T E) → left ≤ k → k < length cur → NoneSelected selects (elements (get_or cur k d))
+
+  pub gathering_begins : (ns : List (RTreeNode T E)) (held : List T) (left : ℕ) → left ≡ length ns → Gathering ns held ns held left
+  gathering_begins ns held left all = record {
+    moved = moved_none selects most (all_elements ns) held (all_elements ns) (IsPermutation-refl _);
+    shorter = omega arith;
+    within = omega arith;
+    first = λ k d lt. refl;
+    kept = λ w h k. k;
+    passed = λ lawful less w h kept k d on lt. absurd (omega (arith, all, on, lt));
+  }
+
+  module _ (old : List (RTreeNode T E)) (held : List T) (cur : List (RTreeNode T E)) (held' : List T) where
+    -- none is left, or there is no room
+    pub gathering_ends : (left : ℕ) → Gathering old held cur held' left → (length held' < most → left ≡ 0) → GathersAmong v o accepts selects most old held cur held'
+    gathering_ends left s over = record {
+      moved = s.moved;
+      shorter = s.shorter;
+      kept = s.kept;
+      ended = λ lawful less w h kept. let none = over less in none_each selects cur (λ k d lt. s.passed lawful less w h kept k d (omega (arith, none)) lt);
+    }
+
+    module _ (left i : ℕ) (s : Gathering old held cur held' left) (next : left ≡ suc i) where
+      here_within : i < length cur
+      here_within = let w = s.within in omega (arith, w, next)
+
+      here_kept : (w h : ℕ) (n : RTreeNode T E) → n ≡ get_or cur i n → AreKept v o w h old → IsKeptNode v o w h n
+      here_kept w h n here k = subst (IsKeptNode v o w h) (sym here) (all_get (IsKeptNode v o w h) cur i n here_within (s.kept w h k))
+
+      -- a selected leaf goes
+      pub takes_leaf : (t : T) (cur' : List (RTreeNode T E)) → Leaf t ≡ get_or cur i (Leaf t) → selects t ≡ true → length held' < most → IsSwappedOut cur i cur'
+          → Gathering old held cur' (held' ++ t ∷ []) i
+      takes_leaf t cur' here chosen room out =
+          let long = out.long in let short = s.shorter in let within = here_within in let grown = length-append held' (t ∷ []) in
+          record {
+            moved = moved_on selects most _ _ _ _ _ _ s.moved (moved_one selects most (all_elements cur) held' (all_elements cur') t chosen room
+                (subst (λ (l : List T). IsPermutation (all_elements cur) (l ++ all_elements cur')) (elements-Leaf T E t) (elements_swapped cur i (Leaf t) cur' out here)));
+            shorter = omega arith;
+            within = omega arith;
+            first = λ k d lt. out.others k d (λ e. omega (arith, e, lt)) (omega (arith, lt, within)) ∙ s.first k d (omega (arith, lt, next));
+            kept = λ w h k. (all_along (IsKeptNode v o w h) cur (Leaf t ∷ cur') (out.bag (Leaf t) here) (s.kept w h k)).1;
+            passed = λ lawful less w h kept. each_left (λ n. NoneSelected selects (elements n)) cur i cur' out i within
+                (λ k d on other lt. s.passed lawful (omega (arith, less, grown)) w h kept k d (omega (arith, on, other, next)) lt);
+          }
+
+      module _ (n n' : RTreeNode T E) (held'' : List T) (here : n ≡ get_or cur i n) (ins : GathersInside v o accepts selects most n held' n' held'') (leaf : is_selected_leaf selects n ≡ false) where
+        moved_inside : Gathers selects most (all_elements old) held (all_elements (set cur i n')) held''
+        moved_inside = moved_on selects most _ _ _ _ _ _ s.moved
+            (moved_part selects most (elements n) (elements n') (all_elements (remove cur i)) (all_elements cur) (all_elements (set cur i n')) held' held'' ins.moved (elements_out cur i n here_within here) (elements_put cur i n' here_within))
+
+        less_before : length held'' < most → length held' < most
+        less_before less = let grown = held_longer selects most _ _ _ _ ins.moved in omega (arith, less, grown)
+
+        others_passed : IsLawful v o accepts selects → length held'' < most → (w h : ℕ) → AreKept v o w h old
+            → (k : ℕ) (d : RTreeNode T E) → i ≤ k → k ≢ i → k < length (set cur i n') → NoneSelected selects (elements (get_or (set cur i n') k d))
+        others_passed lawful less w h kept k d on other lt =
+            let long = length-set cur i n' in
+            subst (λ (x : RTreeNode T E). NoneSelected selects (elements x)) (sym (get_or-set_other cur i k n' d other))
+            (s.passed lawful (less_before less) w h kept k d (omega (arith, on, other, next)) (omega (arith, lt, long)))
+
+        -- it stays, without what went
+        pub goes_inside : is_childless n' ≡ false → Gathering old held (set cur i n') held'' i
+        goes_inside has =
+            let long = length-set cur i n' in let short = s.shorter in let within = here_within in
+            record {
+              moved = moved_inside;
+              shorter = omega arith;
+              within = omega arith;
+              first = λ k d lt. get_or-set_other cur i k n' d (λ e. omega (arith, e, lt)) ∙ s.first k d (omega (arith, lt, next));
+              kept = λ w h k. all_set (IsKeptNode v o w h) cur i n' (s.kept w h k) (ins.kept w h (here_kept w h n here k) has);
+              passed = λ lawful less w h kept k d on lt. elim (eqb_tells k i) as (λ _. NoneSelected selects (elements (get_or (set cur i n') k d))) [
+                | inl w' ↦
+                    subst (λ (x : RTreeNode T E). NoneSelected selects (elements x)) (sym (ap (λ j. get_or (set cur i n') j d) w'.1 ∙ get_or-set_same cur i n' d within))
+                    (ins.ended lawful leaf less w h (here_kept w h n here kept))
+                | inr w' ↦ others_passed lawful less w h kept k d on w'.1 lt
+              ];
+            }
+
+        -- it lost its last child, and goes too
+        pub drops_childless : is_childless n' ≡ true → (cur' : List (RTreeNode T E)) → IsSwappedOut (set cur i n') i cur' → Gathering old held cur' held'' i
+        drops_childless empty cur' out =
+            let long = length-set cur i n' in let short = s.shorter in let within = here_within in let less_one = out.long in
+            record {
+              moved = moved_on selects most _ _ _ _ _ _ moved_inside (moved_none selects most (all_elements (set cur i n')) held'' (all_elements cur')
+                  (subst (λ (l : List T). IsPermutation (all_elements (set cur i n')) (l ++ all_elements cur')) (no_elements n' empty)
+                  (elements_swapped (set cur i n') i n' cur' out (sym (get_or-set_same cur i n' n' within)))));
+              shorter = omega arith;
+              within = omega arith;
+              first = λ k d lt. out.others k d (λ e. omega (arith, e, lt)) (omega (arith, lt, within, long)) ∙ get_or-set_other cur i k n' d (λ e. omega (arith, e, lt)) ∙ s.first k d (omega (arith, lt, next));
+              kept = λ w h k. all_at (IsKeptNode v o w h) cur' (λ j d lt. each_left (IsKeptNode v o w h) (set cur i n') i cur' out 0 (omega (arith, within, long))
+                  (λ l e on other lt'. subst (IsKeptNode v o w h) (sym (get_or-set_other cur i l n' e other)) (all_get (IsKeptNode v o w h) cur l e (omega (arith, lt', long)) (s.kept w h k))) j d (omega arith) lt);
+              passed = λ lawful less w h kept. each_left (λ x. NoneSelected selects (elements x)) (set cur i n') i cur' out i (omega (arith, within, long)) (others_passed lawful less w h kept);
+            }
+
+  -- ---- below one node
+
+  pub leaf_stays : (n : RTreeNode T E) (t : T) (held : List T) → n ≡ Leaf t → GathersInside v o accepts selects most n held n held
+  leaf_stays n t held is = record {
+    moved = moved_none selects most (elements n) held (elements n) (IsPermutation-refl _);
+    kept = λ w h k has. k;
+    ended = λ lawful leaf less w h k. node_none selects n leaf (subst (λ (ns : List (RTreeNode T E)). NoneSelected selects (all_elements ns)) (sym (children_leaf n t is)) tt);
+  }
+
+  -- a parent that is opened
+  pub opened : (p q : ParentNode T E) (held held' : List T) → GathersAmong v o accepts selects most p.children.items held q.children.items held'
+      → ((w h : ℕ) → IsKept v o w p → AreKept v o w h p.children.items → IsKept v o w q) → GathersInside v o accepts selects most (Parent p) held (Parent q) held'
+  opened p q held held' among kept = record {
+    moved = rw (elements-Parent p, elements-Parent q) among.moved;
+    kept = λ w h k has. whole_again v o w h p q (λ h' a b. (kept w h' a b, among.kept w h' b)) k has;
+    ended = λ lawful leaf less w h k. rw (elements-Parent q)
+        (below_then v o w (NoneSelected selects (all_elements q.children.items)) h p k (λ h' a b. among.ended lawful less w h' b));
+  }
+
+  -- a parent that is not opened
+  pub not_opened : {IsPoint : List ℤ → Type 0} (laws : EnvelopeLaws IsPoint v) (ok : ObjectLaws v o) (p : ParentNode T E) (held : List T) → accepts p.envelope ≡ false
+      → GathersInside v o accepts selects most (Parent p) held (Parent p) held
+  not_opened laws ok p held no_entry = record {
+    moved = moved_none selects most _ held _ (IsPermutation-refl _);
+    kept = λ w h k has. k;
+    ended = λ lawful leaf less w h k. rw (elements-Parent p)
+        (below_then v o w (NoneSelected selects (all_elements p.children.items)) h p k (λ h' a b. refused laws ok accepts selects lawful h' p a.tight (whole_of_kept laws ok w h' p.children.items b) no_entry));
+  }
+
+-- a parent below which nothing went is kept
+module _ {T E : Type 0} {IsPoint : List ℤ → Type 0} {v : Boxes E} {o : Objects T E} (laws : EnvelopeLaws IsPoint v) (ok : ObjectLaws v o) (w : ℕ) where
+  pub kept_alike : (h : ℕ) (p q : ParentNode T E) → IsKept v o w p → AreKept v o w h p.children.items → AreKept v o w h q.children.items
+      → length q.children.items ≤ length p.children.items → q.envelope ≡ p.envelope
+      → IsPermutation (all_elements p.children.items) (all_elements q.children.items) → IsKept v o w q
+  kept_alike h p q kept before below short stayed bag =
+      let whole = whole_of_kept laws ok w h p.children.items before in
+      kept_still laws ok w h p q kept before below short stayed
+      (merged_is_hull laws ok h q.children.items (whole_of_kept laws ok w h q.children.items below)
+      ∙ sym (hull_along laws o.box_of _ _ bag (values-of laws ok _ (all_sound v o h p.children.items whole))).0 ∙ sym (merged_is_hull laws ok h p.children.items whole))
+
+-- ---- a tree, below whose root some went
+
+module _ {T E : Type 0} {IsPoint : List ℤ → Type 0} {v : Boxes E} {o : Objects T E} (laws : EnvelopeLaws IsPoint v) (ok : ObjectLaws v o) (max : ℕ)
+    (accepts : E → Bool) (selects : T → Bool) (most : ℕ) {D P S X : Type 0} (old : RTree T D E P S X) (new : ParentNode T E) (held held' : List T) (whole : IsWholeTree v o max old)
+    (some : children_of (root_of old) ≢ []) (among : GathersAmong v o accepts selects most (children_of (root_of old)) held (children_of new) held') where
+  pub none_ended : IsLawful v o accepts selects → length held' < most → NoneSelected selects (all_elements (children_of new))
+  none_ended lawful room = let before = kept_of laws ok max old whole some in among.ended lawful room old.widest before.0 before.2
+
+  -- len and before are how many are held then, and were before
+  module _ (len before : ℕ) (then : len ≡ length held') (first : before ≡ length held) where
+    pub fewer_gone : len - before ≤ old.size
+    unfolding IsWholeTree
+    fewer_gone =
+        let all = whole.counted in let same = moved_count selects most _ _ _ _ among.moved in omega arith
+
+    pub whole_left : (tree : RTree T D E P S X) → root_of tree ≡ new → ((w h : ℕ) → IsKept v o w (root_of old) → AreKept v o w h (children_of (root_of old)) → IsKept v o w new)
+        → tree.widest ≡ old.widest → tree.spares.items ≡ old.spares.items → tree.overfull.items ≡ old.overfull.items → tree.size ≡ old.size - (len - before)
+        → (children_of new ≡ [] → tree.levels ≡ 0) → (children_of new ≢ [] → tree.levels ≡ old.levels) → IsWholeTree v o max tree
+    unfolding IsWholeTree
+    whole_left tree root kept same_widest same_spares same_overfull less none_left some_left =
+        let k = kept_of laws ok max old whole some in
+        let all = whole.counted in let same = moved_count selects most _ _ _ _ among.moved in let grown = held_longer selects most _ _ _ _ among.moved in
+        let left : tree.size ≡ length (all_elements (children_of new)) = omega arith in
+        whole_still laws ok max old tree whole some k.0 k.2 (subst (IsKept v o old.widest) (sym root) (kept old.widest k.0 k.1 k.2))
+        (subst (λ (p : ParentNode T E). AreKept v o old.widest k.0 (children_of p)) (sym root) (among.kept old.widest k.0 k.2))
+        same_widest same_spares same_overfull (left ∙ ap (λ (p : ParentNode T E). length (all_elements (children_of p))) (sym root))
+        (λ none. none_left (ap children_of (sym root) ∙ none)) (λ some. some_left (λ none. some (ap children_of root ∙ none)))

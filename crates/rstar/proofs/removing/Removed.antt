@@ -1,0 +1,172 @@
+-- What a removal leaves of a tree.
+use Rattle.std.proofs.Common.{◌≡◌, ◌≢◌, ℕ, ℤ, ◌+◌, ◌<◌, ◌^◌, Bool, true, false, List, [], ◌∷◌, ◌++◌, refl, sym, ◌∙◌, ap, subst, arith, length, length-append, Option, Some, None, IfSome, IfNone, is_some, IsPermutation, filter, if◌then◌else◌, ◌||◌}
+use Rattle.std.specs.Borrow.{Bor}
+use Rattle.std.specs.List.{list_any}
+use Rattle.std.proofs.lemmas.List.Sorted.{IsPermutation-middle}
+use Rattle.rstar_base.specs.Envelopes.{Boxes, EnvelopeLaws}
+use Rattle.rstar_base.specs.Elements.{Objects, ObjectLaws}
+use Rattle.rstar_base.specs.Selections.{IsLawful}
+use Rattle.rstar.specs.declared.algorithm.removal.Rest.{Rest}
+use Rattle.rstar.specs.declared.node.ParentNode.{ParentNode}
+use Rattle.rstar.specs.declared.node.RTreeNode.{RTreeNode}
+use Rattle.rstar.specs.declared.rtree.RTree.{RTree}
+use Rattle.rstar.specs.Nodes.{children_of, IsElement}
+use Rattle.rstar.specs.inside.ParentBounds.{IsKept, IsKeptInner, AreKept}
+use Rattle.rstar.specs.Trees.{root_of, elements_in, IsWholeTree}
+use Rattle.rstar.specs.Heights.{levels_below}
+use Rattle.rstar.specs.Lists.{NoneSelected}
+use Rattle.rstar.specs.inside.Removals.{IsWithout}
+use Rattle.rstar.specs.Visits.{IsOneOf}
+use Rattle.rstar.specs.inside.Taking.{IsPast, IsRestAt, Takes, Removes}
+use Rattle.rstar.proofs.trees.Heights.{levels_are}
+use Rattle.rstar.proofs.inserting.Insertion.{whole_of_kept}
+use Rattle.rstar.proofs.trees.WholeTrees.{all_kept, tree_kept, narrow_of}
+use Rattle.rstar.proofs.removing.Scans.{if_none, refused}
+
+pub one_less : {T : Type 0} (xs ys : List T) (r : Option T) → is_some r ≡ true → IsWithout xs r ys → length xs ≡ length ys + 1
+one_less xs ys None some out = cc
+one_less xs ys (Some x) some out =
+    let e1 = ap length out.was in let e2 = ap length out.is in let e3 = length-append out.before (x ∷ out.after) in let e4 = length-append out.before out.after in omega arith
+
+pub none_less : {T : Type 0} (xs ys : List T) (r : Option T) → is_some r ≡ false → IsWithout xs r ys → length ys ≡ length xs
+none_less xs ys None none out = ap length out
+none_less xs ys (Some x) none out = cc
+
+-- what is counted goes down by one
+pub counted_down : {T : Type 0} (xs ys : List T) (n m : ℕ) (r : Option T) → n ≡ length xs → m ≡ length ys → IsWithout xs r ys → IfSome r (λ x. n ≡ m + 1)
+counted_down xs ys n m None old new out = tt
+counted_down xs ys n m (Some x) old new out = let e = one_less xs ys (Some x) refl out in omega arith
+
+-- as bags
+pub bag_without : {T : Type 0} (xs ys : List T) (r : Option T) → IsWithout xs r ys → IfSome r (λ x. IsPermutation xs (x ∷ ys))
+bag_without xs ys None out = tt
+bag_without xs ys (Some x) out =
+    subst (λ (l : List _). IsPermutation l (x ∷ ys)) (sym out.was)
+    (subst (λ (l : List _). IsPermutation (out.before ++ x ∷ out.after) (x ∷ l)) (sym out.is) (IsPermutation-middle out.before x out.after))
+
+module _ {T E : Type 0} (v : Boxes E) (o : Objects T E) where
+  -- the levels of what is left of a list: those that there were, or none
+  levels_left : (w h : ℕ) (old new : List (RTreeNode T E)) (levels levels' : ℕ) → levels ≡ levels_below old → old ≢ [] → AreKept v o w h old → AreKept v o w h new
+      → (new ≡ [] → levels' ≡ 0) → (new ≢ [] → levels' ≡ levels) → levels' ≡ levels_below new
+  levels_left w h old [] levels levels' is some k k' none_left some_left = none_left refl
+  levels_left w h old (n ∷ ns) levels levels' is some k k' none_left some_left =
+      some_left (λ none. cc) ∙ is ∙ levels_kept h old some k ∙ sym (levels_kept h (n ∷ ns) (λ none. cc) k') where
+        levels_kept : (h : ℕ) (l : List (RTreeNode T E)) → l ≢ [] → AreKept v o w h l → levels_below l ≡ h
+        levels_kept h l full kept = levels_are (IsKeptInner v o w) (IsElement v o) (λ q one none. let long = ap length none in absurd (omega (arith, long, one.1))) h l full kept
+
+  low_left : (ns : List (RTreeNode T E)) (levels levels' : ℕ) → levels < 2 ^ 64 → (ns ≡ [] → levels' ≡ 0) → (ns ≢ [] → levels' ≡ levels) → levels' < 2 ^ 64
+  low_left [] levels levels' low none_left some_left = let e = none_left refl in omega arith
+  low_left (n ∷ ns) levels levels' low none_left some_left = let e = some_left (λ none. cc) in omega arith
+
+module _ {T D E : Type 0} where
+  -- where the root is as it was, so is the tree
+  pub same_tree : {P S X : Type 0} (tree : RTree T D E P S X) (root : ParentNode T E) (r : Option T) → IfNone r (root ≡ tree.root)
+      → IfNone r (record { root = root; size = tree.size; levels = tree.levels; widest = tree.widest; spares = tree.spares; overfull = tree.overfull; params = tree.params } ≡ tree)
+  same_tree tree root None e = ap (λ (p : ParentNode T E). record { root = p; size = tree.size; levels = tree.levels; widest = tree.widest; spares = tree.spares; overfull = tree.overfull; params = tree.params }) e
+  same_tree tree root (Some x) e = tt
+
+module _ {T E : Type 0} {IsPoint : List ℤ → Type 0} {v : Boxes E} {o : Objects T E} (laws : EnvelopeLaws IsPoint v) (ok : ObjectLaws v o) (max : ℕ) {D P S X : Type 0} where
+  -- the root of a whole tree with children, and what is below it, are kept
+  pub kept_of : (tree : RTree T D E P S X) → IsWholeTree v o max tree → children_of (root_of tree) ≢ []
+      → (h : ℕ) × IsKept v o tree.widest (root_of tree) × AreKept v o tree.widest h (children_of (root_of tree))
+  unfolding IsWholeTree
+  kept_of tree whole some =
+      let h = whole.root_whole.height in (
+        h,
+        record { tight = whole.root_whole.tight; narrow = whole.narrow },
+        all_kept v o tree.widest h (tree_kept v o tree.widest h) (children_of (root_of tree)) whole.root_whole.below whole.narrow_below,
+      )
+
+  -- where they still are, the tree is whole
+  pub whole_still : (old new : RTree T D E P S X) → IsWholeTree v o max old → children_of (root_of old) ≢ [] → (h : ℕ) → AreKept v o old.widest h (children_of (root_of old))
+      → IsKept v o old.widest (root_of new) → AreKept v o old.widest h (children_of (root_of new))
+      → new.widest ≡ old.widest → new.spares.items ≡ old.spares.items → new.overfull.items ≡ old.overfull.items → new.size ≡ length (elements_in new)
+      → (children_of (root_of new) ≡ [] → new.levels ≡ 0) → (children_of (root_of new) ≢ [] → new.levels ≡ old.levels)
+      → IsWholeTree v o max new
+  unfolding IsWholeTree
+  whole_still old new whole some h below root' below' same_widest same_spares same_overfull counted none_left some_left = record {
+    root_whole = record { height = h; tight = root'.tight; below = whole_of_kept laws ok old.widest h (children_of (root_of new)) below' };
+    counted = counted;
+    leveled = levels_left v o old.widest h (children_of (root_of old)) (children_of (root_of new)) old.levels new.levels whole.leveled some below below' none_left some_left;
+    low = low_left v o (children_of (root_of new)) old.levels new.levels whole.low none_left some_left;
+    wide = rw same_widest whole.wide;
+    wide_fits = rw same_widest whole.wide_fits;
+    narrow = rw same_widest root'.narrow;
+    narrow_below = rw same_widest (narrow_of v o old.widest h (children_of (root_of new)) below');
+    spares = rw (same_widest, same_spares) whole.spares;
+    none_over = same_overfull ∙ whole.none_over;
+  }
+
+module _ {T E : Type 0} {IsPoint : List ℤ → Type 0} {v : Boxes E} {o : Objects T E} (laws : EnvelopeLaws IsPoint v) (ok : ObjectLaws v o) (max : ℕ)
+    (accepts : E → Bool) (selects : T → Bool) {D P S X : Type 0} where
+  -- a removal below a root with children
+  pub removes : (old new : RTree T D E P S X) (path path' : List ℕ) (rest rest' : Option (Rest E)) (r : Option T) → IsWholeTree v o max old → children_of (root_of old) ≢ []
+      → Takes v o accepts selects (children_of (root_of old)) path rest r (children_of (root_of new)) path' rest'
+      → ((w h : ℕ) → IsKept v o w (root_of old) → AreKept v o w h (children_of (root_of old)) → IsRestAt v o rest path (children_of (root_of old)) → IsKept v o w (root_of new))
+      → IfNone r (new ≡ old)
+      → new.widest ≡ old.widest → new.spares.items ≡ old.spares.items → new.overfull.items ≡ old.overfull.items → new.size ≡ length (elements_in new)
+      → (children_of (root_of new) ≡ [] → new.levels ≡ 0) → (children_of (root_of new) ≢ [] → new.levels ≡ old.levels)
+      → Removes v o max accepts selects old path rest r new path' rest'
+  removes old new path path' rest rest' r whole some takes kept same same_widest same_spares same_overfull counted none_left some_left =
+      let before = kept_of laws ok max old whole some in
+      let h = before.0 in
+      let below = before.2 in
+      record {
+        whole = λ at. whole_still laws ok max old new whole some h below (kept old.widest h before.1 below at) (takes.whole old.widest h below at)
+            same_widest same_spares same_overfull counted none_left some_left;
+        rests = λ at. takes.rests old.widest h below at;
+        taken = takes.taken;
+        selected = takes.selected;
+        kept = same;
+        past = λ lawful past. takes.past lawful old.widest h below past;
+        missed = if_none r (λ (missed : IsLawful v o accepts selects → (w h : ℕ) → AreKept v o w h (children_of (root_of old)) → IsPast selects path (children_of (root_of old)) → NoneSelected selects (elements_in old)).
+            λ lawful past. missed lawful old.widest h below past) takes.missed;
+      }
+
+  -- a root that is not opened, or that has no children
+  pub leaves : (tree : RTree T D E P S X) (path : List ℕ) (rest : Option (Rest E)) → IsWholeTree v o max tree → (IsLawful v o accepts selects → NoneSelected selects (elements_in tree))
+      → Removes v o max accepts selects tree path rest None tree path rest
+  leaves tree path rest whole none = record {
+    whole = λ at. whole;
+    rests = λ at. at;
+    taken = refl;
+    selected = tt;
+    kept = refl;
+    past = λ lawful past. past;
+    missed = λ lawful past. none lawful;
+  }
+
+  pub root_refused : (tree : RTree T D E P S X) → IsWholeTree v o max tree → accepts tree.root.envelope ≡ false → IsLawful v o accepts selects → NoneSelected selects (elements_in tree)
+  unfolding IsWholeTree
+  root_refused tree whole no_entry lawful = refused laws ok accepts selects lawful whole.root_whole.height tree.root whole.root_whole.tight whole.root_whole.below no_entry
+
+-- from the first element on, nothing lies left of the place
+pub none_from_start : {A : Type 0} (Lawful Nothing : Type 0) (r : Option A) → IfNone r (Lawful → Unit {0} → Nothing) → IfNone r (Lawful → Nothing)
+none_from_start Lawful Nothing r missed = if_none r (λ (f : Lawful → Unit {0} → Nothing). λ lawful. f lawful tt) missed
+
+-- what holds where a condition does
+pub none_when : {A : Type 0} (Lawful Nothing : Type 0) (r : Option A) → Lawful → IfNone r (Lawful → Nothing) → IfNone r Nothing
+none_when Lawful Nothing r lawful missed = if_none r (λ (f : Lawful → Nothing). f lawful) missed
+
+-- where a filter keeps nothing, none passes; where it keeps one, one does
+pub none_passes : {T : Type 0} (p : T → Bool) (ys : List T) → filter p ys ≡ [] → list_any p ys ≡ false
+none_passes p [] e = refl
+none_passes {T} p (y ∷ ys) e = by_test (p y) refl e (none_passes p ys) where
+  by_test : (b : Bool) → p y ≡ b → (if b then y ∷ filter p ys else filter p ys) ≡ [] → (filter p ys ≡ [] → list_any p ys ≡ false) → (p y || list_any p ys) ≡ false
+  by_test true is f rest = cc
+  by_test false is f rest = ap (λ b. b || list_any p ys) is ∙ rest f
+
+pub one_passes : {T : Type 0} (p : T → Bool) (ys : List T) (z : T) (zs : List T) → filter p ys ≡ z ∷ zs → list_any p ys ≡ true
+one_passes p [] z zs e = cc
+one_passes {T} p (y ∷ ys) z zs e = by_test (p y) refl e (one_passes p ys z zs) where
+  by_test : (b : Bool) → p y ≡ b → (if b then y ∷ filter p ys else filter p ys) ≡ z ∷ zs → (filter p ys ≡ z ∷ zs → list_any p ys ≡ true) → (p y || list_any p ys) ≡ true
+  by_test true is f rest = ap (λ b. b || list_any p ys) is
+  by_test false is f rest = ap (λ b. b || list_any p ys) is ∙ rest f
+
+pub any_one : {T : Type 0} (p : T → Bool) (ys : List T) (r : Option (Bor T)) → IsOneOf (filter p ys) r → is_some r ≡ list_any p ys
+any_one {T} p ys r one = by_list (filter p ys) refl r one where
+  by_list : (xs : List T) → filter p ys ≡ xs → (r : Option (Bor T)) → IsOneOf xs r → is_some r ≡ list_any p ys
+  by_list [] e None one = sym (none_passes p ys e)
+  by_list [] e (Some x) one = absurd (omega (arith, one.1))
+  by_list (z ∷ zs) e None one = cc
+  by_list (z ∷ zs) e (Some x) one = sym (one_passes p ys z zs e)

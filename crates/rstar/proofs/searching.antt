@@ -1,0 +1,13 @@
+-- Searches for neighbours.
+pub mod Nearness
+pub mod Searches
+pub mod SearchTurns
+pub mod Openings
+pub mod ByOrder
+pub mod Pruning
+pub mod Ties
+pub mod InOrder
+pub mod OneOrder
+pub mod Room
+pub mod Fits
+pub mod Few

@@ -1,0 +1,5 @@
+-- Selections, step by step and as a whole.
+pub mod Traversals
+pub mod Complete
+pub mod Chains
+pub mod Progress

@@ -1,0 +1,216 @@
+-- Each call that gives something leaves fewer.
+use Rattle.std.proofs.Common.{◌≡◌, ℕ, ℤ, ◌+◌, ◌-◌, ◌<◌, ◌≤◌, min, List, [], ◌∷◌, length, refl, ap, sym, ◌∙◌, subst, arith, Option, Some, None, Result, Ok, Err, IfSome, IfNone, IfOk, IfErr, OnSome, OnErr}
+use Rattle.std.specs.Borrow.{Bor}
+use Rattle.std.specs.Iterator.{size}
+use Rattle.std.proofs.lemmas.List.Sorted.{length_permutation}
+use Rattle.rstar_base.specs.Envelopes.{Boxes}
+use Rattle.std.specs.declared.cmp.Ordering.{Ordering}
+use Rattle.rstar_base.specs.Elements.{Objects, Distances}
+use Rattle.rstar_base.specs.SmallHeaps.{Held, items_of}
+use Rattle.rstar.specs.declared.node.RTreeNode.{RTreeNode, Parent}
+use Rattle.rstar.specs.declared.node.ParentNode.{ParentNode}
+use Rattle.rstar.specs.declared.algorithm.nearest_neighbor.search.Stage.{Stage}
+use Rattle.rstar.specs.declared.algorithm.nearest_neighbor.search.Stage.TheVariants.{Fresh, Running, Ended}
+use Rattle.rstar.specs.Nodes.{all_elements, all_parents, all_far, far_of, parents_of}
+use Rattle.rstar_base.specs.Counts.{usize_max}
+use Rattle.rstar_base.specs.Points.{table}
+use Rattle.rstar.specs.Neighbors.{Search, IsNeighbor, HasBegun, GivesNeighbor, shown}
+use Rattle.rstar.specs.inside.Searches.{NodeSearch, Item, waiting_nodes, waiting_at, calls_at, waiting_of, held_by, calls_left, IsUnrefused, CountsOpenings, IsRunning, IsReady, IsReadyAt}
+use Rattle.rstar.proofs.searching.Searches.{fresh-counted, all-far-fewer}
+
+module _ {T E S O : Type 0} where
+  many_at : (stage : Stage) (root : ParentNode T E) (ws : List (Item T E S O)) → IsUnrefused stage → calls_at stage root ws ≡ length (all_elements (waiting_at stage root ws)) + 1
+  many_at Fresh root ws h = refl
+  many_at Running root ws h = refl
+  many_at Ended root ws h = absurd h
+
+  many : (s : NodeSearch T E S O) → IsUnrefused s.stage → size (calls_left s) ≡ length (all_elements (waiting_of s)) + 1
+  many s = many_at s.stage s.root.now (held_by s)
+
+  none_at : (stage : Stage) (root : ParentNode T E) (ws : List (Item T E S O)) → stage ≡ Ended → calls_at stage root ws ≡ 0
+  none_at stage root ws e = ap (λ v. calls_at v root ws) e
+
+  module _ (v : Boxes E) (d : Distances T) (p : List ℤ) (s t : NodeSearch T E S O) where
+    -- a neighbour more
+    pub given-fewer : (x : T) → IsNeighbor v d p s.root.now (waiting_of s) (waiting_of t) x → t.stage ≡ Running → IsUnrefused s.stage → size (calls_left t) < size (calls_left s)
+    given-fewer x gives on going =
+        let before = many s going in
+        let after = many t (subst IsUnrefused (sym on) tt) in
+        let fewer = length_permutation _ _ gives.bag in
+        omega arith
+
+    -- a refusal
+    pub refused-fewer : t.stage ≡ Ended → IsUnrefused s.stage → size (calls_left t) < size (calls_left s)
+    refused-fewer ended going =
+        let before = many s going in
+        let after : size (calls_left t) ≡ 0 = none_at t.stage t.root.now (held_by t) ended in
+        omega (arith, before, after)
+
+-- until a refusal, the parents opened are those that do not wait
+counted-at : {T E S O : Type 0} (v : Boxes E) (d : Distances T) (p : List ℤ) (compare : S → S → Ordering) (ties : RTreeNode T E → RTreeNode T E → Ordering) (value : S → ℤ) (o : Objects T E) (stage : Stage) (root : ParentNode T E) (heap : Held (Item T E S O)) (opened : ℕ)
+    → IsReadyAt v d p compare ties value o stage root heap opened → IsUnrefused stage → CountsOpenings root (waiting_at stage root (items_of heap)) opened
+counted-at v d p compare ties value o Fresh root heap opened ready going = subst (CountsOpenings root (Parent root ∷ [])) (sym ready.2) (fresh-counted root)
+counted-at v d p compare ties value o Running root heap opened ready going = ready.counted
+counted-at v d p compare ties value o Ended root heap opened ready going = absurd going
+
+pub counted : {T E S O : Type 0} (v : Boxes E) (d : Distances T) (p : List ℤ) (compare : S → S → Ordering) (ties : RTreeNode T E → RTreeNode T E → Ordering) (value : S → ℤ) (o : Objects T E) (s : NodeSearch T E S O) → IsReady v d p compare ties value o s → IsUnrefused s.stage
+    → CountsOpenings s.root.now (waiting_of s) s.opened
+counted v d p compare ties value o s ready going = counted-at v d p compare ties value o s.stage s.root.now s.heap s.opened ready going
+
+-- the parents opened, and those farther than what was given, are no more than there are
+module _ {T E S O : Type 0} (v : Boxes E) (d : Distances T) (p : List ℤ) (compare : S → S → Ordering) (ties : RTreeNode T E → RTreeNode T E → Ordering) (value : S → ℤ) (o : Objects T E) (s t : NodeSearch T E S O)
+    (ready : IsReady v d p compare ties value o t) (same : t.root.now ≡ s.root.now) where
+  running : t.stage ≡ Running → IsRunning v d p compare ties value o t.root.now t.heap t.opened
+  running on = subst (λ stage. IsReadyAt v d p compare ties value o stage t.root.now t.heap t.opened) on ready
+
+  pub given-cost : (x : T) → IsNeighbor v d p s.root.now (waiting_of s) (waiting_of t) x → t.stage ≡ Running
+      → t.opened + far_of (λ e. v.distance_2 e p) (d.distance_2 x p) t.root.now ≤ parents_of t.root.now
+  given-cost x gives on =
+      let m = d.distance_2 x p in
+      let is = running on in
+      let waits : waiting_of t ≡ waiting_nodes (held_by t) = ap (λ stage. waiting_at stage t.root.now (held_by t)) on in
+      let still : all_far (λ e. v.distance_2 e p) m (waiting_nodes (held_by t)) ≡ far_of (λ e. v.distance_2 e p) m t.root.now =
+      ap (all_far (λ e. v.distance_2 e p) m) (sym waits) ∙ gives.still_far ∙ ap (far_of (λ e. v.distance_2 e p) m) (sym same) in
+      let few = all-far-fewer (λ e. v.distance_2 e p) m (waiting_nodes (held_by t)) in
+      let fewer = is.counted.fewer in
+      let counts = is.counted.counts in
+      omega (arith, still, few, fewer, counts)
+
+  pub cost : {A Z : Type 0} (element : A → T) (r : Option (Result A Z)) → IfSome r (λ x. IfOk x (λ y. IsNeighbor v d p s.root.now (waiting_of s) (waiting_of t) (element y)))
+      → IfSome r (λ x. IfOk x (λ _. t.stage ≡ Running)) → IfSome r (λ x. IfOk x (λ y. t.opened + far_of (λ e. v.distance_2 e p) (d.distance_2 (element y) p) t.root.now ≤ parents_of t.root.now))
+  cost element None gives on = tt
+  cost element (Some (Ok y)) gives on = given-cost (element y) gives on
+  cost element (Some (Err z)) gives on = tt
+
+pub goes_on : {A Z : Type 0} (stage : Stage) (r : Option (Result A Z)) → IfSome r (λ x. IfOk x (λ _. stage ≡ Running)) → IfSome r (λ x. IfOk x (λ _. IsUnrefused stage))
+goes_on stage None h = tt
+goes_on stage (Some (Ok x)) h = subst IsUnrefused (sym h) tt
+goes_on stage (Some (Err x)) h = tt
+
+pub goes_on_at_end : {A Z : Type 0} (old new : Stage) (r : Option (Result A Z)) → IfNone r (IsUnrefused old → new ≡ Running) → IfNone r (IsUnrefused old → IsUnrefused new)
+goes_on_at_end old new None h = λ going. subst IsUnrefused (sym (h going)) tt
+goes_on_at_end old new (Some x) h = tt
+
+pub ends : {A Z : Type 0} (stage : Stage) (r : Option (Result A Z)) → IfSome r (λ x. IfErr x (λ _. stage ≡ Ended)) → IfSome r (λ x. IfErr x (λ _. IsUnrefused stage → ⊥))
+ends stage None h = tt
+ends stage (Some (Ok x)) h = tt
+ends stage (Some (Err x)) h = λ going. subst IsUnrefused h going
+
+-- what a call gives leaves fewer
+pub fewer-left : {T E S O Z : Type 0} (v : Boxes E) (d : Distances T) (p : List ℤ) (s t : NodeSearch T E S O) (r : Option (Result (Bor T × S) Z)) → IfSome r (λ x. IfOk x (λ y. IsNeighbor v d p s.root.now (waiting_of s) (waiting_of t) y.0.now))
+    → IfSome r (λ x. IfOk x (λ _. t.stage ≡ Running)) → IfSome r (λ x. IfErr x (λ _. t.stage ≡ Ended)) → IfSome r (λ _. IsUnrefused s.stage) → OnSome r (size (calls_left t) < size (calls_left s))
+fewer-left v d p s t None gives on refused going = tt
+fewer-left v d p s t (Some (Ok y)) gives on refused going = given-fewer v d p s t y.0.now gives on going
+fewer-left v d p s t (Some (Err z)) gives on refused going = refused-fewer v d p s t refused going
+
+-- a search that was made has begun
+pub has-begun : {T E P S O : Type 0} (s : NodeSearch T E S O) (root : ParentNode T E) (point : P) → s.root.now ≡ root → s.stage ≡ Fresh → s.opened ≡ 0 → HasBegun root point (shown s point)
+has-begun {T} {E} {P} {S} s root point same fresh none = record {
+  root = same;
+  point = refl;
+  waiting = ap (λ stage. waiting_at stage s.root.now (held_by s)) fresh ∙ ap (λ (q : ParentNode T E). Parent q ∷ []) same;
+  opened = none;
+  going_on = subst IsUnrefused (sym fresh) tt;
+}
+
+-- what a call of a search gives, as what it shows
+module _ {T E P S O A Z : Type 0} (v : Boxes E) (d : Distances T) (axes : ℕ) (coord : P → ℕ → ℤ) (compare : S → S → Ordering) (ties : RTreeNode T E → RTreeNode T E → Ordering) (value : S → ℤ) (o : Objects T E)
+    (s t : NodeSearch T E S O) (point : P) (element : A → T) (r : Option (Result A Z)) where
+  pub gives-neighbor : t.root ≡ s.root → IsReady v d (table axes (coord point)) compare ties value o t → IfSome r (λ x. IfOk x (λ y. IsNeighbor v d (table axes (coord point)) s.root.now (waiting_of s) (waiting_of t) (element y)))
+      → IfNone r (IsUnrefused s.stage → all_elements (waiting_of s) ≡ []) → IfNone r (IsUnrefused s.stage → waiting_of t ≡ []) → IfNone r (IsUnrefused s.stage → t.stage ≡ Running)
+      → IfSome r (λ x. IfErr x (λ _. 0 < all_parents (waiting_of s))) → IfSome r (λ x. IfOk x (λ _. t.stage ≡ Running)) → IfSome r (λ x. IfErr x (λ _. t.stage ≡ Ended)) → IfSome r (λ _. IsUnrefused s.stage)
+      → ((IsUnrefused s.stage → ⊥) → IsUnrefused t.stage → ⊥) → GivesNeighbor v d axes coord element (shown s point) r (shown t point)
+  gives-neighbor same ready gives none over stays refused on last once ended =
+      let root : t.root.now ≡ s.root.now = ap (λ b. b.now) same in
+      let count = counted v d (table axes (coord point)) compare ties value o t ready in
+      record {
+        root = root;
+        point = refl;
+        gives = gives;
+        cost = cost v d (table axes (coord point)) compare ties value o s t ready root element r gives on;
+        none = none;
+        over = over;
+        goes_on_at_end = goes_on_at_end s.stage t.stage r stays;
+        refused = refused;
+        goes_on = goes_on t.stage r on;
+        ends = ends t.stage r last;
+        once = once;
+        stays_ended = ended;
+        opened = λ going. subst (λ (q : ParentNode T E). t.opened ≡ min (parents_of q - all_parents (waiting_of t)) usize_max) root (count going).counts;
+        fewer = λ going. subst (λ (q : ParentNode T E). all_parents (waiting_of t) ≤ parents_of q) root (count going).fewer;
+      }
+
+-- the same of an iterator that gives the elements alone
+module _ {T E P Z : Type 0} (v : Boxes E) (d : Distances T) (axes : ℕ) (coord : P → ℕ → ℤ) (old new : Search T E P) where
+  abbrev Gives : {A : Type 0} → (A → T) → Option (Result A Z) → Type 0
+  Gives element r = GivesNeighbor v d axes coord element old r new
+
+  pub given-ok : {S : Type 0} (y : Bor T × S) → Gives (λ x. x.0.now) (Some (Ok y)) → Gives (λ x. x.now) (Some (Ok y.0))
+  given-ok y told = record {
+    root = told.root;
+    point = told.point;
+    gives = told.gives;
+    cost = told.cost;
+    none = tt;
+    over = tt;
+    goes_on_at_end = tt;
+    refused = tt;
+    goes_on = told.goes_on;
+    ends = tt;
+    once = told.once;
+    stays_ended = told.stays_ended;
+    opened = told.opened;
+    fewer = told.fewer;
+  }
+
+  pub given-err : {S : Type 0} (z : Z) → Gives {A = Bor T × S} (λ x. x.0.now) (Some (Err z)) → Gives {A = Bor T} (λ x. x.now) (Some (Err z))
+  given-err z told = record {
+    root = told.root;
+    point = told.point;
+    gives = tt;
+    cost = tt;
+    none = tt;
+    over = tt;
+    goes_on_at_end = tt;
+    refused = told.refused;
+    goes_on = tt;
+    ends = told.ends;
+    once = told.once;
+    stays_ended = told.stays_ended;
+    opened = told.opened;
+    fewer = told.fewer;
+  }
+
+  pub given-none : {S : Type 0} → Gives {A = Bor T × S} (λ x. x.0.now) None → Gives {A = Bor T} (λ x. x.now) None
+  given-none told = record {
+    root = told.root;
+    point = told.point;
+    gives = tt;
+    cost = tt;
+    none = told.none;
+    over = told.over;
+    goes_on_at_end = told.goes_on_at_end;
+    refused = tt;
+    goes_on = tt;
+    ends = tt;
+    once = tt;
+    stays_ended = told.stays_ended;
+    opened = told.opened;
+    fewer = told.fewer;
+  }
+
+pub on-some : {A : Type 0} (P Q R : Type 0) (r : Option A) → P → Q → OnSome r R → OnSome r (P × Q × R)
+on-some P Q R None p q r = tt
+on-some P Q R (Some x) p q r = (p, q, r)
+
+pub if-none : {A : Type 0} (P : Type 0) (r : Option A) → P → IfNone r P
+if-none P None p = p
+if-none P (Some x) p = tt
+
+pub if-some : {A : Type 0} (P : Type 0) (r : Option A) → P → IfSome r (λ _. P)
+if-some P None p = tt
+if-some P (Some x) p = p
+
+pub on_err : {A Z : Type 0} (r : Result A Z) (P : Type 0) → P → OnErr r P
+on_err (Ok x) P p = tt
+on_err (Err x) P p = p

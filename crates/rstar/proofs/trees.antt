@@ -1,0 +1,7 @@
+-- Nodes and whole trees.
+pub mod ByChildren
+pub mod Trees
+pub mod Heights
+pub mod WholeTrees
+pub mod Clones
+pub mod Shown

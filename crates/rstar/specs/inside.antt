@@ -1,0 +1,16 @@
+-- Words that no public clause cites: what the private functions say of each other.
+pub mod ParentBounds
+pub mod Paths
+pub mod Traversals
+pub mod WaysDown
+pub mod Loads
+pub mod Removals
+pub mod Taking
+pub mod Earliest
+pub mod Gathering
+pub mod Searches
+pub mod Fits
+pub mod Pruned
+pub mod Few
+pub mod Ties
+pub mod PairWalks

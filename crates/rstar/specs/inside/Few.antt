@@ -1,0 +1,71 @@
+-- What a search for the first few elements keeps: those found so far, and the parents that wait.
+-- T is the element's type, E its envelope's, S its scalar's.
+use Rattle.std.specs.Prelude.{◌≡◌, ℕ, ◌<◌, ◌≤◌, ◌⊎◌, ℤ, pos, true, false, List, [], ◌∷◌, ◌++◌, length, map}
+use Rattle.std.specs.Borrow.{Bor}
+use Rattle.std.specs.List.{AllByRecursion, insert}
+use Rattle.std.specs.List.Sorted.{IsPermutation}
+use Rattle.std.specs.Ordering.{is_lt}
+use Rattle.std.specs.declared.cmp.Ordering.{Ordering}
+use Rattle.rstar_base.specs.Envelopes.{Boxes}
+use Rattle.rstar_base.specs.Elements.{Objects, Distances}
+use Rattle.rstar.specs.declared.node.RTreeNode.{RTreeNode, Parent}
+use Rattle.rstar.specs.declared.node.ParentNode.{ParentNode}
+use Rattle.rstar.specs.declared.algorithm.nearest_neighbor.waiting.Waiting.{Waiting}
+use Rattle.rstar.specs.Lists.{IsNotLater, AreFirstOf}
+use Rattle.rstar.specs.Nodes.{all_elements}
+use Rattle.rstar.specs.inside.Searches.{AreWholeNodes, distance_of}
+
+-- ---- a list of the greatest
+
+-- an item went into a list in which there was room for one more of so many
+pub record GoesIn {X : Type 0} (most : ℕ) (x : X) (old new : List X) : Type 0 where
+  pub room : length old < most
+  pub place : ℕ
+  pub is : new ≡ insert old place x
+
+-- it went into a full list, whose last item, which is less, went out
+pub record PushesOut {X : Type 0} (compare : X → X → Ordering) (most : ℕ) (x : X) (old new : List X) : Type 0 where
+  pub full : most ≤ length old
+  pub front : List X
+  pub last : X
+  pub was : old ≡ front ++ last ∷ []
+  pub less : is_lt (compare last x) ≡ true
+  pub place : ℕ
+  pub is : new ≡ insert front place x
+
+-- it did not go into a full list, whose last item is not less
+pub record StaysOut {X : Type 0} (compare : X → X → Ordering) (most : ℕ) (x : X) (old new : List X) : Type 0 where
+  pub full : most ≤ length old
+  pub not_less : (front : List X) (last : X) → old ≡ front ++ last ∷ [] → is_lt (compare last x) ≡ false
+  pub is : new ≡ old
+
+-- what becomes of a list of the greatest where one more item comes
+abbrev pub KeepsGreatest : {X : Type 0} → (X → X → Ordering) → ℕ → X → List X → List X → Type 0
+KeepsGreatest compare most x old new = GoesIn most x old new ⊎ (PushesOut compare most x old new ⊎ StaysOut compare most x old new)
+
+-- ---- the search
+
+-- an element that was found, lent at its distance; O says how ties are broken
+abbrev pub Found : (T S O : Type 0) → Type 0
+Found T S O = Waiting (Bor T) S O
+
+abbrev pub found_elements : {T S O : Type 0} → List (Found T S O) → List T
+found_elements ws = map (λ w. w.node.now) ws
+
+-- the parents that wait in a heap, as nodes
+abbrev pub waiting_parents : {T E S O : Type 0} → List (Waiting (Bor (ParentNode T E)) S O) → List (RTreeNode T E)
+waiting_parents ws = map (λ w. Parent w.node.now) ws
+
+-- each waits at its own distance
+abbrev pub WaitAtDistance : {T E S O : Type 0} → Boxes E → Distances T → List ℤ → (S → ℤ) → List (Waiting (Bor (ParentNode T E)) S O) → Type 0
+WaitAtDistance v d p value ws = AllByRecursion (λ w. value w.distance ≡ pos (distance_of v d p (Parent w.node.now))) ws
+
+-- all elements are those of the nodes that wait and those that were seen, of which the first so many, or all, are found
+pub record AreFoundSoFar {T E S O : Type 0} (v : Boxes E) (o : Objects T E) (d : Distances T) (p : List ℤ)
+    (compare : T → T → Ordering) (value : S → ℤ) (most : ℕ) (all : List T) (nodes : List (RTreeNode T E))
+    (found : List (Found T S O)) : Type 0 where
+  pub parts : AreWholeNodes v o nodes
+  pub seen : List T
+  pub bag : IsPermutation all (all_elements nodes ++ seen)
+  pub first : AreFirstOf (IsNotLater (λ t. d.distance_2 t p) compare) seen most (found_elements found)
+  pub at : AllByRecursion (λ w. value w.distance ≡ pos (d.distance_2 w.node.now p)) found
