@@ -10,7 +10,6 @@ pub use crate::algorithm::nearest_neighbor::{
 };
 pub use crate::iterators::drain::DrainIterator;
 pub use crate::iterators::into_iter::IntoIter;
-pub(crate) use crate::iterators::joins::Meets;
 pub use crate::iterators::joins::{InEnvelope, IntersectionIterator, SelfIntersectionIterator};
 pub use crate::iterators::selection::SelectionIterator;
 pub use crate::visits::{select_nodes, select_nodes_mut};

@@ -2,8 +2,8 @@
 #![tactic(auto)]
 
 pub mod algorithm;
+mod bounds;
 pub mod iterators;
-mod needs;
 pub mod node;
 pub mod params;
 mod path;

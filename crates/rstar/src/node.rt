@@ -5,7 +5,7 @@ ghost use Rattle.std.specs.Prelude.{◌≡◌};
 ghost use Rattle.rstar_base.specs.Hulls.{hull};
 ghost use Rattle.rstar.specs.Nodes.{node_box, is_leaf_node, children_of, envelope_of};
 
-use crate::needs::{Covered, Merges};
+use crate::bounds::{Covered, Merges};
 use rstar_base::envelope::Envelope;
 use rstar_base::object::{Distance, RTreeObject};
 

@@ -8,7 +8,7 @@ ghost use Rattle.rstar.specs.Nodes.{all_given, given_of, children_of, elements, 
 ghost use Rattle.rstar.specs.Shapes.{AreTrees, IsAny};
 ghost use Rattle.rstar.specs.Visits.{IsFirst, Visits, VisitsWithin, Writes, WritesWithin, KeepsBoxes, marked, all_marked};
 
-use crate::needs::{Covered, Question};
+use crate::bounds::{Covered, Question};
 use crate::node::{ParentNode, RTreeNode};
 use rstar_base::algorithm::selection_functions::SelectionFunction;
 use rstar_base::envelope::Envelope;

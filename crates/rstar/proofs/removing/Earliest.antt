@@ -180,19 +180,6 @@ module _ {T E : Type 0} (accepts : E → Bool) (selects : T → Bool) {R : T →
 
 -- ---- of a root
 
-module _ {T E : Type 0} (accepts : E → Bool) (selects : T → Bool) (root : ParentNode T E) where
-  pub refused_of : accepts (envelope_of root) ≡ false → given_of accepts selects root ≡ []
-  refused_of is = ap (λ b. if b then all_given accepts selects (children_of root) else []) is
-
-  pub accepted_of : accepts (envelope_of root) ≡ true → given_of accepts selects root ≡ all_given accepts selects (children_of root)
-  accepted_of is = ap (λ b. if b then all_given accepts selects (children_of root) else []) is
-
-  pub empty_of : children_of root ≡ [] → given_of accepts selects root ≡ []
-  empty_of none = by_test (accepts (envelope_of root)) where
-    by_test : (b : Bool) → (if b then all_given accepts selects (children_of root) else []) ≡ []
-    by_test true = ap (all_given accepts selects) none
-    by_test false = refl
-
 -- what a lawful function selects below a whole root is given
 module _ {T E : Type 0} {IsPoint : List ℤ → Type 0} {v : Boxes E} {o : Objects T E} (laws : EnvelopeLaws IsPoint v) (ok : ObjectLaws v o) (R : T → T → Ordering) where
   pub earliest-selected : {accepts : E → Bool} {selects : T → Bool} {opens : E → Bool} {asks : T → Bool} → SelectsBy v o accepts selects opens asks → (root : ParentNode T E) → IsWhole v o root

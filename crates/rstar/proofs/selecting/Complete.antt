@@ -1,5 +1,5 @@
 -- What a walk gives, against the list of the elements.
-use Rattle.std.proofs.Common.{◌≡◌, ℕ, ℤ, zero, suc, List, [], ◌∷◌, ◌++◌, refl, ap, ◌∙◌, sym, subst, Bool, true, false, if◌then◌else◌, filter, inl, inr}
+use Rattle.std.proofs.Common.{◌≡◌, ℕ, ℤ, zero, suc, List, [], ◌∷◌, ◌++◌, refl, ap, ◌∙◌, sym, subst, Bool, true, false, if◌then◌else◌, filter, ◌⊎◌, inl, inr}
 use Rattle.std.specs.List.{AllByRecursion}
 use Rattle.std.proofs.lemmas.List.Elements.{filter-append}
 use Rattle.rstar_base.specs.Envelopes.{Boxes, EnvelopeLaws}
@@ -117,3 +117,18 @@ module _ {T E : Type 0} {IsPoint : List ℤ → Type 0} {v : Boxes E} {o : Objec
 pub filter-every : {A : Type 0} (xs : List A) → filter (λ x. true) xs ≡ xs
 filter-every [] = refl
 filter-every (x ∷ xs) = ap (λ l. x ∷ l) (filter-every xs)
+
+-- ---- from a root
+
+module _ {T E : Type 0} (accepts : E → Bool) (selects : T → Bool) (root : ParentNode T E) where
+  -- a root without children, or one that is refused
+  pub gives_none : (children_of root ≡ []) ⊎ (accepts (envelope_of root) ≡ false) → given_of accepts selects root ≡ []
+  gives_none (inl none) = ap (λ ns. if accepts (envelope_of root) then all_given accepts selects ns else []) none ∙ either (accepts (envelope_of root))
+    where
+      either : (b : Bool) → ◌≡◌ {A = List T} (if b then [] else []) []
+      either true = refl
+      either false = refl
+  gives_none (inr refused) = ap (λ (b : Bool). if b then all_given accepts selects (children_of root) else []) refused
+
+  pub gives_below : accepts (envelope_of root) ≡ true → given_of accepts selects root ≡ all_given accepts selects (children_of root)
+  gives_below accepted = ap (λ (b : Bool). if b then all_given accepts selects (children_of root) else []) accepted

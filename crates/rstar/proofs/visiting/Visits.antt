@@ -78,18 +78,3 @@ module _ {V A T B : Type 0} (now : A → T) (step : V → A → ControlFlow B (U
   -- a visit of none
   pub visits_none : (v : V) (xs : List T) → xs ≡ [] → Visits now step v xs (Continue tt) v
   visits_none v xs none = subst (λ l. Visits now step v l (Continue tt) v) (sym none) (refl, refl)
-
--- ---- from a root
-
-module _ {T E : Type 0} (accepts : E → Bool) (selects : T → Bool) (root : ParentNode T E) where
-  -- a root without children, or one that is refused
-  pub gives_none : (children_of root ≡ []) ⊎ (accepts (envelope_of root) ≡ false) → given_of accepts selects root ≡ []
-  gives_none (inl none) = ap (λ ns. if accepts (envelope_of root) then all_given accepts selects ns else []) none ∙ either (accepts (envelope_of root))
-    where
-      either : (b : Bool) → ◌≡◌ {A = List T} (if b then [] else []) []
-      either true = refl
-      either false = refl
-  gives_none (inr refused) = ap (λ (b : Bool). if b then all_given accepts selects (children_of root) else []) refused
-
-  pub gives_below : accepts (envelope_of root) ≡ true → given_of accepts selects root ≡ all_given accepts selects (children_of root)
-  gives_below accepted = ap (λ (b : Bool). if b then all_given accepts selects (children_of root) else []) accepted

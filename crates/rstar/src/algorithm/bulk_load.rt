@@ -10,7 +10,6 @@ ghost use Rattle.rstar.specs.inside.Loads.{IsFresh};
 
 pub(crate) mod depth;
 pub(crate) mod parts;
-mod slabs;
 
 use crate::algorithm::bulk_load::depth::load_depth;
 use crate::algorithm::bulk_load::parts::load_node;

@@ -8,7 +8,7 @@ ghost use Rattle.rstar.specs.Nodes.{children_of};
 ghost use Rattle.rstar.specs.inside.Taking.{is_a_leaf};
 
 use crate::algorithm::removal::{element_of, is_childless, is_selected_leaf};
-use crate::needs::{Covered, Question};
+use crate::bounds::{Covered, Question};
 use crate::node::{ParentNode, RTreeNode, envelope_for_children};
 
 /// Moves selected elements from below a parent to the end of a list, until the list holds `most` elements or

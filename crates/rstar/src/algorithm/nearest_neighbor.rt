@@ -9,7 +9,6 @@ ghost use Rattle.rstar.specs.Neighbors.{with_distances, search_of, neighbors_lef
 mod by_order;
 mod few;
 mod firsts;
-mod measures;
 mod pruned;
 mod search;
 mod ties;

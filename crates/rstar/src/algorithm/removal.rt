@@ -15,7 +15,7 @@ ghost use Rattle.rstar.specs.inside.Taking.{is_selected_leaf, is_a_leaf, is_chil
 
 pub(crate) mod earliest;
 
-use crate::needs::{Covered, Merges, Question};
+use crate::bounds::{Covered, Merges, Question};
 use crate::node::{ParentNode, RTreeNode, envelope_for_children};
 
 /// The merge of the envelopes of the first children of a node, and the number of them.

@@ -4,12 +4,11 @@ ghost use Rattle.std.specs.Prelude.{◌≡◌, ◌≤◌, ◌<◌, [], ◌++◌,
 ghost use Rattle.rstar.specs.Cuts.{IsArrangement, IsLeastCut};
 ghost use Rattle.rstar.specs.Nodes.{node_box};
 
-mod choose;
+pub(crate) mod choose;
 mod insertion;
-mod placing;
 pub(crate) mod preparation;
 pub(crate) mod reinsertion;
-mod split;
+pub(crate) mod split;
 
 use crate::algorithm::rstar::split::split_in_place;
 use crate::node::RTreeNode;

@@ -6,7 +6,7 @@ ghost use Rattle.rstar.specs.Heights.{levels_below};
 ghost use Rattle.rstar.specs.IntoIters.{left_to_give, IsGiving};
 ghost use Rattle.rstar.specs.Nodes.{children_of, elements_of, IsWhole};
 
-use crate::needs::Covered;
+use crate::bounds::Covered;
 use crate::node::{ParentNode, RTreeNode};
 use std::mem::replace;
 

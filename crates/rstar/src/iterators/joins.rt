@@ -10,9 +10,9 @@ ghost use Rattle.rstar.specs.Joins.{SeenLaws, meets_by, pairs_opened, pairs_to_c
 mod selves;
 mod walk;
 
+use crate::bounds::{Covered, Meets};
 pub use crate::iterators::joins::selves::SelfIntersectionIterator;
 use crate::iterators::joins::walk::PairWalk;
-use crate::needs::Covered;
 use crate::node::ParentNode;
 use rstar_base::envelope::Envelope;
 use rstar_base::object::RTreeObject;
@@ -42,28 +42,6 @@ impl<T: RTreeObject> InEnvelope<T::Envelope> for T {
       value = λ a h. h;
       merge = λ a b. refl;
     } };
-}
-
-/// Whether envelopes of two element types intersect.
-pub trait Meets<T: Covered>: Covered {
-    // The envelope, as one of the first's type.
-    ghost seen: { Self.Cover → T.Cover };
-
-    /// Whether two envelopes intersect.
-    fn meet(envelope: &T::Cover, other: &Self::Cover) -> bool
-        ensures { result ≡ meets_by T.Cover.boxes seen envelope.now other.now };
-
-    ghost seen_laws: { SeenLaws Self.Cover.boxes T.Cover.boxes seen };
-}
-
-impl<T: RTreeObject, U: InEnvelope<T::Envelope>> Meets<T> for U {
-    ghost seen = { U.seen };
-
-    fn meet(envelope: &T::Envelope, other: &U::Envelope) -> bool {
-        envelope.intersects(U::seen(other))
-    }
-
-    ghost seen_laws = { U.seen_laws };
 }
 
 /// The pairs of elements of two trees whose envelopes intersect, in some order. Each pair of places comes

@@ -8,7 +8,7 @@ ghost use Rattle.rstar.specs.Selections.{question_of, opened_by, to_come, IsMade
 ghost use Rattle.rstar.specs.inside.Traversals.{HasItsWay, IsStep, IsOver};
 ghost use Rattle.rstar.specs.declared.node.RTreeNode.{Leaf, Parent};
 
-use crate::needs::{Covered, Question};
+use crate::bounds::{Covered, Question};
 use crate::node::{ParentNode, RTreeNode};
 use crate::path::Path;
 use std::alloc::AllocError;

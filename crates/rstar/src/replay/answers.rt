@@ -12,8 +12,8 @@ ghost use Rattle.rstar.specs.Lists.{NoneEmpty};
 ghost use Rattle.rstar.specs.Steps.{selects, IsNearestWith, AreNearestWith, Step};
 ghost use Rattle.rstar.specs.Trees.{elements_in, IsWholeTree};
 
-use crate::iterators::{IntersectionIterator, Meets, SelectionIterator};
-use crate::needs::{Covered, Question};
+use crate::bounds::{Covered, Meets, Question};
+use crate::iterators::{IntersectionIterator, SelectionIterator};
 use crate::replay::{Query, Reply, Scanned};
 use crate::rtree::RTree;
 use rstar_base::algorithm::selection_functions::{

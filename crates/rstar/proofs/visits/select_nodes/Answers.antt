@@ -2,7 +2,8 @@ use Rattle.std.proofs.Common.{ap, sym, ◌∙◌, subst, inl, inr}
 use Rattle.rstar.specs.Nodes.{all_given, given_of}
 use Rattle.rstar.specs.Visits.{Visits}
 use Rattle.rstar.proofs.selecting.Complete.{part-root, all-root}
-use Rattle.rstar.proofs.visiting.Visits.{visits_none, gives_none, gives_below}
+use Rattle.rstar.proofs.visiting.Visits.{visits_none}
+use Rattle.rstar.proofs.selecting.Complete.{gives_none, gives_below}
 use Rattle.rstar.proofs.selecting.Traversals.{no-items}
 use Rattle.rstar.proofs.visits.select_nodes.Goals.{then-is_empty-via-then-is_empty, then-is_empty-via-else-is_empty+then-not-should_unpack_parent}
 use Rattle.rstar.proofs.visits.select_nodes.Goals as goal

@@ -5,7 +5,7 @@ ghost use Rattle.rstar_base.specs.Clusters.{IsClusterNumber};
 ghost use Rattle.rstar.specs.Loaded.{IsPartSize, IsLoadDepth, GoesDeep, EndsAt};
 ghost use Rattle.rstar.specs.inside.Loads.{part_bound};
 
-use crate::algorithm::bulk_load::slabs::InSlabs;
+use crate::bounds::InSlabs;
 use rstar_base::clusters::calculate_number_of_clusters_on_axis;
 use rstar_base::object::RTreeObject;
 use rstar_base::params::RTreeParams;

@@ -11,8 +11,7 @@ ghost use Rattle.rstar.specs.Lists.{NoneEmpty};
 ghost use Rattle.rstar.specs.Loaded.{IsPartSize, GoesDeep};
 ghost use Rattle.rstar.specs.inside.Loads.{AddsParts, CutsSlab, IsFresh, IsFreshNode, front_of, last_of};
 
-use crate::algorithm::bulk_load::slabs::InSlabs;
-use crate::needs::Covered;
+use crate::bounds::{Covered, InSlabs};
 use crate::node::{ParentNode, RTreeNode, envelope_for_children};
 use num_traits::checked_pow;
 use rstar_base::object::{RTreeObject, partition_envelopes};
@@ -113,7 +112,7 @@ fn leaf_parent<T: InSlabs, Params: RTreeParams>(
 
 /// Partitions the last `rest` elements of a list so that the `size` elements of the greatest keys come last.
 /// Returns how many they are: `size`, or all where there are fewer.
-pub(super) fn cut_slab<T: RTreeObject>(
+pub(crate) fn cut_slab<T: RTreeObject>(
     axis: usize,
     list: &mut Vec<T>,
     rest: usize,

@@ -11,9 +11,9 @@ ghost use Rattle.rstar.specs.Lists.{IsNotLater, AreFirstOf};
 ghost use Rattle.rstar.specs.Nodes.{all_parents, elements_of, parents, IsWhole};
 ghost use Rattle.rstar.specs.inside.Searches.{any_first, nearest_on_top};
 
-use crate::algorithm::nearest_neighbor::measures::{Measured, SquaredDistance};
 use crate::algorithm::nearest_neighbor::search::{distance_to, fits};
 use crate::algorithm::nearest_neighbor::waiting::{AnyFirst, TieOrder, Waiting};
+use crate::bounds::{Measured, SquaredDistance};
 use crate::node::{ParentNode, RTreeNode};
 use rstar_base::heap::SmallHeap;
 use std::alloc::AllocError;

@@ -9,9 +9,9 @@ ghost use Rattle.rstar.specs.Nodes.{all_elements, elements_of, IsWhole};
 ghost use Rattle.rstar.specs.inside.Searches.{waiting_of, IsReady, TiesBy};
 
 use crate::algorithm::nearest_neighbor::few::first_few;
-use crate::algorithm::nearest_neighbor::measures::{Measured, SquaredDistance};
 use crate::algorithm::nearest_neighbor::search::{NeighborSearch, NodeSearch, fits};
 use crate::algorithm::nearest_neighbor::waiting::TieOrder;
+use crate::bounds::{Measured, SquaredDistance};
 use crate::node::{ParentNode, RTreeNode};
 use std::alloc::{AllocError, Global};
 

@@ -9,10 +9,9 @@ ghost use Rattle.rstar.specs.Nodes.{all_parents, elements_of, envelope_of, paren
 ghost use Rattle.rstar.specs.inside.Pruned.{IsAbove, IsPruned};
 ghost use Rattle.rstar.specs.inside.Searches.{any_first, nearest_on_top, waiting_nodes, distance_of, AreWaiting};
 
-use crate::algorithm::nearest_neighbor::measures::{Measured, SquaredDistance};
 use crate::algorithm::nearest_neighbor::search::{Heap, distance_to, fits};
 use crate::algorithm::nearest_neighbor::waiting::{AnyFirst, Waiting};
-use crate::needs::Covered;
+use crate::bounds::{Covered, Measured, SquaredDistance};
 use crate::node::{ParentNode, RTreeNode};
 use rstar_base::heap::SmallHeap;
 use std::alloc::AllocError;

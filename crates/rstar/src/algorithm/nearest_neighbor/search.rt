@@ -11,8 +11,8 @@ ghost use Rattle.rstar.specs.Nodes.{all_elements, all_parents, IsWhole};
 ghost use Rattle.rstar.specs.Neighbors.{IsNeighbor};
 ghost use Rattle.rstar.specs.inside.Searches.{nearest_on_top, waiting_nodes, distance_of, ComesFirst, AreWaiting, IsRunning, IsReady, IsReadyAt, IsUnrefused, held_by, waiting_of};
 
-use crate::algorithm::nearest_neighbor::measures::{Measured, SquaredDistance};
 use crate::algorithm::nearest_neighbor::waiting::{TieOrder, Waiting};
+use crate::bounds::{Measured, SquaredDistance};
 use crate::node::{ParentNode, RTreeNode};
 use rstar_base::heap::SmallHeap;
 use std::alloc::AllocError;

@@ -6,9 +6,9 @@ ghost use Rattle.rstar.specs.Nodes.{all_elements, elements_of, IsWhole};
 ghost use Rattle.rstar.specs.inside.Searches.{any_first, waiting_of, IsReady, IsUnrefused};
 ghost use Rattle.rstar.specs.inside.Ties.{IsTied};
 
-use crate::algorithm::nearest_neighbor::measures::{Measured, SquaredDistance};
 use crate::algorithm::nearest_neighbor::search::{NeighborSearch, NodeSearch, fits};
 use crate::algorithm::nearest_neighbor::waiting::AnyFirst;
+use crate::bounds::{Measured, SquaredDistance};
 use crate::node::ParentNode;
 use std::alloc::AllocError;
 

@@ -8,7 +8,7 @@ ghost use Rattle.std.specs.Prelude.{◌≡◌};
 ghost use Rattle.std.specs.declared.cmp.Ordering.{Ordering};
 ghost use Rattle.rstar.specs.inside.Searches.{any_first, parents_first, nearest_on_top};
 
-use crate::needs::Covered;
+use crate::bounds::Covered;
 use crate::node::RTreeNode;
 use std::cmp::Ordering;
 use std::marker::PhantomData;

@@ -11,7 +11,7 @@ ghost use Rattle.rstar.specs.Nodes.{node_box, given, all_given, is_leaf_node};
 ghost use Rattle.rstar.specs.inside.Taking.{Takes, TakesInside};
 
 use crate::algorithm::removal::{drop_child, is_childless, take_leaf};
-use crate::needs::{Covered, Merges, Question};
+use crate::bounds::{Covered, Merges, Question};
 use crate::node::{ParentNode, RTreeNode, envelope_for_children};
 
 /// The earliest selected element below a node by `Ord`; the leftmost of several.

@@ -10,9 +10,8 @@ ghost use Rattle.rstar.specs.Shapes.{AreSized, IsSizedTree};
 ghost use Rattle.rstar.specs.inside.ParentBounds.{HasAtMost, IsSpare, IsKept, HasMergedBox, AreKept, IsKeptTree, IsSizedAfter, second_children, as_node};
 ghost use Rattle.rstar.specs.inside.ParentBounds.{has_room, all_roomy, roomy_of, second_roomy};
 
-use crate::algorithm::rstar::placing::Placed;
 use crate::algorithm::rstar::split::{move_all, move_over};
-use crate::needs::{Covered, Merges};
+use crate::bounds::{Covered, Merges, Placed};
 use crate::node::{ParentNode, RTreeNode, envelope_for_children};
 use rstar_base::params::RTreeParams;
 use std::mem;

@@ -13,9 +13,8 @@ ghost use Rattle.rstar.specs.inside.ParentBounds.{HasAtMost, IsSpare, IsKept, Ha
 ghost use Rattle.rstar.specs.inside.ParentBounds.{has_room, all_roomy, roomy_of};
 
 use crate::algorithm::rstar::insertion::insert_at_root;
-use crate::algorithm::rstar::placing::Placed;
 use crate::algorithm::rstar::split::{cut_at, make_place, move_all};
-use crate::needs::{Covered, Merges};
+use crate::bounds::{Covered, Merges, Placed};
 use crate::node::{ParentNode, RTreeNode, envelope_for_children};
 use rstar_base::envelope::Envelope;
 use rstar_base::object::{Distance, PointDistance, PointOf, RTreeObject};
@@ -33,7 +32,7 @@ fn compare_centres<T: RTreeObject>(point: &PointOf<T>, a: &T, b: &T) -> Ordering
 }
 
 /// Sorts elements by the distance from their centers to a point. It takes no memory.
-pub(super) fn sort_by_distance<T: RTreeObject>(list: &mut [T], point: &PointOf<T>)
+pub(crate) fn sort_by_distance<T: RTreeObject>(list: &mut [T], point: &PointOf<T>)
     ensures { IsPermutation list.old list.new }
 {
     list.sort_unstable_by(|a: &T, b: &T| -> Ordering { compare_centres(point, a, b) });

@@ -8,7 +8,7 @@ ghost use Rattle.rstar.specs.inside.PairWalks.{IsIdle};
 ghost use Rattle.rstar.specs.Joins.{meets_by};
 ghost use Rattle.rstar.specs.SelfJoins.{pairs_within, own_opened, own_to_come, HasItsLists, IsSelfJoining, IsSelfJoinMade, IsEntered, GivesOwnPair};
 
-use crate::iterators::joins::Meets;
+use crate::bounds::Meets;
 use crate::iterators::joins::walk::{PairWalk, first_alone};
 use crate::node::{ParentNode, RTreeNode};
 use crate::path::Path;

@@ -8,8 +8,7 @@ ghost use Rattle.rstar.specs.Meets.{opened_to, both_leaves, all_pairs, all_opens
 ghost use Rattle.rstar.specs.inside.PairWalks.{marked_items, with_marks, rows_beside, pairs_by, opens_by, AreJoinable, IsFirstPair, IsSingle, IsIdle, IsWalk, IsPairStep, IsNextPair};
 ghost use Rattle.rstar.specs.Joins.{meets_by};
 
-use crate::iterators::joins::Meets;
-use crate::needs::Covered;
+use crate::bounds::{Covered, Meets};
 use crate::node::RTreeNode;
 use crate::path::Path;
 use std::alloc::{AllocError, Global};

@@ -1,11 +1,11 @@
-use Rattle.std.proofs.Common.{◌∙◌, ap, subst, sym, arith, refl, List}
+use Rattle.std.proofs.Common.{◌∙◌, ap, subst, sym, arith, refl, List, inl, inr}
 use Rattle.rstar.specs.inside.Earliest.{earliest}
 use Rattle.rstar.specs.Nodes.{children_of, all_elements}
 use Rattle.rstar.specs.Lists.{NoneSelected}
 use Rattle.rstar.specs.Trees.{IsWholeTree}
 use Rattle.rstar.proofs.selecting.Traversals.{no-items, some-items}
 use Rattle.rstar.proofs.removing.Scans.{none_gives, some_one}
-use Rattle.rstar.proofs.removing.Earliest.{refused_of, empty_of}
+use Rattle.rstar.proofs.selecting.Complete.{gives_none}
 use Rattle.rstar.proofs.removing.Removed.{one_less, none_less, removes, same_tree, leaves, root_refused}
 use Rattle.rstar.proofs.rtree.RTree.take_earliest.Goals as goal
 use Rattle.rstar.proofs.rtree.RTree.take_earliest.Goals.{then-is_empty-via-then-is_empty, then-is_empty-via-else-is_empty+then-not-should_unpack_parent}
@@ -26,8 +26,8 @@ returns-then-is_empty-clause-first g c =
     let accepts = g.R.SelectionFunction.accepts c.args.func.now in
     let selects = g.R.SelectionFunction.selects c.args.func.now in
     sym (ap (earliest g.T.Ord.cmp) (elim c.then-is_empty.branch [
-      | then-is_empty-via-then-is_empty w ↦ empty_of accepts selects c.args.self.now.root (no-items (children_of c.args.self.now.root) _ _ c.is_empty.ensures w.if-is_empty.true c.args.self.now.root.children.ok.0)
-      | then-is_empty-via-else-is_empty+then-not-should_unpack_parent w ↦ refused_of accepts selects c.args.self.now.root (sym w.should_unpack_parent.ensures ∙ w.if-not-should_unpack_parent.true)
+      | then-is_empty-via-then-is_empty w ↦ gives_none accepts selects c.args.self.now.root (inl (no-items (children_of c.args.self.now.root) _ _ c.is_empty.ensures w.if-is_empty.true c.args.self.now.root.children.ok.0))
+      | then-is_empty-via-else-is_empty+then-not-should_unpack_parent w ↦ gives_none accepts selects c.args.self.now.root (inr (sym w.should_unpack_parent.ensures ∙ w.if-not-should_unpack_parent.true))
     ]))
 
 pub returns-then-is_empty-2-clause-removes : goal.returns-then-is_empty-2-clause-removes

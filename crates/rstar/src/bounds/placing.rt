@@ -5,7 +5,7 @@ ghost use Rattle.std.specs.Prelude.{◌≡◌, ◌+◌, ◌<◌, ◌≤◌, [], 
 ghost use Rattle.std.specs.List.Sorted.{IsPermutation};
 
 use crate::algorithm::rstar::{choose, reinsertion, split};
-use crate::needs::Covered;
+use crate::bounds::Covered;
 use crate::node::RTreeNode;
 use rstar_base::envelope::Envelope;
 use rstar_base::object::RTreeObject;

@@ -1,13 +1,32 @@
-//! The small traits that the steps of a tree ask of envelopes, elements and selection functions.
+//! The small traits that code over nodes asks for, in the place of the public ones.
 //!
 //! An element type brings some sixty traits of its envelope, point and scalar, and a check carries them
 //! through each step. So code over nodes asks for these traits alone. Each public type has them.
+//!
+//! | Here | Mirrors | For |
+//! |---|---|---|
+//! | `Merges` | `Envelope` | all |
+//! | `Covered` | `RTreeObject` | all |
+//! | `Question` | `SelectionFunction` | selections, visits, removals |
+//! | `Measured`, `SquaredDistance` | `PointDistance`, `RTreeNum` | neighbours |
+//! | `Meets` | `InEnvelope` | joins |
+//! | `InSlabs` | `RTreeObject`, `Point` | loads |
+//! | `Placed` | `RTreeObject`, `Envelope` | insertion |
 
 ghost use Rattle.std.specs.Prelude.{◌≡◌, ℤ, List, Bool, false};
 ghost use Rattle.rstar_base.specs.Elements.{Objects, ObjectLaws};
 ghost use Rattle.rstar_base.specs.Envelopes.{Boxes, EnvelopeLaws};
 ghost use Rattle.rstar_base.specs.Points.{IsPoint};
 
+mod distances;
+mod meeting;
+mod placing;
+mod slabs;
+
+pub use crate::bounds::distances::{Measured, SquaredDistance};
+pub use crate::bounds::meeting::Meets;
+pub use crate::bounds::placing::Placed;
+pub use crate::bounds::slabs::InSlabs;
 use rstar_base::algorithm::selection_functions::SelectionFunction;
 use rstar_base::envelope::{Envelope, copied_envelope};
 use rstar_base::object::RTreeObject;

@@ -7,7 +7,7 @@ ghost use Rattle.rstar_base.specs.Elements.{Distances, DistanceLaws, IsDistanceU
 ghost use Rattle.rstar_base.specs.Points.{table};
 ghost use Rattle.rstar_base.specs.Sizes.{IsNarrow};
 
-use crate::needs::Covered;
+use crate::bounds::Covered;
 use rstar_base::envelope::Envelope;
 use rstar_base::object::{Distance, PointDistance, PointOf, RTreeObject};
 use rstar_base::point::{self, Point, RTreeNum};

@@ -7,7 +7,7 @@ ghost use Rattle.rstar_base.specs.Hulls.{hull};
 ghost use Rattle.rstar.specs.inside.Loads.{CutsSlab};
 
 use crate::algorithm::bulk_load::{depth, parts};
-use crate::needs::Covered;
+use crate::bounds::Covered;
 use rstar_base::envelope::Envelope;
 use rstar_base::object::{self, RTreeObject};
 use rstar_base::params::RTreeParams;
