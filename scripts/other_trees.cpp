@@ -5,6 +5,7 @@
 // Debian's libboost-dev and libgeos++-dev have both. A line without an answer here ends the program, with status 2.
 
 #include <algorithm>
+#include <array>
 #include <boost/geometry.hpp>
 #include <boost/geometry/index/rtree.hpp>
 #include <boost/iterator/function_output_iterator.hpp>
@@ -86,36 +87,27 @@ struct GEOS {
     void near(const Point &, int64_t, Neighbours &) { throw Unknown(); }
 };
 
-struct Words {
-    std::string_view left;
+// The numbers behind the word of a line, and 0 for those that are missing.
+std::array<int64_t, 5> numbers(const std::string &line, size_t word) {
+    std::array<int64_t, 5> found{};
+    auto at = line.data() + word, end = line.data() + line.size();
+    for (auto &number : found) {
+        while (at != end && *at == ' ') {
+            at++;
+        }
+        at = std::from_chars(at, end, number).ptr;
+    }
+    return found;
+}
 
-    std::string_view word() {
-        left.remove_prefix(std::min(left.find_first_not_of(' '), left.size()));
-        auto word = left.substr(0, left.find(' '));
-        left.remove_prefix(word.size());
-        return word;
-    }
-    int64_t number() {
-        auto text = word();
-        int64_t value;
-        auto [end, error] = std::from_chars(text.data(), text.data() + text.size(), value);
-        return error == std::errc() && end == text.data() + text.size() ? value : throw Unknown();
-    }
-    Point point() {
-        auto x = number();
-        return Point(x, number());
-    }
-    Box box() {
-        auto one = point(), other = point();
-        auto [left, right] = std::minmax({one.get<0>(), other.get<0>()});
-        auto [bottom, top] = std::minmax({one.get<1>(), other.get<1>()});
-        return Box(Point(left, bottom), Point(right, top));
-    }
-    Item item() {
-        auto id = number();
-        return Item(box(), id);
-    }
-};
+Box box(int64_t x1, int64_t y1, int64_t x2, int64_t y2) {
+    return Box(Point(std::min(x1, x2), std::min(y1, y2)), Point(std::max(x1, x2), std::max(y1, y2)));
+}
+
+Item item(const std::string &line, size_t word) {
+    auto [id, x1, y1, x2, y2] = numbers(line, word);
+    return Item(box(x1, y1, x2, y2), id);
+}
 
 template <class Found, class Show> void print(Found &found, Show show) {
     std::sort(found.begin(), found.end());
@@ -129,30 +121,30 @@ template <class Found, class Show> void print(Found &found, Show show) {
     found.clear();
 }
 
-void answer(TREE &tree, Words words) {
+void answer(TREE &tree, const std::string &line) {
     static Ids ids;
     static Neighbours neighbours;
-    auto name = words.word();
+    auto word = std::min(line.find(' '), line.size());
+    auto name = line.substr(0, word);
+    auto [a, b, c, d, _] = numbers(line, word);
     if (name == "load") {
         std::vector<Item> items;
         std::string line;
-        for (auto count = words.number(); count > 0 && std::getline(std::cin, line); count--) {
-            items.push_back(Words{line}.item());
+        while (a-- > 0 && std::getline(std::cin, line)) {
+            items.push_back(item(line, 0));
         }
         tree.load(items);
         std::cout << "ok\n";
     } else if (name == "insert") {
-        tree.insert(words.item());
+        tree.insert(item(line, word));
         std::cout << "ok\n";
     } else if (name == "remove") {
-        auto item = words.item();
-        tree.remove(item) ? std::cout << item.second << '\n' : std::cout << "-\n";
+        tree.remove(item(line, word)) ? std::cout << a << '\n' : std::cout << "-\n";
     } else if (name == "hit" || name == "in") {
-        name == "hit" ? tree.hit(words.box(), ids) : tree.in(words.box(), ids);
+        name == "hit" ? tree.hit(box(a, b, c, d), ids) : tree.in(box(a, b, c, d), ids);
         print(ids, [](int64_t id) { std::cout << id; });
     } else if (name == "near") {
-        auto point = words.point();
-        tree.near(point, words.number(), neighbours);
+        tree.near(Point(a, b), c, neighbours);
         print(neighbours, [](auto near) { std::cout << near.second << ':' << near.first; });
     } else {
         throw Unknown();
@@ -166,7 +158,7 @@ int main() {
     std::string line;
     for (size_t number = 1; std::getline(std::cin, line); number++) {
         try {
-            answer(tree, {line});
+            answer(tree, line);
         } catch (Unknown) {
             std::cout << "error: line " << number << '\n';
             return 2;
