@@ -4,12 +4,13 @@
     taskset -c 1 scripts/speed.py PROGRAM [NAME=OTHER ..] [--data random:10000,clusters] [--rounds 15]
 
 The programs answer the lines of docs/PROGRAM.md, and run in turn. `Boost` and `GEOS` are programs too: other_trees.cpp beside
-this file, built for the run. A cell is PROGRAM's least processor time (user and system) over OTHER's, and in the last column
-its peak memory over OTHER's, in a load. A cell is empty where OTHER has no answer. The standard error gets seconds and
-megabytes, and the number of answers that differ. Of `near` the distances are compared.
+this file, built for the run. A cell is PROGRAM's least processor time (user and system) over OTHER's; in the last column it is
+its peak memory over OTHER's, in a load. A cell is empty where OTHER has no answer. Seconds and megabytes go to the standard
+error, and so does the number of answers that differ. Of `near` the distances are compared.
 
 The boxes of a data set go in one by one, or are loaded and asked a tenth as many lines of a kind. A window lies around a box,
-and is so large that some twenty boxes lie there. Half of the places of `near` lie anywhere, half are corners of boxes.
+and is so large that some twenty boxes lie there. Half of the places of `near` lie anywhere, half are corners of boxes. With
+`--works insert+near` the boxes are inserted, and then asked. `--keep FOLDER` keeps the lines.
 """
 
 import argparse
@@ -201,11 +202,13 @@ def time_work(programs, work, rounds, folder):
     return {name: timed[0] and tuple(map(min, zip(*timed))) for name, timed in zip(programs, zip(*ran))}
 
 
-def time_data(programs, data, count, works, rounds):
+def time_data(programs, data, count, works, rounds, keep):
     """Prints a row for each program but the first."""
     first, *others = programs
     cells = {}
-    with tempfile.TemporaryDirectory() as folder:
+    with tempfile.TemporaryDirectory() as made:
+        folder = Path(keep, data) if keep else made
+        os.makedirs(folder, exist_ok=True)
         write_lines(data, count, works, folder)
         for work in works:
             if data == "equal" and work in ("hit", "in", "near"):
@@ -235,6 +238,7 @@ def main():
     parser.add_argument("--data", default="random,random:1000000,clusters,nested,thin,rising,equal,shores,islands")
     parser.add_argument("--works", default="insert,load,hit,in,near,remove")
     parser.add_argument("--rounds", type=int, default=15)
+    parser.add_argument("--keep", metavar="FOLDER")
     chosen = parser.parse_args()
     works = chosen.works.split(",")
     with tempfile.TemporaryDirectory() as folder:
@@ -246,7 +250,7 @@ def main():
         row(["---"] * (len(works) + 3))
         for word in chosen.data.split(","):
             data, _, count = word.partition(":")
-            time_data(programs, data, int(count or 100_000), works, chosen.rounds)
+            time_data(programs, data, int(count or 100_000), works, chosen.rounds, chosen.keep)
 
 
 if __name__ == "__main__":
