@@ -34,7 +34,7 @@ int64_t squared_distance(const Point &point, const Box &box) {
     return std::min<__int128>(x * x + y * y, INT64_MAX);
 }
 
-// Of whole numbers it takes areas in long doubles, and distances in doubles.
+// It takes areas in long doubles. Distances wrap round, as those of 64-bit integers.
 struct Boost {
     bgi::rtree<Item, bgi::rstar<8>> tree;
 
@@ -51,9 +51,8 @@ struct Boost {
         visit(bgi::covered_by(box), [&](const Item &item) { ids.push_back(item.second); });
     }
     void near(const Point &point, int64_t most, Neighbours &found) const {
-        visit(bgi::nearest(point, most), [&](const Item &item) {
-            found.emplace_back(squared_distance(point, item.first), item.second);
-        });
+        visit(bgi::nearest(point, most),
+              [&](const Item &item) { found.emplace_back(squared_distance(point, item.first), item.second); });
     }
 };
 

@@ -235,7 +235,7 @@ def build(tree, folder):
 def main():
     parser = argparse.ArgumentParser(description=__doc__, formatter_class=argparse.RawDescriptionHelpFormatter)
     parser.add_argument("programs", nargs="+", metavar="PROGRAM")
-    parser.add_argument("--data", default="random,random:1000000,clusters,nested,thin,rising,equal,shores,islands")
+    parser.add_argument("--data", default="random,random:1000000,clusters,nested,thin,rising,equal,shores,islands:180000")
     parser.add_argument("--works", default="insert,load,hit,in,near,remove")
     parser.add_argument("--rounds", type=int, default=15)
     parser.add_argument("--keep", metavar="FOLDER")

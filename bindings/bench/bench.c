@@ -1,5 +1,5 @@
-/* Times of the library, the best of three rounds each, and the sums of the answers. rstar_bench prints the same of rstar.
- * The boxes lie at random, or are those of a file: the `load` that scripts/speed.py keeps. */
+/* Times of the library, the best of three rounds each, and the sums of the answers. rstar_bench prints the same of
+ * rstar. The boxes lie at random, or are those of a file: the `load` that scripts/speed.py keeps. */
 #include "rstar.h"
 
 #include <inttypes.h>
@@ -68,9 +68,7 @@ static void read_boxes(const char *path) {
     }
 }
 
-static void load(rstar_index *index) {
-    require(rstar_index_load(index, boxes, ITEMS, ids, ITEMS) == RSTAR_OK);
-}
+static void load(rstar_index *index) { require(rstar_index_load(index, boxes, ITEMS, ids, ITEMS) == RSTAR_OK); }
 
 static void ask(rstar_index *index) {
     hits = sum_of_ids = 0;
