@@ -5,8 +5,9 @@
 
 The programs answer the lines of docs/PROGRAM.md, and run in turn. `Boost` and `GEOS` are programs too: other_trees.cpp beside
 this file, built for the run. A cell is PROGRAM's least processor time (user and system) over OTHER's; in the last column it is
-its peak memory over OTHER's, in a load. A cell is empty where OTHER has no answer. Seconds and megabytes go to the standard
-error, and so does the number of answers that differ. Of `near` the distances are compared.
+its peak memory over OTHER's, in a load. A cell is empty where OTHER has no answer, and where memory is too little to be told.
+Seconds and megabytes go to the standard error, and so does the number of answers that differ. Of `near` the distances are
+compared.
 
 The boxes of a data set go in one by one, or are loaded and asked a tenth as many lines of a kind. A window lies around a box,
 and is so large that some twenty boxes lie there. Half of the places of `near` lie anywhere, half are corners of boxes. With
@@ -16,6 +17,7 @@ and is so large that some twenty boxes lie there. Half of the places of `near` l
 import argparse
 import os
 import random
+import resource
 import subprocess
 import sys
 import tempfile
@@ -25,6 +27,8 @@ from pathlib import Path
 HERE = Path(__file__).resolve().parent
 SHORES = "/usr/share/gmt-gshhg/binned_GSHHS_f.nc"
 HALF = 1_000_000
+# In megabytes. A program's peak counts that of the process that starts it, so a lower one cannot be told.
+OWN_MEMORY = resource.getrusage(resource.RUSAGE_SELF).ru_maxrss / 1000
 
 
 def draw_place(source):
@@ -147,7 +151,7 @@ def draw_lines(work, boxes):
 
 
 def write_lines(data, count, works, folder):
-    """Writes the lines in a process of its own. A program's peak memory counts that of the process that starts it."""
+    """Writes the lines in a process of its own, which keeps this one small."""
     if os.fork() == 0:
         boxes = list(DATA[data](random.Random(1), count))[:count]
         for work in works:
@@ -218,12 +222,12 @@ def time_data(programs, data, count, works, rounds, keep):
             tell(f"{data}, {count:,}, {work}: " + ", ".join(told))
             for other in others:
                 if timed[other]:
-                    seconds, memory = (f"{mine / max(its, 0.001):.2f}" for mine, its in zip(timed[first], timed[other]))
-                    cells[other, work] = seconds
-                    if work == "load":
+                    cells[other, work], memory = (f"{mine / its:.2f}" for mine, its in zip(timed[first], timed[other]))
+                    if work == "load" and min(timed[first][1], timed[other][1]) > 1.1 * OWN_MEMORY:
                         cells[other, "memory"] = memory
     for other in others:
-        row([f"{data}, {count:,}", other, *(cells.get((other, work), "") for work in [*works, "memory"])])
+        name = f"{data}, {count:,}" if other == others[0] else ""
+        row([name, other, *(cells.get((other, work), "") for work in [*works, "memory"])])
 
 
 def build(tree, folder):
