@@ -4,10 +4,10 @@
     taskset -c 1 scripts/speed.py PROGRAM [NAME=OTHER ..] [--data random:10000,clusters] [--rounds 15]
 
 The programs answer the lines of docs/PROGRAM.md, and run in turn. `Boost` and `GEOS` are programs too: other_trees.cpp beside
-this file, built for the run. A cell is PROGRAM's least processor time (user and system) over OTHER's; in the last column it is
-its peak memory over OTHER's, in a load. A cell is empty where OTHER has no answer, and where memory is too little to be told.
-Seconds and megabytes go to the standard error, and so does the number of answers that differ. Of `near` the distances are
-compared.
+this file, built for the run. A cell has PROGRAM's least processor time (user and system) over that of each OTHER, in their
+order; in the last column it has peak memory over peak memory, in a load. A dash stands where OTHER has no answer, or where
+memory is too little to be told. Seconds and megabytes go to the standard error, and so does the number of answers that
+differ. Of `near` the distances are compared.
 
 The boxes of a data set go in one by one, or are loaded and asked a tenth as many lines of a kind. A window lies around a box,
 and is so large that some twenty boxes lie there. Half of the places of `near` lie anywhere, half are corners of boxes. With
@@ -206,28 +206,31 @@ def time_work(programs, work, rounds, folder):
     return {name: timed[0] and tuple(map(min, zip(*timed))) for name, timed in zip(programs, zip(*ran))}
 
 
+def ratios(timed, place, least=0):
+    """The first program's figure over each other's; a dash where one has none, or where one is not above the least."""
+    ours, *others = (one[place] if one and one[place] > least else None for one in timed.values())
+    found = [f"{ours / theirs:.2f}" if ours and theirs else "–" for theirs in others]
+    return " / ".join(found) if any(one != "–" for one in found) else ""
+
+
 def time_data(programs, data, count, works, rounds, keep):
-    """Prints a row for each program but the first."""
-    first, *others = programs
-    cells = {}
+    """Prints a row of the table."""
+    cells, memory = [], ""
     with tempfile.TemporaryDirectory() as made:
         folder = Path(keep, data) if keep else made
         os.makedirs(folder, exist_ok=True)
         write_lines(data, count, works, folder)
         for work in works:
-            if data == "equal" and work in ("hit", "in", "near"):
-                continue  # all would be in each answer
+            if data == "equal" and work not in ("insert", "load"):
+                cells.append("")  # each line would look at all points
+                continue
             timed = time_work(programs, work, rounds, folder)
-            told = (f"{name} {timed[name][0]:.3f} s {timed[name][1]:.0f} MB" for name in programs if timed[name])
+            told = (f"{name} {one[0]:.3f} s {one[1]:.0f} MB" for name, one in timed.items() if one)
             tell(f"{data}, {count:,}, {work}: " + ", ".join(told))
-            for other in others:
-                if timed[other]:
-                    cells[other, work], memory = (f"{mine / its:.2f}" for mine, its in zip(timed[first], timed[other]))
-                    if work == "load" and min(timed[first][1], timed[other][1]) > 1.1 * OWN_MEMORY:
-                        cells[other, "memory"] = memory
-    for other in others:
-        name = f"{data}, {count:,}" if other == others[0] else ""
-        row([name, other, *(cells.get((other, work), "") for work in [*works, "memory"])])
+            cells.append(ratios(timed, 0))
+            if work == "load":
+                memory = ratios(timed, 1, 1.1 * OWN_MEMORY)
+    row([f"{data}, {count:,}", *cells, memory])
 
 
 def build(tree, folder):
@@ -250,8 +253,8 @@ def main():
         for word in chosen.programs:
             name, _, program = word.rpartition("=")
             programs[name or Path(program).name] = build(program, folder) if program in ("Boost", "GEOS") else program
-        row(["Boxes", "Beside", *works, "memory of a load"])
-        row(["---"] * (len(works) + 3))
+        row([" / ".join(list(programs)[1:]), *works, "memory of a load"])
+        row(["---"] * (len(works) + 2))
         for word in chosen.data.split(","):
             data, _, count = word.partition(":")
             time_data(programs, data, int(count or 100_000), works, chosen.rounds, chosen.keep)
