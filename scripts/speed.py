@@ -116,7 +116,7 @@ DATA = {draw.__name__.removeprefix("draw_"): draw for draw in DRAWS}
 
 
 def draw_windows(source, boxes, count):
-    """Cuts the boxes into strips by x, and these into tiles of twenty by y. A window has the size of what a tile's corners span."""
+    """Strips of boxes by x are cut into tiles of twenty by y. A window is as large as what the corners of a tile span."""
     boxes, strip, tiles = sorted(boxes), int((20 * len(boxes)) ** 0.5), []
     for first in range(0, len(boxes), strip):
         upward = sorted(boxes[first : first + strip], key=lambda box: box[1])
