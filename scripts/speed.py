@@ -1,7 +1,8 @@
 #!/usr/bin/env python3
 """Times line programs side by side, on the same lines, and prints a table.
 
-    taskset -c 1 scripts/speed.py PROGRAM [NAME=OTHER ..] [--data random:10000,clusters] [--rounds 15]
+    apt-get install g++ libboost-dev libgeos++-dev gmt-gshhg-full python3-h5py
+    taskset -c 1 /usr/bin/python3 scripts/speed.py PROGRAM [NAME=OTHER ..] [--data random:10000,clusters] [--rounds 15]
 
 The programs answer the lines of docs/PROGRAM.md, and run in turn. `Boost` and `GEOS` are programs too: other_trees.cpp beside
 this file, built for the run. A cell has PROGRAM's least processor time (user and system) over that of each OTHER, in their
