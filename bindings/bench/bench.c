@@ -1,12 +1,14 @@
-/* Times of the library, the best of three rounds each, and the sums of the answers. rstar_bench prints the same of rstar. */
+/* Times of the library, the best of three rounds each, and the sums of the answers. rstar_bench prints the same of
+ * rstar. The boxes lie at random, or are those of a file: the `load` that scripts/speed.py keeps. */
 #include "rstar.h"
 
 #include <inttypes.h>
 #include <stdio.h>
 #include <stdlib.h>
+#include <string.h>
 #include <time.h>
 
-enum { ITEMS = 100000, QUESTIONS = 10000, NEAREST = 10, ROOM = 1000, ROUNDS = 3 };
+enum { ITEMS = 100000, QUESTIONS = 10000, NEAREST = 10, ROOM = ITEMS, ROUNDS = 3 };
 
 static rstar_box boxes[ITEMS], areas[QUESTIONS];
 static rstar_point points[QUESTIONS];
@@ -36,9 +38,37 @@ static void require(bool holds) {
     }
 }
 
-static void load(rstar_index *index) {
-    require(rstar_index_load(index, boxes, ITEMS, ids, ITEMS) == RSTAR_OK);
+static void draw(void) {
+    for (size_t i = 0; i < ITEMS; i++) {
+        boxes[i] = random_box(4000);
+    }
+    for (size_t i = 0; i < QUESTIONS; i++) {
+        areas[i] = random_box(20000);
+        points[i] = (rstar_point){{below(2000000), below(2000000)}};
+    }
 }
+
+/* A question is a box grown by its own sides, or a corner. */
+static void read_boxes(const char *path) {
+    FILE *file = fopen(path, "r");
+    require(file && fscanf(file, "load %*u") == 0);
+    for (size_t i = 0; i < ITEMS; i++) {
+        int64_t *one = boxes[i].one, *other = boxes[i].other;
+        require(fscanf(file, "%*u%" SCNd64 "%" SCNd64 "%" SCNd64 "%" SCNd64, one, one + 1, other, other + 1) == 4);
+    }
+    fclose(file);
+    for (size_t i = 0; i < QUESTIONS; i++) {
+        const rstar_box *box = &boxes[below(ITEMS)];
+        for (size_t k = 0; k < 2; k++) {
+            int64_t side = box->other[k] - box->one[k];
+            areas[i].one[k] = box->one[k] - side;
+            areas[i].other[k] = box->other[k] + side;
+        }
+        memcpy(points[i].at, boxes[below(ITEMS)].one, sizeof points[i].at);
+    }
+}
+
+static void load(rstar_index *index) { require(rstar_index_load(index, boxes, ITEMS, ids, ITEMS) == RSTAR_OK); }
 
 static void ask(rstar_index *index) {
     hits = sum_of_ids = 0;
@@ -84,7 +114,7 @@ static double seconds_of(void (*run)(rstar_index *), rstar_index *index) {
     return (double)(end.tv_sec - begin.tv_sec) + (double)(end.tv_nsec - begin.tv_nsec) * 1e-9;
 }
 
-int main(void) {
+int main(int count, char **words) {
     static const struct {
         const char *name;
         void (*run)(rstar_index *);
@@ -99,13 +129,13 @@ int main(void) {
     enum { ROWS = sizeof rows / sizeof *rows };
     double best[ROWS];
     rstar_index index = RSTAR_INDEX_EMPTY;
-    for (size_t i = 0; i < ITEMS; i++) {
-        boxes[i] = random_box(4000);
-        ids[i] = i;
+    if (count > 1) {
+        read_boxes(words[1]);
+    } else {
+        draw();
     }
-    for (size_t i = 0; i < QUESTIONS; i++) {
-        areas[i] = random_box(20000);
-        points[i] = (rstar_point){{below(2000000), below(2000000)}};
+    for (size_t i = 0; i < ITEMS; i++) {
+        ids[i] = i;
     }
     for (int round = 0; round < ROUNDS; round++) {
         rstar_index_clear(&index);

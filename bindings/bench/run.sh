@@ -2,8 +2,9 @@
 # Prints a table of times: the library from C, the same in Rust by the crate vaikrone, and rstar itself. Each runs alone,
 # and takes the best of three rounds.
 #
-#   bindings/bench/run.sh
+#   bindings/bench/run.sh [BOXES]
 #
+#   BOXES              a file with 100,000 boxes: the `load` that scripts/speed.py keeps. Without it they lie at random.
 #   RSTAR_LIB_DIR      the folder of librstar.a, out/library unless it is given
 #   RSTAR_CRATE        the folder of rstar's crate, where cargo cannot get it from its registry
 #   RSTAR_WORKSPACE    the folder of the workspace of that crate, whose .cargo/config.toml says where its dependencies are
@@ -29,7 +30,7 @@ cc -std=gnu11 -O2 -Wall -Wextra -I"$folder" "$here/bench.c" "$folder/librstar.a"
 # Five times in turn, so that other work on the machine falls on all of them; the best time of each counts.
 for _ in 1 2 3 4 5; do
   for program in bench vaikrone_bench rstar_bench; do
-    "$work/$program" | sed "s/^/$program\t/" >>"$work/times"
+    "$work/$program" "$@" | sed "s/^/$program\t/" >>"$work/times"
   done
 done
 [[ $(awk -F'\t' '$2 == "answers" { print $3 }' "$work/times" | sort -u | wc -l) == 1 ]] || { echo 'the answers differ' >&2; exit 1; }

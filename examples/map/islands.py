@@ -15,7 +15,7 @@ import numpy
 SHORES = "/usr/share/gmt-gshhg/binned_GSHHS_l.nc"
 COUNT = 4000
 CONTINENT = 7e6  # square kilometres; what is smaller is an island
-BIN, SCALE = 10, 10**7
+SCALE = 10**7
 
 
 def pieces(shores):
@@ -24,12 +24,13 @@ def pieces(shores):
     start, packed = shores["Id_of_first_point_in_a_segment"][()], shores["Embedded_npts_levels_exit_entry_for_a_segment"][()]
     polygon = shores["Id_of_GSHHS_ID"][()]
     x, y = (shores[f"Relative_{name}_from_SW_corner_of_bin"][()].astype("u2") for name in ("longitude", "latitude"))
+    side = shores["Bin_size_in_minutes"][0] // 60
     for place in range(len(first)):
-        west, south = place % (360 // BIN) * BIN, 90 - (place // (360 // BIN) + 1) * BIN
+        west, south = place % (360 // side) * side, 90 - (place // (360 // side) + 1) * side
         for segment in range(first[place], first[place] + count[place]):
             if packed[segment] >> 6 & 7 == 1:
                 points = slice(start[segment], start[segment] + (packed[segment] >> 9))
-                yield polygon[segment], west + x[points] * (BIN / 65535), south + y[points] * (BIN / 65535)
+                yield polygon[segment], west + x[points] * (side / 65535), south + y[points] * (side / 65535)
 
 
 def spans(xs):
@@ -40,20 +41,24 @@ def spans(xs):
     return [(turned.min(), turned.max())]
 
 
-def main():
-    with h5py.File(SHORES) as shores:
-        area = shores["The_km_squared_area_of_polygons"][()]
-        islands = {}
-        for polygon, xs, ys in pieces(shores):
-            if area[polygon] < CONTINENT:
-                islands.setdefault(polygon, []).append((xs, ys))
-    rows = []
-    for polygon in sorted(islands, key=lambda number: -area[number])[:COUNT]:
+def boxes(shores, count):
+    """The boxes of so many islands, the largest first."""
+    area = shores["The_km_squared_area_of_polygons"][()]
+    islands = {}
+    for polygon, xs, ys in pieces(shores):
+        if area[polygon] < CONTINENT:
+            islands.setdefault(polygon, []).append((xs, ys))
+    for polygon in sorted(islands, key=lambda number: -area[number])[:count]:
         xs, ys = (numpy.concatenate(parts) for parts in zip(*islands[polygon]))
-        rows += [(west, ys.min(), east, ys.max()) for west, east in spans(xs)]
-    with open(Path(__file__).with_name("islands.csv"), "w") as file:
-        for number, box in enumerate(rows, 1):
-            file.write(",".join(map(str, [number, *(round(degrees * SCALE) for degrees in box)])) + "\n")
+        for west, east in spans(xs):
+            yield tuple(round(degrees * SCALE) for degrees in (west, ys.min(), east, ys.max()))
 
 
-main()
+def main():
+    with h5py.File(SHORES) as shores, open(Path(__file__).with_name("islands.csv"), "w") as file:
+        for number, box in enumerate(boxes(shores, COUNT), 1):
+            file.write(",".join(map(str, [number, *box])) + "\n")
+
+
+if __name__ == "__main__":
+    main()

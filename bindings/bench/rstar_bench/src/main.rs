@@ -1,4 +1,5 @@
 //! Times of rstar: the rows of bench.c, over the same numbers, and the sums of the answers.
+//! The boxes lie at random, or are those of a file: the `load` that scripts/speed.py keeps.
 
 use rstar::primitives::{GeomWithData, Rectangle};
 use rstar::{RTree, AABB};
@@ -28,6 +29,47 @@ impl Random {
         let (width, height) = (self.below(most_side), self.below(most_side));
         ([x, y], [x + width, y + height])
     }
+}
+
+/// Boxes, the areas that are asked for, and the points.
+type Drawn = (Vec<Box>, Vec<Box>, Vec<[i64; 2]>);
+
+fn draw(random: &mut Random) -> Drawn {
+    let boxes = (0..ITEMS).map(|_| random.corners(4000)).collect();
+    let questions = (0..QUESTIONS).map(|_| {
+        let area = random.corners(20_000);
+        (area, [random.below(2_000_000), random.below(2_000_000)])
+    });
+    let (areas, points) = questions.unzip();
+    (boxes, areas, points)
+}
+
+/// A question is a box grown by its own sides, or a corner.
+fn read(path: &str, random: &mut Random) -> Drawn {
+    let text = std::fs::read_to_string(path).expect("a file of lines");
+    let row = |line: &str| {
+        let mut words = line.split(' ').skip(1);
+        let mut number = || {
+            words
+                .next()
+                .and_then(|word| word.parse().ok())
+                .expect("ID X1 Y1 X2 Y2")
+        };
+        ([number(), number()], [number(), number()])
+    };
+    let boxes: Vec<Box> = text.lines().skip(1).take(ITEMS).map(row).collect();
+    let questions = (0..QUESTIONS).map(|_| {
+        let mut drawn = || boxes[random.below(ITEMS as u64) as usize];
+        let (one, other) = drawn();
+        let sides = [other[0] - one[0], other[1] - one[1]];
+        let lower = [one[0] - sides[0], one[1] - sides[1]];
+        (
+            (lower, [other[0] + sides[0], other[1] + sides[1]]),
+            drawn().0,
+        )
+    });
+    let (areas, points) = questions.unzip();
+    (boxes, areas, points)
 }
 
 #[derive(Default)]
@@ -99,20 +141,15 @@ impl Bench {
 
 fn main() {
     let mut random = Random(1);
-    let boxes = (0..ITEMS).map(|_| random.corners(4000)).collect();
-    let questions: Vec<_> = (0..QUESTIONS)
-        .map(|_| {
-            (
-                random.corners(20_000),
-                [random.below(2_000_000), random.below(2_000_000)],
-            )
-        })
-        .collect();
+    let (boxes, areas, points) = match std::env::args().nth(1) {
+        Some(path) => read(&path, &mut random),
+        None => draw(&mut random),
+    };
     let mut bench = Bench {
         boxes,
         ids: (0..ITEMS as u64).collect(),
-        areas: questions.iter().map(|question| question.0).collect(),
-        points: questions.iter().map(|question| question.1).collect(),
+        areas,
+        points,
         answers: Vec::new(),
         tree: RTree::new(),
         sums: Sums::default(),
