@@ -4,4 +4,5 @@
 pub mod dispatch;
 pub mod geofence;
 pub mod overlaps;
+pub mod polygons;
 pub mod spacing;
