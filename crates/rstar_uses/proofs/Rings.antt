@@ -1,5 +1,5 @@
 -- What a walk along a ring of corners tells of a point.
-use Rattle.std.proofs.Common.{◌≡◌, ◌∙◌, ◌∷◌, ◌&&◌, ◌||◌, ◌<ℤ◌, ◌≤ℤ◌, ◌-ℤ◌, ◌+◌, ◌==◌, ◌%◌, ◌-◌, ◌<◌, ℕ, ℤ, Bool, true, false, List, [], suc, length, get_or, drop, add-one, sub-one, not, pos, cond, refl, sym, ap, ap₂, int_lt, int_le, count_by, arith}
+use Rattle.std.proofs.Common.{◌≡◌, ◌∙◌, ◌∷◌, ◌&&◌, ◌||◌, ◌<ℤ◌, ◌≤ℤ◌, ◌+◌, ◌-◌, ◌<◌, ℕ, ℤ, Bool, true, false, List, [], suc, length, get_or, drop, add-one, not, pos, cond, refl, sym, ap, ap₂, int_lt, int_le, count_by, arith}
 use Rattle.std.proofs.Math.Seq.{drop-cons}
 use mathlib.Core.Bool.{beq}
 use Rattle.std.specs.Int.{int_min, int_max}
@@ -8,8 +8,8 @@ use Rattle.std.specs.List.{list_any, AllByRecursion}
 use Rattle.std.proofs.lemmas.List.Sums.{sum_by-cons}
 use Rattle.std.proofs.lemmas.Int.{ints, by_lt_z}
 use Rattle.std.proofs.lemmas.Bool.Decides.{nat_tests}
-use Rattle.rstar_uses.specs.Polygons.{x_of, y_of, side, is_on_edge, is_crossed, is_odd, edges_along, edges_of, last_of, is_between, contains}
-use Rattle.rstar_uses.proofs.Sides.{cross, left_of_both, left_of_none, up, up-too, down, less}
+use Rattle.rstar_uses.specs.Polygons.{x_of, y_of, side, is_on_edge, is_crossed, is_odd, edges_along, last_of, is_between, contains}
+use Rattle.rstar_uses.proofs.Sides.{left_of_both, left_of_none, up, up-too, down, less}
 
 -- whether one of two holds, and not both
 abbrev pub differ : Bool → Bool → Bool

@@ -1,10 +1,10 @@
 -- On which side of an edge a point lies, by products of distances.
-use Rattle.std.proofs.Common.{◌≡◌, ◌*◌, ◌<◌, ◌-ℤ◌, ◌*ℤ◌, ◌≤ℤ◌, ◌<ℤ◌, ◌&&◌, ◌⊎◌, inl, inr, ℕ, ℤ, List, Bool, true, false, pos, negsuc, int_lt, int_le, nat_lt, nat_eq, unsigned_abs, refl, sym, ap, ap₂, ◌∙◌, arith, FitsSigned, w64, to_z, of_z}
+use Rattle.std.proofs.Common.{◌≡◌, ◌*◌, ◌<◌, ◌-ℤ◌, ◌*ℤ◌, ◌≤ℤ◌, ◌<ℤ◌, ◌&&◌, ◌⊎◌, inl, inr, ℕ, ℤ, List, Bool, true, false, pos, negsuc, int_lt, nat_lt, nat_eq, unsigned_abs, sym, ap, ap₂, ◌∙◌, arith, FitsSigned, w64, to_z, of_z}
 use Rattle.std.specs.Ordering.{int_eq}
-use Rattle.std.specs.Int.{int_min, int_max}
 use Rattle.std.proofs.lemmas.Int.{ints, by_lt_z}
 use Rattle.std.proofs.lemmas.Bool.Decides.{nat_tests}
 use Rattle.std.proofs.Math.Nat.{mul-pos}
+use Rattle.rstar_base.specs.laws.PointLemmas.{and_parts}
 use Rattle.rstar_uses.specs.Polygons.{x_of, y_of, side, is_between, is_on_edge}
 
 -- the cross product of (d, v) and (e, u)
@@ -45,10 +45,6 @@ less a z h = omega (arith, ints)
 -- one at most 0, and the other at least 0
 abbrev pub Across : ℤ → ℤ → Type 0
 Across d e = ((d ≤ℤ pos 0) × (pos 0 ≤ℤ e)) ⊎ ((e ≤ℤ pos 0) × (pos 0 ≤ℤ d))
-
-and_parts : (a b : Bool) → (a && b) ≡ true → (a ≡ true) × (b ≡ true)
-and_parts true b e = (refl, e)
-and_parts false b e = cc
 
 turned : {d e : ℤ} → Across d e → Across e d
 turned (inl h) = inr h

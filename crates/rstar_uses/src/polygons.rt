@@ -12,6 +12,11 @@ ghost use Rattle.rstar.specs.Trees.{elements_in, IsWholeTree};
 ghost use Rattle.rstar_base.specs.Selections.{IsLawful};
 ghost use Rattle.rstar_uses.specs.Polygons.{x_of, y_of, side, contains, is_between, is_on_edge, is_crossed, rises_right_of};
 
+#[cfg(test)]
+mod coast;
+#[cfg(test)]
+mod shapes;
+
 use rstar::envelope::copied_envelope;
 use rstar::object::envelope_of_all;
 use rstar::{
@@ -258,32 +263,4 @@ fn is_inside(corners: &[[i64; 2]], point: [i64; 2]) -> bool
         from = *to;
     }
     is_inside
-}
-
-#[cfg(test)]
-mod tests {
-    use super::*;
-
-    /// Corners, a point, and whether the polygon contains it.
-    type Row = (&'static [[i64; 2]], [i64; 2], bool);
-
-    /// Whether a polygon with these corners contains a point.
-    fn is_at(alloc: Global, corners: &[[i64; 2]], point: [i64; 2]) -> bool {
-        match corners.to_vec(alloc) {
-            Ok(list) => match Polygon::new(7, list) {
-                Some(polygon) => polygon.contains(point),
-                None => false,
-            },
-            Err(_) => false,
-        }
-    }
-
-    #[test]
-    fn points_in_polygons(rt: HostRuntime) {
-        const SQUARE: [[i64; 2]; 4] = [[0, 0], [4, 0], [4, 4], [0, 4]];
-        const ROWS: [Row; 2] = [(&SQUARE, [2, 2], true), (&SQUARE, [5, 2], false)];
-        for (corners, point, is_there) in &ROWS {
-            assert!(rt; is_at(rt.alloc(), corners, *point) == *is_there);
-        }
-    }
 }
