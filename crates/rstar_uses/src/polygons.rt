@@ -70,9 +70,10 @@ impl Polygon {
         self.number
     }
 
-    /// The corners.
+    /// The corners. There is at least one.
     pub fn corners(&self) -> &[[i64; 2]]
-        ensures { result.now ≡ self.now.1 }
+        ensures list { result.now ≡ self.now.1 }
+        ensures some { 0 < length self.now.1 }
     {
         &self.corners
     }
@@ -135,6 +136,8 @@ impl Polygons {
         ensures handed_back { IfErr result (λ refused. refused.element ≡ polygon) }
         ensures unchanged { OnErr result (self.new ≡ self.old) }
     {
+        // Does nothing but tell that there is a corner, and so a box.
+        let _known = polygon.corners();
         self.tree.insert(polygon)
     }
 
