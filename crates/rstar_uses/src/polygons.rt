@@ -25,7 +25,8 @@ use rstar::{
 use std::alloc::{AllocError, Global};
 use std::marker::Model;
 
-/// A polygon: a number and its corners. The last corner joins the first.
+/// A polygon: a number and its corners. The last corner joins the first. Edges may cross, and a hole is walked to and
+/// back along one line.
 #[derive(Drop)]
 pub struct Polygon {
     number: u64,
@@ -47,7 +48,7 @@ impl Model for Polygon {
 }
 
 impl Polygon {
-    /// The polygon of these corners. `None` where there is none.
+    /// The polygon of these corners. `None` where there is no corner.
     pub fn new(number: u64, corners: Vec<[i64; 2]>) -> Option<Polygon>
         ensures some { IsSome result ↔ (0 < length corners.items) }
         ensures made { MatchOption result (corners.items ≡ []) (λ polygon. polygon ≡ (number, corners.items)) }
@@ -78,8 +79,8 @@ impl Polygon {
         &self.corners
     }
 
-    /// Whether the polygon contains a point. Borders belong to it. It walks along the edges where its box contains
-    /// the point.
+    /// Whether the polygon contains a point, by the even-odd rule. Borders belong to it. Where its box contains the
+    /// point, that is a walk along all edges.
     pub fn contains(&self, point: [i64; 2]) -> bool
         ensures { result ≡ contains point self.now.1 }
     {
@@ -130,7 +131,7 @@ impl Polygons {
         }
     }
 
-    /// Adds a polygon. A refusal hands it back and leaves the polygons as they were.
+    /// Adds a polygon. A refusal hands it back and leaves all others as they were.
     pub fn add(&mut self, polygon: Polygon) -> Result<(), InsertError<Polygon>>
         ensures added { OnOk result (IsPermutation (polygon ∷ self.old) self.new) }
         ensures handed_back { IfErr result (λ refused. refused.element ≡ polygon) }
