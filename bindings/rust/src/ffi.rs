@@ -115,7 +115,7 @@ extern "C" {
     ) -> Status;
 }
 
-/// Ends the program where memory was refused, and panics where a count does not fit.
+/// Ends the program where memory was refused, and panics where the tree is full.
 fn require(status: Status) {
     match status {
         OK => {}
@@ -123,7 +123,7 @@ fn require(status: Status) {
             eprintln!("vaikrone: memory was refused");
             std::process::abort();
         }
-        TOO_MANY => panic!("the tree is too deep, or a count does not fit"),
+        TOO_MANY => panic!("the tree cannot count one more rectangle"),
         other => unreachable!("status {other}"),
     }
 }

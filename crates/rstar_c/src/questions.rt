@@ -6,11 +6,11 @@ ghost use Rattle.rstar_c.specs.Answers.{AreFound, IsDrained, IsFound};
 ghost use Rattle.rstar_c.specs.Items.{Item, covers, is_within, lies_in, meets, number};
 ghost use Rattle.rstar_c.specs.Put.{AreWritten};
 
-use crate::asked::{put_at, put_inside, put_meeting, put_within};
 use crate::items::{Corners, Item, Place, between};
 use crate::put::{put_list, room_in};
 use crate::statuses::{NO_MEMORY, NO_ROOM, OK};
 use crate::store::Store;
+use crate::trees::{put_at, put_inside, put_meeting, put_within};
 use std::alloc::AllocError;
 
 /// A question, to be asked of one shape or of many.

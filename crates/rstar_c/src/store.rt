@@ -10,12 +10,12 @@ ghost use Rattle.rstar.specs.Trees.{elements_in, IsWholeTree};
 ghost use Rattle.rstar.specs.SelfJoins.{self_join};
 ghost use Rattle.rstar_base.specs.Boxes.{boxes_intersect, is_empty_box};
 ghost use Rattle.rstar_c.specs.Answers.{AreNearestPut, AreNearestEach, ArePairsGiven};
-ghost use Rattle.rstar_c.specs.Items.{Item, box_of, corners_of, is_before, item_of, items_of, lies_in, meets, number};
+ghost use Rattle.rstar_c.specs.Items.{Item, box_of, corners_of, IsBefore, item_of, items_of, lies_in, meets, number};
 ghost use Rattle.rstar_c.specs.Put.{over};
 
-use crate::asked::{drained, put_own_pairs, put_pairs_between};
 use crate::items::{Corners, Item, NodeSizes, Place, between, item};
 use crate::put::{put_items, put_neighbours, room_in};
+use crate::trees::{drained, put_own_pairs, put_pairs_between};
 use rstar::replay::Query;
 use rstar::{AABB, Envelope, EqualEnvelopes, InsertError, RTree, RTreeObject, RTreeParams};
 use std::alloc::{AllocError, Global};
@@ -30,7 +30,6 @@ pub struct Store {
 // Contracts see the list of the items. The tree is whole.
 impl Model for Store {
     ghost use Rattle.std.specs.Prelude.{List};
-    ghost use Rattle.rstar.specs.Steps.{TakesSome};
     ghost use Rattle.rstar.specs.Trees.{elements_in, IsWholeTree};
     ghost use Rattle.rstar_c.specs.Items.{Item};
 
@@ -199,7 +198,7 @@ impl Store {
     /// Takes out the first rectangle in the order of neighbours.
     pub(crate) fn pop_nearest(&mut self, place: &Place) -> Result<Option<Item>, AllocError>
         ensures taken { IfOk result (λ r. IfSome r (λ t. IsPermutation self.old (t ∷ self.new))) }
-        ensures first { IfOk result (λ r. IfSome r (λ t. IsLeast (is_before place.now) self.old t)) }
+        ensures first { IfOk result (λ r. IfSome r (λ t. IsLeast (IsBefore place.now) self.old t)) }
         ensures none { IfOk result (λ r. IfNone r (self.old ≡ [])) }
         ensures unchanged { IfOk result (λ r. IfNone r (self.new ≡ self.old)) }
         ensures refused { OnErr result (self.new ≡ self.old) }

@@ -11,8 +11,8 @@ use crate::questions::{Inside, Meeting, put_drained};
 use crate::statuses::{NO_MEMORY, NO_ROOM, OK};
 use std::alloc::Global;
 
-/// Takes the rectangles out that meet a box, and writes their IDs. Where the list is too short for these nothing is taken out,
-/// and `found` says how long it must be.
+/// Takes the rectangles out that meet a box, and writes their IDs. Where the list is too short for these nothing is
+/// taken out, and `found` says how long it must be.
 #[unsafe(no_mangle)]
 pub extern "C" fn rstar_index_drain_meeting(
     alloc: Global,
@@ -38,8 +38,8 @@ pub extern "C" fn rstar_index_drain_meeting(
     status
 }
 
-/// Takes the rectangles out that lie inside a box, and writes their IDs. Where the list is too short for these nothing is taken out,
-/// and `found` says how long it must be.
+/// Takes the rectangles out that lie inside a box, and writes their IDs. Where the list is too short for these nothing is
+/// taken out, and `found` says how long it must be.
 #[unsafe(no_mangle)]
 pub extern "C" fn rstar_index_drain_inside(
     alloc: Global,

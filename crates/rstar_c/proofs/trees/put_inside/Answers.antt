@@ -4,7 +4,7 @@ use Rattle.std.proofs.lemmas.Simd.{map-map}
 use Rattle.rstar.proofs.selecting.Chains.{selection_end}
 use Rattle.rstar_base.specs.Counts.{usize_max}
 use Rattle.rstar_c.specs.Put.{put_from}
-use Rattle.rstar_c.proofs.asked.put_inside.Goals as goal
+use Rattle.rstar_c.proofs.trees.put_inside.Goals as goal
 
 pub returns-in-Ok-clause-written : goal.returns-in-Ok-clause-written
 returns-in-Ok-clause-written g c =

@@ -1,4 +1,4 @@
-//! Questions of any tree of elements with numbers, answered into a caller's lists.
+//! What is asked of any tree of elements with numbers, and what is taken out of it.
 
 ghost use Rattle.std.specs.Prelude.{◌≡◌, filter, int_le, pos, IfOk, IfNone, IfSome, OnErr};
 ghost use Rattle.rstar.specs.Clones.{ClonesEqual};

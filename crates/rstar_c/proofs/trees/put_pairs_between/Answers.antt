@@ -5,7 +5,7 @@ use Rattle.rstar.proofs.selecting.Chains.{pairs_end}
 use Rattle.rstar_base.specs.Counts.{usize_max}
 use Rattle.rstar_c.specs.Put.{over}
 use Rattle.rstar_c.proofs.Listed.{arranged}
-use Rattle.rstar_c.proofs.asked.put_pairs_between.Goals as goal
+use Rattle.rstar_c.proofs.trees.put_pairs_between.Goals as goal
 
 pub returns-in-Ok-clause-given : goal.returns-in-Ok-clause-given
 returns-in-Ok-clause-given g c =
