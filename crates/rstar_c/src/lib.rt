@@ -11,6 +11,7 @@ mod questions;
 mod statuses;
 mod store;
 mod trees;
+mod walk;
 
 pub use crate::index::Index;
 pub use crate::items::{Corners, Place};

@@ -1,99 +1,53 @@
 //! What is asked of any tree of elements with numbers, and what is taken out of it.
 
-ghost use Rattle.std.specs.Prelude.{◌≡◌, filter, int_le, pos, IfOk, IfNone, IfSome, OnErr};
+ghost use Rattle.std.specs.Prelude.{◌≡◌, filter, map, IfOk, IfNone, IfSome, OnErr};
 ghost use Rattle.rstar.specs.Clones.{ClonesEqual};
 ghost use Rattle.rstar.specs.Joins.{join};
 ghost use Rattle.rstar.specs.SelfJoins.{self_join};
 ghost use Rattle.rstar.specs.Steps.{selects, TakesSome};
 ghost use Rattle.rstar.specs.Trees.{elements_in, IsWholeTree};
-ghost use Rattle.rstar_base.specs.Points.{table};
 ghost use Rattle.rstar_c.specs.Answers.{ArePairsGiven};
-ghost use Rattle.rstar_c.specs.Put.{AreWritten};
+ghost use Rattle.rstar_c.specs.Put.{ArePut};
 
-use crate::put::{put_numbers, put_pairs};
-use rstar::object::{Distance, PointOf};
-use rstar::replay::{Command, Query, Reply, Scanned, step};
-use rstar::{
-    Envelope, EqualEnvelopes, Point, PointDistance, RTree, RTreeNum, RTreeObject, RTreeParams,
+use crate::put::put_pairs;
+use crate::walk::put_lawful;
+use rstar::algorithm::selection_functions::{
+    SelectAllFunc, SelectAtPointFunction, SelectInEnvelopeFuncIntersecting,
+    SelectInEnvelopeFunction, SelectWithinDistanceFunction,
 };
+use rstar::replay::{Command, Query, Reply, Scanned, step};
+use rstar::{Envelope, EqualEnvelopes, PointDistance, RTree, RTreeObject, RTreeParams};
 use rstar_base::primitives::GeomWithData;
 use std::alloc::AllocError;
 
-/// Writes the numbers of the elements that an envelope intersects into a list, from a place on and as far as it reaches. It
-/// gives the place behind the last, also where the list ends before.
-pub(crate) fn put_meeting<R: RTreeObject, Params: RTreeParams>(
+/// Writes the numbers of the elements that a query selects into a list, from a place on and as far as it reaches. It gives
+/// the place behind the last, also where the list ends before. It takes no memory.
+pub(crate) fn put_selected<R: PointDistance + EqualEnvelopes, Params: RTreeParams>(
     tree: &RTree<GeomWithData<R, u64>, Params>,
-    envelope: R::Envelope,
+    query: Query<GeomWithData<R, u64>>,
     out: &mut [u64],
     from: usize,
-) -> Result<usize, AllocError>
+) -> usize
     requires { IsWholeTree R.Envelope.boxes ⟦<GeomWithData<R, u64> as RTreeObject>⟧.object Params.MAX_SIZE tree.now }
-    ensures written { IfOk result (AreWritten (λ t. t.1) (filter (λ t. R.Envelope.boxes.intersects envelope
-        (⟦<GeomWithData<R, u64> as RTreeObject>⟧.object.box_of t))
-        (elements_in tree.now)) from out.old out.new) }
-    ensures refused { OnErr result (out.new ≡ out.old) }
+    ensures { ArePut (map (λ t. t.1) (filter (selects ⟦<GeomWithData<R, u64> as Scanned>⟧.questions query)
+        (elements_in tree.now))) from out.old out.new result }
 {
-    match tree.locate_in_envelope_intersecting(envelope) {
-        Ok(walk) => Ok(put_numbers(walk, out, from)),
-        Err(refused) => Err(refused),
-    }
-}
-
-/// The same of those that an envelope contains.
-pub(crate) fn put_inside<R: RTreeObject, Params: RTreeParams>(
-    tree: &RTree<GeomWithData<R, u64>, Params>,
-    envelope: R::Envelope,
-    out: &mut [u64],
-    from: usize,
-) -> Result<usize, AllocError>
-    requires { IsWholeTree R.Envelope.boxes ⟦<GeomWithData<R, u64> as RTreeObject>⟧.object Params.MAX_SIZE tree.now }
-    ensures written { IfOk result (AreWritten (λ t. t.1) (filter (λ t. R.Envelope.boxes.contains envelope
-        (⟦<GeomWithData<R, u64> as RTreeObject>⟧.object.box_of t))
-        (elements_in tree.now)) from out.old out.new) }
-    ensures refused { OnErr result (out.new ≡ out.old) }
-{
-    match tree.locate_in_envelope(envelope) {
-        Ok(walk) => Ok(put_numbers(walk, out, from)),
-        Err(refused) => Err(refused),
-    }
-}
-
-/// The same of those that contain a point.
-pub(crate) fn put_at<R: PointDistance, Params: RTreeParams>(
-    tree: &RTree<GeomWithData<R, u64>, Params>,
-    point: PointOf<R>,
-    out: &mut [u64],
-    from: usize,
-) -> Result<usize, AllocError>
-    requires { IsWholeTree R.Envelope.boxes ⟦<GeomWithData<R, u64> as RTreeObject>⟧.object Params.MAX_SIZE tree.now }
-    ensures written { IfOk result (AreWritten (λ t. t.1) (filter (λ t. ⟦<GeomWithData<R, u64> as PointDistance>⟧.distances.contains_point t
-        (table R.Envelope.Point.DIMENSIONS (R.Envelope.Point.coord point)))
-        (elements_in tree.now)) from out.old out.new) }
-    ensures refused { OnErr result (out.new ≡ out.old) }
-{
-    match tree.locate_all_at_point(point) {
-        Ok(walk) => Ok(put_numbers(walk, out, from)),
-        Err(refused) => Err(refused),
-    }
-}
-
-/// The same of those within a squared distance of a point.
-pub(crate) fn put_within<R: PointDistance, Params: RTreeParams>(
-    tree: &RTree<GeomWithData<R, u64>, Params>,
-    point: PointOf<R>,
-    distance: Distance<R>,
-    out: &mut [u64],
-    from: usize,
-) -> Result<usize, AllocError>
-    requires { IsWholeTree R.Envelope.boxes ⟦<GeomWithData<R, u64> as RTreeObject>⟧.object Params.MAX_SIZE tree.now }
-    ensures written { IfOk result (AreWritten (λ t. t.1) (filter (λ t. int_le (pos (⟦<GeomWithData<R, u64> as PointDistance>⟧.distances.distance_2 t
-        (table R.Envelope.Point.DIMENSIONS (R.Envelope.Point.coord point)))) (R.Envelope.Point.Scalar.value distance))
-        (elements_in tree.now)) from out.old out.new) }
-    ensures refused { OnErr result (out.new ≡ out.old) }
-{
-    match tree.locate_within_distance(point, distance) {
-        Ok(walk) => Ok(put_numbers(walk, out, from)),
-        Err(refused) => Err(refused),
+    match query {
+        Query::All => put_lawful(tree, &SelectAllFunc, out, from),
+        Query::In(area) => put_lawful(tree, &SelectInEnvelopeFunction::new(area), out, from),
+        Query::Hit(area) => {
+            put_lawful(
+                tree,
+                &SelectInEnvelopeFuncIntersecting::new(area),
+                out,
+                from,
+            )
+        }
+        Query::At(point) => put_lawful(tree, &SelectAtPointFunction::new(point), out, from),
+        Query::Within(point, distance) => {
+            let near = SelectWithinDistanceFunction::new(point, distance);
+            put_lawful(tree, &near, out, from)
+        }
     }
 }
 
