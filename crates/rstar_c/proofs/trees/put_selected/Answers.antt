@@ -13,4 +13,4 @@ pub returns-in-At : goal.returns-in-At
 returns-in-At g c = rw c.in-At.is (rw c.new-in-At.ensures.selects at c.put_lawful-in-At.ensures)
 
 pub returns-in-Within : goal.returns-in-Within
-returns-in-Within g c = rw c.in-Within.is (rw c.new-in-Within.ensures.selects at c.put_lawful-in-Within.ensures)
+returns-in-Within g c = rw c.in-Within.is (rw c.new-near.ensures.selects at c.put_lawful-in-Within.ensures)
