@@ -73,8 +73,8 @@ static void load(rstar_index *index) { require(rstar_index_load(index, boxes, IT
 static void ask(rstar_index *index) {
     hits = sum_of_ids = 0;
     for (size_t i = 0; i < QUESTIONS; i++) {
-        size_t found;
-        require(rstar_index_meeting(index, &areas[i], answers, ROOM, &found) == RSTAR_OK && found <= ROOM);
+        size_t found = rstar_index_meeting(index, &areas[i], answers, ROOM);
+        require(found <= ROOM);
         hits += found;
         for (size_t j = 0; j < found; j++) {
             sum_of_ids += answers[j];

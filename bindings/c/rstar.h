@@ -12,6 +12,8 @@
  *
  * A question with an array writes as many answers as the array has room for, and says how many there are. Where there
  * are more than it has room for, a second call with a longer array gets all.
+ *
+ * Questions about boxes, points and distances take no memory, so none is refused.
  */
 #ifndef RSTAR_H
 #define RSTAR_H
@@ -41,8 +43,8 @@ typedef struct rstar_point {
     int64_t at[2];
 } rstar_point;
 
-/* What a call answers. After any but RSTAR_OK the handle is as it was. So are the arrays, but for those of many questions
- * and of RSTAR_NO_MEMORY: these may have some of the answers. */
+/* What a call answers. After any but RSTAR_OK the handle is as it was. So are the arrays, but for those of
+ * rstar_index_nearest_each and RSTAR_NO_MEMORY: these may have some of the answers. */
 typedef int32_t rstar_status;
 #define RSTAR_OK 0
 #define RSTAR_NO_MEMORY 1  /* memory was refused */
@@ -73,23 +75,20 @@ bool rstar_index_contains(rstar_index *index, uint64_t id, const rstar_box *box)
 rstar_status rstar_index_items(rstar_index *index, rstar_box *boxes, size_t boxes_len,
                                uint64_t *ids, size_t ids_len, size_t *found);
 
-/* The IDs of the rectangles that meet a box; touching is enough. */
-rstar_status rstar_index_meeting(rstar_index *index, const rstar_box *box,
-                                 uint64_t *ids, size_t ids_len, size_t *found);
+/* The IDs of the rectangles that meet a box; touching is enough. Each of these four gives how many rectangles there are. */
+size_t rstar_index_meeting(rstar_index *index, const rstar_box *box, uint64_t *ids, size_t ids_len);
 
 /* The IDs of the rectangles that lie inside a box; they may touch its border. */
-rstar_status rstar_index_inside(rstar_index *index, const rstar_box *box,
-                                uint64_t *ids, size_t ids_len, size_t *found);
+size_t rstar_index_inside(rstar_index *index, const rstar_box *box, uint64_t *ids, size_t ids_len);
 
 /* The IDs of the rectangles that a point lies in, or on the border of. */
-rstar_status rstar_index_at(rstar_index *index, const rstar_point *point,
-                            uint64_t *ids, size_t ids_len, size_t *found);
+size_t rstar_index_at(rstar_index *index, const rstar_point *point, uint64_t *ids, size_t ids_len);
 
 /* The IDs of the rectangles whose squared distance from a point is at most `distance`. */
-rstar_status rstar_index_within(rstar_index *index, const rstar_point *point, int64_t distance,
-                                uint64_t *ids, size_t ids_len, size_t *found);
+size_t rstar_index_within(rstar_index *index, const rstar_point *point, int64_t distance,
+                          uint64_t *ids, size_t ids_len);
 
-/* The same questions, many at once. The IDs for question i are ids[offsets[i]] up to ids[offsets[i + 1]], as far as there
+/* The same questions, many at once; only lengths are refused. The IDs for question i are ids[offsets[i]] up to ids[offsets[i + 1]], as far as there
  * is room. `offsets_len` is one more than the number of questions; the last offset is the number of all IDs. */
 rstar_status rstar_index_meeting_each(rstar_index *index, const rstar_box *boxes, size_t boxes_len,
                                       size_t *offsets, size_t offsets_len, uint64_t *ids, size_t ids_len);
@@ -123,10 +122,14 @@ rstar_status rstar_index_pairs(rstar_index *index, uint64_t *first, size_t first
 rstar_status rstar_index_pairs_between(rstar_index *index, rstar_index *other, uint64_t *first, size_t first_len,
                                        uint64_t *second, size_t second_len, size_t *found);
 
-/* Takes the rectangles out that meet a box, or lie inside it, and writes their IDs. */
+/* Takes the rectangles out that one of the four questions finds, and writes their IDs. */
 rstar_status rstar_index_drain_meeting(rstar_index *index, const rstar_box *box,
                                        uint64_t *ids, size_t ids_len, size_t *found);
 rstar_status rstar_index_drain_inside(rstar_index *index, const rstar_box *box,
+                                      uint64_t *ids, size_t ids_len, size_t *found);
+rstar_status rstar_index_drain_at(rstar_index *index, const rstar_point *point,
+                                  uint64_t *ids, size_t ids_len, size_t *found);
+rstar_status rstar_index_drain_within(rstar_index *index, const rstar_point *point, int64_t distance,
                                       uint64_t *ids, size_t ids_len, size_t *found);
 
 /* Takes the first rectangle out in that order, and writes its ID, its box and its squared distance. `found` is false

@@ -10,11 +10,10 @@ int main(void) {
     const rstar_box area = {{4, 4}, {6, 6}};
     rstar_index index = RSTAR_INDEX_EMPTY;
     uint64_t answers[10];
-    size_t found;
-    if (rstar_index_load(&index, boxes, 3, ids, 3) != RSTAR_OK ||
-        rstar_index_meeting(&index, &area, answers, 10, &found) != RSTAR_OK) {
+    if (rstar_index_load(&index, boxes, 3, ids, 3) != RSTAR_OK) {
         return 1;
     }
+    size_t found = rstar_index_meeting(&index, &area, answers, 10);
     for (size_t i = 0; i < found; i++) {
         printf("%" PRIu64 "\n", answers[i]); /* 7 and 8, in any order */
     }

@@ -17,11 +17,10 @@ struct Index {
 
     std::vector<uint64_t> meeting(rstar_box box) const {
         std::vector<uint64_t> ids(8);
-        std::size_t found = 0;
-        require(rstar_index_meeting(&handle, &box, ids.data(), ids.size(), &found));
+        std::size_t found = rstar_index_meeting(&handle, &box, ids.data(), ids.size());
         if (found > ids.size()) {
             ids.resize(found);
-            require(rstar_index_meeting(&handle, &box, ids.data(), ids.size(), &found));
+            rstar_index_meeting(&handle, &box, ids.data(), ids.size());
         }
         ids.resize(found);
         return ids;

@@ -256,17 +256,17 @@ static void try_items(size_t at) {
 /* The four questions, so that one step tries each of them. */
 enum kind { MEETING, INSIDE, AT, WITHIN };
 
-static rstar_status ask(const struct library *of, enum kind kind, rstar_index *index, const rstar_box *box,
-                        const rstar_point *point, int64_t distance, uint64_t *ids, size_t room, size_t *found) {
+static size_t ask(const struct library *of, enum kind kind, rstar_index *index, const rstar_box *box,
+                  const rstar_point *point, int64_t distance, uint64_t *ids, size_t room) {
     switch (kind) {
     case MEETING:
-        return of->meeting(index, box, ids, room, found);
+        return of->meeting(index, box, ids, room);
     case INSIDE:
-        return of->inside(index, box, ids, room, found);
+        return of->inside(index, box, ids, room);
     case AT:
-        return of->at(index, point, ids, room, found);
+        return of->at(index, point, ids, room);
     default:
-        return of->within(index, point, distance, ids, room, found);
+        return of->within(index, point, distance, ids, room);
     }
 }
 
@@ -274,14 +274,12 @@ static void try_question(size_t at, enum kind kind) {
     rstar_box box = random_box();
     rstar_point point = random_point();
     int64_t distance = random_distance();
-    size_t most = scan.len(&scans[at]), all, found = 0;
+    size_t most = scan.len(&scans[at]);
     uint64_t *scan_ids = untouched(most);
-    ask(&scan, kind, &scans[at], &box, &point, distance, scan_ids, most, &all);
+    size_t all = ask(&scan, kind, &scans[at], &box, &point, distance, scan_ids, most);
     size_t room = random_room(all), written = lesser(room, all);
     uint64_t *tree_ids = untouched(room);
-    rstar_status status = ask(&tree, kind, &trees[at], &box, &point, distance, tree_ids, room, &found);
-    expect(status == RSTAR_OK, "the status is not RSTAR_OK");
-    expect(found == all, "the number of answers differs");
+    expect(ask(&tree, kind, &trees[at], &box, &point, distance, tree_ids, room) == all, "the number of answers differs");
     expect_untouched(tree_ids, written, room);
     expect_ids(tree_ids, written, scan_ids, all);
     free(tree_ids), free(scan_ids);
@@ -438,14 +436,29 @@ static void try_pairs_between(size_t at) {
     try_join(at, true);
 }
 
-static void try_drain(size_t at, bool is_inside) {
+static rstar_status drain(const struct library *of, enum kind kind, rstar_index *index, const rstar_box *box,
+                          const rstar_point *point, int64_t distance, uint64_t *ids, size_t room, size_t *found) {
+    switch (kind) {
+    case MEETING:
+        return of->drain_meeting(index, box, ids, room, found);
+    case INSIDE:
+        return of->drain_inside(index, box, ids, room, found);
+    case AT:
+        return of->drain_at(index, point, ids, room, found);
+    default:
+        return of->drain_within(index, point, distance, ids, room, found);
+    }
+}
+
+static void try_drain(size_t at, enum kind kind) {
     rstar_box box = random_box();
-    size_t most = scan.len(&scans[at]), all, found = 0;
+    rstar_point point = random_point();
+    int64_t distance = random_distance();
+    size_t most = scan.len(&scans[at]), found = 0;
     uint64_t *scan_ids = untouched(most);
-    (is_inside ? scan.inside : scan.meeting)(&scans[at], &box, scan_ids, 0, &all);
-    size_t room = random_room(all);
+    size_t all = ask(&scan, kind, &scans[at], &box, &point, distance, scan_ids, 0), room = random_room(all);
     uint64_t *tree_ids = untouched(room);
-    rstar_status status = (is_inside ? tree.drain_inside : tree.drain_meeting)(&trees[at], &box, tree_ids, room, &found);
+    rstar_status status = drain(&tree, kind, &trees[at], &box, &point, distance, tree_ids, room, &found);
     expect(found == all, "the number of answers differs");
     if (room < all) {
         expect(status == RSTAR_NO_ROOM, "the status is not RSTAR_NO_ROOM");
@@ -453,18 +466,26 @@ static void try_drain(size_t at, bool is_inside) {
     } else {
         expect(status == RSTAR_OK, "the status is not RSTAR_OK");
         expect_untouched(tree_ids, all, room);
-        (is_inside ? scan.drain_inside : scan.drain_meeting)(&scans[at], &box, scan_ids, most, &all);
+        drain(&scan, kind, &scans[at], &box, &point, distance, scan_ids, most, &all);
         expect_ids(tree_ids, all, scan_ids, all);
     }
     free(tree_ids), free(scan_ids);
 }
 
 static void try_drain_meeting(size_t at) {
-    try_drain(at, false);
+    try_drain(at, MEETING);
 }
 
 static void try_drain_inside(size_t at) {
-    try_drain(at, true);
+    try_drain(at, INSIDE);
+}
+
+static void try_drain_at(size_t at) {
+    try_drain(at, AT);
+}
+
+static void try_drain_within(size_t at) {
+    try_drain(at, WITHIN);
 }
 
 /* Of rectangles that are equally near any may go; the scan loses the same one. */
@@ -514,6 +535,8 @@ static const struct step {
     {"pairs_between", try_pairs_between, 3},
     {"drain_meeting", try_drain_meeting, 20},
     {"drain_inside", try_drain_inside, 20},
+    {"drain_at", try_drain_at, 20},
+    {"drain_within", try_drain_within, 20},
     {"pop_nearest", try_pop_nearest, 40},
 };
 

@@ -88,9 +88,14 @@ static void try_joins_and_drains(void) {
     expect(found == 3, "drain_meeting says how long the array must be");
     REFUSED(RSTAR_NO_ROOM, tree.drain_inside(&tree_index, &boxes[1], ids, 0, &found));
     expect(found == 1, "drain_inside says how long the array must be");
+    REFUSED(RSTAR_NO_ROOM, tree.drain_at(&tree_index, &points[1], ids, 1, &found));
+    expect(found == 2, "drain_at says how long the array must be");
+    REFUSED(RSTAR_NO_ROOM, tree.drain_within(&tree_index, &points[1], 1, ids, 2, &found));
+    expect(found == 3, "drain_within says how long the array must be");
 }
 
 static void try_lengths_that_fit(void) {
+    expect(tree.meeting(&tree_index, &boxes[1], ids, 0) == 3 && ids[0] == 90, "meeting without room counts");
     GOOD(tree.meeting_each(&tree_index, boxes, 0, offsets, 1, ids, 0));
     expect(offsets[0] == 0 && offsets[1] == 50, "meeting_each of no box writes one offset");
     GOOD(tree.meeting_each(&tree_index, boxes, 2, offsets, 3, ids, 0));

@@ -1,7 +1,7 @@
 /* Each allocation of the library is refused in turn: one alone, and one with all that follow. After each refusal the status is
  * RSTAR_NO_MEMORY, and rectangles and arrays are as they were. It is linked with --wrap=malloc and --wrap=realloc.
  *
- * This does not hold of the arrays of a call for many questions: it may have written the answers to the first of them. */
+ * This does not hold of the arrays of nearest_each: it may have written the answers to the first points. */
 #include "scan.h"
 
 #include <stdio.h>
@@ -108,19 +108,23 @@ static rstar_status items(const struct library *of, rstar_index *index, struct o
 }
 
 static rstar_status meeting(const struct library *of, rstar_index *index, struct output *out) {
-    return of->meeting(index, &areas[0], out->ids, ROOM, &found);
+    found = of->meeting(index, &areas[0], out->ids, ROOM);
+    return RSTAR_OK;
 }
 
 static rstar_status inside(const struct library *of, rstar_index *index, struct output *out) {
-    return of->inside(index, &areas[0], out->ids, ROOM, &found);
+    found = of->inside(index, &areas[0], out->ids, ROOM);
+    return RSTAR_OK;
 }
 
 static rstar_status at(const struct library *of, rstar_index *index, struct output *out) {
-    return of->at(index, &points[3], out->ids, ROOM, &found);
+    found = of->at(index, &points[3], out->ids, ROOM);
+    return RSTAR_OK;
 }
 
 static rstar_status within(const struct library *of, rstar_index *index, struct output *out) {
-    return of->within(index, &points[1], 40000000000, out->ids, ROOM, &found);
+    found = of->within(index, &points[1], 40000000000, out->ids, ROOM);
+    return RSTAR_OK;
 }
 
 static rstar_status meeting_each(const struct library *of, rstar_index *index, struct output *out) {
@@ -161,6 +165,14 @@ static rstar_status drain_meeting(const struct library *of, rstar_index *index, 
 
 static rstar_status drain_inside(const struct library *of, rstar_index *index, struct output *out) {
     return of->drain_inside(index, &areas[0], out->ids, ROOM, &found);
+}
+
+static rstar_status drain_at(const struct library *of, rstar_index *index, struct output *out) {
+    return of->drain_at(index, &points[2], out->ids, ROOM, &found);
+}
+
+static rstar_status drain_within(const struct library *of, rstar_index *index, struct output *out) {
+    return of->drain_within(index, &points[4], 10000000000, out->ids, ROOM, &found);
 }
 
 static rstar_status pop_nearest(const struct library *of, rstar_index *index, struct output *out) {
@@ -226,10 +238,6 @@ static void expect_same_items(const char *otherwise) {
     }
 }
 
-static bool is_batch(call *run) {
-    return run == meeting_each || run == inside_each || run == at_each || run == within_each || run == nearest_each;
-}
-
 /* Runs a call of the tree with an allocation refused, and says whether there was one. */
 static bool is_refused_at(call *run, size_t allocation, bool all_that_follow) {
     memset(&output, 0x5a, sizeof output);
@@ -250,7 +258,7 @@ static bool is_refused_at(call *run, size_t allocation, bool all_that_follow) {
     if (status != RSTAR_NO_MEMORY) {
         fail("the status is not RSTAR_NO_MEMORY");
     }
-    if (!is_batch(run) && memcmp(&output, &untouched, sizeof output)) {
+    if (run != nearest_each && memcmp(&output, &untouched, sizeof output)) {
         fail("an array is not as it was");
     }
     expect_same_items("the rectangles are not as they were");
@@ -285,13 +293,19 @@ static const struct step {
     const char *name;
     call *run;
 } questions[] = {
-    {"items", items}, {"meeting", meeting}, {"inside", inside}, {"at", at}, {"within", within},
+    {"items", items}, {"nearest", nearest}, {"nearest_each", nearest_each},
+    {"pairs", pairs}, {"pairs_between", pairs_between},
+};
+
+/* These ask for no memory. */
+static const struct step selections[] = {
+    {"meeting", meeting}, {"inside", inside}, {"at", at}, {"within", within},
     {"meeting_each", meeting_each}, {"inside_each", inside_each}, {"at_each", at_each}, {"within_each", within_each},
-    {"nearest", nearest}, {"nearest_each", nearest_each}, {"pairs", pairs}, {"pairs_between", pairs_between},
 };
 
 static const struct step removals[] = {
-    {"pop_nearest", pop_nearest}, {"drain_inside", drain_inside}, {"drain_meeting", drain_meeting},
+    {"pop_nearest", pop_nearest}, {"drain_at", drain_at}, {"drain_within", drain_within},
+    {"drain_inside", drain_inside}, {"drain_meeting", drain_meeting},
 };
 
 static void try_steps(const struct step *steps, size_t count, bool take_memory) {
@@ -307,12 +321,15 @@ int main(void) {
     memset(&untouched, 0x5a, sizeof untouched);
     try_free_call("takes_none of an empty handle", takes_none);
     try_steps(questions, COUNT(questions), false);
+    try_steps(selections, COUNT(selections), false);
     try_steps(removals, COUNT(removals), false);
     try_call("load of a few", load_few);
     try_steps(questions, COUNT(questions), true);
+    try_steps(selections, COUNT(selections), false);
     try_call("load in their place", load_many);
     try_call("load of the other", load_other);
     try_steps(questions, COUNT(questions), true);
+    try_steps(selections, COUNT(selections), false);
     try_free_call("takes_none", takes_none);
     try_steps(removals, COUNT(removals), true);
     try_free_call("clear", clear);
@@ -320,6 +337,7 @@ int main(void) {
         try_call("insert", insert);
     }
     try_steps(questions, COUNT(questions), true);
+    try_steps(selections, COUNT(selections), false);
     try_steps(removals, COUNT(removals), true);
     if (refusals == 0) {
         fail("no allocation was met");

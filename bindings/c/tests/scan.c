@@ -210,28 +210,20 @@ rstar_status scan_index_items(rstar_index *index, rstar_box *boxes, size_t boxes
     return RSTAR_OK;
 }
 
-rstar_status scan_index_meeting(rstar_index *index, const rstar_box *box, uint64_t *ids, size_t ids_len,
-                                size_t *found) {
-    *found = ask(index, (struct question){.kind = MEETING, .box = *box}, ids, ids_len, 0);
-    return RSTAR_OK;
+size_t scan_index_meeting(rstar_index *index, const rstar_box *box, uint64_t *ids, size_t ids_len) {
+    return ask(index, (struct question){.kind = MEETING, .box = *box}, ids, ids_len, 0);
 }
 
-rstar_status scan_index_inside(rstar_index *index, const rstar_box *box, uint64_t *ids, size_t ids_len,
-                               size_t *found) {
-    *found = ask(index, (struct question){.kind = INSIDE, .box = *box}, ids, ids_len, 0);
-    return RSTAR_OK;
+size_t scan_index_inside(rstar_index *index, const rstar_box *box, uint64_t *ids, size_t ids_len) {
+    return ask(index, (struct question){.kind = INSIDE, .box = *box}, ids, ids_len, 0);
 }
 
-rstar_status scan_index_at(rstar_index *index, const rstar_point *point, uint64_t *ids, size_t ids_len,
-                           size_t *found) {
-    *found = ask(index, (struct question){.kind = AT, .point = *point}, ids, ids_len, 0);
-    return RSTAR_OK;
+size_t scan_index_at(rstar_index *index, const rstar_point *point, uint64_t *ids, size_t ids_len) {
+    return ask(index, (struct question){.kind = AT, .point = *point}, ids, ids_len, 0);
 }
 
-rstar_status scan_index_within(rstar_index *index, const rstar_point *point, int64_t distance, uint64_t *ids,
-                               size_t ids_len, size_t *found) {
-    *found = ask(index, (struct question){.kind = WITHIN, .point = *point, .distance = distance}, ids, ids_len, 0);
-    return RSTAR_OK;
+size_t scan_index_within(rstar_index *index, const rstar_point *point, int64_t distance, uint64_t *ids, size_t ids_len) {
+    return ask(index, (struct question){.kind = WITHIN, .point = *point, .distance = distance}, ids, ids_len, 0);
 }
 
 static rstar_status ask_each(const rstar_index *index, struct question question, const rstar_box *boxes,
@@ -368,6 +360,16 @@ rstar_status scan_index_drain_meeting(rstar_index *index, const rstar_box *box, 
 rstar_status scan_index_drain_inside(rstar_index *index, const rstar_box *box, uint64_t *ids, size_t ids_len,
                                      size_t *found) {
     return drain(index, (struct question){.kind = INSIDE, .box = *box}, ids, ids_len, found);
+}
+
+rstar_status scan_index_drain_at(rstar_index *index, const rstar_point *point, uint64_t *ids, size_t ids_len,
+                                 size_t *found) {
+    return drain(index, (struct question){.kind = AT, .point = *point}, ids, ids_len, found);
+}
+
+rstar_status scan_index_drain_within(rstar_index *index, const rstar_point *point, int64_t distance, uint64_t *ids,
+                                     size_t ids_len, size_t *found) {
+    return drain(index, (struct question){.kind = WITHIN, .point = *point, .distance = distance}, ids, ids_len, found);
 }
 
 rstar_status scan_index_pop_nearest(rstar_index *index, const rstar_point *point, uint64_t *id, rstar_box *box,

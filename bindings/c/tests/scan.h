@@ -7,7 +7,7 @@
 #define EACH_CALL(DO) \
     DO(clear) DO(len) DO(load) DO(insert) DO(remove) DO(contains) DO(items) DO(meeting) DO(inside) DO(at) DO(within) \
     DO(meeting_each) DO(inside_each) DO(at_each) DO(within_each) DO(nearest) DO(nearest_each) DO(pairs) \
-    DO(pairs_between) DO(drain_meeting) DO(drain_inside) DO(pop_nearest)
+    DO(pairs_between) DO(drain_meeting) DO(drain_inside) DO(drain_at) DO(drain_within) DO(pop_nearest)
 
 #define DECLARE(name) __typeof__(rstar_index_##name) scan_index_##name;
 EACH_CALL(DECLARE)

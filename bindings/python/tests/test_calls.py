@@ -17,8 +17,8 @@ FAR = (-(2**63), -(2**62), 2**62, 2**63 - 1)
 # Of each hundred steps so many are this call.
 OFTEN = {
     "insert": 24, "remove": 12, "is_in": 8, "query": 10, "query_many": 5, "at": 5, "at_many": 3, "within": 5,
-    "within_many": 3, "nearest": 7, "nearest_many": 4, "pop_nearest": 5, "drain": 4, "all_items": 1.5, "pairs": 0.7,
-    "pairs_with": 0.7, "load": 1, "copies": 0.5, "clear": 0.1,
+    "within_many": 3, "nearest": 7, "nearest_many": 4, "pop_nearest": 5, "drain": 3, "drain_near": 2,
+    "all_items": 1.5, "pairs": 0.7, "pairs_with": 0.7, "load": 1, "copies": 0.5, "clear": 0.1,
 }  # fmt: skip
 
 
@@ -172,6 +172,14 @@ class Trial:
         expect(sorted(self.index.drain(box, predicate).tolist()), scan.selected(self.items, box, predicate))
         holds = scan.intersects if predicate == "intersects" else scan.contains
         self.items = [item for item in self.items if not holds(scan.upright(box), item[1])]
+        self.all_items()
+
+    def drain_near(self):
+        point, limit = self.ask(self.point(), self.random.choice((None, -1, 0, 50, 900)))
+        form = self.in_some_form(point)
+        got = self.index.drain_at(form) if limit is None else self.index.drain_within(form, limit)
+        expect(sorted(got.tolist()), scan.within(self.items, point, limit or 0))
+        self.items = [item for item in self.items if scan.distance(item[1], point) > (limit or 0)]
         self.all_items()
 
     def all_items(self):

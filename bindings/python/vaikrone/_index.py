@@ -171,15 +171,25 @@ class Index:
         >>> index.drain((0, 0, 4, 4)).tolist(), len(index)
         ([0], 1)
         """
-        drain, packed = _by(predicate, _DRAIN), box_of(box)
-        with self._lock:  # without room nothing is taken out, and so no ID is lost where memory is refused
-            check(drain(self._handle, packed, address(self._room), 0, self._found))
-            count = self._found.value
-            ids = zeros(UNSIGNED, count)
-            answer = given(ids, count)
-            if count:
-                check(drain(self._handle, packed, address(ids), count, self._found))
-        return answer
+        return self._drained(_by(predicate, _DRAIN), box_of(box))
+
+    def drain_at(self, point: Point) -> Numbers:
+        """Takes the rectangles out that `at` finds, and gives their IDs.
+
+        >>> index = Index([(0, 0, 2, 2), (5, 5, 9, 9)])
+        >>> index.drain_at((2, 1)).tolist(), len(index)
+        ([0], 1)
+        """
+        return self._drained(calls.drain_at, point_of(point))
+
+    def drain_within(self, point: Point, squared_distance: float) -> Numbers:
+        """Takes the rectangles out that `within` finds, and gives their IDs.
+
+        >>> index = Index([(0, 0, 2, 2), (5, 5, 9, 9)])
+        >>> index.drain_within((4, 4), 2).tolist(), len(index)
+        ([1], 1)
+        """
+        return self._drained(calls.drain_within, point_of(point), _distance(squared_distance))
 
     def query_many(self, boxes: Boxes, predicate: str = "intersects") -> tuple[Numbers, Numbers]:
         """The same as `query` for many boxes at once: offsets and IDs.
@@ -282,14 +292,24 @@ class Index:
         """The answer of one question. It is asked again where there are more IDs than room."""
         with self._lock:
             ids = self._room
-            check(select(self._handle, *question, address(ids), len(ids), self._found))
-            count = self._found.value
+            count = select(self._handle, *question, address(ids), len(ids))
             if count <= len(ids):
                 return given(ids[:count], count)
             ids = zeros(UNSIGNED, count)
-            check(select(self._handle, *question, address(ids), count, self._found))
+            select(self._handle, *question, address(ids), count)
             self._room = zeros(UNSIGNED, min(2 * count, _LONGEST_ROOM))
         return given(ids, count)
+
+    def _drained(self, drain: Any, *question: Any) -> Numbers:
+        """The answer of one drain. Without room nothing is taken out, and so no ID is lost where memory is refused."""
+        with self._lock:
+            check(drain(self._handle, *question, address(self._room), 0, self._found))
+            count = self._found.value
+            ids = zeros(UNSIGNED, count)
+            answer = given(ids, count)
+            if count:
+                check(drain(self._handle, *question, address(ids), count, self._found))
+        return answer
 
     def _ids_of_each(self, select: Any, rows: Rows, *more: Any) -> tuple[Numbers, Numbers]:
         offsets, ids = zeros(SIGNED, rows.length + 1), zeros(UNSIGNED, 8 * rows.length)

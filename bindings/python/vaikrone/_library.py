@@ -13,7 +13,8 @@ class Handle(Structure):
 _HANDLE = POINTER(Handle)
 _COUNT = POINTER(c_size_t)
 _ARRAY = (c_void_p, c_size_t)
-_SELECTION = (c_int32, (c_void_p, *_ARRAY, _COUNT))
+_SELECTION = (c_size_t, (c_void_p, *_ARRAY))
+_DRAIN = (c_int32, (c_void_p, *_ARRAY, _COUNT))
 _SELECTIONS = (c_int32, (*_ARRAY, *_ARRAY, *_ARRAY))
 # What each function gives, and what it takes after its handle.
 _FUNCTIONS = {
@@ -27,7 +28,7 @@ _FUNCTIONS = {
     "meeting": _SELECTION,
     "inside": _SELECTION,
     "at": _SELECTION,
-    "within": (c_int32, (c_void_p, c_int64, *_ARRAY, _COUNT)),
+    "within": (c_size_t, (c_void_p, c_int64, *_ARRAY)),
     "meeting_each": _SELECTIONS,
     "inside_each": _SELECTIONS,
     "at_each": _SELECTIONS,
@@ -36,8 +37,10 @@ _FUNCTIONS = {
     "nearest_each": (c_int32, (*_ARRAY, c_size_t, *_ARRAY, *_ARRAY, _COUNT)),
     "pairs": (c_int32, (*_ARRAY, *_ARRAY, _COUNT)),
     "pairs_between": (c_int32, (_HANDLE, *_ARRAY, *_ARRAY, _COUNT)),
-    "drain_meeting": _SELECTION,
-    "drain_inside": _SELECTION,
+    "drain_meeting": _DRAIN,
+    "drain_inside": _DRAIN,
+    "drain_at": _DRAIN,
+    "drain_within": (c_int32, (c_void_p, c_int64, *_ARRAY, _COUNT)),
     "pop_nearest": (c_int32, (c_void_p, POINTER(c_uint64), c_void_p, POINTER(c_int64), POINTER(c_bool))),
 }
 _ERRORS = {

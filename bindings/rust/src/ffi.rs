@@ -20,8 +20,9 @@ struct Handle {
     at: *mut c_void,
 }
 
-// The type of a call that answers IDs to a question.
-type Ask<Question> =
+// The types of a call that answers IDs to a question, and of one that takes these rectangles out.
+type Ask<Question> = unsafe extern "C" fn(*mut Handle, *const Question, *mut u64, usize) -> usize;
+type Drain<Question> =
     unsafe extern "C" fn(*mut Handle, *const Question, *mut u64, usize, *mut usize) -> Status;
 
 extern "C" {
@@ -41,30 +42,26 @@ extern "C" {
         of: *const Envelope,
         ids: *mut u64,
         ids_len: usize,
-        found: *mut usize,
-    ) -> Status;
+    ) -> usize;
     fn rstar_index_inside(
         index: *mut Handle,
         of: *const Envelope,
         ids: *mut u64,
         ids_len: usize,
-        found: *mut usize,
-    ) -> Status;
+    ) -> usize;
     fn rstar_index_at(
         index: *mut Handle,
         point: *const Point,
         ids: *mut u64,
         ids_len: usize,
-        found: *mut usize,
-    ) -> Status;
+    ) -> usize;
     fn rstar_index_within(
         index: *mut Handle,
         point: *const Point,
         distance: i64,
         ids: *mut u64,
         ids_len: usize,
-        found: *mut usize,
-    ) -> Status;
+    ) -> usize;
     fn rstar_index_nearest(
         index: *mut Handle,
         point: *const Point,
@@ -105,6 +102,14 @@ extern "C" {
         ids_len: usize,
         found: *mut usize,
     ) -> Status;
+    fn rstar_index_drain_within(
+        index: *mut Handle,
+        point: *const Point,
+        distance: i64,
+        ids: *mut u64,
+        ids_len: usize,
+        found: *mut usize,
+    ) -> Status;
     fn rstar_index_pop_nearest(
         index: *mut Handle,
         point: *const Point,
@@ -115,7 +120,7 @@ extern "C" {
     ) -> Status;
 }
 
-/// Ends the program where memory was refused, and panics where a count does not fit.
+/// Ends the program where memory was refused, and panics where the tree is full.
 fn require(status: Status) {
     match status {
         OK => {}
@@ -123,7 +128,7 @@ fn require(status: Status) {
             eprintln!("vaikrone: memory was refused");
             std::process::abort();
         }
-        TOO_MANY => panic!("the tree is too deep, or a count does not fit"),
+        TOO_MANY => panic!("the tree cannot count one more rectangle"),
         other => unreachable!("status {other}"),
     }
 }
@@ -201,6 +206,13 @@ impl Index {
     }
 
     fn ask<Question>(&self, call: Ask<Question>, question: &Question) -> Vec<u64> {
+        all_ids(|ids, found| {
+            *found = unsafe { call(self.handle.get(), question, ids.as_mut_ptr(), ids.len()) };
+            OK
+        })
+    }
+
+    fn drain<Question>(&mut self, call: Drain<Question>, question: &Question) -> Vec<u64> {
         all_ids(|ids, found| unsafe {
             call(
                 self.handle.get(),
@@ -225,8 +237,25 @@ impl Index {
     }
 
     pub fn within(&self, point: &Point, distance: i64) -> Vec<u64> {
+        all_ids(|ids, found| {
+            let at = ids.as_mut_ptr();
+            *found =
+                unsafe { rstar_index_within(self.handle.get(), point, distance, at, ids.len()) };
+            OK
+        })
+    }
+
+    pub fn drain_meeting(&mut self, envelope: &Envelope) -> Vec<u64> {
+        self.drain(rstar_index_drain_meeting, envelope)
+    }
+
+    pub fn drain_inside(&mut self, envelope: &Envelope) -> Vec<u64> {
+        self.drain(rstar_index_drain_inside, envelope)
+    }
+
+    pub fn drain_within(&mut self, point: &Point, distance: i64) -> Vec<u64> {
         all_ids(|ids, found| unsafe {
-            rstar_index_within(
+            rstar_index_drain_within(
                 self.handle.get(),
                 point,
                 distance,
@@ -235,14 +264,6 @@ impl Index {
                 found,
             )
         })
-    }
-
-    pub fn drain_meeting(&mut self, envelope: &Envelope) -> Vec<u64> {
-        self.ask(rstar_index_drain_meeting, envelope)
-    }
-
-    pub fn drain_inside(&mut self, envelope: &Envelope) -> Vec<u64> {
-        self.ask(rstar_index_drain_inside, envelope)
     }
 
     /// The IDs and the squared distances of the nearest, the nearest first.

@@ -26,8 +26,8 @@
 //! - A tree may be sent to another thread, and one thread at a time may use it: [`RTree`] is `Send` and
 //!   not `Sync`.
 //!
-//! Where memory is refused, the program aborts, as with `Vec`. Where the tree is too deep or a count
-//! does not fit, a call panics and has changed nothing.
+//! Where memory is refused, the program aborts, as with `Vec`. Where the tree cannot count one more
+//! rectangle, a call panics and has changed nothing.
 
 #![deny(unsafe_code)]
 

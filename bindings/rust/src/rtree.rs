@@ -198,9 +198,8 @@ impl<T: RTreeObject<Envelope = Envelope>> RTree<T> {
         query_point: Point,
         max_squared_radius: i64,
     ) -> impl Iterator<Item = T> {
-        let ids = self.index.within(&query_point, max_squared_radius);
-        let objects: Vec<T> = ids.into_iter().filter_map(|id| self.take(id)).collect();
-        objects.into_iter()
+        let ids = self.index.drain_within(&query_point, max_squared_radius);
+        self.taken(ids)
     }
 
     /// The pairs of an object of this tree and one of another whose envelopes meet. The other may be this tree itself.

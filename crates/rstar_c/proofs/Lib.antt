@@ -3,3 +3,4 @@ mod Listed
 mod Puts
 mod Rows
 mod Values
+mod Walks

@@ -7,7 +7,7 @@ use Rattle.std.proofs.Math.Dec.{ltb}
 use Rattle.std.specs.List.{flat_map}
 use Rattle.std.proofs.Math.Seq.{take-suc}
 use Rattle.rstar_base.specs.Counts.{usize_max}
-use Rattle.rstar_c.specs.Put.{over, put_from, offsets_of}
+use Rattle.rstar_c.specs.Put.{over, put_from, offsets_of, ArePut}
 
 over_none : {X : Type 0} (xs : List X) (x : X) → over (xs ++ x ∷ []) [] ≡ []
 over_none [] x = refl
@@ -101,19 +101,54 @@ length-over [] o = refl
 length-over (x ∷ xs) [] = refl
 length-over (x ∷ xs) (y ∷ o) = let e = length-over xs o in omega (arith, e)
 
+put_append : {X : Type 0} (n : ℕ) (xs ys o : List X) (k : ℕ) → k ≡ n + length xs → put_from k ys (put_from n xs o) ≡ put_from n (xs ++ ys) o
+put_append zero xs ys o k e = over_append xs ys o k (e ∙ zero-add (length xs))
+put_append (suc n) xs ys o zero e = absurd (omega (arith, e))
+put_append (suc n) xs ys [] (suc k) e = refl
+put_append (suc n) xs ys (y ∷ o) (suc k) e = ap (λ zs. y ∷ zs) (put_append n xs ys o k (omega (arith, e)))
+
+put_more_full : {X : Type 0} (n : ℕ) (xs ys o : List X) → length o ≤ n + length xs → put_from n xs o ≡ put_from n (xs ++ ys) o
+put_more_full zero xs ys o le = over_more_full xs ys o (omega arith)
+put_more_full (suc n) xs ys [] le = refl
+put_more_full (suc n) xs ys (y ∷ o) le = ap (λ zs. y ∷ zs) (put_more_full n xs ys o (omega arith))
+
+length-put : {X : Type 0} (n : ℕ) (xs o : List X) → length (put_from n xs o) ≡ length o
+length-put zero xs o = length-over xs o
+length-put (suc n) xs [] = refl
+length-put (suc n) xs (y ∷ o) = let e = length-put n xs o in omega (arith, e)
+
+-- one list behind another
+pub put-both : {X : Type 0} (xs ys o out more : List X) (from next last room : ℕ) → room ≡ length o → room < 2 ^ 64 → ArePut xs from o out next → ArePut ys next out more last → ArePut (xs ++ ys) from o more last
+put-both xs ys o out more from next last room is fits first then =
+    let both = length-append xs ys in let count = first.counted in let more_is = then.counted in
+    record { counted = omega arith; written = by (ltb usize_max (from + length xs)) refl }
+  where
+    by : (b : Bool) → ltb usize_max (from + length xs) ≡ b → more ≡ put_from from (xs ++ ys) o
+    by true t =
+        let high : usize_max < from + length xs = ltb-true _ _ t in let count = first.counted in let e = length-put from xs o in
+        let full : length (put_from from xs o) ≤ next = omega (arith, e) in let le : length o ≤ from + length xs = omega arith in
+        then.written ∙ ap (put_from next ys) first.written ∙ put_full_all next ys (put_from from xs o) full ∙ put_more_full from xs ys o le
+    by false f =
+        let low : from + length xs ≤ usize_max = ltb-false _ _ f in let count = first.counted in let e : next ≡ from + length xs = omega arith in
+        then.written ∙ ap (put_from next ys) first.written ∙ put_append from xs ys o next e
+
+-- none, and one
+pub put-nothing : {X : Type 0} (n : ℕ) (out : List X) → n < 2 ^ 64 → ArePut [] n out out n
+put-nothing n out fits = record { counted = low-min n fits; written = sym (put_none n out) }
+
+pub put-one : {X : Type 0} (n : ℕ) (x : X) (out : List X) → n < length out → set out n x ≡ put_from n (x ∷ []) out
+put-one n x [] lt = absurd (omega arith)
+put-one zero x (y ∷ ys) lt = refl
+put-one (suc n) x (y ∷ ys) lt = ap (λ zs. y ∷ zs) (put-one n x ys (omega arith))
+
+pub put-past : {X : Type 0} (n : ℕ) (x : X) (out : List X) → length out ≤ n → out ≡ put_from n (x ∷ []) out
+put-past n x out le = sym (put_full_all n (x ∷ []) out le)
+
 -- a turn of a loop over boxes
 pub each-put : {X : Type 0} (ys xs o out more : List X) (next room : ℕ) → next ≡ min (length ys) usize_max → out ≡ put_from 0 ys o → room ≡ length o → room < 2 ^ 64
     → more ≡ put_from next xs out → more ≡ put_from 0 (ys ++ xs) o
-each-put ys xs o out more next room count written is fits now = by (ltb usize_max (length ys)) refl
-  where
-    by : (b : Bool) → ltb usize_max (length ys) ≡ b → more ≡ put_from 0 (ys ++ xs) o
-    by true t =
-        let high : usize_max < length ys = ltb-true _ _ t in let e = length-over ys o in
-        let full : length (over ys o) ≤ next = omega (arith, e) in let le : length o ≤ length ys = omega arith in
-        now ∙ ap (put_from next xs) written ∙ put_full_all next xs (over ys o) full ∙ over_more_full ys xs o le
-    by false f =
-        let low : length ys ≤ usize_max = ltb-false _ _ f in let e : next ≡ length ys = omega arith in
-        now ∙ ap (put_from next xs) written ∙ over_append ys xs o next e
+each-put ys xs o out more next room count written is fits now =
+    (put-both ys xs o out more 0 next (min (next + length xs) usize_max) room is fits (record { counted = omega arith; written = written }) (record { counted = refl; written = now })).written
 
 pub each-counted : {X : Type 0} (ys xs : List X) (k next more : ℕ) → next ≡ min (length ys) usize_max → k ≡ length xs → more ≡ min (next + k) usize_max → more ≡ min (length (ys ++ xs)) usize_max
 each-counted ys xs k next more before is now = let both = length-append ys xs in omega arith

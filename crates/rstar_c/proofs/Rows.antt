@@ -11,7 +11,7 @@ use Rattle.std.proofs.lemmas.Grind.{flat_map-append}
 use Rattle.std.specs.Borrow.{Bor}
 use Rattle.std.specs.List.{flat_map, AllByRecursion}
 use Rattle.rstar_c.specs.declared.items.Place.{Place}
-use Rattle.rstar_c.specs.Items.{Item, distance_to, is_before, number}
+use Rattle.rstar_c.specs.Items.{Item, distance_to, IsBefore, number}
 
 -- what stands beside the items are their distances
 pub told-distances : (distance : Item → ℕ) (ns : List (Bor Item × ℤ)) → AllByRecursion (λ n. n.1 ≡ pos (distance n.0.now)) ns
@@ -50,7 +50,7 @@ one-more-row place d places i most items ids_old ids_new ids_more away_old away_
     record {
       rows = before.rows ++ row ∷ [];
       asked = map-append (λ r. r.0) before.rows (row ∷ []) ∙ ap (λ ps. ps ++ place ∷ []) before.asked ∙ one-more-taken places i place d lt is;
-      first = All-push (λ r. AreFirstOf (is_before r.0) items most r.1) before.rows row before.first put.first;
+      first = All-push (λ r. AreFirstOf (IsBefore r.0) items most r.1) before.rows row before.first put.first;
       ids = each-put (flat_map numbers before.rows) (numbers row) ids_old ids_new ids_more next room before.counted before.ids long fits put.ids
           ∙ ap (λ all. over all ids_old) (flat-row numbers before.rows row);
       distances = each-put (flat_map away before.rows) (away row) away_old away_new away_more next other_room (before.counted ∙ ap (λ n. min n usize_max) (same-long before.rows)) before.distances far fit put.distances

@@ -5,7 +5,7 @@ use Rattle.std.specs.List.Sorted.{IsPermutation}
 use Rattle.rstar.specs.Lists.{AreFirstOf}
 use Rattle.rstar_base.specs.Counts.{usize_max}
 use Rattle.rstar_c.specs.declared.items.Place.{Place}
-use Rattle.rstar_c.specs.Items.{Item, number, distance_to, is_before}
+use Rattle.rstar_c.specs.Items.{Item, number, distance_to, IsBefore}
 use Rattle.rstar_c.specs.Put.{over, put_from, offsets_of}
 
 -- the numbers of these elements, in their order, over what stood there, and how many elements they are
@@ -24,7 +24,7 @@ pub record AreFound {A T : Type 0} (told : T → ℕ) (chosen : A → List T) (s
 pub record AreNearestPut (place : Place) (most : ℕ) (items : List Item) (from : ℕ) (ids_old ids_new : List ℕ)
     (distances_old distances_new : List ℤ) (next : ℕ) : Type 0 where
   pub row : List Item
-  pub first : AreFirstOf (is_before place) items most row
+  pub first : AreFirstOf (IsBefore place) items most row
   pub ids : ids_new ≡ put_from from (map number row) ids_old
   pub distances : distances_new ≡ put_from from (map (λ item. pos (distance_to place item)) row) distances_old
   pub counted : next ≡ min (from + length row) usize_max
@@ -34,7 +34,7 @@ pub record AreNearestEach (places : List Place) (most : ℕ) (items : List Item)
     (distances_old distances_new : List ℤ) (written : ℕ) : Type 0 where
   pub rows : List (Place × List Item)
   pub asked : map (λ r. r.0) rows ≡ places
-  pub first : All (λ r. AreFirstOf (is_before r.0) items most r.1) rows
+  pub first : All (λ r. AreFirstOf (IsBefore r.0) items most r.1) rows
   pub ids : ids_new ≡ over (flat_map (λ r. map number r.1) rows) ids_old
   pub distances : distances_new ≡ over (flat_map (λ r. map (λ item. pos (distance_to r.0 item)) r.1) rows) distances_old
   pub counted : written ≡ min (length (flat_map (λ r. map number r.1) rows)) usize_max

@@ -108,5 +108,5 @@ compare_items a b =
     (nat_cmp a.1 b.1)
 
 -- one item may stand before another in a list of neighbours: by distance, and at equal distance by the items' own order
-abbrev pub is_before : Place → Item → Item → Type 0
-is_before place = IsNotLater (distance_to place) compare_items
+abbrev pub IsBefore : Place → Item → Item → Type 0
+IsBefore place = IsNotLater (distance_to place) compare_items

@@ -3,3 +3,4 @@ pub mod Handles
 pub mod Items
 pub mod Owned
 pub mod Put
+pub mod Seen

@@ -20,19 +20,12 @@ abbrev pub offsets_of : {A : Type 0} → (A → ℕ) → ℕ → List A → List
 offsets_of count from [] = min from usize_max ∷ []
 offsets_of count from (a ∷ more) = min from usize_max ∷ offsets_of count (from + count a) more
 
--- what is told of some items stands over a list, from a place on; and the place behind the last
-pub record AreWritten {T X : Type 0} (told : T → X) (items : List T) (from : ℕ) (old new : List X) (next : ℕ) : Type 0 where
-  pub counted : next ≡ min (from + length items) usize_max
-  pub written : new ≡ put_from from (map told items) old
+-- these stand over a list, from a place on; and the place behind the last
+pub record ArePut {X : Type 0} (xs : List X) (from : ℕ) (old new : List X) (next : ℕ) : Type 0 where
+  pub counted : next ≡ min (from + length xs) usize_max
+  pub written : new ≡ put_from from xs old
 
--- the same of all that an iterator gives
-pub record IsPut {I A X : Type 0} (gives : I → Option A → I → Type 0) (told : A → X) (it : I) (from : ℕ) (old new : List X)
-    (next : ℕ) : Type 0 where
-  pub given_items : List A
-  pub given : Drains gives it given_items
-  pub written : AreWritten told given_items from old new next
-
--- the same of two things that are told of each, over two lists from their begin; and how many there are
+-- two things that are told of each item that an iterator gives, over two lists from their begin; and how many there are
 pub record IsTwicePut {I A X Y : Type 0} (gives : I → Option A → I → Type 0) (told : A → X) (other : A → Y) (it : I)
     (first_old first_new : List X) (second_old second_new : List Y) (found : ℕ) : Type 0 where
   pub given_items : List A

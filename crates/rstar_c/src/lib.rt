@@ -1,7 +1,6 @@
 //! An R*-tree of rectangles with IDs, for C and for what calls C.
 #![tactic(auto)]
 
-mod asked;
 mod exports;
 mod held;
 mod index;
@@ -11,6 +10,8 @@ mod put;
 mod questions;
 mod statuses;
 mod store;
+mod trees;
+mod walk;
 
 pub use crate::index::Index;
 pub use crate::items::{Corners, Place};

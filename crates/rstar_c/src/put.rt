@@ -3,7 +3,7 @@
 ghost use Rattle.std.specs.Prelude.{◌≡◌, ◌+◌, length, map, min};
 ghost use Rattle.std.specs.Iterator.{IsFinite};
 ghost use Rattle.rstar_c.specs.Items.{corners_of, number};
-ghost use Rattle.rstar_c.specs.Put.{over, put_from, IsPut, IsTwicePut};
+ghost use Rattle.rstar_c.specs.Put.{over, put_from, IsTwicePut};
 
 use crate::items::{Corners, Item, corners_of};
 use rstar_base::primitives::GeomWithData;
@@ -14,29 +14,6 @@ pub(crate) fn room_in<X>(list: &[X]) -> usize
     ensures { result ≡ length list.now }
 {
     list.len()
-}
-
-/// Writes the numbers of all that an iterator gives into a list, from a place on and as far as it reaches. It gives the
-/// place behind the last, also where the list ends before.
-pub(crate) fn put_numbers<'a, R: 'a, I: Iterator<Item = &'a GeomWithData<R, u64>>>(
-    items: I,
-    out: &mut [u64],
-    from: usize,
-) -> usize
-where
-    requires can { I.can_next items }
-    requires ends { IsFinite (I.remaining items) }
-    ensures { IsPut I.next_gives (λ t. t.now.1) items from out.old out.new result }
-{
-    let room = room_in(out);
-    let mut next = from;
-    for item in items {
-        if next < room {
-            out[next] = item.data;
-        }
-        next = next.saturating_add(1);
-    }
-    next
 }
 
 /// Writes the numbers of all pairs that an iterator gives into two lists, as far as these reach, and gives how many pairs

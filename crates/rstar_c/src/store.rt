@@ -1,22 +1,22 @@
 //! The rectangles behind a handle.
 
-ghost use Rattle.std.specs.Prelude.{◌≡◌, ◌∷◌, [], true, false, length, map, IfOk, OnOk, OnErr, IfSome, IfNone};
+ghost use Rattle.std.specs.Prelude.{◌≡◌, ◌∷◌, [], true, false, filter, length, map, IfOk, OnOk, OnErr, IfSome, IfNone};
 ghost use Rattle.std.specs.List.{All, Contains};
 ghost use Rattle.std.specs.List.Sorted.{IsPermutation};
 ghost use Rattle.rstar.specs.Joins.{join};
 ghost use Rattle.rstar.specs.Lists.{IsLeast, NoneSelected};
-ghost use Rattle.rstar.specs.Steps.{TakesSome};
+ghost use Rattle.rstar.specs.Steps.{selects, TakesSome};
 ghost use Rattle.rstar.specs.Trees.{elements_in, IsWholeTree};
 ghost use Rattle.rstar.specs.SelfJoins.{self_join};
 ghost use Rattle.rstar_base.specs.Boxes.{boxes_intersect, is_empty_box};
 ghost use Rattle.rstar_c.specs.Answers.{AreNearestPut, AreNearestEach, ArePairsGiven};
-ghost use Rattle.rstar_c.specs.Items.{Item, box_of, corners_of, is_before, item_of, items_of, lies_in, meets, number};
-ghost use Rattle.rstar_c.specs.Put.{over};
+ghost use Rattle.rstar_c.specs.Items.{Item, box_of, corners_of, IsBefore, item_of, items_of, number};
+ghost use Rattle.rstar_c.specs.Put.{over, ArePut};
 
-use crate::asked::{drained, put_own_pairs, put_pairs_between};
-use crate::items::{Corners, Item, NodeSizes, Place, between, item};
+use crate::items::{Corners, Item, NodeSizes, Place, item};
 use crate::put::{put_items, put_neighbours, room_in};
-use rstar::replay::Query;
+use crate::trees::{drained, put_own_pairs, put_pairs_between, put_selected};
+use rstar::replay::{Query, Scanned};
 use rstar::{AABB, Envelope, EqualEnvelopes, InsertError, RTree, RTreeObject, RTreeParams};
 use std::alloc::{AllocError, Global};
 use std::marker::Model;
@@ -30,7 +30,6 @@ pub struct Store {
 // Contracts see the list of the items. The tree is whole.
 impl Model for Store {
     ghost use Rattle.std.specs.Prelude.{List};
-    ghost use Rattle.rstar.specs.Steps.{TakesSome};
     ghost use Rattle.rstar.specs.Trees.{elements_in, IsWholeTree};
     ghost use Rattle.rstar_c.specs.Items.{Item};
 
@@ -115,6 +114,15 @@ impl Store {
         }
     }
 
+    /// Writes the IDs of the rectangles that a query selects into a list, from a place on and as far as it reaches. It gives
+    /// the place behind the last, also where the list ends before.
+    pub(crate) fn put_selected(&self, query: Query<Item>, ids: &mut [u64], from: usize) -> usize
+        ensures { ArePut (map number (filter (selects ⟦<Item as Scanned>⟧.questions query) self.now)) from
+            ids.old ids.new result }
+    {
+        put_selected(&self.tree, query, ids, from)
+    }
+
     /// Writes the IDs and the squared distances of the rectangles nearest to a point into two lists, from a place on. They
     /// come in the order of neighbours. It gives the place behind the last.
     pub(crate) fn put_nearest(
@@ -180,26 +188,19 @@ impl Store {
         put_pairs_between(&self.tree, &other.tree, first, second)
     }
 
-    /// Takes the rectangles that meet a box out, up to so many. `None` where memory is refused; all is as it was then.
-    pub(crate) fn drain_meeting(&mut self, corners: &Corners, most: usize) -> Option<Vec<Item>>
-        ensures taken { IfSome result (λ taken. TakesSome (meets corners.now) most self.old taken.items self.new) }
+    /// Takes the rectangles out that a query selects, up to so many. `None` where memory is refused; all is as it was then.
+    pub(crate) fn drain(&mut self, query: Query<Item>, most: usize) -> Option<Vec<Item>>
+        ensures taken { IfSome result (λ taken. TakesSome (selects ⟦<Item as Scanned>⟧.questions query) most
+            self.old taken.items self.new) }
         ensures refused { IfNone result (self.new ≡ self.old) }
     {
-        drained(&mut self.tree, Query::Hit(between(corners)), most)
-    }
-
-    /// Takes the rectangles inside a box out, up to so many. `None` where memory is refused; all is as it was then.
-    pub(crate) fn drain_inside(&mut self, corners: &Corners, most: usize) -> Option<Vec<Item>>
-        ensures taken { IfSome result (λ taken. TakesSome (lies_in corners.now) most self.old taken.items self.new) }
-        ensures refused { IfNone result (self.new ≡ self.old) }
-    {
-        drained(&mut self.tree, Query::In(between(corners)), most)
+        drained(&mut self.tree, query, most)
     }
 
     /// Takes out the first rectangle in the order of neighbours.
     pub(crate) fn pop_nearest(&mut self, place: &Place) -> Result<Option<Item>, AllocError>
         ensures taken { IfOk result (λ r. IfSome r (λ t. IsPermutation self.old (t ∷ self.new))) }
-        ensures first { IfOk result (λ r. IfSome r (λ t. IsLeast (is_before place.now) self.old t)) }
+        ensures first { IfOk result (λ r. IfSome r (λ t. IsLeast (IsBefore place.now) self.old t)) }
         ensures none { IfOk result (λ r. IfNone r (self.old ≡ [])) }
         ensures unchanged { IfOk result (λ r. IfNone r (self.new ≡ self.old)) }
         ensures refused { OnErr result (self.new ≡ self.old) }

@@ -1,11 +1,11 @@
 //! Nearest rectangles. They come by distance, at equal distance by their corners, and then by their IDs.
 
-ghost use Rattle.std.specs.Prelude.{◌≡◌, ◌≢◌, ◌↔◌, ◌*◌, ◌<◌, ◌⊎◌, ℕ, [], ◌∷◌, pos, true, false, length, min};
+ghost use Rattle.std.specs.Prelude.{◌≡◌, ◌≢◌, ◌↔◌, ◌*◌, ◌⊎◌, ℕ, [], ◌∷◌, pos, true, false, length, min};
 ghost use Rattle.std.specs.List.Sorted.{IsPermutation};
 ghost use Rattle.rstar.specs.Lists.{IsLeast};
 ghost use Rattle.rstar_c.specs.Answers.{AreNearestPut, AreNearestEach};
 ghost use Rattle.rstar_c.specs.Handles.{items_in};
-ghost use Rattle.rstar_c.specs.Items.{Item, corners_of, distance_to, is_before, number};
+ghost use Rattle.rstar_c.specs.Items.{Item, corners_of, distance_to, IsBefore, number};
 
 use crate::index::{Index, taken};
 use crate::items::{Corners, Place, corners_of};
@@ -30,6 +30,7 @@ pub extern "C" fn rstar_index_nearest(
         distances.old distances.new found.new }
     ensures lengths { (result ≡ BAD_LENGTH) ↔ (length ids.old ≢ length distances.old) }
     ensures refused { result ≢ OK → result ≢ BAD_LENGTH → result ≡ NO_MEMORY }
+    ensures empty { index.old.held.value ≡ [] → result ≢ NO_MEMORY }
     ensures unwritten { result ≢ OK → (ids.new ≡ ids.old) × (distances.new ≡ distances.old) × (found.new ≡ found.old) }
 {
     if ids.len() != distances.len() {
@@ -131,7 +132,7 @@ pub extern "C" fn rstar_index_pop_nearest(
     found: &mut bool,
 ) -> i32
     ensures taken { result ≡ OK → found.new ≡ true → (item : Item)
-        × IsLeast (is_before place.now) (items_in index.old) item
+        × IsLeast (IsBefore place.now) (items_in index.old) item
         × IsPermutation (items_in index.old) (item ∷ items_in index.new)
         × (id.new ≡ number item) × (corners.new ≡ corners_of item) × (distance.new ≡ pos (distance_to place.now item)) }
     ensures none { result ≡ OK → found.new ≡ false → items_in index.old ≡ [] }
@@ -139,6 +140,7 @@ pub extern "C" fn rstar_index_pop_nearest(
     ensures unwritten { (result ≡ OK → found.new ≡ false)
         → (id.new ≡ id.old) × (corners.new ≡ corners.old) × (distance.new ≡ distance.old) }
     ensures refused { result ≢ OK → (result ≡ NO_MEMORY) × (found.new ≡ found.old) }
+    ensures empty { index.old.held.value ≡ [] → result ≡ OK }
 {
     let Some(mut store) = taken(alloc, index) else {
         *found = false;

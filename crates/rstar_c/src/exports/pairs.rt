@@ -1,6 +1,6 @@
 //! The pairs of rectangles that meet.
 
-ghost use Rattle.std.specs.Prelude.{◌≡◌, ◌≢◌, ◌↔◌, length};
+ghost use Rattle.std.specs.Prelude.{◌≡◌, ◌≢◌, ◌↔◌, [], length};
 ghost use Rattle.rstar.specs.Joins.{join};
 ghost use Rattle.rstar.specs.SelfJoins.{self_join};
 ghost use Rattle.rstar_base.specs.Boxes.{boxes_intersect};
@@ -27,6 +27,7 @@ pub extern "C" fn rstar_index_pairs(
         first.old first.new second.old second.new found.new }
     ensures lengths { (result ≡ BAD_LENGTH) ↔ (length first.old ≢ length second.old) }
     ensures refused { result ≢ OK → result ≢ BAD_LENGTH → result ≡ NO_MEMORY }
+    ensures empty { index.old.held.value ≡ [] → result ≢ NO_MEMORY }
     ensures unwritten { result ≢ OK → (first.new ≡ first.old) × (second.new ≡ second.old) × (found.new ≡ found.old) }
 {
     if first.len() != second.len() {
@@ -64,6 +65,7 @@ pub extern "C" fn rstar_index_pairs_between(
         first.old first.new second.old second.new found.new }
     ensures lengths { (result ≡ BAD_LENGTH) ↔ (length first.old ≢ length second.old) }
     ensures refused { result ≢ OK → result ≢ BAD_LENGTH → result ≡ NO_MEMORY }
+    ensures empty { index.old.held.value ≡ [] → result ≢ NO_MEMORY }
     ensures unwritten { result ≢ OK → (first.new ≡ first.old) × (second.new ≡ second.old) × (found.new ≡ found.old) }
 {
     if first.len() != second.len() {

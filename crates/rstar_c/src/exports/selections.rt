@@ -1,6 +1,6 @@
-//! Questions for the rectangles that a box or a point selects.
+//! Questions for the rectangles that a box or a point selects. None takes memory.
 
-ghost use Rattle.std.specs.Prelude.{◌≡◌, ◌≢◌, ◌↔◌, ◌+◌, [], filter, length};
+ghost use Rattle.std.specs.Prelude.{◌≡◌, ◌≢◌, ◌↔◌, ◌+◌, filter, length};
 ghost use Rattle.rstar_c.specs.Answers.{IsFound, AreFound};
 ghost use Rattle.rstar_c.specs.Handles.{items_in};
 ghost use Rattle.rstar_c.specs.Items.{covers, is_within, lies_in, meets, number};
@@ -8,39 +8,29 @@ ghost use Rattle.rstar_c.specs.Items.{covers, is_within, lies_in, meets, number}
 use crate::index::{Index, taken};
 use crate::items::{Corners, Place};
 use crate::questions::{At, Inside, Meeting, Question, put_each, put_found};
-use crate::statuses::{BAD_LENGTH, NO_MEMORY, OK, done};
+use crate::statuses::{BAD_LENGTH, OK};
 use crate::store::Store;
 use std::alloc::Global;
 
-/// Writes the IDs of the rectangles that a question chooses, as many as there is room for, and how many there are. An empty
-/// handle answers without memory.
+/// Writes the IDs of the rectangles that a question chooses, as many as there is room for, and gives how many there are.
 fn ask<Q: Question>(
     alloc: Global,
     index: &mut Index,
     question: Q,
     shape: &Q::Shape,
     ids: &mut [u64],
-    found: &mut usize,
-) -> i32
+) -> usize
     ensures same { items_in index.new ≡ items_in index.old }
-    ensures found { result ≡ OK
-        → IsFound number (filter (Q.chosen question shape.now) (items_in index.old)) ids.old ids.new found.new }
-    ensures refused { result ≢ OK → (result ≡ NO_MEMORY) × (ids.new ≡ ids.old) × (found.new ≡ found.old) }
-    ensures empty { index.old.held.value ≡ [] → result ≡ OK }
+    ensures found { IsFound number (filter (Q.chosen question shape.now) (items_in index.old)) ids.old ids.new result }
 {
-    let Some(store) = taken(alloc, index) else {
-        *found = 0;
-        return OK;
-    };
-    let status = match put_found(&store, question, shape, ids) {
-        Ok(count) => {
-            *found = count;
-            OK
+    match taken(alloc, index) {
+        Some(store) => {
+            let found = put_found(&store, question, shape, ids);
+            *index = Index::of(store);
+            found
         }
-        Err(_) => NO_MEMORY,
-    };
-    *index = Index::of(store);
-    status
+        None => 0,
+    }
 }
 
 /// The same for many shapes: where the IDs of each begin, and at last where they end.
@@ -56,74 +46,65 @@ fn ask_each<Q: Question>(
     ensures found { result ≡ OK
         → AreFound number (λ a. filter (Q.chosen question a) (items_in index.old)) shapes.now offsets.new
         ids.old ids.new }
-    ensures lengths { (result ≡ BAD_LENGTH) ↔ (length offsets.old ≢ length shapes.now + 1) }
-    ensures refused { result ≢ OK → result ≢ BAD_LENGTH → result ≡ NO_MEMORY }
+    ensures lengths { (result ≡ OK) ↔ (length offsets.old ≡ length shapes.now + 1) }
+    ensures refused { result ≢ OK → (result ≡ BAD_LENGTH) × (offsets.new ≡ offsets.old) × (ids.new ≡ ids.old) }
 {
     if offsets.is_empty() || offsets.len() - 1 != shapes.len() {
         return BAD_LENGTH;
     }
     match taken(alloc, index) {
         Some(store) => {
-            let status = done(put_each(&store, question, shapes, offsets, ids));
+            put_each(&store, question, shapes, offsets, ids);
             *index = Index::of(store);
-            status
         }
-        None => done(put_each(&Store::new(alloc), question, shapes, offsets, ids)),
+        None => put_each(&Store::new(alloc), question, shapes, offsets, ids),
     }
+    OK
 }
 
-/// Writes the IDs of the rectangles that meet a box. Touching is enough.
+/// Writes the IDs of the rectangles that meet a box, and gives how many there are. Touching is enough.
 #[unsafe(no_mangle)]
 pub extern "C" fn rstar_index_meeting(
     alloc: Global,
     index: &mut Index,
     area: &Corners,
     ids: &mut [u64],
-    found: &mut usize,
-) -> i32
+) -> usize
     ensures same { items_in index.new ≡ items_in index.old }
-    ensures found { result ≡ OK → IsFound number (filter (meets area.now) (items_in index.old)) ids.old ids.new found.new }
-    ensures refused { result ≢ OK → (result ≡ NO_MEMORY) × (ids.new ≡ ids.old) × (found.new ≡ found.old) }
-    ensures empty { index.old.held.value ≡ [] → result ≡ OK }
+    ensures found { IsFound number (filter (meets area.now) (items_in index.old)) ids.old ids.new result }
 {
-    ask(alloc, index, Meeting, area, ids, found)
+    ask(alloc, index, Meeting, area, ids)
 }
 
-/// Writes the IDs of the rectangles that lie inside a box. They may touch its border.
+/// Writes the IDs of the rectangles that lie inside a box, and gives how many there are. They may touch its border.
 #[unsafe(no_mangle)]
 pub extern "C" fn rstar_index_inside(
     alloc: Global,
     index: &mut Index,
     area: &Corners,
     ids: &mut [u64],
-    found: &mut usize,
-) -> i32
+) -> usize
     ensures same { items_in index.new ≡ items_in index.old }
-    ensures found { result ≡ OK → IsFound number (filter (lies_in area.now) (items_in index.old)) ids.old ids.new found.new }
-    ensures refused { result ≢ OK → (result ≡ NO_MEMORY) × (ids.new ≡ ids.old) × (found.new ≡ found.old) }
-    ensures empty { index.old.held.value ≡ [] → result ≡ OK }
+    ensures found { IsFound number (filter (lies_in area.now) (items_in index.old)) ids.old ids.new result }
 {
-    ask(alloc, index, Inside, area, ids, found)
+    ask(alloc, index, Inside, area, ids)
 }
 
-/// Writes the IDs of the rectangles that a point lies in, or on the border of.
+/// Writes the IDs of the rectangles that a point lies in, or on the border of, and gives how many there are.
 #[unsafe(no_mangle)]
 pub extern "C" fn rstar_index_at(
     alloc: Global,
     index: &mut Index,
     place: &Place,
     ids: &mut [u64],
-    found: &mut usize,
-) -> i32
+) -> usize
     ensures same { items_in index.new ≡ items_in index.old }
-    ensures found { result ≡ OK → IsFound number (filter (covers place.now) (items_in index.old)) ids.old ids.new found.new }
-    ensures refused { result ≢ OK → (result ≡ NO_MEMORY) × (ids.new ≡ ids.old) × (found.new ≡ found.old) }
-    ensures empty { index.old.held.value ≡ [] → result ≡ OK }
+    ensures found { IsFound number (filter (covers place.now) (items_in index.old)) ids.old ids.new result }
 {
-    ask(alloc, index, At, place, ids, found)
+    ask(alloc, index, At, place, ids)
 }
 
-/// Writes the IDs of the rectangles whose squared distance from a point is at most `distance`.
+/// Writes the IDs of the rectangles whose squared distance from a point is at most `distance`, and gives how many there are.
 #[unsafe(no_mangle)]
 pub extern "C" fn rstar_index_within(
     alloc: Global,
@@ -131,14 +112,11 @@ pub extern "C" fn rstar_index_within(
     place: &Place,
     distance: i64,
     ids: &mut [u64],
-    found: &mut usize,
-) -> i32
+) -> usize
     ensures same { items_in index.new ≡ items_in index.old }
-    ensures found { result ≡ OK → IsFound number (filter (is_within distance place.now) (items_in index.old)) ids.old ids.new found.new }
-    ensures refused { result ≢ OK → (result ≡ NO_MEMORY) × (ids.new ≡ ids.old) × (found.new ≡ found.old) }
-    ensures empty { index.old.held.value ≡ [] → result ≡ OK }
+    ensures found { IsFound number (filter (is_within distance place.now) (items_in index.old)) ids.old ids.new result }
 {
-    ask(alloc, index, distance, place, ids, found)
+    ask(alloc, index, distance, place, ids)
 }
 
 /// The same as `rstar_index_meeting` for many boxes.
@@ -153,8 +131,8 @@ pub extern "C" fn rstar_index_meeting_each(
     ensures same { items_in index.new ≡ items_in index.old }
     ensures found { result ≡ OK → AreFound number (λ a. filter (meets a) (items_in index.old)) areas.now
         offsets.new ids.old ids.new }
-    ensures lengths { (result ≡ BAD_LENGTH) ↔ (length offsets.old ≢ length areas.now + 1) }
-    ensures refused { result ≢ OK → result ≢ BAD_LENGTH → result ≡ NO_MEMORY }
+    ensures lengths { (result ≡ OK) ↔ (length offsets.old ≡ length areas.now + 1) }
+    ensures refused { result ≢ OK → (result ≡ BAD_LENGTH) × (offsets.new ≡ offsets.old) × (ids.new ≡ ids.old) }
 {
     ask_each(alloc, index, Meeting, areas, offsets, ids)
 }
@@ -171,8 +149,8 @@ pub extern "C" fn rstar_index_inside_each(
     ensures same { items_in index.new ≡ items_in index.old }
     ensures found { result ≡ OK → AreFound number (λ a. filter (lies_in a) (items_in index.old)) areas.now
         offsets.new ids.old ids.new }
-    ensures lengths { (result ≡ BAD_LENGTH) ↔ (length offsets.old ≢ length areas.now + 1) }
-    ensures refused { result ≢ OK → result ≢ BAD_LENGTH → result ≡ NO_MEMORY }
+    ensures lengths { (result ≡ OK) ↔ (length offsets.old ≡ length areas.now + 1) }
+    ensures refused { result ≢ OK → (result ≡ BAD_LENGTH) × (offsets.new ≡ offsets.old) × (ids.new ≡ ids.old) }
 {
     ask_each(alloc, index, Inside, areas, offsets, ids)
 }
@@ -189,8 +167,8 @@ pub extern "C" fn rstar_index_at_each(
     ensures same { items_in index.new ≡ items_in index.old }
     ensures found { result ≡ OK → AreFound number (λ a. filter (covers a) (items_in index.old)) places.now
         offsets.new ids.old ids.new }
-    ensures lengths { (result ≡ BAD_LENGTH) ↔ (length offsets.old ≢ length places.now + 1) }
-    ensures refused { result ≢ OK → result ≢ BAD_LENGTH → result ≡ NO_MEMORY }
+    ensures lengths { (result ≡ OK) ↔ (length offsets.old ≡ length places.now + 1) }
+    ensures refused { result ≢ OK → (result ≡ BAD_LENGTH) × (offsets.new ≡ offsets.old) × (ids.new ≡ ids.old) }
 {
     ask_each(alloc, index, At, places, offsets, ids)
 }
@@ -208,8 +186,8 @@ pub extern "C" fn rstar_index_within_each(
     ensures same { items_in index.new ≡ items_in index.old }
     ensures found { result ≡ OK → AreFound number (λ a. filter (is_within distance a) (items_in index.old)) places.now
         offsets.new ids.old ids.new }
-    ensures lengths { (result ≡ BAD_LENGTH) ↔ (length offsets.old ≢ length places.now + 1) }
-    ensures refused { result ≢ OK → result ≢ BAD_LENGTH → result ≡ NO_MEMORY }
+    ensures lengths { (result ≡ OK) ↔ (length offsets.old ≡ length places.now + 1) }
+    ensures refused { result ≢ OK → (result ≡ BAD_LENGTH) × (offsets.new ≡ offsets.old) × (ids.new ≡ ids.old) }
 {
     ask_each(alloc, index, distance, places, offsets, ids)
 }

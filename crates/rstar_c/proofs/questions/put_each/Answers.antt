@@ -1,9 +1,9 @@
-use Rattle.std.proofs.Common.{◌≡◌, ◌∙◌, ◌≤◌, ◌++◌, List, ℕ, ap, arith, filter, length, map, min, set, sym, take}
+use Rattle.std.proofs.Common.{◌≡◌, ◌∙◌, ◌≤◌, ◌++◌, Bool, List, ℕ, ap, arith, filter, length, map, min, refl, set, subst, sym, take}
 use Rattle.std.specs.List.{flat_map}
 use Rattle.std.proofs.lemmas.List.{length-map, take_all}
 use Rattle.rstar_base.specs.Counts.{usize_max}
-use Rattle.rstar_c.specs.Items.{number}
-use Rattle.rstar_c.specs.Put.{over, put_from, offsets_of}
+use Rattle.rstar_c.specs.Items.{Item, number}
+use Rattle.rstar_c.specs.Put.{over, put_from, offsets_of, ArePut}
 use Rattle.rstar_c.proofs.Puts.{each-put, each-counted, flat-more, offset-put, offsets-put}
 use Rattle.rstar_c.proofs.questions.put_each.Goals as goal
 
@@ -17,13 +17,14 @@ loop-i-preserved g c =
     let so_far : List ℕ = flat_map numbers (take c.loop-i.i c.args.shapes.now) in
     let this : Shape = c.index-shapes-i.result in
     let next = ap (λ (a : Shape). so_far ++ numbers a) c.index-shapes-i.is ∙ flat-more numbers c.args.shapes.now c.loop-i.i this c.loop-i-test.true in
+    let put = subst (λ (chosen : Item → Bool). ArePut (map number (filter chosen c.args.store.now)) c.loop-i.next c.loop-i.ids c.put_selected-next.new.ids c.put_selected-next.result) c.query.ensures c.put_selected-next.ensures in
     let lt = c.loop-i-test.true in
     let le : c.loop-i.i ≤ length c.args.shapes.now = omega (arith, lt) in
     record {
-      counted = each-counted so_far (numbers this) (count this) c.loop-i.next _ c.loop-i.invariant.counted (same this) c.in_ok-next.ensures.written.counted ∙ ap (λ all. min (length all) usize_max) next;
+      counted = each-counted so_far (numbers this) (length (numbers this)) c.loop-i.next _ c.loop-i.invariant.counted refl put.counted ∙ ap (λ all. min (length all) usize_max) next;
       begun = ap (λ (os : List ℕ). set os c.loop-i.i c.loop-i.next) c.loop-i.invariant.begun
           ∙ offset-put count numbers same c.args.shapes.now c.loop-i.i c.loop-i.next c.args.offsets.now le c.requires c.loop-i.invariant.counted;
-      written = each-put so_far (numbers this) c.args.ids.now c.loop-i.ids _ c.loop-i.next c.room_in-room.result c.loop-i.invariant.counted c.loop-i.invariant.written c.room_in-room.ensures c.room_in-room.type_inv c.in_ok-next.ensures.written.written
+      written = each-put so_far (numbers this) c.args.ids.now c.loop-i.ids _ c.loop-i.next c.room_in-room.result c.loop-i.invariant.counted c.loop-i.invariant.written c.room_in-room.ensures c.room_in-room.type_inv put.written
           ∙ ap out next;
     }
 

@@ -1,0 +1,11 @@
+use Rattle.std.proofs.Common.{◌∙◌, ℤ, subst, sym, w32, w64}
+use Rattle.std.proofs.Math.Facts.{to_z-of_z}
+use Rattle.rstar_c.specs.Answers.{IsDrained}
+use Rattle.rstar_c.specs.Handles.{items_in}
+use Rattle.rstar_c.specs.Items.{is_within}
+use Rattle.rstar_c.proofs.exports.drains.rstar_index_drain_within.Goals as goal
+
+pub returns-clause-drained : goal.returns-clause-drained
+returns-clause-drained c = λ ok.
+    subst (λ (distance : ℤ). IsDrained (is_within distance c.args.place.now) (items_in c.args.index.now) (items_in c.take.new.index) c.args.ids.now c.take.new.ids c.take.new.found)
+    (to_z-of_z {w = w64} c.ranges.distance) (c.take.ensures.drained (sym (to_z-of_z {w = w32} (record { sfits = c.take.type_inv })) ∙ ok))
