@@ -12,4 +12,3 @@ pub mod Runs
 pub mod Points
 pub mod Stored
 pub mod Modes
-pub mod Shards

@@ -15,8 +15,6 @@ mod program;
 #[cfg(test)]
 mod replay_tests;
 mod request;
-#[cfg(test)]
-mod shards;
 mod source;
 mod store;
 mod stored;
