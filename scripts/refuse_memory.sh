@@ -58,8 +58,8 @@ declare -A least=(
   [refusals::an_iterator_is_refused_once]=3
   [refusals::calls_that_are_refused]=100
   [refusals::insertions_and_loads_that_are_refused]=263
-  [replay_tests::rows_of_commands]=122
-  [tests::a_refused_line_is_the_last]=26
+  [tests::commands::rows_of_commands]=122
+  [tests::lines::a_refused_line_is_the_last]=26
 )
 # How many it asks for, and no more: a tree is written by one, and read by one for each of its three parents; nine elements in
 # three slabs take two lists, and three in one slab none; and of pushes on a heap the first twelve take none, and one of the others.
@@ -97,8 +97,8 @@ try_tests() {
 try_tests rstar_base 'tests::slabs::a_refused_slab_ends_the_slabs'
 try_tests rstar_base 'tests::heaps::the_greatest_leaves_first'
 try_tests rstar_vectors 'refusals::[a-z_]*'
-try_tests rstar_run 'replay_tests::rows_of_commands'
-try_tests rstar_run 'tests::a_refused_line_is_the_last'
+try_tests rstar_run 'tests::commands::rows_of_commands'
+try_tests rstar_run 'tests::lines::a_refused_line_is_the_last'
 
 cd "$top/crates/rstar_run"
 runs=0

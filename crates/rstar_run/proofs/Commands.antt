@@ -7,7 +7,8 @@ use Rattle.std.proofs.lemmas.Slice.Eq.{bytes_eq-Decides}
 use Rattle.rstar_run.specs.Numerals.{◌>>=◌, unsigned_of, signed_of}
 use Rattle.rstar_run.proofs.Numerals.{signed_fits}
 use Rattle.rstar_run.specs.Grammar.{command_of, drain_of, line_of, verb_of, known, listed, point_of, corners_of, rectangle_of, entry_of}
-use Rattle.rstar_run.specs.declared.command.Corners.{Corners}
+use Rattle.rstar_run.specs.Items.{item_of}
+use Rattle.rstar_run.specs.declared.items.Corners.{Corners}
 use Rattle.rstar_run.specs.declared.command.Line.TheVariants as line
 use Rattle.rstar_run.specs.declared.command.Entry.TheVariants as entry
 use Rattle.rstar_run.specs.declared.command.Verb.{Verb}
@@ -167,7 +168,7 @@ five (a ∷ b ∷ c ∷ d ∷ e ∷ f ∷ ws) some none = absurd cc
 five _ some none = absurd (some refl)
 
 pub entry_found : (ws : List (List ℕ)) (id : ℕ) (corners : Corners) (others : List (List ℕ)) → others ≡ drop 1 ws → Some id ≡ unsigned_of (get_or ws 0 [])
-    → Some corners ≡ corners_of (get_or others 0 []) (get_or others 1 []) (get_or others 2 []) (get_or others 3 []) → drop 4 others ≡ [] → entry.Rectangle id corners ≡ entry_of ws
+    → Some corners ≡ corners_of (get_or others 0 []) (get_or others 1 []) (get_or others 2 []) (get_or others 3 []) → drop 4 others ≡ [] → entry.Item (item_of id corners) ≡ entry_of ws
 entry_found ws id corners others behind i p none =
     let p' = rw behind at p in
     sym (five ws (last_word (get_or (drop 1 ws) 0 []) (get_or (drop 1 ws) 1 []) (get_or (drop 1 ws) 2 []) (get_or (drop 1 ws) 3 []) corners p') (rw behind at none) ∙ rw (← i, ← p') refl)

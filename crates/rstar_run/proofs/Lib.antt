@@ -12,4 +12,3 @@ pub mod PointLines
 pub mod Arguments
 pub mod Told
 pub mod Packing
-pub mod ShardAnswers

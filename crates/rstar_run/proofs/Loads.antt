@@ -8,8 +8,8 @@ use Rattle.rstar_run.specs.Lines.{TakesLine}
 use Rattle.rstar_run.specs.Prints.{Prints, Printed}
 use Rattle.rstar_run.specs.Runs.{entry_meant, IsEntry, Lists, TakesItems, LoadBreaks}
 use Rattle.rstar_run.specs.declared.command.Entry.TheVariants as entry
-use Rattle.rstar_run.specs.declared.program.Stop.{Stop}
-use Rattle.rstar_run.specs.declared.program.Stop.TheVariants as stop
+use Rattle.rstar_run.specs.declared.stops.Stop.{Stop}
+use Rattle.rstar_run.specs.declared.stops.Stop.TheVariants as stop
 use Rattle.rstar_run.proofs.Reading.{takes_more}
 use Rattle.rstar_run.proofs.Prints.{prints_both, prints_some}
 

@@ -7,8 +7,8 @@ use Rattle.std.specs.Io.KnownBytes.{Appends, Keeps}
 use Rattle.std.proofs.KnownBytes.{Appends-nil, Appends-trans, Appends-kept}
 use Rattle.rstar_run.specs.Texts.{list_text}
 use Rattle.rstar_run.specs.Prints.{AppendsFront, Prints, PrintsSome}
-use Rattle.rstar_run.specs.declared.program.Stop.{Stop}
-use Rattle.rstar_run.specs.declared.program.Stop.TheVariants as stop
+use Rattle.rstar_run.specs.declared.stops.Stop.{Stop}
+use Rattle.rstar_run.specs.declared.stops.Stop.TheVariants as stop
 
 -- ---- a front of a text
 

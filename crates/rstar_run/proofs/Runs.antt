@@ -11,8 +11,8 @@ use Rattle.rstar_run.specs.Runs.{meaning, BreaksAt, TurnSays, TurnsSay, lines_in
 use Rattle.rstar_run.specs.declared.command.Line.TheVariants as line
 use Rattle.rstar_run.specs.Statuses.{status_of}
 use Rattle.rstar_run.specs.Texts.{end_text}
-use Rattle.rstar_run.specs.declared.program.Stop.{Stop}
-use Rattle.rstar_run.specs.declared.program.Stop.TheVariants as stop
+use Rattle.rstar_run.specs.declared.stops.Stop.{Stop}
+use Rattle.rstar_run.specs.declared.stops.Stop.TheVariants as stop
 use Rattle.rstar_run.proofs.Reading.{Reads, rest_of, reads_first, reads_lines, reads_rest, reads_all, none_at_end}
 use Rattle.rstar_run.proofs.Prints.{nothing, front_of_longer, front_kept, prints_both, prints_some, prints_front}
 

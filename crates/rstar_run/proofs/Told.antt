@@ -4,7 +4,7 @@ use Rattle.std.specs.Prelude.{OnOk, IfErr}
 use Rattle.std.specs.Io.KnownBytes.{Appends, Keeps}
 use Rattle.std.proofs.KnownBytes.{Appends-trans}
 use Rattle.rstar_run.specs.Prints.{AppendsFront, Prints, Tells}
-use Rattle.rstar_run.specs.declared.program.Stop.{Stop}
+use Rattle.rstar_run.specs.declared.stops.Stop.{Stop}
 use Rattle.rstar_run.proofs.Prints.{front_kept, prints_front}
 
 -- a text is printed, and then what is held is written

@@ -1,9 +1,12 @@
 -- What a line means.
-use Rattle.std.specs.Prelude.{ℕ, ℤ, List, [], ◌∷◌, Option, Some, None, codes, if◌then◌else◌}
+use Rattle.std.specs.Prelude.{◌≡◌, ℕ, ℤ, false, List, [], ◌∷◌, Option, Some, None, codes, if◌then◌else◌, ⊤}
 use Rattle.std.specs.Str.{bytes_eq}
+use Rattle.rstar.specs.Steps.{IsFit}
+use Rattle.rstar.specs.declared.replay.Command.TheVariants as command
+use Rattle.rstar.specs.declared.replay.Query.TheVariants as query
+use Rattle.rstar_run.specs.Items.{box_between, item_of, questions}
 use Rattle.rstar_run.specs.Numerals.{◌>>=◌, unsigned_of, signed_of}
-use Rattle.rstar_run.specs.declared.command.Corners.{Corners}
-use Rattle.rstar_run.specs.declared.command.Request.TheVariants as request
+use Rattle.rstar_run.specs.declared.items.Corners.{Corners}
 use Rattle.rstar_run.specs.declared.command.Verb.{Verb}
 use Rattle.rstar_run.specs.declared.command.Verb.TheVariants.{Insert, Remove, RemoveAt, Pop, Drain, In, Hit, At, Within, Near, Size, Load}
 use Rattle.rstar_run.specs.declared.command.Line.{Line}
@@ -44,46 +47,46 @@ verb_of word =
 -- the drain that the word after `drain` names
 abbrev pub drain_of : List ℕ → Corners → ℕ → Option Line
 drain_of area corners most =
-    if bytes_eq area (codes "in") then Some (line.Request (request.DrainIn corners most)) else (
-    if bytes_eq area (codes "hit") then Some (line.Request (request.DrainHit corners most)) else None)
+    if bytes_eq area (codes "in") then Some (line.Command (command.Drain (query.In (box_between corners)) most)) else (
+    if bytes_eq area (codes "hit") then Some (line.Command (command.Drain (query.Hit (box_between corners)) most)) else None)
 
 -- a line of a verb and the words after it
 abbrev pub command_of : Verb → List (List ℕ) → Option Line
 command_of Insert (id ∷ x1 ∷ y1 ∷ x2 ∷ y2 ∷ []) = do
   id' ← unsigned_of id
   corners ← corners_of x1 y1 x2 y2
-  Some (line.Request (request.Insert id' corners))
+  Some (line.Command (command.Insert (item_of id' corners)))
 command_of Remove (id ∷ x1 ∷ y1 ∷ x2 ∷ y2 ∷ []) = do
   id' ← unsigned_of id
   corners ← corners_of x1 y1 x2 y2
-  Some (line.Request (request.Remove id' corners))
+  Some (line.Command (command.Remove (item_of id' corners)))
 command_of RemoveAt (x ∷ y ∷ []) = do
   p ← point_of x y
-  Some (line.Request (request.RemoveAt p))
+  Some (line.Command (command.RemoveAtPoint p))
 command_of Pop (x ∷ y ∷ []) = do
   p ← point_of x y
-  Some (line.Request (request.Pop p))
+  Some (line.Command (command.PopNearest p))
 command_of Drain (area ∷ x1 ∷ y1 ∷ x2 ∷ y2 ∷ most ∷ []) = do
   corners ← corners_of x1 y1 x2 y2
   most' ← unsigned_of most
   drain_of area corners most'
 command_of In (x1 ∷ y1 ∷ x2 ∷ y2 ∷ []) = do
   corners ← corners_of x1 y1 x2 y2
-  Some (line.Request (request.In corners))
+  Some (line.Command (command.Ask (query.In (box_between corners))))
 command_of Hit (x1 ∷ y1 ∷ x2 ∷ y2 ∷ []) = do
   corners ← corners_of x1 y1 x2 y2
-  Some (line.Request (request.Hit corners))
+  Some (line.Command (command.Ask (query.Hit (box_between corners))))
 command_of At (x ∷ y ∷ []) = do
   p ← point_of x y
-  Some (line.Request (request.At p))
+  Some (line.Command (command.Ask (query.At p)))
 command_of Within (x ∷ y ∷ limit ∷ []) = do
   p ← point_of x y
   limit' ← signed_of limit
-  Some (line.Request (request.Within p limit'))
+  Some (line.Command (command.Ask (query.Within p limit')))
 command_of Near (x ∷ y ∷ most ∷ []) = do
   p ← point_of x y
   most' ← unsigned_of most
-  Some (line.Request (request.Near p most'))
+  Some (line.Command (command.Neighbours p most'))
 command_of Size [] = Some line.Size
 command_of Load (count ∷ []) = do
   count' ← unsigned_of count
@@ -107,7 +110,7 @@ abbrev pub rectangle_of : List ℕ → List ℕ → List ℕ → List ℕ → Li
 rectangle_of id x1 y1 x2 y2 = do
   id' ← unsigned_of id
   corners ← corners_of x1 y1 x2 y2
-  Some (entry.Rectangle id' corners)
+  Some (entry.Item (item_of id' corners))
 
 -- a line of a load that has words
 abbrev pub listed : Option Entry → Entry
@@ -119,3 +122,13 @@ abbrev pub entry_of : List (List ℕ) → Entry
 entry_of [] = entry.Blank
 entry_of (id ∷ x1 ∷ y1 ∷ x2 ∷ y2 ∷ []) = listed (rectangle_of id x1 y1 x2 y2)
 entry_of _ = entry.Bad
+
+-- the tree can run the command of a line
+abbrev pub CanRun : Line → Type 0
+CanRun (line.Command c) = IsFit questions 2 c
+CanRun _ = ⊤
+
+-- the rectangle of a line of a load is not empty
+abbrev pub IsFilled : Entry → Type 0
+IsFilled (entry.Item item) = questions.is_empty (questions.box_of item) ≡ false
+IsFilled _ = ⊤

@@ -1,5 +1,5 @@
 -- Rectangles with IDs, as the tree holds them, and what a scan asks of them.
-use Rattle.std.specs.Prelude.{◌≡◌, ◌^◌, ◌-◌, ◌&&◌, ◌==◌, ℕ, ℤ, Bool, List, pos, negsuc, length}
+use Rattle.std.specs.Prelude.{◌^◌, ◌-◌, ◌&&◌, ◌==◌, ℕ, ℤ, Bool, List, map, pos, negsuc}
 use Rattle.std.specs.Ordering.{int_eq, int_cmp, nat_cmp, ordering_then}
 use Rattle.std.specs.Cmp.Lexicographic.{pointwise, slice_cmp}
 use Rattle.std.specs.declared.cmp.Ordering.{Ordering}
@@ -14,7 +14,7 @@ use Rattle.rstar.specs.Steps as steps
 use Rattle.rstar.specs.StepsByOrder.{StepByOrder}
 use Rattle.rstar.specs.declared.replay.Command as commands
 use Rattle.rstar.specs.declared.replay.Reply as replies
-use Rattle.rstar_run.specs.declared.command.Corners.{Corners}
+use Rattle.rstar_run.specs.declared.items.Corners.{Corners}
 
 -- a rectangle and its ID
 abbrev pub Item : Type 0
@@ -74,10 +74,6 @@ StoreStep = StepByOrder questions compare_items
 abbrev pub box_between : Corners → Box
 box_between c = box_of_corners 2 (coordinate c.one) (coordinate c.other)
 
--- the item is the rectangle between these corners, with this ID: there is one such item, since its own corners have
--- two coordinates
-pub record IsRectangle (id : ℕ) (corners : Corners) (item : Item) : Type 0 where
-  pub lower : length item.0.lower ≡ 2
-  pub upper : length item.0.upper ≡ 2
-  pub box : item_objects.box_of item ≡ box_between corners
-  pub id_is : item.1 ≡ id
+-- the rectangle between two corners, with an ID
+abbrev pub item_of : ℕ → Corners → Item
+item_of id c = (record { lower = map (λ side. side.0) (box_between c); upper = map (λ side. side.1) (box_between c) }, id)

@@ -1,9 +1,8 @@
 pub mod Numerals
 pub mod Words
 pub mod Fronts
-pub mod Grammar
 pub mod Items
-pub mod Requests
+pub mod Grammar
 pub mod Statuses
 pub mod Texts
 pub mod Prints
@@ -12,4 +11,3 @@ pub mod Runs
 pub mod Points
 pub mod Stored
 pub mod Modes
-pub mod Shards

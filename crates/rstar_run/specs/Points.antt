@@ -11,8 +11,8 @@ use Rattle.rstar_run.specs.Numerals.{◌>>=◌}
 use Rattle.rstar_run.specs.Words.{words_of, without_end}
 use Rattle.rstar_run.specs.declared.points.PointLine.{PointLine}
 use Rattle.rstar_run.specs.declared.points.PointLine.TheVariants as line
-use Rattle.rstar_run.specs.declared.program.Stop.{Stop}
-use Rattle.rstar_run.specs.declared.program.Stop.TheVariants as stop
+use Rattle.rstar_run.specs.declared.stops.Stop.{Stop}
+use Rattle.rstar_run.specs.declared.stops.Stop.TheVariants as stop
 
 -- a line of two words
 abbrev pub spot_of : List ℕ → List ℕ → Option PointLine

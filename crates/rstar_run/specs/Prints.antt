@@ -2,8 +2,8 @@
 -- know them.
 use Rattle.std.specs.Prelude.{◌≡◌, ◌⊎◌, ℕ, List, [], ◌++◌, Option, Result, Ok, Err}
 use Rattle.std.specs.Io.KnownBytes.{Appends}
-use Rattle.rstar_run.specs.declared.program.Stop.{Stop}
-use Rattle.rstar_run.specs.declared.program.Stop.TheVariants as stop
+use Rattle.rstar_run.specs.declared.stops.Stop.{Stop}
+use Rattle.rstar_run.specs.declared.stops.Stop.TheVariants as stop
 
 -- some front of a text was appended to the output
 pub record AppendsFront (old new : Option (List ℕ)) (text : List ℕ) : Type 0 where

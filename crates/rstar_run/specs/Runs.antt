@@ -5,8 +5,7 @@ use Rattle.std.specs.Io.KnownBytes.{IsAtEnd}
 use Rattle.rstar.specs.declared.replay.Command.TheVariants as command
 use Rattle.rstar_run.specs.Words.{words_of, without_end}
 use Rattle.rstar_run.specs.Grammar.{line_of, entry_of}
-use Rattle.rstar_run.specs.Items.{Item, Command, Reply, StoreStep, IsRectangle}
-use Rattle.rstar_run.specs.Requests.{Asks}
+use Rattle.rstar_run.specs.Items.{Item, Command, Reply, StoreStep}
 use Rattle.rstar_run.specs.Statuses.{status_of}
 use Rattle.rstar_run.specs.Texts.{SpellsReply, end_text}
 use Rattle.rstar_run.specs.Lines.{lines_of, TakesLines}
@@ -15,8 +14,8 @@ use Rattle.rstar_run.specs.declared.command.Entry.{Entry}
 use Rattle.rstar_run.specs.declared.command.Entry.TheVariants as entry
 use Rattle.rstar_run.specs.declared.command.Line.{Line}
 use Rattle.rstar_run.specs.declared.command.Line.TheVariants as line
-use Rattle.rstar_run.specs.declared.program.Stop.{Stop}
-use Rattle.rstar_run.specs.declared.program.Stop.TheVariants as stop
+use Rattle.rstar_run.specs.declared.stops.Stop.{Stop}
+use Rattle.rstar_run.specs.declared.stops.Stop.TheVariants as stop
 
 -- what a line means
 abbrev pub meaning : List ℕ → Line
@@ -29,7 +28,7 @@ entry_meant line = entry_of (words_of (without_end line))
 -- the items of one line of a load: one, or none where it is blank
 abbrev pub IsEntry : Entry → List Item → Type 0
 IsEntry entry.Blank items = items ≡ []
-IsEntry (entry.Rectangle id corners) items = (item : Item) × IsRectangle id corners item × (items ≡ item ∷ [])
+IsEntry (entry.Item item) items = items ≡ item ∷ []
 IsEntry entry.Bad items = ⊥
 
 -- the lines of a load, and their items, in order
@@ -39,23 +38,18 @@ Lists (line ∷ lines) items =
     (first : List Item) × (others : List Item)
     × IsEntry (entry_meant line) first × Lists lines others × (items ≡ first ++ others)
 
--- the store takes a step by a command of this kind, and the reply is said
-abbrev pub StepSays : (Command → Type 0) → List Item → List ℕ → List Item → Type 0
-StepSays Kind old said new =
-    (c : Command) × Kind c × ((reply : Reply) × StoreStep old c reply new × SpellsReply reply said)
-
--- the command is a load of so many items, those of these lines
-abbrev pub IsLoad : ℕ → List (List ℕ) → Command → Type 0
-IsLoad count lines c =
-    (list : Vec Item) × (c ≡ command.Load list) × Lists lines list.items × (length list.items ≡ count)
+-- the store takes a step by a command, and the reply is said
+abbrev pub StepSays : Command → List Item → List ℕ → List Item → Type 0
+StepSays c old said new = (reply : Reply) × StoreStep old c reply new × SpellsReply reply said
 
 -- what a line of this meaning says where the store holds `old`, and the store after it; `more` are the lines that it
 -- takes besides its own, as a load does
 abbrev pub LineSays : List Item → Line → List (List ℕ) → List ℕ → List Item → Type 0
 LineSays old line.Blank more said new = (more ≡ []) × (said ≡ []) × (new ≡ old)
-LineSays old (line.Request request) more said new = (more ≡ []) × StepSays (Asks request) old said new
+LineSays old (line.Command c) more said new = (more ≡ []) × StepSays c old said new
 LineSays old line.Size more said new = (more ≡ []) × (said ≡ decimal (length old) ++ codes "\n") × (new ≡ old)
-LineSays old (line.Load count) more said new = StepSays (IsLoad count more) old said new
+LineSays old (line.Load count) more said new =
+    (list : Vec Item) × Lists more list.items × (length list.items ≡ count) × StepSays (command.Load list) old said new
 LineSays old line.Bad more said new = ⊥
 
 -- what the lines of one turn say: the first, and those that it takes

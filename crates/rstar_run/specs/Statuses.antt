@@ -1,7 +1,7 @@
 -- How a run ended, as a status.
 use Rattle.std.specs.Prelude.{ℕ, Result, Ok, Err}
-use Rattle.rstar_run.specs.declared.program.Stop.{Stop}
-use Rattle.rstar_run.specs.declared.program.Stop.TheVariants.{Line, Memory, Input, Output}
+use Rattle.rstar_run.specs.declared.stops.Stop.{Stop}
+use Rattle.rstar_run.specs.declared.stops.Stop.TheVariants.{Line, Memory, Input, Output}
 
 -- 0 at the end of the input, 2 after a bad line, 3 where memory was refused, 4 after a failed read or write
 abbrev pub status_of : Result (Unit {0}) Stop → ℕ

@@ -19,7 +19,7 @@ use Rattle.rstar_run.specs.Points.{points_in, points_text, StopsReading}
 use Rattle.rstar_run.specs.Prints.{Tells}
 use Rattle.rstar_run.specs.Statuses.{status_of}
 use Rattle.rstar_run.specs.Texts.{stop_text}
-use Rattle.rstar_run.specs.declared.program.Stop.TheVariants as stop
+use Rattle.rstar_run.specs.declared.stops.Stop.TheVariants as stop
 use Rattle.rstar_run.specs.declared.stored.Fault.{Fault}
 use Rattle.rstar_run.specs.declared.stored.Fault.TheVariants.{Usage, Stop, Stored}
 

@@ -4,8 +4,8 @@ use Rattle.std.specs.List.{join_by}
 use Rattle.std.specs.List.Sorted.{IsPermutation, IsNonDecreasing}
 use Rattle.rstar.specs.declared.replay.Reply.TheVariants as reply
 use Rattle.rstar_run.specs.Items.{Item, Reply}
-use Rattle.rstar_run.specs.declared.program.Stop.{Stop}
-use Rattle.rstar_run.specs.declared.program.Stop.TheVariants.{Line, Memory, Input, Output}
+use Rattle.rstar_run.specs.declared.stops.Stop.{Stop}
+use Rattle.rstar_run.specs.declared.stops.Stop.TheVariants.{Line, Memory, Input, Output}
 
 -- the texts of some with single spaces, and `-` where there is none
 abbrev pub list_text : {A : Type 0} → (A → List ℕ) → List A → List ℕ

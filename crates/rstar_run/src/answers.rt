@@ -1,12 +1,13 @@
-//! Replies as text.
+//! Replies and ends as text.
 
-ghost use Rattle.std.specs.Prelude.{◌≡◌, ◌++◌, ℕ, List, codes, decimal, Err, IfErr, OnOk};
+ghost use Rattle.std.specs.Prelude.{◌≡◌, ◌++◌, ℕ, List, codes, decimal, Err, IsErr, IfErr, OnOk};
+ghost use Rattle.std.specs.Io.KnownBytes.{Keeps};
 ghost use Rattle.rstar_run.specs.Prints.{AppendsFront, Prints, PrintsSome};
-ghost use Rattle.rstar_run.specs.Texts.{list_text, id_text, neighbour_text, HasNoText, SpellsReply};
+ghost use Rattle.rstar_run.specs.Texts.{list_text, id_text, neighbour_text, stop_text, HasNoText, SpellsReply};
 
+use super::items::Item;
 use super::print::Printer;
-use super::program::Stop;
-use super::store::Item;
+use super::stops::Stop;
 use rstar::replay::Reply;
 use std::io::Write;
 
@@ -109,5 +110,26 @@ fn print_list<T: Listed, W: Write>(
             }
             printer.put(output, b"\n")
         }
+    }
+}
+
+/// Prints why a run stopped. After a failed write nothing more is written.
+pub fn print_stop<W: Write>(printer: &mut Printer, output: &mut W, stop: Stop) -> Result<(), Stop>
+    ensures all { OnOk result (Prints (W.contents output.old) (W.contents output.new)
+        printer.old.held.items (stop_text stop) printer.new.held.items) }
+    ensures front { AppendsFront (W.contents output.old) (W.contents output.new)
+        (printer.old.held.items ++ stop_text stop) }
+    ensures silent { stop ≡ Stop.Output → IsErr result × Keeps (W.contents output.old) (W.contents output.new) }
+    ensures failed { IfErr result (λ why. why ≡ Stop.Output) }
+{
+    match stop {
+        Stop::Line(line) => {
+            printer.put(output, b"error: line ")?;
+            printer.put_number(output, line)?;
+            printer.put(output, b"\n")
+        }
+        Stop::Memory => printer.put(output, b"error: memory\n"),
+        Stop::Input => printer.put(output, b"error: input\n"),
+        Stop::Output => Err(Stop::Output),
     }
 }

@@ -3,46 +3,14 @@
 ghost use Rattle.std.specs.Prelude.{◌≡◌, ◌≢◌, ◌<◌, [], length, map, drop, IfSome, IfNone};
 ghost use Rattle.std.specs.Option.{option_map};
 ghost use Rattle.rstar_run.specs.Fronts.{word_at};
-ghost use Rattle.rstar_run.specs.Grammar.{point_of, corners_of, verb_of, drain_of, command_of, line_of, entry_of};
+ghost use Rattle.rstar_run.specs.Grammar.{point_of, corners_of, verb_of, drain_of, command_of, line_of, entry_of, CanRun, IsFilled};
 ghost use Rattle.rstar_run.specs.Words.{words_of};
 
+use super::items::{Corners, Item, box_between, item_of};
 use super::number::{signed, take_signed, take_unsigned, unsigned};
 use super::words::{MOST_WORDS, is_blank, words};
 use arrayvec::ArrayVec;
-
-/// Two opposite corners of a box, as a line spells them.
-#[derive(Clone, Copy, Debug, PartialEq, Eq)]
-pub struct Corners {
-    pub one: [i64; 2],
-    pub other: [i64; 2],
-}
-
-/// A request: a line that is answered by one command.
-#[derive(Clone, Copy, Debug, PartialEq, Eq)]
-pub enum Request {
-    /// Inserts a rectangle with an ID.
-    Insert(u64, Corners),
-    /// Removes a rectangle with an ID, and prints the ID.
-    Remove(u64, Corners),
-    /// Removes a rectangle that contains a point, and prints its ID.
-    RemoveAt([i64; 2]),
-    /// Removes the nearest rectangle to a point, and prints its ID.
-    Pop([i64; 2]),
-    /// Removes up to this many rectangles inside a box, and prints their IDs.
-    DrainIn(Corners, usize),
-    /// Removes up to this many rectangles that intersect a box, and prints their IDs.
-    DrainHit(Corners, usize),
-    /// Prints the IDs of the rectangles inside a box.
-    In(Corners),
-    /// Prints the IDs of the rectangles that intersect a box.
-    Hit(Corners),
-    /// Prints the IDs of the rectangles that contain a point.
-    At([i64; 2]),
-    /// Prints the IDs of the rectangles within a squared distance of a point.
-    Within([i64; 2], i64),
-    /// Prints the IDs of the k nearest rectangles to a point, each with its squared distance.
-    Near([i64; 2], usize),
-}
+use rstar::replay::{Command, Query};
 
 /// The first word of a line.
 #[derive(Clone, Copy, Debug, PartialEq, Eq)]
@@ -62,10 +30,11 @@ pub enum Verb {
 }
 
 /// A parsed line.
-#[derive(Clone, Copy, Debug, PartialEq, Eq)]
+#[derive(Drop)]
 pub enum Line {
     Blank,
-    Request(Request),
+    /// A command over the tree.
+    Command(Command<Item>),
     /// Prints the number of rectangles.
     Size,
     /// Replaces all rectangles by a bulk load of this many, which the next lines list.
@@ -74,11 +43,10 @@ pub enum Line {
 }
 
 /// A parsed line inside a load.
-#[derive(Clone, Copy, Debug, PartialEq, Eq)]
+#[derive(Drop)]
 pub enum Entry {
     Blank,
-    /// A rectangle with an ID.
-    Rectangle(u64, Corners),
+    Item(Item),
     Bad,
 }
 
@@ -118,33 +86,36 @@ fn parse_verb(word: &[u8]) -> Option<Verb>
     }
 }
 
-/// The drain request of an area, `in` or `hit`, between two corners.
-#[tactic(auto, using(crate::proofs::Commands::drain_none))]
+/// The drain of an area, `in` or `hit`, between two corners.
 fn drain_of(area: &[u8], corners: Corners, most: usize) -> Option<Line>
-    ensures { result ≡ drain_of area.now corners most }
+    ensures is { result ≡ drain_of area.now corners most }
+    ensures fit { IfSome result CanRun }
 {
+    let outline = box_between(corners);
     match str::from_utf8(area).ok()? {
-        "in" => Some(Line::Request(Request::DrainIn(corners, most))),
-        "hit" => Some(Line::Request(Request::DrainHit(corners, most))),
+        "in" => Some(Line::Command(Command::Drain(Query::In(outline), most))),
+        "hit" => Some(Line::Command(Command::Drain(Query::Hit(outline), most))),
         _ => None,
     }
 }
 
-#[tactic(auto, using(crate::proofs::Commands::lent_none))]
 fn parse_command(verb: Verb, args: &[&[u8]]) -> Option<Line>
-    ensures { result ≡ command_of verb (map (λ word. word.now) args.now) }
+    ensures is { result ≡ command_of verb (map (λ word. word.now) args.now) }
+    ensures fit { IfSome result CanRun }
 {
     match (verb, args) {
         (Verb::Insert, [id, x1, y1, x2, y2]) => {
             let id = unsigned(id)?;
-            Some(Line::Request(Request::Insert(id, parse_corners(x1, y1, x2, y2)?)))
+            Some(Line::Command(Command::Insert(item_of(id, parse_corners(x1, y1, x2, y2)?))))
         }
         (Verb::Remove, [id, x1, y1, x2, y2]) => {
             let id = unsigned(id)?;
-            Some(Line::Request(Request::Remove(id, parse_corners(x1, y1, x2, y2)?)))
+            Some(Line::Command(Command::Remove(item_of(id, parse_corners(x1, y1, x2, y2)?))))
         }
-        (Verb::RemoveAt, [x, y]) => Some(Line::Request(Request::RemoveAt(parse_point(x, y)?))),
-        (Verb::Pop, [x, y]) => Some(Line::Request(Request::Pop(parse_point(x, y)?))),
+        (Verb::RemoveAt, [x, y]) => {
+            Some(Line::Command(Command::RemoveAtPoint(parse_point(x, y)?)))
+        }
+        (Verb::Pop, [x, y]) => Some(Line::Command(Command::PopNearest(parse_point(x, y)?))),
         (Verb::Drain, [area, x1, y1, x2, y2, most]) => {
             drain_of(
                 area,
@@ -153,17 +124,21 @@ fn parse_command(verb: Verb, args: &[&[u8]]) -> Option<Line>
             )
         }
         (Verb::In, [x1, y1, x2, y2]) => {
-            Some(Line::Request(Request::In(parse_corners(x1, y1, x2, y2)?)))
+            let area = box_between(parse_corners(x1, y1, x2, y2)?);
+            Some(Line::Command(Command::Ask(Query::In(area))))
         }
         (Verb::Hit, [x1, y1, x2, y2]) => {
-            Some(Line::Request(Request::Hit(parse_corners(x1, y1, x2, y2)?)))
+            let area = box_between(parse_corners(x1, y1, x2, y2)?);
+            Some(Line::Command(Command::Ask(Query::Hit(area))))
         }
-        (Verb::At, [x, y]) => Some(Line::Request(Request::At(parse_point(x, y)?))),
+        (Verb::At, [x, y]) => Some(Line::Command(Command::Ask(Query::At(parse_point(x, y)?)))),
         (Verb::Within, [x, y, limit]) => {
-            Some(Line::Request(Request::Within(parse_point(x, y)?, signed(limit)?)))
+            let query = Query::Within(parse_point(x, y)?, signed(limit)?);
+            Some(Line::Command(Command::Ask(query)))
         }
         (Verb::Near, [x, y, most]) => {
-            Some(Line::Request(Request::Near(parse_point(x, y)?, unsigned(most)? as usize)))
+            let command = Command::Neighbours(parse_point(x, y)?, unsigned(most)? as usize);
+            Some(Line::Command(command))
         }
         (Verb::Size, []) => Some(Line::Size),
         (Verb::Load, [count]) => Some(Line::Load(unsigned(count)? as usize)),
@@ -195,6 +170,7 @@ fn take_corners(text: &[u8]) -> Option<(Corners, &[u8])>
 /// The rectangle in a line of a load; `None` where the line is blank or bad.
 fn parse_rectangle(text: &[u8]) -> Option<Entry>
     ensures found { IfSome result (λ entry. entry ≡ entry_of (words_of text.now)) }
+    ensures filled { IfSome result IsFilled }
     ensures none { IfNone result (words_of text.now ≢ [] → Entry.Bad ≡ entry_of (words_of text.now)) }
 {
     let (id, text) = take_unsigned(text)?;
@@ -202,7 +178,7 @@ fn parse_rectangle(text: &[u8]) -> Option<Entry>
     if !is_blank(text) {
         return None;
     }
-    Some(Entry::Rectangle(id, corners))
+    Some(Entry::Item(item_of(id, corners)))
 }
 
 /// A parser of the words of a line.
@@ -223,7 +199,8 @@ impl<'a> Parser<'a> {
 
     /// The parsed line.
     pub fn line(&self) -> Line
-        ensures { result ≡ line_of (map (λ word. word.now) self.now.words.items) }
+        ensures is { result ≡ line_of (map (λ word. word.now) self.now.words.items) }
+        ensures fit { CanRun result }
     {
         match self.words.as_slice() {
             [] => Line::Blank,
@@ -238,7 +215,8 @@ impl<'a> Parser<'a> {
 /// Parses a line without its end.
 #[tactic(auto, using(crate::proofs::Commands::line_bad))]
 pub fn parse_line(text: &[u8]) -> Line
-    ensures { result ≡ line_of (words_of text.now) }
+    ensures is { result ≡ line_of (words_of text.now) }
+    ensures fit { CanRun result }
 {
     match Parser::new(text) {
         Some(parser) => parser.line(),
@@ -248,7 +226,8 @@ pub fn parse_line(text: &[u8]) -> Line
 
 /// Parses a line of a load without its end.
 pub fn parse_entry(text: &[u8]) -> Entry
-    ensures { result ≡ entry_of (words_of text.now) }
+    ensures is { result ≡ entry_of (words_of text.now) }
+    ensures filled { IsFilled result }
 {
     match parse_rectangle(text) {
         Some(entry) => entry,

@@ -7,8 +7,8 @@ ghost use Rattle.memchr.specs.Find.{IsFirstByte, is_byte};
 ghost use Rattle.rstar_run.specs.Lines.{bytes_left, TakesLine};
 ghost use Rattle.rstar_run.specs.Words.{without_end};
 
-use super::program::Stop;
 use super::source::{Source, input_stop};
+use super::stops::Stop;
 use super::words::without_end;
 use memchr::memchr;
 use std::alloc::Global;

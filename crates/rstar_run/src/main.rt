@@ -4,39 +4,34 @@
 
 mod answers;
 mod command;
-#[cfg(test)]
-mod format_tests;
+mod items;
 mod lines;
 mod modes;
 mod number;
 mod points;
 mod print;
 mod program;
-#[cfg(test)]
-mod replay_tests;
-mod request;
-#[cfg(test)]
-mod shards;
 mod source;
+mod stops;
 mod store;
 mod stored;
-#[cfg(test)]
-mod stored_tests;
 #[cfg(test)]
 mod tests;
 mod words;
 
-use program::{Mode, Stop, mode, pack, run, unpack};
+use modes::{Mode, mode_of};
+use program::run;
 use std::io::ErrorKind;
 use std::process::ExitCode;
 use std::rt::Env;
 use std::{env, io};
-use stored::{Fault, refuse};
+use stops::Stop;
+use stored::{Fault, pack, refuse, unpack};
 
 fn main(rt: HostRuntime) -> ExitCode {
     let mut output = io::writer(&rt);
     let status = match given_words(&rt) {
-        Ok(words) => match mode(&words) {
+        Ok(words) => match mode_of(&words) {
             Some(Mode::Run) => run(rt.alloc(), rt.reader(), &mut output),
             Some(Mode::Pack) => pack(rt.alloc(), rt.reader(), &mut output),
             Some(Mode::Unpack) => unpack(rt.alloc(), rt.reader(), &mut output),

@@ -8,7 +8,7 @@ ghost use Rattle.rstar_run.specs.Words.{words_of};
 use super::lines::Lines;
 use super::number::signed;
 use super::print::Printer;
-use super::program::Stop;
+use super::stops::Stop;
 use super::words::words;
 use rstar::Point;
 use std::alloc::Global;

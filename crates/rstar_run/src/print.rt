@@ -5,7 +5,7 @@ ghost use Rattle.std.specs.Fmt.{signed_decimal};
 ghost use Rattle.std.specs.Io.KnownBytes.{Appends};
 ghost use Rattle.rstar_run.specs.Prints.{AppendsFront, Prints};
 
-use super::program::Stop;
+use super::stops::Stop;
 use arrayvec::ArrayVec;
 use itoa::Buffer;
 use std::io::{ErrorKind, Write};

@@ -1,82 +1,26 @@
 //! The run of the program.
 
-ghost use Rattle.std.specs.Prelude.{◌≡◌, ◌+◌, ◌++◌, ℕ, List, [], Ok, Err, true, false, IsErr, OnOk, IfOk, IfErr, map, string_bytes};
+ghost use Rattle.std.specs.Prelude.{◌≡◌, ◌+◌, ◌++◌, ℕ, List, [], Ok, Err, true, false, IsErr, OnOk, IfOk, IfErr};
 ghost use Rattle.std.specs.Io.KnownBytes.{Appends, IsAtEnd, Keeps};
 ghost use Rattle.rstar.specs.Lists.{NoneEmpty};
 ghost use Rattle.rstar.specs.Steps.{IsFit};
 ghost use Rattle.rstar_run.specs.Items.{Reply, StoreStep, questions};
 ghost use Rattle.rstar_run.specs.Lines.{bytes_left, TakesLine};
-ghost use Rattle.rstar_run.specs.Modes.{mode_of, mode_named};
 ghost use Rattle.rstar_run.specs.Prints.{AppendsFront, Prints, Printed, PrintsSome};
-ghost use Rattle.rstar_run.specs.Runs.{IsNoLine, ReadsLoad, Turn, RunSays, Ran};
-ghost use Rattle.rstar_run.specs.Statuses.{status_of};
-ghost use Rattle.rstar_run.specs.Texts.{HasNoText, SpellsReply, end_text, stop_text};
-ghost use Rattle.rstar_run.specs.declared.program.Stop.TheVariants.{Memory};
+ghost use Rattle.rstar_run.specs.Runs.{IsNoLine, ReadsLoad, StepSays, Turn, RunSays, Ran};
+ghost use Rattle.rstar_run.specs.Texts.{HasNoText, end_text};
 
-use super::answers::{print_number, print_reply};
+use super::answers::{print_number, print_reply, print_stop};
 use super::command::{Entry, Line, parse_entry, parse_line};
+use super::items::Item;
 use super::lines::Lines;
-pub use super::modes::Mode;
 use super::print::Printer;
-use super::request::command_of;
-use super::store::{Item, Store, item};
-pub use super::stored::{pack, unpack};
+use super::stops::{Stop, status};
+use super::store::Store;
 use rstar::replay::Command;
-use std::alloc::{AllocError, AllocFailed, Global};
+use std::alloc::Global;
 use std::io::{Read, Write};
 use std::mem::forget;
-
-/// The mode that one word names.
-fn mode_named(word: &str) -> Option<Mode>
-    ensures { result ≡ mode_named word.now }
-{
-    match word {
-        "pack" => Some(Mode::Pack),
-        "unpack" => Some(Mode::Unpack),
-        _ => None,
-    }
-}
-
-/// The mode that the words after the program's name ask for: no word for a run, `pack` or `unpack` alone.
-#[tactic(auto, using(crate::proofs::Arguments::mode_none))]
-pub fn mode(words: &[String]) -> Option<Mode>
-    ensures { result ≡ mode_of (map string_bytes words.now) }
-{
-    match words {
-        [] => Some(Mode::Run),
-        [word] => mode_named(word),
-        _ => None,
-    }
-}
-
-/// Why a run stops before the end of its input.
-#[derive(Clone, Copy, Debug, PartialEq, Eq)]
-pub enum Stop {
-    /// A bad line, by its number from 1 on.
-    Line(u64),
-    /// Memory was refused, or the tree cannot count one more element.
-    Memory,
-    /// A read failed.
-    Input,
-    /// A write failed.
-    Output,
-}
-
-impl From<AllocError> for Stop {
-    ghost from_gives = { λ _ e. e ≡ Memory };
-
-    fn from(_e: AllocError) -> Stop {
-        Stop::Memory
-    }
-}
-
-impl<T: Drop> From<AllocFailed<T>> for Stop {
-    ghost from_gives = { λ _ e. e ≡ Memory };
-
-    fn from(_e: AllocFailed<T>) -> Stop {
-        Stop::Memory
-    }
-}
 
 /// Writes what is printed, where the next line may have to be waited for.
 fn show_before_reading<W: Write>(
@@ -138,7 +82,7 @@ fn read_load<R: Read + Drop, W: Write>(
         }
         match parse_entry(lines.text()) {
             Entry::Blank => {}
-            Entry::Rectangle(id, corners) => items.push(item(id, &corners))?,
+            Entry::Item(item) => items.push(item)?,
             Entry::Bad => return Err(Stop::Line(lines.number())),
         }
     }
@@ -154,9 +98,8 @@ fn run_command<W: Write>(
     output: &mut W,
 ) -> Result<(), Stop>
     requires { IsFit questions 2 command }
-    ensures printed { PrintsSome (λ text. (reply : Reply) × StoreStep store.old command reply store.new
-        × SpellsReply reply text) (W.contents output.old) (W.contents output.new) printer.old.held.items
-        printer.new.held.items result }
+    ensures printed { PrintsSome (λ text. StepSays command store.old text store.new) (W.contents output.old)
+        (W.contents output.new) printer.old.held.items printer.new.held.items result }
     ensures silent { result ≡ Err Stop.Memory → (reply : Reply) × StoreStep store.old command reply store.new
         × HasNoText reply }
 {
@@ -191,8 +134,8 @@ fn answer_next<R: Read + Drop, W: Write>(
             run_command(store, Command::Load(list), printer, output)?;
             Ok(true)
         }
-        Line::Request(request) => {
-            run_command(store, command_of(&request), printer, output)?;
+        Line::Command(command) => {
+            run_command(store, command, printer, output)?;
             Ok(true)
         }
     }
@@ -220,27 +163,6 @@ fn answer_all<R: Read + Drop, W: Write>(
     Err(Stop::Input)
 }
 
-/// Prints why a run stopped. After a failed write nothing more is written.
-pub fn print_stop<W: Write>(printer: &mut Printer, output: &mut W, stop: Stop) -> Result<(), Stop>
-    ensures all { OnOk result (Prints (W.contents output.old) (W.contents output.new)
-        printer.old.held.items (stop_text stop) printer.new.held.items) }
-    ensures front { AppendsFront (W.contents output.old) (W.contents output.new)
-        (printer.old.held.items ++ stop_text stop) }
-    ensures silent { stop ≡ Stop.Output → IsErr result × Keeps (W.contents output.old) (W.contents output.new) }
-    ensures failed { IfErr result (λ why. why ≡ Stop.Output) }
-{
-    match stop {
-        Stop::Line(number) => {
-            printer.put(output, b"error: line ")?;
-            printer.put_number(output, number)?;
-            printer.put(output, b"\n")
-        }
-        Stop::Memory => printer.put(output, b"error: memory\n"),
-        Stop::Input => printer.put(output, b"error: input\n"),
-        Stop::Output => Err(Stop::Output),
-    }
-}
-
 /// Prints why a run stopped, and writes all that is printed.
 fn close<W: Write>(
     printer: &mut Printer,
@@ -261,18 +183,6 @@ fn close<W: Write>(
             print_stop(printer, output, stop)?;
             printer.flush(output)
         }
-    }
-}
-
-/// The exit status of a run.
-pub fn status(ended: Result<(), Stop>) -> u8
-    ensures { result ≡ status_of ended }
-{
-    match ended {
-        Ok(()) => 0,
-        Err(Stop::Line(_)) => 2,
-        Err(Stop::Memory) => 3,
-        Err(Stop::Input | Stop::Output) => 4,
     }
 }
 

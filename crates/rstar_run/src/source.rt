@@ -2,7 +2,7 @@
 
 ghost use Rattle.std.specs.Prelude.{◌≡◌, ◌⊎◌, IfOk, IfErr, IfSome};
 
-use super::program::Stop;
+use super::stops::Stop;
 use std::alloc::Global;
 use std::io;
 use std::io::{Error, ErrorKind, Read};

@@ -1,18 +1,14 @@
 //! The store: the rectangles of the program.
 
-ghost use Rattle.std.specs.Prelude.{◌≡◌, false, [], length};
+ghost use Rattle.std.specs.Prelude.{◌≡◌, [], length};
 ghost use Rattle.rstar.specs.Steps.{IsFit};
-ghost use Rattle.rstar_run.specs.Items.{questions, StoreStep, IsRectangle};
+ghost use Rattle.rstar_run.specs.Items.{questions, StoreStep};
 
-use super::command::Corners;
-use rstar::primitives::{GeomWithData, Rectangle};
+use super::items::Item;
 use rstar::replay::{Command, Reply, step_by_order};
 use rstar::{AABB, DefaultParams, Envelope, RTree, RTreeObject, RTreeParams};
 use std::alloc::Global;
 use std::marker::Model;
-
-/// A rectangle with its ID.
-pub type Item = GeomWithData<Rectangle<[i64; 2]>, u64>;
 
 /// Rectangles with IDs, in a tree.
 #[derive(Drop)]
@@ -58,12 +54,4 @@ impl Store {
     {
         self.tree.size()
     }
-}
-
-/// The rectangle between two corners, with an ID.
-pub fn item(id: u64, corners: &Corners) -> Item
-    ensures rectangle { IsRectangle id corners.now result }
-    ensures filled { questions.is_empty (questions.box_of result) ≡ false }
-{
-    Item::new(Rectangle::from_corners(corners.one, corners.other), id)
 }

@@ -6,14 +6,15 @@ ghost use Rattle.std.specs.List.Sorted.{IsPermutation};
 ghost use Rattle.rstar.specs.Stored.{boxes, places};
 ghost use Rattle.rstar.specs.Trees.{elements_in, IsWholeTree};
 ghost use Rattle.rstar_run.specs.Prints.{AppendsFront, Prints, Tells};
-ghost use Rattle.rstar_run.specs.declared.program.Stop.TheVariants as stop;
+ghost use Rattle.rstar_run.specs.declared.stops.Stop.TheVariants as stop;
 ghost use Rattle.rstar_run.specs.declared.stored.Fault.TheVariants as fault;
 ghost use Rattle.rstar_run.specs.Stored.{fault_text, fault_status, stored_text, Packs, Packed, Unpacks, Unpacked};
 
+use super::answers::print_stop;
 use super::points::{print_points, read_points};
 use super::print::Printer;
-use super::program::{Stop, print_stop, status};
 use super::source::read_all;
+use super::stops::{Stop, status};
 use rstar::stored::{StoredError, read_stored, write_stored};
 use rstar::{DefaultParams, RTree, RTreeParams};
 use std::alloc::{AllocError, Global};

@@ -218,8 +218,9 @@ fn points_come_as_a_plain_sort_puts_them(rt: HostRuntime) {
         (&ALONG_A_LINE, [0, 0], &[2, 2, 2, 3, 3, 3, 3]),
         (&ALONG_A_LINE, [50, 0], &[2, 2, 3, 3, 3, 3, 3]),
     ];
-    for &(list, place, opened) in &ROWS {
-        assert!(rt; come_in_order(rt.alloc(), list, place, opened));
+    for row in 0..ROWS.len() {
+        let &(list, place, opened) = &ROWS[row];
+        assert!(rt; come_in_order(rt.alloc(), list, place, opened), "row {row}");
     }
     let crowd = crowded(rt.alloc(), 1000);
     for &place in &[[3, 2], [4, 1], [-9, 4]] {

@@ -15,7 +15,7 @@ ghost use Rattle.rstar.specs.StepsOfTrees.{RunOfTree};
 ghost use Rattle.rstar.specs.Trees.{root_of, size_of, elements_in, IsUnchanged, IsWholeTree};
 
 use crate::scenarios::{inserted, let_go, stands_with};
-use crate::trials::{ALL, By, Drained, Order, Step as Turn, goes_through};
+use crate::trials::{ALL, By, Drained, Order, Step as Turn, go_through};
 use rstar::replay::{Command, Query, Reply, Scanned, all_fit, replay, step};
 use rstar::{
     AABB, Counted, DefaultParams, Envelope, EqualEnvelopes, Point, PointDistance, RTree,
@@ -198,9 +198,11 @@ fn every_element_is_merged_once(rt: HostRuntime) {
     ];
     let all = &places(rt.alloc(), 2000);
     let none = (Counted::new(AABB::from_point([0, 0])), [0, 0], 0);
-    assert!(rt;
-        counts_all(rt.alloc(), all.split_at(all.len().min(1000)).0, 1000)
-            && goes_through::<_, DefaultParams>(rt.alloc(), all, 500, &none, &STEPS)
+    let some = all.split_at(all.len().min(1000)).0;
+    assert!(rt; counts_all(rt.alloc(), some, 1000));
+    assert_eq!(rt;
+        go_through::<_, DefaultParams>(rt.alloc(), all, 500, &none, &STEPS),
+        Ok(())
     );
 }
 

@@ -70,8 +70,12 @@ mod tests {
             front: [0, 0],
             back: [10, 4],
         };
-        for &(point, distance, is_there) in &ROWS {
-            assert!(rt; lies_at(&shop, &point, distance, distance - 1, is_there));
+        for row in 0..ROWS.len() {
+            let &(point, distance, is_there) = &ROWS[row];
+            assert!(rt;
+                lies_at(&shop, &point, distance, distance - 1, is_there),
+                "row {row}"
+            );
         }
     }
 }

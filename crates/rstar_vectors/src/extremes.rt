@@ -6,7 +6,7 @@ ghost use Rattle.rstar_base.specs.Sizes.{IsNarrow};
 use crate::neighbour_rows::{answers, come_and_go};
 use crate::scenarios::{in_steps, inserted, let_go};
 use crate::selections::found;
-use crate::trials::{By, Drained, Order, Step, goes_through};
+use crate::trials::{By, Drained, Order, Step, go_through};
 use rstar::object::{Distance, PointOf};
 use rstar::{AABB, DefaultParams, Point, PointDistance};
 use std::alloc::Global;
@@ -111,10 +111,10 @@ fn thousands_of_equal_points(rt: HostRuntime) {
     ];
     let same = in_steps(rt.alloc(), 5000, [3, 3], [0, 0]);
     let asked = (AABB::from_point([0, 0]), [0, 0], 18);
-    assert!(rt;
-        same.len() == 5000
-            && come_and_go(rt.alloc(), &same, [0, 0], &[18], &[])
-            && goes_through::<_, DefaultParams>(rt.alloc(), &same, 0, &asked, &STEPS)
+    assert!(rt; same.len() == 5000 && come_and_go(rt.alloc(), &same, [0, 0], &[18], &[]));
+    assert_eq!(rt;
+        go_through::<_, DefaultParams>(rt.alloc(), &same, 0, &asked, &STEPS),
+        Ok(())
     );
 }
 

@@ -108,8 +108,12 @@ mod tests {
             ([12, 5], 4, false),
             ([-3, 14], 25, false),
         ];
-        for &(point, distance, is_on) in &ROWS {
-            assert!(rt; lies_at(&WIDE, &point, distance, distance - 1, is_on));
+        for row in 0..ROWS.len() {
+            let &(point, distance, is_on) = &ROWS[row];
+            assert!(rt;
+                lies_at(&WIDE, &point, distance, distance - 1, is_on),
+                "row {row}"
+            );
         }
     }
 

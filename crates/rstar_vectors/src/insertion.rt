@@ -148,10 +148,11 @@ fn insertions_shape_the_tree(rt: HostRuntime) {
         // The farthest children go in again: `[0, 0]` and `[6, 6]` are handed out.
         (&ELEVEN, (6, [0, 0], [3, 3]), (5, [6, 6], [12, 12])),
     ];
-    for &(points, one, other) in &ROWS {
+    for row in 0..ROWS.len() {
+        let &(points, one, other) = &ROWS[row];
         let low = (one.0, AABB::from_corners(one.1, one.2));
         let high = (other.0, AABB::from_corners(other.1, other.2));
-        assert!(rt; is_shaped(rt.alloc(), points, &low, &high));
+        assert!(rt; is_shaped(rt.alloc(), points, &low, &high), "row {row}");
     }
     let ten: [[i32; 0]; 10] = [[]; 10];
     let nowhere = AABB::from_point([]);

@@ -178,13 +178,15 @@ mod tests {
             (10, 12, 9, 9, 11, 2),
             (1, 12, 0, 25, 6, 11),
         ];
-        for &(a, b, distance, min_max, center, length) in &ROWS {
+        for row in 0..ROWS.len() {
+            let &(a, b, distance, min_max, center, length) = &ROWS[row];
             let stretch = Stretch::new(a, b, 0);
             assert!(rt;
                 stretch.distance_2(&[7]) == distance
                     && stretch.min_max_dist_2(&[7]) == min_max
                     && stretch.center() == [center]
-                    && stretch.area() == length
+                    && stretch.area() == length,
+                "row {row}"
             );
         }
     }

@@ -179,8 +179,9 @@ const TABLES: [(&'static [Meeting], &'static [[i32; 2]], (usize, usize)); 3] = [
 // The rectangles have a number, so that what carries an element is joined with points, and with its like.
 #[test]
 fn pairs_that_intersect(rt: HostRuntime) {
-    for &(rows, points, own) in &TABLES {
-        assert!(rt; all_meet(rt.alloc(), rows, points, own));
+    for row in 0..TABLES.len() {
+        let &(rows, points, own) = &TABLES[row];
+        assert!(rt; all_meet(rt.alloc(), rows, points, own), "row {row}");
     }
 }
 
@@ -280,10 +281,14 @@ fn loads_of_points_meet(rt: HostRuntime) {
         ((1000, [0, 0], [2, 5]), (2000, [1, 2], [2, 5]), 0, 1000),
         ((2000, [0, 0], [2, 5]), (1000, [1, 2], [2, 5]), 0, 2000),
     ];
-    for &(one, other, pairs, own) in &ROWS {
+    for row in 0..ROWS.len() {
+        let &(one, other, pairs, own) = &ROWS[row];
         let all = in_steps(rt.alloc(), one.0, one.1, one.2);
         let rest = in_steps(rt.alloc(), other.0, other.1, other.2);
-        assert!(rt; met_by_loads(rt.alloc(), &all, &rest, pairs, own));
+        assert!(rt;
+            met_by_loads(rt.alloc(), &all, &rest, pairs, own),
+            "row {row}"
+        );
     }
 }
 
@@ -315,9 +320,10 @@ pub(crate) fn spread(
 #[test]
 fn joins_give_what_a_scan_gives(rt: HostRuntime) {
     const ROWS: [(u64, u64); 4] = [(100, 42), (42, 100), (3, 500), (300, 300)];
-    for &(left, right) in &ROWS {
+    for row in 0..ROWS.len() {
+        let &(left, right) = &ROWS[row];
         let lefts = spread(rt.alloc(), left, 37, 53);
         let rights = spread(rt.alloc(), right, 59, 31);
-        assert!(rt; met_as_scanned(rt.alloc(), &lefts, &rights));
+        assert!(rt; met_as_scanned(rt.alloc(), &lefts, &rights), "row {row}");
     }
 }

@@ -329,13 +329,22 @@ fn loads_of_many_sizes_are_loaded_and_take_insertions(rt: HostRuntime) {
         };
         let flat = points(rt.alloc(), count);
         let more = points(rt.alloc(), taken);
-        assert!(rt; loads_well_at_both_sizes(rt.alloc(), &flat, &EQUAL[..count.min(300)], &more));
+        assert!(rt;
+            loads_well_at_both_sizes(rt.alloc(), &flat, &EQUAL[..count.min(300)], &more),
+            "of {count}"
+        );
         let deep = deep_points(rt.alloc(), count);
-        assert!(rt; loads_well::<[i32; 3], DefaultParams>(rt.alloc(), &deep, 8, &[]));
+        assert!(rt;
+            loads_well::<[i32; 3], DefaultParams>(rt.alloc(), &deep, 8, &[]),
+            "of {count}"
+        );
     }
     assert!(rt; loads_well::<[i32; 3], DefaultParams>(rt.alloc(), &LOADED, 8, &INSERTED));
     for &count in &[7, 28, 35] {
-        assert!(rt; loads_well::<_, DefaultParams>(rt.alloc(), &OF_FOUR_AXES[..count], 16, &[]));
+        assert!(rt;
+            loads_well::<_, DefaultParams>(rt.alloc(), &OF_FOUR_AXES[..count], 16, &[]),
+            "of {count}"
+        );
     }
 }
 
@@ -434,8 +443,12 @@ fn loads_and_clones_have_their_parts(rt: HostRuntime) {
         (37, (2, &[9, 9, 9, 10], &[])),
     ];
     const DEEP: Parts<'static> = (1, &[1; 7], &[]);
-    for (count, parts) in &ROWS {
-        assert!(rt; load_is_in_parts(rt.alloc(), &points(rt.alloc(), *count), parts));
+    for row in 0..ROWS.len() {
+        let (count, parts) = &ROWS[row];
+        assert!(rt;
+            load_is_in_parts(rt.alloc(), &points(rt.alloc(), *count), parts),
+            "row {row}"
+        );
     }
     let deep = deep_points(rt.alloc(), 7);
     assert!(rt;
@@ -524,10 +537,14 @@ fn loads_show_their_elements_and_clones_the_same(rt: HostRuntime) {
         (&[], "", 37),
         (&[], "", 300),
     ];
-    for &(same, text, count) in &ROWS {
+    for row in 0..ROWS.len() {
+        let &(same, text, count) = &ROWS[row];
         let flat = points(rt.alloc(), count);
         let list = if text.is_empty() { &flat } else { same };
-        assert!(rt; loads_cloned_alone(rt.alloc(), list, [7, 7], text));
+        assert!(rt;
+            loads_cloned_alone(rt.alloc(), list, [7, 7], text),
+            "row {row}"
+        );
     }
 }
 

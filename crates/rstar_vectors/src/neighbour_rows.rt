@@ -398,8 +398,12 @@ fn lines_and_rectangles_come_by_their_own_distances(rt: HostRuntime) {
         Rectangle::from_corners([0i64, 0], [2, 2]),
         Rectangle::from_corners([2, 2], [4, 4]),
     ];
-    for (place, distances) in &PLACES {
-        assert!(rt; come_and_go(rt.alloc(), &two, *place, distances, &[]));
+    for row in 0..PLACES.len() {
+        let (place, distances) = &PLACES[row];
+        assert!(rt;
+            come_and_go(rt.alloc(), &two, *place, distances, &[]),
+            "row {row}"
+        );
     }
 }
 
@@ -445,8 +449,12 @@ fn neighbours_come_and_go_as_by_a_scan(rt: HostRuntime) {
             &[2, 2, 2, 3, 3, 3, 3],
         ),
     ];
-    for &(list, place, distances, opened) in &ROWS {
-        assert!(rt; come_and_go(rt.alloc(), list, place, distances, opened));
+    for row in 0..ROWS.len() {
+        let &(list, place, distances, opened) = &ROWS[row];
+        assert!(rt;
+            come_and_go(rt.alloc(), list, place, distances, opened),
+            "row {row}"
+        );
     }
     let thousand = points(rt.alloc(), 1000);
     let lists: [&[At]; 6] = [
@@ -459,7 +467,11 @@ fn neighbours_come_and_go_as_by_a_scan(rt: HostRuntime) {
     ];
     for &list in &lists {
         for &place in &PLACES {
-            assert!(rt; come_and_go(rt.alloc(), list, place, &[], &[]));
+            assert!(rt;
+                come_and_go(rt.alloc(), list, place, &[], &[]),
+                "of {}",
+                list.len()
+            );
         }
     }
 }

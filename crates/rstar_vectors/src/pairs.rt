@@ -4,13 +4,12 @@
 
 ghost use Rattle.std.specs.Prelude.{◌≡◌, ◌≤◌, min, map, filter, pos, int_le, IfOk};
 ghost use Rattle.std.specs.List.Sorted.{IsPermutation};
-ghost use Rattle.rstar.specs.Boxes.{boxes_intersect};
 ghost use Rattle.rstar.specs.SelfJoins.{self_join, own_meet};
 ghost use Rattle.rstar.specs.Trees.{root_of, elements_in, IsWholeTree};
 
 use crate::joins::{Paired, Touching, joined, spread};
 use crate::payloads::{Walked, walked};
-use crate::scenarios::{ALONG_A_LINE, Fence, counts, drained, in_steps, inserted, let_go, loaded};
+use crate::scenarios::{ALONG_A_LINE, counts, drained, in_steps, inserted, let_go, loaded};
 use rstar::object::Distance;
 use rstar::{
     AABB, DefaultParams, Envelope, EnvelopeDistance, Point, RTree, RTreeObject, RTreeParams,
@@ -36,21 +35,6 @@ pub(crate) fn paired<T: RTreeObject, Params: RTreeParams>(
         },
         Err(refused) => Err(refused),
     }
-}
-
-/// The pairs of rectangles with a number that meet.
-pub fn numbered_paired<'a>(
-    alloc: Global,
-    tree: &'a RTree<Fence>,
-) -> Result<Paired<'a, Fence, Fence>, AllocError>
-    requires { IsWholeTree ⟦<AABB<[i64; 2]> as Envelope>⟧.boxes ⟦<Fence as RTreeObject>⟧.object
-        ⟦<DefaultParams as RTreeParams>⟧.MAX_SIZE tree.now }
-    ensures all { IfOk result (λ r. IsPermutation (map (λ p. (p.0.now, p.1.now)) r.0.items)
-        (self_join boxes_intersect ⟦<Fence as RTreeObject>⟧.object.box_of (elements_in tree.now))) }
-    ensures opened { IfOk result (λ r. r.1
-        ≡ min (own_meet boxes_intersect ⟦<Fence as RTreeObject>⟧.object.box_of (root_of tree.now)) usize.MAX) }
-{
-    paired(alloc, tree)
 }
 
 /// Whether these are the pairs that a scan of the elements finds, each once, and no more pairs of nodes were opened than by
@@ -114,7 +98,7 @@ fn pairs_are_those_of_a_scan(rt: HostRuntime) {
     const ROWS: [u64; 6] = [0, 1, 2, 7, 60, 300];
     for &count in &ROWS {
         let all = spread(rt.alloc(), count, 37, 53);
-        assert!(rt; pairs_as_scanned(rt.alloc(), &all));
+        assert!(rt; pairs_as_scanned(rt.alloc(), &all), "of {count}");
     }
 }
 
@@ -191,7 +175,11 @@ fn points_lie_near_a_box(rt: HostRuntime) {
         (25, 19),
         (i32::MAX, 100),
     ];
-    for &(limit, count) in &ROWS {
-        assert!(rt; lie_near(rt.alloc(), &line, above, limit, count));
+    for row in 0..ROWS.len() {
+        let &(limit, count) = &ROWS[row];
+        assert!(rt;
+            lie_near(rt.alloc(), &line, above, limit, count),
+            "row {row}"
+        );
     }
 }

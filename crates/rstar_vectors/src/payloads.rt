@@ -336,9 +336,13 @@ mod tests {
             ((1, 2, 7), [2, 2], [0, 0], 7, true),
             ((100, 9, 0), [57, 31], [50, 39], 35, true),
         ];
-        for &((count, side, first), point, other, number, is_inside) in &ROWS {
+        for row in 0..ROWS.len() {
+            let &((count, side, first), point, other, number, is_inside) = &ROWS[row];
             let fences = fences(rt.alloc(), count, side, first);
-            assert!(rt; writes(rt.alloc(), &fences, point, other, number, is_inside));
+            assert!(rt;
+                writes(rt.alloc(), &fences, point, other, number, is_inside),
+                "row {row}"
+            );
         }
     }
 }

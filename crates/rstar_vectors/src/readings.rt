@@ -122,11 +122,13 @@ mod tests {
             ([3, 3], [4, 4], (false, false, false), (false, false, false)),
         ];
         let square = Rectangle::from_corners([0i64, 0], [2, 2]);
-        for &(one, other, point, within) in &ROWS {
+        for row in 0..ROWS.len() {
+            let &(one, other, point, within) = &ROWS[row];
             let area = AABB::from_corners(one, other);
             assert!(rt;
                 comes_upon(rt.alloc(), &[[1i64, 1]], area, one, point)
-                    && comes_upon(rt.alloc(), &[square], area, other, within)
+                    && comes_upon(rt.alloc(), &[square], area, other, within),
+                "row {row}"
             );
         }
     }

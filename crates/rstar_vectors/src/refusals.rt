@@ -527,7 +527,7 @@ fn insertions_and_loads_that_are_refused(rt: HostRuntime) {
     let wrapped = points(rt.alloc(), 40);
     assert!(rt; fill_a_tree(rt.alloc(), wrapped.split_at(22.min(wrapped.len())).0, &[]));
     for &count in &[25, 28] {
-        assert!(rt; are_loaded(rt.alloc(), &wrapped, count));
+        assert!(rt; are_loaded(rt.alloc(), &wrapped, count), "of {count}");
     }
     assert!(rt; is_stored(rt.alloc(), &ALONG_A_LINE, &OTHERS));
 }

@@ -6,7 +6,7 @@ ghost use Rattle.rstar.specs.Trees.{IsWholeTree};
 use crate::node_sizes::{Emptying, Large, Small, Splitting};
 use crate::payloads::Asked;
 use crate::scenarios::{goes_in, points, stands_within};
-use crate::trials::{ALL, Step, goes_through};
+use crate::trials::{ALL, Step, go_through};
 use rstar::object::PointOf;
 use rstar::{
     AABB, DefaultParams, Envelope, EqualEnvelopes, Point, PointDistance, RTree, RTreeObject,
@@ -36,27 +36,27 @@ pub(crate) fn all_go_in<T: RTreeObject + Copy, Params: RTreeParams>(
     true
 }
 
-/// Whether trees of all these node sizes are whole after each insertion.
-fn all_stand_at_each_size<T: EqualEnvelopes + PointDistance + Copy>(
+/// Inserts elements into trees of all these node sizes, which are whole after each.
+fn go_in_at_each_size<T: EqualEnvelopes + PointDistance + Copy>(
     alloc: Global,
     elements: &[T],
     asked: &Asked<T>,
-) -> bool
+) -> Result<(), usize>
 where
     PointOf<T>: Copy,
     requires { 2 ≤ T.Envelope.Point.DIMENSIONS }
 {
     let small = [Step::InSized(0, ALL, 2, 4)];
-    goes_through::<T, DefaultParams>(alloc, elements, 0, asked, &[Step::InSized(0, ALL, 3, 6)])
-        && goes_through::<T, Splitting>(alloc, elements, 0, asked, &small)
-        && goes_through::<T, Small>(alloc, elements, 0, asked, &small)
-        && goes_through::<T, Emptying>(alloc, elements, 0, asked, &[Step::InSized(0, ALL, 1, 10)])
-        && goes_through::<T, Large>(alloc, elements, 0, asked, &[Step::InSized(0, ALL, 10, 20)])
+    go_through::<T, DefaultParams>(alloc, elements, 0, asked, &[Step::InSized(0, ALL, 3, 6)])?;
+    go_through::<T, Splitting>(alloc, elements, 0, asked, &small)?;
+    go_through::<T, Small>(alloc, elements, 0, asked, &small)?;
+    go_through::<T, Emptying>(alloc, elements, 0, asked, &[Step::InSized(0, ALL, 1, 10)])?;
+    go_through::<T, Large>(alloc, elements, 0, asked, &[Step::InSized(0, ALL, 10, 20)])
 }
 
 #[test]
 fn a_thousand_insertions_leave_whole_and_sized_trees(rt: HostRuntime) {
     let all = points(rt.alloc(), 1000);
     let none = (AABB::from_point([0, 0]), [0, 0], 0);
-    assert!(rt; all_stand_at_each_size(rt.alloc(), &all, &none));
+    assert_eq!(rt; go_in_at_each_size(rt.alloc(), &all, &none), Ok(()));
 }

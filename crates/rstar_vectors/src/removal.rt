@@ -12,7 +12,7 @@ use crate::node_sizes::{Emptying, Wide};
 use crate::payloads::Asked;
 use crate::scenarios::{ALONG_A_LINE, inserted, let_go, levels_of, points, stands, stands_with};
 use crate::selections::LeftOnly;
-use crate::trials::{ALL, By, Drained, Order, State, Step, goes_on, goes_through};
+use crate::trials::{ALL, By, Drained, Order, State, Step, go_on, go_through};
 use rstar::algorithm::selection_functions::{SelectAllFunc, SelectionFunction};
 use rstar::iterators::DrainIterator;
 use rstar::object::PointOf;
@@ -242,7 +242,7 @@ where
     };
     let is_so = came <= most && stands_with(&tree, elements.len().saturating_sub(came));
     let steps = [Step::Are(State::Touched, 0, ALL, left)];
-    goes_on(alloc, tree, elements, asked, &steps) && is_so
+    go_on(alloc, tree, elements, asked, &steps) == Ok(()) && is_so
 }
 
 /// What a tree gives when it is taken apart.
@@ -308,18 +308,19 @@ fn removals_of_all_in_several_orders(rt: HostRuntime) {
                 Step::Left(0),
                 Step::Drain(Drained::Near, 1, 0),
             ];
-            assert!(rt; goes_through::<_, DefaultParams>(rt.alloc(), &all, 0, &asked, &steps));
+            let gone = go_through::<_, DefaultParams>(rt.alloc(), &all, 0, &asked, &steps);
+            assert_eq!(rt; gone, Ok(()), "of {count}");
         }
     }
 }
 
-/// Whether the elements of a load of the first half of a list leave, each for one of the others, which then leave.
+/// From a load of the first half of a list each element leaves for one of the others, and these then leave.
 fn half_gives_way<T: EqualEnvelopes + PointDistance + Copy>(
     alloc: Global,
     elements: &[T],
     by: By,
     asked: &Asked<T>,
-) -> bool
+) -> Result<(), usize>
 where
     PointOf<T>: Copy,
     requires { 2 ≤ T.Envelope.Point.DIMENSIONS }
@@ -331,7 +332,7 @@ where
         Step::Out(half, ALL, Order::Backward, By::Equality),
         Step::Left(0),
     ];
-    goes_through::<T, DefaultParams>(alloc, elements, half, asked, &steps)
+    go_through::<T, DefaultParams>(alloc, elements, half, asked, &steps)
 }
 
 // Points leave a load once, by `==` or at their places, and others come, and two where a node may have one child; and lines,
@@ -346,26 +347,24 @@ fn elements_of_loads_give_way_to_others(rt: HostRuntime) {
     let none = (AABB::from_point([0, 0]), [0, 0], 0);
     let all = points(rt.alloc(), 1000);
     let lines = edges(rt.alloc(), 1000);
-    assert!(rt;
-        goes_through::<_, DefaultParams>(rt.alloc(), &all, ALL, &none, &AT_PLACES)
-            && half_gives_way(rt.alloc(), &all, By::Place, &none)
-            && goes_through::<_, Emptying>(
-                rt.alloc(),
-                &[[0, 0], [37, 53]],
-                ALL,
-                &none,
-                &BY_EQUALITY
-            )
-            && goes_through::<_, DefaultParams>(rt.alloc(), &lines, ALL, &none, &BY_EQUALITY)
-    );
+    let two = [[0, 0], [37, 53]];
+    let gone = go_through::<_, DefaultParams>(rt.alloc(), &all, ALL, &none, &AT_PLACES);
+    assert_eq!(rt; gone, Ok(()));
+    assert_eq!(rt; half_gives_way(rt.alloc(), &all, By::Place, &none), Ok(()));
+    let gone = go_through::<_, Emptying>(rt.alloc(), &two, ALL, &none, &BY_EQUALITY);
+    assert_eq!(rt; gone, Ok(()));
+    let gone = go_through::<_, DefaultParams>(rt.alloc(), &lines, ALL, &none, &BY_EQUALITY);
+    assert_eq!(rt; gone, Ok(()));
     for &count in &[25, 27, 97, 111, 385, 447, 500] {
         let some = rectangles(rt.alloc(), 2 * count);
-        assert!(rt; half_gives_way(rt.alloc(), &some, By::Equality, &none));
+        let gone = half_gives_way(rt.alloc(), &some, By::Equality, &none);
+        assert_eq!(rt; gone, Ok(()), "of {count}");
     }
     let none_deep = (AABB::from_point([0, 0, 0]), [0, 0, 0], 0);
     for &count in &[388, 400, 444] {
         let some = deep_points(rt.alloc(), 2 * count);
-        assert!(rt; half_gives_way(rt.alloc(), &some, By::Equality, &none_deep));
+        let gone = half_gives_way(rt.alloc(), &some, By::Equality, &none_deep);
+        assert_eq!(rt; gone, Ok(()), "of {count}");
     }
 }
 
@@ -391,12 +390,16 @@ fn drains_that_are_given_up(rt: HostRuntime) {
         Step::Left(5),
     ];
     let far = (AABB::from_corners([100, 0], [103, 0]), [0, 0], 4);
-    assert!(rt;
-        goes_through::<_, DefaultParams>(rt.alloc(), &EIGHT, 0, &far, &ONE_OF_EACH)
-            && drains_at_most(rt.alloc(), &ALONG_A_LINE, LeftOnly, 3, &far, 4)
+    assert_eq!(rt;
+        go_through::<_, DefaultParams>(rt.alloc(), &EIGHT, 0, &far, &ONE_OF_EACH),
+        Ok(())
     );
+    assert!(rt; drains_at_most(rt.alloc(), &ALONG_A_LINE, LeftOnly, 3, &far, 4));
     for calls in 0..8usize {
-        assert!(rt; are_given_or_left(rt.alloc(), &ALONG_A_LINE, calls));
+        assert!(rt;
+            are_given_or_left(rt.alloc(), &ALONG_A_LINE, calls),
+            "after {calls}"
+        );
         for &count in &[5, 7] {
             let came = calls.min(count);
             let steps = [
@@ -409,7 +412,8 @@ fn drains_that_are_given_up(rt: HostRuntime) {
                 Step::Drain(Drained::All, 1, 1),
                 Step::Left(count - came),
             ];
-            assert!(rt; goes_through::<_, DefaultParams>(rt.alloc(), &EIGHT, 0, &far, &steps));
+            let gone = go_through::<_, DefaultParams>(rt.alloc(), &EIGHT, 0, &far, &steps);
+            assert_eq!(rt; gone, Ok(()), "of {count}, after {calls}");
         }
     }
 }
@@ -440,15 +444,20 @@ fn drains_end_where_none_is_left(rt: HostRuntime) {
                 Step::Drain(Drained::All, most, most.min(count)),
                 Step::Parts(most, None),
             ];
-            assert!(rt; goes_through::<_, Wide>(rt.alloc(), &all, ALL, &half, &steps));
+            let gone = go_through::<_, Wide>(rt.alloc(), &all, ALL, &half, &steps);
+            assert_eq!(rt; gone, Ok(()), "of {count}, at most {most}");
         }
     }
     let area = (AABB::from_corners([20, 20], [70, 80]), [0, 0], 0);
     let all = points(rt.alloc(), 300);
     let many = points(rt.alloc(), 1000);
-    assert!(rt;
-        goes_through::<_, DefaultParams>(rt.alloc(), &all, 0, &area, &NARROW)
-            && goes_through::<_, DefaultParams>(rt.alloc(), &many, ALL, &area, &AGAIN)
+    assert_eq!(rt;
+        go_through::<_, DefaultParams>(rt.alloc(), &all, 0, &area, &NARROW),
+        Ok(())
+    );
+    assert_eq!(rt;
+        go_through::<_, DefaultParams>(rt.alloc(), &many, ALL, &area, &AGAIN),
+        Ok(())
     );
 }
 
@@ -472,6 +481,9 @@ fn callers_drain_and_insert_again(rt: HostRuntime) {
 fn a_tree_is_taken_apart(rt: HostRuntime) {
     const COUNTS: [usize; 5] = [0, 1, 3, 7, 60];
     for &count in &COUNTS {
-        assert!(rt; gives_all(rt.alloc(), &points(rt.alloc(), count)));
+        assert!(rt;
+            gives_all(rt.alloc(), &points(rt.alloc(), count)),
+            "of {count}"
+        );
     }
 }

@@ -82,9 +82,13 @@ fn a_selection_opens_what_its_question_reaches(rt: HostRuntime) {
         (&[], ([0, 0], [0, 0]), (0, 0), (0, 0)),
         (&[[0, 0]], ([0, 0], [0, 0]), (1, 1), (1, 1)),
     ];
-    for &(points, corners, inside, all) in &ROWS {
+    for row in 0..ROWS.len() {
+        let &(points, corners, inside, all) = &ROWS[row];
         let area = AABB::from_corners(corners.0, corners.1);
-        assert!(rt; select_so(rt.alloc(), points, area, inside, all));
+        assert!(rt;
+            select_so(rt.alloc(), points, area, inside, all),
+            "row {row}"
+        );
     }
 }
 
@@ -200,8 +204,12 @@ fn unlawful_functions_give_less(rt: HostRuntime) {
             (0, 0),
         ),
     ];
-    for &(points, (count, opened)) in &ROWS {
-        assert!(rt; selects(rt.alloc(), points, LeftOnly, count, opened));
+    for row in 0..ROWS.len() {
+        let &(points, (count, opened)) = &ROWS[row];
+        assert!(rt;
+            selects(rt.alloc(), points, LeftOnly, count, opened),
+            "row {row}"
+        );
     }
 }
 
@@ -464,10 +472,14 @@ fn a_thousand_points_are_found_as_by_a_scan(rt: HostRuntime) {
         ([7, 7], [7, 7], [7, 7], 1),
     ];
     let all = points(rt.alloc(), 1000);
-    for &(one, other, origin, limit) in &ROWS {
+    for row in 0..ROWS.len() {
+        let &(one, other, origin, limit) = &ROWS[row];
         let area = AABB::from_corners(one, other);
         for &list in &[&[], all.as_slice()] {
-            assert!(rt; found(rt.alloc(), list, area, origin, limit).is_some());
+            assert!(rt;
+                found(rt.alloc(), list, area, origin, limit).is_some(),
+                "row {row}"
+            );
         }
     }
 }
@@ -527,7 +539,8 @@ fn rectangles_are_found_as_by_a_scan(rt: HostRuntime) {
         Rectangle::from_corners([25, 0], [75, 100]),
     ];
     let all = rectangles(rt.alloc(), &points(rt.alloc(), 1000));
-    for &(count, lower, upper, point, limit, told) in &ABOUT_RECTANGLES {
+    for row in 0..ABOUT_RECTANGLES.len() {
+        let &(count, lower, upper, point, limit, told) = &ABOUT_RECTANGLES[row];
         let list: &[Rectangle<[i32; 2]>] = match count {
             1 => &one,
             3 => &three,
@@ -535,6 +548,6 @@ fn rectangles_are_found_as_by_a_scan(rt: HostRuntime) {
         };
         let area = AABB::from_corners(lower, upper);
         let counts = found(rt.alloc(), list, area, point, limit);
-        assert!(rt; are_told(counts, count, told));
+        assert!(rt; are_told(counts, count, told), "row {row}");
     }
 }

@@ -8,7 +8,7 @@ ghost use Rattle.rstar.specs.Trees.{root_of, IsWholeTree};
 
 use crate::node_sizes::{Small, Wide};
 use crate::scenarios::{let_go, loaded, stands_within};
-use crate::trials::{ALL, By, Drained, Order, State, Step, goes_on};
+use crate::trials::{ALL, By, Drained, Order, State, Step, go_on};
 use rstar::stored::{StoredError, read_stored, write_stored};
 use rstar::{AABB, DefaultParams, RTree, RTreeParams};
 use std::alloc::Global;
@@ -61,15 +61,15 @@ pub fn read_back<Params: RTreeParams, Others: RTreeParams>(
     read_stored(alloc, &bytes)
 }
 
-/// Whether bytes are read as a tree of the first so many points, in nodes no wider than told, which takes the others and
-/// stays so; then the first ones leave it, and a drain gives the others.
-fn is_read<Params: RTreeParams>(
+/// Reads bytes as a tree of the first so many points, in nodes no wider than told, which takes the others and stays so;
+/// then the first ones leave it, and a drain gives the others. 0 where it is not read, or does not stand.
+fn read_and_go_on<Params: RTreeParams>(
     alloc: Global,
     bytes: &[u8],
     points: &[[i64; 2]],
     count: usize,
     widest: usize,
-) -> bool {
+) -> Result<(), usize> {
     let rest = points.len().saturating_sub(count);
     let steps = [
         Step::Left(count),
@@ -83,9 +83,10 @@ fn is_read<Params: RTreeParams>(
     match read_stored::<Params>(alloc, bytes) {
         Ok(tree) => {
             let is_so = stands_within(&tree, 1, widest);
-            goes_on(alloc, tree, points, &none, &steps) && is_so
+            let gone = go_on(alloc, tree, points, &none, &steps);
+            if is_so { gone } else { Err(0) }
         }
-        Err(_) => false,
+        Err(_) => Err(0),
     }
 }
 
@@ -106,13 +107,13 @@ fn trees_that_were_read_take_and_lose_elements(rt: HostRuntime) {
     for &(count, taken, widest, is_small) in &ROWS {
         let all = points(rt.alloc(), count + taken);
         let some = all.split_at(all.len().min(count)).0;
-        let is_so = if is_small {
+        let gone = if is_small {
             let bytes = written::<Wide>(rt.alloc(), some);
-            is_read::<Small>(rt.alloc(), &bytes, &all, count, widest)
+            read_and_go_on::<Small>(rt.alloc(), &bytes, &all, count, widest)
         } else {
             let bytes = written::<DefaultParams>(rt.alloc(), some);
-            is_read::<DefaultParams>(rt.alloc(), &bytes, &all, count, widest)
+            read_and_go_on::<DefaultParams>(rt.alloc(), &bytes, &all, count, widest)
         };
-        assert!(rt; is_so, "{count}");
+        assert_eq!(rt; gone, Ok(()), "of {count}");
     }
 }

@@ -199,16 +199,16 @@ fn takes<S: Trial>(trial: &mut S, step: &Step) -> bool
     }
 }
 
-/// Whether all steps of a row are taken as told.
-fn all_are_taken<S: Trial>(trial: &mut S, steps: &[Step]) -> bool
+/// Takes the steps of a row. An error is the first one that is not taken as told, by its number from 1 on.
+fn take_all<S: Trial>(trial: &mut S, steps: &[Step]) -> Result<(), usize>
     requires { S.is_whole trial.old }
 {
-    for step in steps {
-        if !takes(trial, step) {
-            return false;
+    for k in 0..steps.len() {
+        if !takes(trial, &steps[k]) {
+            return Err(k + 1);
         }
     }
-    true
+    Ok(())
 }
 
 /// A tree, the list beside it, what drains gave, and the question of those that ask for one.
@@ -274,15 +274,15 @@ where
     }
 }
 
-/// Whether a tree takes the steps of a row, beside a list of elements, and with an envelope, a point and a squared distance
-/// that are asked for.
-pub(crate) fn goes_on<T: EqualEnvelopes + PointDistance + Copy, Params: RTreeParams>(
+/// Takes the steps of a row with a tree, beside a list of elements, and with an envelope, a point and a squared distance
+/// that are asked for. An error is the first step that is not taken as told, by its number from 1 on.
+pub(crate) fn go_on<T: EqualEnvelopes + PointDistance + Copy, Params: RTreeParams>(
     alloc: Global,
     tree: RTree<T, Params>,
     elements: &[T],
     asked: &Asked<T>,
     steps: &[Step],
-) -> bool
+) -> Result<(), usize>
 where
     PointOf<T>: Copy,
     requires { IsWholeTree T.Envelope.boxes T.object Params.MAX_SIZE tree }
@@ -293,17 +293,17 @@ where
         given: Vec::new(alloc),
         asked,
     };
-    all_are_taken(&mut bench, steps)
+    take_all(&mut bench, steps)
 }
 
-/// The same of a load of the first so many of the elements, which stands.
-pub(crate) fn goes_through<T: EqualEnvelopes + PointDistance + Copy, Params: RTreeParams>(
+/// The same of a load of the first so many of the elements; 0 where that does not stand.
+pub(crate) fn go_through<T: EqualEnvelopes + PointDistance + Copy, Params: RTreeParams>(
     alloc: Global,
     elements: &[T],
     loaded_first: usize,
     asked: &Asked<T>,
     steps: &[Step],
-) -> bool
+) -> Result<(), usize>
 where
     PointOf<T>: Copy,
     requires { 2 ≤ T.Envelope.Point.DIMENSIONS }
@@ -311,5 +311,6 @@ where
     let count = loaded_first.min(elements.len());
     let tree = loaded::<T, Params>(alloc, elements.split_at(count).0);
     let is_so = stands_with(&tree, count);
-    goes_on(alloc, tree, elements, asked, steps) && is_so
+    let gone = go_on(alloc, tree, elements, asked, steps);
+    if is_so { gone } else { Err(0) }
 }

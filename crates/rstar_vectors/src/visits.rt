@@ -183,12 +183,16 @@ mod tests {
             (&TWO, false, AREA, CORNER, (0, 0), [32, 32, 33, 15]),
             (&TWO, false, AREA, AREA, (0, 0), [32, 32, 33, 15]),
         ];
-        for &(list, breaks, area, cleared, (least, most), sums) in &ROWS {
+        for row in 0..ROWS.len() {
+            let &(list, breaks, area, cleared, (least, most), sums) = &ROWS[row];
             let fences = fences_of(rt.alloc(), list);
             let area = AABB::from_corners(area.0, area.1);
             let cleared = AABB::from_corners(cleared.0, cleared.1);
             let (number, own) = visited(rt.alloc(), &fences, breaks, area, [1, 1], cleared);
-            assert!(rt; least <= number && number <= most && own == sums);
+            assert!(rt;
+                least <= number && number <= most && own == sums,
+                "row {row}"
+            );
         }
     }
 }

@@ -1,7 +1,7 @@
 use Rattle.std.proofs.Common.{Bool, refl, subst, Ok}
 use Rattle.rstar_run.specs.Lines.{bytes_left}
 use Rattle.rstar_run.specs.Runs.{Turn}
-use Rattle.rstar_run.specs.declared.program.Stop.TheVariants as stop
+use Rattle.rstar_run.specs.declared.stops.Stop.TheVariants as stop
 use Rattle.rstar_run.proofs.Prints.{nothing}
 use Rattle.rstar_run.proofs.Runs.{reached_first, reached_more, reached_end, reached_stop, ended_at, never_begun}
 use Rattle.rstar_run.proofs.program.answer_all.Goals as goal

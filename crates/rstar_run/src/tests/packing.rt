@@ -1,9 +1,8 @@
 //! Stored trees: packed, unpacked, refused, and over a reader and a writer that fail.
 
-use super::modes::Mode;
-use super::program::{mode, pack, unpack};
-use super::stored::{Fault, refuse};
-use super::tests::{Feed, Terminal, expect_written};
+use super::{Feed, Terminal, expect_written};
+use crate::modes::{Mode, mode_of};
+use crate::stored::{Fault, pack, refuse, unpack};
 use std::alloc::{AllocError, Global};
 use std::cell::Cell;
 use std::io::{Cursor, ErrorKind, Read, Write};
@@ -44,7 +43,7 @@ fn reads_its_mode(rt: HostRuntime) -> Result<(), Fail> {
     ];
     for (words, want) in rows {
         let list = list_of(rt.alloc(), words)?;
-        assert_eq!(rt; mode(&list), want, "at {words:?}");
+        assert_eq!(rt; mode_of(&list), want, "at {words:?}");
     }
     // What the program says where its words ask for nothing.
     let mut taken = Cursor::new([0u8; 256]);
@@ -108,67 +107,6 @@ fn packs_lines(rt: HostRuntime) {
     for (input, want, status) in rows {
         expect_answer(&rt, true, input, want, status);
     }
-}
-
-/// Numbers behind some bytes, each as eight, the least significant first.
-fn put_numbers(bytes: &mut Vec<u8>, numbers: &[u64]) -> Result<(), AllocError> {
-    for number in numbers {
-        bytes.extend_from_slice(&number.to_le_bytes())?;
-    }
-    Ok(())
-}
-
-/// The stored bytes of so many points 1 2, below so many levels of parents: of each parent, in the order of the bytes,
-/// how many children it has, and how many of them are leaves.
-fn spelled(
-    alloc: Global,
-    points: u64,
-    levels: u8,
-    parents: &[(u64, u64)],
-) -> Result<Vec<u8>, AllocError> {
-    let mut bytes = Vec::from_slice(alloc, b"RST1")?;
-    put_numbers(&mut bytes, &[points])?;
-    bytes.push(levels)?;
-    for &(children, leaves) in parents {
-        put_numbers(&mut bytes, &[children, 1, 2, 1, 2])?;
-        for _ in 0..leaves {
-            put_numbers(&mut bytes, &[1, 2])?;
-        }
-    }
-    Ok(bytes)
-}
-
-/// Packs so many lines of the point 1 2.
-fn expect_packed(
-    rt: &(impl AllocGlobal + Abort),
-    points: u64,
-    levels: u8,
-    parents: &[(u64, u64)],
-) -> Result<(), AllocError> {
-    let mut input = Vec::new(rt.alloc());
-    for _ in 0..points {
-        input.extend_from_slice(b"1 2\n")?;
-    }
-    let mut packed = Vec::new(rt.alloc());
-    assert_eq!(rt; answer(rt.alloc(), true, input.as_slice(), &mut packed), 0);
-    let want = spelled(rt.alloc(), points, levels, parents)?;
-    assert_eq!(rt; packed.as_slice(), want.as_slice(), "of {points} points");
-    Ok(())
-}
-
-// Half of the points, rounded up, and half of that, along each of two axes: so each parent has four parts. Of 26 the least
-// part has six points, and those of seven are not cut again; of 28 each part has seven, and each is cut again.
-#[test]
-fn packs_a_load(rt: HostRuntime) -> Result<(), Fail> {
-    expect_packed(&rt, 6, 1, &[(6, 6)])?;
-    expect_packed(&rt, 7, 2, &[(4, 0), (2, 2), (2, 2), (2, 2), (1, 1)])?;
-    expect_packed(&rt, 26, 2, &[(4, 0), (7, 7), (6, 6), (7, 7), (6, 6)])?;
-    let mut parents = vec![in rt.alloc(); (4, 0)]?;
-    for _ in 0..4 {
-        parents.extend_from_slice(&[(4, 0), (2, 2), (2, 2), (2, 2), (1, 1)])?;
-    }
-    expect_packed(&rt, 28, 3, &parents)?;
-    Ok(())
 }
 
 #[test]

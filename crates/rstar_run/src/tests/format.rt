@@ -2,8 +2,8 @@
 //!
 //! What the bytes say is also told by a scan of them that takes nothing from the library.
 
-use super::stored::points_of;
-use super::stored_tests::{EMPTY, ONE, answer};
+use super::packing::{EMPTY, ONE, answer};
+use crate::stored::points_of;
 use rstar::stored::{StoredError, read_stored, write_stored};
 use rstar::{DefaultParams, RTree};
 use std::alloc::{AllocError, Global};
@@ -192,30 +192,31 @@ fn is_answered(
     told(alloc, &damaged(alloc, bytes, len, changes)) == (true, answer)
 }
 
-/// Whether some of these bytes, damaged as rows tell, are answered so.
-fn are_answered(
+/// The first row of which some of these bytes, damaged as it tells, are not answered so.
+fn first_wrong(
     alloc: Global,
     bases: &[&[u8]; 3],
     rows: &[[u8; 6]],
     answer: Option<StoredError>,
-) -> bool {
-    for &[base, len, place, byte, other, more] in rows {
+) -> Option<usize> {
+    for row in 0..rows.len() {
+        let [base, len, place, byte, other, more] = rows[row];
         let bytes = bases[(base % 3) as usize];
         let changes = [(place as usize, byte), (other as usize, more)];
         if !is_answered(alloc, bytes, len as usize, &changes, answer) {
-            return false;
+            return Some(row);
         }
     }
-    true
+    None
 }
 
-/// Whether each proper beginning of the bytes lacks bytes, and they are told as the scan tells them whichever of their
-/// bits is turned.
-fn stands_damage(alloc: Global, bytes: &[u8]) -> bool {
+/// The first place where the bytes, cut, do not lack bytes, or are not told as the scan tells them with one bit turned; the
+/// end where they are not read as they are.
+fn first_misread(alloc: Global, bytes: &[u8]) -> Option<usize> {
     let len = bytes.len();
     for k in 0..len {
         if !is_answered(alloc, bytes, k, &[], Some(StoredError::Truncated)) {
-            return false;
+            return Some(k);
         }
         for bit in 0..8u8 {
             if !told(
@@ -224,11 +225,15 @@ fn stands_damage(alloc: Global, bytes: &[u8]) -> bool {
             )
             .0
             {
-                return false;
+                return Some(k);
             }
         }
     }
-    is_answered(alloc, bytes, len, &[], None)
+    if is_answered(alloc, bytes, len, &[], None) {
+        None
+    } else {
+        Some(len)
+    }
 }
 
 /// The bytes that a count of points, a number of levels of parents and the numbers of all nodes spell.
@@ -343,8 +348,9 @@ fn rows_of_the_format(rt: HostRuntime) -> Result<(), Fail> {
     let line = spelled(rt.alloc(), 7, 2, &ALONG_A_LINE)?;
     let bases: [&[u8]; 3] = [&EMPTY, &ONE, &line];
     for &(answer, rows) in &ROWS {
-        assert!(rt;
-            are_answered(rt.alloc(), &bases, rows, answer),
+        assert_eq!(rt;
+            first_wrong(rt.alloc(), &bases, rows, answer),
+            None,
             "{answer:?}"
         );
     }
@@ -412,7 +418,12 @@ fn damaged_bytes_are_told_as_by_a_scan(rt: HostRuntime) -> Result<(), Fail> {
     assert_eq!(rt; [line.len(), load.len()], [245, 613]);
     assert!(rt; fill_their_list(rt.alloc(), &line) && fill_their_list(rt.alloc(), &load));
     for bytes in [ONE.as_slice(), &line, &load] {
-        assert!(rt; stands_damage(rt.alloc(), bytes));
+        assert_eq!(rt;
+            first_misread(rt.alloc(), bytes),
+            None,
+            "of {} bytes",
+            bytes.len()
+        );
     }
     Ok(())
 }

@@ -8,8 +8,8 @@ ghost use Rattle.rstar.specs.Heights.{height_of, spare_lists};
 ghost use Rattle.rstar.specs.Steps.{IsFit, IsInsertion, IsRefusal, Step, Run};
 ghost use Rattle.rstar.specs.Trees.{root_of, size_of, elements_in, IsUnchanged, IsWholeTree};
 
-use super::format_tests::scan;
-use super::tests::mark;
+use super::format::scan;
+use super::mark;
 use rstar::replay::{
     Command, Query, Reply, Scanned, all_fit, is_fit, replay, replay_by_order, step,
 };
@@ -449,22 +449,24 @@ fn is_answered(
     Ok(right? && tree.size() == list.len())
 }
 
-/// Whether commands, run one by one, are answered over a tree as over a plain list, with as many points after each.
-fn are_alike(alloc: Global, draws: &[Draw]) -> Result<bool, AllocError> {
+/// The first of some commands, run one by one, that is not answered over a tree as over a plain list, with as many points
+/// after it.
+fn first_astray(alloc: Global, draws: &[Draw]) -> Result<Option<usize>, AllocError> {
     let mut tree: RTree<At> = RTree::default(alloc);
     let mut list = Vec::new(alloc);
-    for draw in draws {
-        if !is_answered(alloc, &mut tree, &mut list, draw)? {
-            return Ok(false);
+    for k in 0..draws.len() {
+        if !is_answered(alloc, &mut tree, &mut list, &draws[k])? {
+            return Ok(Some(k));
         }
     }
-    Ok(true)
+    Ok(None)
 }
 
 #[test]
 fn three_thousand_commands_are_answered_as_over_a_list(rt: HostRuntime) {
     let draws = drawn(rt.alloc(), 3000);
-    assert!(rt; draws.len() == 6000 && matches!(are_alike(rt.alloc(), &draws), Ok(true)));
+    assert_eq!(rt; draws.len(), 6000);
+    assert_eq!(rt; first_astray(rt.alloc(), &draws), Ok(None));
 }
 
 /// How many elements a reply gives, or whether it gives one; none where it is refused.
@@ -579,7 +581,7 @@ fn go(alloc: Global, rows: &[Row]) -> bool {
     let draws = draws_of(alloc, rows);
     are_replayed(alloc, rows, &draws, false)
         && are_replayed(alloc, rows, &draws, true)
-        && matches!(are_alike(alloc, &draws), Ok(true))
+        && first_astray(alloc, &draws) == Ok(None)
 }
 
 // A point that came twice is joined twice, and leaves twice; five that were loaded are drained, two and then the others.
