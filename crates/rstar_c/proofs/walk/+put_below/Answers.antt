@@ -1,4 +1,4 @@
-use Rattle.std.proofs.Common.{◌∙◌, ◌∷◌, [], ap, sym, refl, arith, rules, subst, take, List, ℕ}
+use Rattle.std.proofs.Common.{◌∙◌, ◌∷◌, [], arith, rules, subst}
 use Rattle.std.proofs.lemmas.List.{take_all}
 use Rattle.std.specs.List.{flat_map}
 use Rattle.rstar_c.specs.Put.{ArePut}
