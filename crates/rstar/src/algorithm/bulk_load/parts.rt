@@ -1,7 +1,7 @@
 //! The nodes of a bulk load.
 //!
 //! The elements stay in one list. Slabs are cut in place, and each call takes its part off the end. So an
-//! element moves during partitions, and then once into its leaf.
+//! element moves during partitions, and then once into its leaf. The list gives its memory back on the way.
 
 ghost use Rattle.std.specs.Prelude.{◌≡◌, ℕ, ◌+◌, ◌^◌, ◌<◌, ◌≤◌, length, map, IfOk, OnOk, vec_len};
 ghost use Rattle.std.specs.List.Sorted.{IsPermutation};
@@ -27,6 +27,16 @@ fn leaves<T: Covered>(elements: Vec<T>) -> Result<Vec<RTreeNode<T>>, AllocError>
         leaves.push(RTreeNode::Leaf(t))?;
     }
     Ok(leaves)
+}
+
+/// Gives back memory of a list once its elements fill less than half of it. Where that is refused, the list
+/// keeps it.
+fn give_back<T>(list: &mut Vec<T>)
+    ensures { list.new.items ≡ list.old.items }
+{
+    if list.len() < list.capacity() / 2 {
+        list.shrink_to_fit();
+    }
 }
 
 /// Raises `widest` to the number of these nodes, where that is greater.
@@ -104,6 +114,7 @@ fn leaf_parent<T: InSlabs, Params: RTreeParams>(
     ensures counted { OnOk result (widest.new + 1 < 2 ^ 64) }
 {
     let elements = list.split_off(list.len() - len)?;
+    give_back(list);
     let envelope = T::envelope_of_all(&elements);
     let children = leaves(elements)?;
     widen(widest, &children);
