@@ -10,7 +10,7 @@ use rstar_base::point::RTreeNum;
 
 /// The place of the child for a new envelope: of the children that contain it, the first of least area;
 /// where none does, the first with the least enlargement. `above_leaves` says that the children's children
-/// are leaves.
+/// are leaves. Then the enlargement of a child's overlaps with the others comes before that of its area.
 pub(crate) fn choose_subtree<T: RTreeObject>(
     children: &[RTreeNode<T>],
     envelope: &T::Envelope,
@@ -19,9 +19,14 @@ pub(crate) fn choose_subtree<T: RTreeObject>(
     requires { 0 < length children.now }
     ensures { result < length children.now }
 {
-    match smallest_container(children, envelope) {
-        Some(index) => index,
-        None => least_grown(children, envelope, above_leaves),
+    if let Some(index) = smallest_container(children, envelope) {
+        return index;
+    }
+    let least = least_grown(children, envelope);
+    if above_leaves {
+        least_overlapping(children, least, envelope)
+    } else {
+        least
     }
 }
 
@@ -42,24 +47,24 @@ fn smallest_container<T: RTreeObject>(
                 best = Some(index);
                 least = area;
             }
+            // No area is less than 0. So a look at one of many equal points ends here.
+            if least.is_zero() {
+                return best;
+            }
         }
     }
     best
 }
 
-/// The first child with the least overlap enlargement; then the least area enlargement, then the least area.
-fn least_grown<T: RTreeObject>(
-    children: &[RTreeNode<T>],
-    envelope: &T::Envelope,
-    above_leaves: bool,
-) -> usize
+/// The first child with the least area enlargement, then the least area.
+fn least_grown<T: RTreeObject>(children: &[RTreeNode<T>], envelope: &T::Envelope) -> usize
     requires { 0 < length children.now }
     ensures { result < length children.now }
 {
     let mut best = 0;
-    let mut least = growth(children, 0, envelope, above_leaves);
+    let mut least = growth(&children[0], envelope);
     for index in 1..children.len() {
-        let here = growth(children, index, envelope, above_leaves);
+        let here = growth(&children[index], envelope);
         if here < least {
             best = index;
             least = here;
@@ -68,42 +73,63 @@ fn least_grown<T: RTreeObject>(
     best
 }
 
-/// The enlargement of a child by a new envelope: of its overlap with the other children, where
-/// `above_leaves` is true, and of its area; and its area afterwards.
+/// The enlargement of a child's area by a new envelope, and the area afterwards.
 fn growth<T: RTreeObject>(
+    child: &RTreeNode<T>,
+    envelope: &T::Envelope,
+) -> (Distance<T>, Distance<T>) {
+    let own = child.envelope();
+    let area = own.merged(envelope).area();
+    (area.clamped_sub(own.area()), area)
+}
+
+/// The first child with the least overlap enlargement, then the least area enlargement, then the least area.
+/// `least_grown` is the first by the last two.
+fn least_overlapping<T: RTreeObject>(
+    children: &[RTreeNode<T>],
+    least_grown: usize,
+    envelope: &T::Envelope,
+) -> usize
+    requires { least_grown < length children.now }
+    ensures { result < length children.now }
+{
+    let mut best = least_grown;
+    let mut least = overlap_increase(children, best, envelope);
+    // No overlap grows by less than 0. Most often that is so here, and no other child has to be looked at.
+    if least.is_zero() {
+        return best;
+    }
+    for index in 0..children.len() {
+        let here = overlap_increase(children, index, envelope);
+        if here < least
+            || here == least
+                && growth(&children[index], envelope) < growth(&children[best], envelope)
+        {
+            best = index;
+            least = here;
+        }
+    }
+    best
+}
+
+/// The enlargement of a child's overlaps with the other children by a new envelope.
+fn overlap_increase<T: RTreeObject>(
     children: &[RTreeNode<T>],
     index: usize,
     envelope: &T::Envelope,
-    above_leaves: bool,
-) -> (Distance<T>, Distance<T>, Distance<T>)
+) -> Distance<T>
     requires { index < length children.now }
 {
     let own = children[index].envelope();
     let merged = own.merged(envelope);
-    let overlap = if above_leaves {
-        overlap_increase(children, index, &own, &merged)
-    } else {
-        Distance::<T>::zero()
-    };
-    let area = merged.area();
-    (overlap, area.clamped_sub(own.area()), area)
-}
-
-/// The enlargement of the overlaps with the other children, where the child's envelope grows to `merged`.
-fn overlap_increase<T: RTreeObject>(
-    children: &[RTreeNode<T>],
-    index: usize,
-    own: &T::Envelope,
-    merged: &T::Envelope,
-) -> Distance<T> {
     let mut before = Distance::<T>::zero();
     let mut after = Distance::<T>::zero();
     for (other, child) in children.iter().enumerate() {
-        let envelope = child.envelope();
+        let beside = child.envelope();
         // Most children lie apart, and then there is nothing to add.
-        if other != index && merged.intersects(&envelope) {
-            before = before.clamped_add(own.intersection_area(&envelope));
-            after = after.clamped_add(merged.intersection_area(&envelope));
+        if other != index && merged.intersects(&beside) {
+            before = before.clamped_add(own.intersection_area(&beside));
+            after = after.clamped_add(merged.intersection_area(&beside));
         }
     }
     after.clamped_sub(before)
