@@ -31,6 +31,4 @@ pub record IsChangedTree {T D E P S X : Type 0} (K : T → T → Type 0) (h : �
   pub root : IsChangedParent (IsChanged K h) old.root new.root
   pub size : new.size ≡ old.size
   pub levels : new.levels ≡ old.levels
-  pub widest : new.widest ≡ old.widest
-  pub spares : new.spares ≡ old.spares
-  pub overfull : new.overfull ≡ old.overfull
+  pub reserve : new.reserve ≡ old.reserve

@@ -51,14 +51,14 @@ module _ {T D E P S X : Type 0} (v : Boxes E) (o : Objects T E) (max : ℕ) wher
     pub leveled : tree.levels ≡ levels_below (children_of (root_of tree))
     pub low : tree.levels < 2 ^ 64
     -- no parent has more children than the tree's bound, which is at least `max` and can be counted past
-    pub wide : max ≤ tree.widest
-    pub wide_fits : tree.widest + 1 < 2 ^ 64
-    pub narrow : HasAtMost tree.widest (root_of tree)
-    pub narrow_below : AreTrees (HasAtMost tree.widest) IsAny root_whole.height (children_of (root_of tree))
+    pub wide : max ≤ tree.reserve.widest
+    pub wide_fits : tree.reserve.widest + 1 < 2 ^ 64
+    pub narrow : HasAtMost tree.reserve.widest (root_of tree)
+    pub narrow_below : AreTrees (HasAtMost tree.reserve.widest) IsAny root_whole.height (children_of (root_of tree))
     -- each spare list can hold as many as the bound
-    pub spares : AllByRecursion (IsSpare tree.widest) tree.spares.items
+    pub spares : AllByRecursion (IsSpare tree.reserve.widest) tree.reserve.spares.items
     -- nothing is left of an overflow
-    pub none_over : tree.overfull.items ≡ []
+    pub none_over : tree.reserve.overfull.items ≡ []
 
   -- a whole tree: a whole root (`IsWhole`), with elements and levels counted. Every call leaves one; callers pass the
   -- word on.

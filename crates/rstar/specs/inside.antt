@@ -1,5 +1,6 @@
 -- Words that no public clause cites: what the private functions say of each other.
 pub mod ParentBounds
+pub mod Reserves
 pub mod Paths
 pub mod Traversals
 pub mod WaysDown

@@ -1,10 +1,11 @@
 //! The tree.
 
-ghost use Rattle.std.specs.Prelude.{◌≡◌, ◌⊎◌, ◌∷◌, ◌+◌, ◌<◌, ◌≤◌, [], false, length, max, OnOk, IfSome, IfNone, vec_len};
+ghost use Rattle.std.specs.Prelude.{◌≡◌, ◌⊎◌, ◌∷◌, ◌+◌, ◌<◌, ◌≤◌, [], false, length, OnOk, IfSome, IfNone};
 ghost use Rattle.std.specs.List.Sorted.{IsPermutation};
 ghost use Rattle.rstar.specs.Heights.{height_of, spare_lists};
 ghost use Rattle.rstar.specs.Insertions.{Inserts};
-ghost use Rattle.rstar.specs.inside.ParentBounds.{IsSpare, roomy_of};
+ghost use Rattle.rstar.specs.inside.ParentBounds.{roomy_of};
+ghost use Rattle.rstar.specs.inside.Reserves.{IsReady, Spends};
 ghost use Rattle.rstar.specs.Nodes.{children_of, envelope_of, IsWhole};
 ghost use Rattle.rstar.specs.Shapes.{IsSized};
 ghost use Rattle.rstar.specs.Trees.{root_of, size_of, elements_in, IsUnchanged, IsWholeTree};
@@ -24,7 +25,7 @@ mod texts;
 mod visits;
 
 use crate::algorithm::rstar::RStarInsertionStrategy;
-use crate::algorithm::rstar::preparation::{lists_wanted, top_up};
+use crate::algorithm::rstar::preparation::{Reserve, lists_wanted, top_up};
 use crate::algorithm::rstar::reinsertion::insert_with_reinsertion;
 use crate::node::{ParentNode, RTreeNode};
 use crate::params::{InsertCause, InsertError, InsertionStrategy};
@@ -55,12 +56,7 @@ pub struct RTree<T: RTreeObject, Params: RTreeParams = DefaultParams> {
     size: usize,
     // The levels of parents below the root; all leaves lie below the last of them.
     levels: usize,
-    // No parent has more children than this, which is at least `MAX_SIZE`.
-    widest: usize,
-    // Empty child lists, for the parents that an insertion makes.
-    spares: Vec<Vec<RTreeNode<T>>>,
-    // An empty list, in which a parent's children are put in order when there is one too many.
-    overfull: Vec<RTreeNode<T>>,
+    reserve: Reserve<RTreeNode<T>>,
     params: PhantomData<Params>,
 }
 
@@ -117,9 +113,7 @@ impl<T: RTreeObject, Params: RTreeParams> RTree<T, Params> {
             },
             size: 0,
             levels: 0,
-            widest: Params::MAX_SIZE,
-            spares: Vec::new(alloc),
-            overfull: Vec::new(alloc),
+            reserve: Reserve::new(alloc, Params::MAX_SIZE),
             params: PhantomData,
         }
     }
@@ -186,20 +180,18 @@ impl<T: RTreeObject, Params: RTreeParams> RTree<T, Params> {
         lists_wanted::<Params>(self.levels)
     }
 
-    /// Takes the memory of an insertion: this many spare lists, and room in `overfull` for one child more
-    /// than a parent has.
+    /// Takes the memory of an insertion with this many spare lists.
     #[tactic(auto, unfolding(crate::specs::Trees::IsWholeTree))]
     pub(crate) fn prepare(&mut self, wanted: usize) -> Result<(), AllocError>
         requires whole { IsWholeTree T.Envelope.boxes T.object Params.MAX_SIZE self.old }
         ensures unchanged { IsUnchanged self.old self.new }
         ensures same { children_of (root_of self.new) ≡ children_of (root_of self.old) }
         ensures whole { IsWholeTree T.Envelope.boxes T.object Params.MAX_SIZE self.new }
-        ensures spares { OnOk result (vec_len self.new.spares ≡ max (vec_len self.old.spares) wanted) }
-        ensures overfull { OnOk result (IsSpare (self.new.widest + 1) self.new.overfull) }
+        ensures ready { OnOk result (IsReady Params.MAX_SIZE wanted self.new.reserve) }
     {
         let alloc = *self.root.children.allocator();
-        top_up(&mut self.spares, wanted, self.widest, alloc)?;
-        self.overfull.reserve(self.widest + 1)
+        top_up(&mut self.reserve.spares, wanted, self.reserve.widest, alloc)?;
+        self.reserve.overfull.reserve(self.reserve.widest + 1)
     }
 
     /// Inserts an element into prepared memory.
@@ -207,29 +199,22 @@ impl<T: RTreeObject, Params: RTreeParams> RTree<T, Params> {
     pub(crate) fn insert_prepared(&mut self, t: T)
         requires whole { IsWholeTree T.Envelope.boxes T.object Params.MAX_SIZE self.old }
         requires element { T.Envelope.boxes.is_empty (T.object.box_of t) ≡ false }
-        requires enough { spare_lists Params.REINSERTION_COUNT (height_of (root_of self.old))
-            ≤ vec_len self.old.spares }
-        requires overfull { IsSpare (self.old.widest + 1) self.old.overfull }
+        requires ready { IsReady Params.MAX_SIZE (spare_lists Params.REINSERTION_COUNT (height_of (root_of self.old)))
+            self.old.reserve }
         requires count { size_of self.old < usize.MAX }
         ensures added { IsPermutation (t ∷ elements_in self.old) (elements_in self.new) }
         ensures counted { size_of self.new ≡ size_of self.old + 1 }
         ensures whole { IsWholeTree T.Envelope.boxes T.object Params.MAX_SIZE self.new }
         ensures sized { IsSized Params.MIN_SIZE Params.MAX_SIZE (root_of self.old)
             → IsSized Params.MIN_SIZE Params.MAX_SIZE (root_of self.new) }
-
-        // No list with room for all that a parent may have is lost, and no more parents are new than spare lists are gone.
-        ensures room { vec_len self.old.spares + roomy_of self.old.widest self.old.levels (root_of self.old)
-            ≤ vec_len self.new.spares + roomy_of self.old.widest self.new.levels (root_of self.new) }
-        ensures made { vec_len self.new.spares + roomy_of 0 self.new.levels (root_of self.new)
-            ≤ vec_len self.old.spares + roomy_of 0 self.old.levels (root_of self.old) }
+        ensures spends { Spends (λ n. roomy_of n self.old.levels (root_of self.old))
+            (λ n. roomy_of n self.new.levels (root_of self.new)) self.old.reserve self.new.reserve }
     {
         self.levels = insert_with_reinsertion::<_, Params>(
             &mut self.root,
             t,
             self.levels,
-            self.widest,
-            &mut self.spares,
-            &mut self.overfull,
+            &mut self.reserve,
         );
         self.size += 1;
     }

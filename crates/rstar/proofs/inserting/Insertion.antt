@@ -136,6 +136,24 @@ module _ {T E : Type 0} (count : ℕ) where
       let parts = roomy-append h p.children.items (second_children r) in
       let second = second_room widest h r few room in omega (arith, along, parts, second)
 
+  -- the lists of a parent that took a child in, which went before into one of its children or was cut off it, and of what
+  -- is cut off the parent
+  pub parted_roomy : (widest h : ℕ) (a p : ParentNode T E) (r : Option (ParentNode T E)) (mid : Vec (RTreeNode T E) Global) (all : List (RTreeNode T E)) → count ≤ widest → vec_capacity mid ≡ vec_capacity a.children
+      → IsPermutation all (p.children.items ++ second_children r) → IfSome r (λ q. widest ≤ vec_capacity q.children)
+      → roomy_of count h a + (all_roomy count h all + (has_room count p.children + length (as_node r))) ≡ all_roomy count h a.children.items + has_room count mid + (roomy_of count h p + second_roomy count h r)
+  parted_roomy widest h a p r mid all few held same room =
+      let parts = parts_roomy widest h all p r few same room in
+      let here = room_same count mid a.children held in omega (arith, parts, here)
+
+  -- the same of a lowest parent that took a leaf in
+  pub lowest_roomy : (widest h : ℕ) (a p : ParentNode T E) (r : Option (ParentNode T E)) (all : List (RTreeNode T E)) → count ≤ widest → h ≡ 0
+      → IsPermutation all (p.children.items ++ second_children r) → IfSome r (λ q. widest ≤ vec_capacity q.children)
+      → roomy_of count h a + (has_room count p.children + length (as_node r)) ≡ has_room count a.children + (roomy_of count h p + second_roomy count h r)
+  lowest_roomy widest h a p r all few low same room =
+      let parts = parts_roomy widest h all p r few same room in
+      let none = none_roomy h a.children.items low in
+      let none' = none_roomy h all low in omega (arith, parts, none, none')
+
   -- a child that became another parent and what was cut off it
   pub child_roomy : (h : ℕ) (old : List (RTreeNode T E)) (i : ℕ) (a b : ParentNode T E) (r : Option (ParentNode T E)) → 0 < h → i < length old → Parent a ≡ get_or old i (Parent a)
       → all_roomy count h (set old i (Parent b) ++ as_node r) + roomy_of count (h - 1) a ≡ all_roomy count h old + roomy_of count (h - 1) b + second_roomy count (h - 1) r
@@ -146,29 +164,6 @@ module _ {T E : Type 0} (count : ℕ) where
       let second = second_node h r above in
       let all = roomy-append h (set old i (Parent b)) (as_node r) in
       omega (arith, change, at, one, other, second, all)
-
-module _ {T E : Type 0} (widest h : ℕ) (a : ParentNode T E) (p : ParentNode T E) (r : Option (ParentNode T E)) (before after : ℕ) where
-  -- the lists of a parent that took a child in, which went before into one of its children or was cut off it, and of what
-  -- is cut off the parent
-  pub lists_parted : (mid : Vec (RTreeNode T E) Global) (all : List (RTreeNode T E)) (between : ℕ) → vec_capacity mid ≡ vec_capacity a.children
-      → before + all_roomy widest h a.children.items ≤ between + all_roomy widest h all → between + all_roomy 0 h all ≤ before + all_roomy 0 h a.children.items
-      → IsPermutation all (p.children.items ++ second_children r) → IfSome r (λ q. widest ≤ vec_capacity q.children)
-      → between + has_room widest mid ≤ after + has_room widest p.children + length (as_node r) → after + length (as_node r) ≤ between
-      → (before + roomy_of widest h a ≤ after + roomy_of widest h p + second_roomy widest h r) × (after + roomy_of 0 h p + second_roomy 0 h r ≤ before + roomy_of 0 h a)
-  lists_parted mid all between held room made same cut taken gone =
-      let parts = parts_roomy widest widest h all p r (omega arith) same cut in
-      let count = parts_roomy 0 widest h all p r (omega arith) same cut in
-      let here = room_same widest mid a.children held in
-      let one = room_one 0 a.children (omega arith) in let other = room_one 0 p.children (omega arith) in
-      (omega (arith, parts, here, room, taken), omega (arith, count, one, other, made, gone))
-
-  -- the same of a lowest parent that took a leaf in
-  pub lists_lowest : (all : List (RTreeNode T E)) → h ≡ 0 → IsPermutation all (p.children.items ++ second_children r) → IfSome r (λ q. widest ≤ vec_capacity q.children)
-      → before + has_room widest a.children ≤ after + has_room widest p.children + length (as_node r) → after + length (as_node r) ≤ before
-      → (before + roomy_of widest h a ≤ after + roomy_of widest h p + second_roomy widest h r) × (after + roomy_of 0 h p + second_roomy 0 h r ≤ before + roomy_of 0 h a)
-  lists_lowest all low = lists_parted a.children all before refl (still widest).0 (still 0).1 where
-    still : (count : ℕ) → (before + all_roomy count h a.children.items ≤ before + all_roomy count h all) × (before + all_roomy count h all ≤ before + all_roomy count h a.children.items)
-    still count = let none = none_roomy count h a.children.items low in let none' = none_roomy count h all low in (omega (arith, none, none'), omega (arith, none, none'))
 
 module _ {T E : Type 0} (Q : ParentNode T E → Type 0) (R : T → Type 0) where
   pub tree_at : (h : ℕ) (p : ParentNode T E) → 0 < h → IsTree Q R h (Parent p) → Q p × AreTrees Q R (h - 1) p.children.items

@@ -13,19 +13,19 @@ use Rattle.rstar.specs.inside.Loads.{IsFresh}
 use Rattle.rstar.proofs.trees.Heights.{levels_are}
 
 -- a tree over what a load made
-pub fresh_tree : {T D E P S X : Type 0} (v : Boxes E) (o : Objects T E) (max axes : ℕ) (tree : RTree T D E P S X) → IsFresh v o max tree.widest axes tree.levels tree.root
-    → tree.size ≡ length (elements_in tree) → tree.levels < 2 ^ 64 → max ≤ tree.widest → tree.widest + 1 < 2 ^ 64 → tree.spares.items ≡ [] → tree.overfull.items ≡ [] → IsWholeTree v o max tree
+pub fresh_tree : {T D E P S X : Type 0} (v : Boxes E) (o : Objects T E) (max axes widest : ℕ) (tree : RTree T D E P S X) → IsFresh v o max widest axes tree.levels tree.root
+    → tree.size ≡ length (elements_in tree) → tree.levels < 2 ^ 64 → max ≤ widest → widest + 1 < 2 ^ 64 → tree.reserve.widest ≡ widest → tree.reserve.spares.items ≡ [] → tree.reserve.overfull.items ≡ [] → IsWholeTree v o max tree
 unfolding IsWholeTree
-fresh_tree v o max axes tree fresh count low wide fits none over = record {
+fresh_tree v o max axes widest tree fresh count low wide fits is none over = record {
   root_whole = record { height = tree.levels; tight = fresh.whole.0.0; below = fresh.whole.1 };
   counted = count;
   leveled = sym (levels_are (IsInner v o) (IsElement v o) (λ p inner. inner.1) tree.levels (children_of tree.root) fresh.whole.0.1 fresh.whole.1);
   low = low;
-  wide = wide;
-  wide_fits = fits;
-  narrow = fresh.narrow.0;
-  narrow_below = fresh.narrow.1;
-  spares = subst (AllByRecursion (IsSpare tree.widest)) (sym none) tt;
+  wide = rw is wide;
+  wide_fits = rw is fits;
+  narrow = rw is fresh.narrow.0;
+  narrow_below = rw is fresh.narrow.1;
+  spares = subst (AllByRecursion (IsSpare tree.reserve.widest)) (sym none) tt;
   none_over = over;
 }
 

@@ -281,7 +281,7 @@ module _ {T E : Type 0} {IsPoint : List ℤ → Type 0} {v : Boxes E} {o : Objec
     (accepts : E → Bool) (selects : T → Bool) (most : ℕ) {D P S X : Type 0} (old : RTree T D E P S X) (new : ParentNode T E) (held held' : List T) (whole : IsWholeTree v o max old)
     (some : children_of (root_of old) ≢ []) (among : GathersAmong v o accepts selects most (children_of (root_of old)) held (children_of new) held') where
   pub none_ended : IsLawful v o accepts selects → length held' < most → NoneSelected selects (all_elements (children_of new))
-  none_ended lawful room = let before = kept_of laws ok max old whole some in among.ended lawful room old.widest before.0 before.2
+  none_ended lawful room = let before = kept_of laws ok max old whole some in among.ended lawful room old.reserve.widest before.0 before.2
 
   -- len and before are how many are held then, and were before
   module _ (len before : ℕ) (then : len ≡ length held') (first : before ≡ length held) where
@@ -291,14 +291,14 @@ module _ {T E : Type 0} {IsPoint : List ℤ → Type 0} {v : Boxes E} {o : Objec
         let all = whole.counted in let same = moved_count selects most _ _ _ _ among.moved in omega arith
 
     pub whole_left : (tree : RTree T D E P S X) → root_of tree ≡ new → ((w h : ℕ) → IsKept v o w (root_of old) → AreKept v o w h (children_of (root_of old)) → IsKept v o w new)
-        → tree.widest ≡ old.widest → tree.spares.items ≡ old.spares.items → tree.overfull.items ≡ old.overfull.items → tree.size ≡ old.size - (len - before)
+        → tree.reserve ≡ old.reserve → tree.size ≡ old.size - (len - before)
         → (children_of new ≡ [] → tree.levels ≡ 0) → (children_of new ≢ [] → tree.levels ≡ old.levels) → IsWholeTree v o max tree
     unfolding IsWholeTree
-    whole_left tree root kept same_widest same_spares same_overfull less none_left some_left =
+    whole_left tree root kept same_reserve less none_left some_left =
         let k = kept_of laws ok max old whole some in
         let all = whole.counted in let same = moved_count selects most _ _ _ _ among.moved in let grown = held_longer selects most _ _ _ _ among.moved in
         let left : tree.size ≡ length (all_elements (children_of new)) = omega arith in
-        whole_still laws ok max old tree whole some k.0 k.2 (subst (IsKept v o old.widest) (sym root) (kept old.widest k.0 k.1 k.2))
-        (subst (λ (p : ParentNode T E). AreKept v o old.widest k.0 (children_of p)) (sym root) (among.kept old.widest k.0 k.2))
-        same_widest same_spares same_overfull (left ∙ ap (λ (p : ParentNode T E). length (all_elements (children_of p))) (sym root))
+        whole_still laws ok max old tree whole some k.0 k.2 (subst (IsKept v o old.reserve.widest) (sym root) (kept old.reserve.widest k.0 k.1 k.2))
+        (subst (λ (p : ParentNode T E). AreKept v o old.reserve.widest k.0 (children_of p)) (sym root) (among.kept old.reserve.widest k.0 k.2))
+        same_reserve (left ∙ ap (λ (p : ParentNode T E). length (all_elements (children_of p))) (sym root))
         (λ none. none_left (ap children_of (sym root) ∙ none)) (λ some. some_left (λ none. some (ap children_of root ∙ none)))

@@ -61,40 +61,40 @@ module _ {T E : Type 0} (v : Boxes E) (o : Objects T E) where
 module _ {T D E : Type 0} where
   -- where the root is as it was, so is the tree
   pub same_tree : {P S X : Type 0} (tree : RTree T D E P S X) (root : ParentNode T E) (r : Option T) → IfNone r (root ≡ tree.root)
-      → IfNone r (record { root = root; size = tree.size; levels = tree.levels; widest = tree.widest; spares = tree.spares; overfull = tree.overfull; params = tree.params } ≡ tree)
-  same_tree tree root None e = ap (λ (p : ParentNode T E). record { root = p; size = tree.size; levels = tree.levels; widest = tree.widest; spares = tree.spares; overfull = tree.overfull; params = tree.params }) e
+      → IfNone r (record { root = root; size = tree.size; levels = tree.levels; reserve = tree.reserve; params = tree.params } ≡ tree)
+  same_tree tree root None e = ap (λ (p : ParentNode T E). record { root = p; size = tree.size; levels = tree.levels; reserve = tree.reserve; params = tree.params }) e
   same_tree tree root (Some x) e = tt
 
 module _ {T E : Type 0} {IsPoint : List ℤ → Type 0} {v : Boxes E} {o : Objects T E} (laws : EnvelopeLaws IsPoint v) (ok : ObjectLaws v o) (max : ℕ) {D P S X : Type 0} where
   -- the root of a whole tree with children, and what is below it, are kept
   pub kept_of : (tree : RTree T D E P S X) → IsWholeTree v o max tree → children_of (root_of tree) ≢ []
-      → (h : ℕ) × IsKept v o tree.widest (root_of tree) × AreKept v o tree.widest h (children_of (root_of tree))
+      → (h : ℕ) × IsKept v o tree.reserve.widest (root_of tree) × AreKept v o tree.reserve.widest h (children_of (root_of tree))
   unfolding IsWholeTree
   kept_of tree whole some =
       let h = whole.root_whole.height in (
         h,
         record { tight = whole.root_whole.tight; narrow = whole.narrow },
-        all_kept v o tree.widest h (tree_kept v o tree.widest h) (children_of (root_of tree)) whole.root_whole.below whole.narrow_below,
+        all_kept v o tree.reserve.widest h (tree_kept v o tree.reserve.widest h) (children_of (root_of tree)) whole.root_whole.below whole.narrow_below,
       )
 
   -- where they still are, the tree is whole
-  pub whole_still : (old new : RTree T D E P S X) → IsWholeTree v o max old → children_of (root_of old) ≢ [] → (h : ℕ) → AreKept v o old.widest h (children_of (root_of old))
-      → IsKept v o old.widest (root_of new) → AreKept v o old.widest h (children_of (root_of new))
-      → new.widest ≡ old.widest → new.spares.items ≡ old.spares.items → new.overfull.items ≡ old.overfull.items → new.size ≡ length (elements_in new)
+  pub whole_still : (old new : RTree T D E P S X) → IsWholeTree v o max old → children_of (root_of old) ≢ [] → (h : ℕ) → AreKept v o old.reserve.widest h (children_of (root_of old))
+      → IsKept v o old.reserve.widest (root_of new) → AreKept v o old.reserve.widest h (children_of (root_of new))
+      → new.reserve ≡ old.reserve → new.size ≡ length (elements_in new)
       → (children_of (root_of new) ≡ [] → new.levels ≡ 0) → (children_of (root_of new) ≢ [] → new.levels ≡ old.levels)
       → IsWholeTree v o max new
   unfolding IsWholeTree
-  whole_still old new whole some h below root' below' same_widest same_spares same_overfull counted none_left some_left = record {
-    root_whole = record { height = h; tight = root'.tight; below = whole_of_kept laws ok old.widest h (children_of (root_of new)) below' };
+  whole_still old new whole some h below root' below' same_reserve counted none_left some_left = record {
+    root_whole = record { height = h; tight = root'.tight; below = whole_of_kept laws ok old.reserve.widest h (children_of (root_of new)) below' };
     counted = counted;
-    leveled = levels_left v o old.widest h (children_of (root_of old)) (children_of (root_of new)) old.levels new.levels whole.leveled some below below' none_left some_left;
+    leveled = levels_left v o old.reserve.widest h (children_of (root_of old)) (children_of (root_of new)) old.levels new.levels whole.leveled some below below' none_left some_left;
     low = low_left v o (children_of (root_of new)) old.levels new.levels whole.low none_left some_left;
-    wide = rw same_widest whole.wide;
-    wide_fits = rw same_widest whole.wide_fits;
-    narrow = rw same_widest root'.narrow;
-    narrow_below = rw same_widest (narrow_of v o old.widest h (children_of (root_of new)) below');
-    spares = rw (same_widest, same_spares) whole.spares;
-    none_over = same_overfull ∙ whole.none_over;
+    wide = rw same_reserve whole.wide;
+    wide_fits = rw same_reserve whole.wide_fits;
+    narrow = rw same_reserve root'.narrow;
+    narrow_below = rw same_reserve (narrow_of v o old.reserve.widest h (children_of (root_of new)) below');
+    spares = rw same_reserve whole.spares;
+    none_over = rw same_reserve whole.none_over;
   }
 
 module _ {T E : Type 0} {IsPoint : List ℤ → Type 0} {v : Boxes E} {o : Objects T E} (laws : EnvelopeLaws IsPoint v) (ok : ObjectLaws v o) (max : ℕ)
@@ -104,23 +104,23 @@ module _ {T E : Type 0} {IsPoint : List ℤ → Type 0} {v : Boxes E} {o : Objec
       → Takes v o accepts selects (children_of (root_of old)) path rest r (children_of (root_of new)) path' rest'
       → ((w h : ℕ) → IsKept v o w (root_of old) → AreKept v o w h (children_of (root_of old)) → IsRestAt v o rest path (children_of (root_of old)) → IsKept v o w (root_of new))
       → IfNone r (new ≡ old)
-      → new.widest ≡ old.widest → new.spares.items ≡ old.spares.items → new.overfull.items ≡ old.overfull.items → new.size ≡ length (elements_in new)
+      → new.reserve ≡ old.reserve → new.size ≡ length (elements_in new)
       → (children_of (root_of new) ≡ [] → new.levels ≡ 0) → (children_of (root_of new) ≢ [] → new.levels ≡ old.levels)
       → Removes v o max accepts selects old path rest r new path' rest'
-  removes old new path path' rest rest' r whole some takes kept same same_widest same_spares same_overfull counted none_left some_left =
+  removes old new path path' rest rest' r whole some takes kept same same_reserve counted none_left some_left =
       let before = kept_of laws ok max old whole some in
       let h = before.0 in
       let below = before.2 in
       record {
-        whole = λ at. whole_still laws ok max old new whole some h below (kept old.widest h before.1 below at) (takes.whole old.widest h below at)
-            same_widest same_spares same_overfull counted none_left some_left;
-        rests = λ at. takes.rests old.widest h below at;
+        whole = λ at. whole_still laws ok max old new whole some h below (kept old.reserve.widest h before.1 below at) (takes.whole old.reserve.widest h below at)
+            same_reserve counted none_left some_left;
+        rests = λ at. takes.rests old.reserve.widest h below at;
         taken = takes.taken;
         selected = takes.selected;
         kept = same;
-        past = λ lawful past. takes.past lawful old.widest h below past;
+        past = λ lawful past. takes.past lawful old.reserve.widest h below past;
         missed = if_none r (λ (missed : IsLawful v o accepts selects → (w h : ℕ) → AreKept v o w h (children_of (root_of old)) → IsPast selects path (children_of (root_of old)) → NoneSelected selects (elements_in old)).
-            λ lawful past. missed lawful old.widest h below past) takes.missed;
+            λ lawful past. missed lawful old.reserve.widest h below past) takes.missed;
       }
 
   -- a root that is not opened, or that has no children

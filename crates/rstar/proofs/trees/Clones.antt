@@ -156,7 +156,7 @@ module _ {T E : Type 0} (is_clone : T → T → Type 0) where
 
 -- a tree over a clone of a root
 pub tree_cloned_whole : {T D E P S X : Type 0} (is_clone : T → T → Type 0) (equal : ClonesEqual is_clone) (v : Boxes E) (o : Objects T E) (max : ℕ) (old new : RTree T D E P S X) (whole : IsWholeTree v o max old) → ((h : ℕ) → AllByRecursion (IsLevel h) (children_of old.root) → IsParentClone is_clone h old.root new.root)
-    → new.size ≡ old.size → new.levels ≡ old.levels → new.widest ≡ old.widest → new.spares.items ≡ [] → new.overfull.items ≡ [] → IsUnchanged old new × IsWholeTree v o max new
+    → new.size ≡ old.size → new.levels ≡ old.levels → new.reserve.widest ≡ old.reserve.widest → new.reserve.spares.items ≡ [] → new.reserve.overfull.items ≡ [] → IsUnchanged old new × IsWholeTree v o max new
 unfolding IsWholeTree
 tree_cloned_whole is_clone equal v o max old new whole cloned size deep wide none over =
     let h = whole.root_whole.height in
@@ -181,8 +181,8 @@ tree_cloned_whole is_clone equal v o max old new whole cloned size deep wide non
         wide = rw wide whole.wide;
         wide_fits = rw wide whole.wide_fits;
         narrow = rw wide (omega (arith, narrow, AllZip-long (IsNodeClone is_clone h) (children_of old.root) (children_of new.root) c.children));
-        narrow_below = rw wide (narrow_cloned is_clone equal v o h old.root new.root c old.widest whole.narrow_below);
-        spares = subst (AllByRecursion (IsSpare new.widest)) (sym none) tt;
+        narrow_below = rw wide (narrow_cloned is_clone equal v o h old.root new.root c old.reserve.widest whole.narrow_below);
+        spares = subst (AllByRecursion (IsSpare new.reserve.widest)) (sym none) tt;
         none_over = over;
       },
     )

@@ -166,13 +166,13 @@ module _ {T E : Type 0} (v : Boxes E) (o : Objects T E) where
         counted = w.size ∙ whole.counted ∙ sym many;
         leveled = w.levels ∙ whole.leveled ∙ sym (levels-below (KeepsBox o) h (children_of (root_of old)) (children_of (root_of new)) w.root.children);
         low = subst (λ n. n < 2 ^ 64) (sym w.levels) whole.low;
-        wide = subst (λ n. max ≤ n) (sym w.widest) whole.wide;
-        wide_fits = subst (λ n. n + 1 < 2 ^ 64) (sym w.widest) whole.wide_fits;
-        narrow = let a = whole.narrow in let e = w.widest in omega arith;
-        narrow_below = subst (λ n. AllByRecursion (IsTree (HasAtMost n) IsAny h) (children_of (root_of new))) (sym w.widest)
-            (trees-kept (KeepsBox o) (HasAtMost old.widest) IsAny (λ t u k a. tt) (narrow-kept old.widest) h (children_of (root_of old)) (children_of (root_of new)) w.root.children whole.narrow_below);
-        spares = subst (λ n. AllByRecursion (IsSpare n) new.spares.items) (sym w.widest) (subst (λ s. AllByRecursion (IsSpare old.widest) s.items) (sym w.spares) whole.spares);
-        none_over = ap (λ s. s.items) w.overfull ∙ whole.none_over;
+        wide = rw w.reserve whole.wide;
+        wide_fits = rw w.reserve whole.wide_fits;
+        narrow = let a = whole.narrow in let e = ap (λ r. r.widest) w.reserve in omega arith;
+        narrow_below = rw w.reserve
+            (trees-kept (KeepsBox o) (HasAtMost old.reserve.widest) IsAny (λ t u k a. tt) (narrow-kept old.reserve.widest) h (children_of (root_of old)) (children_of (root_of new)) w.root.children whole.narrow_below);
+        spares = rw w.reserve whole.spares;
+        none_over = rw w.reserve whole.none_over;
       }
     where
       narrow-kept : (widest h : ℕ) (p q : ParentNode T E) → IsChangedParent (IsChanged (KeepsBox o) h) p q → HasAtMost widest p → HasAtMost widest q

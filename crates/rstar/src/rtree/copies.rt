@@ -9,6 +9,7 @@ ghost use Rattle.rstar.specs.Shapes.{IsSized};
 ghost use Rattle.rstar.specs.Trees.{root_of, elements_in, IsUnchanged, IsWholeTree};
 ghost use Rattle.rstar.specs.inside.Traversals.{IsLevel};
 
+use crate::algorithm::rstar::preparation::Reserve;
 use crate::node::{ParentNode, RTreeNode};
 use crate::rtree::RTree;
 use rstar_base::envelope::{Envelope, copied_envelope};
@@ -42,9 +43,7 @@ impl<T: RTreeObject + Clone, Params: RTreeParams> RTree<T, Params> {
             root,
             size: self.size,
             levels: self.levels,
-            widest: self.widest,
-            spares: Vec::new(*self.root.children.allocator()),
-            overfull: Vec::new(*self.root.children.allocator()),
+            reserve: Reserve::new(*self.root.children.allocator(), self.reserve.widest),
             params: PhantomData,
         })
     }

@@ -8,6 +8,7 @@ ghost use Rattle.rstar.specs.Trees.{root_of, elements_in, IsWholeTree};
 
 use crate::algorithm::bulk_load::depth::load_depth;
 use crate::algorithm::bulk_load::load_root;
+use crate::algorithm::rstar::preparation::Reserve;
 use crate::rtree::RTree;
 use rstar_base::envelope::Envelope;
 use rstar_base::object::RTreeObject;
@@ -68,9 +69,7 @@ impl<T: RTreeObject, Params: RTreeParams> RTree<T, Params> {
             root,
             size,
             levels,
-            widest,
-            spares: Vec::new(alloc),
-            overfull: Vec::new(alloc),
+            reserve: Reserve::new(alloc, widest),
             params: PhantomData,
         })
     }

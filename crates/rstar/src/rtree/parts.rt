@@ -6,6 +6,7 @@ ghost use Rattle.rstar.specs.inside.ParentBounds.{IsKeptTree};
 ghost use Rattle.rstar.specs.Nodes.{children_of, elements_of};
 ghost use Rattle.rstar.specs.Trees.{root_of, size_of, IsWholeTree};
 
+use crate::algorithm::rstar::preparation::Reserve;
 use crate::node::ParentNode;
 use crate::rtree::RTree;
 use rstar_base::object::RTreeObject;
@@ -35,9 +36,7 @@ impl<T: RTreeObject, Params: RTreeParams> RTree<T, Params> {
             root,
             size,
             levels,
-            widest,
-            spares: Vec::new(alloc),
-            overfull: Vec::new(alloc),
+            reserve: Reserve::new(alloc, widest),
             params: PhantomData,
         }
     }

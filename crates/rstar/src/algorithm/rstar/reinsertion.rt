@@ -2,7 +2,6 @@
 //! inserted again from the root. Nothing here takes memory, and nothing can fail.
 
 ghost use Rattle.std.specs.Prelude.{◌≡◌, ◌+◌, ◌*◌, ◌<◌, ◌≤◌, [], ◌∷◌, ◌++◌, false, length, vec_len, vec_capacity, None};
-ghost use Rattle.std.specs.List.{AllByRecursion};
 ghost use Rattle.std.specs.List.Sorted.{IsPermutation};
 ghost use Rattle.rstar_base.specs.Hulls.{hull};
 ghost use Rattle.rstar.specs.declared.node.RTreeNode.{Leaf};
@@ -11,8 +10,10 @@ ghost use Rattle.rstar.specs.Nodes.{node_box, all_elements};
 ghost use Rattle.rstar.specs.Shapes.{AreSized, IsSizedTree};
 ghost use Rattle.rstar.specs.inside.ParentBounds.{HasAtMost, IsSpare, IsKept, HasMergedBox, AreKept, IsKeptTree, IsSizedAfter};
 ghost use Rattle.rstar.specs.inside.ParentBounds.{has_room, all_roomy, roomy_of};
+ghost use Rattle.rstar.specs.inside.Reserves.{IsReady, Spends};
 
 use crate::algorithm::rstar::insertion::insert_at_root;
+use crate::algorithm::rstar::preparation::Reserve;
 use crate::algorithm::rstar::split::{cut_at, make_place, move_all};
 use crate::bounds::{Covered, Merges, Placed};
 use crate::node::{ParentNode, RTreeNode, envelope_for_children};
@@ -204,37 +205,26 @@ fn insert_again<T: Placed, Params: RTreeParams>(
     root: &mut ParentNode<T>,
     handed: &mut Vec<RTreeNode<T>>,
     levels: usize,
-    widest: usize,
-    spares: &mut Vec<Vec<RTreeNode<T>>>,
-    overfull: &mut Vec<RTreeNode<T>>,
+    reserve: &mut Reserve<RTreeNode<T>>,
 ) -> usize
-    requires root { IsKeptTree T.Cover.boxes T.object widest levels root.old }
-    requires leaves { AreKept T.Cover.boxes T.object widest 0 handed.old.items }
-    requires wide { Params.MAX_SIZE ≤ widest }
-    requires spares { AllByRecursion (IsSpare widest) spares.old.items }
-    requires enough { vec_len handed.old * (levels + vec_len handed.old + 1) ≤ vec_len spares.old }
-    requires overfull { IsSpare (widest + 1) overfull.old }
+    requires root { IsKeptTree T.Cover.boxes T.object reserve.old.widest levels root.old }
+    requires leaves { AreKept T.Cover.boxes T.object reserve.old.widest 0 handed.old.items }
+    requires ready { IsReady Params.MAX_SIZE (vec_len handed.old * (levels + vec_len handed.old + 1)) reserve.old }
     ensures bag { IsPermutation (all_elements root.old.children.items ++ all_elements handed.old.items)
         (all_elements root.new.children.items) }
-    ensures kept { IsKeptTree T.Cover.boxes T.object widest result root.new }
+    ensures kept { IsKeptTree T.Cover.boxes T.object reserve.old.widest result root.new }
     ensures sized { IsSizedTree Params.MIN_SIZE Params.MAX_SIZE levels root.old
         → IsSizedTree Params.MIN_SIZE Params.MAX_SIZE result root.new }
-    ensures spares { AllByRecursion (IsSpare widest) spares.new.items }
-    ensures fewer { vec_len spares.new ≤ vec_len spares.old }
-    ensures places { vec_capacity spares.new ≡ vec_capacity spares.old }
-    ensures room { vec_len spares.old + roomy_of widest levels root.old
-        ≤ vec_len spares.new + roomy_of widest result root.new }
-    ensures made { vec_len spares.new + roomy_of 0 result root.new ≤ vec_len spares.old + roomy_of 0 levels root.old }
+    ensures spends { Spends (λ n. roomy_of n levels root.old) (λ n. roomy_of n result root.new) reserve.old reserve.new }
     ensures none { handed.new.items ≡ [] }
     ensures capacity { vec_capacity handed.new ≡ vec_capacity handed.old }
-    ensures overfull { IsSpare (widest + 1) overfull.new }
 {
     let mut current = levels;
     while let Some(leaf) = handed.pop() {
         let RTreeNode::Leaf(t) = leaf else {
             unreachable!()
         };
-        current = insert_at_root::<T, Params>(root, t, current, widest, spares, overfull);
+        current = insert_at_root::<T, Params>(root, t, current, reserve);
     }
     current
 }
@@ -245,40 +235,36 @@ pub(crate) fn insert_with_reinsertion<T: Placed, Params: RTreeParams>(
     root: &mut ParentNode<T>,
     t: T,
     levels: usize,
-    widest: usize,
-    spares: &mut Vec<Vec<RTreeNode<T>>>,
-    overfull: &mut Vec<RTreeNode<T>>,
+    reserve: &mut Reserve<RTreeNode<T>>,
 ) -> usize
-    requires root { IsKept T.Cover.boxes T.object widest root.old }
-    requires below { AreKept T.Cover.boxes T.object widest levels root.old.children.items }
+    requires root { IsKept T.Cover.boxes T.object reserve.old.widest root.old }
+    requires below { AreKept T.Cover.boxes T.object reserve.old.widest levels root.old.children.items }
     requires some { 0 < levels → 0 < vec_len root.old.children }
     requires element { T.Cover.boxes.is_empty (T.object.box_of t) ≡ false }
-    requires wide { Params.MAX_SIZE ≤ widest }
-    requires spares { AllByRecursion (IsSpare widest) spares.old.items }
-    requires enough { spare_lists Params.REINSERTION_COUNT (1 + levels) ≤ vec_len spares.old }
-    requires overfull { IsSpare (widest + 1) overfull.old }
+    requires ready { IsReady Params.MAX_SIZE (spare_lists Params.REINSERTION_COUNT (1 + levels)) reserve.old }
     ensures bag { IsPermutation (t ∷ all_elements root.old.children.items) (all_elements root.new.children.items) }
-    ensures kept { IsKeptTree T.Cover.boxes T.object widest result root.new }
+    ensures kept { IsKeptTree T.Cover.boxes T.object reserve.old.widest result root.new }
     ensures sized { IsSizedTree Params.MIN_SIZE Params.MAX_SIZE levels root.old
         → IsSizedTree Params.MIN_SIZE Params.MAX_SIZE result root.new }
-    ensures spares { AllByRecursion (IsSpare widest) spares.new.items }
-    ensures overfull { IsSpare (widest + 1) overfull.new }
-
-    // No list with room for all that a parent may have is lost, and no more parents are new than spare lists are gone.
-    ensures room { vec_len spares.old + roomy_of widest levels root.old
-        ≤ vec_len spares.new + roomy_of widest result root.new }
-    ensures made { vec_len spares.new + roomy_of 0 result root.new ≤ vec_len spares.old + roomy_of 0 levels root.old }
+    ensures spends { Spends (λ n. roomy_of n levels root.old) (λ n. roomy_of n result root.new) reserve.old reserve.new }
 {
     if Params::REINSERTION_COUNT == 0 {
-        return insert_at_root::<T, Params>(root, t, levels, widest, spares, overfull);
+        return insert_at_root::<T, Params>(root, t, levels, reserve);
     }
-    let mut handed = spares.take_last();
-    insert_first::<T, Params>(root, t, levels, widest, &mut handed, overfull);
-    let grown = insert_again::<T, Params>(root, &mut handed, levels, widest, spares, overfull);
+    let mut handed = reserve.spares.take_last();
+    insert_first::<T, Params>(
+        root,
+        t,
+        levels,
+        reserve.widest,
+        &mut handed,
+        &mut reserve.overfull,
+    );
+    let grown = insert_again::<T, Params>(root, &mut handed, levels, reserve);
     // The list that is empty again goes back to its place, which is still there. It is none of those where the children
     // of a parent went over into that one, and left theirs.
-    if widest <= handed.capacity() {
-        spares.push_reserved(handed);
+    if reserve.widest <= handed.capacity() {
+        reserve.spares.push_reserved(handed);
     }
     grown
 }

@@ -12,10 +12,10 @@ returns-clause-clones g c =
     all_cloned _ whole.height _ _ (c.in_ok-root.ensures whole.height (trees_map (λ p q. q.1) (λ t q. tt) whole.height _ whole.below))
 
 pub returns-clause-same : goal.returns-clause-same
-returns-clause-same g c = λ equal. (tree_cloned_whole _ equal g.T.Envelope.Envelope.boxes g.T.RTreeObject.object _ _ _ c.requires c.in_ok-root.ensures refl refl refl c.new.ensures.items c.new-2.ensures.items).0
+returns-clause-same g c = λ equal. (tree_cloned_whole _ equal g.T.Envelope.Envelope.boxes g.T.RTreeObject.object _ _ _ c.requires c.in_ok-root.ensures refl refl c.new.ensures.widest c.new.ensures.none c.new.ensures.none_over).0
 
 pub returns-clause-whole : goal.returns-clause-whole
-returns-clause-whole g c = λ equal. (tree_cloned_whole _ equal g.T.Envelope.Envelope.boxes g.T.RTreeObject.object _ _ _ c.requires c.in_ok-root.ensures refl refl refl c.new.ensures.items c.new-2.ensures.items).1
+returns-clause-whole g c = λ equal. (tree_cloned_whole _ equal g.T.Envelope.Envelope.boxes g.T.RTreeObject.object _ _ _ c.requires c.in_ok-root.ensures refl refl c.new.ensures.widest c.new.ensures.none c.new.ensures.none_over).1
 
 pub returns-clause-sized : goal.returns-clause-sized
 returns-clause-sized g c = λ equal sized. root-sized _ _ _ _ (returns-clause-same g c equal).shown sized

@@ -31,10 +31,10 @@ returns-else-is_empty-2-clause-ended g c = none_ended g.met.T.Envelope.Envelope.
 
 pub returns-then-is_empty-2-clause-whole : goal.returns-then-is_empty-2-clause-whole
 returns-then-is_empty-2-clause-whole g c =
-    whole_left g.met.T.Envelope.Envelope.envelope_laws g.met.T.RTreeObject.object_law g.Params.RTreeParams.MAX_SIZE (g.R.SelectionFunction.accepts c.args.func.now) (g.R.SelectionFunction.selects c.args.func.now) c.args.most c.args.self.now c.gather_below.new.node c.args.taken.now.items c.gather_below.new.taken.items c.requires.whole (some-items (children_of c.args.self.now.root) _ _ c.is_empty.ensures c.if-is_empty.false c.args.self.now.root.children.ok.0) c.gather_below.ensures.gathers c.len.result c.len-before.result (c.len.ensures ∙ c.gather_below.new.taken.ok.0) (c.len-before.ensures ∙ c.args.taken.now.ok.0) _ refl c.gather_below.ensures.kept refl refl refl refl
+    whole_left g.met.T.Envelope.Envelope.envelope_laws g.met.T.RTreeObject.object_law g.Params.RTreeParams.MAX_SIZE (g.R.SelectionFunction.accepts c.args.func.now) (g.R.SelectionFunction.selects c.args.func.now) c.args.most c.args.self.now c.gather_below.new.node c.args.taken.now.items c.gather_below.new.taken.items c.requires.whole (some-items (children_of c.args.self.now.root) _ _ c.is_empty.ensures c.if-is_empty.false c.args.self.now.root.children.ok.0) c.gather_below.ensures.gathers c.len.result c.len-before.result (c.len.ensures ∙ c.gather_below.new.taken.ok.0) (c.len-before.ensures ∙ c.args.taken.now.ok.0) _ refl c.gather_below.ensures.kept refl refl
     (λ _. refl) (λ some. absurd (some (no-items (children_of c.gather_below.new.node) _ _ c.is_empty-2.ensures c.if-is_empty-2.true c.gather_below.new.node.children.ok.0)))
 
 pub returns-else-is_empty-2-clause-whole : goal.returns-else-is_empty-2-clause-whole
 returns-else-is_empty-2-clause-whole g c =
-    whole_left g.met.T.Envelope.Envelope.envelope_laws g.met.T.RTreeObject.object_law g.Params.RTreeParams.MAX_SIZE (g.R.SelectionFunction.accepts c.args.func.now) (g.R.SelectionFunction.selects c.args.func.now) c.args.most c.args.self.now c.gather_below.new.node c.args.taken.now.items c.gather_below.new.taken.items c.requires.whole (some-items (children_of c.args.self.now.root) _ _ c.is_empty.ensures c.if-is_empty.false c.args.self.now.root.children.ok.0) c.gather_below.ensures.gathers c.len.result c.len-before.result (c.len.ensures ∙ c.gather_below.new.taken.ok.0) (c.len-before.ensures ∙ c.args.taken.now.ok.0) _ refl c.gather_below.ensures.kept refl refl refl refl
+    whole_left g.met.T.Envelope.Envelope.envelope_laws g.met.T.RTreeObject.object_law g.Params.RTreeParams.MAX_SIZE (g.R.SelectionFunction.accepts c.args.func.now) (g.R.SelectionFunction.selects c.args.func.now) c.args.most c.args.self.now c.gather_below.new.node c.args.taken.now.items c.gather_below.new.taken.items c.requires.whole (some-items (children_of c.args.self.now.root) _ _ c.is_empty.ensures c.if-is_empty.false c.args.self.now.root.children.ok.0) c.gather_below.ensures.gathers c.len.result c.len-before.result (c.len.ensures ∙ c.gather_below.new.taken.ok.0) (c.len-before.ensures ∙ c.args.taken.now.ok.0) _ refl c.gather_below.ensures.kept refl refl
     (λ none. absurd (some-items (children_of c.gather_below.new.node) _ _ c.is_empty-2.ensures c.if-is_empty-2.false c.gather_below.new.node.children.ok.0 none)) (λ _. refl)

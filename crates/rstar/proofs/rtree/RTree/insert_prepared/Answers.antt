@@ -1,8 +1,9 @@
-use Rattle.std.proofs.Common.{◌≡◌, ◌+◌, ◌∷◌, ◌≤◌, length, sym, subst, arith, vec_len}
+use Rattle.std.proofs.Common.{◌≡◌, ◌+◌, ◌∷◌, length, sym, subst, arith}
 use Rattle.std.proofs.lemmas.List.Sorted.{length_permutation}
 use Rattle.rstar.specs.Nodes.{all_elements}
 use Rattle.rstar.specs.Trees.{IsWholeTree}
 use Rattle.rstar.specs.Heights.{spare_lists}
+use Rattle.rstar.specs.inside.Reserves.{IsReady}
 use Rattle.rstar.proofs.inserting.Insertion.{whole_of_kept}
 use Rattle.rstar.proofs.trees.WholeTrees.{kept_at, narrow_of, sized_at, levels_kept}
 use Rattle.rstar.proofs.rtree.RTree.insert_prepared.Goals as goal
@@ -11,13 +12,13 @@ pub insert_with_reinsertion-self-requires-clause-below : goal.insert_with_reinse
 unfolding IsWholeTree
 insert_with_reinsertion-self-requires-clause-below g c =
     let whole = c.requires.whole in
-    kept_at g.T.Envelope.Envelope.boxes g.T.RTreeObject.object c.args.self.now.widest whole.root_whole.height c.args.self.now.levels c.args.self.now.root.children.items
+    kept_at g.T.Envelope.Envelope.boxes g.T.RTreeObject.object c.args.self.now.reserve.widest whole.root_whole.height c.args.self.now.levels c.args.self.now.root.children.items
     whole.leveled whole.root_whole.below whole.narrow_below
 
-pub insert_with_reinsertion-self-requires-clause-enough : goal.insert_with_reinsertion-self-requires-clause-enough
+pub insert_with_reinsertion-self-requires-clause-ready : goal.insert_with_reinsertion-self-requires-clause-ready
 unfolding IsWholeTree
-insert_with_reinsertion-self-requires-clause-enough g c =
-    subst (λ n. spare_lists g.Params.RTreeParams.REINSERTION_COUNT (1 + n) ≤ vec_len c.args.self.now.spares) (sym c.requires.whole.leveled) c.requires.enough
+insert_with_reinsertion-self-requires-clause-ready g c =
+    subst (λ n. IsReady g.Params.RTreeParams.MAX_SIZE (spare_lists g.Params.RTreeParams.REINSERTION_COUNT (1 + n)) c.args.self.now.reserve) (sym c.requires.whole.leveled) c.requires.ready
 
 pub returns-clause-whole : goal.returns-clause-whole
 unfolding IsWholeTree
@@ -25,6 +26,7 @@ returns-clause-whole g c =
     let whole = c.requires.whole in
     let h = c.insert_with_reinsertion-self.result in
     let after = c.insert_with_reinsertion-self.ensures.kept in
+    let spends = c.insert_with_reinsertion-self.ensures.spends in
     let children = c.insert_with_reinsertion-self.new.root.children.items in
     let same : length (all_elements children) ≡ length (c.args.t ∷ all_elements c.args.self.now.root.children.items) = length_permutation _ _ c.insert_with_reinsertion-self.ensures.bag in
     let counted : c.args.self.now.size ≡ length (all_elements c.args.self.now.root.children.items) = whole.counted in
@@ -32,17 +34,17 @@ returns-clause-whole g c =
       root_whole = record {
         height = h;
         tight = after.0.0.tight;
-        below = whole_of_kept g.met.T.Envelope.Envelope.envelope_laws g.met.T.RTreeObject.object_law c.args.self.now.widest h children after.1;
+        below = whole_of_kept g.met.T.Envelope.Envelope.envelope_laws g.met.T.RTreeObject.object_law c.args.self.now.reserve.widest h children after.1;
       };
       counted = omega (arith, same, counted);
-      leveled = levels_kept g.T.Envelope.Envelope.boxes g.T.RTreeObject.object c.args.self.now.widest h c.insert_with_reinsertion-self.new.root after;
+      leveled = levels_kept g.T.Envelope.Envelope.boxes g.T.RTreeObject.object c.args.self.now.reserve.widest h c.insert_with_reinsertion-self.new.root after;
       low = omega arith;
-      wide = whole.wide;
-      wide_fits = whole.wide_fits;
-      narrow = after.0.0.narrow;
-      narrow_below = narrow_of g.T.Envelope.Envelope.boxes g.T.RTreeObject.object c.args.self.now.widest h children after.1;
-      spares = c.insert_with_reinsertion-self.ensures.spares;
-      none_over = c.insert_with_reinsertion-self.ensures.overfull.0;
+      wide = rw spends.widest whole.wide;
+      wide_fits = rw spends.widest whole.wide_fits;
+      narrow = rw spends.widest after.0.0.narrow;
+      narrow_below = rw spends.widest (narrow_of g.T.Envelope.Envelope.boxes g.T.RTreeObject.object c.args.self.now.reserve.widest h children after.1);
+      spares = spends.spares;
+      none_over = spends.overfull.0;
     }
 
 pub returns-clause-sized : goal.returns-clause-sized

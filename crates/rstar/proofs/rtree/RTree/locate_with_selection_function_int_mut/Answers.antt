@@ -23,9 +23,7 @@ returns-clause-outline g c =
       root = c.select_nodes_mut.ensures.changed whole.height (trees_map (λ p k. tt) (λ t k. tt) whole.height (children_of c.args.self.now.root) whole.below);
       size = refl;
       levels = refl;
-      widest = refl;
-      spares = refl;
-      overfull = refl;
+      reserve = refl;
     })
 
 pub returns-clause-whole : goal.returns-clause-whole
@@ -36,7 +34,5 @@ returns-clause-whole g c =
       root = c.select_nodes_mut.ensures.changed whole.height (trees_map (λ p k. tt) (λ t k. tt) whole.height (children_of c.args.self.now.root) whole.below);
       size = refl;
       levels = refl;
-      widest = refl;
-      spares = refl;
-      overfull = refl;
+      reserve = refl;
     })

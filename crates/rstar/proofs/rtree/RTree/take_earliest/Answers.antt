@@ -38,7 +38,7 @@ returns-then-is_empty-2-clause-removes g c =
     let less = one_less _ _ _ taken c.take_earliest-taken.ensures.takes.taken in
     removes g.met.T.Envelope.Envelope.envelope_laws g.met.T.RTreeObject.object_law g.Params.RTreeParams.MAX_SIZE (g.R.SelectionFunction.accepts c.args.func.now) (g.R.SelectionFunction.selects c.args.func.now)
     c.args.self.now _ _ _ _ _ _ c.requires (some-items (children_of c.args.self.now.root) _ _ c.is_empty.ensures c.if-is_empty.false c.args.self.now.root.children.ok.0)
-    c.take_earliest-taken.ensures.takes (λ w h kept below at. c.take_earliest-taken.ensures.kept w h kept below) (some_one _ _ taken) refl refl refl (omega arith)
+    c.take_earliest-taken.ensures.takes (λ w h kept below at. c.take_earliest-taken.ensures.kept w h kept below) (some_one _ _ taken) refl (omega arith)
     (λ _. refl) (λ some. absurd (some (no-items (children_of c.take_earliest-taken.new.node) _ _ c.is_empty-then-is_some.ensures c.if-is_empty-2.true c.take_earliest-taken.new.node.children.ok.0)))
 
 pub returns-else-is_empty-2-clause-removes : goal.returns-else-is_empty-2-clause-removes
@@ -49,7 +49,7 @@ returns-else-is_empty-2-clause-removes g c =
     let less = one_less _ _ _ taken c.take_earliest-taken.ensures.takes.taken in
     removes g.met.T.Envelope.Envelope.envelope_laws g.met.T.RTreeObject.object_law g.Params.RTreeParams.MAX_SIZE (g.R.SelectionFunction.accepts c.args.func.now) (g.R.SelectionFunction.selects c.args.func.now)
     c.args.self.now _ _ _ _ _ _ c.requires (some-items (children_of c.args.self.now.root) _ _ c.is_empty.ensures c.if-is_empty.false c.args.self.now.root.children.ok.0)
-    c.take_earliest-taken.ensures.takes (λ w h kept below at. c.take_earliest-taken.ensures.kept w h kept below) (some_one _ _ taken) refl refl refl (omega arith)
+    c.take_earliest-taken.ensures.takes (λ w h kept below at. c.take_earliest-taken.ensures.kept w h kept below) (some_one _ _ taken) refl (omega arith)
     (λ none. absurd (some-items (children_of c.take_earliest-taken.new.node) _ _ c.is_empty-then-is_some.ensures c.if-is_empty-2.false c.take_earliest-taken.new.node.children.ok.0 none)) (λ _. refl)
 
 pub returns-else-is_some-clause-removes : goal.returns-else-is_some-clause-removes
@@ -62,5 +62,5 @@ returns-else-is_some-clause-removes g c =
     let some = some-items (children_of c.args.self.now.root) _ _ c.is_empty.ensures c.if-is_empty.false c.args.self.now.root.children.ok.0 in
     removes g.met.T.Envelope.Envelope.envelope_laws g.met.T.RTreeObject.object_law g.Params.RTreeParams.MAX_SIZE (g.R.SelectionFunction.accepts c.args.func.now) (g.R.SelectionFunction.selects c.args.func.now)
     c.args.self.now _ _ _ _ _ _ c.requires some
-    c.take_earliest-taken.ensures.takes (λ w h kept below at. c.take_earliest-taken.ensures.kept w h kept below) (same_tree c.args.self.now _ _ c.take_earliest-taken.ensures.same) refl refl refl (omega arith)
+    c.take_earliest-taken.ensures.takes (λ w h kept below at. c.take_earliest-taken.ensures.kept w h kept below) (same_tree c.args.self.now _ _ c.take_earliest-taken.ensures.same) refl (omega arith)
     (λ none. absurd (some (sym (ap children_of root) ∙ none))) (λ _. refl)

@@ -1,9 +1,7 @@
-use Rattle.std.proofs.Common.{arith, ◌++◌, ◌∷◌, [], ◌∙◌, append-nil, ap, subst, sym}
-use Rattle.std.specs.List.{AllByRecursion}
+use Rattle.std.proofs.Common.{arith, ◌++◌, ◌∷◌, [], ◌∙◌, append-nil, ap, refl, sym}
 use Rattle.rstar_base.proofs.Along.{IsPermutation-same}
-use Rattle.rstar_base.proofs.Lists.{all_first, all_second}
-use Rattle.rstar.specs.inside.ParentBounds.{IsSpare}
-use Rattle.rstar.proofs.inserting.Insertion.{room_more}
+use Rattle.rstar.proofs.inserting.Insertion.{room_more, room_one, room_same}
+use Rattle.rstar.proofs.inserting.Reserves.{last_spare, spends_as}
 use Rattle.rstar.proofs.algorithm.rstar.insertion.add_child.Goals as goal
 
 pub push_reserved-requires : goal.push_reserved-requires
@@ -18,21 +16,21 @@ pub returns-then-len-MAX_SIZE-clause-first : goal.returns-then-len-MAX_SIZE-clau
 returns-then-len-MAX_SIZE-clause-first g c = record {
   merged = rw (c.push_reserved.ensures.items, c.take_place.ensures.same) c.requires.covered;
   some = omega (arith, c.push_reserved.ensures.len);
-  narrow = omega (arith, c.push_reserved.ensures.len, c.take_place.ensures.length, c.push_reserved.new.self.ok.0, c.requires.wide);
+  narrow = omega (arith, c.push_reserved.ensures.len, c.take_place.ensures.length, c.push_reserved.new.self.ok.0, c.requires.ready.wide);
 }
 
 pub move_all-requires-clause-room : goal.move_all-requires-clause-room
-move_all-requires-clause-room g c = omega (arith, c.requires.narrow, c.requires.overfull.1, c.args.node.now.children.ok.0)
+move_all-requires-clause-room g c = omega (arith, c.requires.narrow, c.requires.ready.overfull.1, c.args.node.now.children.ok.0)
 
 pub push_reserved-requires-2 : goal.push_reserved-requires-2
-push_reserved-requires-2 g c = omega (arith, c.requires.narrow, c.requires.overfull.1, c.args.node.now.children.ok.0, c.move_all.ensures.length, c.move_all.ensures.empty_capacity)
+push_reserved-requires-2 g c = omega (arith, c.requires.narrow, c.requires.ready.overfull.1, c.args.node.now.children.ok.0, c.move_all.ensures.length, c.move_all.ensures.empty_capacity)
 
 pub split_in_place-requires-clause-empty : goal.split_in_place-requires-clause-empty
-split_in_place-requires-clause-empty g c = ((all_second (IsSpare c.args.widest) c.take_last-second.new.self.items (c.take_last-second.result ∷ []) (subst (AllByRecursion (IsSpare c.args.widest)) c.take_last-second.ensures.items c.requires.spares)).0).0
+split_in_place-requires-clause-empty g c = (last_spare _ _ c.args.reserve.now c.take_last-second.new.self.items c.take_last-second.result c.requires.ready c.take_last-second.ensures.items).1.0
 
 pub split_in_place-requires-clause-room : goal.split_in_place-requires-clause-room
 split_in_place-requires-clause-room g c =
-    let spare = (all_second (IsSpare c.args.widest) c.take_last-second.new.self.items (c.take_last-second.result ∷ []) (subst (AllByRecursion (IsSpare c.args.widest)) c.take_last-second.ensures.items c.requires.spares)).0 in
+    let spare = (last_spare _ _ c.args.reserve.now c.take_last-second.new.self.items c.take_last-second.result c.requires.ready c.take_last-second.ensures.items).1 in
     omega (arith, spare.1, c.requires.narrow, c.move_all.ensures.length, c.push_reserved-2.ensures.len, c.args.node.now.children.ok.0, g.Params.RTreeParams.min_positive)
 
 pub move_all-requires-2-clause-room : goal.move_all-requires-2-clause-room
@@ -60,7 +58,7 @@ returns-clause-first g c =
 
 pub returns-clause-second : goal.returns-clause-second
 returns-clause-second g c =
-    let spare = (all_second (IsSpare c.args.widest) c.take_last-second.new.self.items (c.take_last-second.result ∷ []) (subst (AllByRecursion (IsSpare c.args.widest)) c.take_last-second.ensures.items c.requires.spares)).0 in
+    let spare = (last_spare _ _ c.args.reserve.now c.take_last-second.new.self.items c.take_last-second.result c.requires.ready c.take_last-second.ensures.items).1 in
     let positive = g.Params.RTreeParams.min_positive in
     let all = c.split_in_place.ensures.lengths in
     let least = c.split_in_place.ensures.first in
@@ -73,21 +71,29 @@ returns-clause-second g c =
       narrow = omega (arith, positive, all, least, over, one, c.requires.narrow, c.args.node.now.children.ok.0, c.split_in_place.new.spare.ok.0);
     }
 
-pub returns-clause-spares : goal.returns-clause-spares
-returns-clause-spares g c = all_first (IsSpare c.args.widest) c.take_last-second.new.self.items (c.take_last-second.result ∷ []) (subst (AllByRecursion (IsSpare c.args.widest)) c.take_last-second.ensures.items c.requires.spares)
+pub returns-then-len-MAX_SIZE-clause-spends : goal.returns-then-len-MAX_SIZE-clause-spends
+returns-then-len-MAX_SIZE-clause-spends g c =
+    spends_as _ _ _ _ c.args.reserve.now c.take_place.new.reserve (λ n few. let held = room_same n c.push_reserved.new.self c.take_place.new.list c.push_reserved.ensures.capacity in omega (arith, held)) c.take_place.ensures.spends
 
-pub returns-clause-overfull : goal.returns-clause-overfull
-returns-clause-overfull g c = (
-  c.move_all-2.ensures.left,
-  omega (arith, c.requires.overfull.1, c.move_all.ensures.empty_capacity, c.push_reserved-2.ensures.capacity, c.split_in_place.ensures.first_capacity, c.move_all-2.ensures.capacity),
-)
-
-pub returns-clause-room : goal.returns-clause-room
-returns-clause-room g c =
-    let more = room_more c.args.widest c.args.node.now.children c.move_all-2.new.empty (omega (arith, c.move_all.ensures.capacity, c.move_all-2.ensures.empty_capacity)) in
-    omega (arith, more, c.take_last-second.ensures.len)
+pub returns-clause-spends : goal.returns-clause-spends
+returns-clause-spends g c =
+    let more = room_more c.args.reserve.now.widest c.args.node.now.children c.move_all-2.new.empty (omega (arith, c.move_all.ensures.capacity, c.move_all-2.ensures.empty_capacity)) in
+    let one = room_one 0 c.args.node.now.children (omega arith) in
+    let other = room_one 0 c.move_all-2.new.empty (omega arith) in
+    record {
+      widest = refl;
+      spares = (last_spare _ _ c.args.reserve.now c.take_last-second.new.self.items c.take_last-second.result c.requires.ready c.take_last-second.ensures.items).0;
+      fewer = omega (arith, c.take_last-second.ensures.len);
+      places = c.take_last-second.ensures.capacity;
+      overfull = (
+        c.move_all-2.ensures.left,
+        omega (arith, c.requires.ready.overfull.1, c.move_all.ensures.empty_capacity, c.push_reserved-2.ensures.capacity, c.split_in_place.ensures.first_capacity, c.move_all-2.ensures.capacity),
+      );
+      room = omega (arith, more, c.take_last-second.ensures.len);
+      made = omega (arith, one, other, c.take_last-second.ensures.len);
+    }
 
 pub returns-clause-second_room : goal.returns-clause-second_room
 returns-clause-second_room g c =
-    let spare = (all_second (IsSpare c.args.widest) c.take_last-second.new.self.items (c.take_last-second.result ∷ []) (subst (AllByRecursion (IsSpare c.args.widest)) c.take_last-second.ensures.items c.requires.spares)).0 in
+    let spare = (last_spare _ _ c.args.reserve.now c.take_last-second.new.self.items c.take_last-second.result c.requires.ready c.take_last-second.ensures.items).1 in
     omega (arith, spare.1, c.split_in_place.ensures.second_capacity)

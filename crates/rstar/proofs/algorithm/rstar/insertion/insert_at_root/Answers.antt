@@ -1,7 +1,8 @@
 use Rattle.std.proofs.Common.{◌+◌, ◌∙◌, ap, arith}
 use Rattle.rstar.specs.Nodes.{all_elements}
 use Rattle.rstar.specs.inside.ParentBounds.{all_roomy}
-use Rattle.rstar.proofs.inserting.Insertion.{two_parents, room_one, two_roomy, root_grown, sized_above}
+use Rattle.rstar.proofs.inserting.Insertion.{two_parents, two_roomy, root_grown, sized_above}
+use Rattle.rstar.proofs.inserting.Reserves.{ready_again, spends_both, spends_as}
 use Rattle.rstar.proofs.algorithm.rstar.insertion.insert_at_root.Goals as goal
 
 pub returns-in-Some-clause-bag : goal.returns-in-Some-clause-bag
@@ -11,7 +12,7 @@ returns-in-Some-clause-bag g c =
 
 pub returns-in-Some-clause-kept : goal.returns-in-Some-clause-kept
 returns-in-Some-clause-kept g c =
-    root_grown g.met.T.Cover.Merges.merge_laws g.met.T.Covered.cover_law c.args.widest c.args.levels c.insert_below.new.node c.in-Some.second c.grow_root.new.root
+    root_grown g.met.T.Cover.Merges.merge_laws g.met.T.Covered.cover_law c.args.reserve.now.widest c.args.levels c.insert_below.new.node c.in-Some.second c.grow_root.new.root
     c.in-Some.ensures.first c.in-Some.ensures.second c.grow_root.ensures.children c.grow_root.ensures.envelope (omega (arith, g.Params.RTreeParams.max_at_least_four))
 
 pub returns-in-Some-clause-sized : goal.returns-in-Some-clause-sized
@@ -26,14 +27,12 @@ returns-in-None-clause-sized g c = λ sized.
     let most = after.most in
     (after.below, omega (arith, most, c.insert_below.new.node.children.ok.0))
 
-pub returns-in-Some-clause-room : goal.returns-in-Some-clause-room
-returns-in-Some-clause-room g c =
-    let same = ap (all_roomy c.args.widest (c.args.levels + 1)) c.grow_root.ensures.children ∙ two_roomy c.args.widest c.args.levels c.insert_below.new.node c.in-Some.second in
-    let own = room_one c.args.widest c.grow_root.new.root.children c.grow_root.ensures.room in
-    omega (arith, same, own, c.in-Some.ensures.room, c.grow_root.ensures.used)
+pub returns-in-Some-clause-spends : goal.returns-in-Some-clause-spends
+returns-in-Some-clause-spends g c =
+    spends_as _ _ _ _ c.args.reserve.now c.grow_root.new.reserve
+    (λ n few. let same = ap (all_roomy n (c.args.levels + 1)) c.grow_root.ensures.children ∙ two_roomy n c.args.levels c.insert_below.new.node c.in-Some.second in omega (arith, same))
+    (spends_both _ _ _ _ c.args.reserve.now c.insert_below.new.reserve c.grow_root.new.reserve c.in-Some.ensures.spends c.grow_root.ensures.spends)
 
-pub returns-in-Some-clause-made : goal.returns-in-Some-clause-made
-returns-in-Some-clause-made g c =
-    let same = ap (all_roomy 0 (c.args.levels + 1)) c.grow_root.ensures.children ∙ two_roomy 0 c.args.levels c.insert_below.new.node c.in-Some.second in
-    let own = room_one 0 c.grow_root.new.root.children (omega arith) in
-    omega (arith, same, own, c.in-Some.ensures.made, c.grow_root.ensures.used)
+pub grow_root-requires : goal.grow_root-requires
+grow_root-requires g c =
+    record { ready = ready_again _ _ _ _ _ c.args.reserve.now c.insert_below.new.reserve c.requires.ready c.in-Some.ensures.spends (omega (arith, c.requires.ready.enough, c.in-Some.ensures.used)) }

@@ -1,75 +1,89 @@
-use Rattle.std.proofs.Common.{◌≡◌, ◌+◌, ◌≤◌, ◌∷◌, [], subst, arith, vec_len}
-use Rattle.std.specs.List.{AllByRecursion}
+use Rattle.std.proofs.Common.{◌≡◌, ◌∙◌, ◌+◌, ◌≤◌, ◌∷◌, [], subst, arith, vec_len, vec_capacity}
 use Rattle.std.proofs.lemmas.List.Sorted.{IsPermutation-trans}
 use Rattle.rstar.specs.Heights.{spare_lists}
 use Rattle.rstar.specs.inside.ParentBounds.{IsSpare}
-use Rattle.rstar_base.proofs.Lists.{all-append, all_first, all_second}
+use Rattle.rstar_base.proofs.Lists.{all-append}
 use Rattle.rstar.proofs.inserting.Insertion.{room_one, room_none, room_same}
+use Rattle.rstar.proofs.inserting.Reserves.{last_spare}
 use Rattle.rstar.proofs.inserting.Reinsertion.{enough_again, some_spare}
 use Rattle.rstar.proofs.algorithm.rstar.reinsertion.insert_with_reinsertion.Goals as goal
 
 pub take_last-handed-requires : goal.take_last-handed-requires
-take_last-handed-requires g c = some_spare g.Params.RTreeParams.REINSERTION_COUNT (1 + c.args.levels) (vec_len c.args.spares.now) c.requires.enough
+take_last-handed-requires g c = some_spare g.Params.RTreeParams.REINSERTION_COUNT (1 + c.args.levels) (vec_len c.args.reserve.now.spares) c.requires.ready.enough
 
 pub insert_first-requires-clause-spare : goal.insert_first-requires-clause-spare
-insert_first-requires-clause-spare g c = (all_second (IsSpare c.args.widest) c.take_last-handed.new.self.items (c.take_last-handed.result ∷ []) (subst (AllByRecursion (IsSpare c.args.widest)) c.take_last-handed.ensures.items c.requires.spares)).0
+insert_first-requires-clause-spare g c = (last_spare _ _ c.args.reserve.now c.take_last-handed.new.self.items c.take_last-handed.result c.requires.ready c.take_last-handed.ensures.items).1
 
-pub insert_again-grown-requires-clause-spares : goal.insert_again-grown-requires-clause-spares
-insert_again-grown-requires-clause-spares g c = all_first (IsSpare c.args.widest) c.take_last-handed.new.self.items (c.take_last-handed.result ∷ []) (subst (AllByRecursion (IsSpare c.args.widest)) c.take_last-handed.ensures.items c.requires.spares)
-
-pub insert_again-grown-requires-clause-enough : goal.insert_again-grown-requires-clause-enough
-insert_again-grown-requires-clause-enough g c =
-    let len : vec_len c.args.spares.now ≡ vec_len c.take_last-handed.new.self + 1 = omega (arith, c.take_last-handed.ensures.len) in
-    enough_again g.Params.RTreeParams.REINSERTION_COUNT c.args.levels (vec_len c.insert_first.new.handed) (vec_len c.take_last-handed.new.self) (omega arith) c.insert_first.ensures.count
-    (subst (λ n. spare_lists g.Params.RTreeParams.REINSERTION_COUNT (1 + c.args.levels) ≤ n) len c.requires.enough)
+pub insert_again-grown-requires-clause-ready : goal.insert_again-grown-requires-clause-ready
+insert_again-grown-requires-clause-ready g c =
+    let len : vec_len c.args.reserve.now.spares ≡ vec_len c.take_last-handed.new.self + 1 = omega (arith, c.take_last-handed.ensures.len) in
+    record {
+      wide = c.requires.ready.wide;
+      spares = (last_spare _ _ c.args.reserve.now c.take_last-handed.new.self.items c.take_last-handed.result c.requires.ready c.take_last-handed.ensures.items).0;
+      enough = enough_again g.Params.RTreeParams.REINSERTION_COUNT c.args.levels (vec_len c.insert_first.new.handed) (vec_len c.take_last-handed.new.self) (omega arith) c.insert_first.ensures.count
+          (subst (λ n. spare_lists g.Params.RTreeParams.REINSERTION_COUNT (1 + c.args.levels) ≤ n) len c.requires.ready.enough);
+      overfull = c.insert_first.ensures.overfull;
+    }
 
 pub push_reserved-requires : goal.push_reserved-requires
 push_reserved-requires g c =
     let popped = c.take_last-handed.ensures.len in
     let same = c.take_last-handed.ensures.capacity in
-    let fewer = c.insert_again-grown.ensures.fewer in
-    let places = c.insert_again-grown.ensures.places in
-    omega (arith, popped, same, fewer, places, c.args.spares.now.ok)
+    let fewer = c.insert_again-grown.ensures.spends.fewer in
+    let places = c.insert_again-grown.ensures.spends.places in
+    omega (arith, popped, same, fewer, places, c.args.reserve.now.spares.ok)
 
-pub returns-then-widest-capacity-clause-bag : goal.returns-then-widest-capacity-clause-bag
-returns-then-widest-capacity-clause-bag g c = IsPermutation-trans _ _ _ c.insert_first.ensures.bag c.insert_again-grown.ensures.bag
+pub returns-then-reserve-capacity-clause-bag : goal.returns-then-reserve-capacity-clause-bag
+returns-then-reserve-capacity-clause-bag g c = IsPermutation-trans _ _ _ c.insert_first.ensures.bag c.insert_again-grown.ensures.bag
 
-pub returns-else-widest-capacity-clause-bag : goal.returns-else-widest-capacity-clause-bag
-returns-else-widest-capacity-clause-bag g c = IsPermutation-trans _ _ _ c.insert_first.ensures.bag c.insert_again-grown.ensures.bag
+pub returns-else-reserve-capacity-clause-bag : goal.returns-else-reserve-capacity-clause-bag
+returns-else-reserve-capacity-clause-bag g c = IsPermutation-trans _ _ _ c.insert_first.ensures.bag c.insert_again-grown.ensures.bag
 
-pub returns-then-widest-capacity-clause-sized : goal.returns-then-widest-capacity-clause-sized
-returns-then-widest-capacity-clause-sized g c = λ sized.
+pub returns-then-reserve-capacity-clause-sized : goal.returns-then-reserve-capacity-clause-sized
+returns-then-reserve-capacity-clause-sized g c = λ sized.
     let after = c.insert_first.ensures.sized sized in
     let most = after.most in
     c.insert_again-grown.ensures.sized (after.below, omega (arith, most, c.insert_first.new.node.children.ok.0))
 
-pub returns-else-widest-capacity-clause-sized : goal.returns-else-widest-capacity-clause-sized
-returns-else-widest-capacity-clause-sized g c = λ sized.
+pub returns-else-reserve-capacity-clause-sized : goal.returns-else-reserve-capacity-clause-sized
+returns-else-reserve-capacity-clause-sized g c = λ sized.
     let after = c.insert_first.ensures.sized sized in
     let most = after.most in
     c.insert_again-grown.ensures.sized (after.below, omega (arith, most, c.insert_first.new.node.children.ok.0))
 
-pub returns-then-widest-capacity-clause-spares : goal.returns-then-widest-capacity-clause-spares
-returns-then-widest-capacity-clause-spares g c =
-    rw c.push_reserved.ensures.items (all-append (IsSpare c.args.widest) c.insert_again-grown.new.spares.items (c.insert_again-grown.new.handed ∷ []) c.insert_again-grown.ensures.spares
-    ((c.insert_again-grown.ensures.none, omega (arith, c.capacity.ensures, c.if-widest-capacity.true)), tt))
+pub returns-then-reserve-capacity-clause-spends : goal.returns-then-reserve-capacity-clause-spends
+returns-then-reserve-capacity-clause-spends g c =
+    let again = c.insert_again-grown.ensures.spends in
+    let is = again.widest in
+    let room = again.room in
+    let made = again.made in
+    let fits : c.insert_again-grown.new.reserve.widest ≤ vec_capacity c.insert_again-grown.new.handed = omega (arith, c.capacity.ensures, c.if-reserve-capacity.true) in
+    let held = room_same c.args.reserve.now.widest c.insert_again-grown.new.handed c.insert_first.new.handed c.insert_again-grown.ensures.capacity in
+    let own = room_one c.args.reserve.now.widest c.insert_again-grown.new.handed (omega (arith, fits, is)) in
+    record {
+      widest = is;
+      spares = rw c.push_reserved.ensures.items (all-append (IsSpare c.insert_again-grown.new.reserve.widest) c.insert_again-grown.new.reserve.spares.items (c.insert_again-grown.new.handed ∷ []) again.spares ((c.insert_again-grown.ensures.none, fits), tt));
+      fewer = omega (arith, c.take_last-handed.ensures.len, again.fewer, c.push_reserved.ensures.len);
+      places = c.push_reserved.ensures.capacity ∙ again.places ∙ c.take_last-handed.ensures.capacity;
+      overfull = again.overfull;
+      room = omega (arith, c.take_last-handed.ensures.len, c.insert_first.ensures.room, room, held, own, c.push_reserved.ensures.len);
+      made = omega (arith, c.take_last-handed.ensures.len, c.insert_first.ensures.parents, made, c.push_reserved.ensures.len);
+    }
 
-pub returns-then-widest-capacity-clause-room : goal.returns-then-widest-capacity-clause-room
-returns-then-widest-capacity-clause-room g c =
-    let held = room_same c.args.widest c.insert_again-grown.new.handed c.insert_first.new.handed c.insert_again-grown.ensures.capacity in
-    let own = room_one c.args.widest c.insert_again-grown.new.handed (omega (arith, c.capacity.ensures, c.if-widest-capacity.true)) in
-    omega (arith, c.take_last-handed.ensures.len, c.insert_first.ensures.room, c.insert_again-grown.ensures.room, held, own, c.push_reserved.ensures.len)
-
-pub returns-else-widest-capacity-clause-room : goal.returns-else-widest-capacity-clause-room
-returns-else-widest-capacity-clause-room g c =
-    let held = room_same c.args.widest c.insert_again-grown.new.handed c.insert_first.new.handed c.insert_again-grown.ensures.capacity in
-    let none = room_none c.args.widest c.insert_again-grown.new.handed (omega (arith, c.capacity.ensures, c.if-widest-capacity.false)) in
-    omega (arith, c.take_last-handed.ensures.len, c.insert_first.ensures.room, c.insert_again-grown.ensures.room, held, none)
-
-pub returns-then-widest-capacity-clause-made : goal.returns-then-widest-capacity-clause-made
-returns-then-widest-capacity-clause-made g c =
-    omega (arith, c.take_last-handed.ensures.len, c.insert_first.ensures.parents, c.insert_again-grown.ensures.made, c.push_reserved.ensures.len)
-
-pub returns-else-widest-capacity-clause-made : goal.returns-else-widest-capacity-clause-made
-returns-else-widest-capacity-clause-made g c =
-    omega (arith, c.take_last-handed.ensures.len, c.insert_first.ensures.parents, c.insert_again-grown.ensures.made)
+pub returns-else-reserve-capacity-clause-spends : goal.returns-else-reserve-capacity-clause-spends
+returns-else-reserve-capacity-clause-spends g c =
+    let again = c.insert_again-grown.ensures.spends in
+    let is = again.widest in
+    let room = again.room in
+    let made = again.made in
+    let held = room_same c.args.reserve.now.widest c.insert_again-grown.new.handed c.insert_first.new.handed c.insert_again-grown.ensures.capacity in
+    let none = room_none c.args.reserve.now.widest c.insert_again-grown.new.handed (omega (arith, c.capacity.ensures, c.if-reserve-capacity.false, is)) in
+    record {
+      widest = is;
+      spares = again.spares;
+      fewer = omega (arith, c.take_last-handed.ensures.len, again.fewer);
+      places = again.places ∙ c.take_last-handed.ensures.capacity;
+      overfull = again.overfull;
+      room = omega (arith, c.take_last-handed.ensures.len, c.insert_first.ensures.room, room, held, none);
+      made = omega (arith, c.take_last-handed.ensures.len, c.insert_first.ensures.parents, made);
+    }

@@ -58,9 +58,7 @@ returns-then-index-len g c =
           (below-changed (KeepsBox o) (λ t. (refl, λ is. is)) (IsInner v o) (IsElement v o) way (with_data w) (λ t. (refl, λ is. is)) whole.height root whole.below);
       size = refl;
       levels = refl;
-      widest = refl;
-      spares = refl;
-      overfull = refl;
+      reserve = refl;
     } in (
       refl,
       record {
