@@ -4,6 +4,7 @@
 use Rattle.std.specs.Prelude.{◌≡◌, ◌≤◌, ℕ, ℤ, Bool, true, false, pos, int_le, min, map, filter, length, take, List, [], ◌∷◌, ◌++◌, Option, Some, None, ⊤}
 use Rattle.std.specs.List.{AllByRecursion, list_any}
 use Rattle.std.specs.List.Sorted.{IsPermutation}
+use Rattle.std.specs.declared.cmp.Ordering.{Ordering}
 use Rattle.rstar_base.specs.Envelopes.{Boxes}
 use Rattle.rstar_base.specs.Elements.{Objects, Distances}
 use Rattle.rstar_base.specs.Points.{table}
@@ -13,7 +14,7 @@ use Rattle.rstar.specs.declared.replay.Command.{Command}
 use Rattle.rstar.specs.declared.replay.Command.TheVariants as command
 use Rattle.rstar.specs.declared.replay.Reply.{Reply}
 use Rattle.rstar.specs.declared.replay.Reply.TheVariants as reply
-use Rattle.rstar.specs.Lists.{product, NoneSelected, NoneEmpty, AreOrdered, IsLeast, IsNoFarther}
+use Rattle.rstar.specs.Lists.{product, NoneSelected, NoneEmpty, AreOrdered, IsLeast, IsNoFarther, IsNotLater}
 
 -- what a scan asks of elements, envelopes, points and scalars. Distances are squared.
 pub record Questions (T E P S : Type 0) : Type 0 where
@@ -72,18 +73,6 @@ pub record AreFirstWith {T S : Type 0} (before : T → T → Type 0) (distance :
   pub first : map (λ n. n.0) ns ≡ take k order
   pub distances : AllByRecursion (λ n. value n.1 ≡ pos (distance n.0)) ns
 
--- a nearest element is removed; `None` only from the empty list
-abbrev pub TakesNearest : {T : Type 0} → (T → ℕ) → List T → Option T → List T → Type 0
-TakesNearest distance old found new = TakesFirst (IsNoFarther distance) old found new
-
--- a nearest element with its distance; `None` only for the empty list
-abbrev pub IsNearestWith : {T S : Type 0} → (T → ℕ) → (S → ℤ) → List T → Option (T × S) → Type 0
-IsNearestWith distance value ts found = IsFirstWith (IsNoFarther distance) distance value ts found
-
--- the k nearest elements, the nearest first, each with its distance; all where there are fewer
-abbrev pub AreNearestWith : {T S : Type 0} → (T → ℕ) → (S → ℤ) → ℕ → List T → List (T × S) → Type 0
-AreNearestWith distance value k ts ns = AreFirstWith (IsNoFarther distance) distance value k ts ns
-
 -- ---- commands and replies
 
 -- a run: commands and their replies, step by step, from the first state, a list or a tree, to one that is the same as the last
@@ -103,41 +92,53 @@ module _ {T E P S X : Type 0} (q : Questions T E P S) where
   selects (query.Within p s) t = int_le (pos (q.distance_2 t p)) (q.value s)
 
   -- a command on a list may have this reply, and leaves that list: one line for each command and reply. Lists are
-  -- bags; where a scan has a choice, any choice is right.
-  abbrev pub Step : List T → Command T E P S X → Reply T E P S X → List T → Type 0
-  Step old (command.Load list) reply.Done new = IsPermutation list.items new
-  Step old (command.Insert t) reply.Done new = IsPermutation (t ∷ old) new
-  Step old (command.Remove t) (reply.Taken found) new = TakesOne (λ x. q.equal x t) old found new
-  Step old (command.RemoveAtPoint p) (reply.Taken found) new = TakesOne (λ x. q.contains_point x p) old found new
-  Step old (command.PopNearest p) (reply.Taken found) new = TakesNearest (λ x. q.distance_2 x p) old found new
-  Step old (command.Drain asked n) (reply.Elements xs) new = TakesSome (selects asked) n old xs.items new
-  Step old (command.Ask asked) (reply.Elements xs) new =
+  -- bags; where a scan has a choice, any choice is right. At a point p, `before p t u` says that t may stand before u.
+  abbrev pub StepBy : (P → T → T → Type 0) → List T → Command T E P S X → Reply T E P S X → List T → Type 0
+  StepBy before old (command.Load list) reply.Done new = IsPermutation list.items new
+  StepBy before old (command.Insert t) reply.Done new = IsPermutation (t ∷ old) new
+  StepBy before old (command.Remove t) (reply.Taken found) new = TakesOne (λ x. q.equal x t) old found new
+  StepBy before old (command.RemoveAtPoint p) (reply.Taken found) new = TakesOne (λ x. q.contains_point x p) old found new
+  StepBy before old (command.PopNearest p) (reply.Taken found) new = TakesFirst (before p) old found new
+  StepBy before old (command.Drain asked n) (reply.Elements xs) new = TakesSome (selects asked) n old xs.items new
+  StepBy before old (command.Ask asked) (reply.Elements xs) new =
       IsPermutation (filter (selects asked) old) xs.items × IsPermutation old new
-  Step old (command.Contains t) (reply.Has found) new =
+  StepBy before old (command.Contains t) (reply.Has found) new =
       (found ≡ list_any (λ x. q.equal x t) old) × IsPermutation old new
-  Step old (command.Nearest p) (reply.Nearest found) new =
-      IsNearestWith (λ x. q.distance_2 x p) q.value old found × IsPermutation old new
-  Step old (command.Neighbours p k) (reply.Neighbours ns) new =
-      AreNearestWith (λ x. q.distance_2 x p) q.value k old ns.items × IsPermutation old new
-  Step old (command.Join list) (reply.Pairs ps) new =
+  StepBy before old (command.Nearest p) (reply.Nearest found) new =
+      IsFirstWith (before p) (λ x. q.distance_2 x p) q.value old found × IsPermutation old new
+  StepBy before old (command.Neighbours p k) (reply.Neighbours ns) new =
+      AreFirstWith (before p) (λ x. q.distance_2 x p) q.value k old ns.items × IsPermutation old new
+  StepBy before old (command.Join list) (reply.Pairs ps) new =
       IsPermutation (filter (λ pair. q.intersects (q.box_of pair.0) (q.box_of pair.1)) (product old list.items)) ps.items
       × IsPermutation old new
   -- the commands that count or take memory can be refused, and leave the bag
-  Step old (command.Insert t) reply.TooMany new = IsPermutation old new
-  Step old (command.Load list) reply.NoMemory new = IsPermutation old new
-  Step old (command.Insert t) reply.NoMemory new = IsPermutation old new
-  Step old (command.PopNearest p) reply.NoMemory new = IsPermutation old new
-  Step old (command.Drain asked n) reply.NoMemory new = IsPermutation old new
-  Step old (command.Ask asked) reply.NoMemory new = IsPermutation old new
-  Step old (command.Nearest p) reply.NoMemory new = IsPermutation old new
-  Step old (command.Neighbours p k) reply.NoMemory new = IsPermutation old new
-  Step old (command.Join list) reply.NoMemory new = IsPermutation old new
+  StepBy before old (command.Insert t) reply.TooMany new = IsPermutation old new
+  StepBy before old (command.Load list) reply.NoMemory new = IsPermutation old new
+  StepBy before old (command.Insert t) reply.NoMemory new = IsPermutation old new
+  StepBy before old (command.PopNearest p) reply.NoMemory new = IsPermutation old new
+  StepBy before old (command.Drain asked n) reply.NoMemory new = IsPermutation old new
+  StepBy before old (command.Ask asked) reply.NoMemory new = IsPermutation old new
+  StepBy before old (command.Nearest p) reply.NoMemory new = IsPermutation old new
+  StepBy before old (command.Neighbours p k) reply.NoMemory new = IsPermutation old new
+  StepBy before old (command.Join list) reply.NoMemory new = IsPermutation old new
   -- no other reply is given
-  Step old _ _ new = ⊥
+  StepBy before old _ _ new = ⊥
+
+  -- the first reading: neighbours by distance
+  abbrev pub Step : List T → Command T E P S X → Reply T E P S X → List T → Type 0
+  Step = StepBy (λ p. IsNoFarther (λ x. q.distance_2 x p))
+
+  -- the second reading: neighbours in the stated order, by distance and then by the elements' own order, `compare`
+  abbrev pub StepByOrder : (T → T → Ordering) → List T → Command T E P S X → Reply T E P S X → List T → Type 0
+  StepByOrder compare = StepBy (λ p. IsNotLater (λ x. q.distance_2 x p) compare)
 
   -- a run by `Step`
   abbrev pub Run : List T → List (Command T E P S X) → List (Reply T E P S X) → List T → Type 0
   Run = RunBy IsPermutation Step
+
+  -- a run by `StepByOrder`
+  abbrev pub RunByOrder : (T → T → Ordering) → List T → List (Command T E P S X) → List (Reply T E P S X) → List T → Type 0
+  RunByOrder compare = RunBy IsPermutation (StepByOrder compare)
 
   -- a command that may be run: no element in it has an empty envelope, and the points of a load or a join have at
   -- least two axes

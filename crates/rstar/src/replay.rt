@@ -5,21 +5,21 @@ ghost use Rattle.std.specs.List.{AllByRecursion};
 ghost use Rattle.rstar.specs.declared.replay.Reply.TheVariants.{TooMany};
 ghost use Rattle.rstar.specs.Clones.{ClonesEqual};
 ghost use Rattle.rstar.specs.Heights.{height_of, spare_lists};
-ghost use Rattle.rstar.specs.Steps.{Questions, questions_of, IsFit, IsInsertion, IsRefusal, Step, Run};
-ghost use Rattle.rstar.specs.StepsByOrder.{StepByOrder, RunByOrder};
-ghost use Rattle.rstar.specs.StepsOfTrees.{RunOfTree};
+ghost use Rattle.rstar.specs.Steps.{Questions, questions_of, IsFit, IsInsertion, IsRefusal, Step, StepByOrder, Run, RunByOrder};
+ghost use Rattle.rstar.specs.StepsOfTrees.{StepOfTree, RunOfTree};
 ghost use Rattle.rstar.specs.Trees.{root_of, size_of, elements_in, IsUnchanged, IsWholeTree};
 
 mod answers;
-mod by_order;
 mod changes;
 mod fits;
+mod readings;
 
+use crate::algorithm::nearest_neighbor::{AnyFirst, OwnOrder};
 use crate::rtree::RTree;
 use answers::{ask, contains, join, nearest, neighbours};
-use by_order::{first, first_ones, pop_first};
-use changes::{drain, insert, load, pop_nearest, remove, remove_at_point};
+use changes::{drain, insert, load, remove, remove_at_point};
 pub use fits::{all_fit, is_fit};
+use readings::Reading;
 use rstar_base::envelope::Envelope;
 use rstar_base::object::{Distance, EqualEnvelopes, PointDistance, PointOf, RTreeObject};
 use rstar_base::params::RTreeParams;
@@ -108,7 +108,7 @@ pub enum Reply<T: PointDistance> {
 /// `NoMemory` from any command but `Remove`, `RemoveAtPoint` and `Contains`. Both leave the tree as it was,
 /// and a refused `Insert` drops its element. The cost is that of the tree's own call and of the clones in
 /// the reply.
-#[tactic(auto, using(crate::proofs::commands::Replays::too_many, crate::proofs::commands::Replays::unchanged))]
+#[tactic(auto, using(crate::proofs::commands::StepsByOrder::first_reading))]
 pub fn step<T: PointDistance + EqualEnvelopes + Clone, Params: RTreeParams>(
     tree: &mut RTree<T, Params>,
     command: Command<T>,
@@ -122,19 +122,7 @@ pub fn step<T: PointDistance + EqualEnvelopes + Clone, Params: RTreeParams>(
     ensures too_many { (result ≡ TooMany) ↔ (IsInsertion command × ((size_of tree.old ≡ usize.MAX)
         ⊎ (usize.MAX < spare_lists Params.REINSERTION_COUNT (height_of (root_of tree.old))))) }
 {
-    match command {
-        Command::Load(list) => load(tree, list),
-        Command::Insert(t) => insert(tree, t),
-        Command::Remove(t) => remove(tree, &t),
-        Command::RemoveAtPoint(point) => remove_at_point(tree, point),
-        Command::PopNearest(point) => pop_nearest(tree, point),
-        Command::Drain(query, most) => drain(tree, query, most),
-        Command::Ask(query) => ask(tree, query),
-        Command::Contains(t) => contains(tree, &t),
-        Command::Nearest(point) => nearest(tree, point),
-        Command::Neighbours(point, most) => neighbours(tree, point, most),
-        Command::Join(list) => join(tree, list),
-    }
+    step_in::<T, AnyFirst, Params>(tree, command)
 }
 
 /// Runs commands in order by `step` (`Run`, `RunOfTree`).
@@ -153,11 +141,7 @@ pub fn replay<T: PointDistance + EqualEnvelopes + Clone, Params: RTreeParams>(
     ensures none_run { OnErr result (tree.new ≡ tree.old) }
     ensures whole { IsWholeTree T.Envelope.boxes T.object Params.MAX_SIZE tree.new }
 {
-    let mut replies = Vec::with_capacity(*commands.allocator(), commands.len())?;
-    for command in commands {
-        replies.push_reserved(step(tree, command));
-    }
-    Ok(replies)
+    replay_in::<T, AnyFirst, Params>(tree, commands)
 }
 
 /// Runs one command as `step` does, with neighbours in the stated order (`StepByOrder`).
@@ -193,12 +177,7 @@ pub fn step_by_order<T: PointDistance + EqualEnvelopes + Clone + Ord, Params: RT
     ensures too_many { (result ≡ TooMany) ↔ (IsInsertion command × ((size_of tree.old ≡ usize.MAX)
         ⊎ (usize.MAX < spare_lists Params.REINSERTION_COUNT (height_of (root_of tree.old))))) }
 {
-    match command {
-        Command::PopNearest(point) => pop_first(tree, point),
-        Command::Nearest(point) => first(tree, point),
-        Command::Neighbours(point, most) => first_ones(tree, point, most),
-        other => step(tree, other),
-    }
+    step_in::<T, OwnOrder, Params>(tree, command)
 }
 
 /// Runs commands in order by `step_by_order` (`RunByOrder`, `RunOfTree`).
@@ -220,9 +199,51 @@ pub fn replay_by_order<T: PointDistance + EqualEnvelopes + Clone + Ord, Params: 
     ensures none_run { OnErr result (tree.new ≡ tree.old) }
     ensures whole { IsWholeTree T.Envelope.boxes T.object Params.MAX_SIZE tree.new }
 {
+    replay_in::<T, OwnOrder, Params>(tree, commands)
+}
+
+/// Runs one command, with neighbours in the order `O`.
+fn step_in<T: PointDistance + EqualEnvelopes + Clone, O: Reading<T>, Params: RTreeParams>(
+    tree: &mut RTree<T, Params>,
+    command: Command<T>,
+) -> Reply<T>
+    requires whole { IsWholeTree T.Envelope.boxes T.object Params.MAX_SIZE tree.old }
+    requires clones { ClonesEqual T.is_clone }
+    requires fit { IsFit ⟦<T as Scanned>⟧.questions T.Envelope.Point.DIMENSIONS command }
+    ensures { StepOfTree T.Envelope.boxes T.object Params.MAX_SIZE Params.REINSERTION_COUNT
+        (StepByOrder ⟦<T as Scanned>⟧.questions O.order) tree.old command result tree.new }
+{
+    match command {
+        Command::Load(list) => load(tree, list),
+        Command::Insert(t) => insert(tree, t),
+        Command::Remove(t) => remove(tree, &t),
+        Command::RemoveAtPoint(point) => remove_at_point(tree, point),
+        Command::PopNearest(point) => O::pop(tree, point),
+        Command::Drain(query, most) => drain(tree, query, most),
+        Command::Ask(query) => ask(tree, query),
+        Command::Contains(t) => contains(tree, &t),
+        Command::Nearest(point) => nearest::<T, O, Params>(tree, point),
+        Command::Neighbours(point, most) => neighbours::<T, O, Params>(tree, point, most),
+        Command::Join(list) => join(tree, list),
+    }
+}
+
+/// Runs commands by `step_in`.
+fn replay_in<T: PointDistance + EqualEnvelopes + Clone, O: Reading<T>, Params: RTreeParams>(
+    tree: &mut RTree<T, Params>,
+    commands: Vec<Command<T>>,
+) -> Result<Vec<Reply<T>>, AllocError>
+    requires whole { IsWholeTree T.Envelope.boxes T.object Params.MAX_SIZE tree.old }
+    requires clones { ClonesEqual T.is_clone }
+    requires fit { AllByRecursion (IsFit ⟦<T as Scanned>⟧.questions T.Envelope.Point.DIMENSIONS) commands.items }
+    ensures steps { IfOk result (λ replies. RunOfTree T.Envelope.boxes T.object Params.MAX_SIZE Params.REINSERTION_COUNT
+        (StepByOrder ⟦<T as Scanned>⟧.questions O.order) tree.old commands.items replies.items tree.new) }
+    ensures none_run { OnErr result (tree.new ≡ tree.old) }
+    ensures whole { IsWholeTree T.Envelope.boxes T.object Params.MAX_SIZE tree.new }
+{
     let mut replies = Vec::with_capacity(*commands.allocator(), commands.len())?;
     for command in commands {
-        replies.push_reserved(step_by_order(tree, command));
+        replies.push_reserved(step_in::<T, O, Params>(tree, command));
     }
     Ok(replies)
 }

@@ -11,7 +11,7 @@ use Rattle.rstar.specs.Elements.{Objects, Distances, carried_objects, carried_di
 use Rattle.rstar.specs.Segments.{coordinate}
 use Rattle.rstar.specs.Rectangles.{rectangle_objects, rectangle_distances}
 use Rattle.rstar.specs.Steps as steps
-use Rattle.rstar.specs.StepsByOrder.{StepByOrder}
+use Rattle.rstar.specs.Steps.{StepByOrder}
 use Rattle.rstar.specs.declared.replay.Command as commands
 use Rattle.rstar.specs.declared.replay.Reply as replies
 use Rattle.rstar_run.specs.declared.command.Corners.{Corners}

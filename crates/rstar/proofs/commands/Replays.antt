@@ -6,6 +6,7 @@ use Rattle.std.proofs.lemmas.Bool.{leb-true, leb-false}
 use Rattle.std.proofs.lemmas.Grind.{common_steps}
 use Rattle.std.specs.List.{AllByRecursion}
 use Rattle.std.specs.List.Sorted.{IsPermutation}
+use Rattle.std.specs.declared.cmp.Ordering.{Ordering}
 use Rattle.std.proofs.lemmas.List.Elements.{filter-append}
 use Rattle.std.proofs.lemmas.List.Sorted.{IsPermutation-refl, IsPermutation-map, IsPermutation-append, length_permutation}
 use Rattle.rstar_base.specs.Envelopes.{Boxes}
@@ -19,9 +20,9 @@ use Rattle.rstar.specs.declared.rtree.RTree.{RTree}
 use Rattle.rstar.specs.Joins.{join}
 use Rattle.rstar.specs.inside.Gathering.{Gathers}
 use Rattle.rstar.specs.Lists.{product, IsLeast, NoneSelected}
-use Rattle.rstar.specs.Steps.{Questions, TakesOne, TakesFirst, TakesSome, Step, RunBy, IsInsertion}
+use Rattle.rstar.specs.Steps.{Questions, TakesOne, TakesFirst, TakesSome, StepByOrder, RunBy, IsInsertion, IsRefusal}
 use Rattle.rstar.specs.StepsOfTrees.{StepOfTree, RunOfTree}
-use Rattle.rstar.specs.Trees.{elements_in, IsUnchanged}
+use Rattle.rstar.specs.Trees.{elements_in, IsUnchanged, IsWholeTree}
 use Rattle.rstar.proofs.searching.Ties.{filter-along}
 
 -- ---- bags
@@ -112,17 +113,24 @@ join-along meets left_box right_box ts us vs h = filter-along (λ p. meets (left
 
 -- ---- steps
 
-module _ {T E P S X : Type 0} (q : Questions T E P S) where
-  -- an insertion alone is one too many
-  insertion_alone : (old new : List T) (c : Command T E P S X) → Step q old c reply.TooMany new → IsInsertion c
-  insertion_alone old new (command.Insert t) step = tt
-  insertion_alone old new c step = absurd step
+-- only an insertion is one too many
+insertion_alone : {T E P S X : Type 0} (q : Questions T E P S) (compare : T → T → Ordering) (old new : List T) (c : Command T E P S X) → StepByOrder q compare old c reply.TooMany new → IsInsertion c
+insertion_alone q compare old new (command.Insert t) step = tt
+insertion_alone q compare old new c step = absurd step
 
-  pub too_many : {A : Type 0} (old new : List T) (c : Command T E P S X) (r : Reply T E P S X) → Step q old c r new → (IsInsertion c → (r ≡ reply.TooMany) ↔ A) → (r ≡ reply.TooMany) ↔ (IsInsertion c × A)
-  too_many old new c r step inserted = (
-    λ is. let alone = insertion_alone old new c (subst (λ s. Step q old c s new) is step) in (alone, (inserted alone).0 is),
-    λ both. (inserted both.0).1 both.1,
-  )
+module _ {T D E P S X : Type 0} (v : Boxes E) (o : Objects T E) (max reinserted : ℕ) (q : Questions T E P S) (compare : T → T → Ordering) where
+  -- what a command other than an insertion does, where a refusal leaves the very tree
+  pub one_step : (old new : RTree T D E P S X) (c : Command T E P S X) (r : Reply T E P S X) → (IsInsertion c → ⊥) → StepByOrder q compare (elements_in old) c r (elements_in new) → IsWholeTree v o max new → (IsRefusal r → new ≡ old)
+      → StepOfTree v o max reinserted (StepByOrder q compare) old c r new
+  one_step old new c r other step whole kept = record {
+    answered = step;
+    whole = whole;
+    refused = λ is. unchanged (kept is);
+    too_many = (λ is. absurd (other (insertion_alone q compare (elements_in old) (elements_in new) c (subst (λ s. StepByOrder q compare (elements_in old) c s (elements_in new)) is step))), λ both. absurd (other both.0));
+  }
+    where
+      unchanged : new ≡ old → IsUnchanged old new
+      unchanged e = subst (λ (tree : RTree T D E P S X). IsUnchanged old tree) (sym e) (record { shown = refl; size = refl; elements = refl; envelopes = refl })
 
 -- ---- runs
 
@@ -172,6 +180,3 @@ pub run_listed : {T D E P S X : Type 0} (v : Boxes E) (o : Objects T E) (max rei
 run_listed {T} {D} {E} {P} {S} {X} v o max reinserted step =
     run_shown elements_in (λ (old new : RTree T D E P S X). new ≡ old) IsPermutation (StepOfTree v o max reinserted step) step
     (λ old new same. IsPermutation-same (elements_in old) (elements_in new) (sym (ap elements_in same))) (λ old c r new one. one.answered)
-
-pub unchanged : {T D E P S X : Type 0} (old new : RTree T D E P S X) → new ≡ old → IsUnchanged old new
-unchanged {T} {D} {E} {P} {S} {X} old new e = subst (λ (tree : RTree T D E P S X). IsUnchanged old tree) (sym e) (record { shown = refl; size = refl; elements = refl; envelopes = refl })

@@ -1,16 +1,18 @@
--- The stated order is one in which distances never fall: what is first in it is a nearest one, and each step of the
--- second reading is one of the first.
-use Rattle.std.proofs.Common.{ℕ, ℤ, List, Option, Some, None}
-use Rattle.std.specs.List.Sorted.{IsPermutation}
+-- What is first in an order is first in one that asks less: so each step by the stated order is one by distance.
+use Rattle.std.proofs.Common.{◌≡◌, ℕ, ℤ, List, Option, Some, None}
 use Rattle.std.specs.declared.cmp.Ordering.{Ordering}
+use Rattle.rstar_base.specs.Envelopes.{Boxes}
+use Rattle.rstar_base.specs.Elements.{Objects}
 use Rattle.rstar_base.proofs.Lists.{all_map}
 use Rattle.rstar.specs.declared.replay.Command.{Command}
 use Rattle.rstar.specs.declared.replay.Command.TheVariants as command
 use Rattle.rstar.specs.declared.replay.Reply.{Reply}
 use Rattle.rstar.specs.declared.replay.Reply.TheVariants as reply
-use Rattle.rstar.specs.Lists.{IsLeast, IsNoFarther}
-use Rattle.rstar.specs.Steps.{Questions, TakesFirst, IsFirstWith, AreFirstWith, Step, Run}
-use Rattle.rstar.specs.StepsByOrder.{stated_order, StepByOrder, RunByOrder}
+use Rattle.rstar.specs.declared.rtree.RTree.{RTree}
+use Rattle.rstar.specs.Lists.{IsLeast, IsNoFarther, IsNotLater}
+use Rattle.rstar.specs.Steps.{Questions, TakesFirst, IsFirstWith, AreFirstWith, StepBy, StepByOrder, Step}
+use Rattle.rstar.specs.StepsOfTrees.{StepOfTree, RunOfTree}
+use Rattle.rstar.specs.Trees.{elements_in}
 use Rattle.rstar.proofs.searching.ByOrder.{no-nearer}
 use Rattle.rstar.proofs.searching.InOrder.{ordered-by}
 use Rattle.rstar.proofs.commands.Replays.{run_shown}
@@ -35,46 +37,19 @@ module _ {T : Type 0} (fine coarse : T → T → Type 0) (weaker : (t u : T) →
 
 -- ---- steps and runs
 
-finer : {T E P S : Type 0} (q : Questions T E P S) (compare : T → T → Ordering) (p : P) (t u : T) → stated_order q compare p t u → IsNoFarther (λ x. q.distance_2 x p) t u
-finer q compare p = no-nearer (λ x. q.distance_2 x p) compare
+module _ {T E P S X : Type 0} (q : Questions T E P S) (fine coarse : P → T → T → Type 0) (weaker : (p : P) (t u : T) → fine p t u → coarse p t u) where
+  step-coarser : (old : List T) (c : Command T E P S X) (r : Reply T E P S X) (new : List T) → StepBy q fine old c r new → StepBy q coarse old c r new
+  step-coarser old (command.PopNearest p) (reply.Taken found) new h = taken-coarser (fine p) (coarse p) (weaker p) old found new h
+  step-coarser old (command.Nearest p) (reply.Nearest found) new h = (one-coarser (fine p) (coarse p) (weaker p) (λ x. q.distance_2 x p) q.value old found h.0, h.1)
+  step-coarser old (command.Neighbours p k) (reply.Neighbours ns) new h = (some-coarser (fine p) (coarse p) (weaker p) (λ x. q.distance_2 x p) q.value k old ns.items h.0, h.1)
+  step-coarser old c r new h = h
 
 module _ {T E P S X : Type 0} (q : Questions T E P S) (compare : T → T → Ordering) where
   pub first_reading : (old : List T) (c : Command T E P S X) (r : Reply T E P S X) (new : List T) → StepByOrder q compare old c r new → Step q old c r new
-  first_reading old (command.Load list) r new h = h
-  first_reading old (command.Insert t) r new h = h
-  first_reading old (command.Remove t) r new h = h
-  first_reading old (command.RemoveAtPoint p) r new h = h
-  first_reading old (command.Drain asked n) r new h = h
-  first_reading old (command.Ask asked) r new h = h
-  first_reading old (command.Contains t) r new h = h
-  first_reading old (command.Join list) r new h = h
-  first_reading old (command.PopNearest p) (reply.Taken found) new h = taken-coarser (stated_order q compare p) (IsNoFarther (λ x. q.distance_2 x p)) (finer q compare p) old found new h
-  first_reading old (command.PopNearest p) reply.Done new h = h
-  first_reading old (command.PopNearest p) (reply.Elements xs) new h = h
-  first_reading old (command.PopNearest p) (reply.Has found) new h = h
-  first_reading old (command.PopNearest p) (reply.Nearest found) new h = h
-  first_reading old (command.PopNearest p) (reply.Neighbours ns) new h = h
-  first_reading old (command.PopNearest p) (reply.Pairs ps) new h = h
-  first_reading old (command.PopNearest p) reply.NoMemory new h = h
-  first_reading old (command.PopNearest p) reply.TooMany new h = h
-  first_reading old (command.Nearest p) (reply.Nearest found) new h = (one-coarser (stated_order q compare p) (IsNoFarther (λ x. q.distance_2 x p)) (finer q compare p) (λ x. q.distance_2 x p) q.value old found h.0, h.1)
-  first_reading old (command.Nearest p) reply.Done new h = h
-  first_reading old (command.Nearest p) (reply.Taken found) new h = h
-  first_reading old (command.Nearest p) (reply.Elements xs) new h = h
-  first_reading old (command.Nearest p) (reply.Has found) new h = h
-  first_reading old (command.Nearest p) (reply.Neighbours ns) new h = h
-  first_reading old (command.Nearest p) (reply.Pairs ps) new h = h
-  first_reading old (command.Nearest p) reply.NoMemory new h = h
-  first_reading old (command.Nearest p) reply.TooMany new h = h
-  first_reading old (command.Neighbours p k) (reply.Neighbours ns) new h = (some-coarser (stated_order q compare p) (IsNoFarther (λ x. q.distance_2 x p)) (finer q compare p) (λ x. q.distance_2 x p) q.value k old ns.items h.0, h.1)
-  first_reading old (command.Neighbours p k) reply.Done new h = h
-  first_reading old (command.Neighbours p k) (reply.Taken found) new h = h
-  first_reading old (command.Neighbours p k) (reply.Elements xs) new h = h
-  first_reading old (command.Neighbours p k) (reply.Has found) new h = h
-  first_reading old (command.Neighbours p k) (reply.Nearest found) new h = h
-  first_reading old (command.Neighbours p k) (reply.Pairs ps) new h = h
-  first_reading old (command.Neighbours p k) reply.NoMemory new h = h
-  first_reading old (command.Neighbours p k) reply.TooMany new h = h
+  first_reading = step-coarser q (λ p. IsNotLater (λ x. q.distance_2 x p) compare) (λ p. IsNoFarther (λ x. q.distance_2 x p)) (λ p. no-nearer (λ x. q.distance_2 x p) compare)
 
-  pub first_reading-run : (old : List T) (cs : List (Command T E P S X)) (rs : List (Reply T E P S X)) (new : List T) → RunByOrder q compare old cs rs new → Run q old cs rs new
-  first_reading-run = run_shown (λ ts. ts) IsPermutation IsPermutation (StepByOrder q compare) (Step q) (λ old new same. same) first_reading
+  module _ {D : Type 0} (v : Boxes E) (o : Objects T E) (max reinserted : ℕ) where
+    pub first_reading-trees : (old : RTree T D E P S X) (cs : List (Command T E P S X)) (rs : List (Reply T E P S X)) (new : RTree T D E P S X)
+        → RunOfTree v o max reinserted (StepByOrder q compare) old cs rs new → RunOfTree v o max reinserted (Step q) old cs rs new
+    first_reading-trees = run_shown (λ tree. tree) (λ old new. new ≡ old) (λ old new. new ≡ old) (StepOfTree v o max reinserted (StepByOrder q compare)) (StepOfTree v o max reinserted (Step q)) (λ old new same. same)
+        (λ old c r new h. record { answered = first_reading (elements_in old) c r (elements_in new) h.answered; whole = h.whole; refused = h.refused; too_many = h.too_many })

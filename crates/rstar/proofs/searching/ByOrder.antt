@@ -22,27 +22,12 @@ use Rattle.rstar.specs.Lists.{IsNotAfter, IsNotLater, IsNoFarther, AreFirstOf, A
 use Rattle.rstar.specs.Neighbors.{IsNeighbor, shown}
 use Rattle.rstar.specs.Nodes.{fold_tree, far_of, parents_of, leaf_element, elements, parents, far, all_elements, all_parents, all_far, children_of, envelope_of, IsTree, IsInner, IsElement, AreWhole}
 use Rattle.rstar.specs.inside.Searches.{NodeSearch, Item, waiting_at, waiting_of, any_first, parents_first, distance_of, AreWholeNodes, ComesFirst, TiesBy, IsReady, IsReadyAt, IsUnrefused}
+use Rattle.rstar.specs.laws.TieLaws.{parents_ties}
 use Rattle.rstar.proofs.searching.Nearness.{IsMeasured, IsPart, above-node, above-Parent}
 use Rattle.rstar.proofs.searching.InOrder.{first-by}
 use Rattle.rstar.proofs.selecting.Progress as progress
 use Rattle.rstar.proofs.trees.ByChildren.{is_leaf, is_parent, leaf_element-Leaf, leaf_element-Parent, parents-Parent, far-Parent, far-Leaf, node_distance-Parent}
 use Rattle.rstar.proofs.searching.Searches.{parents-Leaf}
-
--- ---- which order of elements the ties between nodes go by
-
--- any order in which all are equal
-pub any-ties : {T E : Type 0} → TiesBy {T = T} {E = E} any_first any_first
-any-ties {T = T} n t e = all (elements n)
-  where
-    all : (us : List T) → AllByRecursion (λ (u : T). is_lt (any_first u t) ≡ false) us
-    all [] = tt
-    all (u ∷ us) = (refl, all us)
-
--- the elements' own
-pub parents-ties : {T E : Type 0} (order : T → T → Ordering) → TiesBy {T = T} {E = E} (parents_first order) order
-unfolding elements leaf_element fold_tree
-parents-ties order (Leaf u) t e = (e, tt)
-parents-ties order (Parent' shape children envelope) t e = let no : true ≡ false = e in cc
 
 -- ---- two elements in the stated order
 
@@ -201,7 +186,7 @@ module _ {T E : Type 0} {IsPoint : List ℤ → Type 0} {v : Boxes E} {o : Objec
       let root : t.root.now ≡ s.root.now = ap (λ b. b.now) same in
       let still = gives.still_far ∙ ap (far_of (λ e. v.distance_2 e p) (d.distance_2 x p)) (sym root) in
       record {
-        first = all-later law (parents_first order) order (parents-ties order) x (waiting_of t) whole first;
+        first = all-later law (parents_first order) order (parents_ties order) x (waiting_of t) whole first;
         opened = count.counts ∙ ap (λ n. min (parents_of t.root.now - n) usize_max) (sym all ∙ still);
       }
 

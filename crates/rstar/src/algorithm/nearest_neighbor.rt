@@ -25,7 +25,7 @@ use rstar_base::point::{Point, RTreeNum};
 use search::NeighborSearch;
 use std::alloc::AllocError;
 pub(crate) use ties::all_nearest;
-pub(crate) use waiting::{AnyFirst, OwnOrder, ParentsFirst};
+pub(crate) use waiting::{AnyFirst, ElementOrder, OwnOrder};
 
 /// The elements of a tree with their squared distances, the nearest first.
 ///

@@ -8,10 +8,11 @@ ghost use Rattle.rstar.specs.declared.replay.Command.TheVariants.{Ask, Contains,
 ghost use Rattle.rstar.specs.Clones.{ClonesEqual};
 ghost use Rattle.rstar.specs.Joins.{join, meets_by, pairs_to_come, IsJoining};
 ghost use Rattle.rstar.specs.Selections.{IsWalking, to_come};
-ghost use Rattle.rstar.specs.Lists.{NoneEmpty};
-ghost use Rattle.rstar.specs.Steps.{selects, IsNearestWith, AreNearestWith, Step};
+ghost use Rattle.rstar.specs.Lists.{NoneEmpty, IsNotLater};
+ghost use Rattle.rstar.specs.Steps.{selects, IsFirstWith, AreFirstWith, Step, StepByOrder};
 ghost use Rattle.rstar.specs.Trees.{elements_in, IsWholeTree};
 
+use crate::algorithm::nearest_neighbor::{ElementOrder, first_nearest};
 use crate::bounds::{Covered, Meets, Question};
 use crate::iterators::{IntersectionIterator, SelectionIterator};
 use crate::replay::{Query, Reply, Scanned};
@@ -111,76 +112,81 @@ pub(super) fn contains<T: PointDistance + EqualEnvelopes, Params: RTreeParams>(
     Reply::Has(tree.contains(t))
 }
 
-/// A nearest element to a point.
+/// The first element by distance to a point.
 #[tactic(auto, using(crate::proofs::commands::Replays::same_bag))]
-pub(super) fn nearest<T: PointDistance + EqualEnvelopes + Clone, Params: RTreeParams>(
-    tree: &RTree<T, Params>,
-    point: PointOf<T>,
-) -> Reply<T>
+pub(super) fn nearest<
+    T: PointDistance + EqualEnvelopes + Clone,
+    O: ElementOrder<T>,
+    Params: RTreeParams,
+>(tree: &RTree<T, Params>, point: PointOf<T>) -> Reply<T>
     requires whole { IsWholeTree T.Envelope.boxes T.object Params.MAX_SIZE tree.now }
     requires clones { ClonesEqual T.is_clone }
-    ensures { Step ⟦<T as Scanned>⟧.questions (elements_in tree.now) (Nearest point) result (elements_in tree.now) }
+    ensures { StepByOrder ⟦<T as Scanned>⟧.questions O.order (elements_in tree.now) (Nearest point) result
+        (elements_in tree.now) }
 {
-    match nearest_clone(tree, point) {
+    match first_clone::<T, O, Params>(tree, &point) {
         Ok(found) => Reply::Nearest(found),
         Err(_) => Reply::NoMemory,
     }
 }
 
-/// A clone of a nearest element with its squared distance.
-fn nearest_clone<T: PointDistance + Clone, Params: RTreeParams>(
+/// A clone of the first element by distance to a point, with its squared distance.
+fn first_clone<T: PointDistance + Clone, O: ElementOrder<T>, Params: RTreeParams>(
     tree: &RTree<T, Params>,
-    point: PointOf<T>,
+    point: &PointOf<T>,
 ) -> Result<Option<(T, Distance<T>)>, AllocError>
     requires whole { IsWholeTree T.Envelope.boxes T.object Params.MAX_SIZE tree.now }
     requires clones { ClonesEqual T.is_clone }
-    ensures { IfOk result (IsNearestWith (λ t. T.distances.distance_2 t
-        (table T.Envelope.Point.DIMENSIONS (T.Envelope.Point.coord point))) T.Envelope.Point.Scalar.value
+    ensures { IfOk result (IsFirstWith (IsNotLater (λ t. T.distances.distance_2 t
+        (table T.Envelope.Point.DIMENSIONS (T.Envelope.Point.coord point.now))) O.order) (λ t. T.distances.distance_2 t
+        (table T.Envelope.Point.DIMENSIONS (T.Envelope.Point.coord point.now))) T.Envelope.Point.Scalar.value
         (elements_in tree.now)) }
 {
-    let Some((t, distance)) = tree.nearest_neighbor_with_distance_2(point)? else {
+    let lent = first_nearest::<T, O>(tree.root(), point, 1, 1)?;
+    let Some(near) = lent.first() else {
         return Ok(None);
     };
-    let element = t.clone()?;
-    Ok(Some((element, distance)))
+    let element = near.0.clone()?;
+    Ok(Some((element, near.1)))
 }
 
-/// The k nearest elements to a point.
+/// The first k elements by distance to a point.
 #[tactic(auto, using(crate::proofs::commands::Replays::same_bag))]
-pub(super) fn neighbours<T: PointDistance + EqualEnvelopes + Clone, Params: RTreeParams>(
-    tree: &RTree<T, Params>,
-    point: PointOf<T>,
-    most: usize,
-) -> Reply<T>
+pub(super) fn neighbours<
+    T: PointDistance + EqualEnvelopes + Clone,
+    O: ElementOrder<T>,
+    Params: RTreeParams,
+>(tree: &RTree<T, Params>, point: PointOf<T>, most: usize) -> Reply<T>
     requires whole { IsWholeTree T.Envelope.boxes T.object Params.MAX_SIZE tree.now }
     requires clones { ClonesEqual T.is_clone }
-    ensures { Step ⟦<T as Scanned>⟧.questions (elements_in tree.now) (Neighbours point most) result (elements_in tree.now) }
+    ensures { StepByOrder ⟦<T as Scanned>⟧.questions O.order (elements_in tree.now) (Neighbours point most) result
+        (elements_in tree.now) }
 {
-    match first_clones(tree, &point, most) {
+    match first_clones::<T, O, Params>(tree, &point, most) {
         Ok(found) => Reply::Neighbours(found),
         Err(_) => Reply::NoMemory,
     }
 }
 
-/// Clones of the k nearest elements with their squared distances.
-fn first_clones<T: PointDistance + Clone, Params: RTreeParams>(
+/// Clones of the first k elements by distance to a point, with their squared distances.
+fn first_clones<T: PointDistance + Clone, O: ElementOrder<T>, Params: RTreeParams>(
     tree: &RTree<T, Params>,
     point: &PointOf<T>,
     most: usize,
 ) -> Result<Vec<(T, Distance<T>)>, AllocError>
     requires whole { IsWholeTree T.Envelope.boxes T.object Params.MAX_SIZE tree.now }
     requires clones { ClonesEqual T.is_clone }
-    ensures { IfOk result (λ found. AreNearestWith (λ t. T.distances.distance_2 t
+    ensures { IfOk result (λ found. AreFirstWith (IsNotLater (λ t. T.distances.distance_2 t
+        (table T.Envelope.Point.DIMENSIONS (T.Envelope.Point.coord point.now))) O.order) (λ t. T.distances.distance_2 t
         (table T.Envelope.Point.DIMENSIONS (T.Envelope.Point.coord point.now))) T.Envelope.Point.Scalar.value most
         (elements_in tree.now) found.items) }
 {
-    clones_of_lent(&tree.first_neighbors(point, most)?)
+    let room = most.min(tree.size());
+    clones_of_lent(&first_nearest::<T, O>(tree.root(), point, most, room)?)
 }
 
 /// Clones of borrowed elements, each with its distance.
-pub(super) fn clones_of_lent<T: Clone, S: Copy>(
-    lent: &Vec<(&T, S)>,
-) -> Result<Vec<(T, S)>, AllocError>
+fn clones_of_lent<T: Clone, S: Copy>(lent: &Vec<(&T, S)>) -> Result<Vec<(T, S)>, AllocError>
     requires { ClonesEqual T.is_clone }
     ensures { IfOk result (λ found. found.items ≡ map (λ n. (n.0.now, n.1)) lent.now.items) }
 {

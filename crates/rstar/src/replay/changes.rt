@@ -2,7 +2,7 @@
 
 ghost use Rattle.std.specs.Prelude.{◌≡◌, ◌<◌, ◌≤◌, ◌↔◌, ◌⊎◌, false, IfOk, OnErr};
 ghost use Rattle.rstar_base.specs.Selections.{IsLawful};
-ghost use Rattle.rstar.specs.declared.replay.Command.TheVariants.{Load, Insert, Remove, RemoveAtPoint, PopNearest, Drain};
+ghost use Rattle.rstar.specs.declared.replay.Command.TheVariants.{Load, Insert, Remove, RemoveAtPoint, Drain};
 ghost use Rattle.rstar.specs.declared.replay.Reply.TheVariants.{TooMany};
 ghost use Rattle.rstar.specs.Heights.{height_of, spare_lists};
 ghost use Rattle.rstar.specs.Lists.{NoneEmpty};
@@ -91,23 +91,6 @@ pub(super) fn remove_at_point<T: PointDistance + EqualEnvelopes, Params: RTreePa
     ensures refused { IsRefusal result → tree.new ≡ tree.old }
 {
     Reply::Taken(tree.remove_at_point(point))
-}
-
-/// Removes one nearest element to a point.
-#[tactic(auto, using(crate::proofs::commands::Replays::same_bag))]
-pub(super) fn pop_nearest<T: PointDistance + EqualEnvelopes, Params: RTreeParams>(
-    tree: &mut RTree<T, Params>,
-    point: PointOf<T>,
-) -> Reply<T>
-    requires whole { IsWholeTree T.Envelope.boxes T.object Params.MAX_SIZE tree.old }
-    ensures step { Step ⟦<T as Scanned>⟧.questions (elements_in tree.old) (PopNearest point) result (elements_in tree.new) }
-    ensures whole { IsWholeTree T.Envelope.boxes T.object Params.MAX_SIZE tree.new }
-    ensures refused { IsRefusal result → tree.new ≡ tree.old }
-{
-    match tree.pop_nearest_neighbor(point) {
-        Ok(taken) => Reply::Taken(taken),
-        Err(_) => Reply::NoMemory,
-    }
 }
 
 /// Removes up to this many elements of a query.

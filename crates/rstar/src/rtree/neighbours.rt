@@ -14,7 +14,7 @@ ghost use Rattle.rstar.specs.Trees.{root_of, size_of, elements_in, IsWholeTree};
 use crate::algorithm::nearest_neighbor::{
     AnyFirst, NearestNeighborByOrderIterator, NearestNeighborDistance2Iterator,
     NearestNeighborIterator, Neighbors, NeighborsByOrder, NeighborsWithDistance, OwnOrder,
-    ParentsFirst, all_nearest, first_nearest, nearest_neighbor_with_distance_2, one_nearest,
+    all_nearest, first_nearest, nearest_neighbor_with_distance_2, one_nearest,
 };
 use crate::rtree::RTree;
 use rstar_base::algorithm::selection_functions::SelectWithinDistanceFunction;
@@ -223,7 +223,7 @@ impl<T: PointDistance, Params: RTreeParams> RTree<T, Params> {
             ≡ pos (T.distances.distance_2 n.0.now
             (table T.Envelope.Point.DIMENSIONS (T.Envelope.Point.coord point.now)))) found.items) }
     {
-        first_nearest::<T, AnyFirst, AnyFirst>(&self.root, point, most, most.min(self.size))
+        first_nearest::<T, AnyFirst>(&self.root, point, most, most.min(self.size))
     }
 }
 
@@ -269,7 +269,7 @@ impl<T: PointDistance + Ord, Params: RTreeParams> RTree<T, Params> {
             ≡ pos (T.distances.distance_2 n.0.now
             (table T.Envelope.Point.DIMENSIONS (T.Envelope.Point.coord point.now)))) found.items) }
     {
-        first_nearest::<T, ParentsFirst, OwnOrder>(&self.root, point, most, most.min(self.size))
+        first_nearest::<T, OwnOrder>(&self.root, point, most, most.min(self.size))
     }
 }
 

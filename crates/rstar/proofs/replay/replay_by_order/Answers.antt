@@ -1,39 +1,16 @@
-use Rattle.std.proofs.Common.{arith, append_assoc}
-use Rattle.std.proofs.lemmas.Grind.{common_steps}
-use Rattle.std.specs.Vec.Iter.{into_iter_items}
-use Rattle.rstar.specs.Trees.{elements_in}
-use Rattle.rstar.specs.Steps.{questions_of}
-use Rattle.rstar.specs.StepsByOrder.{StepByOrder}
-use Rattle.rstar.specs.StepsOfTrees.{StepOfTree}
-use Rattle.rstar.proofs.commands.Replays.{run_more, run_whole, run_listed}
-use Rattle.rstar.proofs.commands.StepsByOrder.{first_reading-run}
+use Rattle.std.proofs.lemmas.Result.{IfOk-weaker}
+use Rattle.rstar.specs.Steps.{questions_of, Step, StepByOrder}
+use Rattle.rstar.proofs.commands.Replays.{run_listed}
+use Rattle.rstar.proofs.commands.StepsByOrder.{first_reading-trees}
 use Rattle.rstar.proofs.replay.replay_by_order.Goals as goal
-
-pub loop-command-preserved : goal.loop-command-preserved
-loop-command-preserved g c =
-    let q = questions_of g.T.Envelope.Envelope.boxes g.T.RTreeObject.object g.T.PointDistance.distances g.T.Envelope.Point.Point.DIMENSIONS g.T.Envelope.Point.Point.coord g.T.Envelope.Point.Scalar.Number.value g.T.PartialEq.eq in
-    record {
-      steps = rw c.push_reserved.ensures.items (run_more (StepOfTree g.T.Envelope.Envelope.boxes g.T.RTreeObject.object g.Params.RTreeParams.MAX_SIZE g.Params.RTreeParams.REINSERTION_COUNT (StepByOrder q g.T.Ord.cmp)) c.args.tree.now c.loop-command.tree c.step_by_order.new.tree c.loop-command.yielded c.loop-command.replies.items c.in-Some.command c.step_by_order.result c.loop-command.invariant.steps
-          (record { answered = c.step_by_order.ensures.step; whole = c.step_by_order.ensures.whole; refused = c.step_by_order.ensures.refused; too_many = c.step_by_order.ensures.too_many }));
-      whole = c.step_by_order.ensures.whole;
-      fit = (rw c.in-Some.ensures.steps.0 at c.loop-command.invariant.fit).1;
-      all = rw append_assoc (rw c.in-Some.ensures.steps.0 at c.loop-command.invariant.all);
-      replies = grind (arith, common_steps);
-      room = grind (arith, common_steps);
-    }
-
-pub returns-clause-steps : goal.returns-clause-steps
-returns-clause-steps g c =
-    let q = questions_of g.T.Envelope.Envelope.boxes g.T.RTreeObject.object g.T.PointDistance.distances g.T.Envelope.Point.Point.DIMENSIONS g.T.Envelope.Point.Point.coord g.T.Envelope.Point.Scalar.Number.value g.T.PartialEq.eq in
-    run_whole (StepOfTree g.T.Envelope.Envelope.boxes g.T.RTreeObject.object g.Params.RTreeParams.MAX_SIZE g.Params.RTreeParams.REINSERTION_COUNT (StepByOrder q g.T.Ord.cmp)) c.args.tree.now c.loop-command.tree c.loop-command.yielded (into_iter_items c.loop-command.command-iterator) c.args.commands.items c.loop-command.replies.items
-    c.loop-command.invariant.all (omega (arith, c.loop-command.command-iterator.rest.ok.0, c.in-None.ensures.steps.0)) c.loop-command.invariant.steps
 
 pub returns-clause-run : goal.returns-clause-run
 returns-clause-run g c =
     let q = questions_of g.T.Envelope.Envelope.boxes g.T.RTreeObject.object g.T.PointDistance.distances g.T.Envelope.Point.Point.DIMENSIONS g.T.Envelope.Point.Point.coord g.T.Envelope.Point.Scalar.Number.value g.T.PartialEq.eq in
-    run_listed g.T.Envelope.Envelope.boxes g.T.RTreeObject.object g.Params.RTreeParams.MAX_SIZE g.Params.RTreeParams.REINSERTION_COUNT (StepByOrder q g.T.Ord.cmp) c.args.tree.now c.args.commands.items c.loop-command.replies.items c.loop-command.tree (returns-clause-steps g c)
+    IfOk-weaker c.replay_in.result _ _ (λ replies. run_listed g.T.Envelope.Envelope.boxes g.T.RTreeObject.object g.Params.RTreeParams.MAX_SIZE g.Params.RTreeParams.REINSERTION_COUNT (StepByOrder q g.T.Ord.cmp) c.args.tree.now c.args.commands.items replies.items c.replay_in.new.tree) c.replay_in.ensures.steps
 
 pub returns-clause-first_reading : goal.returns-clause-first_reading
 returns-clause-first_reading g c =
     let q = questions_of g.T.Envelope.Envelope.boxes g.T.RTreeObject.object g.T.PointDistance.distances g.T.Envelope.Point.Point.DIMENSIONS g.T.Envelope.Point.Point.coord g.T.Envelope.Point.Scalar.Number.value g.T.PartialEq.eq in
-    first_reading-run q g.T.Ord.cmp (elements_in c.args.tree.now) c.args.commands.items c.loop-command.replies.items (elements_in c.loop-command.tree) (returns-clause-run g c)
+    IfOk-weaker c.replay_in.result _ _
+    (λ replies run. run_listed g.T.Envelope.Envelope.boxes g.T.RTreeObject.object g.Params.RTreeParams.MAX_SIZE g.Params.RTreeParams.REINSERTION_COUNT (Step q) c.args.tree.now c.args.commands.items replies.items c.replay_in.new.tree (first_reading-trees q g.T.Ord.cmp g.T.Envelope.Envelope.boxes g.T.RTreeObject.object g.Params.RTreeParams.MAX_SIZE g.Params.RTreeParams.REINSERTION_COUNT c.args.tree.now c.args.commands.items replies.items c.replay_in.new.tree run)) c.replay_in.ensures.steps

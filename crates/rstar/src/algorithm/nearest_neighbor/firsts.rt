@@ -10,7 +10,7 @@ ghost use Rattle.rstar.specs.inside.Searches.{waiting_of, IsReady, TiesBy};
 
 use crate::algorithm::nearest_neighbor::few::first_few;
 use crate::algorithm::nearest_neighbor::search::{NeighborSearch, NodeSearch, fits};
-use crate::algorithm::nearest_neighbor::waiting::TieOrder;
+use crate::algorithm::nearest_neighbor::waiting::{ElementOrder, TieOrder};
 use crate::bounds::{Measured, SquaredDistance};
 use crate::node::{ParentNode, RTreeNode};
 use std::alloc::{AllocError, Global};
@@ -19,16 +19,16 @@ use std::alloc::{AllocError, Global};
 const FEW: usize = 32;
 
 /// The first `most` elements by distance with their squared distances; all where there are fewer. `E` breaks
-/// ties, and `O` orders nodes so that the ties go by `E`. `room` is the capacity that the list starts with.
-pub(crate) fn first_nearest<'a, T: Measured, O: TieOrder<RTreeNode<T>>, E: TieOrder<T>>(
+/// ties. `room` is the capacity that the list starts with.
+pub(crate) fn first_nearest<'a, T: Measured, E: ElementOrder<T>>(
     root: &'a ParentNode<T>,
     point: &T::Place,
     most: usize,
     room: usize,
 ) -> Result<Vec<(&'a T, T::Distance)>, AllocError>
     requires { IsWhole T.Cover.boxes T.object root.now }
-    ensures first { TiesBy O.order E.order → IfOk result (λ found. AreFirstOf (IsNotLater (λ t. T.distances.distance_2 t
-        (T.at point.now)) E.order) (elements_of root.now) most (map (λ n. n.0.now) found.items)) }
+    ensures first { IfOk result (λ found. AreFirstOf (IsNotLater (λ t. T.distances.distance_2 t (T.at point.now))
+        E.order) (elements_of root.now) most (map (λ n. n.0.now) found.items)) }
     ensures distances { IfOk result (λ found. AllByRecursion
         (λ n. T.Distance.number n.1 ≡ pos (T.distances.distance_2 n.0.now (T.at point.now))) found.items) }
 {
@@ -36,7 +36,7 @@ pub(crate) fn first_nearest<'a, T: Measured, O: TieOrder<RTreeNode<T>>, E: TieOr
         return first_few::<T, E>(root, point, most, room);
     }
     fits::<T::Distance>();
-    let mut search: NodeSearch<'_, T, O> = NeighborSearch::new(root);
+    let mut search: NodeSearch<'_, T, E::Nodes> = NeighborSearch::new(root);
     take_first(&mut search, *root.children.allocator(), point, most, room)
 }
 

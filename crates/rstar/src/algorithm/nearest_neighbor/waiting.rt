@@ -6,7 +6,8 @@ ghost use Rattle.std.specs.Cmp.Rules.{comparing};
 ghost use Rattle.std.specs.Ordering.{as_partial_cmp, eq_by_cmp};
 ghost use Rattle.std.specs.Prelude.{◌≡◌};
 ghost use Rattle.std.specs.declared.cmp.Ordering.{Ordering};
-ghost use Rattle.rstar.specs.inside.Searches.{any_first, parents_first, nearest_on_top};
+ghost use Rattle.rstar.specs.inside.Searches.{any_first, parents_first, nearest_on_top, TiesBy};
+ghost use Rattle.rstar.specs.laws.TieLaws.{any_ties, parents_ties};
 
 use crate::bounds::Covered;
 use crate::node::RTreeNode;
@@ -24,6 +25,14 @@ pub(crate) trait TieOrder<N> {
     ghost total: { IsTotalOrder order };
 }
 
+/// The order of elements at equal distance, and one of nodes that goes by it.
+pub(crate) trait ElementOrder<T: Covered>: TieOrder<T> {
+    /// The order of nodes.
+    type Nodes: TieOrder<RTreeNode<T>>;
+
+    ghost ties: { TiesBy Self.Nodes.order Self.order };
+}
+
 /// No order: any node may come first.
 pub(crate) struct AnyFirst;
 
@@ -35,6 +44,12 @@ impl<N> TieOrder<N> for AnyFirst {
     }
 
     ghost total = { Prim.search (comparing, rules) };
+}
+
+impl<T: Covered> ElementOrder<T> for AnyFirst {
+    type Nodes = AnyFirst;
+
+    ghost ties = { any_ties };
 }
 
 /// Elements come in their own order.
@@ -67,6 +82,12 @@ impl<T: Covered + Ord> TieOrder<RTreeNode<T>> for ParentsFirst {
     }
 
     ghost total = { Prim.search (comparing, rules) };
+}
+
+impl<T: Covered + Ord> ElementOrder<T> for OwnOrder {
+    type Nodes = ParentsFirst;
+
+    ghost ties = { parents_ties T.cmp };
 }
 
 /// A node and its distance. The nearer of two is the greater, so that a priority queue pops it first. At

@@ -1,0 +1,2 @@
+-- Laws of the definitions: lemmas that `impl`s cite, and so cannot stand in proofs/.
+pub mod TieLaws
