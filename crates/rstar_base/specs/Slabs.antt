@@ -1,6 +1,6 @@
 -- Slabs of a list of elements, and partitions around a pivot.
-use Rattle.std.specs.Prelude.{◌≡◌, ◌≢◌, ℕ, ℤ, Bool, true, false, not, ◌+◌, ◌-◌, ◌^◌, ◌++◌, ◌<◌, ◌≤◌, ◌≤ℤ◌, List, [], All, length, min, slice_index_or, IsPermutation, Option, Result, MatchOption, MatchResult}
-use Rattle.std.specs.Int.{div_ceil, bit_at}
+use Rattle.std.specs.Prelude.{◌≡◌, ◌≢◌, ℕ, ℤ, ◌++◌, ◌<◌, ◌≤◌, ◌≤ℤ◌, List, [], All, length, min, slice_index_or, IsPermutation, Option, Result, MatchOption, MatchResult}
+use Rattle.std.specs.Int.{div_ceil}
 use Rattle.std.specs.Global.{Vec}
 use Rattle.std.specs.declared.alloc.AllocError.{AllocError}
 use Rattle.rstar_base.specs.declared.clusters.ClusterGroupIterator.{ClusterGroupIterator}
@@ -16,21 +16,12 @@ pub record IsAround {T : Type 0} (key : T → ℤ) (pivot : ℤ) (low high : ℕ
   pub at_most : (i : ℕ) (d : T) → i < high → key (slice_index_or xs i d) ≤ℤ pivot
   pub at_least : (i : ℕ) (d : T) → low ≤ i → i < length xs → pivot ≤ℤ key (slice_index_or xs i d)
 
--- a key belongs in front of a pivot, or behind it: one that is equal may stand on either side
-abbrev pub Belongs : ℤ → Bool → ℤ → Type 0
-Belongs pivot true key = key ≤ℤ pivot
-Belongs pivot false key = pivot ≤ℤ key
-
--- the place so far from an end of a part of a list: from its first place on, or before its last
-abbrev pub from_end : Bool → ℕ → ℕ → ℕ
-from_end true end away = end + away
-from_end false end away = end - 1 - away
-
--- marks tell which of the elements at so many places belong on the other side
-pub record AreMarked {T : Type 0} (key : T → ℤ) (pivot : ℤ) (first : Bool) (place : ℕ → ℕ) (count marks : ℕ) (xs : List T) : Type 0 where
-  pub right : (i : ℕ) (d : T) → i < count → bit_at marks i ≡ 0 → Belongs pivot first (key (slice_index_or xs (place i) d))
-  pub wrong : (i : ℕ) (d : T) → i < count → bit_at marks i ≡ 1 → Belongs pivot (not first) (key (slice_index_or xs (place i) d))
-  pub fits : marks < 2 ^ count
+-- a partition in progress: elements from `at` on are still to be placed
+pub record IsAroundSoFar {T : Type 0} (key : T → ℤ) (pivot : ℤ) (less at : ℕ) (xs : List T) : Type 0 where
+  pub order : less ≤ at
+  pub within : at ≤ length xs
+  pub at_most : (i : ℕ) (d : T) → i < less → key (slice_index_or xs i d) ≤ℤ pivot
+  pub at_least : (i : ℕ) (d : T) → less ≤ i → i < at → pivot ≤ℤ key (slice_index_or xs i d)
 
 -- ---- slabs
 

@@ -1,8 +1,8 @@
 //! Selection without a sort, the body of `partition_envelopes`.
-ghost use Rattle.std.specs.Prelude.{◌≡◌, ◌<◌, ◌≤◌, ◌≤ℤ◌, ◌+◌, ◌*◌, ◌^◌, ℕ, false, length, slice_index_or, true, vec_len};
+ghost use Rattle.std.specs.Prelude.{◌≡◌, ◌<◌, ◌≤◌, ◌≤ℤ◌, ◌+◌, ◌*◌, ℤ, ℕ, false, length, slice_index_or, true, vec_len};
 ghost use Rattle.std.specs.List.Sorted.{IsPermutation};
 ghost use Rattle.rstar_base.specs.Orders.{IsSplitAt};
-ghost use Rattle.rstar_base.specs.Slabs.{AreMarked, Belongs, IsAround, from_end};
+ghost use Rattle.rstar_base.specs.Slabs.{IsAround};
 
 use crate::envelope::Envelope;
 use crate::object::{Distance, RTreeObject, sort_envelopes};
@@ -91,7 +91,8 @@ fn sample_around(len: usize, k: usize) -> (usize, usize)
 
 /// Whether a key belongs before the pivot: smaller ones do, and equal ones where `with_same` is true.
 fn is_first<S: RTreeNum>(key: S, pivot: S, with_same: bool) -> bool
-    ensures { Belongs (S.value pivot) result (S.value key) }
+    ensures first { result ≡ true → S.value key ≤ℤ S.value pivot }
+    ensures other { result ≡ false → S.value pivot ≤ℤ S.value key }
 {
     if with_same {
         not_above(key, pivot)
@@ -118,7 +119,7 @@ fn middle_key<T: RTreeObject>(axis: usize, list: &[T]) -> Distance<T>
     requires some { 0 < length list.now }
 {
     let step = list.len() / 9;
-    if step < 2 {
+    if step < 8 {
         let quarter = list.len() / 4;
         return middle_of(axis, list, quarter, quarter);
     }
@@ -163,88 +164,42 @@ fn split_around<T: RTreeObject>(axis: usize, list: &mut [T], pivot: Distance<T>)
     (0, same)
 }
 
-/// The number of elements that are marked at once, with a digit of a `u64` for each.
-const MARKS: usize = 64;
-
-/// The place so far from an end of a part: behind where the part begins if `first` is true, else before its end.
-fn place_from(end: usize, away: usize, first: bool) -> usize
-    requires front { first ≡ true → end + away < 2 ^ 64 }
-    requires back { first ≡ false → away < end }
-    ensures { result ≡ from_end first end away }
-{
-    if first { end + away } else { end - 1 - away }
-}
-
-/// Marks of `count` elements from an end on: of those that do not belong in front, or not behind.
-fn marks_of<T: RTreeObject>(
+/// The end of a run of elements that all belong in front, or all behind.
+fn run_end<T: RTreeObject>(
     axis: usize,
     list: &[T],
-    end: usize,
-    count: usize,
+    from: usize,
     pivot: Distance<T>,
     with_same: bool,
     first: bool,
-) -> u64
+) -> usize
     requires axis { axis < T.Envelope.Point.DIMENSIONS }
-    requires few { count ≤ 64 }
-    requires front { first ≡ true → end + count ≤ length list.now }
-    requires back { first ≡ false → count ≤ end × end ≤ length list.now }
-    ensures { AreMarked (λ t. T.Envelope.boxes.axis_key (T.object.box_of t) axis)
-        (T.Envelope.Point.Scalar.value pivot) first (from_end first end) count result list.now }
+    requires from { from ≤ length list.now }
+    ensures order { from ≤ result }
+    ensures within { result ≤ length list.now }
+    ensures at_most { first ≡ true → (i : ℕ) (d : T) → from ≤ i → i < result
+        → T.Envelope.boxes.axis_key (T.object.box_of (slice_index_or list.now i d)) axis
+        ≤ℤ T.Envelope.Point.Scalar.value pivot }
+    ensures at_least { first ≡ false → (i : ℕ) (d : T) → from ≤ i → i < result
+        → T.Envelope.Point.Scalar.value pivot
+        ≤ℤ T.Envelope.boxes.axis_key (T.object.box_of (slice_index_or list.now i d)) axis }
 {
-    let mut marks = 0;
-    let mut left = count;
-    while 0 < left {
-        left -= 1;
-        let key = key_at(axis, list, place_from(end, left, first));
-        let is_wrong = is_first(key, pivot, with_same) != first;
-        marks = 2 * marks + u64::from(is_wrong);
+    let mut at = from;
+    while at < list.len() {
+        let stands_first = is_first(key_at(axis, list, at), pivot, with_same);
+        if stands_first != first {
+            return at;
+        }
+        at += 1;
     }
-    marks
-}
-
-/// Swaps elements at the front of a part that belong behind with elements at its back that belong in front.
-/// Returns what is left of the part.
-///
-/// Up to 64 at either end are marked first, and only those that are marked move. So no jump depends on a
-/// single key (Edelkamp and Weiss 2016).
-fn exchange<T: RTreeObject>(
-    axis: usize,
-    list: &mut [T],
-    from: usize,
-    to: usize,
-    pivot: Distance<T>,
-    with_same: bool,
-) -> (usize, usize)
-    requires axis { axis < T.Envelope.Point.DIMENSIONS }
-    requires some { from + 1 < to }
-    requires within { to ≤ length list.old }
-    ensures same { IsPermutation list.old list.new }
-    ensures order { result.0 ≤ result.1 }
-    ensures within { result.1 ≤ to }
-    ensures less { result.1 + from < result.0 + to }
-    ensures around { IsAround (λ t. T.Envelope.boxes.axis_key (T.object.box_of t) axis)
-        (T.Envelope.Point.Scalar.value pivot) to from list.old
-        → IsAround (λ t. T.Envelope.boxes.axis_key (T.object.box_of t) axis)
-        (T.Envelope.Point.Scalar.value pivot) result.1 result.0 list.new }
-{
-    let count = ((to - from) / 2).min(MARKS);
-    let mut behind = marks_of(axis, &*list, from, count, pivot, with_same, true);
-    let mut ahead = marks_of(axis, &*list, to, count, pivot, with_same, false);
-    while behind != 0 && ahead != 0 {
-        let i = behind.trailing_zeros() as usize;
-        let j = ahead.trailing_zeros() as usize;
-        list.swap(from + i, to - 1 - j);
-        behind &= !(1 << i);
-        ahead &= !(1 << j);
-    }
-    let front = count.min(behind.trailing_zeros() as usize);
-    let back = count.min(ahead.trailing_zeros() as usize);
-    (from + front, to - back)
+    at
 }
 
 /// Moves the elements with keys below the pivot, and those equal to it where `with_same` is true, to the
-/// front, and counts them. A list of equal keys does not move.
+/// front, and counts them.
+///
+/// The leading elements that belong in front, and then those that belong behind, are skipped: a list of
+/// equal keys does not move. The rest is swapped without a branch on the key.
 fn gather<T: RTreeObject>(axis: usize, list: &mut [T], pivot: Distance<T>, with_same: bool) -> usize
     requires { axis < T.Envelope.Point.DIMENSIONS }
     ensures same { IsPermutation list.old list.new }
@@ -252,14 +207,15 @@ fn gather<T: RTreeObject>(axis: usize, list: &mut [T], pivot: Distance<T>, with_
     ensures around { IsAround (λ t. T.Envelope.boxes.axis_key (T.object.box_of t) axis)
         (T.Envelope.Point.Scalar.value pivot) result result list.new }
 {
-    let mut from = 0;
-    let mut to = list.len();
-    while 1 < to - from {
-        (from, to) = exchange(axis, list, from, to, pivot, with_same);
+    let mut less = run_end(axis, &*list, 0, pivot, with_same, true);
+    let mut at = run_end(axis, &*list, less, pivot, with_same, false);
+    while at < list.len() {
+        let first = is_first(key_at(axis, list, at), pivot, with_same);
+        list.swap(less, at);
+        if first {
+            less += 1;
+        }
+        at += 1;
     }
-    if from < to && is_first(key_at(axis, list, from), pivot, with_same) {
-        from + 1
-    } else {
-        from
-    }
+    less
 }
