@@ -1,6 +1,6 @@
 #!/usr/bin/env bash
 # Prints a table of times: the library from C, the same in Rust by the crate vaikrone, and rstar itself. Each runs alone,
-# and takes the best of three rounds.
+# and takes the best of three rounds. Where PYTHON is given, the table of python.py stands below.
 #
 #   bindings/bench/run.sh [BOXES]
 #
@@ -8,6 +8,7 @@
 #   RSTAR_LIB_DIR      the folder of librstar.a, out/library unless it is given
 #   RSTAR_CRATE        the folder of rstar's crate, where cargo cannot get it from its registry
 #   RSTAR_WORKSPACE    the folder of the workspace of that crate, whose .cargo/config.toml says where its dependencies are
+#   PYTHON             a Python that has numpy, rtree and shapely, as Debian's /usr/bin/python3 with these packages
 set -euo pipefail
 here=$(cd "$(dirname "$0")" && pwd)
 folder=${RSTAR_LIB_DIR:-$here/../../out/library}
@@ -43,3 +44,6 @@ awk -F'\t' '
   function cell(program, name) { return (program, name) in best ? best[program, name] : "–" }
   END { for (i = 1; i <= count; i++) print "| " names[i] " | " cell("bench", names[i]) " | " \
     cell("vaikrone_bench", names[i]) " | " cell("rstar_bench", names[i]) " |" }' "$work/times"
+if [[ -n ${PYTHON:-} ]]; then
+  PYTHONPATH=$here/../python VAIKRONE_LIBRARY=$folder/librstar.so "$PYTHON" -W ignore "$here/python.py" 5
+fi
