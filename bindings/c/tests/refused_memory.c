@@ -326,6 +326,7 @@ int main(void) {
     try_call("load of a few", load_few);
     try_steps(questions, COUNT(questions), true);
     try_steps(selections, COUNT(selections), false);
+    try_free_call("pairs_between with an empty handle", pairs_between);
     try_call("load in their place", load_many);
     try_call("load of the other", load_other);
     try_steps(questions, COUNT(questions), true);

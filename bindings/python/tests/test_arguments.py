@@ -6,6 +6,7 @@ import unittest
 from array import array
 
 from vaikrone import Index
+from vaikrone._numbers import rows_of
 
 try:
     import numpy
@@ -80,6 +81,12 @@ class Forms(unittest.TestCase):
         self.assertEqual(index.items()[0].shape, (3, 4))
         for answer in (index.query(table[0]), index.nearest((0, 0), 2)[1], index.items()[0], index.pairs()[0]):
             self.assertIsInstance(answer, numpy.ndarray)
+
+    def test_buffers_stay_where_they_are(self):
+        own = array("q", FLAT)
+        for buffer in (own, memoryview(own), memoryview(own).toreadonly()):
+            self.assertEqual(rows_of(buffer, "q", 4).address, own.buffer_info()[0])
+        self.assertNotEqual(rows_of(memoryview(own)[::2], "q", 2).address, own.buffer_info()[0])
 
     @unittest.skipUnless(numpy, "numpy is not installed")
     def test_numpy_is_refused(self):

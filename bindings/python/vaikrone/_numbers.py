@@ -3,7 +3,7 @@
 from __future__ import annotations
 
 from array import array
-from ctypes import addressof, c_char, c_int64, string_at
+from ctypes import Structure, addressof, byref, c_int64, c_void_p, py_object, pythonapi, string_at
 from itertools import chain
 from numbers import Real
 from operator import index
@@ -56,6 +56,21 @@ def _packed(form: Struct, values: Iterable[Any], width: int, message: str) -> by
         return array(SIGNED, map(whole, values)).tobytes()
 
 
+class _PyBuffer(Structure):
+    """Python's `Py_buffer`: ten words, of which the first is the address."""
+
+    _fields_ = [("start", c_void_p), ("others", c_void_p * 9)]
+
+
+def _start(view: memoryview) -> int:
+    """Where the bytes of a view begin. They may be read-only. They stay there as long as the view is kept."""
+    found = _PyBuffer()
+    pythonapi.PyObject_GetBuffer(py_object(view), byref(found), 0)
+    start: int = found.start
+    pythonapi.PyBuffer_Release(byref(found))
+    return start
+
+
 class Rows(NamedTuple):
     """Rows of 64-bit integers in memory, and what keeps them there."""
 
@@ -65,7 +80,7 @@ class Rows(NamedTuple):
 
 
 def rows_of(values: Any, code: str, width: int) -> Rows:
-    """Buffers stay where they are, unless they are read-only, strided, not aligned, or of another type."""
+    """Buffers stay where they are, unless they are strided, not aligned, or of another type."""
     try:
         view = memoryview(values)
     except TypeError:
@@ -76,7 +91,7 @@ def rows_of(values: Any, code: str, width: int) -> Rows:
     kind = view.format.lstrip("@=<")
     if view.itemsize != 8 or kind not in tuple("qlnQLN"):
         return _rows_in(memoryview(_converted(view, code)), width)
-    if view.readonly or not view.c_contiguous:
+    if not view.c_contiguous:
         view = memoryview(array(code, view.tobytes()))
     rows = _rows_in(view, width)
     if rows.address % 8:
@@ -89,8 +104,7 @@ def rows_of(values: Any, code: str, width: int) -> Rows:
 def _rows_in(view: memoryview, width: int) -> Rows:
     if view.nbytes == 0:
         return Rows(addressof(_EMPTY), 0, None)
-    start = c_char.from_buffer(view)
-    return Rows(addressof(start), view.nbytes // (8 * width), start)
+    return Rows(_start(view), view.nbytes // (8 * width), view)
 
 
 def _array_of(values: Sequence[Any], code: str, width: int) -> array[int]:

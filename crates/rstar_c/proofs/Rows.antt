@@ -1,7 +1,8 @@
 -- Rows of neighbours, one behind the other.
 use Rattle.std.proofs.Common.{◌≡◌, ◌∙◌, ◌+◌, ◌<◌, ◌^◌, ◌++◌, ℕ, ℤ, List, [], ◌∷◌, get_or, length, map, min, pos, take, refl, sym, ap, ap₂, arith}
 use Rattle.std.proofs.lemmas.List.{length-map, length-append, map-append}
-use Rattle.std.proofs.lemmas.List.Elements.{All-push}
+use Rattle.std.proofs.lemmas.List.Elements.{All-from_recursion, All-push}
+use Rattle.std.proofs.lemmas.List.Sorted.{IsPermutation-refl}
 use Rattle.rstar.specs.Lists.{AreFirstOf}
 use Rattle.rstar_base.specs.Counts.{usize_max}
 use Rattle.rstar_c.specs.Answers.{AreNearestEach, AreNearestPut}
@@ -57,4 +58,40 @@ one-more-row place d places i most items ids_old ids_new ids_more away_old away_
           ∙ ap (λ all. over all away_old) (flat-row away before.rows row);
       counted = each-counted (flat_map numbers before.rows) (numbers row) (length put.row) next more before.counted (sym (length-map put.row number)) put.counted
           ∙ ap (λ all. min (length all) usize_max) (flat-row numbers before.rows row);
+    }
+
+-- no items: the row of each point is empty, and nothing is written
+abbrev none_at : Place → Place × List Item
+none_at place = (place, [])
+
+none-asked : (places : List Place) → map (λ r. r.0) (map none_at places) ≡ places
+none-asked [] = refl
+none-asked (place ∷ places) = ap (λ ps. place ∷ ps) (none-asked places)
+
+none-first : (places : List Place) (most : ℕ) → AllByRecursion (λ r. AreFirstOf (IsBefore r.0) [] most r.1) (map none_at places)
+none-first [] most = tt
+none-first (place ∷ places) most = (
+  record {
+    left = [];
+    first = record { bag = IsPermutation-refl []; order = tt; least = tt };
+    few = omega arith;
+    enough = λ less. refl;
+  },
+  none-first places most,
+)
+
+none-told : {A : Type 0} (told : Place → Item → A) (places : List Place) → flat_map (λ r. map (told r.0) r.1) (map none_at places) ≡ []
+none-told told [] = refl
+none-told told (place ∷ places) = none-told told places
+
+pub no-rows : (places : List Place) (most : ℕ) (ids : List ℕ) (distances : List ℤ) → AreNearestEach places most [] ids ids distances distances 0
+no-rows places most ids distances =
+    let numbers = none-told (λ place. number) places in
+    record {
+      rows = map none_at places;
+      asked = none-asked places;
+      first = All-from_recursion (λ r. AreFirstOf (IsBefore r.0) [] most r.1) (map none_at places) (none-first places most);
+      ids = ap (λ all. over all ids) (sym numbers);
+      distances = ap (λ all. over all distances) (sym (none-told (λ place item. pos (distance_to place item)) places));
+      counted = ap (λ (all : List ℕ). min (length all) usize_max) (sym numbers);
     }

@@ -26,7 +26,7 @@ pub struct Place {
 /// A rectangle with its ID.
 pub(crate) type Item = GeomWithData<Rectangle<[i64; 2]>, u64>;
 
-/// The node sizes of the library. They answer faster than rstar's default, and insert more slowly.
+/// The node sizes of the library. They load and answer faster than rstar's default.
 pub(crate) struct NodeSizes;
 
 impl RTreeParams for NodeSizes {

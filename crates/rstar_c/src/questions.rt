@@ -1,6 +1,6 @@
 //! The questions: which rectangles are asked for.
 
-ghost use Rattle.std.specs.Prelude.{◌≡◌, ◌≢◌, ◌+◌, ◌<◌, filter, length};
+ghost use Rattle.std.specs.Prelude.{◌≡◌, ◌≢◌, ◌↔◌, ◌+◌, ◌<◌, filter, length};
 ghost use Rattle.rstar_c.specs.Answers.{AreFound, IsDrained, IsFound};
 ghost use Rattle.rstar_c.specs.Items.{covers, is_within, lies_in, meets, number};
 
@@ -126,8 +126,8 @@ pub(crate) fn put_drained<Q: Question>(
 ) -> i32
     ensures drained { result ≡ OK → IsDrained (Q.chosen question shape.now) store.old store.new ids.old ids.new found.new }
     ensures unchanged { result ≢ OK → (store.new ≡ store.old) × (ids.new ≡ ids.old) }
-    ensures room { result ≡ NO_ROOM → (found.new ≡ length (filter (Q.chosen question shape.now) store.old))
-        × (length ids.old < found.new) }
+    ensures room { (result ≡ NO_ROOM) ↔ (length ids.old < length (filter (Q.chosen question shape.now) store.old)) }
+    ensures wanted { result ≡ NO_ROOM → found.new ≡ length (filter (Q.chosen question shape.now) store.old) }
     ensures refused { result ≢ OK → result ≢ NO_ROOM → (result ≡ NO_MEMORY) × (found.new ≡ found.old) }
 {
     let count = put_found(store, question, shape, &mut []);

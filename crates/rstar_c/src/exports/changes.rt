@@ -11,7 +11,6 @@ use crate::index::{Index, taken, taken_or_made};
 use crate::items::Corners;
 use crate::statuses::{BAD_LENGTH, NO_MEMORY, OK, TOO_MANY};
 use crate::store::Store;
-use rstar::InsertCause;
 use std::alloc::Global;
 
 /// Takes all rectangles out, and frees their memory. The handle may be used again.
@@ -76,16 +75,18 @@ pub extern "C" fn rstar_index_insert(
 ) -> i32
     ensures added { result ≡ OK → IsPermutation (item_of id corners.now ∷ items_in index.old) (items_in index.new) }
     ensures unchanged { result ≢ OK → items_in index.new ≡ items_in index.old }
-    ensures refused { result ≢ OK → result ≢ NO_MEMORY → result ≡ TOO_MANY }
+    ensures many { (result ≡ TOO_MANY) ↔ (length (items_in index.old) ≡ usize.MAX) }
+    ensures refused { result ≢ OK → result ≢ TOO_MANY → result ≡ NO_MEMORY }
 {
     match taken_or_made(alloc, index) {
         Ok(mut store) => {
-            let status = match store.insert(id, corners) {
-                Ok(()) => OK,
-                Err(refused) => match refused.cause {
-                    InsertCause::NoMemory => NO_MEMORY,
-                    InsertCause::TooMany => TOO_MANY,
-                },
+            let status = if store.size() == usize::MAX {
+                TOO_MANY
+            } else {
+                match store.insert(id, corners) {
+                    Ok(()) => OK,
+                    Err(_) => NO_MEMORY,
+                }
             };
             *index = Index::of(store);
             status

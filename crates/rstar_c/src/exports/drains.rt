@@ -1,6 +1,6 @@
 //! Rectangles that are taken out by a question.
 
-ghost use Rattle.std.specs.Prelude.{◌≡◌, ◌≢◌, ◌<◌, [], filter, length};
+ghost use Rattle.std.specs.Prelude.{◌≡◌, ◌≢◌, ◌↔◌, ◌<◌, [], filter, length};
 ghost use Rattle.rstar_c.specs.Answers.{IsDrained};
 ghost use Rattle.rstar_c.specs.Handles.{items_in};
 ghost use Rattle.rstar_c.specs.Items.{covers, is_within, lies_in, meets};
@@ -24,8 +24,8 @@ fn take<Q: Question>(
     ensures drained { result ≡ OK → IsDrained (Q.chosen question shape.now) (items_in index.old) (items_in index.new)
         ids.old ids.new found.new }
     ensures unchanged { result ≢ OK → (items_in index.new ≡ items_in index.old) × (ids.new ≡ ids.old) }
-    ensures room { result ≡ NO_ROOM → (found.new ≡ length (filter (Q.chosen question shape.now) (items_in index.old)))
-        × (length ids.old < found.new) }
+    ensures room { (result ≡ NO_ROOM) ↔ (length ids.old < length (filter (Q.chosen question shape.now) (items_in index.old))) }
+    ensures wanted { result ≡ NO_ROOM → found.new ≡ length (filter (Q.chosen question shape.now) (items_in index.old)) }
     ensures refused { result ≢ OK → result ≢ NO_ROOM → (result ≡ NO_MEMORY) × (found.new ≡ found.old) }
     ensures empty { index.old.held.value ≡ [] → result ≡ OK }
 {
@@ -51,8 +51,8 @@ pub extern "C" fn rstar_index_drain_meeting(
     ensures drained { result ≡ OK
         → IsDrained (meets area.now) (items_in index.old) (items_in index.new) ids.old ids.new found.new }
     ensures unchanged { result ≢ OK → (items_in index.new ≡ items_in index.old) × (ids.new ≡ ids.old) }
-    ensures room { result ≡ NO_ROOM → (found.new ≡ length (filter (meets area.now) (items_in index.old)))
-        × (length ids.old < found.new) }
+    ensures room { (result ≡ NO_ROOM) ↔ (length ids.old < length (filter (meets area.now) (items_in index.old))) }
+    ensures wanted { result ≡ NO_ROOM → found.new ≡ length (filter (meets area.now) (items_in index.old)) }
     ensures refused { result ≢ OK → result ≢ NO_ROOM → (result ≡ NO_MEMORY) × (found.new ≡ found.old) }
     ensures empty { index.old.held.value ≡ [] → result ≡ OK }
 {
@@ -72,16 +72,16 @@ pub extern "C" fn rstar_index_drain_inside(
     ensures drained { result ≡ OK
         → IsDrained (lies_in area.now) (items_in index.old) (items_in index.new) ids.old ids.new found.new }
     ensures unchanged { result ≢ OK → (items_in index.new ≡ items_in index.old) × (ids.new ≡ ids.old) }
-    ensures room { result ≡ NO_ROOM → (found.new ≡ length (filter (lies_in area.now) (items_in index.old)))
-        × (length ids.old < found.new) }
+    ensures room { (result ≡ NO_ROOM) ↔ (length ids.old < length (filter (lies_in area.now) (items_in index.old))) }
+    ensures wanted { result ≡ NO_ROOM → found.new ≡ length (filter (lies_in area.now) (items_in index.old)) }
     ensures refused { result ≢ OK → result ≢ NO_ROOM → (result ≡ NO_MEMORY) × (found.new ≡ found.old) }
     ensures empty { index.old.held.value ≡ [] → result ≡ OK }
 {
     take(alloc, index, Inside, area, ids, found)
 }
 
-/// Takes the rectangles out that a point lies in, or on the border of, and writes their IDs. Where the list is too short for these nothing is
-/// taken out, and `found` says how long it must be.
+/// Takes the rectangles out that a point lies in, or on the border of, and writes their IDs. Where the list is too
+/// short for these nothing is taken out, and `found` says how long it must be.
 #[unsafe(no_mangle)]
 pub extern "C" fn rstar_index_drain_at(
     alloc: Global,
@@ -93,16 +93,16 @@ pub extern "C" fn rstar_index_drain_at(
     ensures drained { result ≡ OK
         → IsDrained (covers place.now) (items_in index.old) (items_in index.new) ids.old ids.new found.new }
     ensures unchanged { result ≢ OK → (items_in index.new ≡ items_in index.old) × (ids.new ≡ ids.old) }
-    ensures room { result ≡ NO_ROOM → (found.new ≡ length (filter (covers place.now) (items_in index.old)))
-        × (length ids.old < found.new) }
+    ensures room { (result ≡ NO_ROOM) ↔ (length ids.old < length (filter (covers place.now) (items_in index.old))) }
+    ensures wanted { result ≡ NO_ROOM → found.new ≡ length (filter (covers place.now) (items_in index.old)) }
     ensures refused { result ≢ OK → result ≢ NO_ROOM → (result ≡ NO_MEMORY) × (found.new ≡ found.old) }
     ensures empty { index.old.held.value ≡ [] → result ≡ OK }
 {
     take(alloc, index, At, place, ids, found)
 }
 
-/// Takes the rectangles out whose squared distance from a point is at most `distance`, and writes their IDs. Where the list is too short for these nothing is
-/// taken out, and `found` says how long it must be.
+/// Takes the rectangles out whose squared distance from a point is at most `distance`, and writes their IDs. Where the
+/// list is too short for these nothing is taken out, and `found` says how long it must be.
 #[unsafe(no_mangle)]
 pub extern "C" fn rstar_index_drain_within(
     alloc: Global,
@@ -115,8 +115,8 @@ pub extern "C" fn rstar_index_drain_within(
     ensures drained { result ≡ OK
         → IsDrained (is_within distance place.now) (items_in index.old) (items_in index.new) ids.old ids.new found.new }
     ensures unchanged { result ≢ OK → (items_in index.new ≡ items_in index.old) × (ids.new ≡ ids.old) }
-    ensures room { result ≡ NO_ROOM → (found.new ≡ length (filter (is_within distance place.now) (items_in index.old)))
-        × (length ids.old < found.new) }
+    ensures room { (result ≡ NO_ROOM) ↔ (length ids.old < length (filter (is_within distance place.now) (items_in index.old))) }
+    ensures wanted { result ≡ NO_ROOM → found.new ≡ length (filter (is_within distance place.now) (items_in index.old)) }
     ensures refused { result ≢ OK → result ≢ NO_ROOM → (result ≡ NO_MEMORY) × (found.new ≡ found.old) }
     ensures empty { index.old.held.value ≡ [] → result ≡ OK }
 {

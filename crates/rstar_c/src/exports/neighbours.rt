@@ -10,7 +10,6 @@ ghost use Rattle.rstar_c.specs.Items.{Item, corners_of, distance_to, IsBefore, n
 use crate::index::{Index, taken};
 use crate::items::{Corners, Place, corners_of};
 use crate::statuses::{BAD_LENGTH, NO_MEMORY, OK};
-use crate::store::Store;
 use rstar::PointDistance;
 use std::alloc::Global;
 
@@ -71,41 +70,26 @@ pub extern "C" fn rstar_index_nearest_each(
     ensures lengths { (result ≡ BAD_LENGTH) ↔ ((length ids.old ≢ length places.now * most)
         ⊎ (length distances.old ≢ length places.now * most)) }
     ensures refused { result ≢ OK → result ≢ BAD_LENGTH → result ≡ NO_MEMORY }
+    ensures empty { index.old.held.value ≡ [] → result ≢ NO_MEMORY }
+    ensures uncounted { result ≢ OK → found.new ≡ found.old }
+    ensures unwritten { result ≡ BAD_LENGTH → (ids.new ≡ ids.old) × (distances.new ≡ distances.old) }
 {
     if !are_long(places.len(), most, ids.len(), distances.len()) {
         return BAD_LENGTH;
     }
-    match taken(alloc, index) {
-        Some(store) => {
-            let status = put_rows(&store, places, most, ids, distances, found);
-            *index = Index::of(store);
-            status
-        }
-        None => put_rows(&Store::new(alloc), places, most, ids, distances, found),
-    }
-}
-
-/// Writes the nearest rectangles of many points, and how many there are for each.
-fn put_rows(
-    store: &Store,
-    places: &[Place],
-    most: usize,
-    ids: &mut [u64],
-    distances: &mut [i64],
-    found: &mut usize,
-) -> i32
-    ensures put { result ≡ OK → (written : ℕ) × AreNearestEach places.now most store.now ids.old ids.new
-        distances.old distances.new written }
-    ensures counted { result ≡ OK → found.new ≡ min most (length store.now) }
-    ensures refused { result ≢ OK → result ≡ NO_MEMORY }
-{
-    match store.put_each_nearest(places, most, ids, distances) {
+    let Some(store) = taken(alloc, index) else {
+        *found = 0;
+        return OK;
+    };
+    let status = match store.put_each_nearest(places, most, ids, distances) {
         Ok(_) => {
             *found = most.min(store.size());
             OK
         }
         Err(_) => NO_MEMORY,
-    }
+    };
+    *index = Index::of(store);
+    status
 }
 
 /// Whether two lists have room for `most` answers to each of so many questions, and for no more.

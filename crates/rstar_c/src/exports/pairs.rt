@@ -66,6 +66,7 @@ pub extern "C" fn rstar_index_pairs_between(
     ensures lengths { (result ≡ BAD_LENGTH) ↔ (length first.old ≢ length second.old) }
     ensures refused { result ≢ OK → result ≢ BAD_LENGTH → result ≡ NO_MEMORY }
     ensures empty { index.old.held.value ≡ [] → result ≢ NO_MEMORY }
+    ensures other_empty { other.old.held.value ≡ [] → result ≢ NO_MEMORY }
     ensures unwritten { result ≢ OK → (first.new ≡ first.old) × (second.new ≡ second.old) × (found.new ≡ found.old) }
 {
     if first.len() != second.len() {
@@ -94,35 +95,19 @@ fn put_with(
         first.old first.new second.old second.new found.new }
     ensures unwritten { result ≢ OK → (first.new ≡ first.old) × (second.new ≡ second.old) × (found.new ≡ found.old) }
     ensures refused { result ≢ OK → result ≡ NO_MEMORY }
+    ensures empty { other.old.held.value ≡ [] → result ≡ OK }
 {
-    match taken(alloc, other) {
-        Some(held) => {
-            let status = put_held(store, &held, first, second, found);
-            *other = Index::of(held);
-            status
-        }
-        None => put_held(store, &Store::new(alloc), first, second, found),
-    }
-}
-
-/// The same of two stores.
-fn put_held(
-    store: &Store,
-    other: &Store,
-    first: &mut [u64],
-    second: &mut [u64],
-    found: &mut usize,
-) -> i32
-    ensures given { result ≡ OK → ArePairsGiven number (join boxes_intersect box_of box_of store.now other.now)
-        first.old first.new second.old second.new found.new }
-    ensures unwritten { result ≢ OK → (first.new ≡ first.old) × (second.new ≡ second.old) × (found.new ≡ found.old) }
-    ensures refused { result ≢ OK → result ≡ NO_MEMORY }
-{
-    match store.put_pairs_with(other, first, second) {
+    let Some(held) = taken(alloc, other) else {
+        *found = 0;
+        return OK;
+    };
+    let status = match store.put_pairs_with(&held, first, second) {
         Ok(count) => {
             *found = count;
             OK
         }
         Err(_) => NO_MEMORY,
-    }
+    };
+    *other = Index::of(held);
+    status
 }
