@@ -1,8 +1,8 @@
 //! Tests of scalars and points: each scalar type at its ends, and each point type.
 
-use crate::mint::{Point2, Point3};
-use crate::point::{Point, RTreeNum};
 use num_traits::Zero;
+use rstar_base::mint::{Point2, Point3};
+use rstar_base::point::{Point, RTreeNum};
 
 /// Whether sums and differences of the ends of a scalar type are clamped.
 fn sums_at_ends<S: RTreeNum>(low: S, high: S, minus_one: S) -> bool {

@@ -3,14 +3,16 @@
 ghost use Rattle.std.specs.Prelude.{◌≤◌};
 ghost use Rattle.rstar_base.specs.Elements.{carried_objects};
 
-use crate::aabb::AABB;
-use crate::envelope::Envelope;
-use crate::object::{
+use num_traits::One;
+use rstar_base::aabb::AABB;
+use rstar_base::envelope::Envelope;
+use rstar_base::object::{
     Distance, PointDistance, PointOf, RTreeObject, partition_envelopes, sort_envelopes,
 };
-use crate::point::{Point, RTreeNum};
-use crate::primitives::{CachedEnvelope, GeomWithData, Line, ObjectRef, PointWithData, Rectangle};
-use num_traits::One;
+use rstar_base::point::{Point, RTreeNum};
+use rstar_base::primitives::{
+    CachedEnvelope, GeomWithData, Line, ObjectRef, PointWithData, Rectangle,
+};
 use std::alloc::Global;
 use std::cell::Cell;
 use std::rc::Rc;

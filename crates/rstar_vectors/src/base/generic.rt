@@ -3,16 +3,16 @@
 ghost use Rattle.std.specs.Prelude.{◌≡◌, ◌<◌, ◌↔◌, ◌==◌, ℕ, IsTrue, if◌then◌else◌};
 ghost use Rattle.rstar_base.specs.Points.{table};
 
-use crate::aabb::AABB;
-use crate::algorithm::selection_functions::{
+use rstar_base::aabb::AABB;
+use rstar_base::algorithm::selection_functions::{
     SelectAtPointFunction, SelectEqualsFunction, SelectInEnvelopeFuncIntersecting,
     SelectInEnvelopeFunction, SelectWithinDistanceFunction, SelectionFunction,
 };
-use crate::envelope::Envelope;
-use crate::mint::Point2;
-use crate::object::{Distance, EqualEnvelopes, PointDistance, PointOf, RTreeObject};
-use crate::point::{Point, known};
-use crate::primitives::{GeomWithData, Line, Rectangle};
+use rstar_base::envelope::Envelope;
+use rstar_base::mint::Point2;
+use rstar_base::object::{Distance, EqualEnvelopes, PointDistance, PointOf, RTreeObject};
+use rstar_base::point::{Point, known};
+use rstar_base::primitives::{GeomWithData, Line, Rectangle};
 
 /// An element with a number.
 type Numbered<R> = GeomWithData<R, u64>;

@@ -2,12 +2,13 @@
 
 ghost use Rattle.std.specs.Prelude.{◌<◌};
 
-use crate::clusters::{ClusterGroupIterator, calculate_number_of_clusters_on_axis};
-use crate::envelope::Envelope;
-use crate::object::{Distance, RTreeObject, partition_envelopes};
-use crate::params::DefaultParams;
-use crate::point::least;
+use crate::refusals::is_marked;
 use num_traits::Zero;
+use rstar_base::clusters::{ClusterGroupIterator, calculate_number_of_clusters_on_axis};
+use rstar_base::envelope::Envelope;
+use rstar_base::object::{Distance, RTreeObject, partition_envelopes};
+use rstar_base::params::DefaultParams;
+use rstar_base::point::least;
 use std::alloc::{AllocError, Global};
 
 /// Whether there is a slab of this length, with this least key on an axis, or 0 where that is less. Elements
@@ -94,17 +95,6 @@ const CUTS: [(usize, usize, usize, &'static [(usize, i32)]); 5] = [
 fn slabs_have_their_sizes_and_come_from_the_greatest_on(rt: HostRuntime) {
     for &(count, clusters, axis, wanted) in &CUTS {
         assert!(rt; cuts(rt.alloc(), count, clusters, axis, wanted));
-    }
-}
-
-/// How many bytes a mark asks for. `scripts/refuse_memory.sh` refuses each allocation after one such, up to the next, one a run.
-const MARK: usize = 10007;
-
-/// Asks for a list that nothing but a mark asks for, and whether it was had.
-pub(super) fn is_marked(alloc: Global) -> bool {
-    match &Vec::<u8>::with_capacity(alloc, MARK) {
-        Ok(list) => MARK <= list.capacity(),
-        Err(_) => false,
     }
 }
 

@@ -3,8 +3,8 @@
 ghost use Rattle.std.specs.Ordering.{int_cmp};
 ghost use Rattle.rstar_base.specs.SmallHeaps.{IsOrdered};
 
-use super::slabs::is_marked;
-use crate::heap::SmallHeap;
+use crate::refusals::is_marked;
+use rstar_base::heap::SmallHeap;
 use std::alloc::Global;
 
 /// A step of a test.

@@ -1,11 +1,11 @@
 //! Tests of boxes: the answers on given corners.
 
-use crate::aabb::{AABB, upright};
-use crate::envelope::{Counted, Envelope};
-use crate::gaps::EnvelopeDistance;
-use crate::object::PointDistance;
-use crate::point::{Point, RTreeNum};
 use num_traits::Zero;
+use rstar_base::aabb::{AABB, upright};
+use rstar_base::envelope::{Counted, Envelope};
+use rstar_base::gaps::EnvelopeDistance;
+use rstar_base::object::PointDistance;
+use rstar_base::point::{Point, RTreeNum};
 use std::alloc::{AllocError, Global};
 use std::fmt::Debug;
 use std::hash::{DefaultHasher, Hash, Hasher};
