@@ -13,5 +13,4 @@ pub mod Searches
 pub mod Fits
 pub mod Pruned
 pub mod Few
-pub mod Ties
 pub mod PairWalks

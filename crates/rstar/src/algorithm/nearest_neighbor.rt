@@ -194,8 +194,8 @@ pub fn nearest_neighbor_with_distance_2<'a, T: PointDistance>(
 /// All elements below a root at the least squared distance, with that distance. There is at least one;
 /// `None` comes exactly where there is no element.
 ///
-/// It takes neighbours until one is farther than the first. It may be refused the memory of the list or of
-/// the queue.
+/// It finds the least distance as `nearest_neighbor` does, and then visits the parents within it. It may be
+/// refused the memory of the list or of the queue.
 pub fn nearest_neighbors_with_distance_2<'a, T: PointDistance>(
     root: &'a ParentNode<T>,
     point: PointOf<T>,

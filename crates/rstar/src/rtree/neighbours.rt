@@ -154,8 +154,8 @@ impl<T: PointDistance, Params: RTreeParams> RTree<T, Params> {
 
     /// All elements at the least distance to a point, in some order.
     ///
-    /// It takes neighbours until one is farther than the first. It may be refused the memory of the list or
-    /// of the queue.
+    /// It finds the least distance as `nearest_neighbor` does, and then visits the parents within it. It may
+    /// be refused the memory of the list or of the queue.
     #[tactic(auto, unfolding(crate::specs::Trees::IsWholeTree))]
     pub fn nearest_neighbors(&self, point: &PointOf<T>) -> Result<Vec<&T>, AllocError>
         requires { IsWholeTree T.Envelope.boxes T.object Params.MAX_SIZE self.now }
@@ -172,8 +172,8 @@ impl<T: PointDistance, Params: RTreeParams> RTree<T, Params> {
     /// All elements at the least squared distance to a point, with that distance. There is at least one;
     /// `None` comes exactly where the tree is empty.
     ///
-    /// It takes neighbours until one is farther than the first. It may be refused the memory of the list or
-    /// of the queue.
+    /// It finds the least distance as `nearest_neighbor` does, and then visits the parents within it. It may
+    /// be refused the memory of the list or of the queue.
     #[tactic(auto, unfolding(crate::specs::Trees::IsWholeTree))]
     pub fn nearest_neighbors_with_distance_2(
         &self,
