@@ -1,5 +1,5 @@
 -- All elements of least distance: those within that distance.
-use Rattle.std.proofs.Common.{◌≡◌, ◌≢◌, ℕ, ℤ, pos, int_le, ◌<◌, ◌≤◌, ◌==◌, Bool, true, false, List, [], ◌∷◌, ◌++◌, filter, if◌then◌else◌, map, refl, ap, sym, ◌∙◌, subst, arith, append_assoc, append-nil, zero, suc}
+use Rattle.std.proofs.Common.{◌≡◌, ◌≢◌, ℕ, ℤ, pos, int_le, ◌<◌, ◌≤◌, ◌==◌, Bool, true, false, List, [], ◌∷◌, ◌++◌, filter, if◌then◌else◌, map, refl, ap, sym, ◌∙◌, subst, arith, append_assoc, append-nil}
 use Rattle.std.specs.List.{AllByRecursion}
 use Rattle.std.specs.List.Sorted.{IsPermutation}
 use Rattle.std.proofs.lemmas.List.Sorted.{IsPermutation-refl, IsPermutation-trans, IsPermutation-cons, IsPermutation-middle}
@@ -17,7 +17,7 @@ use Rattle.rstar_base.specs.Elements.{Objects, Distances}
 use Rattle.rstar.specs.inside.Searches.{NodeSearch, waiting_at, waiting_of, held_by, distance_of, AreWholeNodes}
 use Rattle.rstar.specs.inside.Traversals.{steps}
 use Rattle.rstar.proofs.searching.Nearness.{IsMeasured, IsPart, above-node, part-Parent, parts}
-use Rattle.rstar.proofs.trees.ByChildren.{elements-Leaf, elements-Parent, node_distance-Leaf, steps-Leaf, steps-Parent}
+use Rattle.rstar.proofs.trees.ByChildren.{elements-Leaf, elements-Parent, node_distance-Leaf, steps-Parent}
 
 -- a filter of a reordered list
 pub filter-along : {X : Type 0} (p : X → Bool) (xs ys : List X) → IsPermutation xs ys → IsPermutation (filter p xs) (filter p ys)
@@ -86,6 +86,7 @@ nearest-within {T} distance all found t limit near at is =
       };
       some = some;
     }
+
 -- ---- nodes, of whose elements those within a limit are taken
 
 module _ {T E : Type 0} {IsPoint : List ℤ → Type 0} {v : Boxes E} {o : Objects T E} {d : Distances T} {p : List ℤ} (law : IsMeasured IsPoint v o d p) (limit : ℤ) where

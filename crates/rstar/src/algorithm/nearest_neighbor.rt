@@ -9,15 +9,14 @@ ghost use Rattle.rstar.specs.Neighbors.{with_distances, search_of, neighbors_lef
 mod by_order;
 mod few;
 mod firsts;
-mod pruned;
 mod search;
 mod ties;
 mod waiting;
 
 use crate::node::{ParentNode, RTreeNode};
 pub use by_order::{NearestNeighborByOrderIterator, NeighborsByOrder};
+pub(crate) use few::one_nearest;
 pub(crate) use firsts::first_nearest;
-pub(crate) use pruned::one_nearest;
 use rstar_base::envelope::Envelope;
 pub use rstar_base::heap::SmallHeap;
 use rstar_base::object::{Distance, PointDistance, PointOf, RTreeObject};

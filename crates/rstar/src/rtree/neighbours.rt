@@ -192,9 +192,10 @@ impl<T: PointDistance, Params: RTreeParams> RTree<T, Params> {
     /// The `most` nearest elements to a point with their squared distances, the nearest first. Where there
     /// are fewer it gives all.
     ///
-    /// Its list takes memory once, for at most as many elements as the tree has. Up to 32 elements are found
-    /// in a second list of that room, which prunes the traversal; more cost what
-    /// `nearest_neighbor_iter_with_distance_2` costs. It may be refused these lists or the queue.
+    /// Its list takes memory once, for at most as many elements as the tree has. One element costs what
+    /// `nearest_neighbor` costs. Up to 32 are found in a second list of that room, which prunes the
+    /// traversal; more cost what `nearest_neighbor_iter_with_distance_2` costs. It may be refused these lists
+    /// or the queue.
     ///
     /// ```rust
     /// pub fn nearest(&self, place: &[i64; 2], most: usize) -> Result<Vec<(&Vehicle, i64)>, AllocError>

@@ -5,7 +5,7 @@ ghost use Rattle.rstar.specs.Lists.{AreSomeNearest};
 ghost use Rattle.rstar.specs.Nodes.{all_elements, elements_of, IsWhole};
 ghost use Rattle.rstar.specs.inside.Searches.{AreWholeNodes};
 
-use crate::algorithm::nearest_neighbor::pruned::one_nearest;
+use crate::algorithm::nearest_neighbor::few::one_nearest;
 use crate::algorithm::nearest_neighbor::search::distance_to;
 use crate::bounds::{Covered, Measured, SquaredDistance};
 use crate::node::{ParentNode, RTreeNode};

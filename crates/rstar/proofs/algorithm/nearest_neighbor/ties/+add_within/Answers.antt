@@ -1,11 +1,10 @@
-use Rattle.std.proofs.Common.{◌≡◌, ◌<◌, ◌++◌, ◌∷◌, [], ap, sym, ◌∙◌, subst, arith, map, append-nil, int_le, pos, filter, rules}
+use Rattle.std.proofs.Common.{◌<◌, ◌++◌, ap, sym, ◌∙◌, subst, arith, map, append-nil, int_le, pos, filter, rules}
 use Rattle.std.proofs.lemmas.List.{map-append}
 use Rattle.rstar.specs.Nodes.{total, all_elements}
 use Rattle.rstar.specs.inside.Searches.{AreWholeNodes}
 use Rattle.rstar.specs.inside.Traversals.{steps}
 use Rattle.rstar.proofs.searching.Nearness.{IsMeasured}
 use Rattle.rstar.proofs.searching.Ties as ties
-use Rattle.rstar.proofs.trees.ByChildren.{elements-Parent}
 use Rattle.rstar.proofs.algorithm.nearest_neighbor.ties.+add_within.Given.{Over}
 use Rattle.rstar.proofs.algorithm.nearest_neighbor.ties.+add_within.Goals as goal
 

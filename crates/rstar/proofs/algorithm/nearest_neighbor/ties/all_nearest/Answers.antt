@@ -1,4 +1,4 @@
-use Rattle.std.proofs.Common.{◌≡◌, ◌++◌, ap, sym, ◌∙◌, subst, map, filter, pos, int_le}
+use Rattle.std.proofs.Common.{◌++◌, ap, sym, ◌∙◌, subst, map, filter, pos, int_le}
 use Rattle.rstar_base.proofs.Lists.{all_map}
 use Rattle.rstar.specs.Nodes.{all_elements, elements_of, children_of}
 use Rattle.rstar.specs.inside.Searches.{AreWholeNodes}
@@ -13,7 +13,7 @@ pub returns-clause-nearest : goal.returns-clause-nearest
 returns-clause-nearest g c =
     let p = g.T.Measured.at c.args.point.now in
     let limit = g.T.Distance.SquaredDistance.number c.in-Some.nearest.1 in
-    let near = (rw c.in-Some.is at c.in_ok-nearest.ensures.nearest) c.requires in
+    let near = rw c.in-Some.is at c.in_ok-nearest.ensures.nearest in
     let at = rw c.in-Some.is at c.in_ok-nearest.ensures.distance in
     let all = c.in_ok-add_within.ensures
     ∙ ap (λ l. map (λ t. t.now) l ++ filter (λ t. int_le (pos (g.T.Measured.distances.distance_2 t p)) limit) (all_elements c.deref.result.now)) c.new-all.ensures.items
