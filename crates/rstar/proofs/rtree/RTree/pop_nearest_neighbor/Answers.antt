@@ -9,7 +9,7 @@ use Rattle.rstar.proofs.rtree.RTree.pop_nearest_neighbor.Goals as goal
 
 near : (g : Over) (c : goal.After-remove_with_selection_function g) → IsNearest (λ t. g.T.PointDistance.distances.distance_2 t (table g.T.Envelope.Point.Point.DIMENSIONS (g.T.Envelope.Point.Point.coord c.args.point))) (elements_in c.args.self.now) c.in-Some.found.0.now
 unfolding IsWholeTree
-near g c = (rw c.in-Some.is at c.in_ok-found.ensures.nearest) c.requires.root_whole
+near g c = rw c.in-Some.is at c.in_ok-found.ensures.nearest
 
 at_least : (g : Over) (c : goal.After-remove_with_selection_function g)
     → g.T.Envelope.Point.Scalar.Number.value c.in-Some.found.1 ≡ pos (g.T.PointDistance.distances.distance_2 c.in-Some.found.0.now (table g.T.Envelope.Point.Point.DIMENSIONS (g.T.Envelope.Point.Point.coord c.args.point)))
