@@ -1,11 +1,9 @@
-use Rattle.std.proofs.Common.{◌≡◌, ◌∙◌, sym, ap, refl, subst, arith, ◌≢◌, []}
-use Rattle.std.specs.Prelude.{⊤, ◌≤◌}
+use Rattle.std.proofs.Common.{◌≡◌, ◌∙◌, sym, ap, refl, subst, arith, []}
+use Rattle.std.specs.Prelude.{◌≤◌}
 use Rattle.rstar.specs.Nodes.{children_of, envelope_of, reach_of, reach_below, given_of, IsInner, IsElement}
 use Rattle.rstar.specs.Selections.{IsWalking, to_come}
-use Rattle.rstar.specs.inside.Traversals.{IsLevel}
-use Rattle.rstar_base.proofs.Lists.{all_map}
 use Rattle.rstar.proofs.trees.Heights.{levels_are}
-use Rattle.rstar.proofs.selecting.Traversals.{tree-weaker, way-none, way-start, given-start, given-empty, given-refused, reach-asked, reach-refused, no-items, some-items}
+use Rattle.rstar.proofs.selecting.Traversals.{way-none, way-start, given-start, given-empty, given-refused, reach-asked, reach-refused, no-items, some-items, all-level}
 use Rattle.rstar.proofs.iterators.selection.SelectionIterator.new.Goals as goal
 use Rattle.rstar.proofs.iterators.selection.SelectionIterator.new.Goals.{then-is_empty-via-then-is_empty, then-is_empty-via-else-is_empty+then-not-should_unpack_parent}
 
@@ -31,9 +29,8 @@ returns-clause-walking g c =
     let root = c.args.root.now in
     let h = c.requires.whole.height in
     let some = some-items (children_of root) _ _ c.is_empty.ensures c.if-is_empty.false root.children.ok.0 in
-    let inner : (p : _) → IsInner v o p → children_of p ≢ [] = λ p q. q.1 in
-    let levels = all_map _ (IsLevel h) (tree-weaker (IsInner v o) (λ p. children_of p ≢ []) (IsElement v o) (λ t. ⊤) inner (λ t q. tt) h) (children_of root) c.requires.whole.below in
-    let deep = c.requires.levels ∙ levels_are (IsInner v o) (IsElement v o) inner h (children_of root) some c.requires.whole.below in
+    let levels = all-level v o h (children_of root) c.requires.whole.below in
+    let deep = c.requires.levels ∙ levels_are (IsInner v o) (IsElement v o) (λ p q. q.1) h (children_of root) some c.requires.whole.below in
     way-start accepts root c.in_ok-path.path.items c.as_slice.result _ h c.in_ok-path.ensures.empty c.as_slice.ensures.value some
     (sym c.should_unpack_parent.ensures ∙ c.if-not-should_unpack_parent.false) levels (subst (λ n. n ≤ c.in_ok-path.path.capacity) deep c.in_ok-path.ensures.room)
 
