@@ -1,5 +1,5 @@
 -- What a removal leaves of a tree.
-use Rattle.std.proofs.Common.{◌≡◌, ◌≢◌, ℕ, ℤ, ◌+◌, ◌<◌, ◌^◌, Bool, true, false, List, [], ◌∷◌, ◌++◌, refl, sym, ◌∙◌, ap, subst, arith, length, length-append, Option, Some, None, IfSome, IfNone, is_some, IsPermutation, filter}
+use Rattle.std.proofs.Common.{◌≡◌, ◌≢◌, ℕ, ℤ, ◌+◌, ◌<◌, ◌^◌, Bool, true, false, List, [], ◌∷◌, ◌++◌, refl, sym, ◌∙◌, ap, subst, arith, length, length-append, Option, Some, None, IfSome, IfNone, is_some, IsPermutation, filter, ◌⊎◌, inl, inr}
 use Rattle.std.specs.Borrow.{Bor}
 use Rattle.std.specs.List.{list_any}
 use Rattle.std.proofs.lemmas.List.Sorted.{IsPermutation-middle}
@@ -10,7 +10,7 @@ use Rattle.rstar.specs.declared.algorithm.removal.Rest.{Rest}
 use Rattle.rstar.specs.declared.node.ParentNode.{ParentNode}
 use Rattle.rstar.specs.declared.node.RTreeNode.{RTreeNode}
 use Rattle.rstar.specs.declared.rtree.RTree.{RTree}
-use Rattle.rstar.specs.Nodes.{children_of, IsElement}
+use Rattle.rstar.specs.Nodes.{children_of, IsElement, envelope_of, all_elements}
 use Rattle.rstar.specs.inside.ParentBounds.{IsKept, IsKeptInner, AreKept}
 use Rattle.rstar.specs.Trees.{root_of, elements_in, IsWholeTree}
 use Rattle.rstar.specs.Heights.{levels_below}
@@ -137,9 +137,12 @@ module _ {T E : Type 0} {IsPoint : List ℤ → Type 0} {v : Boxes E} {o : Objec
     missed = λ lawful past. none lawful;
   }
 
-  pub root_refused : (tree : RTree T D E P S X) → IsWholeTree v o max tree → accepts tree.root.envelope ≡ false → IsLawful v o accepts selects → NoneSelected selects (elements_in tree)
+  -- nothing is selected below a root that is not entered
+  pub root_refused : (tree : RTree T D E P S X) → IsWholeTree v o max tree → (children_of (root_of tree) ≡ []) ⊎ (accepts (envelope_of (root_of tree)) ≡ false)
+      → IsLawful v o accepts selects → NoneSelected selects (elements_in tree)
   unfolding IsWholeTree
-  root_refused tree whole no_entry lawful = refused laws ok accepts selects lawful whole.root_whole.height tree.root whole.root_whole.tight whole.root_whole.below no_entry
+  root_refused tree whole (inl none) lawful = subst (λ (ns : List (RTreeNode T E)). NoneSelected selects (all_elements ns)) (sym none) tt
+  root_refused tree whole (inr no_entry) lawful = refused laws ok accepts selects lawful whole.root_whole.height tree.root whole.root_whole.tight whole.root_whole.below no_entry
 
 -- from the first element on, nothing lies left of the place
 pub none_from_start : {A : Type 0} (Lawful Nothing : Type 0) (r : Option A) → IfNone r (Lawful → Unit {0} → Nothing) → IfNone r (Lawful → Nothing)

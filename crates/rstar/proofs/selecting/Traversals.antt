@@ -7,7 +7,7 @@ use Rattle.std.specs.Borrow.{Bor}
 use Rattle.std.specs.Prelude.{⊤}
 use Rattle.rstar.specs.declared.node.RTreeNode.{RTreeNode, Leaf, Parent}
 use Rattle.rstar.specs.declared.node.ParentNode.{ParentNode}
-use Rattle.rstar.specs.Nodes.{total, reach, given, all_given, given_of, all_reach, reach_below, reach_of, children_of, envelope_of, IsTree, IsInner, IsElement, AreWhole}
+use Rattle.rstar.specs.Nodes.{total, reach, given, all_given, all_reach, reach_below, reach_of, children_of, envelope_of, IsTree, IsInner, IsElement, AreWhole}
 use Rattle.rstar_base.specs.Counts.{usize_max}
 use Rattle.rstar.specs.inside.Traversals.{given_from_slices, reach_from_slices, IsLevel, AreSlices, IsUnderWay, steps, steps_of}
 use Rattle.rstar_base.proofs.Lists.{all_map}
@@ -296,23 +296,11 @@ module _ {T E : Type 0} where
   pub all-level : (v : Boxes E) (o : Objects T E) (h : ℕ) (ns : List (RTreeNode T E)) → AreWhole v o h ns → AllByRecursion (IsLevel h) ns
   all-level v o h = all_map _ (IsLevel h) (tree-weaker (IsInner v o) (λ p. children_of p ≢ []) (IsElement v o) (λ t. ⊤) (λ p q. q.1) (λ t q. tt) h)
 
-  -- nothing is given where nothing is left, from a root without children, and from one that is refused
+  -- nothing is given where nothing is left
   pub given-start : (accepts : E → Bool) (selects : T → Bool) (path : Slices T E) (nodes : Bor (List (RTreeNode T E)))
       → path ≡ [] → nodes.now ≡ [] → given_from_slices accepts selects (path ++ nodes ∷ []) ≡ []
   given-start accepts selects path nodes empty none =
       ap (λ (l : Slices T E). given_from_slices accepts selects (l ++ nodes ∷ [])) empty ∙ ap (all_given accepts selects) none
-
-  pub given-refused : (accepts : E → Bool) (selects : T → Bool) (root : ParentNode T E)
-      → accepts (envelope_of root) ≡ false → given_of accepts selects root ≡ []
-  given-refused accepts selects root refused = ap (λ (b : Bool). if b then all_given accepts selects (children_of root) else []) refused
-
-  pub given-empty : (accepts : E → Bool) (selects : T → Bool) (root : ParentNode T E) → children_of root ≡ [] → given_of accepts selects root ≡ []
-  given-empty accepts selects root none =
-      ap (λ l. if accepts (envelope_of root) then all_given accepts selects l else []) none ∙ either (accepts (envelope_of root))
-    where
-      either : (b : Bool) → (let nothing : List T = [] in if b then nothing else nothing) ≡ []
-      either true = refl
-      either false = refl
 
   pub way-none : (accepts : E → Bool) (root : ParentNode T E) (path : Slices T E) (nodes : Bor (List (RTreeNode T E))) (room : ℕ)
       → path ≡ [] → nodes.now ≡ [] → reach_of accepts root ≡ 0 → IsUnderWay accepts root (path ++ nodes ∷ []) room 0
@@ -333,9 +321,11 @@ module _ {T E : Type 0} where
   reach-asked accepts e [] some h = absurd (some refl)
   reach-asked accepts e (n ∷ ns) some h = ap (λ (b : Bool). if b then 1 + all_reach accepts (n ∷ ns) else 0) h
 
-  pub reach-refused : (accepts : E → Bool) (e : E) (ns : List (RTreeNode T E)) → accepts e ≡ false → reach_below accepts e ns ≡ 0
-  reach-refused accepts e [] h = refl
-  reach-refused accepts e (n ∷ ns) h = ap (λ (b : Bool). if b then 1 + all_reach accepts (n ∷ ns) else 0) h
+  -- a root without children, or one that is refused, is not entered
+  pub reach-none : (accepts : E → Bool) (e : E) (ns : List (RTreeNode T E)) → (ns ≡ []) ⊎ (accepts e ≡ false) → reach_below accepts e ns ≡ 0
+  reach-none accepts e [] none = refl
+  reach-none accepts e (n ∷ ns) (inl none) = cc
+  reach-none accepts e (n ∷ ns) (inr h) = ap (λ (b : Bool). if b then 1 + all_reach accepts (n ∷ ns) else 0) h
 
   pub way-start : (accepts : E → Bool) (root : ParentNode T E) (path : Slices T E) (nodes : Bor (List (RTreeNode T E))) (room h : ℕ)
       → path ≡ [] → nodes.now ≡ children_of root → children_of root ≢ [] → accepts (envelope_of root) ≡ true
