@@ -1,6 +1,6 @@
 -- The last items of a list, and those in front of them.
 use Rattle.std.proofs.Common.{zero, suc, ◌≡◌, ◌≢◌, ◌<◌, ◌≤◌, ◌+◌, ◌-◌, ℕ, ℤ, List, [], ◌∷◌, ◌++◌, length, take, drop, All, arith, append-nil, refl, sym, ap, subst, ◌∙◌, IsPermutation}
-use Rattle.std.proofs.lemmas.List.{take-append-drop, length-drop, length-append, length-take-le, take_all, drop_all}
+use Rattle.std.proofs.lemmas.List.{take-append-drop, length-drop, length-append, length-take-le, drop_all}
 use Rattle.std.proofs.lemmas.List.Sorted.{IsPermutation-refl, IsPermutation-append_right, length_permutation}
 use Rattle.rstar_base.specs.Orders.{IsSplitAt}
 use Rattle.rstar_base.proofs.Slabs.{slab_from_split, slab_of_all}
@@ -42,9 +42,6 @@ module _ {A : Type 0} where
   front_front s r xs h k =
       let long : length (front_of s xs) - (r - s) ≡ length xs - r = omega (arith, length_front s xs) in
       ap (λ n. take n (front_of s xs)) long ∙ take_take (length xs - r) (length xs - s) xs (omega arith)
-
-  pub front_none : (xs : List A) → front_of 0 xs ≡ xs
-  front_none xs = take_all (length xs - 0) xs (omega arith)
 
   pub last_none : (xs : List A) → last_of 0 xs ≡ []
   last_none xs = drop_all (length xs - 0) xs (omega arith)

@@ -4,16 +4,15 @@ use Rattle.std.proofs.lemmas.Bool.Decides.{nat_tests}
 use Rattle.std.specs.List.{AllByRecursion}
 pub use Rattle.std.proofs.lemmas.List.{nil_from_length as nil-length}
 use Rattle.std.specs.Borrow.{Bor}
-use Rattle.std.specs.Prelude.{⊤}
 use Rattle.rstar.specs.declared.node.RTreeNode.{RTreeNode, Leaf, Parent}
 use Rattle.rstar.specs.declared.node.ParentNode.{ParentNode}
-use Rattle.rstar.specs.Nodes.{total, reach, given, all_given, all_reach, reach_below, reach_of, children_of, envelope_of, IsTree, IsInner, IsElement, AreWhole}
+use Rattle.rstar.specs.Nodes.{total, reach, given, all_given, all_reach, reach_below, reach_of, children_of, envelope_of, AreWhole}
 use Rattle.rstar_base.specs.Counts.{usize_max}
 use Rattle.rstar.specs.inside.Traversals.{given_from_slices, reach_from_slices, IsLevel, AreSlices, IsUnderWay, steps, steps_of}
-use Rattle.rstar_base.proofs.Lists.{all_map}
-use Rattle.rstar.proofs.trees.ByChildren.{given-Leaf, reach-Leaf, steps-Leaf, given-Parent, reach-Parent, steps-Parent, parent_of, no_leaf, is_leaf, is_parent, IsLeafOf-Leaf, IsParentOf-Parent}
+use Rattle.rstar.proofs.trees.ByChildren.{given-Leaf, reach-Leaf, steps-Leaf, given-Parent, reach-Parent, steps-Parent, parent_of, no_leaf}
 use Rattle.rstar_base.specs.Envelopes.{Boxes}
 use Rattle.rstar_base.specs.Elements.{Objects}
+use Rattle.rstar.proofs.inserting.Insertion.{trees_map}
 
 abbrev pub Slices : (T E : Type 0) → Type 0
 Slices T E = List (Bor (List (RTreeNode T E)))
@@ -283,18 +282,9 @@ module _ {T E : Type 0} where
   -- ---- where a walk starts
 
   -- weaker facts of the same tree
-  tree-weaker : (Q Q' : ParentNode T E → Type 0) (R R' : T → Type 0) → ((p : ParentNode T E) → Q p → Q' p) → ((t : T) → R t → R' t)
-      → (h : ℕ) (n : RTreeNode T E) → IsTree Q R h n → IsTree Q' R' h n
-  tree-weaker Q Q' R R' f k zero n w =
-      let l = is_leaf R n w in subst (IsTree Q' R' zero) (sym l.1) (IsLeafOf-Leaf T E R' l.0 (k l.0 l.2))
-  tree-weaker Q Q' R R' f k (suc h) n w =
-      let p = is_parent _ n w in
-      subst (IsTree Q' R' (suc h)) (sym p.1)
-      (IsParentOf-Parent _ p.0 (f p.0 p.2.0, all_map (IsTree Q R h) (IsTree Q' R' h) (tree-weaker Q Q' R R' f k h) (children_of p.0) p.2.1))
-
   -- whole nodes lie on one level
   pub all-level : (v : Boxes E) (o : Objects T E) (h : ℕ) (ns : List (RTreeNode T E)) → AreWhole v o h ns → AllByRecursion (IsLevel h) ns
-  all-level v o h = all_map _ (IsLevel h) (tree-weaker (IsInner v o) (λ p. children_of p ≢ []) (IsElement v o) (λ t. ⊤) (λ p q. q.1) (λ t q. tt) h)
+  all-level v o = trees_map (λ p q. q.1) (λ t q. tt)
 
   -- nothing is given where nothing is left
   pub given-start : (accepts : E → Bool) (selects : T → Bool) (path : Slices T E) (nodes : Bor (List (RTreeNode T E)))
