@@ -2,7 +2,7 @@
 use Rattle.std.proofs.Common.{◌≡◌, ℤ, List, [], ◌∷◌, ◌++◌, map, flat_map, filter, refl, ap, ◌∙◌, sym, subst, Bool, true, false, if◌then◌else◌, append_assoc}
 use Rattle.std.specs.List.{AllByRecursion}
 use Rattle.std.specs.List.Sorted.{IsPermutation}
-use Rattle.std.proofs.lemmas.Bool.{true≢false}
+use Rattle.std.proofs.lemmas.Bool.{true≢false, false_from_ne_true}
 use Rattle.std.proofs.lemmas.List.Sorted.{IsPermutation-refl, IsPermutation-append, IsPermutation-append_comm, IsPermutation-trans}
 use Rattle.std.proofs.lemmas.List.Elements.{filter-append}
 use Rattle.rstar_base.specs.Envelopes.{Boxes, EnvelopeLaws}
@@ -16,10 +16,6 @@ use Rattle.rstar.specs.Lists.{product}
 use Rattle.rstar.specs.Meets.{pairs_at, all_pairs}
 use Rattle.rstar.specs.Joins.{SeenLaws, meets_by, join}
 use Rattle.rstar.proofs.joining.PairsByChildren.{the_pair, product-rows}
-
-not-true : (b : Bool) → (b ≡ true → ⊥) → b ≡ false
-not-true true h = absurd (h refl)
-not-true false h = refl
 
 module _ {E F : Type 0} {IsPoint IsPoint' : List ℤ → Type 0} {v : Boxes E} {w : Boxes F} {seen : F → E}
     (laws : EnvelopeLaws IsPoint v) (laws' : EnvelopeLaws IsPoint' w) (same : SeenLaws w v seen) where
@@ -43,16 +39,16 @@ module _ {E F : Type 0} {IsPoint IsPoint' : List ℤ → Type 0} {v : Boxes E} {
   hull-meets-left box [] f vs wf apart = tt
   hull-meets-left box (x ∷ xs) f vs wf apart =
       let rest = hull-value laws box xs vs.1 in (
-        not-true (meets (box x) f) (λ h. true≢false (sym (meets-left (box x) (hull v box xs) f vs.0 rest wf h) ∙ apart)),
-        hull-meets-left box xs f vs.1 wf (not-true (meets (hull v box xs) f) (λ h. true≢false (sym (ap (λ e. meets e f) (laws.merge_comm (box x) (hull v box xs) vs.0 rest) ∙ meets-left (hull v box xs) (box x) f rest vs.0 wf h) ∙ apart))),
+        false_from_ne_true (meets (box x) f) (λ h. true≢false (sym (meets-left (box x) (hull v box xs) f vs.0 rest wf h) ∙ apart)),
+        hull-meets-left box xs f vs.1 wf (false_from_ne_true (meets (hull v box xs) f) (λ h. true≢false (sym (ap (λ e. meets e f) (laws.merge_comm (box x) (hull v box xs) vs.0 rest) ∙ meets-left (hull v box xs) (box x) f rest vs.0 wf h) ∙ apart))),
       )
 
   pub hull-meets-right : {B : Type 0} (box : B → F) (ys : List B) (e : E) → AllByRecursion (λ y. w.IsValue (box y)) ys → v.IsValue e → meets e (hull w box ys) ≡ false → AllByRecursion (λ y. meets e (box y) ≡ false) ys
   hull-meets-right box [] e ws ve apart = tt
   hull-meets-right box (y ∷ ys) e ws ve apart =
       let rest = hull-value laws' box ys ws.1 in (
-        not-true (meets e (box y)) (λ h. true≢false (sym (meets-right e (box y) (hull w box ys) ve ws.0 rest h) ∙ apart)),
-        hull-meets-right box ys e ws.1 ve (not-true (meets e (hull w box ys)) (λ h. true≢false (sym (ap (meets e) (laws'.merge_comm (box y) (hull w box ys) ws.0 rest) ∙ meets-right e (hull w box ys) (box y) ve rest ws.0 h) ∙ apart))),
+        false_from_ne_true (meets e (box y)) (λ h. true≢false (sym (meets-right e (box y) (hull w box ys) ve ws.0 rest h) ∙ apart)),
+        hull-meets-right box ys e ws.1 ve (false_from_ne_true (meets e (hull w box ys)) (λ h. true≢false (sym (ap (meets e) (laws'.merge_comm (box y) (hull w box ys) ws.0 rest) ∙ meets-right e (hull w box ys) (box y) ve rest ws.0 h) ∙ apart))),
       )
 
   module _ {A B : Type 0} (left_box : A → E) (right_box : B → F) where

@@ -1,5 +1,5 @@
 -- From what a tree keeps to what an insertion asks, and back.
-use Rattle.std.proofs.Common.{◌≡◌, ◌≢◌, ℕ, zero, suc, ◌<◌, List, [], ◌∷◌, length, max, min, refl, ap, sym, subst, arith}
+use Rattle.std.proofs.Common.{◌≡◌, ◌≢◌, ℕ, zero, suc, ◌<◌, List, [], ◌∷◌, length, max, min, ap, sym, subst, arith}
 use Rattle.rstar_base.specs.Envelopes.{Boxes}
 use Rattle.rstar_base.specs.Elements.{Objects}
 use Rattle.rstar.specs.declared.node.RTreeNode.{RTreeNode}
@@ -11,10 +11,7 @@ use Rattle.rstar.specs.inside.ParentBounds.{HasAtMost, IsKeptInner, AreKept, IsK
 use Rattle.rstar.proofs.trees.Heights.{levels_are, at_levels}
 use Rattle.rstar.proofs.trees.ByChildren.{is_parent, parent_of, IsParentOf-Parent}
 use Rattle.rstar.proofs.inserting.Insertion.{trees_map}
-
-some_item : {A : Type 0} (xs : List A) → xs ≢ [] → 0 < length xs
-some_item [] full = absurd (full refl)
-some_item (x ∷ xs) full = omega arith
+use Rattle.rstar.proofs.lists.Items.{some_item}
 
 module _ {T E : Type 0} (v : Boxes E) (o : Objects T E) (widest : ℕ) where
   pub all_kept : (h : ℕ) → ((n : RTreeNode T E) → IsTree (IsInner v o) (IsElement v o) h n → IsTree (HasAtMost widest) IsAny h n → IsTree (IsKeptInner v o widest) (IsElement v o) h n)
