@@ -1,7 +1,7 @@
 -- One scan of a list of nodes for the next selected element.
 use Rattle.std.proofs.Common.{◌≡◌, ℕ, ℤ, zero, suc, ◌+◌, ◌<◌, ◌≤◌, Bool, true, false, List, [], ◌∷◌, ◌++◌, refl, sym, ◌∙◌, ap, subst, arith, length, get_or, set, take, drop, replicate, ◌-◌, Option, Some, None, IfNone, is_some, length-set, filter, if◌then◌else◌}
 use Rattle.std.specs.List.{AllByRecursion, remove}
-use Rattle.std.proofs.lemmas.List.{set-get_or, take-append-drop}
+use Rattle.std.proofs.lemmas.List.{set-get_or, take-append-drop, take-set}
 use Rattle.std.proofs.lemmas.List.Edits.{length-remove}
 use Rattle.rstar_base.specs.Envelopes.{Boxes, EnvelopeLaws}
 use Rattle.rstar_base.specs.Elements.{Objects, ObjectLaws}
@@ -24,7 +24,7 @@ use Rattle.rstar.proofs.trees.ByChildren.{elements-Leaf, elements-Parent, is_lea
 use Rattle.rstar.proofs.trees.Trees.{all_sound, values-of, merged_is_hull}
 use Rattle.rstar.proofs.inserting.Insertion.{whole_of_kept}
 use Rattle.rstar.proofs.selecting.Complete.{none-selected}
-use Rattle.rstar.proofs.removing.Parts.{rest_none, rest_nothing, rest_itself, rest_lower, rest_here, rest_made, rest_stays, lower_length, take_removed, take_set}
+use Rattle.rstar.proofs.removing.Parts.{rest_none, rest_nothing, rest_itself, rest_lower, rest_here, rest_made, rest_stays, lower_length, take_removed}
 use Rattle.rstar.proofs.removing.Parts.{drop_removed, drop_here, same_without, drop_set, drop_set_more, remove_set, without_middle, elements_split, elements_set, elements_removed, past_parts, past_made, past_zeros, past_nothing, all_take, all_drop, shorter_removed}
 
 -- all leaves of the node lie h levels below it, its parents are tight and within the bound
@@ -247,7 +247,7 @@ module _ {T E : Type 0} (v : Boxes E) (o : Objects T E) (accepts : E → Bool) (
       rest_set : (rest' : Option (Rest E)) (n' : RTreeNode T E) (j : ℕ) → p ≤ j → IsRest v o rest' p cur → IsRest v o rest' j (set cur i n')
       rest_set rest' n' j on kept =
           let long = length-set cur i n' in
-          rest_stays v o rest' p j i cur (set cur i n') on (omega (arith, long)) (omega (arith, long, next)) (take_set cur i n' within) kept
+          rest_stays v o rest' p j i cur (set cur i n') on (omega (arith, long)) (omega (arith, long, next)) (take-set cur i n') kept
 
       -- it is a leaf that is given
       pub gives_leaf : (t : T) → Leaf t ≡ get_or cur i (Leaf t) → selects t ≡ true
