@@ -13,27 +13,25 @@ use Rattle.rstar.proofs.visits.select_nodes_mut.Goals as goal
 
 -- ---- an empty root, or one that is refused
 
-pub returns-then-not-enters-clause-written : goal.returns-then-not-enters-clause-written
-returns-then-not-enters-clause-written g c =
+pub returns-then-not-enters : goal.returns-then-not-enters
+returns-then-not-enters g c =
     let accepts = g.F.SelectionFunction.accepts c.args.func.now in
     let selects = g.F.SelectionFunction.selects c.args.func.now in
     let root = c.args.root.now in
     record {
-      marks = marked_of accepts selects root;
-      same = same-marks accepts selects root;
-      selected = selected-marks accepts selects root;
-      complete = λ both. marked-root g.met.T.Envelope.Envelope.envelope_laws g.met.T.RTreeObject.object_law accepts selects both.1 root both.0;
-      writes = passed-writes accepts selects (goal.V-step g) c.args.visitor.now root (c.enters.ensures.refused c.if-not-enters.true);
+      written = record {
+        marks = marked_of accepts selects root;
+        same = same-marks accepts selects root;
+        selected = selected-marks accepts selects root;
+        complete = λ both. marked-root g.met.T.Envelope.Envelope.envelope_laws g.met.T.RTreeObject.object_law accepts selects both.1 root both.0;
+        writes = passed-writes accepts selects (goal.V-step g) c.args.visitor.now root (c.enters.ensures.refused c.if-not-enters.true);
+      };
+      whole = λ whole. whole;
+      changed = λ h w. record {
+        envelope = refl;
+        children = changed-refl (KeepsBox g.T.RTreeObject.object) (λ t. (refl, λ is. is)) IsAny IsAny h (children_of root) w;
+      };
     }
-
-pub returns-then-not-enters-clause-changed : goal.returns-then-not-enters-clause-changed
-returns-then-not-enters-clause-changed g c = λ h w. record {
-  envelope = refl;
-  children = changed-refl (KeepsBox g.T.RTreeObject.object) (λ t. (refl, λ is. is)) IsAny IsAny h (children_of c.args.root.now) w;
-}
-
-pub returns-then-not-enters-clause-whole : goal.returns-then-not-enters-clause-whole
-returns-then-not-enters-clause-whole g c = λ whole. whole
 
 -- ---- its children
 
