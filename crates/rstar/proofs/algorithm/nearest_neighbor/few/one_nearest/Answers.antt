@@ -4,6 +4,7 @@ use Rattle.rstar.specs.inside.Few.{found_elements, kept_in}
 use Rattle.rstar.specs.inside.Searches.{any_first}
 use Rattle.rstar.specs.Lists.{AreFirstOf, IsNotLater}
 use Rattle.rstar.specs.Nodes.{elements_of}
+use Rattle.rstar.proofs.searching.SearchTurns.{measured-by}
 use Rattle.rstar.proofs.searching.Nearness.{IsMeasured}
 use Rattle.rstar.proofs.searching.Seeking as seeking
 use Rattle.rstar.proofs.algorithm.nearest_neighbor.few.one_nearest.Given.{Over}
@@ -11,12 +12,7 @@ use Rattle.rstar.proofs.algorithm.nearest_neighbor.few.one_nearest.Goals as goal
 
 measured : (g : Over) (p : _) → g.T.Cover.Merges.is_point p
     → IsMeasured g.T.Cover.Merges.is_point g.T.Cover.Merges.boxes g.T.Covered.object g.T.Measured.distances p
-measured g p is = record {
-  laws = g.met.T.Cover.Merges.merge_laws;
-  ok = g.met.T.Covered.cover_law;
-  near = g.met.T.Measured.distance_laws;
-  point = is;
-}
+measured g p is = measured-by g.met.T.Cover.Merges.merge_laws g.met.T.Covered.cover_law g.met.T.Measured.distance_laws is
 
 pub returns-in-One-Some-clause-nearest : goal.returns-in-One-Some-clause-nearest
 returns-in-One-Some-clause-nearest g c =

@@ -3,6 +3,7 @@ use Rattle.std.proofs.lemmas.List.{map-append}
 use Rattle.rstar.specs.Nodes.{total, all_elements}
 use Rattle.rstar.specs.inside.Searches.{AreWholeNodes}
 use Rattle.rstar.specs.inside.Traversals.{steps}
+use Rattle.rstar.proofs.searching.SearchTurns.{measured-by}
 use Rattle.rstar.proofs.searching.Nearness.{IsMeasured}
 use Rattle.rstar.proofs.searching.Ties as ties
 use Rattle.rstar.proofs.algorithm.nearest_neighbor.ties.+add_within.Given.{Over}
@@ -10,12 +11,7 @@ use Rattle.rstar.proofs.algorithm.nearest_neighbor.ties.+add_within.Goals as goa
 
 measured : (g : Over) (p : _) → g.T.Cover.Merges.is_point p
     → IsMeasured g.T.Cover.Merges.is_point g.T.Cover.Merges.boxes g.T.Covered.object g.T.Measured.distances p
-measured g p is = record {
-  laws = g.met.T.Cover.Merges.merge_laws;
-  ok = g.met.T.Covered.cover_law;
-  near = g.met.T.Measured.distance_laws;
-  point = is;
-}
+measured g p is = measured-by g.met.T.Cover.Merges.merge_laws g.met.T.Covered.cover_law g.met.T.Measured.distance_laws is
 
 pub add_within-requires : goal.add_within-requires
 add_within-requires g t c κs within =
