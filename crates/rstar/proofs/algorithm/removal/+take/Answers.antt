@@ -73,21 +73,21 @@ take_among-loop-passed-preserved g t c =
       same = unchanged;
     }
 
-pub take_inside-returns-then-should_unpack_parent-clause-takes :
-    goal.take_inside-returns-then-should_unpack_parent-clause-takes
-take_inside-returns-then-should_unpack_parent-clause-takes g t c =
+pub take_inside-returns-then-may_hold-clause-takes :
+    goal.take_inside-returns-then-may_hold-clause-takes
+take_inside-returns-then-may_hold-clause-takes g t c =
     let takes = rw (c.in-Parent.parent-is, lower_lent c.args.path.now c.min-lower.result c.min-lower.ensures) at c.take_below.ensures.takes in
     let kept = rw (c.in-Parent.parent-is, lower_lent c.args.path.now c.min-lower.result c.min-lower.ensures) at c.take_below.ensures.kept in
     let same = rw c.in-Parent.parent-is at c.take_below.ensures.same in
     let len = c.take_below.auto.path in
     rw (c.in-Parent.is, outs-Parent c.in-Parent.parent, lower_left c.args.path.now c.take_below.new.path c.min-lower.result c.min-lower.ensures len) (entered g.T.Cover.Merges.boxes g.T.Covered.object (g.R.Question.accepts c.args.func.now) (g.R.Question.selects c.args.func.now) c.in-Parent.parent c.take_below.new.node (lower_numbers c.args.path.now) c.take_below.new.path c.args.rest.now c.take_below.new.rest c.take_below.result takes kept same)
 
-pub take_inside-returns-else-should_unpack_parent-clause-takes :
-    goal.take_inside-returns-else-should_unpack_parent-clause-takes
-take_inside-returns-else-should_unpack_parent-clause-takes g t c =
-    let refused = rw c.in-Parent.parent-is at c.should_unpack_parent.ensures in
+pub take_inside-returns-else-may_hold-clause-takes :
+    goal.take_inside-returns-else-may_hold-clause-takes
+take_inside-returns-else-may_hold-clause-takes g t c =
+    let passed = rw c.in-Parent.parent-is at c.may_hold.ensures in
     rw (c.in-Parent.is, outs-Parent c.in-Parent.parent)
-    (not_entered g.T.Cover.Merges.boxes g.T.Covered.object (g.R.Question.accepts c.args.func.now) (g.R.Question.selects c.args.func.now) g.met.T.Cover.Merges.merge_laws g.met.T.Covered.cover_law c.in-Parent.parent (lower_numbers c.args.path.now) c.args.rest.now (sym refused ∙ c.if-should_unpack_parent.false))
+    (not_entered g.T.Cover.Merges.boxes g.T.Covered.object (g.R.Question.accepts c.args.func.now) (g.R.Question.selects c.args.func.now) g.met.T.Cover.Merges.merge_laws g.met.T.Covered.cover_law c.in-Parent.parent (lower_numbers c.args.path.now) c.args.rest.now (passed c.if-may_hold.false))
 
 pub take_among-returns-then-is_selected_leaf : goal.take_among-returns-then-is_selected_leaf
 take_among-returns-then-is_selected_leaf g t c = record {
@@ -132,9 +132,9 @@ take_below-returns-else-is_some-clause-kept g t c w h kept below at =
     ] in
     kept_still g.met.T.Cover.Merges.merge_laws g.met.T.Covered.cover_law w h c.args.node.now _ kept below (takes.whole w h below at) takes.shorter refl hulls
 
-pub take_inside-returns-then-should_unpack_parent-clause-unchanged :
-    goal.take_inside-returns-then-should_unpack_parent-clause-unchanged
-take_inside-returns-then-should_unpack_parent-clause-unchanged g t c =
+pub take_inside-returns-then-may_hold-clause-unchanged :
+    goal.take_inside-returns-then-may_hold-clause-unchanged
+take_inside-returns-then-may_hold-clause-unchanged g t c =
     let unchanged = rw c.in-Parent.parent-is at c.take_below.ensures.unchanged in
     let box = g.T.Covered.object.box_of in
     rw (c.in-Parent.is, outs-Parent c.in-Parent.parent) (λ told. node_box-Parent box c.take_below.new.node ∙ unchanged told ∙ sym (node_box-Parent box c.in-Parent.parent))
