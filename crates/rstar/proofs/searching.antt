@@ -4,7 +4,7 @@ pub mod Searches
 pub mod SearchTurns
 pub mod Openings
 pub mod ByOrder
-pub mod Pruning
+pub mod Seeking
 pub mod Ties
 pub mod InOrder
 pub mod OneOrder

@@ -11,7 +11,5 @@ pub mod Earliest
 pub mod Gathering
 pub mod Searches
 pub mod Fits
-pub mod Pruned
 pub mod Few
-pub mod Ties
 pub mod PairWalks

@@ -1,10 +1,10 @@
 //! Recursive traversals, which take no memory: look-ups and visits.
 
-ghost use Rattle.std.specs.Prelude.{ℕ, filter};
+ghost use Rattle.std.specs.Prelude.{◌≡◌, ◌≢◌, ◌⊎◌, ℕ, true, false, [], filter};
 ghost use Rattle.std.specs.List.{AllZip};
 ghost use Rattle.rstar_base.specs.Selections.{IsLawful};
 ghost use Rattle.rstar.specs.Changes.{KeepsBox, IsChanged, IsChangedParent};
-ghost use Rattle.rstar.specs.Nodes.{all_given, given_of, children_of, elements, all_elements, elements_of, IsTree, IsWhole};
+ghost use Rattle.rstar.specs.Nodes.{all_given, given_of, children_of, envelope_of, elements, all_elements, elements_of, IsTree, IsWhole};
 ghost use Rattle.rstar.specs.Shapes.{AreTrees, IsAny};
 ghost use Rattle.rstar.specs.Visits.{IsFirst, Visits, VisitsWithin, Writes, WritesWithin, KeepsBoxes, marked, all_marked};
 
@@ -95,6 +95,17 @@ fn first_below<'a, T: Covered, F: Question<T>>(nodes: &'a [RTreeNode<T>], func: 
     }
 }
 
+/// Whether a traversal enters a root: it has children, and its envelope is accepted.
+pub(crate) fn enters<T: Covered, F: Question<T>>(root: &ParentNode<T>, func: &F) -> bool
+    ensures entered { result ≡ true → (children_of root.now ≢ []) × (F.accepts func.now (envelope_of root.now) ≡ true) }
+    ensures refused { result ≡ false → (children_of root.now ≡ []) ⊎ (F.accepts func.now (envelope_of root.now) ≡ false) }
+{
+    if root.children.is_empty() {
+        return false;
+    }
+    func.should_unpack_parent(&root.envelope)
+}
+
 /// The first selected element below a root. It takes no memory.
 pub(crate) fn first_selected<'a, T: RTreeObject, F: SelectionFunction<T>>(
     root: &'a ParentNode<T>,
@@ -102,7 +113,7 @@ pub(crate) fn first_selected<'a, T: RTreeObject, F: SelectionFunction<T>>(
 ) -> Option<&'a T>
     ensures { IsFirst (given_of (F.accepts func.now) (F.selects func.now) root.now) result }
 {
-    if root.children.is_empty() || !func.should_unpack_parent(&root.envelope) {
+    if !enters(root, func) {
         return None;
     }
     first_below(root.children.as_slice(), func)
@@ -155,7 +166,7 @@ pub fn select_nodes<
         × IsLawful T.Envelope.boxes T.object (F.accepts func.now) (F.selects func.now))
         visitor.old (filter (F.selects func.now) (elements_of root.now)) result visitor.new }
 {
-    if root.children.is_empty() || !func.should_unpack_parent(&root.envelope) {
+    if !enters(root, func) {
         return ControlFlow::Continue(());
     }
     visit_nodes(root.children.as_slice(), func, visitor)
@@ -235,7 +246,7 @@ pub fn select_nodes_mut<
     ensures changed { (h : ℕ) → AreTrees IsAny IsAny h (children_of root.old)
         → IsChangedParent (IsChanged (KeepsBox T.object) h) root.old root.new }
 {
-    if root.children.is_empty() || !func.should_unpack_parent(&root.envelope) {
+    if !enters(root, func) {
         return ControlFlow::Continue(());
     }
     visit_nodes_mut(root.children.as_mut_slice(), func, visitor)

@@ -16,5 +16,3 @@ mod places;
 pub mod point;
 pub mod primitives;
 mod segments;
-#[cfg(test)]
-mod tests;

@@ -86,20 +86,19 @@ fn take_minus(text: &[u8]) -> (bool, &[u8])
     ensures minus { result.0 ≡ has_minus text.now }
     ensures rest { result.1.now ≡ (if has_minus text.now then drop 1 text.now else text.now) }
 {
-    match text {
-        [b'-', rest @ ..] => (true, rest),
-        _ => (false, text),
-    }
+    let is_negative = matches!(text, [b'-', ..]);
+    // Signs come at random, so the text behind one is found without a branch.
+    (is_negative, &text[usize::from(is_negative)..])
 }
 
 /// The number of a magnitude and a sign, where it fits an `i64`.
 fn with_sign(is_negative: bool, size: u64) -> Option<i64>
     ensures { result ≡ (if is_negative then negated size else plain size) }
 {
-    if is_negative {
-        0i64.checked_sub_unsigned(size)
-    } else {
-        i64::try_from(size).ok()
+    match i64::try_from(size) {
+        Ok(value) => Some(if is_negative { -value } else { value }),
+        Err(_) if is_negative => 0i64.checked_sub_unsigned(size),
+        Err(_) => None,
     }
 }
 

@@ -13,7 +13,7 @@ use Rattle.std.proofs.lemmas.Cmp.{nat_cmp_total, on_total, then_total}
 use Rattle.std.proofs.lemmas.List.{nil_from_length, map-append, take_all, take_more, take-append-le}
 use Rattle.std.proofs.lemmas.List.Sorted.{IsPermutation-refl, IsPermutation-sym, IsPermutation-trans, IsPermutation-cons, IsPermutation-middle, IsPermutation-append_right, Contains-permutation, length_permutation}
 use Rattle.rstar_base.proofs.Lists.{all-append, all_along, all_map}
-use Rattle.rstar.specs.Lists.{AreOrdered, IsLeast, AreFirstOf, IsNoFarther, IsNotLater, by_distance}
+use Rattle.rstar.specs.Lists.{AreOrdered, IsLeast, AreFirstOf, IsNotLater, by_distance}
 use Rattle.rstar.specs.Steps.{AreFirstWith}
 
 -- ---- every list can be put in an order that ranks any two
@@ -24,16 +24,6 @@ pub record Ranks {T : Type 0} (before : T → T → Type 0) : Type 0 where
   pub chain : (t u v : T) → before t u → before u v → before t v
 
 module _ {T : Type 0} (distance : T → ℕ) where
-  pub distance_ranks : Ranks (IsNoFarther distance)
-  distance_ranks = record {
-    any_two = λ t u. by_test t u (leb (distance t) (distance u)) refl;
-    chain = λ t u v h k. omega (arith, h, k);
-  }
-    where
-      by_test : (t u : T) (b : Bool) → leb (distance t) (distance u) ≡ b → IsNoFarther distance t u ⊎ IsNoFarther distance u t
-      by_test t u true e = inl (leb-true (distance t) (distance u) e)
-      by_test t u false e = let le = leb-false (distance t) (distance u) e in inr (omega (arith, le))
-
   module _ {compare : T → T → Ordering} (total : IsTotalOrder compare) where
     pub stated_total : IsTotalOrder (by_distance distance compare)
     stated_total = then_total (on_total distance nat_cmp_total) total

@@ -1,6 +1,5 @@
 -- Commands over a tree: what its calls give is what a step may give, and a run goes on by one step.
 use Rattle.std.proofs.Common.{◌≡◌, ℕ, ◌+◌, ◌<◌, ◌≤◌, min, Bool, true, false, List, [], ◌∷◌, ◌++◌, refl, ap, sym, ◌∙◌, subst, arith, length, length-append, filter, Option, Some, None, IfSome, IfNone, if◌then◌else◌, append_assoc, append-nil}
-use Rattle.std.specs.Prelude.{◌↔◌}
 use lib.Dec.{leb}
 use Rattle.std.proofs.lemmas.Bool.{leb-true, leb-false}
 use Rattle.std.proofs.lemmas.Grind.{common_steps}
@@ -19,8 +18,8 @@ use Rattle.rstar.specs.declared.replay.Reply.TheVariants as reply
 use Rattle.rstar.specs.declared.rtree.RTree.{RTree}
 use Rattle.rstar.specs.Joins.{join}
 use Rattle.rstar.specs.inside.Gathering.{Gathers}
-use Rattle.rstar.specs.Lists.{product, IsLeast, NoneSelected}
-use Rattle.rstar.specs.Steps.{Questions, TakesOne, TakesFirst, TakesSome, StepByOrder, RunBy, IsInsertion, IsRefusal}
+use Rattle.rstar.specs.Lists.{product, NoneSelected}
+use Rattle.rstar.specs.Steps.{Questions, TakesOne, TakesSome, StepByOrder, RunBy, IsInsertion, IsRefusal}
 use Rattle.rstar.specs.StepsOfTrees.{StepOfTree, RunOfTree}
 use Rattle.rstar.specs.Trees.{elements_in, IsUnchanged, IsWholeTree}
 use Rattle.rstar.proofs.searching.Ties.{filter-along}
@@ -37,11 +36,6 @@ module _ {T R : Type 0} (elements : R → List T) (old new : R) where
       → IfNone r (NoneSelected test (elements old)) → IfNone r (new ≡ old) → TakesOne test (elements old) r (elements new)
   takes_one test None bag passes none kept = (none, IsPermutation-same (elements old) (elements new) (sym (ap elements kept)))
   takes_one test (Some x) bag passes none kept = (passes, bag)
-
-  pub takes_first : (before : T → T → Type 0) (r : Option T) → IfSome r (λ x. IsPermutation (elements old) (x ∷ elements new)) → IfSome r (IsLeast before (elements old))
-      → IfNone r (elements old ≡ []) → IfNone r (new ≡ old) → TakesFirst before (elements old) r (elements new)
-  takes_first before None bag first none kept = (none, IsPermutation-same (elements old) (elements new) (sym (ap elements kept)))
-  takes_first before (Some x) bag first none kept = (first, bag)
 
 module _ {T : Type 0} (test : T → Bool) where
   filter_every : (ts : List T) → AllByRecursion (λ t. test t ≡ true) ts → filter test ts ≡ ts

@@ -1,7 +1,7 @@
 -- What the walk of a join gives of whole nodes, and what it opens: the join of their elements, reordered, and all that Meet counts.
 use Rattle.std.proofs.Common.{◌≡◌, ◌≢◌, ℕ, ℤ, zero, suc, ◌+◌, ◌≤◌, List, [], ◌∷◌, map, refl, ap, ◌∙◌, sym, subst, arith, Bool, true, false, append-nil, if◌then◌else◌, flat_map, sum_by, inl, inr, ◌⊎◌, max}
 use Rattle.std.specs.List.{AllByRecursion}
-use Rattle.std.specs.Prelude.{⊤, Option, Some, None}
+use Rattle.std.specs.Prelude.{Option, Some, None}
 use Rattle.std.specs.Borrow.{Bor}
 use Rattle.std.specs.List.Sorted.{IsPermutation}
 use Rattle.std.proofs.lemmas.Bool.{true≢false}
@@ -12,23 +12,20 @@ use Rattle.rstar_base.specs.Elements.{Objects, ObjectLaws}
 use Rattle.rstar_base.specs.Hulls.{hull}
 use Rattle.rstar_base.proofs.Hulls.{hull-value}
 use Rattle.rstar_base.proofs.Lists.{all_map, all_both}
-use Rattle.rstar.specs.declared.node.RTreeNode.{RTreeNode, Leaf, Parent}
+use Rattle.rstar.specs.declared.node.RTreeNode.{RTreeNode, Leaf}
 use Rattle.rstar.specs.declared.node.ParentNode.{ParentNode}
 use Rattle.rstar.specs.declared.iterators.joins.IntersectionIterator.{IntersectionIterator}
-use Rattle.rstar.specs.Heights.{levels_below}
-use Rattle.rstar.specs.inside.Traversals.{IsLevel}
-use Rattle.rstar.specs.Nodes.{elements, all_elements, elements_of, envelope_of, children_of, node_box, is_leaf_node, total, IsTree, IsElement, IsInner, AreWhole, IsWhole}
+use Rattle.rstar.specs.Nodes.{elements, all_elements, elements_of, envelope_of, children_of, node_box, IsTree, IsElement, IsInner, AreWhole, IsWhole}
 use Rattle.rstar.specs.Lists.{product}
-use Rattle.rstar.specs.Meets.{opened_to, both_leaves, count_parents, meet, meet_of_roots, meet_of_shown, pairs_at, opens_at, all_pairs, all_opens, pairs_from_roots}
+use Rattle.rstar.specs.Meets.{opened_to, both_leaves, meet, meet_of_roots, meet_of_shown, pairs_at, opens_at, all_pairs, all_opens, pairs_from_roots}
 use Rattle.rstar.specs.Shown.{parent, row_of, shown}
 use Rattle.rstar.specs.inside.PairWalks.{AreJoinable, CountsPairs, IsNextPair}
 use Rattle.rstar.specs.Joins.{SeenLaws, meets_by, join, left_root, right_root, meet_by, pairs_to_come, IsJoining, GivesPair}
-use Rattle.rstar.proofs.trees.ByChildren.{is_leaf, is_parent, elements-Leaf, elements-Parent, node_box-Leaf, node_box-Parent, total-map}
-use Rattle.rstar.proofs.trees.Heights.{levels_are}
-use Rattle.rstar.proofs.selecting.Traversals.{tree-weaker}
+use Rattle.rstar.proofs.trees.ByChildren.{is_leaf, is_parent, elements-Leaf, elements-Parent}
+use Rattle.rstar.proofs.selecting.Traversals.{all-level}
 use Rattle.rstar.proofs.searching.Nearness.{box-value}
 use Rattle.rstar.proofs.trees.Trees.{sound, all_sound, values-of, box_is_hull, merged_is_hull}
-use Rattle.rstar.proofs.joining.PairsByChildren.{the_pair, sum_by-same, product-none, node-cases, leaf-found, opened, opened_to-Leaf, opened_to-Parent, sum_by-row, meet-Leaf, meet-Parent, meet-roots, count_parents-Leaf, count_parents-Parent, is_leaf-Leaf, pairs-leaves, opens-leaves}
+use Rattle.rstar.proofs.joining.PairsByChildren.{the_pair, all_meets, product-none, leaf-found, opened, opened_to-Leaf, opened_to-Parent, meet-leaves, meet-roots, pairs-leaves, opens-leaves}
 use Rattle.rstar.proofs.joining.PairWalks.{idle-pairs, idle-count, at_most}
 use Rattle.rstar.proofs.joining.MeetingNodes.{IsJoined, all-joined, join-none, hull-meets-left, hull-meets-right}
 
@@ -66,52 +63,6 @@ zeros : {A : Type 0} (xs : List A) → sum_by (λ x. 0) xs ≡ 0
 zeros [] = refl
 zeros (x ∷ xs) = let a = sum_by-cons (λ x. 0) x xs in let b = zeros xs in omega (arith, a, b)
 
--- ---- Meet of a pair that is not of two leaves
-
-module _ (T E U F : Type 0) (meets : E → F → Bool) (left_box : T → E) (right_box : U → F) where
-  abbrev all_meets : List (RTreeNode T E) → List (RTreeNode U F) → ℕ
-  all_meets ls rs = sum_by (λ (p : RTreeNode T E × RTreeNode U F). meet meets left_box right_box p.0 p.1) (product ls rs)
-
-  meet-leaves : (t : T) (u : U) → meet meets left_box right_box (Leaf t) (Leaf u) ≡ 0
-  meet-leaves t u = meet-Leaf T E U F meets left_box right_box t (Leaf u) ∙ count_parents-Leaf U F (meets (left_box t)) u
-
-  abbrev IsMet : RTreeNode T E → RTreeNode U F → Type 0
-  IsMet l r = meet meets left_box right_box l r ≡ (if meets (node_box left_box l) (node_box right_box r) then 1 else 0) + all_meets (opened_to l) (opened_to r)
-
-  met-from : (l : RTreeNode T E) (r : RTreeNode U F) (e : E) (f : F) (ls : List (RTreeNode T E)) (rs : List (RTreeNode U F))
-      → e ≡ node_box left_box l → f ≡ node_box right_box r → ls ≡ opened_to l → rs ≡ opened_to r
-      → meet meets left_box right_box l r ≡ (if meets e f then 1 else 0) + all_meets ls rs → IsMet l r
-  met-from l r e f ls rs is_e is_f is_ls is_rs m = m ∙ (λ i. (if meets (is_e i) (is_f i) then 1 else 0) + all_meets (is_ls i) (is_rs i))
-
-  met-Parent : (p : ParentNode T E) (r : RTreeNode U F) → IsMet (Parent p) r
-  met-Parent p r =
-      met-from (Parent p) r p.envelope (node_box right_box r) (children_of p) (opened_to r) (sym (node_box-Parent left_box p)) refl (sym (opened_to-Parent p)) refl
-      (meet-Parent meets left_box right_box p r)
-
-  met-beside : (t : T) (q : ParentNode U F) → IsMet (Leaf t) (Parent q)
-  met-beside t q =
-      let row = λ (r : RTreeNode U F). meet-Leaf T E U F meets left_box right_box t r in
-      let each : total (map (count_parents (meets (left_box t))) (children_of q)) ≡ all_meets (Leaf t ∷ []) (children_of q) =
-      total-map (count_parents (meets (left_box t))) (children_of q)
-      ∙ sum_by-same (count_parents (meets (left_box t))) (meet meets left_box right_box (Leaf t)) (λ r. sym (row r)) (children_of q)
-      ∙ sym (sum_by-row (λ (p : RTreeNode T E × RTreeNode U F). meet meets left_box right_box p.0 p.1) (Leaf t) (children_of q)) in
-      met-from (Leaf t) (Parent q) (left_box t) q.envelope (Leaf t ∷ []) (children_of q) (sym (node_box-Leaf T E left_box t)) (sym (node_box-Parent right_box q))
-      (sym (opened_to-Leaf T E t)) (sym (opened_to-Parent q))
-      (row (Parent q) ∙ count_parents-Parent (meets (left_box t)) q ∙ ap (λ (n : ℕ). (if meets (left_box t) q.envelope then 1 else 0) + n) each)
-
-  met : (l : RTreeNode T E) (r : RTreeNode U F) → both_leaves l r ≡ false
-      → ((t : T) (u : U) → l ≡ Leaf t → r ≡ Leaf u → ⊥) → IsMet l r
-  met l r apart not_leaves = by_left (node-cases l) (node-cases r) where
-    by_left : ((t : T) × (l ≡ Leaf t)) ⊎ ((p : ParentNode T E) × (l ≡ Parent p)) → ((u : U) × (r ≡ Leaf u)) ⊎ ((q : ParentNode U F) × (r ≡ Parent q)) → IsMet l r
-    by_left (inr a) b = subst (λ x. IsMet x r) (sym a.1) (met-Parent a.0 r)
-    by_left (inl a) (inr b) = subst (λ x. IsMet x r) (sym a.1) (subst (λ x. IsMet (Leaf a.0) x) (sym b.1) (met-beside a.0 b.0))
-    by_left (inl a) (inl b) = absurd (not_leaves a.0 b.0 a.1 b.1)
-
--- two leaves pass the test
-leaves-test : (T E U F : Type 0) (l : RTreeNode T E) (r : RTreeNode U F) → both_leaves l r ≡ false → (t : T) (u : U) → l ≡ Leaf t → r ≡ Leaf u → ⊥
-leaves-test T E U F l r apart t u is is' =
-    true≢false (sym (ap (λ x. both_leaves x r) is ∙ ap (λ c. if c then is_leaf_node r else false) (is_leaf-Leaf T E t) ∙ ap is_leaf_node is' ∙ is_leaf-Leaf U F u) ∙ apart)
-
 -- ---- whole nodes
 
 module _ {T E U F : Type 0} {IsPoint IsPoint' : List ℤ → Type 0} {v : Boxes E} {w : Boxes F} {o : Objects T E} {o' : Objects U F} {seen : F → E}
@@ -143,12 +94,12 @@ module _ {T E U F : Type 0} {IsPoint IsPoint' : List ℤ → Type 0} {v : Boxes 
       (hull-meets-left laws laws' same (node_box o.box_of) ls (hull w (node_box o'.box_of) rs) vs (hull-value laws' (node_box o'.box_of) rs ws) apart)
 
   -- what Meet counts of all pairs
-  all-counted : (ls : List (RTreeNode T E)) (rs : List (RTreeNode U F)) → AreRight ls rs → all_meets T E U F (meets_by v seen) o.box_of o'.box_of ls rs ≡ all_opens (meets_by v seen) o.box_of o'.box_of ls rs
+  all-counted : (ls : List (RTreeNode T E)) (rs : List (RTreeNode U F)) → AreRight ls rs → all_meets (meets_by v seen) o.box_of o'.box_of ls rs ≡ all_opens (meets_by v seen) o.box_of o'.box_of ls rs
   all-counted ls rs all =
       sums-along (meet (meets_by v seen) o.box_of o'.box_of) (opens_at (meets_by v seen) o.box_of o'.box_of) ls rs (all_map _ _ (λ l row. all_map _ _ (λ r q. q.counted) rs row) ls all)
 
   all-pruned : (h k : ℕ) (ls : List (RTreeNode T E)) (rs : List (RTreeNode U F)) → AreWhole v o h ls → AreWhole w o' k rs → AreRight ls rs
-      → (meets_by v seen) (hull v (node_box o.box_of) ls) (hull w (node_box o'.box_of) rs) ≡ false → all_meets T E U F (meets_by v seen) o.box_of o'.box_of ls rs ≡ 0
+      → (meets_by v seen) (hull v (node_box o.box_of) ls) (hull w (node_box o'.box_of) rs) ≡ false → all_meets (meets_by v seen) o.box_of o'.box_of ls rs ≡ 0
   all-pruned h k ls rs hl hr all apart =
       sums-along (meet (meets_by v seen) o.box_of o'.box_of) (λ l r. 0) ls rs
       (all_both _ _ _ (λ l row none. all_both _ _ _ (λ r q n. q.pruned n) rs row none) ls all (all-apart h k ls rs hl hr apart))
@@ -173,25 +124,17 @@ module _ {T E U F : Type 0} {IsPoint IsPoint' : List ℤ → Type 0} {v : Boxes 
   opened-right h k h' k' l r hl hr inner hls hrs is_l is_r all = by_test ((meets_by v seen) (node_box o.box_of l) (node_box o'.box_of r)) refl where
     by_test : (b : Bool) → (meets_by v seen) (node_box o.box_of l) (node_box o'.box_of r) ≡ b → IsRight l r
     by_test true is =
-        let gone = opened (meets_by v seen) o.box_of o'.box_of l r inner in
-        let m = met T E U F (meets_by v seen) o.box_of o'.box_of l r inner (leaves-test T E U F l r inner) in
-        let one = ap (λ (b : Bool). if◌then◌else◌ {A = ℕ} b 1 0) is in
-        let pairs = gone.pairs ∙ ap (λ (b : Bool). if b then all_pairs (meets_by v seen) o.box_of o'.box_of (opened_to l) (opened_to r) else []) is in
-        let opens = gone.opens ∙ ap (λ (b : Bool). if b then 1 + all_opens (meets_by v seen) o.box_of o'.box_of (opened_to l) (opened_to r) else 0) is in
+        let gone = opened (meets_by v seen) o.box_of o'.box_of true l r inner is in
         let sums = all-counted (opened_to l) (opened_to r) all in
         record {
-          joined = subst (λ x. IsPermutation x (join (meets_by v seen) o.box_of o'.box_of (elements l) (elements r))) (sym pairs)
+          joined = subst (λ x. IsPermutation x (join (meets_by v seen) o.box_of o'.box_of (elements l) (elements r))) (sym gone.pairs)
               (subst (IsPermutation (all_pairs (meets_by v seen) o.box_of o'.box_of (opened_to l) (opened_to r))) (λ i. join (meets_by v seen) o.box_of o'.box_of (is_l i) (is_r i))
               (all-joined (meets_by v seen) o.box_of o'.box_of (opened_to l) (opened_to r) (all_map _ _ (λ a row. all_map _ _ (λ b q. q.joined) (opened_to r) row) (opened_to l) all)));
-          counted = omega (arith, m, one, opens, sums);
+          counted = omega (arith, gone.counts, gone.opens, sums);
           pruned = λ no. absurd (true≢false (sym is ∙ no));
         }
     by_test false is =
-        let gone = opened (meets_by v seen) o.box_of o'.box_of l r inner in
-        let m = met T E U F (meets_by v seen) o.box_of o'.box_of l r inner (leaves-test T E U F l r inner) in
-        let one = ap (λ (b : Bool). if◌then◌else◌ {A = ℕ} b 1 0) is in
-        let pairs = gone.pairs ∙ ap (λ (b : Bool). if b then all_pairs (meets_by v seen) o.box_of o'.box_of (opened_to l) (opened_to r) else []) is in
-        let opens = gone.opens ∙ ap (λ (b : Bool). if b then 1 + all_opens (meets_by v seen) o.box_of o'.box_of (opened_to l) (opened_to r) else 0) is in
+        let gone = opened (meets_by v seen) o.box_of o'.box_of false l r inner is in
         let box_l : node_box o.box_of l ≡ hull v o.box_of (elements l) = box_is_hull laws ok h l hl in
         let box_r : node_box o'.box_of r ≡ hull w o'.box_of (elements r) = box_is_hull laws' ok' k r hr in
         let merged_l : node_box o.box_of l ≡ hull v (node_box o.box_of) (opened_to l) = box_l ∙ ap (hull v o.box_of) (sym is_l) ∙ sym (merged_is_hull laws ok h' (opened_to l) hls) in
@@ -199,9 +142,9 @@ module _ {T E U F : Type 0} {IsPoint IsPoint' : List ℤ → Type 0} {v : Boxes 
         let sums = all-pruned h' k' (opened_to l) (opened_to r) hls hrs all (sym (λ i. (meets_by v seen) (merged_l i) (merged_r i)) ∙ is) in
         let none = none-joined laws laws' same ok ok' (elements l) (elements r) (sound v o h l hl) (sound w o' k r hr) (sym (λ i. (meets_by v seen) (box_l i) (box_r i)) ∙ is) in
         record {
-          joined = subst (IsPermutation (pairs_at (meets_by v seen) o.box_of o'.box_of l r)) (pairs ∙ sym none) (IsPermutation-refl _);
-          counted = omega (arith, m, one, opens, sums);
-          pruned = λ no. omega (arith, m, one, sums);
+          joined = subst (IsPermutation (pairs_at (meets_by v seen) o.box_of o'.box_of l r)) (gone.pairs ∙ sym none) (IsPermutation-refl _);
+          counted = omega (arith, gone.counts, gone.opens, sums);
+          pruned = λ no. omega (arith, gone.counts, sums);
         }
 
   by-both : (l : RTreeNode T E) (r : RTreeNode U F) (b : Bool) → both_leaves l r ≡ b → (both_leaves l r ≡ false → IsRight l r) → IsRight l r
@@ -252,20 +195,22 @@ module _ {T E U F : Type 0} {IsPoint IsPoint' : List ℤ → Type 0} {v : Boxes 
     by_lists (l ∷ ls) [] some some' all = absurd (some' refl)
     by_lists (l ∷ ls) (r ∷ rs) some some' all =
         meet-roots (meets_by v seen) o.box_of o'.box_of (envelope_of left) (envelope_of other) (l ∷ ls) (r ∷ rs)
-        ∙ ap (λ (b : Bool). (if b then 1 else 0) + all_meets T E U F (meets_by v seen) o.box_of o'.box_of (l ∷ ls) (r ∷ rs)) is
+        ∙ ap (λ (b : Bool). (if b then 1 else 0) + all_meets (meets_by v seen) o.box_of o'.box_of (l ∷ ls) (r ∷ rs)) is
         ∙ ap (λ n. 1 + n) (all-counted (l ∷ ls) (r ∷ rs) all)
 
-  -- Meet counts nothing where they do not
+  -- those that do not give nothing, and Meet counts nothing
   pub roots-apart : (left : ParentNode T E) (other : ParentNode U F) → IsWhole v o left → IsWhole w o' other → (meets_by v seen) (envelope_of left) (envelope_of other) ≡ false
-      → meet_of_roots (meets_by v seen) o.box_of o'.box_of left other ≡ 0
+      → (meet_of_roots (meets_by v seen) o.box_of o'.box_of left other ≡ 0) × (pairs_from_roots (meets_by v seen) o.box_of o'.box_of left other ≡ [])
   roots-apart left other hl hr is =
       let merged_l : envelope_of left ≡ hull v (node_box o.box_of) (children_of left) = hl.tight ∙ sym (merged_is_hull laws ok hl.height (children_of left) hl.below) in
-      let merged_r : envelope_of other ≡ hull w (node_box o'.box_of) (children_of other) = hr.tight ∙ sym (merged_is_hull laws' ok' hr.height (children_of other) hr.below) in
-      by_lists (children_of left) (children_of other)
-      (all-pruned hl.height hr.height (children_of left) (children_of other) hl.below hr.below (all-right hl.height hr.height (children_of left) (children_of other) hl.below hr.below)
-      (sym (λ i. (meets_by v seen) (merged_l i) (merged_r i)) ∙ is))
+      let merged_r : envelope_of other ≡ hull w (node_box o'.box_of) (children_of other) = hr.tight ∙ sym (merged_is_hull laws' ok' hr.height (children_of other) hr.below) in (
+        by_lists (children_of left) (children_of other)
+            (all-pruned hl.height hr.height (children_of left) (children_of other) hl.below hr.below (all-right hl.height hr.height (children_of left) (children_of other) hl.below hr.below)
+            (sym (λ i. (meets_by v seen) (merged_l i) (merged_r i)) ∙ is)),
+        ap (λ (b : Bool). if b then all_pairs (meets_by v seen) o.box_of o'.box_of (children_of left) (children_of other) else []) is,
+      )
     where
-      by_lists : (ls : List (RTreeNode T E)) (rs : List (RTreeNode U F)) → all_meets T E U F (meets_by v seen) o.box_of o'.box_of ls rs ≡ 0
+      by_lists : (ls : List (RTreeNode T E)) (rs : List (RTreeNode U F)) → all_meets (meets_by v seen) o.box_of o'.box_of ls rs ≡ 0
           → meet_of_shown (meets_by v seen) o.box_of o'.box_of (parent (envelope_of left) (row_of (map shown ls))) (parent (envelope_of other) (row_of (map shown rs))) ≡ 0
       by_lists [] rs none = refl
       by_lists (l ∷ ls) [] none = refl
@@ -288,22 +233,10 @@ module _ {T E U F : Type 0} (meets : E → F → Bool) (left_box : T → E) (rig
     by_lists (l ∷ ls) (r ∷ rs) (inl e) = cc
     by_lists (l ∷ ls) (r ∷ rs) (inr e) = cc
 
-  pub roots-refused : meets (envelope_of left) (envelope_of other) ≡ false → pairs_from_roots meets left_box right_box left other ≡ []
-  roots-refused is = ap (λ (b : Bool). if b then all_pairs meets left_box right_box (children_of left) (children_of other) else []) is
-
   pub roots-met : meets (envelope_of left) (envelope_of other) ≡ true → pairs_from_roots meets left_box right_box left other ≡ all_pairs meets left_box right_box (children_of left) (children_of other)
   roots-met is = ap (λ (b : Bool). if b then all_pairs meets left_box right_box (children_of left) (children_of other) else []) is
 
 -- ---- the start of a walk
-
-pub whole-levels : {T E : Type 0} (v : Boxes E) (o : Objects T E) (h : ℕ) (ns : List (RTreeNode T E)) → AreWhole v o h ns → AreWhole v o (levels_below ns) ns
-whole-levels v o h [] whole = tt
-whole-levels v o h (n ∷ ns) whole =
-    let some : (n ∷ ns) ≢ [] = λ e. cc in
-    subst (λ k. AreWhole v o k (n ∷ ns)) (sym (levels_are (IsInner v o) (IsElement v o) (λ p q. q.1) h (n ∷ ns) some whole)) whole
-
-all-level : {T E : Type 0} (v : Boxes E) (o : Objects T E) (h : ℕ) (ns : List (RTreeNode T E)) → AreWhole v o h ns → AllByRecursion (IsLevel h) ns
-all-level v o h ns whole = all_map _ (IsLevel h) (tree-weaker (IsInner v o) (λ p. children_of p ≢ []) (IsElement v o) (λ t. ⊤) (λ p q. q.1) (λ t q. tt) h) ns whole
 
 pub joinable : {T E U F : Type 0} (v : Boxes E) (w : Boxes F) (o : Objects T E) (o' : Objects U F) (room h k : ℕ) (ls : List (RTreeNode T E)) (rs : List (RTreeNode U F))
     → AreWhole v o h ls → AreWhole w o' k rs → max h k ≤ room → AreJoinable room ls rs

@@ -2,7 +2,7 @@
 use Rattle.std.proofs.Common.{◌≡◌, ℕ, zero, suc, ◌+◌, ◌-◌, ◌*◌, ◌/◌, ◌%◌, ◌^◌, ◌<◌, ◌≤◌, ◌==◌, min, Bool, true, false, if◌then◌else◌, List, [], ◌∷◌, ◌++◌, length, map, filter, drop, refl, sym, ap, ap₂, ◌∙◌, arith, subst, append-nil, append_assoc, length-append, take, mod-lt, zero-lt-suc, pow-suc, pow_mono}
 use lib.Bits.{bit_and, and_step, and_self}
 use lib.Count.{count_trailing_zeros, under}
-use Rattle.std.proofs.lemmas.List.{take_all, length-drop, length-map, drop-append-le}
+use Rattle.std.proofs.lemmas.List.{take_all, length-drop, length-map, drop-append-le, drop-map}
 use Rattle.std.proofs.Math.Seq.{drop-append-add}
 use Rattle.std.proofs.Math.Nat.{zero-mul, one-mul, add-mul, zero-add, mul-le-mul_right}
 use Rattle.rstar.specs.Lists.{product}
@@ -79,11 +79,6 @@ length-product {A} {B} (x ∷ xs) ys =
     let d : length (x ∷ xs) * length ys ≡ length ys + length xs * length ys = one-more (length xs) (length ys) in
     omega (arith, a, b, c, d)
 
-drop-map : {A B : Type 0} (f : A → B) (n : ℕ) (xs : List A) → drop n (map f xs) ≡ map f (drop n xs)
-drop-map f zero xs = refl
-drop-map f (suc n) [] = refl
-drop-map f (suc n) (x ∷ xs) = drop-map f n xs
-
 -- where two items stand, their pair stands
 drop-product : {A B : Type 0} (i j : ℕ) (xs : List A) (ys : List B) (x : A) (y : B) (below : List A) (behind : List B) → drop i xs ≡ x ∷ below → drop j ys ≡ y ∷ behind
     → (rest : List (A × B)) × (drop (i * length ys + j) (product xs ys) ≡ the_pair x y ∷ rest)
@@ -130,14 +125,14 @@ module _ {A B : Type 0} where
       let p = drop-product row column xs ys x.0 y.0 x.1 y.1 x.2 y.2 in
       let same : a.0 ∷ a.1 ≡ the_pair x.0 y.0 ∷ p.0 = sym a.2 ∙ ap (λ k. drop k (product xs ys)) (sym at ∙ parts) ∙ p.1 in
       let head : a.0 ≡ the_pair x.0 y.0 = cc in
+      let left : from ≡ x.0 ∷ x.1 = is ∙ take_all (length xs - row) (drop row xs) (omega (arith, length-drop row xs)) ∙ x.2 in
+      let right : beside ≡ y.0 ∷ y.1 = is' ∙ take_all (length ys - column) (drop column ys) (omega (arith, length-drop column ys)) ∙ y.2 in
       record {
-        left = x.0;
-        right = y.0;
-        left_behind = x.1;
-        right_behind = y.1;
-        left_begins = is ∙ take_all (length xs - row) (drop row xs) (let l = length-drop row xs in omega (arith, l)) ∙ x.2;
-        right_begins = is' ∙ take_all (length ys - column) (drop column ys) (let l = length-drop column ys in omega (arith, l)) ∙ y.2;
-        all = a.3 ∙ (λ i. head i ∷ marked_items (sym made i) (product xs ys));
+        left = (let long = ap length left in omega (arith, long));
+        right = (let long = ap length right in omega (arith, long));
+        all = λ l ls r rs e e'.
+            let first : x.0 ≡ l = cc in let second : y.0 ≡ r = cc in
+            a.3 ∙ (λ i. (head ∙ (λ j. the_pair (first j) (second j))) i ∷ marked_items (sym made i) (product xs ys));
       }
 
   -- it lies behind the last row

@@ -2,23 +2,20 @@
 use Rattle.std.proofs.Common.{◌≡◌, ℤ, List, [], ◌∷◌, ◌++◌, map, flat_map, filter, refl, ap, ◌∙◌, sym, subst, Bool, true, false, if◌then◌else◌, append_assoc}
 use Rattle.std.specs.List.{AllByRecursion}
 use Rattle.std.specs.List.Sorted.{IsPermutation}
-use Rattle.std.proofs.lemmas.Bool.{true≢false}
+use Rattle.std.proofs.lemmas.Bool.{true≢false, false_from_ne_true}
 use Rattle.std.proofs.lemmas.List.Sorted.{IsPermutation-refl, IsPermutation-append, IsPermutation-append_comm, IsPermutation-trans}
 use Rattle.std.proofs.lemmas.List.Elements.{filter-append}
 use Rattle.rstar_base.specs.Envelopes.{Boxes, EnvelopeLaws}
 use Rattle.rstar_base.specs.Hulls.{hull}
 use Rattle.rstar_base.proofs.Hulls.{hull-value}
 use Rattle.std.proofs.lemmas.List.Concat.{flat_map-append}
+use Rattle.std.proofs.lemmas.List.{map-append}
 use Rattle.rstar.specs.declared.node.RTreeNode.{RTreeNode}
 use Rattle.rstar.specs.Nodes.{elements, all_elements}
 use Rattle.rstar.specs.Lists.{product}
 use Rattle.rstar.specs.Meets.{pairs_at, all_pairs}
 use Rattle.rstar.specs.Joins.{SeenLaws, meets_by, join}
-use Rattle.rstar.proofs.joining.PairsByChildren.{the_pair}
-
-not-true : (b : Bool) → (b ≡ true → ⊥) → b ≡ false
-not-true true h = absurd (h refl)
-not-true false h = refl
+use Rattle.rstar.proofs.joining.PairsByChildren.{the_pair, product-rows}
 
 module _ {E F : Type 0} {IsPoint IsPoint' : List ℤ → Type 0} {v : Boxes E} {w : Boxes F} {seen : F → E}
     (laws : EnvelopeLaws IsPoint v) (laws' : EnvelopeLaws IsPoint' w) (same : SeenLaws w v seen) where
@@ -42,16 +39,16 @@ module _ {E F : Type 0} {IsPoint IsPoint' : List ℤ → Type 0} {v : Boxes E} {
   hull-meets-left box [] f vs wf apart = tt
   hull-meets-left box (x ∷ xs) f vs wf apart =
       let rest = hull-value laws box xs vs.1 in (
-        not-true (meets (box x) f) (λ h. true≢false (sym (meets-left (box x) (hull v box xs) f vs.0 rest wf h) ∙ apart)),
-        hull-meets-left box xs f vs.1 wf (not-true (meets (hull v box xs) f) (λ h. true≢false (sym (ap (λ e. meets e f) (laws.merge_comm (box x) (hull v box xs) vs.0 rest) ∙ meets-left (hull v box xs) (box x) f rest vs.0 wf h) ∙ apart))),
+        false_from_ne_true (meets (box x) f) (λ h. true≢false (sym (meets-left (box x) (hull v box xs) f vs.0 rest wf h) ∙ apart)),
+        hull-meets-left box xs f vs.1 wf (false_from_ne_true (meets (hull v box xs) f) (λ h. true≢false (sym (ap (λ e. meets e f) (laws.merge_comm (box x) (hull v box xs) vs.0 rest) ∙ meets-left (hull v box xs) (box x) f rest vs.0 wf h) ∙ apart))),
       )
 
   pub hull-meets-right : {B : Type 0} (box : B → F) (ys : List B) (e : E) → AllByRecursion (λ y. w.IsValue (box y)) ys → v.IsValue e → meets e (hull w box ys) ≡ false → AllByRecursion (λ y. meets e (box y) ≡ false) ys
   hull-meets-right box [] e ws ve apart = tt
   hull-meets-right box (y ∷ ys) e ws ve apart =
       let rest = hull-value laws' box ys ws.1 in (
-        not-true (meets e (box y)) (λ h. true≢false (sym (meets-right e (box y) (hull w box ys) ve ws.0 rest h) ∙ apart)),
-        hull-meets-right box ys e ws.1 ve (not-true (meets e (hull w box ys)) (λ h. true≢false (sym (ap (meets e) (laws'.merge_comm (box y) (hull w box ys) ws.0 rest) ∙ meets-right e (hull w box ys) (box y) ve rest ws.0 h) ∙ apart))),
+        false_from_ne_true (meets e (box y)) (λ h. true≢false (sym (meets-right e (box y) (hull w box ys) ve ws.0 rest h) ∙ apart)),
+        hull-meets-right box ys e ws.1 ve (false_from_ne_true (meets e (hull w box ys)) (λ h. true≢false (sym (ap (meets e) (laws'.merge_comm (box y) (hull w box ys) ws.0 rest) ∙ meets-right e (hull w box ys) (box y) ve rest ws.0 h) ∙ apart))),
       )
 
   module _ {A B : Type 0} (left_box : A → E) (right_box : B → F) where
@@ -70,7 +67,7 @@ module _ {E F : Type 0} {IsPoint IsPoint' : List ℤ → Type 0} {v : Boxes E} {
 
 -- ---- joins of lists put together
 
-exchanged : {A : Type 0} (a b c d : List A) → IsPermutation ((a ++ b) ++ (c ++ d)) ((a ++ c) ++ (b ++ d))
+pub exchanged : {A : Type 0} (a b c d : List A) → IsPermutation ((a ++ b) ++ (c ++ d)) ((a ++ c) ++ (b ++ d))
 exchanged a b c d =
     subst (λ l. IsPermutation l ((a ++ c) ++ (b ++ d))) (sym (append_assoc a b (c ++ d)))
     (subst (IsPermutation (a ++ (b ++ (c ++ d)))) (sym (append_assoc a c (b ++ d)))
@@ -85,16 +82,8 @@ module _ {T E U F : Type 0} (meets : E → F → Bool) (left_box : T → E) (rig
   abbrev row : T → List U → List (T × U)
   row x ys = map (λ y. the_pair x y) ys
 
-  row-append : (x : T) (ys zs : List U) → row x (ys ++ zs) ≡ row x ys ++ row x zs
-  row-append x [] zs = refl
-  row-append x (y ∷ ys) zs = ap (λ l. the_pair x y ∷ l) (row-append x ys zs)
-
-  product-append : (xs xs' : List T) (ys : List U) → product (xs ++ xs') ys ≡ product xs ys ++ product xs' ys
-  product-append [] xs' ys = refl
-  product-append (x ∷ xs) xs' ys = ap (λ l. row x ys ++ l) (product-append xs xs' ys) ∙ sym (append_assoc (row x ys) (product xs ys) (product xs' ys))
-
   pub join-left : (xs xs' : List T) (ys : List U) → join meets left_box right_box (xs ++ xs') ys ≡ join meets left_box right_box xs ys ++ join meets left_box right_box xs' ys
-  join-left xs xs' ys = ap kept (product-append xs xs' ys) ∙ filter-append (λ p. meets (left_box p.0) (right_box p.1)) (product xs ys) (product xs' ys)
+  join-left xs xs' ys = ap kept (product-rows xs xs' ys) ∙ filter-append (λ p. meets (left_box p.0) (right_box p.1)) (product xs ys) (product xs' ys)
 
   pub join-right : (xs : List T) (ys zs : List U) → IsPermutation (join meets left_box right_box xs ys ++ join meets left_box right_box xs zs) (join meets left_box right_box xs (ys ++ zs))
   join-right [] ys zs = IsPermutation-refl []
@@ -102,7 +91,7 @@ module _ {T E U F : Type 0} (meets : E → F → Bool) (left_box : T → E) (rig
       let one = filter-append (λ p. meets (left_box p.0) (right_box p.1)) (row x ys) (product xs ys) in
       let two = filter-append (λ p. meets (left_box p.0) (right_box p.1)) (row x zs) (product xs zs) in
       let both : join meets left_box right_box (x ∷ xs) (ys ++ zs) ≡ (kept (row x ys) ++ kept (row x zs)) ++ join meets left_box right_box xs (ys ++ zs) =
-      filter-append (λ p. meets (left_box p.0) (right_box p.1)) (row x (ys ++ zs)) (product xs (ys ++ zs)) ∙ ap (λ l. l ++ join meets left_box right_box xs (ys ++ zs)) (ap kept (row-append x ys zs) ∙ filter-append (λ p. meets (left_box p.0) (right_box p.1)) (row x ys) (row x zs)) in
+      filter-append (λ p. meets (left_box p.0) (right_box p.1)) (row x (ys ++ zs)) (product xs (ys ++ zs)) ∙ ap (λ l. l ++ join meets left_box right_box xs (ys ++ zs)) (ap kept (map-append (λ y. the_pair x y) ys zs) ∙ filter-append (λ p. meets (left_box p.0) (right_box p.1)) (row x ys) (row x zs)) in
       subst (IsPermutation (join meets left_box right_box (x ∷ xs) ys ++ join meets left_box right_box (x ∷ xs) zs)) (sym both)
       (subst (λ l. IsPermutation l ((kept (row x ys) ++ kept (row x zs)) ++ join meets left_box right_box xs (ys ++ zs))) (sym (λ i. one i ++ two i))
       (IsPermutation-trans _ _ _ (exchanged (kept (row x ys)) (join meets left_box right_box xs ys) (kept (row x zs)) (join meets left_box right_box xs zs))

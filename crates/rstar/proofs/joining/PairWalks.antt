@@ -4,7 +4,7 @@ use Rattle.std.specs.Prelude.{nat_le}
 use Rattle.std.proofs.lemmas.List.{take-append-drop, length-drop, length-take, map-append, take_all, drop_all, nil_from_length}
 use Rattle.std.proofs.Math.Seq.{take-append_seam, drop-append_seam}
 use Rattle.std.proofs.lemmas.Nat.{mul-le}
-use Rattle.std.proofs.lemmas.Bool.{true≢false}
+use Rattle.std.proofs.lemmas.Bool.{true≢false, cases_lt}
 use Rattle.std.proofs.lemmas.Bool.Decides.{nat_tests}
 use Rattle.std.proofs.lemmas.List.Sums.{sum_by-cons, sum_by-append}
 use Rattle.std.proofs.lemmas.List.Concat.{flat_map-append}
@@ -18,19 +18,17 @@ use Rattle.rstar_base.specs.Counts.{usize_max}
 use Rattle.rstar.specs.inside.Traversals.{IsLevel}
 use Rattle.rstar.specs.Lists.{product}
 use Rattle.rstar.specs.Meets.{opened_to, both_leaves, pairs_at, opens_at, all_pairs, all_opens}
-use Rattle.rstar.specs.inside.PairWalks.{frame_of, marked_items, rows_beside, Frame, IsMetPair, IsFrame, AreFrames, AreJoinable, met_of, unasked_of, in_hand, frames_of, pairs_below, opens_below, pairs_by, opens_by, pairs_from_frames, opens_from_frames, IsIdle, IsWalk, CountsPairs, GoesOn, all_steps, steps_at, steps_of_pair, steps_of_frame, steps_of_frames}
+use Rattle.rstar.specs.inside.PairWalks.{frame_of, marked_items, rows_beside, Frame, IsMetPair, IsFrame, AreFrames, AreJoinable, met_of, unasked_of, in_hand, frames_of, pairs_below, opens_below, pairs_by, opens_by, pairs_from_frames, opens_from_frames, IsIdle, IsWalk, CountsPairs, GoesOn, all_steps, steps_at, steps_of_pair, steps_of_frame, steps_of_frames, IsPairStep}
 use Rattle.rstar.proofs.trees.ByChildren.{no_parent}
 use Rattle.rstar.proofs.selecting.Traversals.{level-Parent}
-use Rattle.rstar.proofs.joining.PairsByChildren.{the_pair, product-none, node-cases, does_meet, opened, passed, steps-positive, opened_to-Leaf, opened_to-Parent, is_leaf-Leaf, is_leaf-Parent}
+use Rattle.rstar.proofs.joining.PairsByChildren.{the_pair, product-none, node-cases, does_meet, opened, passed, steps-positive, opened_to-Leaf, opened_to-Parent, is_leaf-Leaf, is_leaf-Parent, product-rows}
 use Rattle.rstar.proofs.joining.MarkedPairs.{marked-zero}
+use Rattle.rstar_base.proofs.Lists.{all_first, all_second}
+use Rattle.rstar.specs.declared.iterators.joins.walk.PairStep.TheVariants.{Passed, Found}
 
 steps-after : {T E U F : Type 0} (xs ys : List (Frame T E U F)) → steps_of_frames (xs ++ ys) ≡ steps_of_frames xs + steps_of_frames ys
 steps-after [] ys = omega arith
 steps-after (x ∷ xs) ys = let r = steps-after xs ys in omega (arith, r)
-
-all-drop : {A : Type 0} (Q : A → Type 0) (xs ys : List A) → AllByRecursion Q (xs ++ ys) → AllByRecursion Q xs × AllByRecursion Q ys
-all-drop Q [] ys all = (tt, all)
-all-drop Q (x ∷ xs) ys all = let r = all-drop Q xs ys all.1 in ((all.0, r.0), r.1)
 
 -- ---- products
 
@@ -42,10 +40,6 @@ all-row Q R x (y ∷ ys) rest q rs all = ((q, rs.0), all-row Q R x ys rest q rs.
 all-product : {A B : Type 0} (Q : A → Type 0) (R : B → Type 0) (xs : List A) (ys : List B) → AllByRecursion Q xs → AllByRecursion R ys → AllByRecursion (λ (p : A × B). Q p.0 × R p.1) (product xs ys)
 all-product Q R [] ys qs rs = tt
 all-product Q R (x ∷ xs) ys qs rs = all-row Q R x ys (product xs ys) qs.0 rs (all-product Q R xs ys qs.1 rs)
-
-product-rows : {A B : Type 0} (xs xs' : List A) (ys : List B) → product (xs ++ xs') ys ≡ product xs ys ++ product xs' ys
-product-rows [] xs' ys = refl
-product-rows (x ∷ xs) xs' ys = ap (λ l. map (λ y. the_pair x y) ys ++ l) (product-rows xs xs' ys) ∙ sym (append_assoc (map (λ y. the_pair x y) ys) (product xs ys) (product xs' ys))
 
 product-parts : {A B : Type 0} (k : ℕ) (xs : List A) (ys : List B) → product (take k xs) ys ++ product (drop k xs) ys ≡ product xs ys
 product-parts k xs ys = sym (product-rows (take k xs) (drop k xs) ys) ∙ ap (λ l. product l ys) (take-append-drop k xs)
@@ -66,18 +60,10 @@ product-some [] ys some some' = absurd (omega (arith, some))
 product-some (x ∷ xs) [] some some' = absurd (omega (arith, some'))
 product-some (x ∷ xs) (y ∷ ys) some some' = omega arith
 
-le-either : (m n : ℕ) → (m ≤ n) ⊎ (n ≤ m)
-le-either zero n = inl (omega arith)
-le-either (suc m) zero = inr (omega arith)
-le-either (suc m) (suc n) = one_more (le-either m n) where
-  one_more : (m ≤ n) ⊎ (n ≤ m) → (suc m ≤ suc n) ⊎ (suc n ≤ suc m)
-  one_more (inl h) = inl (omega (arith, h))
-  one_more (inr h) = inr (omega (arith, h))
-
 -- the two parts that a list is split in
 pub parts-are : {A : Type 0} (k : ℕ) (xs front back : List A) → xs ≡ front ++ back → length front ≡ min (length xs) k → (front ≡ take k xs) × (back ≡ drop k xs)
-parts-are {A} k xs front back is long = by_size (le-either k (length xs)) where
-  by_size : (k ≤ length xs) ⊎ (length xs ≤ k) → (front ≡ take k xs) × (back ≡ drop k xs)
+parts-are {A} k xs front back is long = by_size (cases_lt k (length xs)) where
+  by_size : (k < length xs) ⊎ (length xs ≤ k) → (front ≡ take k xs) × (back ≡ drop k xs)
   by_size (inl le) =
       let n : length front ≡ k = omega (arith, long, le) in
       (sym (take-append_seam front back) ∙ (λ i. take (n i) (sym is i)), sym (drop-append_seam front back) ∙ (λ i. drop (n i) (sym is i)))
@@ -126,14 +112,6 @@ steps-listed {A} {B} f (x ∷ xs) ys =
     row : (zs : List B) → total (map (λ z. 1 + f x z) zs) ≡ sum_by (λ (p : A × B). 1 + f p.0 p.1) (map (λ z. the_pair x z) zs)
     row [] = refl
     row (z ∷ zs) = let a = sum_by-cons (λ (p : A × B). 1 + f p.0 p.1) (the_pair x z) (map (λ z. the_pair x z) zs) in let b = row zs in omega (arith, a, b)
-
-take-nil : {A : Type 0} (k : ℕ) → take {A = A} k [] ≡ []
-take-nil zero = refl
-take-nil (suc k) = refl
-
-drop-nil : {A : Type 0} (k : ℕ) → drop {A = A} k [] ≡ []
-drop-nil zero = refl
-drop-nil (suc k) = refl
 
 -- a leaf lies on the lowest level
 level-Leaf : (T E : Type 0) (h : ℕ) (t : T) → IsLevel {T = T} {E = E} h (Leaf t) → h ≡ 0
@@ -204,36 +182,44 @@ module _ {T E U F : Type 0} (meets : E → F → Bool) (left_box : T → E) (rig
     pub room : (k : ℕ) → IsFrame meets left_box right_box k frame → AreFrames meets left_box right_box (k + 1) news
     pub nearer : steps_of_frames news < steps_of_frame frame
 
-  module _ {frame : Frame T E U F} {news : List (Frame T E U F)} {gives : List (T × U)} {opens : ℕ} (move : IsMove frame news gives opens)
-      (left old new : List (Frame T E U F)) (was : old ≡ left ++ frame ∷ []) (is : new ≡ left ++ news) where
-    pub move-pairs : pairs_from_frames meets left_box right_box old ≡ gives ++ pairs_from_frames meets left_box right_box new
+  module _ {frame : Frame T E U F} {news : List (Frame T E U F)} {gives : List (T × U)} {opens : ℕ} (move : IsMove frame news gives opens) (left : List (Frame T E U F)) (w w' : PairWalk T U E F)
+      (was : frames_of w ≡ left ++ frame ∷ []) (is : frames_of w' ≡ left ++ news) where
+    move-pairs : pairs_by meets left_box right_box w ≡ gives ++ pairs_by meets left_box right_box w'
     move-pairs =
         ap (pairs_from_frames meets left_box right_box) was ∙ pairs-after left (frame ∷ [])
         ∙ ap (λ l. l ++ pairs_from_frames meets left_box right_box left) move.pairs
         ∙ append_assoc gives (pairs_from_frames meets left_box right_box news) (pairs_from_frames meets left_box right_box left)
         ∙ ap (λ l. gives ++ l) (sym (ap (pairs_from_frames meets left_box right_box) is ∙ pairs-after left news))
 
-    pub move-nearer : steps_of_frames new < steps_of_frames old
+    move-on : w'.path.capacity ≡ w.path.capacity → ((n : ℕ) → w.opened ≡ min n usize_max → w'.opened ≡ min (n + opens) usize_max) → IsWalk meets left_box right_box w → GoesOn meets left_box right_box w w'
+    move-on room more walk = record {
+      walk = let last = frames-last (w.path.capacity + 1) left frame (subst (AreFrames meets left_box right_box (w.path.capacity + 1)) was walk) in
+          frames-along (w.path.capacity + 1) (w'.path.capacity + 1) (ap (λ k. k + 1) (sym room)) (left ++ news) (frames_of w') (sym is)
+          (frames-after (w.path.capacity + 1) (last.0 + 1) left news last.1 last.2 (move.room last.0 last.3));
+      room = room;
+      count = λ all h.
+          let a = ap (opens_from_frames meets left_box right_box) was in let b = ap (opens_from_frames meets left_box right_box) is in
+          let c = opens-after left (frame ∷ []) in let d = opens-after left news in let e = move.opened in let f = h.whole in
+          record { count = h.count + opens; counted = more h.count h.counted; whole = omega arith };
+    }
+
+    move-nearer : steps_of_frames (frames_of w') < steps_of_frames (frames_of w)
     move-nearer =
         let a = ap steps_of_frames was in let b = ap steps_of_frames is in let c = steps-after left (frame ∷ []) in let d = steps-after left news in let e = move.nearer in
         omega arith
 
-    pub move-frames : (n m : ℕ) → m ≡ n → AreFrames meets left_box right_box (n + 1) old → AreFrames meets left_box right_box (m + 1) new
-    move-frames n m same at =
-        let last = frames-last (n + 1) left frame (subst (AreFrames meets left_box right_box (n + 1)) was at) in
-        frames-along (n + 1) (m + 1) (ap (λ k. k + 1) (sym same)) (left ++ news) new (sym is)
-        (frames-after (n + 1) (last.0 + 1) left news last.1 last.2 (move.room last.0 last.3))
+  -- a move that gives a pair is a step that finds it, and one that gives nothing passes
+  pub finds : {frame : Frame T E U F} {news : List (Frame T E U F)} {t : Bor T} {u : Bor U} (move : IsMove frame news (the_pair t.now u.now ∷ []) 0) (left : List (Frame T E U F)) (w w' : PairWalk T U E F)
+      → frames_of w ≡ left ++ frame ∷ [] → frames_of w' ≡ left ++ news → w'.path.capacity ≡ w.path.capacity → w'.opened ≡ w.opened
+      → IsWalk meets left_box right_box w → IsPairStep meets left_box right_box w (Found t u) w'
+  finds move left w w' was is room same walk =
+      record { on = move-on move left w w' was is room (λ n h. omega (arith, h, same)) walk; given = move-pairs move left w w' was is; nearer = tt; over = tt }
 
-    pub move-on : (w w' : PairWalk T U E F) → frames_of w ≡ old → frames_of w' ≡ new → w'.path.capacity ≡ w.path.capacity
-        → ((n : ℕ) → w.opened ≡ min n usize_max → w'.opened ≡ min (n + opens) usize_max) → IsWalk meets left_box right_box w → GoesOn meets left_box right_box w w'
-    move-on w w' before after room more walk = record {
-      walk = subst (AreFrames meets left_box right_box (w'.path.capacity + 1)) (sym after) (move-frames w.path.capacity w'.path.capacity room (subst (AreFrames meets left_box right_box (w.path.capacity + 1)) before walk));
-      room = room;
-      count = λ all h.
-          let a = ap (opens_from_frames meets left_box right_box) (before ∙ was) in let b = ap (opens_from_frames meets left_box right_box) (after ∙ is) in
-          let c = opens-after left (frame ∷ []) in let d = opens-after left news in let e = move.opened in let f = h.whole in
-          record { count = h.count + opens; counted = more h.count h.counted; whole = omega arith };
-    }
+  pub passes : {frame : Frame T E U F} {news : List (Frame T E U F)} {opens : ℕ} (move : IsMove frame news [] opens) (left : List (Frame T E U F)) (w w' : PairWalk T U E F)
+      → frames_of w ≡ left ++ frame ∷ [] → frames_of w' ≡ left ++ news → w'.path.capacity ≡ w.path.capacity → ((n : ℕ) → w.opened ≡ min n usize_max → w'.opened ≡ min (n + opens) usize_max)
+      → IsWalk meets left_box right_box w → IsPairStep meets left_box right_box w Passed w'
+  passes move left w w' was is room more walk =
+      record { on = move-on move left w w' was is room more walk; given = move-pairs move left w w' was is; nearer = move-nearer move left w w' was is; over = tt }
 
   -- ---- pairs of nodes
 
@@ -249,39 +235,33 @@ module _ {T E U F : Type 0} (meets : E → F → Bool) (left_box : T → E) (rig
   abbrev pub meets_pair : RTreeNode T E × RTreeNode U F → Bool
   meets_pair p = does_meet meets left_box right_box p.0 p.1
 
-  -- those that do not meet give nothing
-  kept-pairs : (ps : List (RTreeNode T E × RTreeNode U F)) → pairs_below meets left_box right_box ps ≡ pairs_below meets left_box right_box (filter meets_pair ps)
-  kept-pairs [] = refl
-  kept-pairs (p ∷ ps) = by_test (meets_pair p) refl (kept-pairs ps) where
-    by_test : (b : Bool) → meets_pair p ≡ b → pairs_below meets left_box right_box ps ≡ pairs_below meets left_box right_box (filter meets_pair ps)
-        → pairs_of p ++ pairs_below meets left_box right_box ps ≡ pairs_below meets left_box right_box (if b then p ∷ filter meets_pair ps else filter meets_pair ps)
-    by_test true is rest = ap (λ w. pairs_of p ++ w) rest
-    by_test false is rest = ap (λ w. w ++ pairs_below meets left_box right_box ps) (passed meets left_box right_box p.0 p.1 is).0 ∙ rest
+  -- of pairs those that meet are kept: the others give nothing, and each pair that was asked is a step
+  record IsKeptOf (ps kept : List (RTreeNode T E × RTreeNode U F)) : Type 0 where
+    pub pairs : pairs_below meets left_box right_box ps ≡ pairs_below meets left_box right_box kept
+    pub opens : opens_below meets left_box right_box ps ≡ opens_below meets left_box right_box kept
+    pub steps : sum_by steps_of_pair kept + length ps ≤ sum_by asked_step ps
+    pub met : (h k : ℕ) → AllByRecursion (λ p. IsLevel h p.0 × IsLevel k p.1) ps → AllByRecursion (IsMetPair meets left_box right_box h k) kept
 
-  kept-opens : (ps : List (RTreeNode T E × RTreeNode U F)) → opens_below meets left_box right_box ps ≡ opens_below meets left_box right_box (filter meets_pair ps)
-  kept-opens [] = refl
-  kept-opens (p ∷ ps) = by_test (meets_pair p) refl (kept-opens ps) where
-    by_test : (b : Bool) → meets_pair p ≡ b → opens_below meets left_box right_box ps ≡ opens_below meets left_box right_box (filter meets_pair ps)
-        → opens_below meets left_box right_box (p ∷ ps) ≡ opens_below meets left_box right_box (if b then p ∷ filter meets_pair ps else filter meets_pair ps)
-    by_test true is rest = let a = sum_by-cons opens_of p ps in let b = sum_by-cons opens_of p (filter meets_pair ps) in omega (arith, a, b, rest)
-    by_test false is rest = let a = sum_by-cons opens_of p ps in let b = (passed meets left_box right_box p.0 p.1 is).1 in omega (arith, a, b, rest)
-
-  -- each pair that was asked is a step
-  kept-steps : (ps : List (RTreeNode T E × RTreeNode U F)) → sum_by steps_of_pair (filter meets_pair ps) + length ps ≤ sum_by asked_step ps
-  kept-steps [] = omega arith
-  kept-steps (p ∷ ps) = by_test (meets_pair p) (kept-steps ps) where
-    by_test : (b : Bool) → sum_by steps_of_pair (filter meets_pair ps) + length ps ≤ sum_by asked_step ps
-        → sum_by steps_of_pair (if b then p ∷ filter meets_pair ps else filter meets_pair ps) + length (p ∷ ps) ≤ sum_by asked_step (p ∷ ps)
-    by_test true rest = let a = sum_by-cons steps_of_pair p (filter meets_pair ps) in let b = sum_by-cons asked_step p ps in omega (arith, a, b, rest)
-    by_test false rest = let b = sum_by-cons asked_step p ps in omega (arith, b, rest)
-
-  kept-met : (h k : ℕ) (ps : List (RTreeNode T E × RTreeNode U F)) → AllByRecursion (λ p. IsLevel h p.0 × IsLevel k p.1) ps → AllByRecursion (IsMetPair meets left_box right_box h k) (filter meets_pair ps)
-  kept-met h k [] all = tt
-  kept-met h k (p ∷ ps) all = by_test (meets_pair p) refl (kept-met h k ps all.1) where
-    by_test : (b : Bool) → meets_pair p ≡ b → AllByRecursion (IsMetPair meets left_box right_box h k) (filter meets_pair ps)
-        → AllByRecursion (IsMetPair meets left_box right_box h k) (if b then p ∷ filter meets_pair ps else filter meets_pair ps)
-    by_test true is rest = (record { left = all.0.0; right = all.0.1; meeting = is }, rest)
-    by_test false is rest = rest
+  kept-those : (ps : List (RTreeNode T E × RTreeNode U F)) → IsKeptOf ps (filter meets_pair ps)
+  kept-those [] = record { pairs = refl; opens = refl; steps = omega arith; met = λ h k all. tt }
+  kept-those (p ∷ ps) = by_test (meets_pair p) refl (filter meets_pair ps) (kept-those ps) where
+    by_test : (b : Bool) → meets_pair p ≡ b → (kept : List (RTreeNode T E × RTreeNode U F)) → IsKeptOf ps kept → IsKeptOf (p ∷ ps) (if b then p ∷ kept else kept)
+    by_test true is kept rest =
+        let a = sum_by-cons opens_of p ps in let b = sum_by-cons opens_of p kept in let c = sum_by-cons steps_of_pair p kept in let d = sum_by-cons asked_step p ps in
+        record {
+          pairs = ap (λ w. pairs_of p ++ w) rest.pairs;
+          opens = omega (arith, a, b, rest.opens);
+          steps = omega (arith, c, d, rest.steps);
+          met = λ h k all. (record { left = all.0.0; right = all.0.1; meeting = is }, rest.met h k all.1);
+        }
+    by_test false is kept rest =
+        let none = passed meets left_box right_box p.0 p.1 is in let a = sum_by-cons opens_of p ps in let d = sum_by-cons asked_step p ps in
+        record {
+          pairs = ap (λ w. w ++ pairs_below meets left_box right_box ps) none.0 ∙ rest.pairs;
+          opens = omega (arith, a, none.1, rest.opens);
+          steps = omega (arith, d, rest.steps);
+          met = λ h k all. rest.met h k all.1;
+        }
 
   -- ---- a frame of which nothing was asked
 
@@ -300,14 +280,26 @@ module _ {T E U F : Type 0} (meets : E → F → Bool) (left_box : T → E) (rig
         let a = ap (sum_by steps_of_pair) fresh-met in let b = ap (sum_by asked_step) fresh-unasked in let c = steps-listed steps_at ls.now rights.now in
         omega (arith, a, b, c)
 
+    fresh-frame : (n h k : ℕ) → AllByRecursion (IsLevel h) ls.now → AllByRecursion (IsLevel k) rights.now → max h k ≤ n → IsFrame meets left_box right_box n (frame_of ls asked 0 rights rights)
+    fresh-frame n h k left right fits = record {
+      left_height = h;
+      right_height = k;
+      lefts = left;
+      met = subst (AllByRecursion (IsMetPair meets left_box right_box h k)) (sym fresh-met) tt;
+      later = right;
+      rights = right;
+      no_more = omega arith;
+      fits = fits;
+    }
+
   -- ---- the moves of a step
 
   -- a frame with nothing left on the left
   pub move-drop : (frame : Frame T E U F) → frame.lefts.now ≡ [] → IsMove frame [] [] 0
   move-drop frame none =
       let k = rows_beside frame.rights.now in
-      let met : met_of frame ≡ [] = ap (λ l. marked_items frame.marks (product l frame.asked.now)) (ap (take k) none ∙ take-nil k) in
-      let unasked : unasked_of frame ≡ [] = (λ i. product ((ap (take k) none ∙ take-nil k) i) frame.later.now ++ product ((ap (drop k) none ∙ drop-nil k) i) frame.rights.now) in
+      let met : met_of frame ≡ [] = ap (λ l. marked_items frame.marks (product l frame.asked.now)) (ap (take k) none ∙ take_all k [] (omega arith)) in
+      let unasked : unasked_of frame ≡ [] = (λ i. product ((ap (take k) none ∙ take_all k [] (omega arith)) i) frame.later.now ++ product ((ap (drop k) none ∙ drop_all k [] (omega arith)) i) frame.rights.now) in
       let both : met_of frame ++ unasked_of frame ≡ [] = (λ i. met i ++ unasked i) in
       record {
         pairs = ap (pairs_below meets left_box right_box) both;
@@ -332,16 +324,9 @@ module _ {T E U F : Type 0} (meets : E → F → Bool) (left_box : T → E) (rig
       record {
         pairs = ap (pairs_below meets left_box right_box) same;
         opened = (let e = ap (opens_below meets left_box right_box) same in omega (arith, e));
-        room = λ n at. one-frame (n + 1) n (frame_of more asked 0 rights rights) refl (record {
-          left_height = at.left_height;
-          right_height = at.right_height;
-          lefts = subst (AllByRecursion (IsLevel at.left_height)) (sym is) (all-drop (IsLevel at.left_height) (take k ls.now) (drop k ls.now) (subst (AllByRecursion (IsLevel at.left_height)) (sym (take-append-drop k ls.now)) at.lefts)).1;
-          met = subst (AllByRecursion (IsMetPair meets left_box right_box at.left_height at.right_height)) (sym (fresh-met more asked rights)) tt;
-          later = at.rights;
-          rights = at.rights;
-          no_more = omega arith;
-          fits = at.fits;
-        });
+        room = λ n at. one-frame (n + 1) n (frame_of more asked 0 rights rights) refl (fresh-frame more asked rights n at.left_height at.right_height
+            (subst (AllByRecursion (IsLevel at.left_height)) (sym is) (all_second (IsLevel at.left_height) (take k ls.now) (drop k ls.now) (subst (AllByRecursion (IsLevel at.left_height)) (sym (take-append-drop k ls.now)) at.lefts)))
+            at.rights at.fits);
         nearer = omega (arith, a, b, c, d, fewer, dropped, positive, some);
       }
 
@@ -362,37 +347,37 @@ module _ {T E U F : Type 0} (meets : E → F → Bool) (left_box : T → E) (rig
       let both : met_of old ++ unasked_of old ≡ product block chunk.now ++ unasked_of new = (λ i. none i ++ unasked i) in
       let a = ap (opens_below meets left_box right_box) both in
       let b = sum_by-append opens_of (product block chunk.now) (unasked_of new) in
-      let c = kept-opens (product block chunk.now) in
+      let those = kept-those (product block chunk.now) in
       let d = sum_by-append opens_of (filter meets_pair (product block chunk.now)) (unasked_of new) in
       let e = ap (λ m. opens_below meets left_box right_box (m ++ unasked_of new)) made in
       let a' = ap (sum_by steps_of_pair) none in
       let b' = ap (sum_by asked_step) unasked in
       let c' = sum_by-append asked_step (product block chunk.now) (unasked_of new) in
-      let d' = kept-steps (product block chunk.now) in
       let e' = ap (sum_by steps_of_pair) made in
       let f' = product-some block chunk.now some' some in
       record {
         pairs = ap (pairs_below meets left_box right_box) both ∙ flat_map-append pairs_of (product block chunk.now) (unasked_of new)
-            ∙ ap (λ x. x ++ pairs_below meets left_box right_box (unasked_of new)) (kept-pairs (product block chunk.now))
+            ∙ ap (λ x. x ++ pairs_below meets left_box right_box (unasked_of new)) those.pairs
             ∙ sym (flat_map-append pairs_of (filter meets_pair (product block chunk.now)) (unasked_of new))
             ∙ ap (λ m. pairs_below meets left_box right_box (m ++ unasked_of new)) (sym made);
-        opened = omega (arith, a, b, c, d, e);
+        opened = omega (arith, a, b, those.opens, d, e);
         room = λ n at.
-            let parts = all-drop (IsLevel at.right_height) chunk.now rest.now (subst (AllByRecursion (IsLevel at.right_height)) split at.later) in
-            let lefts = all-drop (IsLevel at.left_height) block (drop k ls.now) (subst (AllByRecursion (IsLevel at.left_height)) (sym (take-append-drop k ls.now)) at.lefts) in
+            let parts = subst (AllByRecursion (IsLevel at.right_height)) split at.later in
+            let lefts = subst (AllByRecursion (IsLevel at.left_height)) (sym (take-append-drop k ls.now)) at.lefts in
             let long = ap length split in let longer = length-append chunk.now rest.now in
             one-frame (n + 1) n new refl (record {
               left_height = at.left_height;
               right_height = at.right_height;
               lefts = at.lefts;
               met = subst (AllByRecursion (IsMetPair meets left_box right_box at.left_height at.right_height)) (sym made)
-                  (kept-met at.left_height at.right_height (product block chunk.now) (all-product (IsLevel at.left_height) (IsLevel at.right_height) block chunk.now lefts.0 parts.0));
-              later = parts.1;
+                  (those.met at.left_height at.right_height (all-product (IsLevel at.left_height) (IsLevel at.right_height) block chunk.now
+                  (all_first (IsLevel at.left_height) block (drop k ls.now) lefts) (all_first (IsLevel at.right_height) chunk.now rest.now parts)));
+              later = all_second (IsLevel at.right_height) chunk.now rest.now parts;
               rights = at.rights;
               no_more = omega (arith, long, longer, at.no_more);
               fits = at.fits;
             });
-        nearer = omega (arith, a', b', c', d', e', f');
+        nearer = omega (arith, a', b', c', those.steps, e', f');
       }
 
   -- ---- a pair that is read
@@ -463,17 +448,17 @@ module _ {T E U F : Type 0} (meets : E → F → Bool) (left_box : T → E) (rig
 
       below-pairs : does_meet meets left_box right_box l r ≡ true → pairs_at meets left_box right_box l r ≡ pairs_below meets left_box right_box (met_of below_frame ++ unasked_of below_frame)
       below-pairs meeting =
-          (opened meets left_box right_box l r inner).pairs ∙ ap (λ (b : Bool). if b then all_pairs meets left_box right_box (opened_to l) (opened_to r) else []) meeting
+          (opened meets left_box right_box true l r inner meeting).pairs
           ∙ (λ i. all_pairs meets left_box right_box (sym down i) (sym down' i)) ∙ ap (pairs_below meets left_box right_box) (sym (fresh ls' asked rs'))
 
       below-opens : does_meet meets left_box right_box l r ≡ true → opens_at meets left_box right_box l r ≡ 1 + opens_below meets left_box right_box (met_of below_frame ++ unasked_of below_frame)
       below-opens meeting =
-          (opened meets left_box right_box l r inner).opens ∙ ap (λ (b : Bool). if b then 1 + all_opens meets left_box right_box (opened_to l) (opened_to r) else 0) meeting
+          (opened meets left_box right_box true l r inner meeting).opens
           ∙ (λ i. 1 + all_opens meets left_box right_box (sym down i) (sym down' i)) ∙ ap (λ ps. 1 + opens_below meets left_box right_box ps) (sym (fresh ls' asked rs'))
 
       below-steps : steps_at l r ≡ 1 + steps_of_frame below_frame
       below-steps =
-          (opened meets left_box right_box l r inner).steps ∙ (λ i. 1 + all_steps steps_at (sym down i) (sym down' i)) ∙ ap (λ n. 1 + n) (sym (fresh-steps ls' asked rs'))
+          (opened meets left_box right_box (does_meet meets left_box right_box l r) l r inner refl).steps ∙ (λ i. 1 + all_steps steps_at (sym down i) (sym down' i)) ∙ ap (λ n. 1 + n) (sym (fresh-steps ls' asked rs'))
 
       pub move-open : does_meet meets left_box right_box l r ≡ true → IsMove read_old (read_new ∷ below_frame ∷ []) [] 1
       move-open meeting =
@@ -484,16 +469,7 @@ module _ {T E U F : Type 0} (meets : E → F → Bool) (left_box : T → E) (rig
             room = λ k at.
                 let low = lower at inner in
                 two-frames (k + 1) k read_new below_frame refl (omega (arith, at.fits, low.4)) (read-frame k at)
-                (λ j e. record {
-                  left_height = low.0;
-                  right_height = low.1;
-                  lefts = subst (AllByRecursion (IsLevel low.0)) (sym down) low.2;
-                  met = subst (AllByRecursion (IsMetPair meets left_box right_box low.0 low.1)) (sym (fresh-met ls' asked rs')) tt;
-                  later = subst (AllByRecursion (IsLevel low.1)) (sym down') low.3;
-                  rights = subst (AllByRecursion (IsLevel low.1)) (sym down') low.3;
-                  no_more = omega arith;
-                  fits = omega (arith, at.fits, low.4, e);
-                });
+                (λ j e. fresh-frame ls' asked rs' j low.0 low.1 (subst (AllByRecursion (IsLevel low.0)) (sym down) low.2) (subst (AllByRecursion (IsLevel low.1)) (sym down') low.3) (omega (arith, at.fits, low.4, e)));
             nearer = omega (arith, steps, s);
           }
 
@@ -516,7 +492,7 @@ module _ {T E U F : Type 0} (meets : E → F → Bool) (left_box : T → E) (rig
     alone = ap (λ l. l ++ in_hand w ∷ []) idle.bare
 
     pub idle-pairs : pairs_by meets left_box right_box w ≡ []
-    idle-pairs = move-pairs (move-drop (in_hand w) idle.nothing) [] (frames_of w) [] alone refl
+    idle-pairs = ap (pairs_from_frames meets left_box right_box) alone ∙ (move-drop (in_hand w) idle.nothing).pairs
 
     pub idle-opens : opens_by meets left_box right_box w ≡ 0
     idle-opens = let e = ap (opens_from_frames meets left_box right_box) alone in let m = (move-drop (in_hand w) idle.nothing).opened in omega (arith, e, m)
@@ -533,16 +509,7 @@ module _ {T E U F : Type 0} (meets : E → F → Bool) (left_box : T → E) (rig
     first = frame_of ls asked 0 rs rs
 
     pub begins : AreJoinable room ls.now rs.now → AreFrames meets left_box right_box (room + 1) (first ∷ [])
-    begins at = one-frame (room + 1) room first refl (record {
-      left_height = at.left_height;
-      right_height = at.right_height;
-      lefts = at.left;
-      met = subst (AllByRecursion (IsMetPair meets left_box right_box at.left_height at.right_height)) (sym (fresh-met ls asked rs)) tt;
-      later = at.right;
-      rights = at.right;
-      no_more = omega arith;
-      fits = at.fits;
-    })
+    begins at = one-frame (room + 1) room first refl (fresh-frame ls asked rs room at.left_height at.right_height at.left at.right at.fits)
 
     pub begins-pairs : pairs_from_frames meets left_box right_box (first ∷ []) ≡ all_pairs meets left_box right_box ls.now rs.now
     begins-pairs = ap (pairs_below meets left_box right_box) (fresh ls asked rs)

@@ -1,12 +1,15 @@
 -- What a definition over a pair of nodes says of leaves, and of what comes after them.
-use Rattle.std.proofs.Common.{◌≡◌, ℕ, ◌+◌, ◌≤◌, Bool, true, false, List, [], ◌∷◌, ◌++◌, map, flat_map, sum_by, if◌then◌else◌, refl, ap, sym, ◌∙◌, subst, arith, append-nil, length, inl, inr, ◌⊎◌}
+use Rattle.std.proofs.Common.{◌≡◌, ℕ, ◌+◌, ◌≤◌, Bool, true, false, List, [], ◌∷◌, ◌++◌, map, flat_map, sum_by, if◌then◌else◌, refl, ap, sym, ◌∙◌, subst, arith, append-nil, length, inl, inr, ◌⊎◌, append_assoc, sum}
 use Rattle.std.proofs.lemmas.Bool.{true≢false}
-use Rattle.std.proofs.lemmas.List.Sums.{sum_by-cons}
+use Rattle.std.proofs.lemmas.List.Sums.{sum-map}
+use Rattle.std.proofs.lemmas.List.{map-append}
+use Rattle.std.proofs.lemmas.List.Folds.{flat_map-map}
+use Rattle.std.proofs.lemmas.Simd.{map-map}
 use Rattle.rstar.specs.declared.node.RTreeNode.{RTreeNode, Leaf, Parent, out-RTreeNode, roll-RTreeNode, roll-out-RTreeNode}
 use Rattle.rstar.specs.declared.node.RTreeNode.TheVariants.{outs-Parent, outs-Leaf, rolls-Parent, rolls-Leaf}
 use Rattle.rstar.specs.declared.node.RTreeNode.TheOpen as layer
 use Rattle.rstar.specs.declared.node.ParentNode.{ParentNode}
-use Rattle.rstar.specs.Nodes.{Layer, children_of, fold_tree, total, reach, given, all_given, all_reach, node_box, is_leaf_node}
+use Rattle.rstar.specs.Nodes.{Layer, children_of, fold_tree, total, reach, given, all_given, node_box, is_leaf_node}
 use Rattle.rstar.specs.Lists.{product}
 use Rattle.rstar.specs.Meets.{opened_to, next_nodes, next_shown, shown_box, count_shown, meet_shown, both_leaves, count_parents, meet, pairs_at, opens_at, all_pairs, all_opens}
 use Rattle.rstar.specs.Shown.{Shown, parent, nodes_in, row_of, fold_shown, fold_shown_row, shown}
@@ -20,51 +23,43 @@ abbrev pub the_pair : {A B : Type 0} → A → B → A × B
 the_pair a b = (a, b)
 
 module _ {A B C : Type 0} where
-  row-map : (f : A → C) (x : A) (ys : List B) (rest : List (A × B)) → map (λ (y : B). the_pair (f x) y) ys ++ map (λ (p : A × B). the_pair (f p.0) p.1) rest ≡ map (λ (p : A × B). the_pair (f p.0) p.1) (map (λ (y : B). the_pair x y) ys ++ rest)
-  row-map f x [] rest = refl
-  row-map f x (y ∷ ys) rest = ap (λ (l : List (C × B)). the_pair (f x) y ∷ l) (row-map f x ys rest)
-
   product-map : (f : A → C) (xs : List A) (ys : List B) → product (map f xs) ys ≡ map (λ (p : A × B). the_pair (f p.0) p.1) (product xs ys)
   product-map f [] ys = refl
-  product-map f (x ∷ xs) ys = ap (λ (l : List (C × B)). map (λ (y : B). the_pair (f x) y) ys ++ l) (product-map f xs ys) ∙ row-map f x ys (product xs ys)
-
-  row-map-right : (f : B → C) (x : A) (ys : List B) (rest : List (A × B)) → map (λ (y : C). the_pair x y) (map f ys) ++ map (λ (p : A × B). the_pair p.0 (f p.1)) rest ≡ map (λ (p : A × B). the_pair p.0 (f p.1)) (map (λ (y : B). the_pair x y) ys ++ rest)
-  row-map-right f x [] rest = refl
-  row-map-right f x (y ∷ ys) rest = ap (λ (l : List (A × C)). the_pair x (f y) ∷ l) (row-map-right f x ys rest)
+  product-map f (x ∷ xs) ys =
+      let row = map-map (λ (p : A × B). the_pair (f p.0) p.1) (λ (y : B). the_pair x y) ys in
+      (λ i. sym row i ++ product-map f xs ys i) ∙ sym (map-append (λ (p : A × B). the_pair (f p.0) p.1) (map (λ (y : B). the_pair x y) ys) (product xs ys))
 
   product-map-right : (f : B → C) (xs : List A) (ys : List B) → product xs (map f ys) ≡ map (λ (p : A × B). the_pair p.0 (f p.1)) (product xs ys)
   product-map-right f [] ys = refl
-  product-map-right f (x ∷ xs) ys = ap (λ (l : List (A × C)). map (λ (y : C). the_pair x y) (map f ys) ++ l) (product-map-right f xs ys) ∙ row-map-right f x ys (product xs ys)
+  product-map-right f (x ∷ xs) ys =
+      let row = map-map (λ (y : C). the_pair x y) f ys ∙ sym (map-map (λ (p : A × B). the_pair p.0 (f p.1)) (λ (y : B). the_pair x y) ys) in
+      (λ i. row i ++ product-map-right f xs ys i) ∙ sym (map-append (λ (p : A × B). the_pair p.0 (f p.1)) (map (λ (y : B). the_pair x y) ys) (product xs ys))
+
+pub product-rows : {A B : Type 0} (xs xs' : List A) (ys : List B) → product (xs ++ xs') ys ≡ product xs ys ++ product xs' ys
+product-rows [] xs' ys = refl
+product-rows (x ∷ xs) xs' ys = ap (λ l. map (λ y. the_pair x y) ys ++ l) (product-rows xs xs' ys) ∙ sym (append_assoc (map (λ y. the_pair x y) ys) (product xs ys) (product xs' ys))
 
 pub product-none : {A B : Type 0} (xs : List A) → product {B = B} xs [] ≡ []
 product-none [] = refl
 product-none (x ∷ xs) = product-none xs
 
-flat_map-map : {A B C : Type 0} (f : A → B) (g : B → List C) (xs : List A) → flat_map g (map f xs) ≡ flat_map (λ x. g (f x)) xs
-flat_map-map f g [] = refl
-flat_map-map f g (x ∷ xs) = ap (λ l. g (f x) ++ l) (flat_map-map f g xs)
-
 sum_by-map : {A B : Type 0} (f : A → B) (g : B → ℕ) (xs : List A) → sum_by g (map f xs) ≡ sum_by (λ x. g (f x)) xs
-sum_by-map f g [] = refl
-sum_by-map f g (x ∷ xs) = sum_by-cons g (f x) (map f xs) ∙ ap (λ n. g (f x) + n) (sum_by-map f g xs) ∙ sym (sum_by-cons (λ y. g (f y)) x xs)
+sum_by-map f g xs = sym (sum-map g (map f xs)) ∙ ap sum (map-map g f xs) ∙ sum-map (λ x. g (f x)) xs
 
 -- a row of a product
 pub flat_map-row : {A B C : Type 0} (f : A × B → List C) (x : A) (ys : List B) → flat_map f (product (x ∷ []) ys) ≡ flat_map (λ y. f (x, y)) ys
-flat_map-row f x ys = ap (flat_map f) (append-nil (map (λ y. the_pair x y) ys)) ∙ flat_map-map (λ y. the_pair x y) f ys
+flat_map-row f x ys = ap (flat_map f) (append-nil (map (λ y. the_pair x y) ys)) ∙ flat_map-map f (λ y. the_pair x y) ys
 
 pub sum_by-row : {A B : Type 0} (f : A × B → ℕ) (x : A) (ys : List B) → sum_by f (product (x ∷ []) ys) ≡ sum_by (λ y. f (x, y)) ys
 sum_by-row f x ys = ap (sum_by f) (append-nil (map (λ y. the_pair x y) ys)) ∙ sum_by-map (λ y. the_pair x y) f ys
 
-pub map-flat_map : {A B C : Type 0} (h : B → C) (g : A → List B) (xs : List A) → map h (flat_map g xs) ≡ flat_map (λ x. map h (g x)) xs
+map-flat_map : {A B C : Type 0} (h : B → C) (g : A → List B) (xs : List A) → map h (flat_map g xs) ≡ flat_map (λ x. map h (g x)) xs
 map-flat_map h g [] = refl
-map-flat_map h g (x ∷ xs) = map-append (g x) (flat_map g xs) ∙ ap (λ l. map h (g x) ++ l) (map-flat_map h g xs) where
-  map-append : (us vs : List _) → map h (us ++ vs) ≡ map h us ++ map h vs
-  map-append [] vs = refl
-  map-append (u ∷ us) vs = ap (λ l. h u ∷ l) (map-append us vs)
+map-flat_map h g (x ∷ xs) = map-append h (g x) (flat_map g xs) ∙ ap (λ l. map h (g x) ++ l) (map-flat_map h g xs)
 
 -- the values of a product of functions and what they are applied to
 pub flat_map-applied : {A B C : Type 0} (f : A → B → List C) (xs : List A) (ys : List B) → flat_map (λ (p : (B → List C) × B). p.0 p.1) (product (map f xs) ys) ≡ flat_map (λ (p : A × B). f p.0 p.1) (product xs ys)
-flat_map-applied f xs ys = ap (flat_map (λ p. p.0 p.1)) (product-map f xs ys) ∙ flat_map-map (λ (p : _ × _). the_pair (f p.0) p.1) (λ p. p.0 p.1) (product xs ys)
+flat_map-applied f xs ys = ap (flat_map (λ p. p.0 p.1)) (product-map f xs ys) ∙ flat_map-map (λ p. p.0 p.1) (λ (p : _ × _). the_pair (f p.0) p.1) (product xs ys)
 
 pub sum_by-applied : {A B : Type 0} (f : A → B → ℕ) (xs : List A) (ys : List B) → sum_by (λ (p : (B → ℕ) × B). p.0 p.1) (product (map f xs) ys) ≡ sum_by (λ (p : A × B). f p.0 p.1) (product xs ys)
 sum_by-applied f xs ys = ap (sum_by (λ p. p.0 p.1)) (product-map f xs ys) ∙ sum_by-map (λ (p : _ × _). the_pair (f p.0) p.1) (λ p. p.0 p.1) (product xs ys)
@@ -76,12 +71,8 @@ sum_by-seen {A} {B} {C} {D} f g h xs ys =
     ∙ sum_by-map (λ (p : A × D). the_pair (f p.0) p.1) (λ (p : C × D). h p.0 p.1) (map (λ (p : A × B). the_pair p.0 (g p.1)) (product xs ys))
     ∙ sum_by-map (λ (p : A × B). the_pair p.0 (g p.1)) (λ (p : A × D). h (f p.0) p.1) (product xs ys)
 
-total-applied : {A C : Type 0} (f : C → A) (g : A → ℕ) (xs : List C) → total (map g (map f xs)) ≡ total (map (λ x. g (f x)) xs)
-total-applied f g [] = refl
-total-applied f g (x ∷ xs) = ap (λ n. g (f x) + n) (total-applied f g xs)
-
 pub all_steps-applied : {A B : Type 0} (f : A → B → ℕ) (xs : List A) (ys : List B) → all_steps (λ (b : B → ℕ) n. b n) (map f xs) ys ≡ all_steps f xs ys
-all_steps-applied f xs ys = ap (λ n. 1 + n) (total-applied f (λ (b : _ → ℕ). row_steps (λ (b : _ → ℕ) n. b n) b ys) xs)
+all_steps-applied f xs ys = ap (λ n. 1 + n) (ap total (map-map (λ (b : _ → ℕ). row_steps (λ (b : _ → ℕ) n. b n) b ys) f xs))
 
 -- ---- what a row shows
 
@@ -129,7 +120,7 @@ module _ {T E : Type 0} where
   count_parents-Parent accepts p =
       ap (count_shown accepts) (shown-Parent p)
       ∙ ap (λ (below : List ℕ). (if accepts p.envelope then 1 else 0) + total below) (folded-row (λ t. 0) (λ e below. (if accepts e then 1 else 0) + total below) (map shown (children_of p)))
-      ∙ ap (λ (n : ℕ). (if accepts p.envelope then 1 else 0) + n) (total-applied shown (count_shown accepts) (children_of p))
+      ∙ ap (λ (n : ℕ). (if accepts p.envelope then 1 else 0) + n) (ap total (map-map (count_shown accepts) shown (children_of p)))
 
 -- what a node shows has the same envelope, and what it is opened to comes after it
 module _ {T E : Type 0} where
@@ -146,6 +137,10 @@ module _ {T E : Type 0} where
     by_case (inr a) = ap (λ m. next_shown (shown m)) a.1 ∙ ap next_shown (shown-Parent a.0) ∙ nodes-row (map shown (children_of a.0)) ∙ sym (ap (λ m. map shown (opened_to m)) a.1 ∙ ap (map shown) (opened_to-Parent a.0))
 
 -- ---- pairs of nodes
+
+-- Meet of all pairs of two lists of nodes
+abbrev pub all_meets : {T E U F : Type 0} → (E → F → Bool) → (T → E) → (U → F) → List (RTreeNode T E) → List (RTreeNode U F) → ℕ
+all_meets {T} {E} {U} {F} meets left_box right_box ls rs = sum_by (λ (p : RTreeNode T E × RTreeNode U F). meet meets left_box right_box p.0 p.1) (product ls rs)
 
 module _ (T E U F : Type 0) (meets : E → F → Bool) (left_box : T → E) (right_box : U → F) where
   -- a leaf beside a node
@@ -177,7 +172,7 @@ module _ {T E U F : Type 0} (meets : E → F → Bool) (left_box : T → E) (rig
 
   -- a parent beside a node, by the children of both
   pub meet-row : (e : E) (ls : List (RTreeNode T E)) (r : Shown U F) (rs : List (RTreeNode U F)) → next_shown r ≡ map shown rs
-      → meet_shown meets left_box right_box (parent e (row_of (map shown ls))) r ≡ (if meets e (shown_box right_box r) then 1 else 0) + sum_by (λ (q : RTreeNode T E × RTreeNode U F). meet meets left_box right_box q.0 q.1) (product ls rs)
+      → meet_shown meets left_box right_box (parent e (row_of (map shown ls))) r ≡ (if meets e (shown_box right_box r) then 1 else 0) + all_meets meets left_box right_box ls rs
   unfolding meet
   meet-row e ls r rs next =
       let from = (if meets e (shown_box right_box r) then 1 else 0) in
@@ -186,16 +181,16 @@ module _ {T E U F : Type 0} (meets : E → F → Bool) (left_box : T → E) (rig
       ∙ ap (λ (l : List (Shown U F)). sum_by (λ (p : Shown T E × Shown U F). meet_shown meets left_box right_box p.0 p.1) (product (map shown ls) l)) next
       ∙ sum_by-seen shown shown (meet_shown meets left_box right_box) ls rs)
 
-  pub meet-Parent : (p : ParentNode T E) (r : RTreeNode U F) → meet meets left_box right_box (Parent p) r ≡ (if meets p.envelope (node_box right_box r) then 1 else 0) + sum_by (λ (q : RTreeNode T E × RTreeNode U F). meet meets left_box right_box q.0 q.1) (product (children_of p) (opened_to r))
+  pub meet-Parent : (p : ParentNode T E) (r : RTreeNode U F) → meet meets left_box right_box (Parent p) r ≡ (if meets p.envelope (node_box right_box r) then 1 else 0) + all_meets meets left_box right_box (children_of p) (opened_to r)
   unfolding meet
   meet-Parent p r =
       ap (λ (l : Shown T E). meet_shown meets left_box right_box l (shown r)) (shown-Parent p)
       ∙ meet-row p.envelope (children_of p) (shown r) (opened_to r) (shown-next r)
-      ∙ ap (λ (f : F). (if meets p.envelope f then 1 else 0) + sum_by (λ (q : RTreeNode T E × RTreeNode U F). meet meets left_box right_box q.0 q.1) (product (children_of p) (opened_to r))) (shown-box right_box r)
+      ∙ ap (λ (f : F). (if meets p.envelope f then 1 else 0) + all_meets meets left_box right_box (children_of p) (opened_to r)) (shown-box right_box r)
 
   -- two roots that have children
   pub meet-roots : (e : E) (f : F) (ls : List (RTreeNode T E)) (rs : List (RTreeNode U F))
-      → meet_shown meets left_box right_box (parent e (row_of (map shown ls))) (parent f (row_of (map shown rs))) ≡ (if meets e f then 1 else 0) + sum_by (λ (q : RTreeNode T E × RTreeNode U F). meet meets left_box right_box q.0 q.1) (product ls rs)
+      → meet_shown meets left_box right_box (parent e (row_of (map shown ls))) (parent f (row_of (map shown rs))) ≡ (if meets e f then 1 else 0) + all_meets meets left_box right_box ls rs
   meet-roots e f ls rs = meet-row e ls (parent f (row_of (map shown rs))) rs (nodes-row (map shown rs))
 
 steps-beside-Leaf : (U F : Type 0) (u : U) → steps_beside {F = F} (Leaf u) ≡ 1
@@ -204,7 +199,7 @@ steps-beside-Leaf U F u = refl
 
 steps-beside-Parent : {U F : Type 0} (q : ParentNode U F) → steps_beside (Parent q) ≡ 3 + total (map (λ r. 1 + steps_beside r) (children_of q))
 unfolding steps_beside
-steps-beside-Parent q = fold_tree-Parent _ _ q ∙ ap (λ n. 3 + n) (total-applied steps_beside (λ n. 1 + n) (children_of q))
+steps-beside-Parent q = fold_tree-Parent _ _ q ∙ ap (λ n. 3 + n) (ap total (map-map (λ n. 1 + n) steps_beside (children_of q)))
 
 module _ (T E U F : Type 0) where
   steps-at-Leaf : (t : T) (r : RTreeNode U F) → steps_at {E = E} (Leaf t) r ≡ steps_beside r
@@ -223,13 +218,9 @@ pub opened-single : {T E : Type 0} (ns rest : List (RTreeNode T E)) (n : RTreeNo
 opened-single ns [] n is one = ap (flat_map opened_to) is ∙ append-nil (opened_to n)
 opened-single ns (m ∷ rest) n is one = let e = ap length is in absurd (omega arith)
 
-flat_map-same : {A B : Type 0} (f g : A → List B) → ((x : A) → f x ≡ g x) → (xs : List A) → flat_map f xs ≡ flat_map g xs
-flat_map-same f g same [] = refl
-flat_map-same f g same (x ∷ xs) = ap (λ l. l ++ flat_map f xs) (same x) ∙ ap (λ l. g x ++ l) (flat_map-same f g same xs)
-
-pub sum_by-same : {A : Type 0} (f g : A → ℕ) → ((x : A) → f x ≡ g x) → (xs : List A) → sum_by f xs ≡ sum_by g xs
-sum_by-same f g same [] = refl
-sum_by-same f g same (x ∷ xs) = let a = sum_by-cons f x xs in let b = sum_by-cons g x xs in let c = same x in let d = sum_by-same f g same xs in omega arith
+-- sums over a row of a product, where each item gives as much as its pair
+row-sums : {A B : Type 0} (f : B → ℕ) (g : A → B → ℕ) (x : A) → ((y : B) → g x y ≡ f y) → (ys : List B) → total (map f ys) ≡ sum_by (λ (p : A × B). g p.0 p.1) (product (x ∷ []) ys)
+row-sums f g x same ys = total-map f ys ∙ (λ i. sum_by (λ y. sym (same y) i) ys) ∙ sym (sum_by-row (λ p. g p.0 p.1) x ys)
 
 -- two leaves by the test
 pub leaf-found : {T E U F : Type 0} (l : RTreeNode T E) (r : RTreeNode U F) → both_leaves l r ≡ true → (t : T) × (u : U) × (l ≡ Leaf t) × (r ≡ Leaf u)
@@ -245,10 +236,6 @@ if-map : {A B : Type 0} (h : A → B) (b : Bool) (xs : List A) → map h (if b t
 if-map h true xs = refl
 if-map h false xs = refl
 
-steps-row : (T E : Type 0) {U F : Type 0} (t : T) (rs : List (RTreeNode U F)) → total (map (λ r. 1 + steps_at {E = E} (Leaf t) r) rs) ≡ total (map (λ r. 1 + steps_beside r) rs)
-steps-row T E t [] = refl
-steps-row T E {U} {F} t (r ∷ rs) = let a = steps-at-Leaf T E U F t r in let b = steps-row T E t rs in omega arith
-
 module _ (T E U F : Type 0) (meets : E → F → Bool) (left_box : T → E) (right_box : U → F) where
   -- all of it, of a leaf beside a parent
   pairs-beside : (t : T) (q : ParentNode U F) → pairs_at meets left_box right_box (Leaf t) (Parent q)
@@ -258,7 +245,7 @@ module _ (T E U F : Type 0) (meets : E → F → Bool) (left_box : T → E) (rig
       let row = λ (r : RTreeNode U F). pairs-Leaf T E U F meets left_box right_box t r in
       let each : map (λ u. the_pair t u) (all_given (meets (left_box t)) (λ u. meets (left_box t) (right_box u)) (children_of q)) ≡ all_pairs meets left_box right_box (Leaf t ∷ []) (children_of q) =
       map-flat_map (λ u. the_pair t u) (given (meets (left_box t)) (λ u. meets (left_box t) (right_box u))) (children_of q)
-      ∙ flat_map-same (λ r. map (λ u. the_pair t u) (given (meets (left_box t)) (λ u. meets (left_box t) (right_box u)) r)) (pairs_at meets left_box right_box (Leaf t)) (λ r. sym (row r)) (children_of q)
+      ∙ (λ i. flat_map (λ r. sym (row r) i) (children_of q))
       ∙ sym (flat_map-row (λ (p : RTreeNode T E × RTreeNode U F). pairs_at meets left_box right_box p.0 p.1) (Leaf t) (children_of q)) in
       row (Parent q) ∙ ap tagged (given-Parent (meets (left_box t)) (λ u. meets (left_box t) (right_box u)) q)
       ∙ if-map (λ u. the_pair t u) (meets (left_box t) q.envelope) _
@@ -267,12 +254,14 @@ module _ (T E U F : Type 0) (meets : E → F → Bool) (left_box : T → E) (rig
   opens-beside : (t : T) (q : ParentNode U F) → opens_at meets left_box right_box (Leaf t) (Parent q)
       ≡ (if meets (left_box t) q.envelope then 1 + all_opens meets left_box right_box (Leaf t ∷ []) (children_of q) else 0)
   opens-beside t q =
-      let row = λ (r : RTreeNode U F). opens-Leaf T E U F meets left_box right_box t r in
-      let each : all_reach (meets (left_box t)) (children_of q) ≡ all_opens meets left_box right_box (Leaf t ∷ []) (children_of q) =
-      total-map (reach (meets (left_box t))) (children_of q)
-      ∙ sum_by-same (reach (meets (left_box t))) (opens_at meets left_box right_box (Leaf t)) (λ r. sym (row r)) (children_of q)
-      ∙ sym (sum_by-row (λ (p : RTreeNode T E × RTreeNode U F). opens_at meets left_box right_box p.0 p.1) (Leaf t) (children_of q)) in
-      row (Parent q) ∙ reach-Parent (meets (left_box t)) q ∙ ap (λ (n : ℕ). if meets (left_box t) q.envelope then 1 + n else 0) each
+      opens-Leaf T E U F meets left_box right_box t (Parent q) ∙ reach-Parent (meets (left_box t)) q
+      ∙ ap (λ (n : ℕ). if meets (left_box t) q.envelope then 1 + n else 0) (row-sums (reach (meets (left_box t))) (opens_at meets left_box right_box) (Leaf t) (opens-Leaf T E U F meets left_box right_box t) (children_of q))
+
+  meet-beside : (t : T) (q : ParentNode U F) → meet meets left_box right_box (Leaf t) (Parent q)
+      ≡ (if meets (left_box t) q.envelope then 1 else 0) + all_meets meets left_box right_box (Leaf t ∷ []) (children_of q)
+  meet-beside t q =
+      meet-Leaf T E U F meets left_box right_box t (Parent q) ∙ count_parents-Parent (meets (left_box t)) q
+      ∙ ap (λ (n : ℕ). (if meets (left_box t) q.envelope then 1 else 0) + n) (row-sums (count_parents (meets (left_box t))) (meet meets left_box right_box) (Leaf t) (meet-Leaf T E U F meets left_box right_box t) (children_of q))
 
   -- two leaves
   pub pairs-leaves : (t : T) (u : U) → pairs_at meets left_box right_box (Leaf t) (Leaf u) ≡ (if meets (left_box t) (right_box u) then the_pair t u ∷ [] else [])
@@ -281,6 +270,9 @@ module _ (T E U F : Type 0) (meets : E → F → Bool) (left_box : T → E) (rig
       ∙ ap (map (λ u. the_pair t u)) (given-Leaf U F (meets (left_box t)) (λ u. meets (left_box t) (right_box u)) u)
       ∙ if-map (λ u. the_pair t u) (meets (left_box t) (right_box u)) (u ∷ [])
 
+  pub meet-leaves : (t : T) (u : U) → meet meets left_box right_box (Leaf t) (Leaf u) ≡ 0
+  meet-leaves t u = meet-Leaf T E U F meets left_box right_box t (Leaf u) ∙ count_parents-Leaf U F (meets (left_box t)) u
+
   pub opens-leaves : (t : T) (u : U) → opens_at meets left_box right_box (Leaf t) (Leaf u) ≡ 0
   opens-leaves t u = opens-Leaf T E U F meets left_box right_box t (Leaf u) ∙ reach-Leaf U F (meets (left_box t)) u
 
@@ -288,50 +280,52 @@ module _ {T E U F : Type 0} (meets : E → F → Bool) (left_box : T → E) (rig
   abbrev pub does_meet : RTreeNode T E → RTreeNode U F → Bool
   does_meet l r = meets (node_box left_box l) (node_box right_box r)
 
-  -- a pair that is not of two leaves
-  pub record IsOpened (l : RTreeNode T E) (r : RTreeNode U F) : Type 0 where
-    pub pairs : pairs_at meets left_box right_box l r ≡ (if does_meet l r then all_pairs meets left_box right_box (opened_to l) (opened_to r) else [])
-    pub opens : opens_at meets left_box right_box l r ≡ (if does_meet l r then 1 + all_opens meets left_box right_box (opened_to l) (opened_to r) else 0)
+  -- a pair that is not of two leaves, by whether it meets
+  pub record IsOpened (b : Bool) (l : RTreeNode T E) (r : RTreeNode U F) : Type 0 where
+    pub pairs : pairs_at meets left_box right_box l r ≡ (if b then all_pairs meets left_box right_box (opened_to l) (opened_to r) else [])
+    pub opens : opens_at meets left_box right_box l r ≡ (if b then 1 + all_opens meets left_box right_box (opened_to l) (opened_to r) else 0)
+    pub counts : meet meets left_box right_box l r ≡ (if b then 1 else 0) + all_meets meets left_box right_box (opened_to l) (opened_to r)
     pub steps : steps_at l r ≡ 1 + all_steps steps_at (opened_to l) (opened_to r)
 
   opened-from : (l : RTreeNode T E) (r : RTreeNode U F) (e : E) (f : F) (ls : List (RTreeNode T E)) (rs : List (RTreeNode U F))
       → e ≡ node_box left_box l → f ≡ node_box right_box r → ls ≡ opened_to l → rs ≡ opened_to r
       → pairs_at meets left_box right_box l r ≡ (if meets e f then all_pairs meets left_box right_box ls rs else [])
       → opens_at meets left_box right_box l r ≡ (if meets e f then 1 + all_opens meets left_box right_box ls rs else 0)
-      → steps_at l r ≡ 1 + all_steps steps_at ls rs → IsOpened l r
-  opened-from l r e f ls rs is_e is_f is_ls is_rs p o s = record {
+      → meet meets left_box right_box l r ≡ (if meets e f then 1 else 0) + all_meets meets left_box right_box ls rs
+      → steps_at l r ≡ 1 + all_steps steps_at ls rs → IsOpened (does_meet l r) l r
+  opened-from l r e f ls rs is_e is_f is_ls is_rs p o m s = record {
     pairs = p ∙ (λ i. if meets (is_e i) (is_f i) then all_pairs meets left_box right_box (is_ls i) (is_rs i) else []);
     opens = o ∙ (λ i. if meets (is_e i) (is_f i) then 1 + all_opens meets left_box right_box (is_ls i) (is_rs i) else 0);
+    counts = m ∙ (λ i. (if meets (is_e i) (is_f i) then 1 else 0) + all_meets meets left_box right_box (is_ls i) (is_rs i));
     steps = s ∙ (λ i. 1 + all_steps steps_at (is_ls i) (is_rs i));
   }
 
-  opened-Parent : (p : ParentNode T E) (r : RTreeNode U F) → IsOpened (Parent p) r
+  opened-Parent : (p : ParentNode T E) (r : RTreeNode U F) → IsOpened (does_meet (Parent p) r) (Parent p) r
   opened-Parent p r =
       opened-from (Parent p) r p.envelope (node_box right_box r) (children_of p) (opened_to r) (sym (node_box-Parent left_box p)) refl (sym (opened_to-Parent p)) refl
-      (pairs-Parent meets left_box right_box p r) (opens-Parent meets left_box right_box p r) (steps-at-Parent p r)
+      (pairs-Parent meets left_box right_box p r) (opens-Parent meets left_box right_box p r) (meet-Parent meets left_box right_box p r) (steps-at-Parent p r)
 
-  opened-beside : (t : T) (q : ParentNode U F) → IsOpened (Leaf t) (Parent q)
+  opened-beside : (t : T) (q : ParentNode U F) → IsOpened (does_meet (Leaf t) (Parent q)) (Leaf t) (Parent q)
   opened-beside t q =
-      let a = steps-at-Leaf T E U F t (Parent q) in let b = steps-beside-Parent q in let c = steps-row T E t (children_of q) in
+      let a = steps-at-Leaf T E U F t (Parent q) in let b = steps-beside-Parent q in
+      let c : total (map (λ r. 1 + steps_at {E = E} (Leaf t) r) (children_of q)) ≡ total (map (λ r. 1 + steps_beside r) (children_of q)) = λ i. total (map (λ r. 1 + steps-at-Leaf T E U F t r i) (children_of q)) in
       opened-from (Leaf t) (Parent q) (left_box t) q.envelope (Leaf t ∷ []) (children_of q) (sym (node_box-Leaf T E left_box t)) (sym (node_box-Parent right_box q))
       (sym (opened_to-Leaf T E t)) (sym (opened_to-Parent q))
-      (pairs-beside T E U F meets left_box right_box t q) (opens-beside T E U F meets left_box right_box t q) (omega (arith, a, b, c))
+      (pairs-beside T E U F meets left_box right_box t q) (opens-beside T E U F meets left_box right_box t q) (meet-beside T E U F meets left_box right_box t q) (omega (arith, a, b, c))
 
-  pub opened : (l : RTreeNode T E) (r : RTreeNode U F) → both_leaves l r ≡ false → IsOpened l r
-  opened l r apart = by_left (node-cases l) (node-cases r) where
-    by_left : ((t : T) × (l ≡ Leaf t)) ⊎ ((p : ParentNode T E) × (l ≡ Parent p)) → ((u : U) × (r ≡ Leaf u)) ⊎ ((q : ParentNode U F) × (r ≡ Parent q)) → IsOpened l r
-    by_left (inr a) b = subst (λ x. IsOpened x r) (sym a.1) (opened-Parent a.0 r)
-    by_left (inl a) (inr b) = subst (λ x. IsOpened x r) (sym a.1) (subst (λ x. IsOpened (Leaf a.0) x) (sym b.1) (opened-beside a.0 b.0))
+  pub opened : (b : Bool) (l : RTreeNode T E) (r : RTreeNode U F) → both_leaves l r ≡ false → does_meet l r ≡ b → IsOpened b l r
+  opened b l r apart is = subst (λ b. IsOpened b l r) is (by_left (node-cases l) (node-cases r)) where
+    by_left : ((t : T) × (l ≡ Leaf t)) ⊎ ((p : ParentNode T E) × (l ≡ Parent p)) → ((u : U) × (r ≡ Leaf u)) ⊎ ((q : ParentNode U F) × (r ≡ Parent q)) → IsOpened (does_meet l r) l r
+    by_left (inr a) b = subst (λ x. IsOpened (does_meet x r) x r) (sym a.1) (opened-Parent a.0 r)
+    by_left (inl a) (inr b) =
+        subst (λ x. IsOpened (does_meet x r) x r) (sym a.1) (subst (λ x. IsOpened (does_meet (Leaf a.0) x) (Leaf a.0) x) (sym b.1) (opened-beside a.0 b.0))
     by_left (inl a) (inl b) = absurd (true≢false (sym (ap (λ x. both_leaves x r) a.1 ∙ ap (λ c. if c then is_leaf_node r else false) (is_leaf-Leaf T E a.0) ∙ ap is_leaf_node b.1 ∙ is_leaf-Leaf U F b.0) ∙ apart))
 
   -- a pair that does not meet
   pub passed : (l : RTreeNode T E) (r : RTreeNode U F) → does_meet l r ≡ false → (pairs_at meets left_box right_box l r ≡ []) × (opens_at meets left_box right_box l r ≡ 0)
   passed l r apart = by_test (both_leaves l r) refl where
     by_test : (b : Bool) → both_leaves l r ≡ b → (pairs_at meets left_box right_box l r ≡ []) × (opens_at meets left_box right_box l r ≡ 0)
-    by_test false is = let o = opened l r is in (
-      o.pairs ∙ ap (λ (b : Bool). if b then all_pairs meets left_box right_box (opened_to l) (opened_to r) else []) apart,
-      o.opens ∙ ap (λ (b : Bool). if b then 1 + all_opens meets left_box right_box (opened_to l) (opened_to r) else 0) apart,
-    )
+    by_test false is = let o = opened false l r is apart in (o.pairs, o.opens)
     by_test true is = let a = leaf-found l r is in
         let low : does_meet l r ≡ meets (left_box a.0) (right_box a.1) = (λ i. meets ((ap (node_box left_box) a.2 ∙ node_box-Leaf T E left_box a.0) i) ((ap (node_box right_box) a.3 ∙ node_box-Leaf U F right_box a.1) i)) in (
           (λ i. pairs_at meets left_box right_box (a.2 i) (a.3 i)) ∙ pairs-leaves T E U F meets left_box right_box a.0 a.1

@@ -3,10 +3,12 @@ use Rattle.std.proofs.Common.{◌≡◌, ◌≢◌, ℕ, ℤ, zero, suc, ◌+◌
 use Rattle.std.specs.Prelude.{Option, Some, None}
 use Rattle.std.specs.Borrow.{Bor}
 use Rattle.std.specs.List.Sorted.{IsPermutation}
-use Rattle.std.proofs.lemmas.List.Sorted.{IsPermutation-refl, IsPermutation-append, IsPermutation-append_comm, IsPermutation-trans}
+use Rattle.std.proofs.lemmas.List.Sorted.{IsPermutation-refl, IsPermutation-append, IsPermutation-append_comm, IsPermutation-trans, IsPermutation-append_left}
 use Rattle.std.proofs.lemmas.List.Elements.{filter-append}
 use Rattle.std.proofs.lemmas.List.Sums.{sum_by-cons, sum_by-append}
 use Rattle.std.proofs.lemmas.List.Concat.{flat_map-append}
+use Rattle.std.proofs.lemmas.Bool.{true≢false}
+use Rattle.std.proofs.lemmas.List.{map-append}
 use Rattle.rstar_base.specs.Envelopes.{Boxes, EnvelopeLaws}
 use Rattle.rstar_base.specs.Elements.{Objects, ObjectLaws}
 use Rattle.rstar_base.specs.Hulls.{hull}
@@ -18,25 +20,20 @@ use Rattle.rstar.specs.declared.iterators.joins.selves.SelfIntersectionIterator.
 use Rattle.rstar.specs.Nodes.{parents, all_parents, elements, all_elements, children_of, node_box, is_leaf_node, fold_tree, IsTree, IsInner, IsElement, AreWhole, IsWhole}
 use Rattle.rstar.specs.Lists.{product}
 use Rattle.rstar.specs.Meets.{opened_to, both_leaves, meet_of_roots, all_pairs, all_opens, pairs_at, opens_at}
-use Rattle.rstar.specs.inside.PairWalks.{pairs_below, opens_below, opens_by, IsNextPair}
+use Rattle.rstar.specs.inside.PairWalks.{pairs_below, opens_below, opens_by, IsNextPair, pairs_by, IsIdle, IsWalk}
 use Rattle.rstar.specs.Joins.{SeenLaws, meets_by, join}
-use Rattle.rstar.specs.SelfJoins.{pairs_behind, self_join, Lists, siblings_by, siblings_below, siblings, pairs_within, opens_within, pairs_from_lists, opens_from_lists, own_pairs, own_opens, own_meet, own_meet_of, own_to_come, list_weight, weight, weight_of, AreLists, HasItsLists, IsSelfJoining, GivesOwnPair}
+use Rattle.rstar.specs.SelfJoins.{pairs_behind, self_join, Lists, siblings_by, siblings_below, siblings, pairs_within, opens_within, pairs_from_lists, opens_from_lists, own_pairs, own_opens, own_meet, own_meet_of, own_to_come, list_weight, weight, weight_of, AreLists, HasItsLists, IsSelfJoining, GivesOwnPair, IsEntered}
 use Rattle.rstar.proofs.trees.ByChildren.{fold_tree-Parent, no_leaf, no_parent, parent_of, is_leaf, is_parent, elements-Leaf, elements-Parent, parents-Parent}
 use Rattle.rstar.proofs.trees.Heights.{levels_are}
 use Rattle.rstar.proofs.joining.PairsByChildren.{the_pair, opened, opened_to-Parent, is_leaf-Parent}
-use Rattle.rstar.proofs.joining.MeetingNodes.{IsJoined, all-joined}
+use Rattle.rstar.proofs.joining.MeetingNodes.{IsJoined, all-joined, exchanged}
 use Rattle.rstar.proofs.searching.Nearness.{box-value, full-box, hull_full}
 use Rattle.rstar.proofs.trees.Trees.{merged_is_hull}
 use Rattle.rstar.proofs.joining.Joined.{right, roots-counted}
+use Rattle.rstar_base.specs.Counts.{usize_max}
+use Rattle.rstar.proofs.joining.PairWalks.{idle-pairs, idle-opens}
 
 -- ---- joins of lists with themselves
-
-four-turned : {A : Type 0} (a b c d : List A) → IsPermutation ((a ++ b) ++ (c ++ d)) ((c ++ a) ++ (b ++ d))
-four-turned a b c d =
-    let swapped = IsPermutation-append ((a ++ b) ++ c) ((c ++ a) ++ b) d d
-    (subst (IsPermutation ((a ++ b) ++ c)) (sym (append_assoc c a b)) (IsPermutation-append_comm (a ++ b) c)) (IsPermutation-refl d) in
-    subst (λ l. IsPermutation l ((c ++ a) ++ (b ++ d))) (append_assoc (a ++ b) c d)
-    (subst (IsPermutation (((a ++ b) ++ c) ++ d)) (append_assoc (c ++ a) b d) swapped)
 
 module _ {T E : Type 0} (meets : E → E → Bool) (box_of : T → E) where
   abbrev kept : List (T × T) → List (T × T)
@@ -44,10 +41,6 @@ module _ {T E : Type 0} (meets : E → E → Bool) (box_of : T → E) where
 
   abbrev row : T → List T → List (T × T)
   row x ys = map (λ y. the_pair x y) ys
-
-  row-append : (x : T) (ys zs : List T) → row x (ys ++ zs) ≡ row x ys ++ row x zs
-  row-append x [] zs = refl
-  row-append x (y ∷ ys) zs = ap (λ l. the_pair x y ∷ l) (row-append x ys zs)
 
   kept-append : (ps qs : List (T × T)) → kept (ps ++ qs) ≡ kept ps ++ kept qs
   kept-append ps qs = filter-append (λ p. meets (box_of p.0) (box_of p.1)) ps qs
@@ -64,10 +57,10 @@ module _ {T E : Type 0} (meets : E → E → Bool) (box_of : T → E) where
       let left : join meets box_of box_of (x ∷ xs) ys ≡ a ++ b = kept-append (row x ys) (product xs ys) in
       let mid : self_join meets box_of (x ∷ xs) ++ s' ≡ c ++ (s ++ s') = ap (λ l. l ++ s') (kept-append (row x xs) (pairs_behind xs)) ∙ append_assoc c s s' in
       let all : self_join meets box_of (x ∷ (xs ++ ys)) ≡ (c ++ a) ++ self_join meets box_of (xs ++ ys) =
-      kept-append (row x (xs ++ ys)) (pairs_behind (xs ++ ys)) ∙ ap (λ l. l ++ self_join meets box_of (xs ++ ys)) (ap kept (row-append x xs ys) ∙ kept-append (row x xs) (row x ys)) in
+      kept-append (row x (xs ++ ys)) (pairs_behind (xs ++ ys)) ∙ ap (λ l. l ++ self_join meets box_of (xs ++ ys)) (ap kept (map-append (λ y. the_pair x y) xs ys) ∙ kept-append (row x xs) (row x ys)) in
       subst (IsPermutation (join meets box_of box_of (x ∷ xs) ys ++ (self_join meets box_of (x ∷ xs) ++ s'))) (sym all)
       (subst (λ l. IsPermutation l ((c ++ a) ++ self_join meets box_of (xs ++ ys))) (sym (λ i. left i ++ mid i))
-      (IsPermutation-trans _ _ _ (four-turned a b c (s ++ s'))
+      (IsPermutation-trans _ _ _ (IsPermutation-trans _ _ _ (exchanged a b c (s ++ s')) (IsPermutation-append_left (b ++ (s ++ s')) (a ++ c) (c ++ a) (IsPermutation-append_comm a c)))
       (IsPermutation-append (c ++ a) (c ++ a) (b ++ (s ++ s')) (self_join meets box_of (xs ++ ys)) (IsPermutation-refl (c ++ a)) (self_join-append xs ys))))
 
 -- ---- what the first node of a list gives, and what comes below and behind it
@@ -218,14 +211,15 @@ module _ {T E : Type 0} (v : Boxes E) (o : Objects T E) (meets : E → E → Boo
     pub nearer : weight_of items' < weight_of items
 
   module _ (items above : Lists T E) (nodes : Bor (List (RTreeNode T E))) (is : items ≡ above ++ nodes ∷ []) where
-    pub taken-none : nodes.now ≡ [] → (pairs_from_lists meets o.box_of items ≡ pairs_from_lists meets o.box_of above) × (opens_from_lists meets o.box_of items ≡ opens_from_lists meets o.box_of above) × (weight_of above < weight_of items)
+    pub taken-none : nodes.now ≡ [] → IsTaken items above [] [] 0
     taken-none none =
         let a = ap (opens_from_lists meets o.box_of) is ∙ opens-after above (nodes ∷ []) in let b = ap (opens_within meets o.box_of) none in
-        let c = ap weight_of is ∙ weight-after above (nodes ∷ []) in let d = ap (λ l. list_weight (map weight l)) none in (
-          ap (pairs_from_lists meets o.box_of) is ∙ pairs-after above (nodes ∷ []) ∙ ap (λ l. pairs_within meets o.box_of l ++ pairs_from_lists meets o.box_of above) none,
-          omega (arith, a, b),
-          omega (arith, c, d),
-        )
+        let c = ap weight_of is ∙ weight-after above (nodes ∷ []) in let d = ap (λ l. list_weight (map weight l)) none in
+        record {
+          pairs = ap (pairs_from_lists meets o.box_of) is ∙ pairs-after above (nodes ∷ []) ∙ ap (λ l. pairs_within meets o.box_of l ++ pairs_from_lists meets o.box_of above) none;
+          opens = omega (arith, a, b);
+          nearer = omega (arith, c, d);
+        }
 
     module _ (h : ℕ) (items' : Lists T E) (behind : Bor (List (RTreeNode T E))) (n : RTreeNode T E) (first : nodes.now ≡ n ∷ behind.now) (whole : AreWhole v o h nodes.now) where
       abbrev rest : List (T × T)
@@ -337,8 +331,7 @@ module _ {T E : Type 0} {IsPoint : List ℤ → Type 0} {v : Boxes E} {o : Objec
       let leaf = ap is_leaf_node p.1 ∙ is_leaf-Parent p.0 in
       let inner : both_leaves n n ≡ false = ap (λ (b : Bool). if b then is_leaf_node n else false) leaf in
       let met = meets-itself (node_box o.box_of n) (box-value laws ok (suc h) n w) (full-box laws ok (suc h) n w) in
-      let e = (opened v.intersects o.box_of o.box_of n n inner).opens
-      ∙ ap (λ (b : Bool). if b then 1 + all_opens v.intersects o.box_of o.box_of (opened_to n) (opened_to n) else 0) met in
+      let e = (opened v.intersects o.box_of o.box_of true n n inner met).opens in
       let a = ap parents p.1 ∙ parents-Parent p.0 in
       let b = ap all_parents same in
       let c = list-fewer h (node-fewer h) (opened_to n) (subst (AreWhole v o h) (sym same) p.2.1) in
@@ -385,6 +378,31 @@ module _ {T E : Type 0} (v : Boxes E) (o : Objects T E) (meets : E → E → Boo
         count = count.count;
         counted = count.counted;
         all = omega (arith, count.whole, had.all, listed, meet);
+      }
+
+  -- a list was taken, and the walk begins with its first node and those behind it
+  pub takes-list : (old new : SelfIntersectionIterator T E) {first behind : List (RTreeNode T E)} {opened : ℕ} (had : HasItsLists v o meets old) → IsIdle old.walk
+      → IsTaken v o meets old.lists.items new.lists.items first behind opened → AreLists v o (had.height + 1) new.lists.items → new.lists.capacity ≡ old.lists.capacity → new.root.now ≡ old.root.now
+      → IsWalk meets o.box_of o.box_of new.walk → new.walk.path.capacity ≡ old.walk.path.capacity → pairs_by meets o.box_of o.box_of new.walk ≡ all_pairs meets o.box_of o.box_of first behind
+      → opens_by meets o.box_of o.box_of new.walk ≡ all_opens meets o.box_of o.box_of first behind → ((n : ℕ) → old.walk.opened ≡ min n usize_max → new.walk.opened ≡ min (n + opened) usize_max)
+      → IsEntered v o meets old true new
+  takes-list old new {opened = opened} had idle taken lists fits root walk room pairs opens more =
+      let none = idle-opens meets o.box_of o.box_of old.walk idle in let meet = ap (own_meet meets o.box_of) root in
+      record {
+        lists = record {
+          walk = walk;
+          height = had.height;
+          room = omega (arith, had.room, room);
+          lists = lists;
+          fits = omega (arith, had.fits, fits);
+          count = had.count + opened;
+          counted = more had.count had.counted;
+          all = omega (arith, had.all, taken.opens, none, opens, meet);
+        };
+        root = root;
+        given = (λ i. idle-pairs meets o.box_of o.box_of old.walk idle i ++ taken.pairs i) ∙ ap (λ l. l ++ pairs_from_lists meets o.box_of new.lists.items) (sym pairs);
+        nearer = λ _. taken.nearer;
+        over = λ e. absurd (true≢false e);
       }
 
   pub gave : (start old new : SelfIntersectionIterator T E) (p : Bor T × Bor T) → old.root.now ≡ start.root.now → own_pairs meets o.box_of start ≡ own_pairs meets o.box_of old

@@ -1,5 +1,5 @@
 -- What holds of each item of a list, at an index and after a write, and of two lists place by place.
-use Rattle.std.proofs.Common.{◌≡◌, ◌∙◌, ℕ, zero, suc, ◌+◌, ◌<◌, ◌≤◌, List, [], ◌∷◌, ◌++◌, length, get_or, set, take, ap, sym, subst, arith}
+use Rattle.std.proofs.Common.{◌≡◌, ◌∙◌, ℕ, zero, suc, ◌+◌, ◌<◌, ◌≤◌, List, [], ◌∷◌, ◌++◌, length, get_or, set, take, ap, sym, subst, arith, ◌≢◌, refl}
 use Rattle.std.proofs.lemmas.List.{take_more, take_all}
 use Rattle.std.specs.List.{AllByRecursion, AllZip}
 use Rattle.rstar_base.proofs.Lists.{all-append}
@@ -14,6 +14,10 @@ module _ {A : Type 0} (F : A → Type 0) where
   all_get [] i d below h = absurd (omega arith)
   all_get (x ∷ xs) zero d below h = h.0
   all_get (x ∷ xs) (suc i) d below h = all_get xs i d (omega arith) h.1
+
+pub some_item : {A : Type 0} (xs : List A) → xs ≢ [] → 0 < length xs
+some_item [] full = absurd (full refl)
+some_item (x ∷ xs) full = omega arith
 
 -- what holds of the first items, and of the next, and of all
 pub all_more : {A : Type 0} (P : A → Type 0) (xs : List A) (k : ℕ) (x : A) → k < length xs → x ≡ get_or xs k x → P x → AllByRecursion P (take k xs) → AllByRecursion P (take (k + 1) xs)

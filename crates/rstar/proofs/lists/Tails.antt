@@ -1,33 +1,20 @@
 -- The last items of a list, and those in front of them.
-use Rattle.std.proofs.Common.{zero, suc, ◌≡◌, ◌≢◌, ◌<◌, ◌≤◌, ◌+◌, ◌-◌, ℕ, ℤ, List, [], ◌∷◌, ◌++◌, length, take, drop, All, arith, append-nil, refl, sym, ap, subst, ◌∙◌, IsPermutation}
-use Rattle.std.proofs.lemmas.List.{take-append-drop, length-drop, length-append, length-take-le, take_all, drop_all}
+use Rattle.std.proofs.Common.{◌≡◌, ◌≢◌, ◌<◌, ◌≤◌, ◌+◌, ◌-◌, ℕ, ℤ, List, [], ◌++◌, length, take, drop, All, arith, append-nil, refl, sym, ap, subst, ◌∙◌, IsPermutation}
+use Rattle.std.proofs.lemmas.List.{take-append-drop, length-drop, length-append, length-take-le, drop_all}
 use Rattle.std.proofs.lemmas.List.Sorted.{IsPermutation-refl, IsPermutation-append_right, length_permutation}
+use Rattle.std.proofs.Math.Seq.{take-append-add, drop-append-add, take-take}
 use Rattle.rstar_base.specs.Orders.{IsSplitAt}
 use Rattle.rstar_base.proofs.Slabs.{slab_from_split, slab_of_all}
 use Rattle.rstar.specs.inside.Loads.{last_of, front_of, CutsSlab}
 use Rattle.rstar.proofs.loading.Loads.{All-front, All-back}
 
 module _ {A : Type 0} where
-  take_past : (xs ys : List A) (n : ℕ) → take (length xs + n) (xs ++ ys) ≡ xs ++ take n ys
-  take_past [] ys n = let on : zero + n ≡ n = omega arith in ap (λ k. take k ys) on
-  take_past (x ∷ xs) ys n = let on : suc (length xs) + n ≡ suc (length xs + n) = omega arith in ap (λ k. take k (x ∷ (xs ++ ys))) on ∙ ap (λ l. x ∷ l) (take_past xs ys n)
-
-  drop_past : (xs ys : List A) (n : ℕ) → drop (length xs + n) (xs ++ ys) ≡ drop n ys
-  drop_past [] ys n = let on : zero + n ≡ n = omega arith in ap (λ k. drop k ys) on
-  drop_past (x ∷ xs) ys n = let on : suc (length xs) + n ≡ suc (length xs + n) = omega arith in ap (λ k. drop k (x ∷ (xs ++ ys))) on ∙ drop_past xs ys n
-
   -- the same front, and the same rest, by another name
   pub taken_as : (n k : ℕ) (xs ys front : List A) → front ≡ take n ys → n ≡ k → ys ≡ xs → front ≡ take k xs
   taken_as n k xs ys front is e f = is ∙ ap (λ m. take m ys) e ∙ ap (take k) f
 
   pub dropped_as : (n k : ℕ) (xs ys rest : List A) → rest ≡ drop n ys → n ≡ k → ys ≡ xs → rest ≡ drop k xs
   dropped_as n k xs ys rest is e f = is ∙ ap (λ m. drop m ys) e ∙ ap (drop k) f
-
-  take_take : (n m : ℕ) (xs : List A) → n ≤ m → take n (take m xs) ≡ take n xs
-  take_take zero m xs h = refl
-  take_take (suc n) zero xs h = absurd (omega arith)
-  take_take (suc n) (suc m) [] h = refl
-  take_take (suc n) (suc m) (x ∷ xs) h = ap (λ l. x ∷ l) (take_take n m xs (omega arith))
 
   pub length_last : (n : ℕ) (xs : List A) → n ≤ length xs → length (last_of n xs) ≡ n
   length_last n xs h = omega (arith, length-drop (length xs - n) xs)
@@ -41,10 +28,7 @@ module _ {A : Type 0} where
   pub front_front : (s r : ℕ) (xs : List A) → s ≤ r → r ≤ length xs → front_of (r - s) (front_of s xs) ≡ front_of r xs
   front_front s r xs h k =
       let long : length (front_of s xs) - (r - s) ≡ length xs - r = omega (arith, length_front s xs) in
-      ap (λ n. take n (front_of s xs)) long ∙ take_take (length xs - r) (length xs - s) xs (omega arith)
-
-  pub front_none : (xs : List A) → front_of 0 xs ≡ xs
-  front_none xs = take_all (length xs - 0) xs (omega arith)
+      ap (λ n. take n (front_of s xs)) long ∙ take-take (length xs - r) (length xs - s) xs (omega arith)
 
   pub last_none : (xs : List A) → last_of 0 xs ≡ []
   last_none xs = drop_all (length xs - 0) xs (omega arith)
@@ -84,12 +68,12 @@ module _ {T : Type 0} (key : T → ℤ) where
       let was : front ++ last ≡ xs = ap (λ l. l ++ last) in_front ∙ ap (λ l. take (length xs - rest) xs ++ l) behind ∙ take-append-drop (length xs - rest) xs in
       let at_front : length (front ++ parted) - rest ≡ length front + 0 = omega (arith, long_front, long_last, long_parted, long_new) in
       let at_slab : length (front ++ parted) - size ≡ length front + (rest - size) = omega (arith, long_front, long_last, long_parted, long_new) in
-      let fronts : front_of rest (front ++ parted) ≡ front = ap (λ n. take n (front ++ parted)) at_front ∙ take_past front parted 0 ∙ append-nil front in
-      let others : front_of size (front ++ parted) ≡ front ++ take (rest - size) parted = ap (λ n. take n (front ++ parted)) at_slab ∙ take_past front parted (rest - size) in
-      let slab : last_of size (front ++ parted) ≡ drop (rest - size) parted = ap (λ n. drop n (front ++ parted)) at_slab ∙ drop_past front parted (rest - size) in
+      let fronts : front_of rest (front ++ parted) ≡ front = ap (λ n. take n (front ++ parted)) at_front ∙ take-append-add front parted 0 ∙ append-nil front in
+      let others : front_of size (front ++ parted) ≡ front ++ take (rest - size) parted = ap (λ n. take n (front ++ parted)) at_slab ∙ take-append-add front parted (rest - size) in
+      let slab : last_of size (front ++ parted) ≡ drop (rest - size) parted = ap (λ n. drop n (front ++ parted)) at_slab ∙ drop-append-add front parted (rest - size) in
       let long_others : length (front ++ take (rest - size) parted) - (rest - size) ≡ length front + 0 = omega (arith, length-append front (take (rest - size) parted), length-take-le (rest - size) parted (omega (arith, long_last, long_parted))) in
       let left : last_of (rest - size) (front_of size (front ++ parted)) ≡ take (rest - size) parted =
-      ap (λ l. last_of (rest - size) l) others ∙ ap (λ n. drop n (front ++ take (rest - size) parted)) long_others ∙ drop_past front (take (rest - size) parted) 0 in
+      ap (λ l. last_of (rest - size) l) others ∙ ap (λ n. drop n (front ++ take (rest - size) parted)) long_others ∙ drop-append-add front (take (rest - size) parted) 0 in
       record {
         count = omega arith;
         same = subst (λ l. IsPermutation l (front ++ parted)) was (IsPermutation-append_right front last parted same);

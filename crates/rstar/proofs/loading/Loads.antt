@@ -6,7 +6,7 @@ use Rattle.std.proofs.Math.Nat.{pow-zero, pow-suc, mul-le-mul, lt_of_mul-lt-mul_
 use Rattle.std.proofs.lemmas.Bool.{cases_lt}
 use Rattle.std.proofs.lemmas.Grind.{div_ceil_times}
 use Rattle.std.proofs.lemmas.List.{get_or_append_left, get_or-append-add, length-append, length-map}
-use Rattle.std.proofs.lemmas.List.Elements.{All-nil, All-cons, All-head, All-tail, All-append, All-weaker, All-contains, Contains-append_left, Contains-append_right}
+use Rattle.std.proofs.lemmas.List.Elements.{All-nil, All-cons, All-head, All-tail, All-append, All-weaker, All-contains, Contains-append_left, Contains-append_right, All-from_recursion, recursion_from_All}
 use Rattle.std.proofs.lemmas.List.Kept.{AllPairs-cons}
 use Rattle.std.proofs.lemmas.List.Sorted.{All-permutation, IsPermutation-refl, IsPermutation-trans, IsPermutation-append_left, IsPermutation-append_right, IsPermutation-append_comm, length_permutation}
 use Rattle.rstar_base.specs.Envelopes.{Boxes, EnvelopeLaws}
@@ -27,6 +27,7 @@ use Rattle.rstar.proofs.trees.ByChildren.{elements-Leaf, elements-Parent, is_par
 use Rattle.rstar.proofs.trees.Trees.{merged_is_hull}
 use Rattle.rstar.proofs.inserting.Insertion.{trees_map, all_elements-append}
 use Rattle.rstar.proofs.loading.Depths.{half_bound, part_of_load}
+use Rattle.rstar.proofs.lists.Items.{some_item}
 
 -- ---- lists
 
@@ -37,14 +38,6 @@ module _ {A : Type 0} where
   pub All-back : (P : A → Type 0) (xs ys : List A) → All P (xs ++ ys) → All P ys
   All-back P xs ys f k d h = subst P (get_or-append-add xs ys k d) (f (length xs + k) d (omega (arith, length-append xs ys)))
 
-  all_of : (P : A → Type 0) (xs : List A) → All P xs → AllByRecursion P xs
-  all_of P [] f = tt
-  all_of P (x ∷ xs) f = (All-head P x xs f, all_of P xs (All-tail P x xs f))
-
-  each_of : (P : A → Type 0) (xs : List A) → AllByRecursion P xs → All P xs
-  each_of P [] f = All-nil P
-  each_of P (x ∷ xs) f = All-cons P x xs f.0 (each_of P xs f.1)
-
   AllPairs-append : (R : A → A → Type 0) (xs ys : List A) → AllPairs R xs → AllPairs R ys → All (λ x. All (R x) ys) xs → AllPairs R (xs ++ ys)
   AllPairs-append R [] ys f g cross = g
   AllPairs-append R (x ∷ xs) ys f g cross =
@@ -54,10 +47,6 @@ module _ {A : Type 0} where
 
   AllPairs-weaker : (R Q : A → A → Type 0) → ((x y : A) → R x y → Q x y) → (xs : List A) → AllPairs R xs → AllPairs Q xs
   AllPairs-weaker R Q w xs f i j d p q = w _ _ (f i j d p q)
-
-  has_some : (xs : List A) → xs ≢ [] → 0 < length xs
-  has_some [] some = absurd (some refl)
-  has_some (x ∷ xs) some = omega arith
 
   gone : (xs ys : List A) → IsPermutation xs ys → ys ≡ [] → xs ≡ []
   gone [] ys same none = refl
@@ -149,7 +138,7 @@ module _ {T E : Type 0} where
         above = λ i d p j e q. absurd (omega arith);
         taken = 0;
         left = omega arith;
-        full = omega (arith, has_some ts some);
+        full = omega (arith, some_item ts some);
         few = omega arith;
         each = λ j m below part. absurd (omega arith);
       }
@@ -167,7 +156,7 @@ module _ {T E : Type 0} where
           let long = length_permutation before (after ++ slab) cut.same in
           let long_parts = length-append after slab in
           let long_slab = length_permutation slab (all_elements a.added) a.parts.same in
-          let held = has_some before some in
+          let held = some_item before some in
           let size_of = cut.size in
           let was_left = u.left in
           record {
@@ -201,7 +190,7 @@ module _ {T E : Type 0} where
       pub next_size : (c axis : ℕ) (ts before slab after : List T) (old mid : List (RTreeNode T E)) → IsUnderway key Good c axis ts before old mid
           → IsSlabOf (λ t. key t axis) (div_ceil (length ts) c) before slab after → before ≢ [] → IsSlabSize c (length ts) (length slab)
       next_size c axis ts before slab after old mid u cut some =
-          let held = has_some before some in
+          let held = some_item before some in
           let was_left = u.left in
           (u.taken, omega (arith, held, was_left), cut.size ∙ ap (λ n. min (div_ceil (length ts) c) n) was_left)
 
@@ -257,7 +246,7 @@ module _ {T E : Type 0} where
         record {
           whole = (
             (box ∙ ap (hull v o.box_of) (sym these), λ none. some (sym these ∙ ap (λ ns. all_elements ns) none)),
-            subst (AllByRecursion (IsLeafOf (IsElement v o))) (sym are) (leaves_of E (IsElement v o) ts (all_both o.IsValue (λ t. v.is_empty (o.box_of t) ≡ false) _ (λ t own full. (own, full)) ts own (all_of _ ts full))),
+            subst (AllByRecursion (IsLeafOf (IsElement v o))) (sym are) (leaves_of E (IsElement v o) ts (all_both o.IsValue (λ t. v.is_empty (o.box_of t) ≡ false) _ (λ t own full. (own, full)) ts own (recursion_from_All _ ts full))),
           );
           narrow = (narrow, subst (AllByRecursion (IsLeafOf IsAny)) (sym are) (leaves_of E IsAny ts (any_of ts)));
           cut = subst (AllByRecursion (IsLeafOf IsAny)) (sym are) (leaves_of E IsAny ts (any_of ts));
@@ -305,7 +294,7 @@ module _ {T E : Type 0} where
         → IsClusterNumber most axes n k → c ≡ max k 2 → EndsAt most axes (suc b) n → HasSmallParent most (suc b) p
     small_below c b k n p good each number is ends =
         let has = each ends.0 (part_of_load most axes n c k ends.0 number is ends.1) in
-        let q = is_parent (IsFresh v o most widest axes b) has.0 (All-contains (IsFreshNode v o most widest axes b) (children_of p) has.0 (each_of _ (children_of p) good) has.1) in
+        let q = is_parent (IsFresh v o most widest axes b) has.0 (All-contains (IsFreshNode v o most widest axes b) (children_of p) has.0 (All-from_recursion _ (children_of p) good) has.1) in
         let count : ends.0 ≡ length (elements_of q.0) = sym has.2 ∙ ap (λ n. length (elements n)) q.1 ∙ ap length (elements-Parent q.0) in
         (has.0, has.1, subst (IsParentOf (HasSmallParent most b)) (sym q.1) (IsParentOf-Parent (HasSmallParent most b) q.0 (q.2.small (subst (EndsAt most axes b) count ends.2))))
 

@@ -6,7 +6,7 @@ use Rattle.std.specs.Vec.{with_item}
 use Rattle.std.specs.declared.alloc.Global.{Global}
 use Rattle.std.proofs.Common.{◌≡◌, ℕ, zero, suc, ◌+◌, ◌<◌, ◌≤◌, Bool, List, [], ◌∷◌, ◌++◌, refl, sym, ◌∙◌, ap, subst, arith, length, get_or, set, min, ◌-◌, take, drop, replicate, append_assoc, length-append, Option, Some, None, Vec, length-set}
 use Rattle.std.specs.List.{AllByRecursion, remove}
-use Rattle.std.proofs.lemmas.List.{append-nil, take_all, set_split, set-get_or, take_at, drop_at, length-take-le}
+use Rattle.std.proofs.lemmas.List.{append-nil, take_all, set_split, set-get_or, take_at, drop_at, length-take-le, drop_all, take-set}
 use Rattle.std.proofs.lemmas.List.Concat.{flat_map-append}
 use Rattle.rstar_base.specs.Elements.{Objects}
 use Rattle.rstar_base.specs.Envelopes.{Boxes}
@@ -48,9 +48,6 @@ module _ {A : Type 0} where
   pub drop_removed : (l : List A) (i : ℕ) → i < length l → drop i (remove l i) ≡ drop (suc i) l
   drop_removed l i within = drop_at (take i l) (drop (suc i) l) i (len_front l i within)
 
-  pub take_set : (l : List A) (i : ℕ) (a : A) → i < length l → take i (set l i a) ≡ take i l
-  take_set l i a within = ap (take i) (set_split l i a within) ∙ take_at (take i l) (a ∷ drop (suc i) l) i (len_front l i within)
-
   pub drop_set : (l : List A) (i : ℕ) (a : A) → i < length l → drop i (set l i a) ≡ a ∷ drop (suc i) l
   drop_set l i a within = ap (drop i) (set_split l i a within) ∙ drop_at (take i l) (a ∷ drop (suc i) l) i (len_front l i within)
 
@@ -63,7 +60,7 @@ module _ {A : Type 0} where
       ∙ drop_at (take i l ++ a ∷ []) (drop (suc i) l) (suc i) (omega (arith, len_more l i a within))
 
   pub remove_set : (l : List A) (i : ℕ) (a : A) → i < length l → remove (set l i a) i ≡ remove l i
-  remove_set l i a within = ap (λ z. z ++ drop (suc i) (set l i a)) (take_set l i a within) ∙ ap (λ z. take i l ++ z) (drop_set_more l i a within)
+  remove_set l i a within = ap (λ z. z ++ drop (suc i) (set l i a)) (take-set l i a) ∙ ap (λ z. take i l ++ z) (drop_set_more l i a within)
 
   pub same_read : (l : List A) (i : ℕ) (a b : A) → i < length l → a ≡ get_or l i a → b ≡ get_or l i b → a ≡ b
   same_read [] i a b within here here' = absurd (omega arith)
@@ -72,9 +69,6 @@ module _ {A : Type 0} where
 
   pub drop_here : (l : List A) (i : ℕ) (a : A) → i < length l → a ≡ get_or l i a → drop i l ≡ a ∷ drop (suc i) l
   drop_here l i a within read = ap (drop i) (split_at l i a within read) ∙ drop_at (take i l) (a ∷ drop (suc i) l) i (len_front l i within)
-
-  pub drop_all : (l : List A) → drop (length l - 0) l ≡ []
-  drop_all l = drop_of_length-le l {i = length l - 0} (omega arith)
 
   pub same_without : (xs xs' ys ys' : List A) (r : Option A) → xs ≡ xs' → ys ≡ ys' → IsWithout xs r ys → IsWithout xs' r ys'
   same_without xs xs' ys ys' None e e' same = sym e' ∙ same ∙ e
@@ -118,22 +112,18 @@ module _ {T E : Type 0} where
   pub elements_removed : (l : List (RTreeNode T E)) (i : ℕ) → all_elements (remove l i) ≡ all_elements (take i l) ++ all_elements (drop (suc i) l)
   elements_removed l i = flat_map-append elements (take i l) (drop (suc i) l)
 
-drop_none : {A : Type 0} (i : ℕ) → drop {A = A} i [] ≡ []
-drop_none zero = refl
-drop_none (suc i) = refl
-
 pub past_nothing : {T : Type 0} (E : Type 0) (selects : T → Bool) (path : List ℕ) → IsPast {T = T} {E = E} selects path []
 past_nothing E selects [] = tt
 past_nothing {T} E selects (i ∷ path) = (
-  subst (λ (ns : List (RTreeNode T E)). NoneSelected selects (all_elements ns)) (sym (drop_none (0 - i))) tt,
-  subst (λ (ns : List (RTreeNode T E)). IsPast selects path (first_children ns)) (sym (drop_none (0 - suc i))) (past_nothing E selects path),
+  subst (λ (ns : List (RTreeNode T E)). NoneSelected selects (all_elements ns)) (sym (drop_all (0 - i) [] (omega arith))) tt,
+  subst (λ (ns : List (RTreeNode T E)). IsPast selects path (first_children ns)) (sym (drop_all (0 - suc i) [] (omega arith))) (past_nothing E selects path),
 )
 
 module _ {T E : Type 0} where
   module _ (selects : T → Bool) where
     pub past_parts : (path : List ℕ) (ns : List (RTreeNode T E)) → IsPast selects path ns
         → NoneSelected selects (all_elements (drop (length ns - first_number path) ns)) × IsPast selects (lower_numbers path) (first_children (drop (length ns - suc (first_number path)) ns))
-    past_parts [] ns past = (subst (λ (l : List (RTreeNode T E)). NoneSelected selects (all_elements l)) (sym (drop_all ns)) tt, tt)
+    past_parts [] ns past = (subst (λ (l : List (RTreeNode T E)). NoneSelected selects (all_elements l)) (sym (drop_all (length ns - 0) ns (omega arith))) tt, tt)
     past_parts (i ∷ path) ns past = past
 
     pub past_made : (path : List ℕ) (ns : List (RTreeNode T E)) (i : ℕ) → NoneSelected selects (all_elements (drop (length ns - i) ns))
@@ -144,7 +134,7 @@ module _ {T E : Type 0} where
     pub past_zeros : (n : ℕ) (ns : List (RTreeNode T E)) → IsPast selects (replicate n 0) ns
     past_zeros zero ns = tt
     past_zeros (suc n) ns = (
-      subst (λ (l : List (RTreeNode T E)). NoneSelected selects (all_elements l)) (sym (drop_all ns)) tt,
+      subst (λ (l : List (RTreeNode T E)). NoneSelected selects (all_elements l)) (sym (drop_all (length ns - 0) ns (omega arith))) tt,
       past_zeros n (first_children (drop (length ns - 1) ns)),
     )
 
@@ -157,7 +147,7 @@ pub rest_nothing : {T E : Type 0} (v : Boxes E) (o : Objects T E) (rest : Option
 rest_nothing v o rest [] = tt
 rest_nothing {T} {E} v o rest (i ∷ path) = (
   λ last. rest_of_none v o rest i,
-  subst (λ (ns : List (RTreeNode T E)). IsRestAt v o rest path (first_children ns)) (sym (drop_none (0 - suc i))) (rest_nothing v o rest path),
+  subst (λ (ns : List (RTreeNode T E)). IsRestAt v o rest path (first_children ns)) (sym (drop_all (0 - suc i) [] (omega arith))) (rest_nothing v o rest path),
 )
 
 module _ {T E : Type 0} (v : Boxes E) (o : Objects T E) where

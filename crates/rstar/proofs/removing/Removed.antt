@@ -1,5 +1,5 @@
 -- What a removal leaves of a tree.
-use Rattle.std.proofs.Common.{◌≡◌, ◌≢◌, ℕ, ℤ, ◌+◌, ◌<◌, ◌^◌, Bool, true, false, List, [], ◌∷◌, ◌++◌, refl, sym, ◌∙◌, ap, subst, arith, length, length-append, Option, Some, None, IfSome, IfNone, is_some, IsPermutation, filter, if◌then◌else◌, ◌||◌}
+use Rattle.std.proofs.Common.{◌≡◌, ◌≢◌, ℕ, ℤ, ◌+◌, ◌<◌, ◌^◌, Bool, true, false, List, [], ◌∷◌, ◌++◌, refl, sym, ◌∙◌, ap, subst, arith, length, length-append, Option, Some, None, IfSome, IfNone, is_some, IsPermutation, filter, ◌⊎◌, inl, inr}
 use Rattle.std.specs.Borrow.{Bor}
 use Rattle.std.specs.List.{list_any}
 use Rattle.std.proofs.lemmas.List.Sorted.{IsPermutation-middle}
@@ -10,7 +10,7 @@ use Rattle.rstar.specs.declared.algorithm.removal.Rest.{Rest}
 use Rattle.rstar.specs.declared.node.ParentNode.{ParentNode}
 use Rattle.rstar.specs.declared.node.RTreeNode.{RTreeNode}
 use Rattle.rstar.specs.declared.rtree.RTree.{RTree}
-use Rattle.rstar.specs.Nodes.{children_of, IsElement}
+use Rattle.rstar.specs.Nodes.{children_of, IsElement, envelope_of, all_elements}
 use Rattle.rstar.specs.inside.ParentBounds.{IsKept, IsKeptInner, AreKept}
 use Rattle.rstar.specs.Trees.{root_of, elements_in, IsWholeTree}
 use Rattle.rstar.specs.Heights.{levels_below}
@@ -22,6 +22,7 @@ use Rattle.rstar.proofs.trees.Heights.{levels_are}
 use Rattle.rstar.proofs.inserting.Insertion.{whole_of_kept}
 use Rattle.rstar.proofs.trees.WholeTrees.{all_kept, tree_kept, narrow_of}
 use Rattle.rstar.proofs.removing.Scans.{if_none, refused}
+use Rattle.rstar.proofs.visiting.FoundElements.{full, any-filter}
 
 pub one_less : {T : Type 0} (xs ys : List T) (r : Option T) → is_some r ≡ true → IsWithout xs r ys → length xs ≡ length ys + 1
 one_less xs ys None some out = cc
@@ -136,37 +137,29 @@ module _ {T E : Type 0} {IsPoint : List ℤ → Type 0} {v : Boxes E} {o : Objec
     missed = λ lawful past. none lawful;
   }
 
-  pub root_refused : (tree : RTree T D E P S X) → IsWholeTree v o max tree → accepts tree.root.envelope ≡ false → IsLawful v o accepts selects → NoneSelected selects (elements_in tree)
+  -- nothing is selected below a root that is not entered
+  pub root_refused : (tree : RTree T D E P S X) → IsWholeTree v o max tree → (children_of (root_of tree) ≡ []) ⊎ (accepts (envelope_of (root_of tree)) ≡ false)
+      → IsLawful v o accepts selects → NoneSelected selects (elements_in tree)
   unfolding IsWholeTree
-  root_refused tree whole no_entry lawful = refused laws ok accepts selects lawful whole.root_whole.height tree.root whole.root_whole.tight whole.root_whole.below no_entry
+  root_refused tree whole (inl none) lawful = subst (λ (ns : List (RTreeNode T E)). NoneSelected selects (all_elements ns)) (sym none) tt
+  root_refused tree whole (inr no_entry) lawful = refused laws ok accepts selects lawful whole.root_whole.height tree.root whole.root_whole.tight whole.root_whole.below no_entry
 
 -- from the first element on, nothing lies left of the place
 pub none_from_start : {A : Type 0} (Lawful Nothing : Type 0) (r : Option A) → IfNone r (Lawful → Unit {0} → Nothing) → IfNone r (Lawful → Nothing)
 none_from_start Lawful Nothing r missed = if_none r (λ (f : Lawful → Unit {0} → Nothing). λ lawful. f lawful tt) missed
 
--- what holds where a condition does
-pub none_when : {A : Type 0} (Lawful Nothing : Type 0) (r : Option A) → Lawful → IfNone r (Lawful → Nothing) → IfNone r Nothing
-none_when Lawful Nothing r lawful missed = if_none r (λ (f : Lawful → Nothing). f lawful) missed
+-- what a lawful removal tells, its question by another name
+pub some_asked : {T : Type 0} {asked selects : T → Bool} (r : Option T) → asked ≡ selects → IfSome r (λ x. asked x ≡ true) → IfSome r (λ x. selects x ≡ true)
+some_asked r same = subst (λ s. IfSome r (λ x. s x ≡ true)) same
 
--- where a filter keeps nothing, none passes; where it keeps one, one does
-pub none_passes : {T : Type 0} (p : T → Bool) (ys : List T) → filter p ys ≡ [] → list_any p ys ≡ false
-none_passes p [] e = refl
-none_passes {T} p (y ∷ ys) e = by_test (p y) refl e (none_passes p ys) where
-  by_test : (b : Bool) → p y ≡ b → (if b then y ∷ filter p ys else filter p ys) ≡ [] → (filter p ys ≡ [] → list_any p ys ≡ false) → (p y || list_any p ys) ≡ false
-  by_test true is f rest = cc
-  by_test false is f rest = ap (λ b. b || list_any p ys) is ∙ rest f
+pub none_asked : {Lawful T : Type 0} {asked selects : T → Bool} (ts : List T) (r : Option T) → Lawful → asked ≡ selects → IfNone r (Lawful → NoneSelected asked ts) → IfNone r (NoneSelected selects ts)
+none_asked {Lawful} ts r lawful same missed = subst (λ s. IfNone r (NoneSelected s ts)) same (if_none r (λ (f : Lawful → NoneSelected _ ts). f lawful) missed)
 
-pub one_passes : {T : Type 0} (p : T → Bool) (ys : List T) (z : T) (zs : List T) → filter p ys ≡ z ∷ zs → list_any p ys ≡ true
-one_passes p [] z zs e = cc
-one_passes {T} p (y ∷ ys) z zs e = by_test (p y) refl e (one_passes p ys z zs) where
-  by_test : (b : Bool) → p y ≡ b → (if b then y ∷ filter p ys else filter p ys) ≡ z ∷ zs → (filter p ys ≡ z ∷ zs → list_any p ys ≡ true) → (p y || list_any p ys) ≡ true
-  by_test true is f rest = ap (λ b. b || list_any p ys) is
-  by_test false is f rest = ap (λ b. b || list_any p ys) is ∙ rest f
-
+-- the one that a filter gives is there just where one passes
 pub any_one : {T : Type 0} (p : T → Bool) (ys : List T) (r : Option (Bor T)) → IsOneOf (filter p ys) r → is_some r ≡ list_any p ys
-any_one {T} p ys r one = by_list (filter p ys) refl r one where
-  by_list : (xs : List T) → filter p ys ≡ xs → (r : Option (Bor T)) → IsOneOf xs r → is_some r ≡ list_any p ys
-  by_list [] e None one = sym (none_passes p ys e)
-  by_list [] e (Some x) one = absurd (omega (arith, one.1))
-  by_list (z ∷ zs) e None one = cc
-  by_list (z ∷ zs) e (Some x) one = sym (one_passes p ys z zs e)
+any_one {T} p ys r one = by_list (filter p ys) r one ∙ any-filter p ys where
+  by_list : (xs : List T) (r : Option (Bor T)) → IsOneOf xs r → is_some r ≡ full xs
+  by_list [] None one = refl
+  by_list [] (Some x) one = absurd (omega (arith, one.1))
+  by_list (z ∷ zs) None one = cc
+  by_list (z ∷ zs) (Some x) one = refl

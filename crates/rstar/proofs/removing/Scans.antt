@@ -1,7 +1,7 @@
 -- One scan of a list of nodes for the next selected element.
-use Rattle.std.proofs.Common.{◌≡◌, ℕ, ℤ, zero, suc, ◌+◌, ◌<◌, ◌≤◌, Bool, true, false, List, [], ◌∷◌, ◌++◌, refl, sym, ◌∙◌, ap, subst, arith, length, get_or, set, take, drop, replicate, ◌-◌, Option, Some, None, IfNone, is_some, length-set, filter, if◌then◌else◌}
+use Rattle.std.proofs.Common.{◌≡◌, ℕ, ℤ, zero, suc, ◌+◌, ◌<◌, ◌≤◌, Bool, true, false, List, [], ◌∷◌, ◌++◌, refl, sym, ◌∙◌, ap, subst, arith, length, get_or, set, take, drop, replicate, ◌-◌, Option, Some, None, IfNone, is_some, length-set, filter, if◌then◌else◌, ◌⊎◌, inl, inr}
 use Rattle.std.specs.List.{AllByRecursion, remove}
-use Rattle.std.proofs.lemmas.List.{set-get_or, take-append-drop}
+use Rattle.std.proofs.lemmas.List.{set-get_or, take-append-drop, take-set}
 use Rattle.std.proofs.lemmas.List.Edits.{length-remove}
 use Rattle.rstar_base.specs.Envelopes.{Boxes, EnvelopeLaws}
 use Rattle.rstar_base.specs.Elements.{Objects, ObjectLaws}
@@ -24,7 +24,7 @@ use Rattle.rstar.proofs.trees.ByChildren.{elements-Leaf, elements-Parent, is_lea
 use Rattle.rstar.proofs.trees.Trees.{all_sound, values-of, merged_is_hull}
 use Rattle.rstar.proofs.inserting.Insertion.{whole_of_kept}
 use Rattle.rstar.proofs.selecting.Complete.{none-selected}
-use Rattle.rstar.proofs.removing.Parts.{rest_none, rest_nothing, rest_itself, rest_lower, rest_here, rest_made, rest_stays, lower_length, take_removed, take_set}
+use Rattle.rstar.proofs.removing.Parts.{rest_none, rest_nothing, rest_itself, rest_lower, rest_here, rest_made, rest_stays, lower_length, take_removed}
 use Rattle.rstar.proofs.removing.Parts.{drop_removed, drop_here, same_without, drop_set, drop_set_more, remove_set, without_middle, elements_split, elements_set, elements_removed, past_parts, past_made, past_zeros, past_nothing, all_take, all_drop, shorter_removed}
 
 -- all leaves of the node lie h levels below it, its parents are tight and within the bound
@@ -164,8 +164,15 @@ module _ {T E : Type 0} (v : Boxes E) (o : Objects T E) (accepts : E → Bool) (
         (below_then v o w (NoneSelected selects (all_elements p.children.items)) h p k (λ h' a b. missed lawful w h' b before))) takes.missed;
   }
 
+  -- a leaf that is not selected
+  pub passed_leaf : (all : List (RTreeNode T E)) (n : RTreeNode T E) (t : T) (ns : List (RTreeNode T E)) → all ≡ n ∷ ns → n ≡ Leaf t → selects t ≡ false
+      → NoneSelected selects (all_elements ns) → NoneSelected selects (all_elements all)
+  passed_leaf all n t ns is leaf passed none =
+      subst (NoneSelected selects) (sym (ap all_elements is ∙ ap (λ (ts : List T). ts ++ all_elements ns) (ap elements leaf ∙ elements-Leaf T E t))) (passed, none)
+
   -- a parent that was not opened
-  pub not_entered : {IsPoint : List ℤ → Type 0} (laws : EnvelopeLaws IsPoint v) (ok : ObjectLaws v o) (p : ParentNode T E) (path : List ℕ) (rest : Option (Rest E)) → accepts p.envelope ≡ false
+  pub not_entered : {IsPoint : List ℤ → Type 0} (laws : EnvelopeLaws IsPoint v) (ok : ObjectLaws v o) (p : ParentNode T E) (path : List ℕ) (rest : Option (Rest E))
+      → (accepts p.envelope ≡ false) ⊎ NoneSelected selects (all_elements p.children.items)
       → TakesInside v o accepts selects (Parent p) path rest None (Parent p) path rest
   not_entered laws ok p path rest no_entry = record {
     taken = refl;
@@ -176,8 +183,11 @@ module _ {T E : Type 0} (v : Boxes E) (o : Objects T E) (accepts : E → Bool) (
     kept = refl;
     past = λ lawful w h k past. past;
     missed = λ lawful w h k past. subst (λ (ns : List (RTreeNode T E)). NoneSelected selects (all_elements ns)) (sym (children_parent p))
-        (below_then v o w (NoneSelected selects (all_elements p.children.items)) h p k (λ h' a b. refused laws ok accepts selects lawful h' p a.tight (whole_of_kept laws ok w h' p.children.items b) no_entry));
-  }
+        (below_then v o w (NoneSelected selects (all_elements p.children.items)) h p k (λ h' a b. by_case lawful h' a.tight (whole_of_kept laws ok w h' p.children.items b) no_entry));
+  } where
+    by_case : IsLawful v o accepts selects → (h : ℕ) → IsTight v o p → AreWhole v o h p.children.items → (accepts p.envelope ≡ false) ⊎ NoneSelected selects (all_elements p.children.items) → NoneSelected selects (all_elements p.children.items)
+    by_case lawful h tight whole (inl shut) = refused laws ok accepts selects lawful h p tight whole shut
+    by_case lawful h tight whole (inr none) = none
 
   -- below a place that ends, or where no envelope is kept
   rest_below : (path : List ℕ) (rest : Option (Rest E)) → (1 < length path → rest ≡ None) → (ns : List (RTreeNode T E)) → IsRestAt v o rest (lower_numbers path) ns
@@ -247,7 +257,7 @@ module _ {T E : Type 0} (v : Boxes E) (o : Objects T E) (accepts : E → Bool) (
       rest_set : (rest' : Option (Rest E)) (n' : RTreeNode T E) (j : ℕ) → p ≤ j → IsRest v o rest' p cur → IsRest v o rest' j (set cur i n')
       rest_set rest' n' j on kept =
           let long = length-set cur i n' in
-          rest_stays v o rest' p j i cur (set cur i n') on (omega (arith, long)) (omega (arith, long, next)) (take_set cur i n' within) kept
+          rest_stays v o rest' p j i cur (set cur i n') on (omega (arith, long)) (omega (arith, long, next)) (take-set cur i n') kept
 
       -- it is a leaf that is given
       pub gives_leaf : (t : T) → Leaf t ≡ get_or cur i (Leaf t) → selects t ≡ true

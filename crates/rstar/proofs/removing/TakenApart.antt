@@ -1,23 +1,22 @@
 -- A tree that is taken apart, from its last element on.
-use Rattle.std.proofs.Common.{◌≡◌, ◌≢◌, ◌∙◌, ℕ, zero, suc, ◌+◌, ◌<◌, ◌≤◌, List, [], ◌∷◌, ◌++◌, refl, sym, ap, subst, arith, length, length-append, map, append_assoc, Some, Vec, Global, vec_len, vec_capacity, reverse}
-use Rattle.std.specs.Prelude.{⊤}
+use Rattle.std.proofs.Common.{◌≡◌, ◌∙◌, ℕ, zero, suc, ◌+◌, ◌<◌, ◌≤◌, List, [], ◌∷◌, ◌++◌, refl, sym, ap, subst, arith, length, length-append, map, append_assoc, Some, Vec, Global, vec_len, vec_capacity, reverse}
 use Rattle.std.specs.Iterator.{MakesProgress, item_count}
 use Rattle.std.specs.List.{AllByRecursion}
 use Rattle.std.proofs.lemmas.List.{append-nil, map-append, length-map, reverse-append}
 use Rattle.std.proofs.lemmas.List.Concat.{flat_map-append}
 use Rattle.rstar_base.specs.Envelopes.{Boxes}
 use Rattle.rstar_base.specs.Elements.{Objects}
-use Rattle.rstar_base.proofs.Lists.{all_first, all_second, all_map}
+use Rattle.rstar_base.proofs.Lists.{all_first, all_second}
 use Rattle.rstar.specs.declared.node.RTreeNode.{RTreeNode, Leaf, Parent}
 use Rattle.rstar.specs.declared.node.ParentNode.{ParentNode}
 use Rattle.rstar.specs.Heights.{levels_below}
 use Rattle.rstar.specs.declared.iterators.into_iter.IntoIter.{IntoIter}
 use Rattle.rstar.specs.IntoIters.{lists_of, elements_held, left_to_give, AreLists, HasItsLists, IsGiving}
-use Rattle.rstar.specs.Nodes.{elements, all_elements, elements_of, children_of, total, AreWhole, IsInner, IsElement, IsWhole}
+use Rattle.rstar.specs.Nodes.{elements, all_elements, elements_of, children_of, total, IsInner, IsElement, IsWhole}
 use Rattle.rstar.specs.inside.Traversals.{IsLevel, steps}
-use Rattle.rstar.proofs.trees.Heights.{levels_are}
+use Rattle.rstar.proofs.trees.Heights.{at_levels}
 use Rattle.rstar.proofs.trees.ByChildren.{elements-Leaf, elements-Parent, steps-Parent}
-use Rattle.rstar.proofs.selecting.Traversals.{tree-weaker, level-Parent}
+use Rattle.rstar.proofs.selecting.Traversals.{level-Parent, all-level}
 
 -- how many steps lists take, each one more for its end
 abbrev pub steps_in : {T E : Type 0} → List (List (RTreeNode T E)) → ℕ
@@ -99,20 +98,12 @@ module _ {T E : Type 0} where
         omega (arith, s),
       )
 
-  -- whole nodes lie as many levels above the leaves as the first of them shows
-  levels_whole : (v : Boxes E) (o : Objects T E) (h : ℕ) (ns : List (RTreeNode T E)) → AreWhole v o h ns → AllByRecursion (IsLevel (levels_below ns)) ns
-  levels_whole v o h [] whole = tt
-  levels_whole v o h (n ∷ ns) whole =
-      let inner : (p : ParentNode T E) → IsInner v o p → children_of p ≢ [] = λ p q. q.1 in
-      subst (λ (k : ℕ). AllByRecursion (IsLevel k) (n ∷ ns)) (sym (levels_are (IsInner v o) (IsElement v o) inner h (n ∷ ns) (λ none. cc) whole))
-      (all_map _ (IsLevel h) (tree-weaker (IsInner v o) (λ p. children_of p ≢ []) (IsElement v o) (λ t. ⊤) inner (λ t q. tt) h) (n ∷ ns) whole)
-
   -- where it begins
   pub begins_below : (v : Boxes E) (o : Objects T E) (root : ParentNode T E) (room : ℕ) (lists : List (List (RTreeNode T E))) → IsWhole v o root → lists ≡ [] → levels_below (children_of root) ≤ room
       → HasItsLists room (lists ++ children_of root ∷ []) × (elements_held (lists ++ children_of root ∷ []) ≡ elements_of root)
   begins_below v o root room lists whole none fits = (
     subst (λ (l : List (List (RTreeNode T E))). HasItsLists room (l ++ children_of root ∷ [])) (sym none)
-        (record { height = suc (levels_below (children_of root)); fits = omega arith; levels = (levels_whole v o whole.height (children_of root) whole.below, tt) }),
+        (record { height = suc (levels_below (children_of root)); fits = omega arith; levels = (all-level v o _ (children_of root) (at_levels (IsInner v o) (IsElement v o) (λ p q. q.1) whole.height _ (children_of root) refl whole.below), tt) }),
     ap (λ (l : List (List (RTreeNode T E))). elements_held (l ++ children_of root ∷ [])) none ∙ append-nil (elements_of root),
   )
 

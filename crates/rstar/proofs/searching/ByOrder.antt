@@ -13,14 +13,14 @@ use Rattle.rstar_base.specs.Envelopes.{Boxes}
 use Rattle.rstar_base.specs.Elements.{Objects, Distances}
 use Rattle.rstar_base.specs.SmallHeaps.{Held, items_of}
 use Rattle.rstar_base.proofs.Lists.{all-append, all_map}
-use Rattle.rstar.specs.declared.node.RTreeNode.{RTreeNode, Leaf, Parent, Parent'}
+use Rattle.rstar.specs.declared.node.RTreeNode.{RTreeNode, Leaf, Parent}
 use Rattle.rstar.specs.declared.node.ParentNode.{ParentNode}
 use Rattle.rstar.specs.declared.algorithm.nearest_neighbor.search.Stage.{Stage}
 use Rattle.rstar.specs.declared.algorithm.nearest_neighbor.search.Stage.TheVariants.{Fresh, Running, Ended}
 use Rattle.rstar.specs.ByOrder.{IsNextInOrder}
 use Rattle.rstar.specs.Lists.{IsNotAfter, IsNotLater, IsNoFarther, AreFirstOf, AreNearestOf}
 use Rattle.rstar.specs.Neighbors.{IsNeighbor, shown}
-use Rattle.rstar.specs.Nodes.{fold_tree, far_of, parents_of, leaf_element, elements, parents, far, all_elements, all_parents, all_far, children_of, envelope_of, IsTree, IsInner, IsElement, AreWhole}
+use Rattle.rstar.specs.Nodes.{far_of, parents_of, leaf_element, elements, parents, far, all_elements, all_parents, all_far, children_of, envelope_of, IsTree, IsInner, IsElement, AreWhole}
 use Rattle.rstar.specs.inside.Searches.{NodeSearch, Item, waiting_at, waiting_of, any_first, parents_first, distance_of, AreWholeNodes, ComesFirst, TiesBy, IsReady, IsReadyAt, IsUnrefused}
 use Rattle.rstar.specs.laws.TieLaws.{parents_ties}
 use Rattle.rstar.proofs.searching.Nearness.{IsMeasured, IsPart, above-node, above-Parent}

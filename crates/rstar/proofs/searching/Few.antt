@@ -1,5 +1,5 @@
 -- What the steps of a search for the first few elements keep.
-use Rattle.std.proofs.Common.{Less, Equal, Greater, ◌≡◌, inl, inr, ℕ, ◌+◌, ◌<◌, ◌≤◌, ◌<ℤ◌, ◌≤ℤ◌, ℤ, pos, true, false, List, [], ◌∷◌, ◌++◌, length, length-append, map, refl, ap, sym, ◌∙◌, subst, arith, append_assoc, append-nil, Option, Some, None, get_or, slice_get, ◌-◌, All}
+use Rattle.std.proofs.Common.{Less, Equal, Greater, ◌≡◌, inl, inr, ℕ, ◌+◌, ◌<◌, ◌≤◌, ◌<ℤ◌, ◌≤ℤ◌, ℤ, pos, true, false, List, [], ◌∷◌, ◌++◌, length, length-append, map, refl, ap, sym, ◌∙◌, subst, arith, append_assoc, append-nil, Option, Some, None, MatchOption, Bool, get_or, slice_get, ◌-◌}
 use Rattle.std.specs.Borrow.{Bor}
 use Rattle.std.specs.Prelude.{option_to_list}
 use Rattle.std.specs.Cmp.{IsTotalOrder, nat_cmp_is}
@@ -13,7 +13,6 @@ use Rattle.std.proofs.lemmas.Int.{ints}
 use Rattle.std.proofs.lemmas.List.{length-map}
 use Rattle.std.proofs.lemmas.Option.{get_or_from_slice_get}
 use Rattle.std.proofs.Math.Seq.{get_or-append_seam}
-use Rattle.std.proofs.lemmas.List.Elements.{recursion_from_All}
 use Rattle.std.proofs.lemmas.List.Sums.{sum_by-cons}
 use Rattle.std.proofs.lemmas.List.Sorted.{sum_by-IsPermutation, IsPermutation-refl, IsPermutation-trans, IsPermutation-cons, IsPermutation-append_left, IsPermutation-append_right, IsPermutation-append_comm, IsPermutation-insert, IsPermutation-map, length_permutation}
 use Rattle.std.proofs.lemmas.List.Concat.{flat_map-append}
@@ -25,8 +24,10 @@ use Rattle.rstar_base.proofs.HeapParts.{rises-front}
 use Rattle.rstar_base.proofs.Lists.{all-append, all_first, all_second, all_along, all_map, all_both}
 use Rattle.rstar.specs.declared.node.RTreeNode.{RTreeNode, Leaf, Parent}
 use Rattle.rstar.specs.declared.node.ParentNode.{ParentNode}
+use Rattle.rstar.specs.declared.algorithm.nearest_neighbor.few.Kept.{Kept}
+use Rattle.rstar.specs.declared.algorithm.nearest_neighbor.few.Kept.TheVariants.{One}
 use Rattle.rstar.specs.declared.algorithm.nearest_neighbor.waiting.Waiting.{Waiting}
-use Rattle.rstar.specs.inside.Few.{KeepsGreatest, Found, found_elements, waiting_parents, WaitAtDistance, AreFoundSoFar}
+use Rattle.rstar.specs.inside.Few.{KeepsGreatest, Found, found_elements, kept_in, IsKept, waiting_parents, WaitAtDistance, AreFoundSoFar}
 use Rattle.rstar.specs.Lists.{AreOrdered, AreFirstOf, IsNotLater, by_distance}
 use Rattle.rstar.specs.Nodes.{elements, parents, all_elements, all_parents, children_of, elements_of, IsWhole}
 use Rattle.rstar.specs.inside.Searches.{nearest_on_top, distance_of}
@@ -60,6 +61,15 @@ module _ {T : Type 0} (before : T → T → Type 0) where
     enough = λ less. refl;
   }
 
+  -- their order does not matter
+  pub first-along : (most : ℕ) (xs all found : List T) → IsPermutation all xs → AreFirstOf before xs most found → AreFirstOf before all most found
+  first-along most xs all found same h = record {
+    left = h.left;
+    first = record { bag = IsPermutation-trans all xs (found ++ h.left) same h.first.bag; order = h.first.order; least = h.first.least };
+    few = h.few;
+    enough = h.enough;
+  }
+
   -- each of a list stands before nothing
   over-none : (ts : List T) → AllByRecursion (λ t. AllByRecursion (before t) []) ts
   over-none [] = tt
@@ -87,7 +97,7 @@ module _ {T : Type 0} (before : T → T → Type 0) where
       }
 
   -- some that stand behind all that were found, where these are as many as asked for
-  first-beyond : (most : ℕ) (ts seen found : List T) → most ≤ length found → AllByRecursion (λ t. AllByRecursion (before t) ts) found → AreFirstOf before seen most found → AreFirstOf before (ts ++ seen) most found
+  pub first-beyond : (most : ℕ) (ts seen found : List T) → most ≤ length found → AllByRecursion (λ t. AllByRecursion (before t) ts) found → AreFirstOf before seen most found → AreFirstOf before (ts ++ seen) most found
   first-beyond most ts seen found full behind h =
       let turned : IsPermutation ((ts ++ found) ++ h.left) ((found ++ ts) ++ h.left) = IsPermutation-append_left h.left (ts ++ found) (found ++ ts) (IsPermutation-append_comm ts found) in
       record {
@@ -128,7 +138,7 @@ module _ {T : Type 0} (before : T → T → Type 0) where
 
 -- ---- items that were found, in the order of their elements
 
-not-less : (a b : ℤ) → is_lt (int_cmp a b) ≡ false → b ≤ℤ a
+pub not-less : (a b : ℤ) → is_lt (int_cmp a b) ≡ false → b ≤ℤ a
 not-less a b h = by_ranked (a <ℤ b) (a ≡ b) (b <ℤ a) (int_cmp a b) (int_ranked a b (int_cmp a b) refl) (λ e l. let no = sym h ∙ ap is_lt e in cc) (λ e l. omega (arith, ints)) (λ e l. omega (arith, ints))
 
 pub less-by : (a b : ℤ) → is_lt (int_cmp a b) ≡ true → a <ℤ b
@@ -230,6 +240,22 @@ module _ {T S O : Type 0} (distance : T → ℕ) (value : S → ℤ) (compare : 
           subst (AllByRecursion IsAt) (sym out.is) h,
         )
 
+-- ---- one place for the greatest
+
+pub kept-one : {X : Type 0} (compare : X → X → Ordering) (x : X) (old : Option X) (b : Bool) → MatchOption old (b ≡ true) (λ y. b ≡ is_lt (compare y x)) → b ≡ true → KeepsGreatest compare 1 x (option_to_list old) (x ∷ [])
+kept-one compare x None b is e = inl record { room = omega arith; place = 0; is = refl }
+kept-one compare x (Some y) b is e = inr (inl record { full = omega arith; front = []; last = y; was = refl; less = sym is ∙ e; place = 0; is = refl })
+
+pub kept-in-one : {T S O : Type 0} (compare : Found T S O → Found T S O → Ordering) (most : ℕ) (w : Found T S O) (bound : Option S) (kept : Kept T S O) (found : Option (Found T S O)) (new : List (Found T S O))
+    → kept ≡ One found → IsKept most bound kept → KeepsGreatest compare 1 w (option_to_list found) new → KeepsGreatest compare most w (kept_in kept) new
+kept-in-one compare most w bound kept found new is fits keeps =
+    subst (λ m. KeepsGreatest compare m w (kept_in kept) new) (sym (subst (IsKept most bound) is fits)) (subst (λ k. KeepsGreatest compare 1 w (kept_in k) new) (sym is) keeps)
+
+-- one that is kept alone is in order
+pub one-rises : {X : Type 0} (compare : X → X → Ordering) (x : Option X) → Rises compare (option_to_list x)
+one-rises compare None = tt
+one-rises compare (Some x) = (tt, tt)
+
 -- ---- what was found, as it is lent
 
 module _ {T S O : Type 0} where
@@ -271,16 +297,8 @@ module _ {T E S O : Type 0} (v : Boxes E) (o : Objects T E) (d : Distances T) (p
 
   -- where none is left, the first of all were found
   pub so-far-end : (ns : List (RTreeNode T E)) (found : List (Found T S O)) → ns ≡ [] → SoFar ns found → AreFirstOf (IsNotLater (λ t. d.distance_2 t p) compare) all most (found_elements found)
-  so-far-end ns found none s = record {
-    left = s.first.left;
-    first = record {
-      bag = IsPermutation-trans _ _ _ (subst (λ (l : List (RTreeNode T E)). IsPermutation all (all_elements l ++ s.seen)) none s.bag) s.first.first.bag;
-      order = s.first.first.order;
-      least = s.first.first.least;
-    };
-    few = s.first.few;
-    enough = s.first.enough;
-  }
+  so-far-end ns found none s =
+      first-along (IsNotLater (λ t. d.distance_2 t p) compare) most s.seen all (found_elements found) (subst (λ (l : List (RTreeNode T E)). IsPermutation all (all_elements l ++ s.seen)) none s.bag) s.first
 
   -- an element was looked at
   pub so-far-leaf : (scalars : S → S → Ordering) (order : (a b : S) → scalars a b ≡ int_cmp (value a) (value b)) (total : IsTotalOrder compare) (w : Found T S O) (ns : List (RTreeNode T E)) (old new : List (Found T S O))
@@ -312,15 +330,6 @@ module _ {T E : Type 0} {IsPoint : List ℤ → Type 0} {v : Boxes E} {o : Objec
             (all-behind (λ t. d.distance_2 t p) value scalars compare order found s (distance_of v d p n) (elements n) h.at nearer at (above-node law n h.parts.0)) h.first;
         at = h.at;
       }
-
-  -- parents that wait no nearer than one that is beyond are left out too
-  so-far-all-beyond : {Y : Type 0} (scalars : S → S → Ordering) (order : (a b : S) → scalars a b ≡ int_cmp (value a) (value b)) (ties : ParentNode T E → ParentNode T E → Ordering) (x : Waiting (Bor (ParentNode T E)) S Y) (ws : List (Waiting (Bor (ParentNode T E)) S Y)) (found : List (Found T S O))
-      → most ≤ length found → AllByRecursion (λ u. value u.distance <ℤ value x.distance) found → AllByRecursion (λ w. is_lt (nearest_on_top scalars ties x w) ≡ false) ws → WaitAtDistance v d p value ws → Until (waiting_parents ws) found → Until [] found
-  so-far-all-beyond scalars order ties x [] found full nearer least at h = h
-  so-far-all-beyond scalars order ties x (w ∷ ws) found full nearer least at h =
-      let far = sym (ap is_lt (order w.distance x.distance)) ∙ then-first (scalars w.distance x.distance) (ties w.node.now x.node.now) least.0 in
-      let own = all_map (λ (u : Found T S O). value u.distance <ℤ value x.distance) (λ u. value u.distance <ℤ value w.distance) (λ u less. let no_nearer = not-less (value w.distance) (value x.distance) far in omega (arith, ints, no_nearer, less)) found nearer in
-      so-far-all-beyond scalars order ties x ws found full nearer least.1 at.1 (so-far-beyond scalars order (Parent w.node.now) (waiting_parents ws) found w.distance full own at.0 h)
 
   -- a parent is opened
   pub so-far-parent : (q : ParentNode T E) (ns : List (RTreeNode T E)) (found : List (Found T S O)) → Until (Parent q ∷ ns) found → Until (ns ++ children_of q) found
@@ -379,14 +388,3 @@ module _ {T E S O : Type 0} (w : Waiting (Bor (ParentNode T E)) S O) (ws us : Li
 
   pub popped-waiting : (v : Boxes E) (d : Distances T) (p : List ℤ) (value : S → ℤ) → WaitAtDistance v d p value ws → WaitAtDistance v d p value (w ∷ us)
   popped-waiting v d p value h = all_along (λ (u : Waiting (Bor (ParentNode T E)) S O). value u.distance ≡ pos (distance_of v d p (Parent u.node.now))) ws (w ∷ us) popped h
-
--- where the parent that the heap gives is beyond what was found, so are the others: the first of all were found
-pub so-far-stops : {T E : Type 0} {IsPoint : List ℤ → Type 0} {v : Boxes E} {o : Objects T E} {d : Distances T} {p : List ℤ} (law : IsMeasured IsPoint v o d p) {S O Y : Type 0} (compare : T → T → Ordering) (value : S → ℤ) (most : ℕ) (all : List T)
-    (scalars : S → S → Ordering) (order : (a b : S) → scalars a b ≡ int_cmp (value a) (value b)) (ties : ParentNode T E → ParentNode T E → Ordering) (w : Waiting (Bor (ParentNode T E)) S Y) (ws us : List (Waiting (Bor (ParentNode T E)) S Y)) (found : List (Found T S O))
-    → IsPermutation ws (w ∷ us) → All (λ u. is_lt (nearest_on_top scalars ties w u) ≡ false) us → WaitAtDistance v d p value ws → most ≤ length found → AllByRecursion (λ u. value u.distance <ℤ value w.distance) found
-    → AreFoundSoFar v o d p compare value most all (waiting_parents ws) found → AreFirstOf (IsNotLater (λ t. d.distance_2 t p) compare) all most (found_elements found)
-so-far-stops {v = v} {o = o} {d = d} {p = p} law compare value most all scalars order ties w ws us found popped greatest waiting full nearer h =
-    let at = popped-waiting w ws us popped v d p value waiting in
-    let front = so-far-same v o d p compare value most all (waiting_parents ws) (Parent w.node.now ∷ waiting_parents us) found (popped-nodes w ws us popped) h in
-    let others = so-far-beyond law compare value most all scalars order (Parent w.node.now) (waiting_parents us) found w.distance full nearer at.0 front in
-    so-far-end v o d p compare value most all [] found refl (so-far-all-beyond law compare value most all scalars order ties w us found full nearer (recursion_from_All _ us greatest) at.1 others)

@@ -6,8 +6,8 @@ use Rattle.std.specs.Ordering.{is_lt, int_cmp}
 use Rattle.std.specs.declared.cmp.Ordering.{Ordering}
 use Rattle.std.proofs.lemmas.List.Sorted.{IsPermutation-trans, IsPermutation-map, sum_by_popped}
 use Rattle.std.proofs.lemmas.List.Elements.{recursion_from_All}
-use Rattle.rstar_base.specs.Envelopes.{Boxes}
-use Rattle.rstar_base.specs.Elements.{Objects, Distances}
+use Rattle.rstar_base.specs.Envelopes.{Boxes, EnvelopeLaws}
+use Rattle.rstar_base.specs.Elements.{Objects, ObjectLaws, Distances, DistanceLaws}
 use Rattle.rstar_base.specs.SmallHeaps.{Held, items_of, IsOrdered}
 use Rattle.rstar_base.proofs.Lists.{all_along, all_both}
 use Rattle.rstar.specs.declared.node.RTreeNode.{RTreeNode, Leaf, Parent}
@@ -19,6 +19,10 @@ use Rattle.rstar.specs.inside.Searches.{Item, nearest_on_top, ComesFirst, waitin
 use Rattle.rstar.proofs.trees.ByChildren.{node_distance-Leaf, parents-Parent}
 use Rattle.rstar.proofs.searching.Nearness.{IsMeasured, IsPart, part-Parent}
 use Rattle.rstar.proofs.searching.Searches.{least-nodes, first-nodes, parts-parent, fewer-parents, same-elements, counted-parent, far-parent, bag-given, least-given, far-given, counted-leaf, far-rest}
+
+-- the laws of a function's element type, at a point
+pub measured-by : {T E : Type 0} {IsPoint : List ℤ → Type 0} {v : Boxes E} {o : Objects T E} {d : Distances T} {p : List ℤ} → EnvelopeLaws IsPoint v → ObjectLaws v o → DistanceLaws IsPoint v o d → IsPoint p → IsMeasured IsPoint v o d p
+measured-by laws ok near point = record { laws = laws; ok = ok; near = near; point = point }
 
 -- the item that a heap gives
 module _ {T E S O : Type 0} (v : Boxes E) (d : Distances T) (p : List ℤ) (value : S → ℤ) (compare : S → S → Ordering) (ties : RTreeNode T E → RTreeNode T E → Ordering) (ws us : Held (Item T E S O)) (w : Item T E S O)
@@ -51,11 +55,6 @@ module _ {T E S O : Type 0} (v : Boxes E) (d : Distances T) (p : List ℤ) (valu
     pub least-as : (order : (a b : S) → compare a b ≡ int_cmp (value a) (value b)) (greatest : All (λ (y : Item T E S O). is_lt (nearest_on_top compare ties w y) ≡ false) (items_of us))
         → AllByRecursion (λ c. distance_of v d p n ≤ distance_of v d p c) (waiting_nodes (items_of us))
     least-as order greatest = subst (λ (m : RTreeNode T E). AllByRecursion (λ c. distance_of v d p m ≤ distance_of v d p c) (waiting_nodes (items_of us))) is (popped-least order greatest)
-
-  pub leaf-least : (t : T) → w.node.now ≡ Leaf t → (order : (a b : S) → compare a b ≡ int_cmp (value a) (value b)) (greatest : All (λ (y : Item T E S O). is_lt (nearest_on_top compare ties w y) ≡ false) (items_of us))
-      → AllByRecursion (λ c. d.distance_2 t p ≤ distance_of v d p c) (waiting_nodes (items_of us))
-  leaf-least t is order greatest =
-      subst (λ m. AllByRecursion (λ c. m ≤ distance_of v d p c) (waiting_nodes (items_of us))) (node_distance-Leaf T E (λ e. v.distance_2 e p) (λ t. d.distance_2 t p) t) (least-as (Leaf t) is order greatest)
 
   pub parents-popped : (q : ParentNode T E) → w.node.now ≡ Parent q → all_parents (waiting_nodes (items_of ws)) ≡ 1 + (all_parents (children_of q) + all_parents (waiting_nodes (items_of us)))
   parents-popped q is =

@@ -1,9 +1,10 @@
 -- Chains of calls that begin at a selection: the list that it gives.
-use Rattle.std.proofs.Common.{◌≡◌, List, Bool, length, map, ap, subst, refl, None}
+use Rattle.std.proofs.Common.{◌≡◌, List, Bool, length, map, ap, subst, refl, None, ◌∙◌, filter, IfOk, Result}
 use Rattle.std.specs.Borrow.{Bor}
 use Rattle.std.specs.Iterator.{Yields}
 use Rattle.std.proofs.lemmas.Iterator.{YieldsList}
 use Rattle.std.proofs.lemmas.Iterator.Consumers.{YieldsList-from_shown, YieldsList-end}
+use Rattle.std.proofs.lemmas.Result.{IfOk-weaker}
 use Rattle.rstar.specs.declared.iterators.selection.SelectionIterator.{SelectionIterator}
 use Rattle.rstar.specs.declared.node.ParentNode.{ParentNode}
 use Rattle.rstar.specs.declared.iterators.joins.IntersectionIterator.{IntersectionIterator}
@@ -26,10 +27,14 @@ pub selection_end : {T F E : Type 0} {accepts : F → E → Bool} {selects : F �
     → (u : SelectionIterator T F E) → GivesNext accepts selects t None u → map (λ (x : Bor T). x.now) ys ≡ xs
 selection_end it xs e ys t y u last = (YieldsList-end (selection_list {it = it} xs e) ys t y None u refl last).0
 
--- the same iterator, its question by another name
-pub made_asking : {T F E : Type 0} {accepts : F → E → Bool} {over : ParentNode T E} {asked same : E → Bool} → asked ≡ same
-    → (it : SelectionIterator T F E) → IsMade accepts over asked it → IsMade accepts over same it
-made_asking {accepts = accepts} {over} e it made = subst (λ asked. IsMade accepts over asked it) e made
+-- what a lawful selection gives, and the iterator over it, its question by another name
+pub all_asked : {I T X Lawful : Type 0} {asked selects : T → Bool} (come : I → List T) (ts : List T) (r : Result I X) → Lawful → asked ≡ selects
+    → IfOk r (λ it. Lawful → come it ≡ filter asked ts) → IfOk r (λ it. come it ≡ filter selects ts)
+all_asked come ts r lawful same told = IfOk-weaker r _ _ (λ it all. all lawful ∙ ap (λ s. filter s ts) same) told
+
+pub made_asking : {T F E X : Type 0} {asked same : E → Bool} (accepts : F → E → Bool) (over : ParentNode T E) (r : Result (SelectionIterator T F E) X) → asked ≡ same
+    → IfOk r (λ it. IsMade accepts over asked it) → IfOk r (λ it. IsMade accepts over same it)
+made_asking accepts over r e made = subst (λ asked. IfOk r (λ it. IsMade accepts over asked it)) e made
 
 -- the same of a join: the pairs that it gives, and at the end of a `for` over it
 pub pairs_list : {T E U F : Type 0} {meets : E → F → Bool} {left_box : T → E} {right_box : U → F} {it : IntersectionIterator T U E F} (xs : List (T × U))

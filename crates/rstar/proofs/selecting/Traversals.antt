@@ -2,21 +2,20 @@
 use Rattle.std.proofs.Common.{◌≡◌, ◌≢◌, ℕ, zero, suc, ◌+◌, ◌<◌, ◌≤◌, ◌⊎◌, inl, inr, List, [], ◌∷◌, ◌++◌, length, map, refl, ap, ◌∙◌, sym, subst, arith, Bool, append_assoc, append-nil, length-append, if◌then◌else◌, true, false, min, ◌==◌}
 use Rattle.std.proofs.lemmas.Bool.Decides.{nat_tests}
 use Rattle.std.specs.List.{AllByRecursion}
+pub use Rattle.std.proofs.lemmas.List.{nil_from_length as nil-length}
 use Rattle.std.specs.Borrow.{Bor}
 use Rattle.rstar.specs.declared.node.RTreeNode.{RTreeNode, Leaf, Parent}
 use Rattle.rstar.specs.declared.node.ParentNode.{ParentNode}
-use Rattle.rstar.specs.Nodes.{total, reach, given, all_given, given_of, all_reach, reach_below, reach_of, children_of, envelope_of, IsTree}
+use Rattle.rstar.specs.Nodes.{total, reach, given, all_given, all_reach, reach_below, reach_of, children_of, envelope_of, AreWhole}
 use Rattle.rstar_base.specs.Counts.{usize_max}
 use Rattle.rstar.specs.inside.Traversals.{given_from_slices, reach_from_slices, IsLevel, AreSlices, IsUnderWay, steps, steps_of}
-use Rattle.rstar_base.proofs.Lists.{all_map}
-use Rattle.rstar.proofs.trees.ByChildren.{given-Leaf, reach-Leaf, steps-Leaf, given-Parent, reach-Parent, steps-Parent, parent_of, no_leaf, is_leaf, is_parent, IsLeafOf-Leaf, IsParentOf-Parent}
+use Rattle.rstar.proofs.trees.ByChildren.{given-Leaf, reach-Leaf, steps-Leaf, given-Parent, reach-Parent, steps-Parent, parent_of, no_leaf}
+use Rattle.rstar_base.specs.Envelopes.{Boxes}
+use Rattle.rstar_base.specs.Elements.{Objects}
+use Rattle.rstar.proofs.inserting.Insertion.{trees_map}
 
 abbrev pub Slices : (T E : Type 0) → Type 0
 Slices T E = List (Bor (List (RTreeNode T E)))
-
-pub nil-length : {A : Type 0} (xs : List A) → length xs ≡ 0 → xs ≡ []
-nil-length [] e = refl
-nil-length (x ∷ xs) e = absurd (omega arith)
 
 module _ {T E : Type 0} where
   -- ---- a slice at the end
@@ -283,32 +282,15 @@ module _ {T E : Type 0} where
   -- ---- where a walk starts
 
   -- weaker facts of the same tree
-  pub tree-weaker : (Q Q' : ParentNode T E → Type 0) (R R' : T → Type 0) → ((p : ParentNode T E) → Q p → Q' p) → ((t : T) → R t → R' t)
-      → (h : ℕ) (n : RTreeNode T E) → IsTree Q R h n → IsTree Q' R' h n
-  tree-weaker Q Q' R R' f k zero n w =
-      let l = is_leaf R n w in subst (IsTree Q' R' zero) (sym l.1) (IsLeafOf-Leaf T E R' l.0 (k l.0 l.2))
-  tree-weaker Q Q' R R' f k (suc h) n w =
-      let p = is_parent _ n w in
-      subst (IsTree Q' R' (suc h)) (sym p.1)
-      (IsParentOf-Parent _ p.0 (f p.0 p.2.0, all_map (IsTree Q R h) (IsTree Q' R' h) (tree-weaker Q Q' R R' f k h) (children_of p.0) p.2.1))
+  -- whole nodes lie on one level
+  pub all-level : (v : Boxes E) (o : Objects T E) (h : ℕ) (ns : List (RTreeNode T E)) → AreWhole v o h ns → AllByRecursion (IsLevel h) ns
+  all-level v o = trees_map (λ p q. q.1) (λ t q. tt)
 
-  -- nothing is given where nothing is left, from a root without children, and from one that is refused
+  -- nothing is given where nothing is left
   pub given-start : (accepts : E → Bool) (selects : T → Bool) (path : Slices T E) (nodes : Bor (List (RTreeNode T E)))
       → path ≡ [] → nodes.now ≡ [] → given_from_slices accepts selects (path ++ nodes ∷ []) ≡ []
   given-start accepts selects path nodes empty none =
       ap (λ (l : Slices T E). given_from_slices accepts selects (l ++ nodes ∷ [])) empty ∙ ap (all_given accepts selects) none
-
-  pub given-refused : (accepts : E → Bool) (selects : T → Bool) (root : ParentNode T E)
-      → accepts (envelope_of root) ≡ false → given_of accepts selects root ≡ []
-  given-refused accepts selects root refused = ap (λ (b : Bool). if b then all_given accepts selects (children_of root) else []) refused
-
-  pub given-empty : (accepts : E → Bool) (selects : T → Bool) (root : ParentNode T E) → children_of root ≡ [] → given_of accepts selects root ≡ []
-  given-empty accepts selects root none =
-      ap (λ l. if accepts (envelope_of root) then all_given accepts selects l else []) none ∙ either (accepts (envelope_of root))
-    where
-      either : (b : Bool) → (let nothing : List T = [] in if b then nothing else nothing) ≡ []
-      either true = refl
-      either false = refl
 
   pub way-none : (accepts : E → Bool) (root : ParentNode T E) (path : Slices T E) (nodes : Bor (List (RTreeNode T E))) (room : ℕ)
       → path ≡ [] → nodes.now ≡ [] → reach_of accepts root ≡ 0 → IsUnderWay accepts root (path ++ nodes ∷ []) room 0
@@ -329,9 +311,11 @@ module _ {T E : Type 0} where
   reach-asked accepts e [] some h = absurd (some refl)
   reach-asked accepts e (n ∷ ns) some h = ap (λ (b : Bool). if b then 1 + all_reach accepts (n ∷ ns) else 0) h
 
-  pub reach-refused : (accepts : E → Bool) (e : E) (ns : List (RTreeNode T E)) → accepts e ≡ false → reach_below accepts e ns ≡ 0
-  reach-refused accepts e [] h = refl
-  reach-refused accepts e (n ∷ ns) h = ap (λ (b : Bool). if b then 1 + all_reach accepts (n ∷ ns) else 0) h
+  -- a root without children, or one that is refused, is not entered
+  pub reach-none : (accepts : E → Bool) (e : E) (ns : List (RTreeNode T E)) → (ns ≡ []) ⊎ (accepts e ≡ false) → reach_below accepts e ns ≡ 0
+  reach-none accepts e [] none = refl
+  reach-none accepts e (n ∷ ns) (inl none) = cc
+  reach-none accepts e (n ∷ ns) (inr h) = ap (λ (b : Bool). if b then 1 + all_reach accepts (n ∷ ns) else 0) h
 
   pub way-start : (accepts : E → Bool) (root : ParentNode T E) (path : Slices T E) (nodes : Bor (List (RTreeNode T E))) (room h : ℕ)
       → path ≡ [] → nodes.now ≡ children_of root → children_of root ≢ [] → accepts (envelope_of root) ≡ true

@@ -1,5 +1,5 @@
 -- What is written of nodes.
-use Rattle.std.proofs.Common.{◌≡◌, ◌≢◌, ℕ, ℤ, zero, suc, ◌+◌, ◌^◌, ◌<◌, ◌≤◌, List, [], ◌∷◌, ◌++◌, length, map, take, get_or, refl, sym, ap, subst, ◌∙◌, append_assoc, append-nil, arith}
+use Rattle.std.proofs.Common.{◌≡◌, ℕ, ℤ, zero, suc, ◌+◌, ◌^◌, ◌<◌, ◌≤◌, List, [], ◌∷◌, ◌++◌, length, map, take, get_or, refl, sym, ap, subst, ◌∙◌, append_assoc, append-nil, arith}
 use Rattle.std.specs.List.{AllByRecursion}
 use Rattle.std.proofs.lemmas.List.{take_more, take_all, map_push, length-map}
 use Rattle.std.specs.Int.{w64, to_le_bytes, cast_signed, cast_unsigned}
@@ -24,6 +24,7 @@ use Rattle.std.proofs.lemmas.List.Sums.{sum_by-cons, sum_by_more, sum_by_more_le
 use Rattle.rstar.proofs.storing.Bytes.{bytes_of}
 use Rattle.rstar.proofs.storing.Laws.{spelling-parent}
 use Rattle.rstar.proofs.storing.Nodes.{merge_same, point_laws, place_laws}
+use Rattle.rstar.proofs.lists.Items.{some_item}
 
 -- what stands before the children of a parent
 abbrev pub head_of : ℕ → Box → List ℕ
@@ -130,10 +131,7 @@ module _ where
       let long = length-map cs shown in
       let merged : p.envelope ≡ merge_of (map shown cs) = w.0.0 ∙ sym (merged_is_hull point_laws place_laws h cs w.1) ∙ sym (merge_same boxes places.box_of cs) in
       subst (λ (ns : List Tree). (0 < length ns) × (length ns < 2 ^ 64) × (p.envelope ≡ merge_of ns) × AllByRecursion (IsStored h) ns) (sym (nodes-row (map shown cs)))
-      (let s = some_item cs w.0.1 in omega (arith, s, long), let few = p.children.ok.0 in omega (arith, few, long), merged, all) where
-        some_item : (ns : List (RTreeNode Place Box)) → ns ≢ [] → 0 < length ns
-        some_item [] full = absurd (full refl)
-        some_item (n ∷ ns) full = omega arith
+      (let s = some_item cs w.0.1 in omega (arith, s, long), let few = p.children.ok.0 in omega (arith, few, long), merged, all)
 
 -- ---- how many bytes
 

@@ -1,7 +1,7 @@
 -- What clones of nodes have.
 use Rattle.std.proofs.Common.{◌≡◌, ◌≢◌, ℕ, zero, suc, ◌+◌, ◌<◌, ◌≤◌, List, [], ◌∷◌, ◌++◌, length, map, take, get_or, refl, sym, ap, ◌∙◌, subst, arith}
-use Rattle.std.specs.List.{AllByRecursion, AllZip, flat_map, each_same}
-use Rattle.std.proofs.lemmas.List.{take_more, take_all}
+use Rattle.std.specs.List.{AllByRecursion, AllZip, flat_map}
+use Rattle.std.proofs.lemmas.List.{take_more, take_all, nil_from_length}
 use Rattle.std.proofs.lemmas.Slice.Zip.{AllZip-long}
 use Rattle.rstar_base.specs.Envelopes.{Boxes}
 use Rattle.rstar_base.specs.Elements.{Objects}
@@ -20,12 +20,6 @@ use Rattle.rstar.specs.Clones.{ClonesEqual, IsNodeClone, IsParentClone}
 use Rattle.rstar.proofs.inserting.Insertion.{trees_map}
 use Rattle.rstar.proofs.lists.Items.{all_get, AllZip-append}
 use Rattle.rstar.proofs.trees.ByChildren.{joined-map, fold_tree-Parent, elements-Leaf, elements-Parent, parent_of, leaf_of, no_leaf, no_parent, IsLeafOf-Leaf, IsParentOf-Parent}
-
-AllZip-map : {A B : Type 0} (R Q : A → B → Type 0) → ((x : A) (y : B) → R x y → Q x y) → (xs : List A) (ys : List B) → AllZip R xs ys → AllZip Q xs ys
-AllZip-map R Q f [] [] z = tt
-AllZip-map R Q f [] (y ∷ ys) z = absurd z
-AllZip-map R Q f (x ∷ xs) [] z = absurd z
-AllZip-map R Q f (x ∷ xs) (y ∷ ys) z = (f x y z.0, AllZip-map R Q f xs ys z.1)
 
 fold_tree-Leaf : {T E A : Type 0} (at_leaf : T → A) (at_parent : E → List A → A) (t : T) → fold_tree at_leaf at_parent (Leaf t) ≡ at_leaf t
 unfolding fold_tree
@@ -89,7 +83,8 @@ module _ {T E : Type 0} (is_clone : T → T → Type 0) where
       folds_same at_leaf at_parent = maps_same (IsNodeClone is_clone h) (fold_tree at_leaf at_parent) (fold_cloned at_leaf at_parent h) (children_of p) (children_of q) c.children
 
       pub elements_same : elements_of q ≡ elements_of p
-      elements_same = each_same (elements_of p) (elements_of q) (AllZip-map is_clone (λ t u. u ≡ t) equal (elements_of p) (elements_of q) (all_cloned h p q c))
+      unfolding elements
+      elements_same = sym (joined-map elements (children_of q)) ∙ ap joined (folds_same _ _) ∙ joined-map elements (children_of p)
 
       pub levels_same : levels_below (children_of q) ≡ levels_below (children_of p)
       unfolding levels
@@ -125,10 +120,7 @@ module _ {T E : Type 0} (is_clone : T → T → Type 0) where
       trees_cloned h p q c = trees_each h (tree_cloned h) (children_of p) (children_of q) c.children
 
     none_cloned : (h : ℕ) (p q : ParentNode T E) → IsParentClone is_clone h p q → children_of p ≢ [] → children_of q ≢ []
-    none_cloned h p q c some none = some (empty_of (children_of p) (omega (arith, AllZip-long (IsNodeClone is_clone h) (children_of p) (children_of q) c.children, ap length none))) where
-      empty_of : {A : Type 0} (xs : List A) → length xs ≡ 0 → xs ≡ []
-      empty_of [] e = refl
-      empty_of (x ∷ xs) e = absurd (omega (arith, e))
+    none_cloned h p q c some none = some (nil_from_length (children_of p) (omega (arith, AllZip-long (IsNodeClone is_clone h) (children_of p) (children_of q) c.children, ap length none)))
 
     module _ (v : Boxes E) (o : Objects T E) (h : ℕ) (p q : ParentNode T E) (c : IsParentClone is_clone h p q) where
       pub tight_cloned : envelope_of p ≡ hull v o.box_of (elements_of p) → envelope_of q ≡ hull v o.box_of (elements_of q)

@@ -1,5 +1,5 @@
 -- The levels of nodes.
-use Rattle.std.proofs.Common.{◌≡◌, ◌≢◌, ℕ, zero, suc, ◌+◌, List, [], ◌∷◌, refl, ap, ◌∙◌, arith}
+use Rattle.std.proofs.Common.{◌≡◌, ◌≢◌, ℕ, zero, suc, ◌+◌, List, [], ◌∷◌, refl, ap, ◌∙◌, arith, sym, subst}
 use Rattle.rstar.specs.declared.node.RTreeNode.{RTreeNode, Leaf, Parent}
 use Rattle.rstar.specs.declared.node.ParentNode.{ParentNode}
 use Rattle.rstar.specs.Nodes.{fold_tree}
@@ -29,3 +29,9 @@ module _ {T E : Type 0} where
       let below = levels_are Q R some h p.0.children.items (some p.0 p.2.0) p.2.1 in
       let whole = ap levels p.1 ∙ levels-Parent p.0 in
       omega (arith, below, whole)
+
+  -- so they lie by the levels that the first of them shows
+  pub at_levels : (Q : ParentNode T E → Type 0) (R : T → Type 0) (some : (p : ParentNode T E) → Q p → p.children.items ≢ []) (h n : ℕ) (ns : List (RTreeNode T E))
+      → n ≡ levels_below ns → AreTrees Q R h ns → AreTrees Q R n ns
+  at_levels Q R some h n [] is trees = tt
+  at_levels Q R some h n (m ∷ ms) is trees = subst (λ (k : ℕ). AreTrees Q R k (m ∷ ms)) (sym (is ∙ levels_are Q R some h (m ∷ ms) (λ none. cc) trees)) trees

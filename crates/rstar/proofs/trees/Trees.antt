@@ -1,17 +1,14 @@
 -- Whole trees: their elements, and that their envelopes are tight.
-use Rattle.std.proofs.Common.{◌≡◌, ℕ, ℤ, zero, suc, List, [], ◌∷◌, ◌++◌, refl, ap, sym, ◌∙◌, subst}
+use Rattle.std.proofs.Common.{◌≡◌, ℕ, ℤ, zero, suc, List, [], ◌∷◌, refl, ap, sym, ◌∙◌, subst}
 use Rattle.std.specs.List.{AllByRecursion}
-use Rattle.std.specs.List.Sorted.{IsPermutation}
-use Rattle.std.proofs.lemmas.List.Sorted.{IsPermutation-append_comm}
-use Rattle.std.proofs.lemmas.List.Concat.{flat_map-append}
 use Rattle.rstar_base.specs.Envelopes.{Boxes, EnvelopeLaws}
 use Rattle.rstar_base.specs.Elements.{Objects, ObjectLaws}
 use Rattle.rstar_base.specs.Hulls.{hull}
 use Rattle.rstar_base.proofs.Lists.{all-append, all_map}
-use Rattle.rstar_base.proofs.Hulls.{hull-append, hull-single, hull-push}
-use Rattle.rstar.specs.declared.node.RTreeNode.{RTreeNode, Leaf}
+use Rattle.rstar_base.proofs.Hulls.{hull-append, hull-single}
+use Rattle.rstar.specs.declared.node.RTreeNode.{RTreeNode}
 use Rattle.rstar.specs.Nodes.{elements, all_elements, node_box, IsTree, IsElement, IsInner, AreWhole}
-use Rattle.rstar.proofs.trees.ByChildren.{is_leaf, is_parent, elements-Leaf, elements-Parent, node_box-Leaf, node_box-Parent, IsLeafOf-Leaf}
+use Rattle.rstar.proofs.trees.ByChildren.{is_leaf, is_parent, elements-Leaf, elements-Parent, node_box-Leaf, node_box-Parent}
 
 module _ {T E : Type 0} (v : Boxes E) (o : Objects T E) where
   each_sound : (Q : RTreeNode T E → Type 0) → ((n : RTreeNode T E) → Q n → AllByRecursion (IsElement v o) (elements n))
@@ -55,17 +52,3 @@ module _ {T E : Type 0} {IsPoint : List ℤ → Type 0} {v : Boxes E} {o : Objec
         ap (λ e. v.merge e (hull v (node_box o.box_of) ns)) (box_is_hull h n w.0)
         ∙ ap (v.merge (hull v o.box_of (elements n))) (merged_is_hull h ns w.1)
         ∙ sym (hull-append laws o.box_of (elements n) (all_elements ns) (values-of (elements n) (sound v o h n w.0)) (values-of (all_elements ns) (all_sound v o h ns w.1)))
-
-    -- one more leaf in a list of leaves
-    pub leaf_added : (ns : List (RTreeNode T E)) (t : T) (e f : E) → e ≡ hull v o.box_of (all_elements ns) → f ≡ v.merge e (o.box_of t)
-        → AreWhole v o 0 ns → IsElement v o t
-        → IsPermutation (t ∷ all_elements ns) (all_elements (ns ++ Leaf t ∷ [])) × (f ≡ hull v o.box_of (all_elements (ns ++ Leaf t ∷ []))) × AreWhole v o 0 (ns ++ Leaf t ∷ [])
-    leaf_added ns t e f tight merged w ok_t =
-        let one : elements {E = E} (Leaf t) ≡ t ∷ [] = elements-Leaf T E t in
-        let all : all_elements (ns ++ Leaf t ∷ []) ≡ all_elements ns ++ t ∷ [] =
-        flat_map-append elements ns (Leaf t ∷ []) ∙ ap (λ (l : List T). all_elements ns ++ (l ++ [])) one in (
-          subst (IsPermutation (t ∷ all_elements ns)) (sym all) (IsPermutation-append_comm (t ∷ []) (all_elements ns)),
-          merged ∙ ap (λ x. v.merge x (o.box_of t)) tight
-              ∙ sym (ap (hull v o.box_of) all ∙ hull-push laws o.box_of (all_elements ns) t (values-of (all_elements ns) (all_sound v o 0 ns w)) (ok t ok_t.0)),
-          all-append (IsTree (IsInner v o) (IsElement v o) 0) ns (Leaf t ∷ []) w (IsLeafOf-Leaf T E (IsElement v o) t ok_t, tt),
-        )

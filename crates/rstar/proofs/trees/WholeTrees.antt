@@ -1,5 +1,5 @@
 -- From what a tree keeps to what an insertion asks, and back.
-use Rattle.std.proofs.Common.{◌≡◌, ◌≢◌, ℕ, zero, suc, ◌<◌, List, [], ◌∷◌, length, max, min, refl, ap, sym, ◌∙◌, subst, arith}
+use Rattle.std.proofs.Common.{◌≡◌, ◌≢◌, ℕ, zero, suc, ◌<◌, List, [], ◌∷◌, length, max, min, ap, sym, subst, arith}
 use Rattle.rstar_base.specs.Envelopes.{Boxes}
 use Rattle.rstar_base.specs.Elements.{Objects}
 use Rattle.rstar.specs.declared.node.RTreeNode.{RTreeNode}
@@ -8,13 +8,10 @@ use Rattle.rstar.specs.Nodes.{IsTree, IsElement, IsInner, AreWhole, children_of}
 use Rattle.rstar.specs.Shapes.{AreTrees, IsAny, HasSize, IsSized}
 use Rattle.rstar.specs.Heights.{levels_below}
 use Rattle.rstar.specs.inside.ParentBounds.{HasAtMost, IsKeptInner, AreKept, IsKeptTree}
-use Rattle.rstar.proofs.trees.Heights.{levels_are}
+use Rattle.rstar.proofs.trees.Heights.{levels_are, at_levels}
 use Rattle.rstar.proofs.trees.ByChildren.{is_parent, parent_of, IsParentOf-Parent}
 use Rattle.rstar.proofs.inserting.Insertion.{trees_map}
-
-some_item : {A : Type 0} (xs : List A) → xs ≢ [] → 0 < length xs
-some_item [] full = absurd (full refl)
-some_item (x ∷ xs) full = omega arith
+use Rattle.rstar.proofs.lists.Items.{some_item}
 
 module _ {T E : Type 0} (v : Boxes E) (o : Objects T E) (widest : ℕ) where
   pub all_kept : (h : ℕ) → ((n : RTreeNode T E) → IsTree (IsInner v o) (IsElement v o) h n → IsTree (HasAtMost widest) IsAny h n → IsTree (IsKeptInner v o widest) (IsElement v o) h n)
@@ -30,17 +27,16 @@ module _ {T E : Type 0} (v : Boxes E) (o : Objects T E) (widest : ℕ) where
       subst (IsTree (IsKeptInner v o widest) (IsElement v o) (suc h)) (sym p.1)
       (IsParentOf-Parent _ p.0 ((record { tight = p.2.0.0; narrow = q.0 }, some_item p.0.children.items p.2.0.1), all_kept h (tree_kept h) p.0.children.items p.2.1 q.1))
 
+  some_child : (p : ParentNode T E) → IsKeptInner v o widest p → p.children.items ≢ []
+  some_child p kept none = let long = ap length none in absurd (omega (arith, long, kept.1))
+
   -- whole trees within the bound, by the levels that their first leaf shows
   pub kept_at : (h n : ℕ) (ns : List (RTreeNode T E)) → n ≡ levels_below ns → AreWhole v o h ns → AreTrees (HasAtMost widest) IsAny h ns → AreKept v o widest n ns
-  kept_at h n [] is w r = tt
-  kept_at h n (m ∷ ms) is w r =
-      subst (λ (k : ℕ). AreKept v o widest k (m ∷ ms)) (sym (is ∙ levels_are (IsInner v o) (IsElement v o) (λ p q. q.1) h (m ∷ ms) (λ none. cc) w)) (all_kept h (tree_kept h) (m ∷ ms) w r)
+  kept_at h n ns is w r = at_levels (IsKeptInner v o widest) (IsElement v o) some_child h n ns is (all_kept h (tree_kept h) ns w r)
 
   -- the levels of a kept tree
   pub levels_kept : (h : ℕ) (p : ParentNode T E) → IsKeptTree v o widest h p → h ≡ levels_below p.children.items
-  levels_kept h p kept = sym (levels_are (IsKeptInner v o widest) (IsElement v o) (λ q k. some_child q k.1) h p.children.items (some_child p kept.0.1) kept.1) where
-    some_child : (q : ParentNode T E) → 0 < length q.children.items → q.children.items ≢ []
-    some_child q some none = let long = ap length none in absurd (omega (arith, long, some))
+  levels_kept h p kept = sym (levels_are (IsKeptInner v o widest) (IsElement v o) some_child h p.children.items (some_child p kept.0) kept.1)
 
   -- what is kept of the bound
   pub narrow_of : (h : ℕ) (ns : List (RTreeNode T E)) → AreKept v o widest h ns → AreTrees (HasAtMost widest) IsAny h ns
@@ -52,9 +48,7 @@ module _ {T E : Type 0} (min max : ℕ) (positive : 0 < min) where
 
   -- sized trees, by the levels that their first leaf shows
   pub sized_at : (h n : ℕ) (ns : List (RTreeNode T E)) → n ≡ levels_below ns → AreTrees (HasSize min max) IsAny h ns → AreTrees (HasSize min max) IsAny n ns
-  sized_at h n [] is w = tt
-  sized_at h n (m ∷ ms) is w =
-      subst (λ (k : ℕ). AreTrees (HasSize min max) IsAny k (m ∷ ms)) (sym (is ∙ levels_are (HasSize min max) IsAny has_child h (m ∷ ms) (λ none. cc) w)) w
+  sized_at = at_levels (HasSize min max) IsAny has_child
 
 pub sized_along : {T E : Type 0} (min max : ℕ) (a b : ParentNode T E) → children_of b ≡ children_of a → IsSized min max a → IsSized min max b
 sized_along min max a b same s = record {

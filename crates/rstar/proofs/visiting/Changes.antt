@@ -1,5 +1,5 @@
 -- A change of elements that keeps their envelopes keeps a tree whole.
-use Rattle.std.proofs.Common.{◌≡◌, ◌≢◌, ℕ, zero, suc, ◌+◌, ◌<◌, ◌≤◌, List, [], ◌∷◌, length, slice_index_or, slice_set, map, refl, ap, sym, ◌∙◌, subst, arith, ◌^◌}
+use Rattle.std.proofs.Common.{◌≡◌, ◌≢◌, ℕ, zero, suc, ◌<◌, List, [], ◌∷◌, length, slice_index_or, slice_set, map, refl, ap, sym, ◌∙◌, subst, arith, ◌^◌}
 use Rattle.std.specs.List.{AllByRecursion, AllZip}
 use Rattle.std.proofs.lemmas.Slice.Zip.{AllZip-long}
 use Rattle.rstar_base.specs.Envelopes.{Boxes}
@@ -10,16 +10,16 @@ use Rattle.rstar.specs.declared.node.RTreeNode.TheVariants.{outs-Parent, outs-Le
 use Rattle.rstar.specs.declared.node.RTreeNode.TheOpen as layer
 use Rattle.rstar.specs.declared.node.ParentNode.{ParentNode}
 use Rattle.rstar.specs.declared.rtree.RTree.{RTree}
-use Rattle.rstar.specs.Nodes.{Layer, layer_of, children_of, elements, all_elements, IsTree, IsInner, IsElement, IsWhole}
+use Rattle.rstar.specs.Nodes.{Layer, layer_of, children_of, elements, all_elements, IsTree, IsInner, IsElement, IsWhole, AreWhole}
 use Rattle.rstar.specs.Shapes.{IsAny}
-use Rattle.rstar.specs.Heights.{levels, levels_below}
+use Rattle.rstar.specs.Heights.{levels_below}
 use Rattle.rstar.specs.Shown.{parent, more, row_of, shown, shown_root, outline, outline_row}
-use Rattle.rstar.specs.inside.ParentBounds.{HasAtMost, IsSpare}
+use Rattle.rstar.specs.inside.ParentBounds.{HasAtMost}
 use Rattle.rstar.specs.Trees.{WholeTree, HasSameOutline, elements_in, root_of}
 use Rattle.rstar.specs.inside.WaysDown.{child_at, change_at, change_below}
 use Rattle.rstar.specs.Changes.{KeepsBox, IsChangedParent, IsChanged, IsChangedTree}
-use Rattle.rstar.proofs.lists.Items.{AllZip-append}
-use Rattle.rstar.proofs.trees.Heights.{levels-Leaf, levels-Parent}
+use Rattle.rstar.proofs.lists.Items.{AllZip-append, all_get}
+use Rattle.rstar.proofs.trees.Heights.{levels_are}
 use Rattle.rstar.proofs.trees.ByChildren.{is_leaf, is_parent, leaf_of, parent_of, IsLeafOf-Leaf, IsParentOf-Parent, elements-Leaf, elements-Parent, shown-Leaf, shown-Parent}
 
 -- ---- pairs
@@ -58,26 +58,6 @@ module _ {T E : Type 0} (K : T → T → Type 0) where
 
   pub changed-below : (h : ℕ) (ns ms : List (RTreeNode T E)) → AllZip (IsChanged K h) ns ms → AllZip K (all_elements ns) (all_elements ms)
   changed-below h = all-changed h (changed-node h)
-
-  -- there are as many levels
-  levels-all : (h : ℕ) → ((n m : RTreeNode T E) → IsChanged K h n m → levels m ≡ levels n)
-      → (ns ms : List (RTreeNode T E)) → AllZip (IsChanged K h) ns ms → levels_below ms ≡ levels_below ns
-  levels-all h one [] [] w = refl
-  levels-all h one [] (m ∷ ms) w = absurd w
-  levels-all h one (n ∷ ns) [] w = absurd w
-  levels-all h one (n ∷ ns) (m ∷ ms) w = one n m w.0
-
-  levels-node : (h : ℕ) (n m : RTreeNode T E) → IsChanged K h n m → levels m ≡ levels n
-  levels-node zero n m w =
-      let l = is_leaf _ n w in let k = is_leaf _ m l.2 in
-      ap levels k.1 ∙ levels-Leaf T E k.0 ∙ sym (ap levels l.1 ∙ levels-Leaf T E l.0)
-  levels-node (suc h) n m w =
-      let p = is_parent _ n w in let q = is_parent _ m p.2 in
-      ap levels q.1 ∙ levels-Parent q.0 ∙ ap (λ k. 1 + k) (levels-all h (levels-node h) (children_of p.0) (children_of q.0) q.2.children)
-      ∙ sym (ap levels p.1 ∙ levels-Parent p.0)
-
-  pub levels-below : (h : ℕ) (ns ms : List (RTreeNode T E)) → AllZip (IsChanged K h) ns ms → levels_below ms ≡ levels_below ns
-  levels-below h = levels-all h (levels-node h)
 
   -- the outline stays
   outlines-all : (h : ℕ) → ((n m : RTreeNode T E) → IsChanged K h n m → outline (shown m) ≡ outline (shown n))
@@ -142,6 +122,13 @@ module _ {T E : Type 0} (v : Boxes E) (o : Objects T E) where
   inner-kept : (h : ℕ) (p q : ParentNode T E) → IsChangedParent (IsChanged (KeepsBox o) h) p q → IsInner v o p → IsInner v o q
   inner-kept h p q w is = (tight-kept h p q w is.0, full-kept h (children_of p) (children_of q) w.children is.1)
 
+  -- there are as many levels
+  levels-kept : (h : ℕ) (ns ms : List (RTreeNode T E)) → AllZip (IsChanged (KeepsBox o) h) ns ms → AreWhole v o h ns → AreWhole v o h ms → levels_below ms ≡ levels_below ns
+  levels-kept h [] [] w old new = refl
+  levels-kept h [] (m ∷ ms) w old new = absurd w
+  levels-kept h (n ∷ ns) [] w old new = absurd w
+  levels-kept h (n ∷ ns) (m ∷ ms) w old new = levels_are (IsInner v o) (IsElement v o) (λ p q. q.1) h (m ∷ ms) (λ none. cc) new ∙ sym (levels_are (IsInner v o) (IsElement v o) (λ p q. q.1) h (n ∷ ns) (λ none. cc) old)
+
   pub same-outline : {P S X D : Type 0} (h : ℕ) (old new : RTree T D E P S X) → IsChangedTree (KeepsBox o) h old new → HasSameOutline old new
   same-outline h old new w = record { outline = outline-changed (KeepsBox o) h old.root new.root w.root; size = w.size }
 
@@ -159,12 +146,13 @@ module _ {T E : Type 0} (v : Boxes E) (o : Objects T E) where
   unfolding root-kept
   whole-kept max old new whole w =
       let h = whole.root_whole.height in
+      let root = root-kept old.root new.root whole.root_whole w.root in
       let few = AllZip-long (IsChanged (KeepsBox o) h) (children_of (root_of old)) (children_of (root_of new)) w.root.children in
       let many = AllZip-long (KeepsBox o) (elements_in old) (elements_in new) (changed-below (KeepsBox o) h (children_of (root_of old)) (children_of (root_of new)) w.root.children) in
       record {
-        root_whole = root-kept old.root new.root whole.root_whole w.root;
+        root_whole = root;
         counted = w.size ∙ whole.counted ∙ sym many;
-        leveled = w.levels ∙ whole.leveled ∙ sym (levels-below (KeepsBox o) h (children_of (root_of old)) (children_of (root_of new)) w.root.children);
+        leveled = w.levels ∙ whole.leveled ∙ sym (levels-kept h (children_of (root_of old)) (children_of (root_of new)) w.root.children whole.root_whole.below root.below);
         low = subst (λ n. n < 2 ^ 64) (sym w.levels) whole.low;
         wide = rw w.reserve whole.wide;
         wide_fits = rw w.reserve whole.wide_fits;
@@ -201,11 +189,6 @@ module _ {T E : Type 0} (K : T → T → Type 0) (same : (t : T) → K t t) (Q :
   set-changed h (n ∷ ns) (suc i) d m w one = (nodes-refl h n w.0, set-changed h ns i d m w.1 (λ lt. one (omega arith)))
 
   module _ (way : ParentNode T E → ℕ) (f : T → T) (kept : (t : T) → K t (f t)) where
-    tree_at : (h : ℕ) (ns : List (RTreeNode T E)) (i : ℕ) (d : RTreeNode T E) → AllByRecursion (IsTree Q R h) ns → i < length ns → IsTree Q R h (slice_index_or ns i d)
-    tree_at h [] i d w lt = absurd (omega arith)
-    tree_at h (n ∷ ns) zero d w lt = w.0
-    tree_at h (n ∷ ns) (suc i) d w lt = tree_at h ns i d w.1 (omega arith)
-
     at-changed : (h : ℕ) (n : RTreeNode T E) → IsTree Q R h n → IsChanged K h n (change_at way f h (layer_of n))
     at-changed zero n w =
         let l = is_leaf R n w in
@@ -219,11 +202,11 @@ module _ {T E : Type 0} (K : T → T → Type 0) (same : (t : T) → K t t) (Q :
         subst Z (sym e) (subst (λ m. IsChanged K (suc h) m (Parent (change_below way f h p.0))) (sym p.1)
         (IsParentOf-Parent _ p.0 (IsParentOf-Parent _ (change_below way f h p.0) (record {
           envelope = refl;
-          children = set-changed h (children_of p.0) (way p.0) (Parent p.0) _ p.2.1 (λ lt. at-changed h (child_at p.0 (way p.0)) (tree_at h (children_of p.0) (way p.0) (Parent p.0) p.2.1 lt));
+          children = set-changed h (children_of p.0) (way p.0) (Parent p.0) _ p.2.1 (λ lt. at-changed h (child_at p.0 (way p.0)) (all_get (IsTree Q R h) (children_of p.0) (way p.0) (Parent p.0) lt p.2.1));
         }))))
 
     pub below-changed : (h : ℕ) (p : ParentNode T E) → AllByRecursion (IsTree Q R h) (children_of p) → IsChangedParent (IsChanged K h) p (change_below way f h p)
     below-changed h p w = record {
       envelope = refl;
-      children = set-changed h (children_of p) (way p) (Parent p) _ w (λ lt. at-changed h (child_at p (way p)) (tree_at h (children_of p) (way p) (Parent p) w lt));
+      children = set-changed h (children_of p) (way p) (Parent p) _ w (λ lt. at-changed h (child_at p (way p)) (all_get (IsTree Q R h) (children_of p) (way p) (Parent p) lt w));
     }

@@ -16,6 +16,7 @@ use Rattle.rstar.specs.Nodes.{children_of, elements, all_elements, given, IsTree
 use Rattle.rstar.specs.inside.WaysDown.{finds, first_finding, first_at, child_at, with_child, next_on, Leads, LeadsBelow, IsAt, change_at, change_below}
 use Rattle.rstar.proofs.trees.ByChildren.{is_leaf, is_parent, elements-Leaf, elements-Parent, given-Leaf, given-Parent}
 use Rattle.rstar.proofs.visiting.WaysDown.{finds-Leaf, finds-Parent}
+use Rattle.rstar.proofs.lists.Items.{all_get}
 
 both-true : (a b : Bool) → (a && b) ≡ true → b ≡ true
 both-true true b e = e
@@ -52,11 +53,6 @@ module _ {T E : Type 0} (accepts : E → Bool) (selects : T → Bool) where
   row : (ns : List (RTreeNode T E)) (d : RTreeNode T E) → first_finding accepts selects ns < length ns → IsRow ns (first_finding accepts selects ns) d
   row [] d h = absurd (omega arith)
   row (n ∷ rest) d h = row-cons n rest d (finds accepts selects n) refl (row rest d) h
-
-  tree-at : (Q : RTreeNode T E → Type 0) (ns : List (RTreeNode T E)) (i : ℕ) (d : RTreeNode T E) → AllByRecursion Q ns → i < length ns → Q (slice_index_or ns i d)
-  tree-at Q [] i d w h = absurd (omega arith)
-  tree-at Q (n ∷ ns) zero d w h = w.0
-  tree-at Q (n ∷ ns) (suc i) d w h = tree-at Q ns i d w.1 (omega arith)
 
   -- the element at the end of the way, so many levels below the node
   pub record IsFound (h : ℕ) (n : RTreeNode T E) : Type 0 where
@@ -108,12 +104,9 @@ module _ {T E : Type 0} (accepts : E → Bool) (selects : T → Bool) where
     found-at (suc h) n w says =
         let p = is_parent _ n w in
         let said : (accepts p.0.envelope && nat_lt (way p.0) (length (children_of p.0))) ≡ true = sym (ap (finds accepts selects) p.1 ∙ finds-Parent T E accepts selects p.0) ∙ says in
-        let fits : way p.0 < length (children_of p.0) = below-of (way p.0) (length (children_of p.0)) (both-true _ _ said) in
+        let fits : way p.0 < length (children_of p.0) = ltb-true (way p.0) (length (children_of p.0)) (both-true _ _ said) in
         let r = row (children_of p.0) (Parent p.0) fits in
-        found-parent h p.0 n p.1 fits r (found-at h (child_at p.0 (way p.0)) (tree-at (IsTree Q R h) (children_of p.0) (way p.0) (Parent p.0) p.2.1 fits) r.finds_it)
-      where
-        below-of : (m k : ℕ) → nat_lt m k ≡ true → m < k
-        below-of m k e = ltb-true m k e
+        found-parent h p.0 n p.1 fits r (found-at h (child_at p.0 (way p.0)) (all_get (IsTree Q R h) (children_of p.0) (way p.0) (Parent p.0) fits p.2.1) r.finds_it)
 
     -- the same below a parent
     pub record IsFoundBelow (h : ℕ) (p : ParentNode T E) : Type 0 where
@@ -129,7 +122,7 @@ module _ {T E : Type 0} (accepts : E → Bool) (selects : T → Bool) where
     pub found-below : (h : ℕ) (p : ParentNode T E) → AllByRecursion (IsTree Q R h) (children_of p) → way p < length (children_of p) → IsFoundBelow h p
     found-below h p w fits =
         let r = row (children_of p) (Parent p) fits in
-        let b = found-at h (child_at p (way p)) (tree-at (IsTree Q R h) (children_of p) (way p) (Parent p) w fits) r.finds_it in record {
+        let b = found-at h (child_at p (way p)) (all_get (IsTree Q R h) (children_of p) (way p) (Parent p) fits w) r.finds_it in record {
           before = r.before ++ b.before;
           found = b.found;
           after = b.after ++ r.after;

@@ -1,12 +1,12 @@
 -- Walks by recursion, one part of a list after another.
-use Rattle.std.proofs.Common.{◌≡◌, ◌<◌, ◌∙◌, List, [], ◌∷◌, ◌++◌, ◌⊎◌, inl, inr, ap, subst, sym, refl, Bool, true, false, if◌then◌else◌, map, arith, Option, Some, None}
+use Rattle.std.proofs.Common.{◌≡◌, ◌<◌, ◌∙◌, List, [], ◌∷◌, ◌++◌, inl, inr, ap, subst, sym, refl, Bool, if◌then◌else◌, map, arith, Option, Some, None, filter}
 use Rattle.std.specs.Borrow.{Bor}
 use Rattle.std.specs.List.{Contains}
 use Rattle.std.specs.declared.ops.ControlFlow.{ControlFlow}
 use Rattle.std.specs.declared.ops.ControlFlow.TheVariants.{Continue, Break}
 use Rattle.rstar.specs.declared.node.RTreeNode.{RTreeNode, Leaf, Parent}
 use Rattle.rstar.specs.declared.node.ParentNode.{ParentNode}
-use Rattle.rstar.specs.Nodes.{total, given, all_given, given_of, children_of, envelope_of}
+use Rattle.rstar.specs.Nodes.{total, given, all_given, children_of}
 use Rattle.rstar.specs.Visits.{IsFirst, IsOneOf, Visits, IsVisit, IsVisitWithin}
 use Rattle.rstar.specs.inside.Traversals.{steps}
 use Rattle.rstar.proofs.trees.ByChildren.{given-Leaf, given-Parent, steps-Leaf, steps-Parent}
@@ -74,6 +74,11 @@ module _ {V A T B : Type 0} (now : A → T) (step : V → A → ControlFlow B (U
       → xs ≡ ys → all → IsVisitWithin now step all v xs r → IsVisit now step v ys r
   visit_all {v = v} {r = r} same holds visit =
       record { last = visit.last; visits = subst (λ l. Visits now step v l r visit.last) (visit.within.complete holds ∙ same) visit.within.visits }
+
+  -- the same of a question by another name
+  pub visit_asked : {all : Type 0} {v : V} {asked selects : T → Bool} (ts : List T) {r : ControlFlow B (Unit {0})}
+      → asked ≡ selects → all → IsVisitWithin now step all v (filter asked ts) r → IsVisit now step v (filter selects ts) r
+  visit_asked ts same = visit_all (ap (λ s. filter s ts) same)
 
   -- a visit of none
   pub visits_none : (v : V) (xs : List T) → xs ≡ [] → Visits now step v xs (Continue tt) v

@@ -1,5 +1,5 @@
 -- The way down to the first element that a question finds.
-use Rattle.std.proofs.Common.{◌≡◌, ℕ, zero, suc, ◌-◌, ◌<◌, nat_lt, Bool, ◌&&◌, not, List, [], ◌∷◌, length, slice_index_or, refl, ap, sym, ◌∙◌, subst, arith}
+use Rattle.std.proofs.Common.{◌≡◌, ℕ, zero, suc, ◌-◌, ◌<◌, nat_lt, Bool, ◌&&◌, not, length, refl, ap, sym, ◌∙◌, subst, arith}
 use Rattle.std.proofs.lemmas.List.{length-map}
 use Rattle.rstar.specs.declared.node.RTreeNode.{RTreeNode, Leaf, Parent}
 use Rattle.rstar.specs.declared.node.RTreeNode.TheVariants.{outs-Parent, outs-Leaf}
@@ -18,12 +18,6 @@ module _ (T E : Type 0) (accepts : E → Bool) (selects : T → Bool) where
   pub finds-Parent : (p : ParentNode T E) → finds accepts selects (Parent p) ≡ (accepts p.envelope && nat_lt (first_finding accepts selects (children_of p)) (length (children_of p)))
   unfolding finds
   finds-Parent p = fold_tree-Parent _ _ p ∙ ap (λ (n : ℕ). accepts p.envelope && nat_lt (first_finding accepts selects (children_of p)) n) (length-map (children_of p) (finds accepts selects))
-
--- an item of a list does not go by what stands for a missing one
-pub item-or : {A : Type 0} (xs : List A) (i : ℕ) (a b : A) → i < length xs → slice_index_or xs i a ≡ slice_index_or xs i b
-item-or [] i a b h = absurd (omega arith)
-item-or (x ∷ xs) zero a b h = refl
-item-or (x ∷ xs) (suc i) a b h = item-or xs i a b (omega arith)
 
 -- ---- one step of the way
 

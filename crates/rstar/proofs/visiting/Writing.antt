@@ -8,6 +8,7 @@ use Rattle.std.specs.Borrow.{MutBor}
 use Rattle.std.specs.declared.alloc.Global.{Global}
 use Rattle.std.specs.declared.ops.ControlFlow.{ControlFlow}
 use Rattle.std.specs.declared.ops.ControlFlow.TheVariants.{Continue, Break}
+use Rattle.std.proofs.Math.Seq.{get_or-append_seam, set_at}
 use Rattle.rstar_base.specs.Elements.{Objects}
 use Rattle.rstar.specs.declared.node.RTreeNode.{RTreeNode, Leaf, Parent}
 use Rattle.rstar.specs.declared.node.ParentNode.{ParentNode}
@@ -20,6 +21,7 @@ use Rattle.rstar.proofs.lists.Items.{AllZip-append}
 use Rattle.rstar.proofs.visiting.Changes.{changed-refl}
 use Rattle.rstar.proofs.visiting.VisitedMarks.{all-marks, marked-Leaf, marked-Parent}
 use Rattle.rstar.proofs.trees.ByChildren.{elements-Leaf, elements-Parent, IsLeafOf-Leaf, IsParentOf-Parent, no_leaf, no_parent, parent_of}
+use Rattle.rstar_base.proofs.Lists.{all_second}
 
 -- ---- a writing visit, one part of a list after another
 
@@ -76,22 +78,6 @@ module _ {T E : Type 0} (accepts : E → Bool) (selects : T → Bool) where
 
 -- ---- a writing visit on its way through a list
 
-at-split : {A : Type 0} (done : List A) (n : A) (rest : List A) (i : ℕ) (d : A) → length done ≡ i → slice_index_or (done ++ n ∷ rest) i d ≡ n
-at-split [] n rest zero d e = refl
-at-split [] n rest (suc i) d e = absurd (omega arith)
-at-split (x ∷ done) n rest zero d e = absurd (omega arith)
-at-split (x ∷ done) n rest (suc i) d e = at-split done n rest i d (omega arith)
-
-set-split : {A : Type 0} (done : List A) (n m : A) (rest : List A) (i : ℕ) → length done ≡ i → slice_set (done ++ n ∷ rest) i m ≡ (done ++ m ∷ []) ++ rest
-set-split [] n m rest zero e = refl
-set-split [] n m rest (suc i) e = absurd (omega arith)
-set-split (x ∷ done) n m rest zero e = absurd (omega arith)
-set-split (x ∷ done) n m rest (suc i) e = ap (λ l. x ∷ l) (set-split done n m rest i (omega arith))
-
-all-middle : {A : Type 0} (Q : A → Type 0) (xs : List A) (n : A) (ys : List A) → AllByRecursion Q (xs ++ n ∷ ys) → Q n × AllByRecursion Q ys
-all-middle Q [] n ys w = (w.0, w.1)
-all-middle Q (x ∷ xs) n ys w = all-middle Q xs n ys w.1
-
 total-split : {T E : Type 0} (xs : List (RTreeNode T E)) (n : RTreeNode T E) (ys : List (RTreeNode T E)) → steps n ≤ total (map steps (xs ++ n ∷ ys))
 total-split [] n ys = omega arith
 total-split (x ∷ xs) n ys = let e = total-split xs n ys in omega arith
@@ -128,7 +114,7 @@ module _ {V T E B : Type 0} (o : Objects T E) (accepts : E → Bool) (selects : 
   here-at {index = index} {new = new} half d lt (n ∷ more) e = record {
     half = half;
     more = more;
-    rest_is = e ∙ ap (λ m. m ∷ more) (sym (ap (λ l. slice_index_or l index d) (half.is ∙ ap (λ l. half.done ++ l) e) ∙ at-split half.done n more index d half.at));
+    rest_is = e ∙ ap (λ m. m ∷ more) (sym (ap (λ l. slice_index_or l index d) (half.is ∙ ap (λ l. half.done ++ l) e) ∙ (ap (λ k. slice_index_or (half.done ++ n ∷ more) k d) (sym half.at) ∙ get_or-append_seam half.done n more d)));
   }
 
   pub here : {first now : V} {index : ℕ} {old new : List (RTreeNode T E)} → IsHalfway first now index old new → (d : RTreeNode T E) → index < length new → IsHere first now index old new (slice_index_or new index d)
@@ -136,7 +122,7 @@ module _ {V T E B : Type 0} (o : Objects T E) (accepts : E → Bool) (selects : 
 
   module _ {first now : V} {index : ℕ} {old new : List (RTreeNode T E)} {n : RTreeNode T E} (at : IsHere first now index old new n) (m : RTreeNode T E) where
     set-here : slice_set new index m ≡ (at.half.done ++ m ∷ []) ++ at.more
-    set-here = ap (λ l. slice_set l index m) (at.half.is ∙ ap (λ l. at.half.done ++ l) at.rest_is) ∙ set-split at.half.done n m at.more index at.half.at
+    set-here = ap (λ l. slice_set l index m) (at.half.is ∙ ap (λ l. at.half.done ++ l) at.rest_is) ∙ set_at at.half.done n at.more m index at.half.at ∙ sym (append_assoc at.half.done (m ∷ []) at.more)
 
     old-here : old ≡ at.half.before ++ n ∷ at.more
     old-here = at.half.was ∙ ap (λ l. at.half.before ++ l) at.rest_is
@@ -158,7 +144,7 @@ module _ {V T E B : Type 0} (o : Objects T E) (accepts : E → Bool) (selects : 
           (at.half.go r w (elements m ++ us) (subst (λ l. Writes step now (all_marked accepts selects l) r w (elements m ++ us)) (sym at.rest_is)
           (Writes-append step now u (marked accepts selects n) (all_marked accepts selects at.more) (elements m) us r w a b)));
       changed = λ k h w. AllZip-append (IsChanged (KeepsBox o) h) at.half.before (n ∷ []) at.half.done (m ∷ []) (at.half.changed k h w)
-          (one k h (all-middle (IsTree IsAny IsAny h) at.half.before n at.more (subst (AllByRecursion (IsTree IsAny IsAny h)) old-here w)).0, tt);
+          (one k h (all_second (IsTree IsAny IsAny h) at.half.before (n ∷ at.more) (subst (AllByRecursion (IsTree IsAny IsAny h)) old-here w)).0, tt);
     }
 
     -- it was visited, and the visit ends there
@@ -172,7 +158,7 @@ module _ {V T E B : Type 0} (o : Objects T E) (accepts : E → Bool) (selects : 
     pub halfway-break-changed : (KeepsBoxes o step → (h : ℕ) → IsTree IsAny IsAny h n → IsChanged (KeepsBox o) h n m)
         → KeepsBoxes o step → (h : ℕ) → AreTrees IsAny IsAny h old → AllZip (IsChanged (KeepsBox o) h) old (slice_set new index m)
     halfway-break-changed one k h w =
-        let mid = all-middle (IsTree IsAny IsAny h) at.half.before n at.more (subst (AllByRecursion (IsTree IsAny IsAny h)) old-here w) in
+        let mid = all_second (IsTree IsAny IsAny h) at.half.before (n ∷ at.more) (subst (AllByRecursion (IsTree IsAny IsAny h)) old-here w) in
         subst (λ l. AllZip (IsChanged (KeepsBox o) h) l (slice_set new index m)) (sym old-here)
         (subst (λ l. AllZip (IsChanged (KeepsBox o) h) (at.half.before ++ n ∷ at.more) l) (sym (set-here ∙ append_assoc at.half.done (m ∷ []) at.more))
         (AllZip-append (IsChanged (KeepsBox o) h) at.half.before (n ∷ at.more) at.half.done (m ∷ at.more) (at.half.changed k h w)

@@ -1,7 +1,8 @@
--- What a search for the first few elements keeps: those found so far, and the parents that wait.
+-- What a search for the first few elements keeps: those found so far, a bound for the nearest, and the parents that wait.
 -- T is the element's type, E its envelope's, S its scalar's.
-use Rattle.std.specs.Prelude.{◌≡◌, ℕ, ◌<◌, ◌≤◌, ◌⊎◌, ℤ, pos, true, false, List, [], ◌∷◌, ◌++◌, length, map}
+use Rattle.std.specs.Prelude.{◌≡◌, ◌≢◌, ℕ, ◌<◌, ◌≤◌, ◌<ℤ◌, ◌⊎◌, ℤ, pos, true, false, List, [], ◌∷◌, ◌++◌, length, map, Option, Some, None, MatchOption, option_to_list}
 use Rattle.std.specs.Borrow.{Bor}
+use Rattle.std.specs.Int.{int_min}
 use Rattle.std.specs.List.{AllByRecursion, insert}
 use Rattle.std.specs.List.Sorted.{IsPermutation}
 use Rattle.std.specs.Ordering.{is_lt}
@@ -10,6 +11,8 @@ use Rattle.rstar_base.specs.Envelopes.{Boxes}
 use Rattle.rstar_base.specs.Elements.{Objects, Distances}
 use Rattle.rstar.specs.declared.node.RTreeNode.{RTreeNode, Parent}
 use Rattle.rstar.specs.declared.node.ParentNode.{ParentNode}
+use Rattle.rstar.specs.declared.algorithm.nearest_neighbor.few.Kept.{Kept}
+use Rattle.rstar.specs.declared.algorithm.nearest_neighbor.few.Kept.TheVariants.{One, Few}
 use Rattle.rstar.specs.declared.algorithm.nearest_neighbor.waiting.Waiting.{Waiting}
 use Rattle.rstar.specs.Lists.{IsNotLater, AreFirstOf}
 use Rattle.rstar.specs.Nodes.{all_elements}
@@ -52,6 +55,16 @@ Found T S O = Waiting (Bor T) S O
 abbrev pub found_elements : {T S O : Type 0} → List (Found T S O) → List T
 found_elements ws = map (λ w. w.node.now) ws
 
+-- those that are kept, the nearest first
+abbrev pub kept_in : {T S O : Type 0} → Kept T S O → List (Found T S O)
+kept_in (One w) = option_to_list w
+kept_in (Few ws) = ws.items
+
+-- one element that is asked for is kept in place, and only then is there a bound
+abbrev pub IsKept : {T S O : Type 0} → ℕ → Option S → Kept T S O → Type 0
+IsKept most bound (One w) = most ≡ 1
+IsKept most bound (Few ws) = (bound ≡ None) × (most ≢ 1)
+
 -- the parents that wait in a heap, as nodes
 abbrev pub waiting_parents : {T E S O : Type 0} → List (Waiting (Bor (ParentNode T E)) S O) → List (RTreeNode T E)
 waiting_parents ws = map (λ w. Parent w.node.now) ws
@@ -69,3 +82,38 @@ pub record AreFoundSoFar {T E S O : Type 0} (v : Boxes E) (o : Objects T E) (d :
   pub bag : IsPermutation all (all_elements nodes ++ seen)
   pub first : AreFirstOf (IsNotLater (λ t. d.distance_2 t p) compare) seen most (found_elements found)
   pub at : AllByRecursion (λ w. value w.distance ≡ pos (d.distance_2 w.node.now p)) found
+
+-- ---- a bound, above which elements are cut
+
+-- each element that was cut lies above it, and not all that are left do
+pub record IsBound {T : Type 0} (distance : T → ℕ) (left cut : List T) (bound : ℤ) : Type 0 where
+  pub limit : ℕ
+  pub at : bound ≡ pos limit
+  pub above : AllByRecursion (λ t. limit < distance t) cut
+  pub within : AllByRecursion (λ t. limit < distance t) left → ⊥
+
+-- a distance lies above a bound, where there is one
+abbrev pub IsAbove : {S : Type 0} → (S → ℤ) → Option S → ℕ → Type 0
+IsAbove value None distance = ⊥
+IsAbove value (Some s) distance = value s <ℤ pos distance
+
+-- a bound is left as it is, or lowered to some reach at most
+abbrev pub IsLowered : {S : Type 0} → (S → ℤ) → ℕ → Option S → Option S → Type 0
+IsLowered {S} value reach old new =
+    (new ≡ old) ⊎ ((s : S) × (new ≡ Some s) × MatchOption old (value s ≡ pos reach) (λ b. value s ≡ int_min (value b) (pos reach)))
+
+-- a distance at which nothing is sought: above the bound, or behind as many elements as asked for
+abbrev pub IsBeyond : {T S O : Type 0} → (S → ℤ) → ℕ → Option S → List (Found T S O) → ℕ → Type 0
+IsBeyond value most bound found distance =
+    IsAbove value bound distance
+    ⊎ ((most ≤ length found) × AllByRecursion (λ w. value w.distance <ℤ pos distance) found)
+
+-- all elements are those that are left and those that were cut, which are none where there is no bound
+pub record IsSeeking {T E S O : Type 0} (v : Boxes E) (o : Objects T E) (d : Distances T) (p : List ℤ)
+    (compare : T → T → Ordering) (value : S → ℤ) (most : ℕ) (all : List T) (nodes : List (RTreeNode T E))
+    (bound : Option S) (found : List (Found T S O)) : Type 0 where
+  pub left : List T
+  pub cut : List T
+  pub bag : IsPermutation all (left ++ cut)
+  pub bounded : MatchOption bound (cut ≡ []) (λ s. IsBound (λ t. d.distance_2 t p) left cut (value s))
+  pub so_far : AreFoundSoFar v o d p compare value most left nodes found

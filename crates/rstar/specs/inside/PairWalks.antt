@@ -23,13 +23,10 @@ marked_items marks (x ∷ xs) = if marks % 2 == 1 then x ∷ marked_items (marks
 -- the first pair that is marked, as the items from each of the two on, and marks for the others
 pub record IsFirstPair {A B : Type 0} (lefts : List A) (rights : List B) (marks : ℕ) (from : List A) (beside : List B)
     (others : ℕ) : Type 0 where
-  pub left : A
-  pub right : B
-  pub left_behind : List A
-  pub right_behind : List B
-  pub left_begins : from ≡ left ∷ left_behind
-  pub right_begins : beside ≡ right ∷ right_behind
-  pub all : marked_items marks (product lefts rights) ≡ (left, right) ∷ marked_items others (product lefts rights)
+  pub left : 0 < length from
+  pub right : 0 < length beside
+  pub all : (l : A) (ls : List A) (r : B) (rs : List B) → from ≡ l ∷ ls → beside ≡ r ∷ rs
+      → marked_items marks (product lefts rights) ≡ (l, r) ∷ marked_items others (product lefts rights)
 
 -- marks with one for each of these tests in front of them
 abbrev pub with_marks : List Bool → ℕ → ℕ

@@ -9,15 +9,14 @@ ghost use Rattle.rstar.specs.Neighbors.{with_distances, search_of, neighbors_lef
 mod by_order;
 mod few;
 mod firsts;
-mod pruned;
 mod search;
 mod ties;
 mod waiting;
 
 use crate::node::{ParentNode, RTreeNode};
 pub use by_order::{NearestNeighborByOrderIterator, NeighborsByOrder};
+pub(crate) use few::one_nearest;
 pub(crate) use firsts::first_nearest;
-pub(crate) use pruned::one_nearest;
 use rstar_base::envelope::Envelope;
 pub use rstar_base::heap::SmallHeap;
 use rstar_base::object::{Distance, PointDistance, PointOf, RTreeObject};
@@ -194,8 +193,8 @@ pub fn nearest_neighbor_with_distance_2<'a, T: PointDistance>(
 /// All elements below a root at the least squared distance, with that distance. There is at least one;
 /// `None` comes exactly where there is no element.
 ///
-/// It takes neighbours until one is farther than the first. It may be refused the memory of the list or of
-/// the queue.
+/// It finds the least distance as `nearest_neighbor` does, and then visits the parents within it. It may be
+/// refused the memory of the list or of the queue.
 pub fn nearest_neighbors_with_distance_2<'a, T: PointDistance>(
     root: &'a ParentNode<T>,
     point: PointOf<T>,

@@ -2,13 +2,14 @@
 //!
 //! Steps that not every call needs stay out of line (`#[inline(never)]`), so that the path down is short.
 
-ghost use Rattle.std.specs.Prelude.{◌≡◌, ℕ, ◌-◌, ◌<◌, ◌≤◌, true, false, None, IfNone, length, replicate};
+ghost use Rattle.std.specs.Prelude.{◌≡◌, ◌⊎◌, ℕ, ◌-◌, ◌<◌, ◌≤◌, true, false, None, IfNone, length, replicate};
 ghost use Rattle.std.specs.Prelude.{vec_len, slice_index_or};
 ghost use Rattle.std.specs.List.{remove};
 ghost use Rattle.rstar_base.specs.Hulls.{hull};
 ghost use Rattle.rstar.specs.declared.node.RTreeNode.{Leaf};
 ghost use Rattle.rstar.specs.inside.ParentBounds.{IsKept, AreKept};
-ghost use Rattle.rstar.specs.Nodes.{node_box};
+ghost use Rattle.rstar.specs.Lists.{NoneSelected};
+ghost use Rattle.rstar.specs.Nodes.{node_box, all_elements};
 ghost use Rattle.rstar.specs.inside.Taking.{IsMerged, IsRest, IsRestAt, Takes, TakesInside};
 ghost use Rattle.rstar.specs.inside.Taking.{with_first, first_number, lower_numbers};
 ghost use Rattle.rstar.specs.inside.Taking.{is_selected_leaf, is_a_leaf, is_childless};
@@ -189,7 +190,7 @@ fn take_inside<T: Covered, R: Question<T>>(
     match child {
         RTreeNode::Leaf(_) => None,
         RTreeNode::Parent(parent) => {
-            if func.should_unpack_parent(&parent.envelope) {
+            if may_hold(parent, path, func) {
                 let lower = path.len().min(1);
                 take_below(parent, &mut path[lower..], rest, changed, func)
             } else {
@@ -197,6 +198,37 @@ fn take_inside<T: Covered, R: Question<T>>(
             }
         }
     }
+}
+
+/// Whether a removal goes below a parent: it is accepted, and its children are no leaves that all are passed.
+///
+/// Where parents lie over each other, most of them do not hold the element. A look at their leaves is a
+/// fraction of a call. A drain has a place and goes on from it, without a look at all leaves.
+fn may_hold<T: Covered, R: Question<T>>(parent: &ParentNode<T>, path: &[usize], func: &R) -> bool
+    ensures { result ≡ false → (R.accepts func.now parent.now.envelope ≡ false)
+        ⊎ NoneSelected (R.selects func.now) (all_elements parent.now.children.items) }
+{
+    func.should_unpack_parent(&parent.envelope)
+        && (!path.is_empty() || !are_passed(parent.children.as_slice(), func))
+}
+
+/// Whether all of these nodes are leaves that are not selected.
+fn are_passed<T: Covered, R: Question<T>>(nodes: &[RTreeNode<T>], func: &R) -> bool
+    ensures { result ≡ true → NoneSelected (R.selects func.now) (all_elements nodes.now) }
+{
+    let mut left = nodes;
+    while let Some((first, rest)) = left.split_first() {
+        match first {
+            RTreeNode::Leaf(t) => {
+                if func.should_unpack_leaf(t) {
+                    return false;
+                }
+            }
+            RTreeNode::Parent(_) => return false,
+        }
+        left = rest;
+    }
+    true
 }
 
 /// Whether a node is a selected leaf.
@@ -269,7 +301,7 @@ fn set_first(path: &mut [usize], passed: usize)
 }
 
 /// Resets the levels below the first, where there are some, and drops the kept envelope then.
-#[inline(never)]
+#[inline(always)]
 fn clear_lower<E: Drop>(path: &mut [usize], rest: &mut Option<Rest<E>>)
     ensures numbers { lower_numbers path.new ≡ replicate (length (lower_numbers path.old)) 0 }
     ensures still { length path.old ≤ 1 → rest.new ≡ rest.old }
@@ -282,6 +314,7 @@ fn clear_lower<E: Drop>(path: &mut [usize], rest: &mut Option<Rest<E>>)
 }
 
 /// Sets all numbers to 0.
+#[inline(never)]
 fn clear(path: &mut [usize])
     ensures { path.new ≡ replicate (length path.old) 0 }
 {

@@ -11,6 +11,7 @@ ghost use Rattle.rstar.specs.declared.node.RTreeNode.{Leaf, Parent};
 use crate::bounds::{Covered, Question};
 use crate::node::{ParentNode, RTreeNode};
 use crate::path::Path;
+use crate::visits::enters;
 use std::alloc::AllocError;
 
 /// The selected elements of a tree, in some order.
@@ -46,7 +47,7 @@ impl<'a, T: Covered, Func: Question<T>> SelectionIterator<'a, T, Func> {
     {
         let none = &root.children[..0];
         let path = Path::with_room(*root.children.allocator(), none, levels)?;
-        if root.children.is_empty() || !func.should_unpack_parent(&root.envelope) {
+        if !enters(root, &func) {
             return Ok(SelectionIterator {
                 root,
                 func,

@@ -14,6 +14,7 @@ ghost use Rattle.rstar.specs.Trees.{elements_in, IsWholeTree};
 use crate::algorithm::gathering::gather_below;
 use crate::iterators::{DrainIterator, IntoIter};
 use crate::rtree::RTree;
+use crate::visits::enters;
 use rstar_base::algorithm::selection_functions::{
     SelectAllFunc, SelectInEnvelopeFuncIntersecting, SelectInEnvelopeFunction,
     SelectWithinDistanceFunction, SelectionFunction,
@@ -143,7 +144,7 @@ impl<T: RTreeObject, Params: RTreeParams> RTree<T, Params> {
             → length taken.new.items < most → NoneSelected (R.selects func.now) (elements_in self.new) }
         ensures whole { IsWholeTree T.Envelope.boxes T.object Params.MAX_SIZE self.new }
     {
-        if self.root.children.is_empty() || !func.should_unpack_parent(&self.root.envelope) {
+        if !enters(&self.root, func) {
             return;
         }
         let before = taken.len();

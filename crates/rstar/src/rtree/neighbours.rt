@@ -154,8 +154,8 @@ impl<T: PointDistance, Params: RTreeParams> RTree<T, Params> {
 
     /// All elements at the least distance to a point, in some order.
     ///
-    /// It takes neighbours until one is farther than the first. It may be refused the memory of the list or
-    /// of the queue.
+    /// It finds the least distance as `nearest_neighbor` does, and then visits the parents within it. It may
+    /// be refused the memory of the list or of the queue.
     #[tactic(auto, unfolding(crate::specs::Trees::IsWholeTree))]
     pub fn nearest_neighbors(&self, point: &PointOf<T>) -> Result<Vec<&T>, AllocError>
         requires { IsWholeTree T.Envelope.boxes T.object Params.MAX_SIZE self.now }
@@ -172,8 +172,8 @@ impl<T: PointDistance, Params: RTreeParams> RTree<T, Params> {
     /// All elements at the least squared distance to a point, with that distance. There is at least one;
     /// `None` comes exactly where the tree is empty.
     ///
-    /// It takes neighbours until one is farther than the first. It may be refused the memory of the list or
-    /// of the queue.
+    /// It finds the least distance as `nearest_neighbor` does, and then visits the parents within it. It may
+    /// be refused the memory of the list or of the queue.
     #[tactic(auto, unfolding(crate::specs::Trees::IsWholeTree))]
     pub fn nearest_neighbors_with_distance_2(
         &self,
@@ -192,9 +192,10 @@ impl<T: PointDistance, Params: RTreeParams> RTree<T, Params> {
     /// The `most` nearest elements to a point with their squared distances, the nearest first. Where there
     /// are fewer it gives all.
     ///
-    /// Its list takes memory once, for at most as many elements as the tree has. Up to 32 elements are found
-    /// in a second list of that room, which prunes the traversal; more cost what
-    /// `nearest_neighbor_iter_with_distance_2` costs. It may be refused these lists or the queue.
+    /// Its list takes memory once, for at most as many elements as the tree has. One element costs what
+    /// `nearest_neighbor` costs. Up to 32 are found in a second list of that room, which prunes the
+    /// traversal; more cost what `nearest_neighbor_iter_with_distance_2` costs. It may be refused these lists
+    /// or the queue.
     ///
     /// ```rust
     /// pub fn nearest(&self, place: &[i64; 2], most: usize) -> Result<Vec<(&Vehicle, i64)>, AllocError>

@@ -14,6 +14,7 @@ ghost use Rattle.rstar.specs.Trees.{root_of, size_of, elements_in, IsWholeTree};
 use crate::algorithm::removal::earliest::take_earliest;
 use crate::algorithm::removal::{Rest, take_below};
 use crate::rtree::RTree;
+use crate::visits::enters;
 use rstar_base::algorithm::selection_functions::{
     SelectAtPointFunction, SelectEqualsFunction, SelectionFunction,
 };
@@ -57,7 +58,7 @@ impl<T: RTreeObject, Params: RTreeParams> RTree<T, Params> {
         ensures { Removes T.Envelope.boxes T.object Params.MAX_SIZE (R.accepts func.now) (R.selects func.now)
             self.old path.old rest.old result self.new path.new rest.new }
     {
-        if self.root.children.is_empty() || !func.should_unpack_parent(&self.root.envelope) {
+        if !enters(&self.root, func) {
             return None;
         }
         let taken = take_below(&mut self.root, path, rest, &mut false, func);
@@ -81,7 +82,7 @@ impl<T: RTreeObject + Ord, Params: RTreeParams> RTree<T, Params> {
         ensures first { result ≡ earliest T.cmp
             (given_of (R.accepts func.now) (R.selects func.now) (root_of self.old)) }
     {
-        if self.root.children.is_empty() || !func.should_unpack_parent(&self.root.envelope) {
+        if !enters(&self.root, func) {
             return None;
         }
         let taken = take_earliest(&mut self.root, &mut false, func);

@@ -54,20 +54,18 @@ put_node-put_point-requires t c = let one = leaf_size c.args.node.now _ c.in-Lea
 pub put_node-put_parent-requires : goal.put_node-put_parent-requires
 put_node-put_parent-requires t c = let one = node_size c.args.node.now _ c.in-Parent.is in let room = c.requires.room in (omega (arith, one), omega (arith, one, room))
 
-pub put_node-returns-in-Leaf-clause-spelled : goal.put_node-returns-in-Leaf-clause-spelled
-put_node-returns-in-Leaf-clause-spelled t c = c.put_point.ensures.spelled ∙ ap (λ u. c.args.out.now.items ++ u) (sym (leaf_spelled _ _ c.in-Leaf.is))
+pub put_node-returns-in-Leaf : goal.put_node-returns-in-Leaf
+put_node-returns-in-Leaf t c = record {
+  spelled = c.put_point.ensures.spelled ∙ ap (λ u. c.args.out.now.items ++ u) (sym (leaf_spelled _ _ c.in-Leaf.is));
+  len = let one = leaf_size c.args.node.now _ c.in-Leaf.is in let put = c.put_point.ensures.len in omega (arith, one, put);
+  capacity = c.put_point.ensures.capacity;
+  stored = λ h w. leaf_stored h _ _ c.in-Leaf.is c.put_point.ensures.place w;
+}
 
-pub put_node-returns-in-Leaf-clause-len : goal.put_node-returns-in-Leaf-clause-len
-put_node-returns-in-Leaf-clause-len t c = let one = leaf_size c.args.node.now _ c.in-Leaf.is in let put = c.put_point.ensures.len in omega (arith, one, put)
-
-pub put_node-returns-in-Leaf-clause-stored : goal.put_node-returns-in-Leaf-clause-stored
-put_node-returns-in-Leaf-clause-stored t c = λ h w. leaf_stored h _ _ c.in-Leaf.is c.put_point.ensures.place w
-
-pub put_node-returns-in-Parent-clause-spelled : goal.put_node-returns-in-Parent-clause-spelled
-put_node-returns-in-Parent-clause-spelled t c = c.put_parent.ensures.spelled ∙ ap (λ u. c.args.out.now.items ++ u) (sym (parent_spelled _ _ c.in-Parent.is))
-
-pub put_node-returns-in-Parent-clause-len : goal.put_node-returns-in-Parent-clause-len
-put_node-returns-in-Parent-clause-len t c = let one = node_size c.args.node.now _ c.in-Parent.is in let put = c.put_parent.ensures.len in omega (arith, one, put)
-
-pub put_node-returns-in-Parent-clause-stored : goal.put_node-returns-in-Parent-clause-stored
-put_node-returns-in-Parent-clause-stored t c = λ h w. parent_stored h _ _ c.in-Parent.is c.put_parent.ensures.stored w
+pub put_node-returns-in-Parent : goal.put_node-returns-in-Parent
+put_node-returns-in-Parent t c = record {
+  spelled = c.put_parent.ensures.spelled ∙ ap (λ u. c.args.out.now.items ++ u) (sym (parent_spelled _ _ c.in-Parent.is));
+  len = let one = node_size c.args.node.now _ c.in-Parent.is in let put = c.put_parent.ensures.len in omega (arith, one, put);
+  capacity = c.put_parent.ensures.capacity;
+  stored = λ h w. parent_stored h _ _ c.in-Parent.is c.put_parent.ensures.stored w;
+}

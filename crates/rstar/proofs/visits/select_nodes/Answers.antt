@@ -1,16 +1,14 @@
-use Rattle.std.proofs.Common.{ap, sym, ◌∙◌, subst, inl, inr}
+use Rattle.std.proofs.Common.{ap, sym, ◌∙◌, subst}
 use Rattle.rstar.specs.Nodes.{all_given, given_of}
 use Rattle.rstar.specs.Visits.{Visits}
 use Rattle.rstar.proofs.selecting.Complete.{part-root, all-root}
 use Rattle.rstar.proofs.visiting.Visits.{visits_none}
 use Rattle.rstar.proofs.selecting.Complete.{gives_none, gives_below}
-use Rattle.rstar.proofs.selecting.Traversals.{no-items}
-use Rattle.rstar.proofs.visits.select_nodes.Goals.{then-is_empty-via-then-is_empty, then-is_empty-via-else-is_empty+then-not-should_unpack_parent}
 use Rattle.rstar.proofs.visits.select_nodes.Goals as goal
 
 -- an empty root, or one that is refused
-pub returns-then-is_empty : goal.returns-then-is_empty
-returns-then-is_empty g c =
+pub returns-then-not-enters : goal.returns-then-not-enters
+returns-then-not-enters g c =
     let accepts = g.F.SelectionFunction.accepts c.args.func.now in
     let selects = g.F.SelectionFunction.selects c.args.func.now in
     let root = c.args.root.now in
@@ -18,10 +16,7 @@ returns-then-is_empty g c =
       visited = given_of accepts selects root;
       part = part-root accepts selects root;
       complete = λ both. all-root g.met.T.Envelope.Envelope.envelope_laws g.met.T.RTreeObject.object_law accepts selects both.1 root both.0;
-      visits = visits_none (λ t. t.now) (goal.V-step g) c.args.visitor.now _ (gives_none accepts selects root (elim c.then-is_empty.branch [
-        | then-is_empty-via-then-is_empty w ↦ inl (no-items root.children.items _ c.is_empty.result c.is_empty.ensures w.if-is_empty.true root.children.ok.0)
-        | then-is_empty-via-else-is_empty+then-not-should_unpack_parent w ↦ inr (sym w.should_unpack_parent.ensures ∙ w.if-not-should_unpack_parent.true)
-      ]));
+      visits = visits_none (λ t. t.now) (goal.V-step g) c.args.visitor.now _ (gives_none accepts selects root (c.enters.ensures.refused c.if-not-enters.true));
     }
 
 pub returns : goal.returns
@@ -29,7 +24,7 @@ returns g c =
     let accepts = g.F.SelectionFunction.accepts c.args.func.now in
     let selects = g.F.SelectionFunction.selects c.args.func.now in
     let root = c.args.root.now in
-    let same = gives_below accepts selects root (sym c.should_unpack_parent.ensures ∙ c.if-not-should_unpack_parent.false) ∙ ap (all_given accepts selects) (sym c.as_slice.ensures.value) in
+    let same = gives_below accepts selects root (c.enters.ensures.entered c.if-not-enters.false).1 ∙ ap (all_given accepts selects) (sym c.as_slice.ensures.value) in
     record {
       visited = given_of accepts selects root;
       part = part-root accepts selects root;

@@ -1,4 +1,4 @@
-use Rattle.std.proofs.Common.{◌≡◌, ap, length, arith, refl, subst, sym, ◌∙◌, inl, inr}
+use Rattle.std.proofs.Common.{◌≡◌, ap, length, arith, refl, subst, sym}
 use Rattle.std.specs.List.{AllZip}
 use Rattle.std.specs.Vec.{with_items}
 use Rattle.rstar.specs.Nodes.{children_of, all_elements}
@@ -8,38 +8,30 @@ use Rattle.rstar.specs.Changes.{KeepsBox, IsChanged}
 use Rattle.rstar.proofs.visiting.Changes.{changed-refl, root-kept}
 use Rattle.rstar.proofs.inserting.Insertion.{trees_map}
 use Rattle.rstar.proofs.visiting.VisitedMarks.{same-marks, selected-marks, marked-root}
-use Rattle.rstar.proofs.selecting.Traversals.{no-items}
 use Rattle.rstar.proofs.visiting.Writing.{refilled, parent-writes, passed-writes}
-use Rattle.rstar.proofs.visits.select_nodes_mut.Goals.{then-is_empty-via-then-is_empty, then-is_empty-via-else-is_empty+then-not-should_unpack_parent}
 use Rattle.rstar.proofs.visits.select_nodes_mut.Goals as goal
 
 -- ---- an empty root, or one that is refused
 
-pub returns-then-is_empty-clause-written : goal.returns-then-is_empty-clause-written
-returns-then-is_empty-clause-written g c =
+pub returns-then-not-enters : goal.returns-then-not-enters
+returns-then-not-enters g c =
     let accepts = g.F.SelectionFunction.accepts c.args.func.now in
     let selects = g.F.SelectionFunction.selects c.args.func.now in
     let root = c.args.root.now in
     record {
-      marks = marked_of accepts selects root;
-      same = same-marks accepts selects root;
-      selected = selected-marks accepts selects root;
-      complete = λ both. marked-root g.met.T.Envelope.Envelope.envelope_laws g.met.T.RTreeObject.object_law accepts selects both.1 root both.0;
-      writes = passed-writes accepts selects (goal.V-step g) c.args.visitor.now root
-          (elim c.then-is_empty.branch [
-            | then-is_empty-via-then-is_empty w ↦ inl (no-items root.children.items _ c.is_empty.result c.is_empty.ensures w.if-is_empty.true root.children.ok.0)
-            | then-is_empty-via-else-is_empty+then-not-should_unpack_parent w ↦ inr (sym w.should_unpack_parent.ensures ∙ w.if-not-should_unpack_parent.true)
-          ]);
+      written = record {
+        marks = marked_of accepts selects root;
+        same = same-marks accepts selects root;
+        selected = selected-marks accepts selects root;
+        complete = λ both. marked-root g.met.T.Envelope.Envelope.envelope_laws g.met.T.RTreeObject.object_law accepts selects both.1 root both.0;
+        writes = passed-writes accepts selects (goal.V-step g) c.args.visitor.now root (c.enters.ensures.refused c.if-not-enters.true);
+      };
+      whole = λ whole. whole;
+      changed = λ h w. record {
+        envelope = refl;
+        children = changed-refl (KeepsBox g.T.RTreeObject.object) (λ t. (refl, λ is. is)) IsAny IsAny h (children_of root) w;
+      };
     }
-
-pub returns-then-is_empty-clause-changed : goal.returns-then-is_empty-clause-changed
-returns-then-is_empty-clause-changed g c = λ h w. record {
-  envelope = refl;
-  children = changed-refl (KeepsBox g.T.RTreeObject.object) (λ t. (refl, λ is. is)) IsAny IsAny h (children_of c.args.root.now) w;
-}
-
-pub returns-then-is_empty-clause-whole : goal.returns-then-is_empty-clause-whole
-returns-then-is_empty-clause-whole g c = λ whole. whole
 
 -- ---- its children
 
@@ -57,7 +49,7 @@ returns-clause-written g c =
       selected = selected-marks accepts selects root;
       complete = λ both. marked-root g.met.T.Envelope.Envelope.envelope_laws g.met.T.RTreeObject.object_law accepts selects both.1 root both.0;
       writes = parent-writes accepts selects (goal.V-step g) c.args.visitor.now root c.visit_nodes_mut.result c.visit_nodes_mut.new.visitor (all_elements (with_items root.children new).items)
-          (sym c.should_unpack_parent.ensures ∙ c.if-not-should_unpack_parent.false)
+          (c.enters.ensures.entered c.if-not-enters.false).1
           (subst (λ l. Writes (goal.V-step g) c.args.visitor.now (all_marked accepts selects l) c.visit_nodes_mut.result c.visit_nodes_mut.new.visitor (all_elements (with_items root.children new).items)) value
           (subst (λ l. Writes (goal.V-step g) c.args.visitor.now (all_marked accepts selects c.as_mut_slice.result.now) c.visit_nodes_mut.result c.visit_nodes_mut.new.visitor (all_elements l)) (sym (refilled root.children new long)) c.visit_nodes_mut.ensures.written));
     }

@@ -1,35 +1,80 @@
-//! The k nearest for small k: a sorted list of the best elements found so far prunes what is farther than
-//! its last (Roussopoulos et al. 1995).
+//! The nearest, and the k nearest for small k: the best elements found so far prune what is farther than the
+//! last of them, and the least MINMAXDIST seen prunes a search for one (Roussopoulos et al. 1995).
 
-ghost use Rattle.std.specs.Prelude.{◌≡◌, ◌≤◌, ◌<ℤ◌, ◌+◌, ◌++◌, ◌∷◌, [], List, ℕ, true, false, length, pos, map, OnOk, IfOk};
+ghost use Rattle.std.specs.Prelude.{◌≡◌, ◌≤◌, ◌<ℤ◌, ◌+◌, ◌++◌, ◌∷◌, [], List, ℕ, true, false, length, pos, map, None, Option, OnOk, IfOk, IfSome, IfNone, MatchOption, option_to_list};
 ghost use Rattle.std.specs.List.{AllByRecursion, insert};
 ghost use Rattle.std.specs.Ordering.{flip_args, is_lt};
 ghost use Rattle.rstar_base.specs.SmallHeaps.{items_of, IsOrdered, Rises};
 ghost use Rattle.rstar.specs.declared.node.RTreeNode.{RTreeNode};
-ghost use Rattle.rstar.specs.inside.Few.{AreFoundSoFar, KeepsGreatest, WaitAtDistance, waiting_parents};
-ghost use Rattle.rstar.specs.Lists.{IsNotLater, AreFirstOf};
-ghost use Rattle.rstar.specs.Nodes.{all_parents, elements_of, parents, IsWhole};
-ghost use Rattle.rstar.specs.inside.Searches.{any_first, nearest_on_top};
+ghost use Rattle.rstar.specs.inside.Few.{found_elements, kept_in, IsAbove, IsBeyond, IsKept, IsLowered, IsSeeking, KeepsGreatest, WaitAtDistance, waiting_parents};
+ghost use Rattle.rstar.specs.Lists.{IsNearest, IsNotLater, AreFirstOf};
+ghost use Rattle.rstar.specs.Nodes.{all_parents, elements_of, envelope_of, parents, IsWhole};
+ghost use Rattle.rstar.specs.inside.Searches.{any_first, distance_of, nearest_on_top};
 
 use crate::algorithm::nearest_neighbor::search::{distance_to, fits};
 use crate::algorithm::nearest_neighbor::waiting::{AnyFirst, TieOrder, Waiting};
 use crate::bounds::{Measured, SquaredDistance};
 use crate::node::{ParentNode, RTreeNode};
 use rstar_base::heap::SmallHeap;
-use std::alloc::AllocError;
+use std::alloc::{AllocError, Global};
 use std::marker::PhantomData;
 
 /// The priority queue of parents, the nearest on top.
 type Parents<'a, T> = SmallHeap<Waiting<&'a ParentNode<T>, <T as Measured>::Distance, AnyFirst>>;
 
-/// The elements found so far, the nearest first.
-type Found<'a, T, E> = Vec<Waiting<&'a T, <T as Measured>::Distance, E>>;
+/// The best elements found so far, the nearest first. One lies in place, and takes no memory.
+#[derive(Drop)]
+enum Kept<'a, T, S, E> {
+    One(Option<Waiting<&'a T, S, E>>),
+    Few(Vec<Waiting<&'a T, S, E>>),
+}
+
+/// What a search knows: the best elements so far, and of a search for one a distance within which there is
+/// an element.
+#[derive(Drop)]
+struct Best<'a, T, S, E> {
+    kept: Kept<'a, T, S, E>,
+    bound: Option<S>,
+}
+
+/// A nearest element to a point with its squared distance; `None` exactly where there is no element.
+pub(crate) fn one_nearest<'a, T: Measured>(
+    root: &'a ParentNode<T>,
+    point: &T::Place,
+) -> Result<Option<(&'a T, T::Distance)>, AllocError>
+    requires { IsWhole T.Cover.boxes T.object root.now }
+    ensures none { IfOk result (λ r. IfNone r (elements_of root.now ≡ [])) }
+    ensures nearest { IfOk result (λ r. IfSome r
+        (λ x. IsNearest (λ t. T.distances.distance_2 t (T.at point.now)) (elements_of root.now) x.0.now)) }
+    ensures distance { IfOk result
+        (λ r. IfSome r (λ x. T.Distance.number x.1 ≡ pos (T.distances.distance_2 x.0.now (T.at point.now)))) }
+    ensures not_below { IfOk result (λ r. IfSome r
+        (λ x. T.Cover.boxes.distance_2 (envelope_of root.now) (T.at point.now) ≤ T.distances.distance_2 x.0.now
+        (T.at point.now))) }
+    ensures not_above { IfOk result (λ r. IfSome r
+        (λ x. T.distances.distance_2 x.0.now (T.at point.now) ≤ T.Cover.boxes.min_max_dist_2 (envelope_of root.now)
+        (T.at point.now))) }
+{
+    // Does nothing but tell that the point's coordinates are in their range.
+    T::known(point);
+    fits::<T::Distance>();
+    let mut best: Best<'a, T, T::Distance, AnyFirst> = Best {
+        kept: Kept::One(None),
+        bound: None,
+    };
+    search(root, point, 1, &mut best)?;
+    match &best.kept {
+        Kept::One(Some(first)) => Ok(Some((first.node, first.distance))),
+        Kept::One(None) => Ok(None),
+        Kept::Few(_) => unreachable!(),
+    }
+}
 
 /// The first `most` elements by distance with their squared distances; all where there are fewer. `E` breaks
 /// ties.
 ///
 /// Each element found is inserted into a sorted list, so this costs less than a priority queue only for
-/// small `most`. `room` is the capacity that the list starts with.
+/// small `most`. `room` is the capacity that the list starts with; one element is found without a list.
 pub(crate) fn first_few<'a, T: Measured, E: TieOrder<T>>(
     root: &'a ParentNode<T>,
     point: &T::Place,
@@ -42,25 +87,73 @@ pub(crate) fn first_few<'a, T: Measured, E: TieOrder<T>>(
     ensures distances { IfOk result (λ found. AllByRecursion
         (λ n. T.Distance.number n.1 ≡ pos (T.distances.distance_2 n.0.now (T.at point.now))) found.items) }
 {
+    fits::<T::Distance>();
+    let alloc = *root.children.allocator();
+    let kept = if most == 1 {
+        Kept::One(None)
+    } else {
+        Kept::Few(Vec::with_capacity(alloc, room)?)
+    };
+    let mut best: Best<'a, T, T::Distance, E> = Best { kept, bound: None };
+    search(root, point, most, &mut best)?;
+    lent(&best.kept, alloc)
+}
+
+/// Finds the first `most` elements by distance, from nothing found.
+fn search<'a, T: Measured, E: TieOrder<T>>(
+    root: &'a ParentNode<T>,
+    point: &T::Place,
+    most: usize,
+    best: &mut Best<'a, T, T::Distance, E>,
+) -> Result<(), AllocError>
+    requires whole { IsWhole T.Cover.boxes T.object root.now }
+    requires kept { IsKept most best.old.bound best.old.kept }
+    requires unbound { best.old.bound ≡ None }
+    requires none { kept_in best.old.kept ≡ [] }
+    ensures kept { IsKept most best.new.bound best.new.kept }
+    ensures first { OnOk result (AreFirstOf (IsNotLater (λ t. T.distances.distance_2 t (T.at point.now)) E.order)
+        (elements_of root.now) most (found_elements (kept_in best.new.kept))) }
+    ensures distances { OnOk result (AllByRecursion
+        (λ w. T.Distance.number w.distance ≡ pos (T.distances.distance_2 w.node.now (T.at point.now)))
+        (kept_in best.new.kept)) }
+{
     // Does nothing but tell that the point's coordinates are in their range.
     T::known(point);
     fits::<T::Distance>();
-    let alloc = *root.children.allocator();
-    let mut heap: Parents<'a, T> = SmallHeap::new(alloc);
-    let mut found: Found<'a, T, E> = Vec::with_capacity(alloc, room)?;
-    open(&mut heap, &mut found, &root.children, point, most)?;
+    let mut heap: Parents<'a, T> = SmallHeap::new(*root.children.allocator());
+    open(&mut heap, best, &root.children, point, most)?;
     while let Some(current) = heap.pop() {
-        if is_beyond(&found, most, current.distance) {
+        if rules_out(best, most, current.distance) {
             // The others that wait are no nearer.
-            break;
+            return Ok(());
         }
-        open(&mut heap, &mut found, &current.node.children, point, most)?;
+        open(&mut heap, best, &current.node.children, point, most)?;
     }
-    lent(&found)
+    Ok(())
 }
 
-/// The elements found, with their distances.
-fn lent<'a, T, S: Copy, E>(found: &Vec<Waiting<&'a T, S, E>>) -> Result<Vec<(&'a T, S)>, AllocError>
+/// The elements that are kept, with their distances.
+fn lent<'a, T, S: Copy, E>(
+    kept: &Kept<'a, T, S, E>,
+    alloc: Global,
+) -> Result<Vec<(&'a T, S)>, AllocError>
+    ensures { IfOk result (λ all. all.items ≡ map (λ w. (w.node, w.distance)) (kept_in kept.now)) }
+{
+    match kept {
+        Kept::One(None) => Ok(Vec::new(alloc)),
+        Kept::One(Some(first)) => {
+            let mut all = Vec::with_capacity(alloc, 1)?;
+            all.push((first.node, first.distance))?;
+            Ok(all)
+        }
+        Kept::Few(found) => all_lent(found),
+    }
+}
+
+/// The elements of a list, with their distances.
+fn all_lent<'a, T, S: Copy, E>(
+    found: &Vec<Waiting<&'a T, S, E>>,
+) -> Result<Vec<(&'a T, S)>, AllocError>
     ensures { IfOk result (λ all. all.items ≡ map (λ w. (w.node, w.distance)) found.now.items) }
 {
     let mut all = Vec::with_capacity(*found.allocator(), found.len())?;
@@ -68,6 +161,29 @@ fn lent<'a, T, S: Copy, E>(found: &Vec<Waiting<&'a T, S, E>>) -> Result<Vec<(&'a
         all.push((one.node, one.distance))?;
     }
     Ok(all)
+}
+
+/// Whether nothing at a distance is sought.
+fn rules_out<'a, T, S: SquaredDistance, E: TieOrder<T>>(
+    best: &Best<'a, T, S, E>,
+    most: usize,
+    distance: S,
+) -> bool
+    requires kept { IsKept most best.now.bound best.now.kept }
+    requires falls { Rises (flip_args (nearest_on_top S.cmp E.order)) (kept_in best.now.kept) }
+    ensures { result ≡ true → (m : ℕ) → S.number distance ≡ pos m → IsBeyond S.number most best.now.bound
+        (kept_in best.now.kept) m }
+{
+    if let Some(limit) = best.bound {
+        if !distance.is_within(limit) {
+            return true;
+        }
+    }
+    match &best.kept {
+        Kept::One(None) => false,
+        Kept::One(Some(first)) => !distance.is_within(first.distance),
+        Kept::Few(found) => is_beyond(found, most, distance),
+    }
 }
 
 /// Whether a list holds as many elements as asked for, each nearer than a distance.
@@ -86,31 +202,33 @@ fn is_beyond<'a, T, S: SquaredDistance, E: TieOrder<T>>(
     }
 }
 
-/// Visits nodes: parents are queued and elements are kept, unless they are farther than a full list.
+/// Visits nodes: parents are queued and elements are kept, unless they are ruled out.
 fn open<'a, T: Measured, E: TieOrder<T>>(
     heap: &mut Parents<'a, T>,
-    found: &mut Found<'a, T, E>,
+    best: &mut Best<'a, T, T::Distance, E>,
     children: &'a [RTreeNode<T>],
     point: &T::Place,
     most: usize,
 ) -> Result<(), AllocError>
     requires point { T.Cover.is_point (T.at point.now) }
     requires ordered { IsOrdered (nearest_on_top T.Distance.cmp any_first) heap.old }
-    requires falls { Rises (flip_args (nearest_on_top T.Distance.cmp E.order)) found.old.items }
+    requires kept { IsKept most best.old.bound best.old.kept }
+    requires falls { Rises (flip_args (nearest_on_top T.Distance.cmp E.order)) (kept_in best.old.kept) }
     ensures ordered { IsOrdered (nearest_on_top T.Distance.cmp any_first) heap.new }
-    ensures falls { Rises (flip_args (nearest_on_top T.Distance.cmp E.order)) found.new.items }
+    ensures kept { IsKept most best.new.bound best.new.kept }
+    ensures falls { Rises (flip_args (nearest_on_top T.Distance.cmp E.order)) (kept_in best.new.kept) }
     ensures waiting { OnOk result (WaitAtDistance T.Cover.boxes T.distances (T.at point.now) T.Distance.number
         (items_of heap.old) → WaitAtDistance T.Cover.boxes T.distances (T.at point.now) T.Distance.number
         (items_of heap.new)) }
     ensures fewer { OnOk result (all_parents (waiting_parents (items_of heap.new)) ≤ all_parents
         (waiting_parents (items_of heap.old)) + all_parents children.now) }
-    ensures first { OnOk result ((all : List T) → AreFoundSoFar T.Cover.boxes T.object T.distances (T.at point.now)
-        E.order T.Distance.number most all (waiting_parents (items_of heap.old) ++ children.now) found.old.items
-        → AreFoundSoFar T.Cover.boxes T.object T.distances (T.at point.now) E.order T.Distance.number most all
-        (waiting_parents (items_of heap.new)) found.new.items) }
+    ensures first { OnOk result ((all : List T) → IsSeeking T.Cover.boxes T.object T.distances (T.at point.now)
+        E.order T.Distance.number most all (waiting_parents (items_of heap.old) ++ children.now) best.old.bound
+        (kept_in best.old.kept) → IsSeeking T.Cover.boxes T.object T.distances (T.at point.now) E.order
+        T.Distance.number most all (waiting_parents (items_of heap.new)) best.new.bound (kept_in best.new.kept)) }
 {
     for child in children {
-        offer(heap, found, child, point, most)?;
+        offer(heap, best, child, point, most)?;
     }
     Ok(())
 }
@@ -118,51 +236,142 @@ fn open<'a, T: Measured, E: TieOrder<T>>(
 /// Visits one node.
 fn offer<'a, T: Measured, E: TieOrder<T>>(
     heap: &mut Parents<'a, T>,
-    found: &mut Found<'a, T, E>,
+    best: &mut Best<'a, T, T::Distance, E>,
     node: &'a RTreeNode<T>,
     point: &T::Place,
     most: usize,
 ) -> Result<(), AllocError>
     requires point { T.Cover.is_point (T.at point.now) }
     requires ordered { IsOrdered (nearest_on_top T.Distance.cmp any_first) heap.old }
-    requires falls { Rises (flip_args (nearest_on_top T.Distance.cmp E.order)) found.old.items }
+    requires kept { IsKept most best.old.bound best.old.kept }
+    requires falls { Rises (flip_args (nearest_on_top T.Distance.cmp E.order)) (kept_in best.old.kept) }
     ensures ordered { IsOrdered (nearest_on_top T.Distance.cmp any_first) heap.new }
-    ensures falls { Rises (flip_args (nearest_on_top T.Distance.cmp E.order)) found.new.items }
+    ensures kept { IsKept most best.new.bound best.new.kept }
+    ensures falls { Rises (flip_args (nearest_on_top T.Distance.cmp E.order)) (kept_in best.new.kept) }
     ensures waiting { OnOk result (WaitAtDistance T.Cover.boxes T.distances (T.at point.now) T.Distance.number
         (items_of heap.old) → WaitAtDistance T.Cover.boxes T.distances (T.at point.now) T.Distance.number
         (items_of heap.new)) }
     ensures fewer { OnOk result (all_parents (waiting_parents (items_of heap.new)) ≤ all_parents
         (waiting_parents (items_of heap.old)) + parents node.now) }
-    ensures first { OnOk result ((all : List T) (rest : List (RTreeNode T T.Cover)) → AreFoundSoFar T.Cover.boxes
-        T.object T.distances (T.at point.now) E.order T.Distance.number most all (waiting_parents (items_of heap.old)
-        ++ node.now ∷ rest) found.old.items → AreFoundSoFar T.Cover.boxes T.object T.distances (T.at point.now) E.order
-        T.Distance.number most all (waiting_parents (items_of heap.new) ++ rest) found.new.items) }
+    ensures first { OnOk result ((all : List T) (rest : List (RTreeNode T T.Cover)) → IsSeeking T.Cover.boxes T.object
+        T.distances (T.at point.now) E.order T.Distance.number most all (waiting_parents (items_of heap.old)
+        ++ node.now ∷ rest) best.old.bound (kept_in best.old.kept) → IsSeeking T.Cover.boxes T.object T.distances
+        (T.at point.now) E.order T.Distance.number most all (waiting_parents (items_of heap.new) ++ rest)
+        best.new.bound (kept_in best.new.kept)) }
 {
-    let distance = distance_to(node, point);
-    if is_beyond(found, most, distance) {
+    let Some(distance) = distance_within(node, point, best.bound) else {
+        return Ok(());
+    };
+    if rules_out(best, most, distance) {
         return Ok(());
     }
     match node {
-        RTreeNode::Leaf(t) => {
-            keep(
-                found,
-                most,
-                Waiting {
-                    node: t,
-                    distance,
-                    ties: PhantomData,
-                },
-            )?;
+        RTreeNode::Leaf(t) => take_in(
+            &mut best.kept,
+            most,
+            Waiting {
+                node: t,
+                distance,
+                ties: PhantomData,
+            },
+        ),
+        RTreeNode::Parent(parent) => {
+            best.bound = bound_with(best, &parent.envelope, point);
+            match heap.push(Waiting {
+                node: parent,
+                distance,
+                ties: PhantomData,
+            }) {
+                Ok(()) => Ok(()),
+                Err(_refused) => Err(AllocError),
+            }
+        }
+    }
+}
+
+/// The distance at which a node is queued, where it is at most the bound.
+#[tactic(auto, unfolding(crate::specs::Nodes::node_distance, crate::specs::Nodes::fold_tree))]
+fn distance_within<T: Measured>(
+    node: &RTreeNode<T>,
+    point: &T::Place,
+    bound: Option<T::Distance>,
+) -> Option<T::Distance>
+    ensures at { IfSome result
+        (λ d. T.Distance.number d ≡ pos (distance_of T.Cover.boxes T.distances (T.at point.now) node.now)) }
+    ensures above { IfNone result
+        (IsAbove T.Distance.number bound (distance_of T.Cover.boxes T.distances (T.at point.now) node.now)) }
+{
+    let Some(limit) = bound else {
+        return Some(distance_to(node, point));
+    };
+    match node {
+        RTreeNode::Leaf(t) => t.distance_2_if_less_or_equal(point, limit),
+        RTreeNode::Parent(parent) => {
+            let distance = T::cover_distance_2(&parent.envelope, point);
+            distance.is_within(limit).then_some(distance)
+        }
+    }
+}
+
+/// The bound where a parent with this envelope waits: of a search for one at most its MINMAXDIST.
+fn bound_with<'a, T: Measured, E>(
+    best: &Best<'a, T, T::Distance, E>,
+    envelope: &T::Cover,
+    point: &T::Place,
+) -> Option<T::Distance>
+    ensures lowered { IsLowered T.Distance.number (T.Cover.boxes.min_max_dist_2 envelope.now (T.at point.now))
+        best.now.bound result }
+    ensures kept { (most : ℕ) → IsKept most best.now.bound best.now.kept → IsKept most result best.now.kept }
+{
+    match &best.kept {
+        Kept::Few(_) => best.bound,
+        Kept::One(_) => {
+            let reach = T::cover_min_max_dist_2(envelope, point);
+            match best.bound {
+                Some(limit) => Some(limit.lesser(reach)),
+                None => Some(reach),
+            }
+        }
+    }
+}
+
+/// Keeps an element where it is one of the first.
+fn take_in<'a, T, S: SquaredDistance, E: TieOrder<T>>(
+    kept: &mut Kept<'a, T, S, E>,
+    most: usize,
+    item: Waiting<&'a T, S, E>,
+) -> Result<(), AllocError>
+    requires falls { Rises (flip_args (nearest_on_top S.cmp E.order)) (kept_in kept.old) }
+    ensures falls { Rises (flip_args (nearest_on_top S.cmp E.order)) (kept_in kept.new) }
+    ensures same { (bound : Option S) → IsKept most bound kept.old → IsKept most bound kept.new }
+    ensures kept { OnOk result ((bound : Option S) → IsKept most bound kept.old → KeepsGreatest
+        (nearest_on_top S.cmp E.order) most item.entry (kept_in kept.old) (kept_in kept.new)) }
+{
+    match kept {
+        Kept::One(found) => {
+            keep_one(found, item);
             Ok(())
         }
-        RTreeNode::Parent(parent) => match heap.push(Waiting {
-            node: parent,
-            distance,
-            ties: PhantomData,
-        }) {
-            Ok(()) => Ok(()),
-            Err(_refused) => Err(AllocError),
-        },
+        Kept::Few(found) => keep(found, most, item),
+    }
+}
+
+/// Keeps the greater of two items, the first where they are equal.
+fn keep_one<X: Ord + Drop>(found: &mut Option<X>, item: X)
+    ensures { KeepsGreatest X.cmp 1 item (option_to_list found.old) (option_to_list found.new) }
+{
+    if is_greatest(found, &item) {
+        *found = Some(item);
+    }
+}
+
+/// Whether an item is greater than the one that was found, if any.
+fn is_greatest<X: Ord>(found: &Option<X>, item: &X) -> bool
+    ensures { MatchOption found.now (result ≡ true) (λ x. result ≡ is_lt (X.cmp x item.now)) }
+{
+    match found {
+        Some(first) => first.cmp(item).is_lt(),
+        None => true,
     }
 }
 

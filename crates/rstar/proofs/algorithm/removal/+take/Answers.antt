@@ -38,24 +38,33 @@ take_among-loop-passed-init g t c = record {
   same = refl;
 }
 
-pub take_among-returns-then-is_some-clause-takes : goal.take_among-returns-then-is_some-clause-takes
-take_among-returns-then-is_some-clause-takes g t c =
+pub take_among-returns-then-is_some : goal.take_among-returns-then-is_some
+take_among-returns-then-is_some g t c =
     let i = c.len.result - 1 - c.loop-passed.passed in
     let next : length c.loop-passed.children.items ≡ suc (i + c.loop-passed.passed) = next_is (length c.loop-passed.children.items) c.len.result c.len-passed-end.result c.loop-passed.passed (vec_len c.loop-passed.children) (vec_len c.args.children.now) c.len.ensures (ap vec_len c.loop-passed.invariant.same) c.len-passed-end.ensures c.loop-passed-test.true c.loop-passed.children.ok.0 in
     let within : i < length c.loop-passed.children.items = one_of i c.loop-passed.passed (length c.loop-passed.children.items) next in
     let written = c.index-then-is_some.ensures ∙ get_or-set_same _ _ _ _ within in
-    elim c.if-is_childless.branch [
-      | take_among-then-is_childless w ↦
-          rw (c.set_first-then-is_some.ensures, w.path-is, w.rest-is, w.children-is, w.drop_child.ensures.items)
-          (gives_last g.T.Cover.Merges.boxes g.T.Covered.object (g.R.Question.accepts c.args.func.now) (g.R.Question.selects c.args.func.now) c.args.children.now.items c.args.path.now c.args.rest.now c.loop-passed.children.items c.loop-passed.path c.loop-passed.rest c.loop-passed.passed c.loop-passed.invariant.scanned i next c.index_mut.result.now c.take_inside-taken.new.child c.take_inside-taken.new.path c.take_inside-taken.new.rest c.take_inside-taken.result c.index_mut.ensures.value c.take_inside-taken.ensures.takes c.take_inside-taken.auto.path
-          (sym c.is_some.ensures ∙ c.if-is_some.true) (sym (ap is_childless written) ∙ sym c.is_childless.ensures ∙ w.if-is_childless.true) w.clear_lower.new.path w.clear_lower.new.rest (length (lower_numbers c.take_inside-taken.new.path)) w.clear_lower.ensures.numbers
-          w.clear_lower.auto.path w.clear_lower.ensures.still w.clear_lower.ensures.none)
-      | take_among-else-is_childless w ↦
-          rw (c.set_first-then-is_some.ensures, w.path-is, w.rest-is, w.children-is)
-          (gives_inside g.T.Cover.Merges.boxes g.T.Covered.object (g.R.Question.accepts c.args.func.now) (g.R.Question.selects c.args.func.now) c.args.children.now.items c.args.path.now c.args.rest.now c.loop-passed.children.items c.loop-passed.path c.loop-passed.rest c.loop-passed.passed c.loop-passed.invariant.scanned i next c.index_mut.result.now c.take_inside-taken.new.child c.take_inside-taken.new.path c.take_inside-taken.new.rest c.take_inside-taken.result c.index_mut.ensures.value c.take_inside-taken.ensures.takes c.take_inside-taken.auto.path
-          (sym c.is_some.ensures ∙ c.if-is_some.true)
-          (sym (ap is_childless written) ∙ sym c.is_childless.ensures ∙ w.if-is_childless.false))
-    ]
+    let some = sym c.is_some.ensures ∙ c.if-is_some.true in
+    record {
+      takes = elim c.if-is_childless.branch [
+        | take_among-then-is_childless w ↦
+            rw (c.set_first-then-is_some.ensures, w.path-is, w.rest-is, w.children-is, w.drop_child.ensures.items)
+            (gives_last g.T.Cover.Merges.boxes g.T.Covered.object (g.R.Question.accepts c.args.func.now) (g.R.Question.selects c.args.func.now) c.args.children.now.items c.args.path.now c.args.rest.now c.loop-passed.children.items c.loop-passed.path c.loop-passed.rest c.loop-passed.passed c.loop-passed.invariant.scanned i next c.index_mut.result.now c.take_inside-taken.new.child c.take_inside-taken.new.path c.take_inside-taken.new.rest c.take_inside-taken.result c.index_mut.ensures.value c.take_inside-taken.ensures.takes c.take_inside-taken.auto.path
+            some (sym (ap is_childless written) ∙ sym c.is_childless.ensures ∙ w.if-is_childless.true) w.clear_lower.new.path w.clear_lower.new.rest (length (lower_numbers c.take_inside-taken.new.path)) w.clear_lower.ensures.numbers
+            w.clear_lower.auto.path w.clear_lower.ensures.still w.clear_lower.ensures.none)
+        | take_among-else-is_childless w ↦
+            rw (c.set_first-then-is_some.ensures, w.path-is, w.rest-is, w.children-is)
+            (gives_inside g.T.Cover.Merges.boxes g.T.Covered.object (g.R.Question.accepts c.args.func.now) (g.R.Question.selects c.args.func.now) c.args.children.now.items c.args.path.now c.args.rest.now c.loop-passed.children.items c.loop-passed.path c.loop-passed.rest c.loop-passed.passed c.loop-passed.invariant.scanned i next c.index_mut.result.now c.take_inside-taken.new.child c.take_inside-taken.new.path c.take_inside-taken.new.rest c.take_inside-taken.result c.index_mut.ensures.value c.take_inside-taken.ensures.takes c.take_inside-taken.auto.path
+            some (sym (ap is_childless written) ∙ sym c.is_childless.ensures ∙ w.if-is_childless.false))
+      ];
+      same = some_one _ c.take_inside-taken.result some;
+      unchanged = elim c.if-is_childless.branch [
+        | take_among-then-is_childless w ↦ rw w.changed-is (λ told. told_none told)
+        | take_among-else-is_childless w ↦ rw (w.changed-is, w.children-is) (λ told.
+            hull_set g.T.Cover.Merges.boxes (node_box g.T.Covered.object.box_of) c.loop-passed.children.items i c.index_mut.result.now c.take_inside-taken.new.child within c.index_mut.ensures.value (c.take_inside-taken.ensures.unchanged told)
+            ∙ ap (λ (v : Vec _ _). hull g.T.Cover.Merges.boxes (node_box g.T.Covered.object.box_of) v.items) c.loop-passed.invariant.same)
+      ];
+    }
 
 pub take_among-loop-passed-preserved : goal.take_among-loop-passed-preserved
 take_among-loop-passed-preserved g t c =
@@ -73,21 +82,21 @@ take_among-loop-passed-preserved g t c =
       same = unchanged;
     }
 
-pub take_inside-returns-then-should_unpack_parent-clause-takes :
-    goal.take_inside-returns-then-should_unpack_parent-clause-takes
-take_inside-returns-then-should_unpack_parent-clause-takes g t c =
-    let takes = rw (c.in-Parent.parent-is, lower_lent c.args.path.now c.min-lower.result c.min-lower.ensures) at c.take_below.ensures.takes in
-    let kept = rw (c.in-Parent.parent-is, lower_lent c.args.path.now c.min-lower.result c.min-lower.ensures) at c.take_below.ensures.kept in
-    let same = rw c.in-Parent.parent-is at c.take_below.ensures.same in
-    let len = c.take_below.auto.path in
-    rw (c.in-Parent.is, outs-Parent c.in-Parent.parent, lower_left c.args.path.now c.take_below.new.path c.min-lower.result c.min-lower.ensures len) (entered g.T.Cover.Merges.boxes g.T.Covered.object (g.R.Question.accepts c.args.func.now) (g.R.Question.selects c.args.func.now) c.in-Parent.parent c.take_below.new.node (lower_numbers c.args.path.now) c.take_below.new.path c.args.rest.now c.take_below.new.rest c.take_below.result takes kept same)
+pub take_inside-returns-then-may_hold : goal.take_inside-returns-then-may_hold
+take_inside-returns-then-may_hold g t c =
+    let below = rw (c.in-Parent.parent-is, lower_lent c.args.path.now c.min-lower.result c.min-lower.ensures) at c.take_below.ensures in
+    let box = g.T.Covered.object.box_of in
+    record {
+      takes = rw (c.in-Parent.is, outs-Parent c.in-Parent.parent, lower_left c.args.path.now c.take_below.new.path c.min-lower.result c.min-lower.ensures c.take_below.auto.path) (entered g.T.Cover.Merges.boxes g.T.Covered.object (g.R.Question.accepts c.args.func.now) (g.R.Question.selects c.args.func.now) c.in-Parent.parent c.take_below.new.node (lower_numbers c.args.path.now) c.take_below.new.path c.args.rest.now c.take_below.new.rest c.take_below.result below.takes below.kept below.same);
+      unchanged = rw (c.in-Parent.is, outs-Parent c.in-Parent.parent) (λ told. node_box-Parent box c.take_below.new.node ∙ below.unchanged told ∙ sym (node_box-Parent box c.in-Parent.parent));
+    }
 
-pub take_inside-returns-else-should_unpack_parent-clause-takes :
-    goal.take_inside-returns-else-should_unpack_parent-clause-takes
-take_inside-returns-else-should_unpack_parent-clause-takes g t c =
-    let refused = rw c.in-Parent.parent-is at c.should_unpack_parent.ensures in
+pub take_inside-returns-else-may_hold-clause-takes :
+    goal.take_inside-returns-else-may_hold-clause-takes
+take_inside-returns-else-may_hold-clause-takes g t c =
+    let passed = rw c.in-Parent.parent-is at c.may_hold.ensures in
     rw (c.in-Parent.is, outs-Parent c.in-Parent.parent)
-    (not_entered g.T.Cover.Merges.boxes g.T.Covered.object (g.R.Question.accepts c.args.func.now) (g.R.Question.selects c.args.func.now) g.met.T.Cover.Merges.merge_laws g.met.T.Covered.cover_law c.in-Parent.parent (lower_numbers c.args.path.now) c.args.rest.now (sym refused ∙ c.if-should_unpack_parent.false))
+    (not_entered g.T.Cover.Merges.boxes g.T.Covered.object (g.R.Question.accepts c.args.func.now) (g.R.Question.selects c.args.func.now) g.met.T.Cover.Merges.merge_laws g.met.T.Covered.cover_law c.in-Parent.parent (lower_numbers c.args.path.now) c.args.rest.now (passed c.if-may_hold.false))
 
 pub take_among-returns-then-is_selected_leaf : goal.take_among-returns-then-is_selected_leaf
 take_among-returns-then-is_selected_leaf g t c = record {
@@ -132,25 +141,6 @@ take_below-returns-else-is_some-clause-kept g t c w h kept below at =
     ] in
     kept_still g.met.T.Cover.Merges.merge_laws g.met.T.Covered.cover_law w h c.args.node.now _ kept below (takes.whole w h below at) takes.shorter refl hulls
 
-pub take_inside-returns-then-should_unpack_parent-clause-unchanged :
-    goal.take_inside-returns-then-should_unpack_parent-clause-unchanged
-take_inside-returns-then-should_unpack_parent-clause-unchanged g t c =
-    let unchanged = rw c.in-Parent.parent-is at c.take_below.ensures.unchanged in
-    let box = g.T.Covered.object.box_of in
-    rw (c.in-Parent.is, outs-Parent c.in-Parent.parent) (λ told. node_box-Parent box c.take_below.new.node ∙ unchanged told ∙ sym (node_box-Parent box c.in-Parent.parent))
-
-pub take_among-returns-then-is_some-clause-unchanged : goal.take_among-returns-then-is_some-clause-unchanged
-take_among-returns-then-is_some-clause-unchanged g t c =
-    let i = c.len.result - 1 - c.loop-passed.passed in
-    let next : length c.loop-passed.children.items ≡ suc (i + c.loop-passed.passed) = next_is (length c.loop-passed.children.items) c.len.result c.len-passed-end.result c.loop-passed.passed (vec_len c.loop-passed.children) (vec_len c.args.children.now) c.len.ensures (ap vec_len c.loop-passed.invariant.same) c.len-passed-end.ensures c.loop-passed-test.true c.loop-passed.children.ok.0 in
-    let within : i < length c.loop-passed.children.items = one_of i c.loop-passed.passed (length c.loop-passed.children.items) next in
-    elim c.if-is_childless.branch [
-      | take_among-then-is_childless w ↦ rw w.changed-is (λ told. told_none told)
-      | take_among-else-is_childless w ↦ rw (w.changed-is, w.children-is) (λ told.
-          hull_set g.T.Cover.Merges.boxes (node_box g.T.Covered.object.box_of) c.loop-passed.children.items i c.index_mut.result.now c.take_inside-taken.new.child within c.index_mut.ensures.value (c.take_inside-taken.ensures.unchanged told)
-          ∙ ap (λ (v : Vec _ _). hull g.T.Cover.Merges.boxes (node_box g.T.Covered.object.box_of) v.items) c.loop-passed.invariant.same)
-    ]
-
 pub take_among-overflow_sub-i : goal.take_among-overflow_sub-i
 take_among-overflow_sub-i g t c = some_left c.len.result c.len-passed-end.result c.loop-passed.passed (vec_len c.loop-passed.children) (vec_len c.args.children.now) c.len.ensures (ap vec_len c.loop-passed.invariant.same) c.len-passed-end.ensures c.loop-passed-test.true
 
@@ -159,6 +149,3 @@ take_among-overflow_sub-i-in-loop-passed g t c = not_last c.len.result c.len-pas
 
 pub take_among-take_leaf-taken-requires-clause-within : goal.take_among-take_leaf-taken-requires-clause-within
 take_among-take_leaf-taken-requires-clause-within g t c = place c.len.result c.len-passed-end.result c.loop-passed.passed (vec_len c.loop-passed.children) (vec_len c.args.children.now) c.len.ensures (ap vec_len c.loop-passed.invariant.same) c.len-passed-end.ensures c.loop-passed-test.true
-
-pub take_among-returns-then-is_some-clause-same : goal.take_among-returns-then-is_some-clause-same
-take_among-returns-then-is_some-clause-same g t c = some_one _ c.take_inside-taken.result (sym c.is_some.ensures ∙ c.if-is_some.true)

@@ -1,15 +1,8 @@
-use Rattle.std.proofs.Common.{◌∙◌, ap, filter}
-use Rattle.std.proofs.lemmas.Result.{IfOk-weaker}
-use Rattle.rstar.specs.Trees.{elements_in}
-use Rattle.rstar.proofs.selecting.Chains.{made_asking}
+use Rattle.rstar.proofs.selecting.Chains.{all_asked, made_asking}
 use Rattle.rstar.proofs.rtree.RTree.locate_in_envelope.Goals as goal
 
 pub returns-clause-all : goal.returns-clause-all
-returns-clause-all g c =
-    IfOk-weaker c.locate_with_selection_function.result _ _
-    (λ it all. all c.new.ensures.lawful ∙ ap (λ s. filter s (elements_in c.args.self.now)) c.new.ensures.selects)
-    c.locate_with_selection_function.ensures.all
+returns-clause-all g c = all_asked _ _ c.locate_with_selection_function.result c.new.ensures.lawful c.new.ensures.selects c.locate_with_selection_function.ensures.all
 
 pub returns-clause-made : goal.returns-clause-made
-returns-clause-made g c =
-    IfOk-weaker c.locate_with_selection_function.result _ _ (made_asking c.new.ensures.accepts) c.locate_with_selection_function.ensures.made
+returns-clause-made g c = made_asking _ _ c.locate_with_selection_function.result c.new.ensures.accepts c.locate_with_selection_function.ensures.made

@@ -1,15 +1,8 @@
-use Rattle.std.proofs.Common.{IfSome, IfNone, subst, true, ◌≡◌}
-use Rattle.rstar.specs.Lists.{NoneSelected}
-use Rattle.rstar.specs.Trees.{elements_in}
-use Rattle.rstar.proofs.removing.Removed.{none_when}
+use Rattle.rstar.proofs.removing.Removed.{some_asked, none_asked}
 use Rattle.rstar.proofs.rtree.RTree.remove.Goals as goal
 
 pub returns-clause-equal : goal.returns-clause-equal
-returns-clause-equal g c =
-    subst (λ s. IfSome c.remove_with_selection_function.result (λ x. s x ≡ true)) c.new.ensures.selects
-    c.remove_with_selection_function.ensures.selected
+returns-clause-equal g c = some_asked c.remove_with_selection_function.result c.new.ensures.selects c.remove_with_selection_function.ensures.selected
 
 pub returns-clause-none : goal.returns-clause-none
-returns-clause-none g c =
-    subst (λ s. IfNone c.remove_with_selection_function.result (NoneSelected s (elements_in c.args.self.now))) c.new.ensures.selects
-    (none_when _ _ c.remove_with_selection_function.result c.new.ensures.lawful c.remove_with_selection_function.ensures.none)
+returns-clause-none g c = none_asked _ c.remove_with_selection_function.result c.new.ensures.lawful c.new.ensures.selects c.remove_with_selection_function.ensures.none

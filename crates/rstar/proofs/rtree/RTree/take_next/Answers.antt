@@ -1,45 +1,41 @@
-use Rattle.std.proofs.Common.{◌∙◌, ap, subst, sym, arith, refl, List}
-use Rattle.rstar.specs.Nodes.{children_of, all_elements}
-use Rattle.rstar.specs.Lists.{NoneSelected}
+use Rattle.std.proofs.Common.{◌∙◌, ap, sym, arith, refl}
+use Rattle.rstar.specs.Nodes.{children_of}
 use Rattle.rstar.specs.Trees.{IsWholeTree}
 use Rattle.rstar.proofs.selecting.Traversals.{no-items, some-items}
 use Rattle.rstar.proofs.removing.Scans.{none_gives, some_one}
 use Rattle.rstar.proofs.removing.Removed.{one_less, none_less, removes, same_tree, leaves, root_refused}
 use Rattle.rstar.proofs.rtree.RTree.take_next.Goals as goal
-use Rattle.rstar.proofs.rtree.RTree.take_next.Goals.{then-is_empty-via-then-is_empty, then-is_empty-via-else-is_empty+then-not-should_unpack_parent}
 
-pub returns-then-is_empty : goal.returns-then-is_empty
-returns-then-is_empty g c =
+pub returns-then-not-enters : goal.returns-then-not-enters
+returns-then-not-enters g c =
     let laws = g.met.T.Envelope.Envelope.envelope_laws in
     let ok = g.met.T.RTreeObject.object_law in
     let accepts = g.R.SelectionFunction.accepts c.args.func.now in
     let selects = g.R.SelectionFunction.selects c.args.func.now in
-    leaves laws ok g.Params.RTreeParams.MAX_SIZE accepts selects c.args.self.now c.args.path.now c.args.rest.now c.requires (elim c.then-is_empty.branch [
-      | then-is_empty-via-then-is_empty w ↦ λ lawful. subst (λ (ns : List _). NoneSelected selects (all_elements ns)) (sym (no-items (children_of c.args.self.now.root) _ _ c.is_empty.ensures w.if-is_empty.true c.args.self.now.root.children.ok.0)) tt
-      | then-is_empty-via-else-is_empty+then-not-should_unpack_parent w ↦ root_refused laws ok g.Params.RTreeParams.MAX_SIZE accepts selects c.args.self.now c.requires (sym w.should_unpack_parent.ensures ∙ w.if-not-should_unpack_parent.true)
-    ])
+    leaves laws ok g.Params.RTreeParams.MAX_SIZE accepts selects c.args.self.now c.args.path.now c.args.rest.now c.requires
+    (root_refused laws ok g.Params.RTreeParams.MAX_SIZE accepts selects c.args.self.now c.requires (c.enters.ensures.refused c.if-not-enters.true))
 
-pub returns-then-is_empty-2 : goal.returns-then-is_empty-2
+pub returns-then-is_empty : goal.returns-then-is_empty
 unfolding IsWholeTree
-returns-then-is_empty-2 g c =
+returns-then-is_empty g c =
     let counted = c.requires.counted in
     let taken = sym c.is_some.ensures ∙ c.if-is_some.true in
     let less = one_less _ _ _ taken c.take_below-taken.ensures.takes.taken in
     removes g.met.T.Envelope.Envelope.envelope_laws g.met.T.RTreeObject.object_law g.Params.RTreeParams.MAX_SIZE (g.R.SelectionFunction.accepts c.args.func.now) (g.R.SelectionFunction.selects c.args.func.now)
-    c.args.self.now _ _ _ _ _ _ c.requires (some-items (children_of c.args.self.now.root) _ _ c.is_empty.ensures c.if-is_empty.false c.args.self.now.root.children.ok.0)
+    c.args.self.now _ _ _ _ _ _ c.requires (c.enters.ensures.entered c.if-not-enters.false).0
     c.take_below-taken.ensures.takes c.take_below-taken.ensures.kept (some_one _ _ taken) refl (omega arith)
-    (λ _. refl) (λ some. absurd (some (no-items (children_of c.take_below-taken.new.node) _ _ c.is_empty-then-is_some.ensures c.if-is_empty-2.true c.take_below-taken.new.node.children.ok.0)))
+    (λ _. refl) (λ some. absurd (some (no-items (children_of c.take_below-taken.new.node) _ _ c.is_empty.ensures c.if-is_empty.true c.take_below-taken.new.node.children.ok.0)))
 
-pub returns-else-is_empty-2 : goal.returns-else-is_empty-2
+pub returns-else-is_empty : goal.returns-else-is_empty
 unfolding IsWholeTree
-returns-else-is_empty-2 g c =
+returns-else-is_empty g c =
     let counted = c.requires.counted in
     let taken = sym c.is_some.ensures ∙ c.if-is_some.true in
     let less = one_less _ _ _ taken c.take_below-taken.ensures.takes.taken in
     removes g.met.T.Envelope.Envelope.envelope_laws g.met.T.RTreeObject.object_law g.Params.RTreeParams.MAX_SIZE (g.R.SelectionFunction.accepts c.args.func.now) (g.R.SelectionFunction.selects c.args.func.now)
-    c.args.self.now _ _ _ _ _ _ c.requires (some-items (children_of c.args.self.now.root) _ _ c.is_empty.ensures c.if-is_empty.false c.args.self.now.root.children.ok.0)
+    c.args.self.now _ _ _ _ _ _ c.requires (c.enters.ensures.entered c.if-not-enters.false).0
     c.take_below-taken.ensures.takes c.take_below-taken.ensures.kept (some_one _ _ taken) refl (omega arith)
-    (λ none. absurd (some-items (children_of c.take_below-taken.new.node) _ _ c.is_empty-then-is_some.ensures c.if-is_empty-2.false c.take_below-taken.new.node.children.ok.0 none)) (λ _. refl)
+    (λ none. absurd (some-items (children_of c.take_below-taken.new.node) _ _ c.is_empty.ensures c.if-is_empty.false c.take_below-taken.new.node.children.ok.0 none)) (λ _. refl)
 
 pub returns-else-is_some : goal.returns-else-is_some
 unfolding IsWholeTree
@@ -48,7 +44,7 @@ returns-else-is_some g c =
     let none = sym c.is_some.ensures ∙ c.if-is_some.false in
     let less = none_less _ _ _ none c.take_below-taken.ensures.takes.taken in
     let root = none_gives _ none c.take_below-taken.ensures.same in
-    let some = some-items (children_of c.args.self.now.root) _ _ c.is_empty.ensures c.if-is_empty.false c.args.self.now.root.children.ok.0 in
+    let some = (c.enters.ensures.entered c.if-not-enters.false).0 in
     removes g.met.T.Envelope.Envelope.envelope_laws g.met.T.RTreeObject.object_law g.Params.RTreeParams.MAX_SIZE (g.R.SelectionFunction.accepts c.args.func.now) (g.R.SelectionFunction.selects c.args.func.now)
     c.args.self.now _ _ _ _ _ _ c.requires some
     c.take_below-taken.ensures.takes c.take_below-taken.ensures.kept (same_tree c.args.self.now _ _ c.take_below-taken.ensures.same) refl (omega arith)

@@ -2,12 +2,12 @@ use Rattle.std.proofs.Common.{◌∷◌, [], ◌++◌, ◌+◌, ◌<◌, length,
 use Rattle.std.proofs.lemmas.List.{append-nil, take_more, drop_more, drop_all}
 use Rattle.std.proofs.lemmas.List.Sums.{sum_by-cons, sum_by-append}
 use Rattle.rstar_base.specs.SmallHeaps.{items_of}
-use Rattle.rstar.specs.inside.Few.{AreFoundSoFar, waiting_parents}
+use Rattle.rstar.specs.inside.Few.{kept_in, IsSeeking, waiting_parents}
 use Rattle.rstar.specs.Nodes.{all_parents, parents}
 use Rattle.rstar.proofs.algorithm.nearest_neighbor.few.open.Goals as goal
 
 pub loop-child-init : goal.loop-child-init
-loop-child-init g c = record { ordered = c.requires.ordered; falls = c.requires.falls; waiting = λ before. before; fewer = omega arith; first = λ all s. s }
+loop-child-init g c = record { ordered = c.requires.ordered; kept = c.requires.kept; falls = c.requires.falls; waiting = λ before. before; fewer = omega arith; first = λ all s. s }
 
 pub loop-child-preserved : goal.loop-child-preserved
 loop-child-preserved g c =
@@ -22,10 +22,11 @@ loop-child-preserved g c =
     let p = g.T.Measured.at c.args.point.now in
     record {
       ordered = c.offer.ensures.ordered;
+      kept = c.offer.ensures.kept;
       falls = c.offer.ensures.falls;
       waiting = λ before. c.in_ok-offer.ensures.waiting (c.loop-child.invariant.waiting before);
       fewer = omega arith;
-      first = λ all s. c.in_ok-offer.ensures.first all (drop (c.loop-child.child-index + 1) c.args.children.now) (subst (λ l. AreFoundSoFar g.T.Cover.Merges.boxes g.T.Covered.object g.T.Measured.distances p g.E.TieOrder.order g.T.Distance.SquaredDistance.number c.args.most all (waiting_parents (items_of c.loop-child.heap) ++ l) c.loop-child.found.items) back (c.loop-child.invariant.first all s));
+      first = λ all s. c.in_ok-offer.ensures.first all (drop (c.loop-child.child-index + 1) c.args.children.now) (subst (λ l. IsSeeking g.T.Cover.Merges.boxes g.T.Covered.object g.T.Measured.distances p g.E.TieOrder.order g.T.Distance.SquaredDistance.number c.args.most all (waiting_parents (items_of c.loop-child.heap) ++ l) c.loop-child.best.bound (kept_in c.loop-child.best.kept)) back (c.loop-child.invariant.first all s));
     }
 
 pub returns-clause-first : goal.returns-clause-first
@@ -33,4 +34,4 @@ returns-clause-first g c = λ all s.
     let none = drop_all c.loop-child.child-index c.args.children.now (omega arith) in
     let p = g.T.Measured.at c.args.point.now in
     let end = ap (λ l. waiting_parents (items_of c.loop-child.heap) ++ l) none ∙ append-nil (waiting_parents (items_of c.loop-child.heap)) in
-    subst (λ l. AreFoundSoFar g.T.Cover.Merges.boxes g.T.Covered.object g.T.Measured.distances p g.E.TieOrder.order g.T.Distance.SquaredDistance.number c.args.most all l c.loop-child.found.items) end (c.loop-child.invariant.first all s)
+    subst (λ l. IsSeeking g.T.Cover.Merges.boxes g.T.Covered.object g.T.Measured.distances p g.E.TieOrder.order g.T.Distance.SquaredDistance.number c.args.most all l c.loop-child.best.bound (kept_in c.loop-child.best.kept)) end (c.loop-child.invariant.first all s)

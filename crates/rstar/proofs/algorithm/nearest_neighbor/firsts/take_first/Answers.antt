@@ -7,18 +7,14 @@ use Rattle.rstar.specs.Nodes.{all_elements}
 use Rattle.rstar.specs.inside.Searches.{waiting_of, IsUnrefused}
 use Rattle.rstar.proofs.searching.ByOrder.{all-later, whole-waiting}
 use Rattle.rstar.proofs.searching.InOrder.{none-first, more-first}
+use Rattle.rstar.proofs.searching.SearchTurns.{measured-by}
 use Rattle.rstar.proofs.searching.Nearness.{IsMeasured}
 use Rattle.rstar.proofs.algorithm.nearest_neighbor.firsts.take_first.Given.{Over}
 use Rattle.rstar.proofs.algorithm.nearest_neighbor.firsts.take_first.Goals as goal
 
 measured : (g : Over) (p : _) → g.T.Cover.Merges.is_point p
     → IsMeasured g.T.Cover.Merges.is_point g.T.Cover.Merges.boxes g.T.Covered.object g.T.Measured.distances p
-measured g p is = record {
-  laws = g.met.T.Cover.Merges.merge_laws;
-  ok = g.met.T.Covered.cover_law;
-  near = g.met.T.Measured.distance_laws;
-  point = is;
-}
+measured g p is = measured-by g.met.T.Cover.Merges.merge_laws g.met.T.Covered.cover_law g.met.T.Measured.distance_laws is
 
 pub loop-turn-init : goal.loop-turn-init
 loop-turn-init g c =

@@ -1,28 +1,24 @@
-use Rattle.std.proofs.Common.{◌∷◌, [], ◌++◌, map, sym, subst, ap, ◌∙◌}
-use Rattle.std.specs.List.Sorted.{IsPermutation}
-use Rattle.rstar.specs.Nodes.{all_elements, elements_of}
-use Rattle.rstar.specs.inside.Searches.{waiting_of, IsUnrefused}
-use Rattle.rstar.specs.inside.Ties.{IsTied}
-use Rattle.rstar.proofs.searching.Ties.{tied-first, fresh-elements}
+use Rattle.std.proofs.Common.{◌++◌, ap, sym, ◌∙◌, subst, map, filter, pos, int_le}
+use Rattle.rstar_base.proofs.Lists.{all_map}
+use Rattle.rstar.specs.Nodes.{all_elements, elements_of, children_of}
+use Rattle.rstar.specs.inside.Searches.{AreWholeNodes}
+use Rattle.rstar.proofs.searching.Ties.{nearest-within}
 use Rattle.rstar.proofs.algorithm.nearest_neighbor.ties.all_nearest.Goals as goal
 
-pub returns-in_default-clause-none : goal.returns-in_default-clause-none
-returns-in_default-clause-none g c =
-    sym (fresh-elements c.new-search.result c.args.root.now c.new-search.ensures.stage (ap (λ b. b.now) c.new-search.ensures.root))
-    ∙ c.in_default.ensures.none (subst IsUnrefused (sym c.new-search.ensures.stage) tt)
+pub add_within-requires-clause-parts : goal.add_within-requires-clause-parts
+add_within-requires-clause-parts g c =
+    subst (AreWholeNodes g.T.Cover.Merges.boxes g.T.Covered.object) (sym c.deref.ensures.value) (all_map _ _ (λ n w. (c.requires.height, w)) (children_of c.args.root.now) c.requires.below)
 
 pub returns-clause-nearest : goal.returns-clause-nearest
 returns-clause-nearest g c =
     let p = g.T.Measured.at c.args.point.now in
-    let gives = rw c.in_ok-first.was at c.in-Some.ensures.gives in
-    let at = rw c.in_ok-first.was at c.in-Some.ensures.distance in
-    let after = all_elements (waiting_of c.next_neighbor.new.self) in
-    let whole = fresh-elements c.new-search.result c.args.root.now c.new-search.ensures.stage (ap (λ b. b.now) c.new-search.ensures.root) in
-    let bag = subst (λ l. IsPermutation l (c.in_ok-first.first.now ∷ after)) whole gives.bag in
-    let taken = ap (map (λ t. t.now)) (c.in_ok-push.ensures.items ∙ ap (λ l. l ++ c.in_ok-first.first ∷ []) c.new-all.ensures.items) in
-    let tied = subst (λ l. IsTied (λ t. g.T.Measured.distances.distance_2 t p) (elements_of c.args.root.now) (g.T.Measured.distances.distance_2 c.in_ok-first.first.now p) l after) (sym taken)
-    (tied-first (λ t. g.T.Measured.distances.distance_2 t p) (elements_of c.args.root.now) after c.in_ok-first.first.now bag gives.least) in (
-      g.T.Measured.distances.distance_2 c.in_ok-first.first.now p,
+    let limit = g.T.Distance.SquaredDistance.number c.in-Some.nearest.1 in
+    let near = rw c.in-Some.is at c.in_ok-nearest.ensures.nearest in
+    let at = rw c.in-Some.is at c.in_ok-nearest.ensures.distance in
+    let all = c.in_ok-add_within.ensures
+    ∙ ap (λ l. map (λ t. t.now) l ++ filter (λ t. int_le (pos (g.T.Measured.distances.distance_2 t p)) limit) (all_elements c.deref.result.now)) c.new-all.ensures.items
+    ∙ ap (λ l. filter (λ t. int_le (pos (g.T.Measured.distances.distance_2 t p)) limit) (all_elements l)) c.deref.ensures.value in (
+      g.T.Measured.distances.distance_2 c.in-Some.nearest.0.now p,
       at,
-      c.in_ok-take_ties.ensures (elements_of c.args.root.now) (g.T.Measured.distances.distance_2 c.in_ok-first.first.now p) at tied,
+      nearest-within (λ t. g.T.Measured.distances.distance_2 t p) (elements_of c.args.root.now) (map (λ t. t.now) c.add_within.new.all.items) c.in-Some.nearest.0.now limit near at all,
     )

@@ -1,4 +1,4 @@
-use Rattle.std.proofs.Common.{[], None, true, sym, ◌∙◌, ap, refl, get_or, get_or-set_same}
+use Rattle.std.proofs.Common.{[], None, true, sym, ◌∙◌, ap, refl, get_or, get_or-set_same, rules}
 use Rattle.rstar.specs.declared.node.RTreeNode.{Leaf, Parent}
 use Rattle.rstar.specs.declared.node.RTreeNode.TheVariants.{outs-Parent}
 use Rattle.rstar.specs.inside.Earliest.{earliest}
@@ -15,22 +15,17 @@ take_at-take_leaf-requires-clause-leaf g t c = λ n.
     ap is_a_leaf (read_at c.args.children.now.items c.args.place c.index.result.now n c.requires.within c.index.ensures)
     ∙ sym (leaf_is c.index.result.now) ∙ sym c.is_leaf.ensures ∙ c.if-is_leaf.true
 
-pub take_at-returns-then-is_leaf-clause-takes : goal.take_at-returns-then-is_leaf-clause-takes
-take_at-returns-then-is_leaf-clause-takes g t c =
+pub take_at-returns-then-is_leaf : goal.take_at-returns-then-is_leaf
+take_at-returns-then-is_leaf g t c =
     let accepts = g.R.Question.accepts c.args.func.now in
     let selects = g.R.Question.selects c.args.func.now in
     let here = c.take_leaf.ensures.node in
-    rw c.take_leaf.ensures.items
-    (takes_leaf g.T.Cover.Merges.boxes g.T.Covered.object accepts selects c.args.children.now.items c.args.place c.requires.within c.take_leaf.result here
-    (leaf_selected accepts selects _ c.take_leaf.result (sym here) (c.requires.some (Leaf c.take_leaf.result))))
-
-pub take_at-returns-then-is_leaf-clause-first : goal.take_at-returns-then-is_leaf-clause-first
-take_at-returns-then-is_leaf-clause-first g t c = λ d.
-    let accepts = g.R.Question.accepts c.args.func.now in
-    let selects = g.R.Question.selects c.args.func.now in
-    let here = c.take_leaf.ensures.node in
-    sym (earliest-leaf accepts selects g.met.T.Ord.total (get_or c.args.children.now.items c.args.place d) c.take_leaf.result true (read_at c.args.children.now.items c.args.place (Leaf c.take_leaf.result) d c.requires.within here)
-    (leaf_selected accepts selects _ c.take_leaf.result (sym here) (c.requires.some (Leaf c.take_leaf.result))))
+    let selected = leaf_selected accepts selects _ c.take_leaf.result (sym here) (c.requires.some (Leaf c.take_leaf.result)) in
+    record {
+      takes = rw c.take_leaf.ensures.items (takes_leaf g.T.Cover.Merges.boxes g.T.Covered.object accepts selects c.args.children.now.items c.args.place c.requires.within c.take_leaf.result here selected);
+      first = λ d. sym (earliest-leaf accepts selects g.met.T.Ord.total (get_or c.args.children.now.items c.args.place d) c.take_leaf.result true (read_at c.args.children.now.items c.args.place (Leaf c.take_leaf.result) d c.requires.within here) selected);
+      unchanged = search rules;
+    }
 
 pub take_at-returns-then-is_childless-clause-takes : goal.take_at-returns-then-is_childless-clause-takes
 take_at-returns-then-is_childless-clause-takes g t c =
@@ -44,46 +39,37 @@ take_at-returns-then-is_childless-clause-takes g t c =
     (earliest-some g.T.Ord.cmp (given accepts selects n) c.take_inside-taken.result c.take_inside-taken.ensures.first (λ none. c.requires.some n (ap (given accepts selects) (sym here) ∙ none)))
     (sym (ap is_childless written) ∙ sym c.is_childless.ensures ∙ c.if-is_childless.true))
 
-pub take_at-returns-else-is_childless-clause-takes : goal.take_at-returns-else-is_childless-clause-takes
-take_at-returns-else-is_childless-clause-takes g t c =
+pub take_at-returns-else-is_childless : goal.take_at-returns-else-is_childless
+take_at-returns-else-is_childless g t c =
     let accepts = g.R.Question.accepts c.args.func.now in
     let selects = g.R.Question.selects c.args.func.now in
     let n = c.index_mut.result.now in
     let here = c.index_mut.ensures.value in
     let written = c.index-2.ensures ∙ get_or-set_same _ _ _ _ c.requires.within in
-    takes_below g.T.Cover.Merges.boxes g.T.Covered.object accepts selects c.args.children.now.items c.args.place c.requires.within n c.take_inside-taken.new.child c.take_inside-taken.result here c.take_inside-taken.ensures.takes
-    (earliest-some g.T.Ord.cmp (given accepts selects n) c.take_inside-taken.result c.take_inside-taken.ensures.first (λ none. c.requires.some n (ap (given accepts selects) (sym here) ∙ none)))
-    (sym (ap is_childless written) ∙ sym c.is_childless.ensures ∙ c.if-is_childless.false)
-
-pub take_at-returns-else-is_childless-clause-unchanged : goal.take_at-returns-else-is_childless-clause-unchanged
-take_at-returns-else-is_childless-clause-unchanged g t c = λ told.
-    hull_set g.T.Cover.Merges.boxes (node_box g.T.Covered.object.box_of) c.args.children.now.items c.args.place c.index_mut.result.now c.take_inside-taken.new.child c.requires.within c.index_mut.ensures.value (c.take_inside-taken.ensures.unchanged told)
+    record {
+      takes = takes_below g.T.Cover.Merges.boxes g.T.Covered.object accepts selects c.args.children.now.items c.args.place c.requires.within n c.take_inside-taken.new.child c.take_inside-taken.result here c.take_inside-taken.ensures.takes
+          (earliest-some g.T.Ord.cmp (given accepts selects n) c.take_inside-taken.result c.take_inside-taken.ensures.first (λ none. c.requires.some n (ap (given accepts selects) (sym here) ∙ none)))
+          (sym (ap is_childless written) ∙ sym c.is_childless.ensures ∙ c.if-is_childless.false);
+      first = λ d. rw (read_at c.args.children.now.items c.args.place n d c.requires.within here) c.take_inside-taken.ensures.first;
+      unchanged = λ told. hull_set g.T.Cover.Merges.boxes (node_box g.T.Covered.object.box_of) c.args.children.now.items c.args.place n c.take_inside-taken.new.child c.requires.within here (c.take_inside-taken.ensures.unchanged told);
+    }
 
 pub take_inside-unreachable-requires : goal.take_inside-unreachable-requires
 take_inside-unreachable-requires g t c = no_leaf_here c.args.child.now _ c.in-Leaf.is c.requires.parent
 
-pub take_inside-returns-clause-takes : goal.take_inside-returns-clause-takes
-take_inside-returns-clause-takes g t c =
-    let takes = rw c.in-Parent.parent-is at c.take_earliest.ensures.takes in
-    let kept = rw c.in-Parent.parent-is at c.take_earliest.ensures.kept in
-    let same = rw c.in-Parent.parent-is at c.take_earliest.ensures.same in
-    rw (c.in-Parent.is, outs-Parent c.in-Parent.parent)
-    (entered g.T.Cover.Merges.boxes g.T.Covered.object (g.R.Question.accepts c.args.func.now) (g.R.Question.selects c.args.func.now) c.in-Parent.parent c.take_earliest.new.node [] [] None None c.take_earliest.result
-    takes (λ w h k below at. kept w h k below) same)
-
-pub take_inside-returns-clause-first : goal.take_inside-returns-clause-first
-take_inside-returns-clause-first g t c =
+pub take_inside-returns : goal.take_inside-returns
+take_inside-returns g t c =
     let accepts = g.R.Question.accepts c.args.func.now in
     let selects = g.R.Question.selects c.args.func.now in
-    let first = rw c.in-Parent.parent-is at c.take_earliest.ensures.first in
-    let is = ap (given accepts selects) c.in-Parent.is in
-    first ∙ sym (ap (earliest g.T.Ord.cmp) (is ∙ given_below accepts selects c.in-Parent.parent (λ none. c.requires.some (is ∙ none))))
-
-pub take_inside-returns-clause-unchanged : goal.take_inside-returns-clause-unchanged
-take_inside-returns-clause-unchanged g t c =
-    let unchanged = rw c.in-Parent.parent-is at c.take_earliest.ensures.unchanged in
     let box = g.T.Covered.object.box_of in
-    rw (c.in-Parent.is, outs-Parent c.in-Parent.parent) (λ told. node_box-Parent box c.take_earliest.new.node ∙ unchanged told ∙ sym (node_box-Parent box c.in-Parent.parent))
+    let is = ap (given accepts selects) c.in-Parent.is in
+    let below = rw c.in-Parent.parent-is at c.take_earliest.ensures in
+    record {
+      takes = rw (c.in-Parent.is, outs-Parent c.in-Parent.parent)
+          (entered g.T.Cover.Merges.boxes g.T.Covered.object accepts selects c.in-Parent.parent c.take_earliest.new.node [] [] None None c.take_earliest.result below.takes (λ w h k inside at. below.kept w h k inside) below.same);
+      first = below.first ∙ sym (ap (earliest g.T.Ord.cmp) (is ∙ given_below accepts selects c.in-Parent.parent (λ none. c.requires.some (is ∙ none))));
+      unchanged = rw (c.in-Parent.is, outs-Parent c.in-Parent.parent) (λ told. node_box-Parent box c.take_earliest.new.node ∙ below.unchanged told ∙ sym (node_box-Parent box c.in-Parent.parent));
+    }
 
 pub take_earliest-returns-in-None-clause-takes : goal.take_earliest-returns-in-None-clause-takes
 take_earliest-returns-in-None-clause-takes g t c =
@@ -92,33 +78,29 @@ take_earliest-returns-in-None-clause-takes g t c =
     takes_nothing g.T.Cover.Merges.boxes g.T.Covered.object accepts selects g.met.T.Cover.Merges.merge_laws g.met.T.Covered.cover_law c.args.node.now.children.items
     (sym (ap (all_given accepts selects) c.as_slice.ensures.value) ∙ c.in-None.ensures)
 
-pub take_earliest-returns-then-changed-clause-first : goal.take_earliest-returns-then-changed-clause-first
-take_earliest-returns-then-changed-clause-first g t c =
-    (earliest-there (g.R.Question.accepts c.args.func.now) (g.R.Question.selects c.args.func.now) g.met.T.Ord.total c.args.node.now.children.items c.as_slice.result.now c.in-Some.found.0 c.in-Some.found.1.now c.take_at-taken.result (Parent c.args.node.now)
-    c.as_slice.ensures.value c.in-Some.ensures (c.take_at-taken.ensures.first (Parent c.args.node.now))).0
-
-pub take_earliest-returns-then-changed-clause-kept : goal.take_earliest-returns-then-changed-clause-kept
-take_earliest-returns-then-changed-clause-kept g t c w h kept below =
+pub take_earliest-returns-then-changed : goal.take_earliest-returns-then-changed
+take_earliest-returns-then-changed g t c =
     let takes = c.take_at-taken.ensures.takes in
     let made = rw c.deref.ensures.value at c.envelope_for_children-merged.ensures.hull in
-    kept_anew g.met.T.Cover.Merges.merge_laws g.met.T.Covered.cover_law w h c.args.node.now _ kept (takes.whole w h below tt) takes.shorter made
+    let there = earliest-there (g.R.Question.accepts c.args.func.now) (g.R.Question.selects c.args.func.now) g.met.T.Ord.total c.args.node.now.children.items c.as_slice.result.now c.in-Some.found.0 c.in-Some.found.1.now c.take_at-taken.result (Parent c.args.node.now)
+    c.as_slice.ensures.value c.in-Some.ensures (c.take_at-taken.ensures.first (Parent c.args.node.now)) in
+    record {
+      takes = takes;
+      first = there.0;
+      kept = λ w h kept below. kept_anew g.met.T.Cover.Merges.merge_laws g.met.T.Covered.cover_law w h c.args.node.now _ kept (takes.whole w h below tt) takes.shorter made;
+      same = some_one _ c.take_at-taken.result there.1;
+      unchanged = search rules;
+    }
 
-pub take_earliest-returns-then-changed-clause-same : goal.take_earliest-returns-then-changed-clause-same
-take_earliest-returns-then-changed-clause-same g t c =
-    some_one _ c.take_at-taken.result (earliest-there (g.R.Question.accepts c.args.func.now) (g.R.Question.selects c.args.func.now) g.met.T.Ord.total c.args.node.now.children.items c.as_slice.result.now c.in-Some.found.0 c.in-Some.found.1.now c.take_at-taken.result (Parent c.args.node.now)
-    c.as_slice.ensures.value c.in-Some.ensures (c.take_at-taken.ensures.first (Parent c.args.node.now))).1
-
-pub take_earliest-returns-else-changed-clause-first : goal.take_earliest-returns-else-changed-clause-first
-take_earliest-returns-else-changed-clause-first g t c =
-    (earliest-there (g.R.Question.accepts c.args.func.now) (g.R.Question.selects c.args.func.now) g.met.T.Ord.total c.args.node.now.children.items c.as_slice.result.now c.in-Some.found.0 c.in-Some.found.1.now c.take_at-taken.result (Parent c.args.node.now)
-    c.as_slice.ensures.value c.in-Some.ensures (c.take_at-taken.ensures.first (Parent c.args.node.now))).0
-
-pub take_earliest-returns-else-changed-clause-kept : goal.take_earliest-returns-else-changed-clause-kept
-take_earliest-returns-else-changed-clause-kept g t c w h kept below =
+pub take_earliest-returns-else-changed : goal.take_earliest-returns-else-changed
+take_earliest-returns-else-changed g t c =
     let takes = c.take_at-taken.ensures.takes in
-    kept_still g.met.T.Cover.Merges.merge_laws g.met.T.Covered.cover_law w h c.args.node.now _ kept below (takes.whole w h below tt) takes.shorter refl (c.take_at-taken.ensures.unchanged c.if-changed.false)
-
-pub take_earliest-returns-else-changed-clause-same : goal.take_earliest-returns-else-changed-clause-same
-take_earliest-returns-else-changed-clause-same g t c =
-    some_one _ c.take_at-taken.result (earliest-there (g.R.Question.accepts c.args.func.now) (g.R.Question.selects c.args.func.now) g.met.T.Ord.total c.args.node.now.children.items c.as_slice.result.now c.in-Some.found.0 c.in-Some.found.1.now c.take_at-taken.result (Parent c.args.node.now)
-    c.as_slice.ensures.value c.in-Some.ensures (c.take_at-taken.ensures.first (Parent c.args.node.now))).1
+    let there = earliest-there (g.R.Question.accepts c.args.func.now) (g.R.Question.selects c.args.func.now) g.met.T.Ord.total c.args.node.now.children.items c.as_slice.result.now c.in-Some.found.0 c.in-Some.found.1.now c.take_at-taken.result (Parent c.args.node.now)
+    c.as_slice.ensures.value c.in-Some.ensures (c.take_at-taken.ensures.first (Parent c.args.node.now)) in
+    record {
+      takes = takes;
+      first = there.0;
+      kept = λ w h kept below. kept_still g.met.T.Cover.Merges.merge_laws g.met.T.Covered.cover_law w h c.args.node.now _ kept below (takes.whole w h below tt) takes.shorter refl (c.take_at-taken.ensures.unchanged c.if-changed.false);
+      same = some_one _ c.take_at-taken.result there.1;
+      unchanged = λ _. refl;
+    }

@@ -2,17 +2,21 @@ use Rattle.std.proofs.Common.{◌≡◌, ◌<◌, ◌≤◌, ℕ, ◌-◌, ◌+�
 use Rattle.rstar.specs.declared.node.RTreeNode.{Leaf, Parent}
 use Rattle.rstar.specs.declared.node.RTreeNode.TheVariants.{outs-Parent}
 use Rattle.rstar.specs.Nodes.{IsElement}
-use Rattle.rstar.specs.inside.ParentBounds.{HasMergedBox, IsKeptInner, as_node, has_room, all_roomy}
+use Rattle.rstar.specs.inside.ParentBounds.{HasMergedBox, IsKeptInner}
 use Rattle.rstar.proofs.inserting.Insertion.{leaf_added, hull_grown, added, child_grown, child_at, tree_at, sized_leaf, sized_parts, sized_child, no_leaf_above, room_same, child_roomy, lowest_roomy, parted_roomy}
 use Rattle.rstar.proofs.inserting.Reserves.{ready_for, ready_again, spends_both, spends_as}
 use Rattle.rstar.proofs.algorithm.rstar.insertion.+insert.Goals as goal
 
 -- ---- below a node
 
-pub insert_below-add_child-requires-clause-covered : goal.insert_below-add_child-requires-clause-covered
-insert_below-add_child-requires-clause-covered g t c =
+pub insert_below-add_child-requires : goal.insert_below-add_child-requires
+insert_below-add_child-requires g t c =
     let grown = leaf_added g.met.T.Cover.Merges.merge_laws g.met.T.Covered.cover_law c.args.reserve.now.widest c.args.levels c.args.t c.args.node.now.children.items c.if-levels-eq0.true (c.envelope-envelope.ensures.own, c.requires.element) c.requires.below in
-    (hull_grown g.met.T.Cover.Merges.merge_laws g.met.T.Covered.cover_law c.args.reserve.now.widest c.args.levels c.args.t c.args.node.now.children.items (c.args.node.now.children.items ++ Leaf c.args.t ∷ []) c.args.node.now.envelope c.merge.new.self c.requires.below c.requires.node.tight c.envelope-envelope.ensures.own (c.merge.ensures.merged ∙ ap (g.T.Cover.Merges.boxes.merge c.args.node.now.envelope) c.envelope-envelope.ensures.value) grown.0 grown.1).1
+    record {
+      covered = (hull_grown g.met.T.Cover.Merges.merge_laws g.met.T.Covered.cover_law c.args.reserve.now.widest c.args.levels c.args.t c.args.node.now.children.items (c.args.node.now.children.items ++ Leaf c.args.t ∷ []) c.args.node.now.envelope c.merge.new.self c.requires.below c.requires.node.tight c.envelope-envelope.ensures.own (c.merge.ensures.merged ∙ ap (g.T.Cover.Merges.boxes.merge c.args.node.now.envelope) c.envelope-envelope.ensures.value) grown.0 grown.1).1;
+      narrow = c.requires.node.narrow;
+      ready = ready_for _ _ _ c.args.reserve.now c.requires.ready (omega (arith, c.requires.ready.enough));
+    }
 
 pub insert_below-returns-then-levels-eq0 : goal.insert_below-returns-then-levels-eq0
 insert_below-returns-then-levels-eq0 g t c =
@@ -31,23 +35,45 @@ insert_below-returns-then-levels-eq0 g t c =
       used = omega (arith, c.add_child.ensures.used);
     }
 
-pub insert_below-returns-in-None-clause-first : goal.insert_below-returns-in-None-clause-first
-insert_below-returns-in-None-clause-first g t c =
+pub insert_below-returns-in-None : goal.insert_below-returns-in-None
+insert_below-returns-in-None g t c =
     let below = rw append-nil at c.in-None.ensures.below in
     let hull = hull_grown g.met.T.Cover.Merges.merge_laws g.met.T.Covered.cover_law c.args.reserve.now.widest c.args.levels c.args.t c.args.node.now.children.items c.insert_in_child.new.children.items c.args.node.now.envelope c.merge.new.self c.requires.below c.requires.node.tight c.envelope-envelope.ensures.own (c.merge.ensures.merged ∙ ap (g.T.Cover.Merges.boxes.merge c.args.node.now.envelope) c.envelope-envelope.ensures.value) (rw append-nil at c.in-None.ensures.bag) below in
     let few = c.requires.node.narrow in
     let length = c.in-None.ensures.length in
-    let some = c.requires.some (omega arith) in (
-      (
-        record { tight = hull.0; narrow = omega (arith, c.insert_in_child.new.children.ok.0, c.args.node.now.children.ok.0) },
-        omega (arith, c.insert_in_child.new.children.ok.0),
-      ),
-      below,
-    )
+    let some = c.requires.some (omega arith) in
+    record {
+      bag = c.in-None.ensures.bag;
+      first = (
+        (
+          record { tight = hull.0; narrow = omega (arith, c.insert_in_child.new.children.ok.0, c.args.node.now.children.ok.0) },
+          omega (arith, c.insert_in_child.new.children.ok.0),
+        ),
+        below,
+      );
+      second = tt;
+      sized = λ sized. record {
+        below = rw append-nil at (c.in-None.ensures.sized sized.0);
+        most = omega (arith, c.in-None.ensures.length, c.insert_in_child.new.children.ok.0);
+        still_least = λ k. omega (arith, c.in-None.ensures.length, c.insert_in_child.new.children.ok.0);
+        cut_least = tt;
+        second_sized = tt;
+      };
+      spends = spends_as _ _ _ _ c.args.reserve.now c.insert_in_child.new.reserve
+          (λ n few. let held = room_same n c.insert_in_child.new.children c.args.node.now.children c.in-None.ensures.capacity in rw append-nil (omega (arith, held)))
+          c.in-None.ensures.spends;
+      used = omega (arith, c.in-None.ensures.used);
+    }
 
-pub insert_below-add_child-requires-in-Some-clause-covered : goal.insert_below-add_child-requires-in-Some-clause-covered
-insert_below-add_child-requires-in-Some-clause-covered g t c =
-    (hull_grown g.met.T.Cover.Merges.merge_laws g.met.T.Covered.cover_law c.args.reserve.now.widest c.args.levels c.args.t c.args.node.now.children.items (c.insert_in_child.new.children.items ++ Parent c.in-Some.second ∷ []) c.args.node.now.envelope c.merge.new.self c.requires.below c.requires.node.tight c.envelope-envelope.ensures.own (c.merge.ensures.merged ∙ ap (g.T.Cover.Merges.boxes.merge c.args.node.now.envelope) c.envelope-envelope.ensures.value) c.in-Some.ensures.bag c.in-Some.ensures.below).1
+pub insert_below-add_child-requires-in-Some : goal.insert_below-add_child-requires-in-Some
+insert_below-add_child-requires-in-Some g t c =
+    let few = c.requires.node.narrow in
+    let same = c.in-Some.ensures.spends.widest in
+    record {
+      covered = (hull_grown g.met.T.Cover.Merges.merge_laws g.met.T.Covered.cover_law c.args.reserve.now.widest c.args.levels c.args.t c.args.node.now.children.items (c.insert_in_child.new.children.items ++ Parent c.in-Some.second ∷ []) c.args.node.now.envelope c.merge.new.self c.requires.below c.requires.node.tight c.envelope-envelope.ensures.own (c.merge.ensures.merged ∙ ap (g.T.Cover.Merges.boxes.merge c.args.node.now.envelope) c.envelope-envelope.ensures.value) c.in-Some.ensures.bag c.in-Some.ensures.below).1;
+      narrow = omega (arith, few, same, c.in-Some.ensures.length, c.insert_in_child.new.children.ok.0, c.args.node.now.children.ok.0);
+      ready = ready_again _ _ _ _ _ c.args.reserve.now c.insert_in_child.new.reserve c.requires.ready c.in-Some.ensures.spends (omega (arith, c.requires.ready.enough, c.in-Some.ensures.used));
+    }
 
 pub insert_below-returns : goal.insert_below-returns
 insert_below-returns g t c =
@@ -71,22 +97,6 @@ insert_below-returns g t c =
     }
 
 -- ---- in a child
-
-pub insert_below-returns-in-None-clause-sized : goal.insert_below-returns-in-None-clause-sized
-insert_below-returns-in-None-clause-sized g t c =
-    λ sized. record {
-      below = rw append-nil at (c.in-None.ensures.sized sized.0);
-      most = omega (arith, c.in-None.ensures.length, c.insert_in_child.new.children.ok.0);
-      still_least = λ k. omega (arith, c.in-None.ensures.length, c.insert_in_child.new.children.ok.0);
-      cut_least = tt;
-      second_sized = tt;
-    }
-
-pub insert_below-returns-in-None-clause-spends : goal.insert_below-returns-in-None-clause-spends
-insert_below-returns-in-None-clause-spends g t c =
-    spends_as _ _ _ _ c.args.reserve.now c.insert_in_child.new.reserve
-    (λ n few. let held = room_same n c.insert_in_child.new.children c.args.node.now.children c.in-None.ensures.capacity in rw append-nil (omega (arith, held)))
-    c.in-None.ensures.spends
 
 pub insert_in_child-insert_below-requires : goal.insert_in_child-insert_below-requires
 insert_in_child-insert_below-requires g t c κs within =
@@ -117,31 +127,6 @@ insert_in_child-returns g t c =
     }
 
 -- ---- what stands there already
-
-pub insert_below-add_child-requires-clause-narrow : goal.insert_below-add_child-requires-clause-narrow
-insert_below-add_child-requires-clause-narrow g t c = c.requires.node.narrow
-
-pub insert_below-add_child-requires-clause-ready : goal.insert_below-add_child-requires-clause-ready
-insert_below-add_child-requires-clause-ready g t c = ready_for _ _ _ c.args.reserve.now c.requires.ready (omega (arith, c.requires.ready.enough))
-
-pub insert_below-returns-in-None-clause-bag : goal.insert_below-returns-in-None-clause-bag
-insert_below-returns-in-None-clause-bag g t c = c.in-None.ensures.bag
-
-pub insert_below-returns-in-None-clause-second : goal.insert_below-returns-in-None-clause-second
-insert_below-returns-in-None-clause-second g t c = tt
-
-pub insert_below-returns-in-None-clause-used : goal.insert_below-returns-in-None-clause-used
-insert_below-returns-in-None-clause-used g t c = omega (arith, c.in-None.ensures.used)
-
-pub insert_below-add_child-requires-in-Some-clause-narrow : goal.insert_below-add_child-requires-in-Some-clause-narrow
-insert_below-add_child-requires-in-Some-clause-narrow g t c =
-    let few = c.requires.node.narrow in
-    let same = c.in-Some.ensures.spends.widest in
-    omega (arith, few, same, c.in-Some.ensures.length, c.insert_in_child.new.children.ok.0, c.args.node.now.children.ok.0)
-
-pub insert_below-add_child-requires-in-Some-clause-ready : goal.insert_below-add_child-requires-in-Some-clause-ready
-insert_below-add_child-requires-in-Some-clause-ready g t c =
-    ready_again _ _ _ _ _ c.args.reserve.now c.insert_in_child.new.reserve c.requires.ready c.in-Some.ensures.spends (omega (arith, c.requires.ready.enough, c.in-Some.ensures.used))
 
 pub insert_in_child-index_mut-requires : goal.insert_in_child-index_mut-requires
 insert_in_child-index_mut-requires g t c = c.requires.index

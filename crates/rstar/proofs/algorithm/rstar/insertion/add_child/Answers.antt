@@ -19,6 +19,10 @@ returns-then-len-MAX_SIZE-clause-first g c = record {
   narrow = omega (arith, c.push_reserved.ensures.len, c.take_place.ensures.length, c.push_reserved.new.self.ok.0, c.requires.ready.wide);
 }
 
+pub returns-then-len-MAX_SIZE-clause-spends : goal.returns-then-len-MAX_SIZE-clause-spends
+returns-then-len-MAX_SIZE-clause-spends g c =
+    spends_as _ _ _ _ c.args.reserve.now c.take_place.new.reserve (λ n few. let held = room_same n c.push_reserved.new.self c.take_place.new.list c.push_reserved.ensures.capacity in omega (arith, held)) c.take_place.ensures.spends
+
 pub move_all-requires-clause-room : goal.move_all-requires-clause-room
 move_all-requires-clause-room g c = omega (arith, c.requires.narrow, c.requires.ready.overfull.1, c.args.node.now.children.ok.0)
 
@@ -37,63 +41,48 @@ pub move_all-requires-2-clause-room : goal.move_all-requires-2-clause-room
 move_all-requires-2-clause-room g c =
     omega (arith, c.split_in_place.ensures.lengths, c.split_in_place.ensures.second, c.move_all.ensures.length, c.push_reserved-2.ensures.len, c.move_all.ensures.capacity, c.args.node.now.children.ok, g.Params.RTreeParams.min_positive)
 
-pub returns-clause-same : goal.returns-clause-same
-returns-clause-same g c =
-    rw (← c.move_all.ensures.moved, ← c.push_reserved-2.ensures.items, c.move_all-2.ensures.moved) c.split_in_place.ensures.same
-
-pub returns-clause-first : goal.returns-clause-first
-returns-clause-first g c =
+pub returns : goal.returns
+returns g c =
+    let spare = last_spare _ _ c.args.reserve.now c.take_last-second.new.self.items c.take_last-second.result c.requires.ready c.take_last-second.ensures.items in
     let positive = g.Params.RTreeParams.min_positive in
-    let long = c.split_in_place.ensures.first in
     let all = c.split_in_place.ensures.lengths in
-    let least = c.split_in_place.ensures.second in
+    let firsts = c.split_in_place.ensures.first in
+    let seconds = c.split_in_place.ensures.second in
     let moved = c.move_all-2.ensures.length in
     let over = c.move_all.ensures.length in
-    let one = c.push_reserved-2.ensures.len in
-    record {
-      merged = rw (← c.deref.ensures.value) c.envelope_for_children.ensures.hull;
-      some = omega (arith, positive, long, moved, c.move_all-2.new.empty.ok.0);
-      narrow = omega (arith, positive, all, least, moved, over, one, c.requires.narrow, c.args.node.now.children.ok.0, c.move_all-2.new.empty.ok.0);
-    }
-
-pub returns-clause-second : goal.returns-clause-second
-returns-clause-second g c =
-    let spare = (last_spare _ _ c.args.reserve.now c.take_last-second.new.self.items c.take_last-second.result c.requires.ready c.take_last-second.ensures.items).1 in
-    let positive = g.Params.RTreeParams.min_positive in
-    let all = c.split_in_place.ensures.lengths in
-    let least = c.split_in_place.ensures.first in
-    let long = c.split_in_place.ensures.second in
-    let over = c.move_all.ensures.length in
-    let one = c.push_reserved-2.ensures.len in
-    record {
-      merged = rw (← c.deref-2.ensures.value) c.envelope_for_children-envelope.ensures.hull;
-      some = omega (arith, positive, long, c.split_in_place.new.spare.ok.0);
-      narrow = omega (arith, positive, all, least, over, one, c.requires.narrow, c.args.node.now.children.ok.0, c.split_in_place.new.spare.ok.0);
-    }
-
-pub returns-then-len-MAX_SIZE-clause-spends : goal.returns-then-len-MAX_SIZE-clause-spends
-returns-then-len-MAX_SIZE-clause-spends g c =
-    spends_as _ _ _ _ c.args.reserve.now c.take_place.new.reserve (λ n few. let held = room_same n c.push_reserved.new.self c.take_place.new.list c.push_reserved.ensures.capacity in omega (arith, held)) c.take_place.ensures.spends
-
-pub returns-clause-spends : goal.returns-clause-spends
-returns-clause-spends g c =
+    let added = c.push_reserved-2.ensures.len in
     let more = room_more c.args.reserve.now.widest c.args.node.now.children c.move_all-2.new.empty (omega (arith, c.move_all.ensures.capacity, c.move_all-2.ensures.empty_capacity)) in
     let one = room_one 0 c.args.node.now.children (omega arith) in
     let other = room_one 0 c.move_all-2.new.empty (omega arith) in
     record {
-      widest = refl;
-      spares = (last_spare _ _ c.args.reserve.now c.take_last-second.new.self.items c.take_last-second.result c.requires.ready c.take_last-second.ensures.items).0;
-      fewer = omega (arith, c.take_last-second.ensures.len);
-      places = c.take_last-second.ensures.capacity;
-      overfull = (
-        c.move_all-2.ensures.left,
-        omega (arith, c.requires.ready.overfull.1, c.move_all.ensures.empty_capacity, c.push_reserved-2.ensures.capacity, c.split_in_place.ensures.first_capacity, c.move_all-2.ensures.capacity),
-      );
-      room = omega (arith, more, c.take_last-second.ensures.len);
-      made = omega (arith, one, other, c.take_last-second.ensures.len);
+      same = rw (← c.move_all.ensures.moved, ← c.push_reserved-2.ensures.items, c.move_all-2.ensures.moved) c.split_in_place.ensures.same;
+      first = record {
+        merged = rw (← c.deref.ensures.value) c.envelope_for_children.ensures.hull;
+        some = omega (arith, positive, firsts, moved, c.move_all-2.new.empty.ok.0);
+        narrow = omega (arith, positive, all, seconds, moved, over, added, c.requires.narrow, c.args.node.now.children.ok.0, c.move_all-2.new.empty.ok.0);
+      };
+      second = record {
+        merged = rw (← c.deref-2.ensures.value) c.envelope_for_children-envelope.ensures.hull;
+        some = omega (arith, positive, seconds, c.split_in_place.new.spare.ok.0);
+        narrow = omega (arith, positive, all, firsts, over, added, c.requires.narrow, c.args.node.now.children.ok.0, c.split_in_place.new.spare.ok.0);
+      };
+      whole = tt;
+      low = tt;
+      first_least = omega (arith, firsts, moved, c.move_all-2.new.empty.ok.0);
+      second_least = omega (arith, seconds, c.split_in_place.new.spare.ok.0);
+      lengths = omega (arith, all, moved, over, added, c.args.node.now.children.ok.0, c.move_all-2.new.empty.ok.0, c.split_in_place.new.spare.ok.0);
+      spends = record {
+        widest = refl;
+        spares = spare.0;
+        fewer = omega (arith, c.take_last-second.ensures.len);
+        places = c.take_last-second.ensures.capacity;
+        overfull = (
+          c.move_all-2.ensures.left,
+          omega (arith, c.requires.ready.overfull.1, c.move_all.ensures.empty_capacity, c.push_reserved-2.ensures.capacity, c.split_in_place.ensures.first_capacity, c.move_all-2.ensures.capacity),
+        );
+        room = omega (arith, more, c.take_last-second.ensures.len);
+        made = omega (arith, one, other, c.take_last-second.ensures.len);
+      };
+      used = omega (arith, c.take_last-second.ensures.len);
+      second_room = omega (arith, spare.1.1, c.split_in_place.ensures.second_capacity);
     }
-
-pub returns-clause-second_room : goal.returns-clause-second_room
-returns-clause-second_room g c =
-    let spare = (last_spare _ _ c.args.reserve.now c.take_last-second.new.self.items c.take_last-second.result c.requires.ready c.take_last-second.ensures.items).1 in
-    omega (arith, spare.1, c.split_in_place.ensures.second_capacity)

@@ -18,10 +18,17 @@ parents_above before after a b lists h = omega arith
 
 -- ---- below a node
 
-pub insert_first-add_leaf-requires-clause-covered : goal.insert_first-add_leaf-requires-clause-covered
-insert_first-add_leaf-requires-clause-covered g t c =
+pub insert_first-add_leaf-requires : goal.insert_first-add_leaf-requires
+insert_first-add_leaf-requires g t c =
     let grown = leaf_added g.met.T.Cover.Merges.merge_laws g.met.T.Covered.cover_law c.args.widest c.args.levels c.args.t c.args.node.now.children.items c.if-levels-eq0.true (c.envelope-envelope.ensures.own, c.requires.element) c.requires.below in
-    (hull_grown g.met.T.Cover.Merges.merge_laws g.met.T.Covered.cover_law c.args.widest c.args.levels c.args.t c.args.node.now.children.items _ c.args.node.now.envelope c.merge.new.self c.requires.below c.requires.node.tight c.envelope-envelope.ensures.own (c.merge.ensures.merged ∙ ap (g.T.Cover.Merges.boxes.merge c.args.node.now.envelope) c.envelope-envelope.ensures.value) grown.0 grown.1).1
+    record {
+      covered = (hull_grown g.met.T.Cover.Merges.merge_laws g.met.T.Covered.cover_law c.args.widest c.args.levels c.args.t c.args.node.now.children.items _ c.args.node.now.envelope c.merge.new.self c.requires.below c.requires.node.tight c.envelope-envelope.ensures.own (c.merge.ensures.merged ∙ ap (g.T.Cover.Merges.boxes.merge c.args.node.now.envelope) c.envelope-envelope.ensures.value) grown.0 grown.1).1;
+      narrow = c.requires.node.narrow;
+      wide = c.requires.wide;
+      reinserts = c.requires.reinserts;
+      spare = c.requires.spare;
+      overfull = c.requires.overfull;
+    }
 
 pub insert_first-returns-then-levels-eq0 : goal.insert_first-returns-then-levels-eq0
 insert_first-returns-then-levels-eq0 g t c =
@@ -45,17 +52,28 @@ insert_first-returns-then-levels-eq0 g t c =
           omega (arith, none, none', one, other);
     }
 
-pub insert_first-returns-then-not-is_empty-clause-kept : goal.insert_first-returns-then-not-is_empty-clause-kept
-insert_first-returns-then-not-is_empty-clause-kept g t c =
+pub insert_first-returns-then-not-is_empty : goal.insert_first-returns-then-not-is_empty
+insert_first-returns-then-not-is_empty g t c =
     let few = c.requires.node.narrow in
     let length = c.insert_first_in_child.ensures.length in
     let some = c.requires.some (omega arith) in
     let is = rw c.deref-then-not-is_empty.ensures.value at c.envelope_for_children.ensures.hull in
     let tight = made_anew g.met.T.Cover.Merges.merge_laws g.met.T.Covered.cover_law c.args.widest c.args.levels c.insert_first_in_child.new.children.items c.envelope_for_children.result c.insert_first_in_child.ensures.below is in
-    ((record { tight = tight; narrow = omega (arith, c.insert_first_in_child.new.children.ok.0, c.args.node.now.children.ok.0) }, omega (arith, c.insert_first_in_child.new.children.ok.0)), c.insert_first_in_child.ensures.below)
+    let held = room_same c.args.widest c.insert_first_in_child.new.children c.args.node.now.children c.insert_first_in_child.ensures.capacity in
+    let one = room_one 0 c.insert_first_in_child.new.children (omega arith) in let other = room_one 0 c.args.node.now.children (omega arith) in
+    record {
+      bag = c.insert_first_in_child.ensures.bag;
+      kept = ((record { tight = tight; narrow = omega (arith, c.insert_first_in_child.new.children.ok.0, c.args.node.now.children.ok.0) }, omega (arith, c.insert_first_in_child.new.children.ok.0)), c.insert_first_in_child.ensures.below);
+      leaves = c.insert_first_in_child.ensures.leaves;
+      count = c.insert_first_in_child.ensures.count;
+      sized = search rules;
+      overfull = c.insert_first_in_child.ensures.overfull;
+      room = omega (arith, held, c.insert_first_in_child.ensures.room);
+      parents = omega (arith, one, other, c.insert_first_in_child.ensures.parents);
+    }
 
-pub insert_first-returns-clause-kept : goal.insert_first-returns-clause-kept
-insert_first-returns-clause-kept g t c =
+pub insert_first-returns : goal.insert_first-returns
+insert_first-returns g t c =
     let few = c.requires.node.narrow in
     let length = c.insert_first_in_child.ensures.length in
     let some = c.requires.some (omega arith) in
@@ -63,7 +81,18 @@ insert_first-returns-clause-kept g t c =
     let none = nil_from_length c.insert_first_in_child.new.handed.items (omega (arith, zero, c.insert_first_in_child.new.handed.ok.0)) in
     let bag = rw (none, append-nil) at c.insert_first_in_child.ensures.bag in
     let tight = (hull_grown g.met.T.Cover.Merges.merge_laws g.met.T.Covered.cover_law c.args.widest c.args.levels c.args.t c.args.node.now.children.items c.insert_first_in_child.new.children.items c.args.node.now.envelope c.merge.new.self c.requires.below c.requires.node.tight c.envelope-envelope.ensures.own (c.merge.ensures.merged ∙ ap (g.T.Cover.Merges.boxes.merge c.args.node.now.envelope) c.envelope-envelope.ensures.value) bag c.insert_first_in_child.ensures.below).0 in
-    ((record { tight = tight; narrow = omega (arith, c.insert_first_in_child.new.children.ok.0, c.args.node.now.children.ok.0) }, omega (arith, c.insert_first_in_child.new.children.ok.0)), c.insert_first_in_child.ensures.below)
+    let held = room_same c.args.widest c.insert_first_in_child.new.children c.args.node.now.children c.insert_first_in_child.ensures.capacity in
+    let one = room_one 0 c.insert_first_in_child.new.children (omega arith) in let other = room_one 0 c.args.node.now.children (omega arith) in
+    record {
+      bag = c.insert_first_in_child.ensures.bag;
+      kept = ((record { tight = tight; narrow = omega (arith, c.insert_first_in_child.new.children.ok.0, c.args.node.now.children.ok.0) }, omega (arith, c.insert_first_in_child.new.children.ok.0)), c.insert_first_in_child.ensures.below);
+      leaves = c.insert_first_in_child.ensures.leaves;
+      count = c.insert_first_in_child.ensures.count;
+      sized = search rules;
+      overfull = c.insert_first_in_child.ensures.overfull;
+      room = omega (arith, held, c.insert_first_in_child.ensures.room);
+      parents = omega (arith, one, other, c.insert_first_in_child.ensures.parents);
+    }
 
 -- ---- in a child
 
@@ -95,67 +124,6 @@ insert_first_in_child-returns g t c =
     }
 
 -- ---- what stands there already
-
-pub insert_first-add_leaf-requires-clause-narrow : goal.insert_first-add_leaf-requires-clause-narrow
-insert_first-add_leaf-requires-clause-narrow g t c = c.requires.node.narrow
-
-pub insert_first-add_leaf-requires-clause-wide : goal.insert_first-add_leaf-requires-clause-wide
-insert_first-add_leaf-requires-clause-wide g t c = c.requires.wide
-
-pub insert_first-add_leaf-requires-clause-reinserts : goal.insert_first-add_leaf-requires-clause-reinserts
-insert_first-add_leaf-requires-clause-reinserts g t c = c.requires.reinserts
-
-pub insert_first-add_leaf-requires-clause-spare : goal.insert_first-add_leaf-requires-clause-spare
-insert_first-add_leaf-requires-clause-spare g t c = c.requires.spare
-
-pub insert_first-add_leaf-requires-clause-overfull : goal.insert_first-add_leaf-requires-clause-overfull
-insert_first-add_leaf-requires-clause-overfull g t c = c.requires.overfull
-
-pub insert_first-returns-then-not-is_empty-clause-overfull : goal.insert_first-returns-then-not-is_empty-clause-overfull
-insert_first-returns-then-not-is_empty-clause-overfull g t c = c.insert_first_in_child.ensures.overfull
-
-pub insert_first-returns-clause-overfull : goal.insert_first-returns-clause-overfull
-insert_first-returns-clause-overfull g t c = c.insert_first_in_child.ensures.overfull
-
-pub insert_first-returns-then-not-is_empty-clause-bag : goal.insert_first-returns-then-not-is_empty-clause-bag
-insert_first-returns-then-not-is_empty-clause-bag g t c = c.insert_first_in_child.ensures.bag
-
-pub insert_first-returns-then-not-is_empty-clause-leaves : goal.insert_first-returns-then-not-is_empty-clause-leaves
-insert_first-returns-then-not-is_empty-clause-leaves g t c = c.insert_first_in_child.ensures.leaves
-
-pub insert_first-returns-then-not-is_empty-clause-count : goal.insert_first-returns-then-not-is_empty-clause-count
-insert_first-returns-then-not-is_empty-clause-count g t c = c.insert_first_in_child.ensures.count
-
-pub insert_first-returns-then-not-is_empty-clause-room : goal.insert_first-returns-then-not-is_empty-clause-room
-insert_first-returns-then-not-is_empty-clause-room g t c =
-    let held = room_same c.args.widest c.insert_first_in_child.new.children c.args.node.now.children c.insert_first_in_child.ensures.capacity in
-    omega (arith, held, c.insert_first_in_child.ensures.room)
-
-pub insert_first-returns-clause-bag : goal.insert_first-returns-clause-bag
-insert_first-returns-clause-bag g t c = c.insert_first_in_child.ensures.bag
-
-pub insert_first-returns-clause-leaves : goal.insert_first-returns-clause-leaves
-insert_first-returns-clause-leaves g t c = c.insert_first_in_child.ensures.leaves
-
-pub insert_first-returns-clause-count : goal.insert_first-returns-clause-count
-insert_first-returns-clause-count g t c = c.insert_first_in_child.ensures.count
-
-pub insert_first-returns-clause-room : goal.insert_first-returns-clause-room
-insert_first-returns-clause-room g t c =
-    let held = room_same c.args.widest c.insert_first_in_child.new.children c.args.node.now.children c.insert_first_in_child.ensures.capacity in
-    omega (arith, held, c.insert_first_in_child.ensures.room)
-
-pub insert_first-returns-then-not-is_empty-clause-parents : goal.insert_first-returns-then-not-is_empty-clause-parents
-insert_first-returns-then-not-is_empty-clause-parents g t c =
-    let one = room_one 0 c.insert_first_in_child.new.children (omega arith) in
-    let other = room_one 0 c.args.node.now.children (omega arith) in
-    omega (arith, one, other, c.insert_first_in_child.ensures.parents)
-
-pub insert_first-returns-clause-parents : goal.insert_first-returns-clause-parents
-insert_first-returns-clause-parents g t c =
-    let one = room_one 0 c.insert_first_in_child.new.children (omega arith) in
-    let other = room_one 0 c.args.node.now.children (omega arith) in
-    omega (arith, one, other, c.insert_first_in_child.ensures.parents)
 
 pub insert_first_in_child-index_mut-requires : goal.insert_first_in_child-index_mut-requires
 insert_first_in_child-index_mut-requires g t c = c.requires.index

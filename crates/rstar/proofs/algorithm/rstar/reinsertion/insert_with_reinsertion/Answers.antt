@@ -33,26 +33,8 @@ push_reserved-requires g c =
     let places = c.insert_again-grown.ensures.spends.places in
     omega (arith, popped, same, fewer, places, c.args.reserve.now.spares.ok)
 
-pub returns-then-reserve-capacity-clause-bag : goal.returns-then-reserve-capacity-clause-bag
-returns-then-reserve-capacity-clause-bag g c = IsPermutation-trans _ _ _ c.insert_first.ensures.bag c.insert_again-grown.ensures.bag
-
-pub returns-else-reserve-capacity-clause-bag : goal.returns-else-reserve-capacity-clause-bag
-returns-else-reserve-capacity-clause-bag g c = IsPermutation-trans _ _ _ c.insert_first.ensures.bag c.insert_again-grown.ensures.bag
-
-pub returns-then-reserve-capacity-clause-sized : goal.returns-then-reserve-capacity-clause-sized
-returns-then-reserve-capacity-clause-sized g c = λ sized.
-    let after = c.insert_first.ensures.sized sized in
-    let most = after.most in
-    c.insert_again-grown.ensures.sized (after.below, omega (arith, most, c.insert_first.new.node.children.ok.0))
-
-pub returns-else-reserve-capacity-clause-sized : goal.returns-else-reserve-capacity-clause-sized
-returns-else-reserve-capacity-clause-sized g c = λ sized.
-    let after = c.insert_first.ensures.sized sized in
-    let most = after.most in
-    c.insert_again-grown.ensures.sized (after.below, omega (arith, most, c.insert_first.new.node.children.ok.0))
-
-pub returns-then-reserve-capacity-clause-spends : goal.returns-then-reserve-capacity-clause-spends
-returns-then-reserve-capacity-clause-spends g c =
+pub returns-then-reserve-capacity : goal.returns-then-reserve-capacity
+returns-then-reserve-capacity g c =
     let again = c.insert_again-grown.ensures.spends in
     let is = again.widest in
     let room = again.room in
@@ -61,17 +43,24 @@ returns-then-reserve-capacity-clause-spends g c =
     let held = room_same c.args.reserve.now.widest c.insert_again-grown.new.handed c.insert_first.new.handed c.insert_again-grown.ensures.capacity in
     let own = room_one c.args.reserve.now.widest c.insert_again-grown.new.handed (omega (arith, fits, is)) in
     record {
-      widest = is;
-      spares = rw c.push_reserved.ensures.items (all-append (IsSpare c.insert_again-grown.new.reserve.widest) c.insert_again-grown.new.reserve.spares.items (c.insert_again-grown.new.handed ∷ []) again.spares ((c.insert_again-grown.ensures.none, fits), tt));
-      fewer = omega (arith, c.take_last-handed.ensures.len, again.fewer, c.push_reserved.ensures.len);
-      places = c.push_reserved.ensures.capacity ∙ again.places ∙ c.take_last-handed.ensures.capacity;
-      overfull = again.overfull;
-      room = omega (arith, c.take_last-handed.ensures.len, c.insert_first.ensures.room, room, held, own, c.push_reserved.ensures.len);
-      made = omega (arith, c.take_last-handed.ensures.len, c.insert_first.ensures.parents, made, c.push_reserved.ensures.len);
+      bag = IsPermutation-trans _ _ _ c.insert_first.ensures.bag c.insert_again-grown.ensures.bag;
+      kept = c.insert_again-grown.ensures.kept;
+      sized = λ sized.
+          let after = c.insert_first.ensures.sized sized in let most = after.most in
+          c.insert_again-grown.ensures.sized (after.below, omega (arith, most, c.insert_first.new.node.children.ok.0));
+      spends = record {
+        widest = is;
+        spares = rw c.push_reserved.ensures.items (all-append (IsSpare c.insert_again-grown.new.reserve.widest) c.insert_again-grown.new.reserve.spares.items (c.insert_again-grown.new.handed ∷ []) again.spares ((c.insert_again-grown.ensures.none, fits), tt));
+        fewer = omega (arith, c.take_last-handed.ensures.len, again.fewer, c.push_reserved.ensures.len);
+        places = c.push_reserved.ensures.capacity ∙ again.places ∙ c.take_last-handed.ensures.capacity;
+        overfull = again.overfull;
+        room = omega (arith, c.take_last-handed.ensures.len, c.insert_first.ensures.room, room, held, own, c.push_reserved.ensures.len);
+        made = omega (arith, c.take_last-handed.ensures.len, c.insert_first.ensures.parents, made, c.push_reserved.ensures.len);
+      };
     }
 
-pub returns-else-reserve-capacity-clause-spends : goal.returns-else-reserve-capacity-clause-spends
-returns-else-reserve-capacity-clause-spends g c =
+pub returns-else-reserve-capacity : goal.returns-else-reserve-capacity
+returns-else-reserve-capacity g c =
     let again = c.insert_again-grown.ensures.spends in
     let is = again.widest in
     let room = again.room in
@@ -79,11 +68,18 @@ returns-else-reserve-capacity-clause-spends g c =
     let held = room_same c.args.reserve.now.widest c.insert_again-grown.new.handed c.insert_first.new.handed c.insert_again-grown.ensures.capacity in
     let none = room_none c.args.reserve.now.widest c.insert_again-grown.new.handed (omega (arith, c.capacity.ensures, c.if-reserve-capacity.false, is)) in
     record {
-      widest = is;
-      spares = again.spares;
-      fewer = omega (arith, c.take_last-handed.ensures.len, again.fewer);
-      places = again.places ∙ c.take_last-handed.ensures.capacity;
-      overfull = again.overfull;
-      room = omega (arith, c.take_last-handed.ensures.len, c.insert_first.ensures.room, room, held, none);
-      made = omega (arith, c.take_last-handed.ensures.len, c.insert_first.ensures.parents, made);
+      bag = IsPermutation-trans _ _ _ c.insert_first.ensures.bag c.insert_again-grown.ensures.bag;
+      kept = c.insert_again-grown.ensures.kept;
+      sized = λ sized.
+          let after = c.insert_first.ensures.sized sized in let most = after.most in
+          c.insert_again-grown.ensures.sized (after.below, omega (arith, most, c.insert_first.new.node.children.ok.0));
+      spends = record {
+        widest = is;
+        spares = again.spares;
+        fewer = omega (arith, c.take_last-handed.ensures.len, again.fewer);
+        places = again.places ∙ c.take_last-handed.ensures.capacity;
+        overfull = again.overfull;
+        room = omega (arith, c.take_last-handed.ensures.len, c.insert_first.ensures.room, room, held, none);
+        made = omega (arith, c.take_last-handed.ensures.len, c.insert_first.ensures.parents, made);
+      };
     }

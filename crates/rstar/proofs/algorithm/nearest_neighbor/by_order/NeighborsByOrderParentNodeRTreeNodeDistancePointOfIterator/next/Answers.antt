@@ -2,6 +2,7 @@ use Rattle.rstar_base.specs.Points.{table, IsPoint}
 use Rattle.rstar.specs.ByOrder.{IsSearchingByOrder}
 use Rattle.rstar.specs.inside.Searches.{parents_first}
 use Rattle.rstar.proofs.searching.ByOrder.{next-in-order}
+use Rattle.rstar.proofs.searching.SearchTurns.{measured-by}
 use Rattle.rstar.proofs.searching.Nearness.{IsMeasured}
 use Rattle.rstar.proofs.selecting.Progress as progress
 use Rattle.rstar.proofs.algorithm.nearest_neighbor.by_order.NeighborsByOrderParentNodeRTreeNodeDistancePointOfIterator.next.Given.{Over}
@@ -9,12 +10,7 @@ use Rattle.rstar.proofs.algorithm.nearest_neighbor.by_order.NeighborsByOrderPare
 
 measured : (g : Over) (p : _) → IsPoint g.T.Envelope.Point.Scalar.Bounded.low g.T.Envelope.Point.Scalar.Bounded.high g.T.Envelope.Point.Point.DIMENSIONS p
     → IsMeasured (IsPoint g.T.Envelope.Point.Scalar.Bounded.low g.T.Envelope.Point.Scalar.Bounded.high g.T.Envelope.Point.Point.DIMENSIONS) g.T.Envelope.Envelope.boxes g.T.RTreeObject.object g.T.PointDistance.distances p
-measured g p is = record {
-  laws = g.met.T.Envelope.Envelope.envelope_laws;
-  ok = g.met.T.RTreeObject.object_law;
-  near = g.met.T.PointDistance.distance_laws;
-  point = is;
-}
+measured g p is = measured-by g.met.T.Envelope.Envelope.envelope_laws g.met.T.RTreeObject.object_law g.met.T.PointDistance.distance_laws is
 
 pub returns-clause-steps : goal.returns-clause-steps
 unfolding IsSearchingByOrder

@@ -5,6 +5,7 @@ use Rattle.std.proofs.lemmas.List.Sorted.{IsPermutation-refl, length_permutation
 use Rattle.rstar_base.specs.SmallHeaps.{items_of}
 use Rattle.rstar.specs.Nodes.{all_elements}
 use Rattle.rstar.specs.inside.Searches.{waiting_nodes, held_by}
+use Rattle.rstar.proofs.searching.SearchTurns.{measured-by}
 use Rattle.rstar.proofs.searching.Nearness.{IsMeasured}
 use Rattle.rstar.proofs.selecting.Progress.{on_err}
 use Rattle.rstar.proofs.selecting.Traversals.{nil-length}
@@ -14,12 +15,7 @@ use Rattle.rstar.proofs.algorithm.nearest_neighbor.search.NeighborSearch+ParentN
 
 measured : (g : Over) (p : _) → g.T.Cover.Merges.is_point p
     → IsMeasured g.T.Cover.Merges.is_point g.T.Cover.Merges.boxes g.T.Covered.object g.T.Measured.distances p
-measured g p is = record {
-  laws = g.met.T.Cover.Merges.merge_laws;
-  ok = g.met.T.Covered.cover_law;
-  near = g.met.T.Measured.distance_laws;
-  point = is;
-}
+measured g p is = measured-by g.met.T.Cover.Merges.merge_laws g.met.T.Covered.cover_law g.met.T.Measured.distance_laws is
 
 order : (g : Over) (a b : g.row.T-Distance.Denot) → g.T.Distance.Ord.cmp a b ≡ int_cmp (g.T.Distance.SquaredDistance.number a) (g.T.Distance.SquaredDistance.number b)
 order g = turns.order_of g.T.Distance.SquaredDistance.number g.T.Distance.Ord.cmp _ g.met.T.Distance.Ord.matches_partial_cmp g.met.T.Distance.SquaredDistance.number_order

@@ -1,6 +1,7 @@
 use Rattle.std.proofs.Common.{◌++◌, sym, subst}
 use Rattle.std.specs.List.Sorted.{IsPermutation}
 use Rattle.rstar.specs.inside.Searches.{waiting_nodes, held_by, IsRunning}
+use Rattle.rstar.proofs.searching.SearchTurns.{measured-by}
 use Rattle.rstar.proofs.searching.Nearness.{IsMeasured}
 use Rattle.rstar.proofs.searching.Openings.{root-running, root-bag, root-fewer}
 use Rattle.rstar.proofs.algorithm.nearest_neighbor.search.NeighborSearch+ParentNode+T+RTreeNode+T+T+Distance+O.open_root.Given.{Over}
@@ -8,12 +9,7 @@ use Rattle.rstar.proofs.algorithm.nearest_neighbor.search.NeighborSearch+ParentN
 
 measured : (g : Over) (p : _) → g.T.Cover.Merges.is_point p
     → IsMeasured g.T.Cover.Merges.is_point g.T.Cover.Merges.boxes g.T.Covered.object g.T.Measured.distances p
-measured g p is = record {
-  laws = g.met.T.Cover.Merges.merge_laws;
-  ok = g.met.T.Covered.cover_law;
-  near = g.met.T.Measured.distance_laws;
-  point = is;
-}
+measured g p is = measured-by g.met.T.Cover.Merges.merge_laws g.met.T.Covered.cover_law g.met.T.Measured.distance_laws is
 
 pub returns-clause-running : goal.returns-clause-running
 returns-clause-running g c =

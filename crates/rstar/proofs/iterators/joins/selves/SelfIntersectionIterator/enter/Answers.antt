@@ -8,7 +8,7 @@ use Rattle.rstar.specs.SelfJoins.{pairs_from_lists, opens_from_lists, AreLists}
 use Rattle.rstar.proofs.selecting.Traversals.{nil-length}
 use Rattle.rstar.proofs.joining.Joined.{joinable}
 use Rattle.rstar.proofs.joining.PairWalks.{idle-pairs, idle-opens}
-use Rattle.rstar.proofs.joining.SelfPairs.{own-parent, last-list, taken-none, taken-leaf, taken-parent}
+use Rattle.rstar.proofs.joining.SelfPairs.{own-parent, last-list, taken-none, taken-leaf, taken-parent, takes-list}
 use Rattle.rstar.proofs.iterators.joins.selves.SelfIntersectionIterator.enter.Goals as goal
 
 pub returns-in_default : goal.returns-in_default
@@ -51,22 +51,8 @@ returns-in_default-split_first g c =
     let nodes = c.in-Some.nodes in
     let last = last-list v o (had.height + 1) self.lists.items above nodes c.in-Some.ensures.some had.lists in
     let taken = taken-none v o meets self.lists.items above nodes c.in-Some.ensures.some (nil-length nodes.now c.in_default-split_first.ensures.cases) in
-    record {
-      lists = record {
-        walk = had.walk;
-        height = had.height;
-        room = had.room;
-        lists = subst (AreLists v o (had.height + 1)) (append-nil above) (last.again [] tt);
-        fits = omega (arith, had.fits, c.pop.ensures.capacity);
-        count = had.count;
-        counted = had.counted;
-        all = omega (arith, had.all, taken.1);
-      };
-      root = refl;
-      given = ap (λ l. pairs_by meets o.box_of o.box_of self.walk ++ l) taken.0;
-      nearer = λ _. taken.2;
-      over = λ e. absurd (true≢false e);
-    }
+    takes-list v o meets self _ had c.requires.idle taken (subst (AreLists v o (had.height + 1)) (append-nil above) (last.again [] tt)) c.pop.ensures.capacity refl
+    had.walk refl (idle-pairs meets o.box_of o.box_of self.walk c.requires.idle) (idle-opens meets o.box_of o.box_of self.walk c.requires.idle) (λ n h. omega (arith, h))
 
 pub begin-requires-clause-fits : goal.begin-requires-clause-fits
 begin-requires-clause-fits g c =
@@ -120,26 +106,9 @@ returns-in_default-node g c =
     let last = last-list v o (had.height + 1) self.lists.items above nodes c.in-Some.ensures.some had.lists in
     let whole = subst (AreWhole v o last.level) first last.whole in
     let taken = taken-leaf v o meets self.lists.items above nodes c.in-Some.ensures.some last.level items behind node first last.whole c.in_default-node.field-0 c.in_default-node.is c.push_reserved.ensures.items in
-    let idle = idle-pairs meets o.box_of o.box_of self.walk c.requires.idle in
-    let opens = idle-opens meets o.box_of o.box_of self.walk c.requires.idle in
-    let alone = c.first_alone.ensures in
-    let begun = ap (λ l. all_opens meets o.box_of o.box_of l behind.now) alone in
-    record {
-      lists = record {
-        walk = c.begin.ensures.walk;
-        height = had.height;
-        room = omega (arith, had.room, c.begin.ensures.room);
-        lists = subst (AreLists v o (had.height + 1)) (sym c.push_reserved.ensures.items) (last.again (behind ∷ []) (last.level, omega arith, whole.1, tt));
-        fits = omega (arith, had.fits, c.pop.ensures.capacity, c.push_reserved.ensures.capacity);
-        count = had.count;
-        counted = c.begin.ensures.opened ∙ had.counted;
-        all = omega (arith, had.all, taken.opens, opens, c.begin.ensures.opens, begun);
-      };
-      root = refl;
-      given = (λ i. idle i ++ taken.pairs i) ∙ ap (λ l. l ++ pairs_from_lists meets o.box_of items) (sym (c.begin.ensures.pairs ∙ ap (λ l. all_pairs meets o.box_of o.box_of l behind.now) alone));
-      nearer = λ _. taken.nearer;
-      over = λ e. absurd (true≢false e);
-    }
+    takes-list v o meets self _ had c.requires.idle taken (subst (AreLists v o (had.height + 1)) (sym c.push_reserved.ensures.items) (last.again (behind ∷ []) (last.level, omega arith, whole.1, tt)))
+    (c.push_reserved.ensures.capacity ∙ c.pop.ensures.capacity) refl c.begin.ensures.walk c.begin.ensures.room (c.begin.ensures.pairs ∙ ap (λ l. all_pairs meets o.box_of o.box_of l behind.now) c.first_alone.ensures)
+    (c.begin.ensures.opens ∙ ap (λ l. all_opens meets o.box_of o.box_of l behind.now) c.first_alone.ensures) (λ n h. omega (arith, h, c.begin.ensures.opened))
 
 pub returns : goal.returns
 returns g c =
@@ -161,23 +130,7 @@ returns g c =
     let low = own-parent v o last.level node behind.now c.in-Parent.parent whole c.in-Parent.is in
     let is = c.push_reserved-2.ensures.items ∙ ap (λ l. l ++ children ∷ []) c.push_reserved.ensures.items ∙ append_assoc above (behind ∷ []) (children ∷ []) in
     let taken = taken-parent v o meets self.lists.items above nodes c.in-Some.ensures.some last.level items behind node first last.whole children c.in-Parent.parent c.in-Parent.is same is in
-    let idle = idle-pairs meets o.box_of o.box_of self.walk c.requires.idle in
-    let opens = idle-opens meets o.box_of o.box_of self.walk c.requires.idle in
-    let alone = c.first_alone.ensures in
-    let begun = ap (λ l. all_opens meets o.box_of o.box_of l behind.now) alone in
-    record {
-      lists = record {
-        walk = c.begin.ensures.walk;
-        height = had.height;
-        room = omega (arith, had.room, c.begin.ensures.room);
-        lists = subst (AreLists v o (had.height + 1)) (sym is) (last.again (behind ∷ children ∷ []) (last.level, omega arith, whole.1, (low.0, omega (arith, low.1), subst (AreWhole v o low.0) (sym same) low.2, tt)));
-        fits = omega (arith, had.fits, c.pop.ensures.capacity, c.push_reserved.ensures.capacity, c.push_reserved-2.ensures.capacity);
-        count = had.count + 1;
-        counted = omega (arith, c.saturating_add-self.ensures, c.begin.ensures.opened, had.counted);
-        all = omega (arith, had.all, taken.opens, opens, c.begin.ensures.opens, begun);
-      };
-      root = refl;
-      given = (λ i. idle i ++ taken.pairs i) ∙ ap (λ l. l ++ pairs_from_lists meets o.box_of items) (sym (c.begin.ensures.pairs ∙ ap (λ l. all_pairs meets o.box_of o.box_of l behind.now) alone));
-      nearer = λ _. taken.nearer;
-      over = λ e. absurd (true≢false e);
-    }
+    let lists = subst (AreLists v o (had.height + 1)) (sym is) (last.again (behind ∷ children ∷ []) (last.level, omega arith, whole.1, (low.0, omega (arith, low.1), subst (AreWhole v o low.0) (sym same) low.2, tt))) in
+    takes-list v o meets self _ had c.requires.idle taken lists (c.push_reserved-2.ensures.capacity ∙ c.push_reserved.ensures.capacity ∙ c.pop.ensures.capacity) refl
+    c.begin.ensures.walk c.begin.ensures.room (c.begin.ensures.pairs ∙ ap (λ l. all_pairs meets o.box_of o.box_of l behind.now) c.first_alone.ensures)
+    (c.begin.ensures.opens ∙ ap (λ l. all_opens meets o.box_of o.box_of l behind.now) c.first_alone.ensures) (λ n h. omega (arith, h, c.begin.ensures.opened, c.saturating_add-self.ensures))

@@ -1,7 +1,7 @@
-use Rattle.std.proofs.Common.{◌∷◌, ◌++◌, [], ◌∙◌, ap, sym, refl, arith, append-nil, ◌≡◌, ◌+◌}
+use Rattle.std.proofs.Common.{◌∷◌, ◌++◌, [], ◌∙◌, ap, sym, arith, append-nil, ◌≡◌, ◌+◌}
 use Rattle.rstar.specs.inside.PairWalks.{in_hand, frames_of, opens_from_frames}
 use Rattle.rstar.specs.Joins.{meets_by}
-use Rattle.rstar.proofs.joining.PairWalks.{frames-along, idle-pairs, move-drop, move-pairs, move-nearer, move-on}
+use Rattle.rstar.proofs.joining.PairWalks.{frames-along, idle-pairs, move-drop, passes}
 use Rattle.rstar.proofs.iterators.joins.walk.PairWalk.go_back.Goals as goal
 
 pub returns-in_default : goal.returns-in_default
@@ -34,10 +34,4 @@ returns g c =
     let move = move-drop meets left_box right_box frame c.requires.none in
     let frames = c.pop.new.self.items ++ c.in-Some.frame ∷ [] in
     let was : frames_of self ≡ frames ++ frame ∷ [] = ap (λ l. l ++ frame ∷ []) c.in-Some.ensures.some in
-    let is = sym (append-nil frames) in
-    record {
-      on = move-on meets left_box right_box move frames (frames_of self) _ was is self _ refl refl c.pop.ensures.capacity (λ n h. omega (arith, h)) c.requires.walk;
-      given = move-pairs meets left_box right_box move frames _ _ was is;
-      nearer = move-nearer meets left_box right_box move frames _ _ was is;
-      over = tt;
-    }
+    passes meets left_box right_box move frames self _ was (sym (append-nil frames)) c.pop.ensures.capacity (λ n h. omega (arith, h)) c.requires.walk

@@ -1,10 +1,10 @@
 use Rattle.std.proofs.Common.{◌≡◌, ◌<◌, ◌∙◌, ◌*◌, ◌≤◌, ap, sym, refl, arith, subst, length, min, filter}
 use Rattle.std.proofs.lemmas.Bool.Decides.{nat_tests}
 use Rattle.rstar.specs.Lists.{product}
-use Rattle.rstar.specs.inside.PairWalks.{marked_items, in_hand, frames_of, rows_beside, IsFirstPair}
+use Rattle.rstar.specs.inside.PairWalks.{marked_items, in_hand, rows_beside, IsFirstPair}
 use Rattle.rstar.specs.Joins.{meets_by}
 use Rattle.rstar.proofs.selecting.Traversals.{no-items}
-use Rattle.rstar.proofs.joining.PairWalks.{parts-are, block-fits, block-some, last-frame, meets_pair, move-row, move-ask, move-pairs, move-nearer, move-on}
+use Rattle.rstar.proofs.joining.PairWalks.{parts-are, block-fits, block-some, last-frame, meets_pair, move-row, move-ask, passes}
 use Rattle.rstar.proofs.iterators.joins.walk.PairWalk.step.Goals as goal
 
 pub read-requires-clause-met : goal.read-requires-clause-met
@@ -27,12 +27,7 @@ returns-then-is_empty-2 g c =
     let some : 0 < length self.lefts.now = grind (arith, nat_tests, c.is_empty.ensures, c.if-is_empty.false) in
     let over = no-items self.later.now _ _ c.is_empty-2.ensures c.if-is_empty-2.true refl in
     let move = move-row meets left_box right_box self.lefts c.split_at.result.1 self.asked self.later self.rights self.marks parts.1 some none over in
-    record {
-      on = move-on meets left_box right_box move above (frames_of self) _ refl refl self _ refl refl refl (λ n h. omega (arith, h)) c.requires;
-      given = move-pairs meets left_box right_box move above (frames_of self) _ refl refl;
-      nearer = move-nearer meets left_box right_box move above (frames_of self) _ refl refl;
-      over = tt;
-    }
+    passes meets left_box right_box move above self _ refl refl refl (λ n h. omega (arith, h)) c.requires
 
 pub returns : goal.returns
 returns g c =
@@ -53,9 +48,4 @@ returns g c =
     let made = subst (λ b. marked_items c.marks_of-self.result (product b chunk.now) ≡ filter (meets_pair meets left_box right_box) (product b chunk.now)) parts.0 (c.marks_of-self.ensures few) in
     let move = move-ask meets left_box right_box self.lefts self.asked self.later chunk c.split_at-2.result.1 self.rights self.marks c.marks_of-self.result none c.split_at-2.ensures.by_index.0 some
     (block-some self.rights.now self.lefts.now lefts) fits.1 made in
-    record {
-      on = move-on meets left_box right_box move above (frames_of self) _ refl refl self _ refl refl refl (λ n h. omega (arith, h)) c.requires;
-      given = move-pairs meets left_box right_box move above (frames_of self) _ refl refl;
-      nearer = move-nearer meets left_box right_box move above (frames_of self) _ refl refl;
-      over = tt;
-    }
+    passes meets left_box right_box move above self _ refl refl refl (λ n h. omega (arith, h)) c.requires
