@@ -1,4 +1,4 @@
-use Rattle.std.proofs.Common.{◌≡◌, ◌∙◌, ◌<◌, ℤ, filter, length, subst, sym, w32, w64}
+use Rattle.std.proofs.Common.{◌≡◌, ◌∙◌, ◌<◌, ℤ, filter, length, of_z, subst, sym, to_z, w32, w64}
 use Rattle.std.specs.Prelude.{◌↔◌}
 use Rattle.std.proofs.Math.Facts.{to_z-of_z}
 use Rattle.rstar_c.specs.Answers.{IsDrained}
@@ -15,5 +15,7 @@ returns-clause-drained c = λ ok.
 pub returns-clause-room : goal.returns-clause-room
 returns-clause-room c =
     subst (λ (distance : ℤ). (to_z w32 (of_z w32 c.take.result) ≡ NO_ROOM) ↔ (length c.args.ids.now < length (filter (is_within distance c.args.place.now) (items_in c.args.index.now))))
-    (to_z-of_z {w = w64} c.ranges.distance)
-    (subst (λ (status : ℤ). (status ≡ NO_ROOM) ↔ _) (sym (to_z-of_z {w = w32} (record { sfits = c.take.type_inv }))) c.take.ensures.room)
+    (to_z-of_z {w = w64} c.ranges.distance) (
+      λ refused. c.take.ensures.room.0 (sym (to_z-of_z {w = w32} (record { sfits = c.take.type_inv })) ∙ refused),
+      λ less. to_z-of_z {w = w32} (record { sfits = c.take.type_inv }) ∙ c.take.ensures.room.1 less,
+    )
