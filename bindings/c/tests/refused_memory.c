@@ -4,6 +4,7 @@
  * This does not hold of the arrays of nearest_each: it may have written the answers to the first points. */
 #include "scan.h"
 
+#include <malloc.h>
 #include <stdio.h>
 #include <stdlib.h>
 #include <string.h>
@@ -37,7 +38,11 @@ void *__wrap_malloc(size_t size) {
     return is_refused() ? NULL : __real_malloc(size);
 }
 
+/* A request for less is always refused, and counts for none: the list keeps what it has, and the call goes on. */
 void *__wrap_realloc(void *at, size_t size) {
+    if (refuser.is_armed && size <= malloc_usable_size(at)) {
+        return NULL;
+    }
     return is_refused() ? NULL : __real_realloc(at, size);
 }
 
