@@ -30,7 +30,7 @@ JOBS = int(os.environ.get("JOBS") or os.cpu_count() or 1)
 BATCH = 10
 
 TESTED = re.compile(r"^#\[cfg\(test\)\]\n(?:pub )?mod (\w+);", re.M)
-FUNCTION = re.compile(r"^\s*(?:pub(?:\([^)]*\))?\s+)?(?:const\s+)?fn\s+(\w+)", re.M)
+FUNCTION = re.compile(r'^\s*(?:pub(?:\([^)]*\))?\s+)?(?:const\s+)?(?:extern\s+"C"\s+)?fn\s+(\w+)', re.M)
 TOLD = re.compile(r"^(?:note: )?(?P<path>\S+?):(?P<line>\d+):\d+:")
 # What a proof file says of a name that the edit took away, and what is said of a text that does not read.
 NAMES = re.compile(r"^(\./)?proofs/.*(has no field|is not in scope|has no `|was not admitted)")

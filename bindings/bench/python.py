@@ -5,14 +5,15 @@
     /usr/bin/python3 -W ignore bindings/bench/python.py
 
 100,000 rectangles with sides up to 4,000 lie at random in a square of 2,000,000. They are asked 10,000 boxes with sides up to
-20,000, and 10,000 points for 10 neighbours each. A time is the best of three rounds, or of as many as the argument says: of
-a question in microseconds, of the load in milliseconds. The numbers of hits and the distances are compared.
+20,000, and 10,000 points for 10 neighbours each. All take turns, for three rounds or as many as the argument says, and the
+best time of each counts: of a question in microseconds, of the load in milliseconds. The numbers of hits and the distances
+are compared.
 """
 
 import random
 import sys
 from array import array
-from itertools import chain
+from itertools import chain, product
 from time import perf_counter
 
 import numpy
@@ -95,45 +96,49 @@ class Shapely:
         return [self.index.query(box) for box in self.asked]
 
 
-def best(call, rounds):
-    times = []
-    for _ in range(rounds):
-        start = perf_counter()
-        answer = call()
-        times.append(perf_counter() - start)
-    return min(times), answer
+TRIED = {
+    "vaikrone, arrays of numpy": FromNumpy(),
+    "vaikrone, buffers": Vaikrone(),
+    "vaikrone, lists of tuples": FromTuples(),
+    f"rtree {rtree.__version__}": Rtree(),
+    f"shapely {shapely.__version__}, boxes made before": Shapely(),
+}
+CALLS = ("load", "query", "query_batch", "nearest", "nearest_batch")
+
+
+def compared(name, answer):
+    """What all answers to a call must have in common."""
+    if name == "query_batch":
+        offsets, ids = (numbers.tolist() for numbers in answer)
+        answer = [ids[a:b] for a, b in zip(offsets, offsets[1:])]
+    if name.startswith("query"):
+        return [len(ids) for ids in answer]
+    return [distances(ids, point)[:K] for ids, point in zip(answer, POINTS)]
+
+
+def cell(name, taken):
+    if taken is None:
+        return "-"
+    return f"{taken * 1e3:.1f} ms" if name == "load" else f"{taken / ASKED * 1e6:.2f} us"
 
 
 def main(rounds=3):
-    names = ("load", "query", "query_batch", "nearest", "nearest_batch")
-    print(f"{'':36}" + "".join(f"{name.replace('_', ', '):>16}" for name in names))
-    wanted = {}
-    for title, tried in (
-        ("vaikrone, arrays of numpy", FromNumpy()),
-        ("vaikrone, buffers", Vaikrone()),
-        ("vaikrone, lists of tuples", FromTuples()),
-        (f"rtree {rtree.__version__}", Rtree()),
-        (f"shapely {shapely.__version__}, boxes made before", Shapely()),
-    ):
-        cells = []
-        for name in names:
-            call = getattr(tried, name)
+    times, wanted = {}, {}
+    for number in range(int(rounds)):
+        for title, name in product(TRIED, CALLS):
+            call = getattr(TRIED[title], name)
             if call is None:
-                cells.append("-")
                 continue
-            seconds, answer = best(call, int(rounds))
-            cells.append(f"{seconds * 1e3:.1f} ms" if name == "load" else f"{seconds / ASKED * 1e6:.2f} us")
-            if name == "load":
-                continue
-            if name == "query_batch":
-                offsets, ids = (numbers.tolist() for numbers in answer)
-                answer = [ids[a:b] for a, b in zip(offsets, offsets[1:])]
-            if name.startswith("query"):
-                found = [len(ids) for ids in answer]
-            else:
-                found = [distances(ids, point)[:K] for ids, point in zip(answer, POINTS)]
-            assert wanted.setdefault(name[:5], found) == found, f"{title}: {name} answers something else"
-        print(f"{title:36}" + "".join(f"{cell:>16}" for cell in cells), flush=True)
+            start = perf_counter()
+            answer = call()
+            taken = perf_counter() - start
+            times[title, name] = min(taken, times.get((title, name), taken))
+            if number == 0 and name != "load":
+                found = compared(name, answer)
+                assert wanted.setdefault(name[:5], found) == found, f"{title}: {name} answers something else"
+    print(f"{'':36}" + "".join(f"{name.replace('_', ', '):>16}" for name in CALLS))
+    for title in TRIED:
+        print(f"{title:36}" + "".join(f"{cell(name, times.get((title, name))):>16}" for name in CALLS))
     print(f"{sum(wanted['query']) / ASKED:.1f} rectangles a box: the answers agree")
 
 

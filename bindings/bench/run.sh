@@ -28,8 +28,8 @@ build rstar_bench "$work/copy" "${options[@]}"
 build vaikrone_bench "$here/vaikrone_bench" --offline
 cc -std=gnu11 -O2 -Wall -Wextra -I"$folder" "$here/bench.c" "$folder/librstar.a" -o "$work/bench"
 
-# Five times in turn, so that other work on the machine falls on all of them; the best time of each counts.
-for _ in 1 2 3 4 5; do
+# Fifteen times in turn, so that other work on the machine falls on all of them; the best time of each counts.
+for _ in {1..15}; do
   for program in bench vaikrone_bench rstar_bench; do
     "$work/$program" "$@" | sed "s/^/$program\t/" >>"$work/times"
   done
