@@ -1,8 +1,8 @@
-use Rattle.std.proofs.Common.{◌≡◌, pos, sym, subst}
+use Rattle.std.proofs.Common.{◌≡◌, pos, sym, subst, arith, List, map, Bor}
 use Rattle.std.proofs.lemmas.Result.{IfOk-weaker}
 use Rattle.std.specs.List.{AllByRecursion}
 use Rattle.rstar.specs.inside.Few.{kept_in}
-use Rattle.rstar.specs.Lists.{IsNotLater}
+use Rattle.rstar.specs.Lists.{AreFirstOf, IsNotLater}
 use Rattle.rstar.specs.Nodes.{elements_of}
 use Rattle.rstar.proofs.searching.Few as few
 use Rattle.rstar.proofs.algorithm.nearest_neighbor.few.first_few.Goals as goal
@@ -16,3 +16,10 @@ returns-clause-distances g c =
     let p = g.T.Measured.at c.args.point.now in
     let value = g.T.Distance.SquaredDistance.number in
     IfOk-weaker c.lent.result _ _ (λ lent is. subst (AllByRecursion (λ n. value n.1 ≡ pos (g.T.Measured.distances.distance_2 n.0.now p))) (sym is) (few.lent-distances (λ t. g.T.Measured.distances.distance_2 t p) value (kept_in c.search.new.best.kept) c.in_ok-search.ensures.distances)) c.lent.ensures
+
+pub returns-then-most-eq0-clause-first : goal.returns-then-most-eq0-clause-first
+returns-then-most-eq0-clause-first g c =
+    let before = IsNotLater (λ t. g.T.Measured.distances.distance_2 t (g.T.Measured.at c.args.point.now)) g.E.TieOrder.order in
+    let all = elements_of c.args.root.now in
+    subst (λ (l : List (Bor g.row.T.Denot × g.row.T-Distance.Denot)). AreFirstOf before all c.args.most (map (λ n. n.0.now) l)) (sym c.new.ensures.items)
+    (few.first-of-none before c.args.most all (omega arith))
