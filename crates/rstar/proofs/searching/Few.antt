@@ -32,9 +32,8 @@ use Rattle.rstar.specs.inside.Few.{KeepsGreatest, Found, found_elements, kept_in
 use Rattle.rstar.specs.Lists.{AreOrdered, AreFirstOf, IsNotLater, by_distance}
 use Rattle.rstar.specs.Nodes.{elements, parents, all_elements, all_parents, children_of, elements_of, IsWhole}
 use Rattle.rstar.specs.inside.Searches.{nearest_on_top, distance_of}
-use Rattle.rstar.proofs.searching.ByOrder.{later-far}
 use Rattle.rstar.proofs.commands.Firsts.{Ranks, stated_total, stated_ranks}
-use Rattle.rstar.proofs.searching.Nearness.{IsMeasured, IsPart, above-node, part-Parent, parts}
+use Rattle.rstar.proofs.searching.Nearness.{IsMeasured, IsPart, part-Parent, parts}
 use Rattle.rstar.proofs.trees.ByChildren.{elements-Parent, elements-Leaf, parents-Parent}
 use Rattle.rstar.proofs.searching.Searches.{then-first}
 

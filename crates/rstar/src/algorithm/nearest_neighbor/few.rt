@@ -16,7 +16,7 @@ use crate::algorithm::nearest_neighbor::waiting::{AnyFirst, ParentsFor, TieOrder
 use crate::bounds::{Measured, SquaredDistance};
 use crate::node::{ParentNode, RTreeNode};
 use rstar_base::heap::SmallHeap;
-use std::alloc::{AllocError, Global};
+use std::alloc::AllocError;
 use std::marker::PhantomData;
 
 /// The priority queue of parents, the nearest on top.
@@ -77,7 +77,7 @@ pub(crate) fn one_nearest<'a, T: Measured>(
 /// ties.
 ///
 /// Each element found is inserted into a sorted list, so this costs less than a priority queue only for
-/// small `most`. `room` is the capacity that the list starts with; one element is found without a list.
+/// small `most`. `room` is the capacity that the list starts with.
 pub(crate) fn first_few<'a, T: Measured, E: TieOrder<T>>(
     root: &'a ParentNode<T>,
     point: &T::Place,
@@ -100,7 +100,10 @@ pub(crate) fn first_few<'a, T: Measured, E: TieOrder<T>>(
         bound: None,
     };
     search(root, point, most, &mut best)?;
-    lent(&best.kept, alloc)
+    match &best.kept {
+        Kept::Few(found) => lent(found),
+        Kept::One(_) => unreachable!(),
+    }
 }
 
 /// Finds the first `most` elements by distance, from nothing found.
@@ -136,28 +139,8 @@ fn search<'a, T: Measured, E: TieOrder<T>>(
     Ok(())
 }
 
-/// The elements that are kept, with their distances.
-fn lent<'a, T, S: Copy, E>(
-    kept: &Kept<'a, T, S, E>,
-    alloc: Global,
-) -> Result<Vec<(&'a T, S)>, AllocError>
-    ensures { IfOk result (λ all. all.items ≡ map (λ w. (w.node, w.distance)) (kept_in kept.now)) }
-{
-    match kept {
-        Kept::One(None) => Ok(Vec::new(alloc)),
-        Kept::One(Some(first)) => {
-            let mut all = Vec::with_capacity(alloc, 1)?;
-            all.push((first.node, first.distance))?;
-            Ok(all)
-        }
-        Kept::Few(found) => all_lent(found),
-    }
-}
-
 /// The elements of a list, with their distances.
-fn all_lent<'a, T, S: Copy, E>(
-    found: &Vec<Waiting<&'a T, S, E>>,
-) -> Result<Vec<(&'a T, S)>, AllocError>
+fn lent<'a, T, S: Copy, E>(found: &Vec<Waiting<&'a T, S, E>>) -> Result<Vec<(&'a T, S)>, AllocError>
     ensures { IfOk result (λ all. all.items ≡ map (λ w. (w.node, w.distance)) found.now.items) }
 {
     let mut all = Vec::with_capacity(*found.allocator(), found.len())?;

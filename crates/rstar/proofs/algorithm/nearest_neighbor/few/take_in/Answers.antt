@@ -1,8 +1,6 @@
-use Rattle.std.proofs.Common.{◌≡◌, IfSome, inr, refl, sym, subst, ap, Some}
-use Rattle.std.proofs.lemmas.Result.{on_ok_weaker}
+use Rattle.std.proofs.Common.{◌≡◌, inr, refl, sym, subst, ap}
 use Rattle.std.specs.Ordering.{int_cmp}
-use Rattle.rstar.specs.inside.Few.{is_one, kept_in, IsFarthest, IsKept, KeepsGreatest}
-use Rattle.rstar.specs.declared.algorithm.nearest_neighbor.few.Kept.TheVariants.{One, Few}
+use Rattle.rstar.specs.inside.Few.{is_one, kept_in, IsKept, KeepsGreatest}
 use Rattle.rstar.specs.inside.Searches.{nearest_on_top}
 use Rattle.rstar.proofs.searching.Few.{few-tightened, kept-in-one, one-within}
 use Rattle.rstar.proofs.searching.SearchTurns as turns
