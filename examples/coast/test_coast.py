@@ -80,7 +80,8 @@ class Coast(unittest.TestCase):
     def test_coast(self):
         source = (ROWS / "coast.rt").read_text()
         coast = points(constant(source, "SHIKOKU"))
-        self.assertEqual(coast, [tuple(map(int, line.split(","))) for line in open(HERE / "shikoku.csv")])
+        lines = (HERE / "shikoku.csv").read_text().splitlines()
+        self.assertEqual(coast, [tuple(map(int, line.split(","))) for line in lines])
         self.compare([coast], source)
 
 

@@ -75,10 +75,6 @@ pub record AreSomeNearest {T : Type 0} (distance : T → ℕ) (all : List T) (d 
 abbrev pub AreInOrder : {T : Type 0} → (T → ℕ) → List T → Type 0
 AreInOrder distance ts = AreOrdered (IsNoFarther distance) ts
 
--- the nearest elements in order, and those left, of which none is nearer
-abbrev pub AreNearestFirst : {T : Type 0} → (T → ℕ) → List T → List T → List T → Type 0
-AreNearestFirst distance all first left = AreFirst (IsNoFarther distance) all first left
-
 -- the `most` nearest elements, the nearest first; all where there are fewer
 abbrev pub AreNearestOf : {T : Type 0} → (T → ℕ) → List T → ℕ → List T → Type 0
 AreNearestOf distance all most nearest = AreFirstOf (IsNoFarther distance) all most nearest

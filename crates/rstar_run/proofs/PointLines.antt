@@ -1,5 +1,5 @@
 -- Points, line by line.
-use Rattle.std.proofs.Common.{◌≡◌, ◌≢◌, ◌∙◌, ◌<◌, ◌+◌, ℕ, List, [], ◌∷◌, ◌++◌, length, length-append, map, Option, Some, None, IfSome, refl, sym, ap, subst, Bor, append_assoc, append-nil, arith}
+use Rattle.std.proofs.Common.{◌≡◌, ◌≢◌, ◌∙◌, ◌<◌, ◌+◌, ℕ, List, [], ◌∷◌, ◌++◌, length, length-append, map, Option, Some, None, IfSome, refl, sym, ap, Bor, append_assoc, append-nil, arith}
 use Rattle.std.specs.Fmt.{signed_decimal}
 use Rattle.std.specs.Prelude.{codes, ℤ}
 use Rattle.std.specs.Io.KnownBytes.{IsAtEnd}
@@ -10,7 +10,7 @@ use Rattle.rstar_run.specs.Lines.{lines_of, TakesLine}
 use Rattle.rstar_run.specs.Numerals.{◌>>=◌}
 use Rattle.rstar_run.specs.Points.{point_line_of, point_meant, points_at, points_in, point_text, IsFirstBad}
 use Rattle.rstar_run.specs.declared.points.PointLine.TheVariants as kind
-use Rattle.rstar_run.proofs.Reading.{Reads, rest_of, reads_first, reads_more, reads_rest, reads_all}
+use Rattle.rstar_run.proofs.Reading.{Reads, rest_of, reads_more, reads_rest, reads_all}
 
 -- words of another number than a point has are bad
 bad : (ws : List (List ℕ)) → length ws ≢ 0 → length ws ≢ 2 → kind.Bad ≡ point_line_of ws
@@ -46,10 +46,6 @@ pub record PointsSoFar (input left : Option (List ℕ)) (number : ℕ) (points :
   pub reads : Reads input left lines
   pub good : points_in lines ≡ Some points
   pub count : number ≡ length lines
-
-pub none_read : (input left : Option (List ℕ)) (number : ℕ) (points : List Point) → left ≡ input → number ≡ 0 → points ≡ [] → PointsSoFar input left number points
-none_read input left number points e n none =
-    record { lines = []; reads = subst (λ (o : Option (List ℕ)). Reads input o []) (sym e) (reads_first input); good = ap Some (sym none); count = n }
 
 module _ {input left : Option (List ℕ)} {number : ℕ} {points : List Point} (so_far : PointsSoFar input left number points) where
   pub one_more : (left' : Option (List ℕ)) (number' : ℕ) (line : List ℕ) (new : List Point) → TakesLine left left' line → number' ≡ number + 1 → points_at (point_meant line) ≡ Some new → PointsSoFar input left' number' (points ++ new)

@@ -55,10 +55,6 @@ odd-more {A} f x xs = ap is_odd (sum_by-cons (λ y. cond (f y) 1 0) x xs) ∙ by
 abbrev pub rest_contains : List ℤ → List ℤ → Bool → List (List ℤ) → Bool
 rest_contains p from inside rest = list_any (is_on_edge p) (edges_along from rest) || differ inside (is_odd (count_by (is_crossed p) (edges_along from rest)))
 
-pub walk-ended : (p from : List ℤ) (inside : Bool) → rest_contains p from inside [] ≡ inside
-walk-ended p from true = refl
-walk-ended p from false = refl
-
 pub walk-on : (p from to : List ℤ) (inside : Bool) (rest : List (List ℤ)) → is_on_edge p (from, to) ≡ true → rest_contains p from inside (to ∷ rest) ≡ true
 walk-on p from to inside rest on =
     ap (λ b. (b || list_any (is_on_edge p) (edges_along to rest)) || differ inside (is_odd (count_by (is_crossed p) (edges_along from (to ∷ rest))))) on

@@ -1,9 +1,9 @@
 -- What the steps of a search for the first few elements keep.
-use Rattle.std.proofs.Common.{Less, Equal, Greater, ◌≡◌, inl, inr, ℕ, ◌+◌, ◌<◌, ◌≤◌, ◌<ℤ◌, ◌≤ℤ◌, ℤ, pos, true, false, List, [], ◌∷◌, ◌++◌, length, length-append, map, refl, ap, sym, ◌∙◌, subst, arith, append_assoc, append-nil, Option, Some, None, MatchOption, Bool, get_or, slice_get, ◌-◌}
+use Rattle.std.proofs.Common.{Less, Equal, Greater, ◌≡◌, inl, inr, ℕ, ◌+◌, ◌<◌, ◌≤◌, ◌<ℤ◌, ◌≤ℤ◌, ℤ, pos, true, false, List, [], ◌∷◌, ◌++◌, length, length-append, map, refl, ap, sym, ◌∙◌, subst, arith, append_assoc, append-nil, Option, Some, None, IfSome, IfNone, MatchOption, Bool, get_or, slice_get, ◌-◌}
 use Rattle.std.specs.Borrow.{Bor}
 use Rattle.std.specs.Prelude.{option_to_list}
 use Rattle.std.specs.Cmp.{IsTotalOrder, nat_cmp_is}
-use Rattle.std.specs.List.{AllByRecursion}
+use Rattle.std.specs.List.{AllByRecursion, Contains, insert}
 use Rattle.std.specs.List.Sorted.{IsPermutation}
 use Rattle.std.specs.Ordering.{is_lt, int_cmp, nat_cmp, ordering_then, flip_args}
 use Rattle.std.specs.declared.cmp.Ordering.{Ordering}
@@ -11,10 +11,11 @@ use Rattle.std.proofs.HeapSift as sifts
 use Rattle.std.proofs.lemmas.Cmp.{int_ranked, by_ranked}
 use Rattle.std.proofs.lemmas.Int.{ints}
 use Rattle.std.proofs.lemmas.List.{length-map}
+use Rattle.std.proofs.lemmas.List.Elements.{All-from_recursion, All-contains}
 use Rattle.std.proofs.lemmas.Option.{get_or_from_slice_get}
 use Rattle.std.proofs.Math.Seq.{get_or-append_seam}
 use Rattle.std.proofs.lemmas.List.Sums.{sum_by-cons}
-use Rattle.std.proofs.lemmas.List.Sorted.{sum_by-IsPermutation, IsPermutation-refl, IsPermutation-trans, IsPermutation-cons, IsPermutation-append_left, IsPermutation-append_right, IsPermutation-append_comm, IsPermutation-insert, IsPermutation-map, length_permutation}
+use Rattle.std.proofs.lemmas.List.Sorted.{sum_by-IsPermutation, IsPermutation-refl, IsPermutation-trans, IsPermutation-sym, IsPermutation-cons, IsPermutation-append_left, IsPermutation-append_right, IsPermutation-append_comm, IsPermutation-insert, IsPermutation-map, length_permutation}
 use Rattle.std.proofs.lemmas.List.Concat.{flat_map-append}
 use Rattle.rstar_base.specs.Envelopes.{Boxes}
 use Rattle.rstar_base.specs.Elements.{Objects, Distances}
@@ -27,13 +28,12 @@ use Rattle.rstar.specs.declared.node.ParentNode.{ParentNode}
 use Rattle.rstar.specs.declared.algorithm.nearest_neighbor.few.Kept.{Kept}
 use Rattle.rstar.specs.declared.algorithm.nearest_neighbor.few.Kept.TheVariants.{One}
 use Rattle.rstar.specs.declared.algorithm.nearest_neighbor.waiting.Waiting.{Waiting}
-use Rattle.rstar.specs.inside.Few.{KeepsGreatest, Found, found_elements, kept_in, IsKept, waiting_parents, WaitAtDistance, AreFoundSoFar}
+use Rattle.rstar.specs.inside.Few.{KeepsGreatest, Found, found_elements, kept_in, IsFarthest, IsKept, IsTightened, waiting_parents, WaitAtDistance, AreFoundSoFar}
 use Rattle.rstar.specs.Lists.{AreOrdered, AreFirstOf, IsNotLater, by_distance}
 use Rattle.rstar.specs.Nodes.{elements, parents, all_elements, all_parents, children_of, elements_of, IsWhole}
 use Rattle.rstar.specs.inside.Searches.{nearest_on_top, distance_of}
-use Rattle.rstar.proofs.searching.ByOrder.{later-far}
 use Rattle.rstar.proofs.commands.Firsts.{Ranks, stated_total, stated_ranks}
-use Rattle.rstar.proofs.searching.Nearness.{IsMeasured, IsPart, above-node, part-Parent, parts}
+use Rattle.rstar.proofs.searching.Nearness.{IsMeasured, IsPart, part-Parent, parts}
 use Rattle.rstar.proofs.trees.ByChildren.{elements-Parent, elements-Leaf, parents-Parent}
 use Rattle.rstar.proofs.searching.Searches.{then-first}
 
@@ -44,6 +44,10 @@ pub last-is : {A : Type 0} (xs front : List A) (last x : A) → Some x ≡ slice
 last-is xs front last x read is =
     let at : length xs - 1 ≡ length front = omega (arith, ap length is, length-append front (last ∷ [])) in
     sym (get_or_from_slice_get xs (length xs - 1) x last (sym read)) ∙ ap (λ k. get_or xs k last) at ∙ ap (λ l. get_or l (length front) last) is ∙ get_or-append_seam front last [] last
+
+pub last-among : {A : Type 0} (xs : List A) (x : A) → Some x ≡ slice_get xs (length xs - 1) → Contains xs x
+last-among [] x read = cc read
+last-among (y ∷ ys) x read = (length (y ∷ ys) - 1, omega arith, get_or_from_slice_get (y ∷ ys) (length (y ∷ ys) - 1) x x (sym read))
 
 -- a list without its last item is in order too
 pub falls-front : {A : Type 0} (compare : A → A → Ordering) (old front : List A) (r : Option A) → old ≡ front ++ option_to_list r → Rises compare old → Rises compare front
@@ -59,6 +63,15 @@ module _ {T : Type 0} (before : T → T → Type 0) where
     first = record { bag = IsPermutation-refl []; order = tt; least = tt };
     few = omega arith;
     enough = λ less. refl;
+  }
+
+  -- the first none
+  pub first-of-none : (most : ℕ) (all : List T) → most ≡ 0 → AreFirstOf before all most []
+  first-of-none most all none = record {
+    left = all;
+    first = record { bag = IsPermutation-refl all; order = tt; least = tt };
+    few = omega arith;
+    enough = λ less. absurd (omega (arith, less, none));
   }
 
   -- their order does not matter
@@ -154,6 +167,11 @@ module _ {T S O : Type 0} (distance : T → ℕ) (value : S → ℤ) (compare : 
   abbrev IsAt : Found T S O → Type 0
   IsAt w = value w.distance ≡ pos (distance w.node.now)
 
+  came-in : (w : Found T S O) (us : List (Found T S O)) (place : ℕ) → AllByRecursion (λ u. value w.distance <ℤ value u.distance) (insert us place w) → ⊥
+  came-in w us place far =
+      let less = (all_along _ _ (w ∷ us) (IsPermutation-sym _ _ (IsPermutation-insert us place w)) far).0 in
+      absurd (omega (arith, ints, less))
+
   abbrev top : Found T S O → Found T S O → Ordering
   top = nearest_on_top compare ties
 
@@ -174,26 +192,29 @@ module _ {T S O : Type 0} (distance : T → ℕ) (value : S → ℤ) (compare : 
   found-ordered [] h k = tt
   found-ordered (u ∷ us) h k = (all-stand u us h.0 h.1 k.0, found-ordered us h.1 k.1)
 
+  -- what is not less is no farther
+  no-farther : (w u : Found T S O) → is_lt (top w u) ≡ false → value w.distance ≤ℤ value u.distance
+  no-farther w u h = not-less (value u.distance) (value w.distance) (sym (ap is_lt (order u.distance w.distance)) ∙ then-first (compare u.distance w.distance) (ties u.node.now w.node.now) h)
+
   -- the last of a list is the farthest
-  pub all-nearer : (us : List (Found T S O)) (s : S) → Rises (flip_args top) us → ((front : List (Found T S O)) (last : Found T S O) → us ≡ front ++ last ∷ [] → value last.distance <ℤ value s)
-      → AllByRecursion (λ u. value u.distance <ℤ value s) us
+  pub all-nearer : (us : List (Found T S O)) (s : S) → Rises (flip_args top) us → ((front : List (Found T S O)) (last : Found T S O) → us ≡ front ++ last ∷ [] → value last.distance ≤ℤ value s)
+      → AllByRecursion (λ u. value u.distance ≤ℤ value s) us
   all-nearer [] s h f = tt
   all-nearer (u ∷ []) s h f = (f [] u refl, tt)
   all-nearer (u ∷ w ∷ us) s h f =
       let rest = all-nearer (w ∷ us) s h.1 (λ front last e. f (u ∷ front) last (ap (λ l. u ∷ l) e)) in
-      let nearer = sym (ap is_lt (order w.distance u.distance)) ∙ then-first (compare w.distance u.distance) (ties w.node.now u.node.now) h.0.0 in
-      let no_farther = not-less (value w.distance) (value u.distance) nearer in
-      (omega (arith, ints, no_farther, rest.0), rest)
+      let near = no-farther u w h.0.0 in
+      (omega (arith, ints, near, rest.0), rest)
 
-  -- what is nearer than some elements stands before each of these
-  all-behind : (us : List (Found T S O)) (s : S) (m : ℕ) (ts : List T) → AllByRecursion IsAt us → AllByRecursion (λ u. value u.distance <ℤ value s) us → value s ≡ pos m → AllByRecursion (λ t. m ≤ distance t) ts
-      → AllByRecursion (λ u. AllByRecursion (IsNotLater distance ties u) ts) (found_elements us)
-  all-behind [] s m ts h k at above = tt
-  all-behind (u ∷ us) s m ts h k at above =
-      let own = h.0 in
-      let less = k.0 in
-      let nearer : distance u.node.now < m = omega (arith, ints, own, less, at) in
-      (all_map (λ t. m ≤ distance t) (IsNotLater distance ties u.node.now) (λ t far. later-far distance ties u.node.now t (omega (arith, nearer, far))) ts above, all-behind us s m ts h.1 k.1 at above)
+  -- where one place is for the greatest, what is kept is no farther than what came
+  pub one-within : (w : Found T S O) (old : Option (Found T S O)) (new : List (Found T S O)) → KeepsGreatest top 1 w (option_to_list old) new → AllByRecursion (λ u. value w.distance <ℤ value u.distance) new → ⊥
+  one-within w old new (inl in') far = came-in w (option_to_list old) in'.place (subst (AllByRecursion (λ u. value w.distance <ℤ value u.distance)) in'.is far)
+  one-within w old new (inr (inl out)) far = came-in w out.front out.place (subst (AllByRecursion (λ u. value w.distance <ℤ value u.distance)) out.is far)
+  one-within w None new (inr (inr out)) far = let full = out.full in absurd (omega (arith, full))
+  one-within w (Some u) new (inr (inr out)) far =
+      let near = no-farther u w (out.not_less [] u refl) in
+      let less = (subst (AllByRecursion (λ x. value w.distance <ℤ value x.distance)) out.is far).0 in
+      absurd (omega (arith, ints, near, less))
 
   module _ (total : IsTotalOrder ties) where
     -- what the last of a list stands before, all do
@@ -246,10 +267,51 @@ pub kept-one : {X : Type 0} (compare : X → X → Ordering) (x : X) (old : Opti
 kept-one compare x None b is e = inl record { room = omega arith; place = 0; is = refl }
 kept-one compare x (Some y) b is e = inr (inl record { full = omega arith; front = []; last = y; was = refl; less = sym is ∙ e; place = 0; is = refl })
 
-pub kept-in-one : {T S O : Type 0} (compare : Found T S O → Found T S O → Ordering) (most : ℕ) (w : Found T S O) (bound : Option S) (kept : Kept T S O) (found : Option (Found T S O)) (new : List (Found T S O))
-    → kept ≡ One found → IsKept most bound kept → KeepsGreatest compare 1 w (option_to_list found) new → KeepsGreatest compare most w (kept_in kept) new
-kept-in-one compare most w bound kept found new is fits keeps =
-    subst (λ m. KeepsGreatest compare m w (kept_in kept) new) (sym (subst (IsKept most bound) is fits)) (subst (λ k. KeepsGreatest compare 1 w (kept_in k) new) (sym is) keeps)
+pub kept-in-one : {T S O : Type 0} (value : S → ℤ) (compare : Found T S O → Found T S O → Ordering) (most : ℕ) (w : Found T S O) (bound : Option S) (kept : Kept T S O) (found : Option (Found T S O)) (new : List (Found T S O))
+    → kept ≡ One found → IsKept value most bound kept → KeepsGreatest compare 1 w (option_to_list found) new → KeepsGreatest compare most w (kept_in kept) new
+kept-in-one value compare most w bound kept found new is fits keeps =
+    subst (λ m. KeepsGreatest compare m w (kept_in kept) new) (sym (subst (IsKept value most bound) is fits)) (subst (λ k. KeepsGreatest compare 1 w (kept_in k) new) (sym is) keeps)
+
+-- what holds of the old ones and of the new one holds of those that are kept
+kept-all : {X : Type 0} (compare : X → X → Ordering) (P : X → Type 0) (most : ℕ) (x : X) (old new : List X) → KeepsGreatest compare most x old new → P x → AllByRecursion P old → AllByRecursion P new
+kept-all compare P most x old new (inl in') h k = all_along P (x ∷ old) new (subst (IsPermutation (x ∷ old)) (sym in'.is) (IsPermutation-insert old in'.place x)) (h, k)
+kept-all compare P most x old new (inr (inl out)) h k =
+    all_along P (x ∷ out.front) new (subst (IsPermutation (x ∷ out.front)) (sym out.is) (IsPermutation-insert out.front out.place x)) (h, all_first P out.front (out.last ∷ []) (subst (AllByRecursion P) out.was k))
+kept-all compare P most x old new (inr (inr out)) h k = subst (AllByRecursion P) (sym out.is) k
+
+-- those that are kept are no fewer
+kept-length : {X : Type 0} (compare : X → X → Ordering) (most : ℕ) (x : X) (old new : List X) → KeepsGreatest compare most x old new → length old ≤ length new
+kept-length compare most x old new (inl in') =
+    let long = length_permutation (x ∷ old) new (subst (IsPermutation (x ∷ old)) (sym in'.is) (IsPermutation-insert old in'.place x)) in
+    omega (arith, long)
+kept-length compare most x old new (inr (inl out)) =
+    let long = length_permutation (x ∷ out.front) new (subst (IsPermutation (x ∷ out.front)) (sym out.is) (IsPermutation-insert out.front out.place x)) in
+    let was = ap length out.was in
+    let parts = length-append out.front (out.last ∷ []) in
+    omega (arith, long, was, parts)
+kept-length compare most x old new (inr (inr out)) = let same = ap length out.is in omega (arith, same)
+
+-- the distance of the last of a full list is a bound, and no greater than the one that was
+pub few-tightened : {T S O : Type 0} (value : S → ℤ) (compare : Found T S O → Found T S O → Ordering) (most : ℕ) (w : Found T S O) (old new : List (Found T S O)) (bound limit : Option S)
+    → IfSome bound (IsFarthest value most old) → IfSome bound (λ b. value w.distance ≤ℤ value b) → KeepsGreatest compare most w old new → IfSome limit (IsFarthest value most new) → IfNone limit (most ≤ length new → new ≡ []) → IsTightened value bound limit new
+few-tightened value compare most w old new None None was within keeps is none = inl refl
+few-tightened value compare most w old new (Some b) None was within keeps is none =
+    let long = kept-length compare most w old new keeps in
+    let full = was.full in
+    let some = was.among.1 in
+    let no = ap length (none (omega (arith, long, full))) in
+    absurd (omega (arith, long, some, no))
+few-tightened {T} {S} {O} value compare most w old new bound (Some s) was within keeps is none = inr (s, refl, lower bound was within, far)
+  where
+    own : (P : Found T S O → Type 0) → AllByRecursion P new → P is.last
+    own P all = All-contains P new is.last (All-from_recursion P new all) is.among
+
+    far : AllByRecursion (λ u. value s <ℤ value u.distance) new → ⊥
+    far all = let less = own (λ u. value s <ℤ value u.distance) all in let at = ap value is.at in absurd (omega (arith, ints, less, at))
+
+    lower : (bound : Option S) → IfSome bound (IsFarthest value most old) → IfSome bound (λ b. value w.distance ≤ℤ value b) → IfSome bound (λ b. value s ≤ℤ value b)
+    lower None was within = tt
+    lower (Some b) was within = let near = own (λ u. value u.distance ≤ℤ value b) (kept-all compare (λ u. value u.distance ≤ℤ value b) most w old new keeps within was.within) in let at = ap value is.at in omega (arith, ints, near, at)
 
 -- one that is kept alone is in order
 pub one-rises : {X : Type 0} (compare : X → X → Ordering) (x : Option X) → Rises compare (option_to_list x)
@@ -316,20 +378,6 @@ module _ {T E S O : Type 0} (v : Boxes E) (o : Objects T E) (d : Distances T) (p
 module _ {T E : Type 0} {IsPoint : List ℤ → Type 0} {v : Boxes E} {o : Objects T E} {d : Distances T} {p : List ℤ} (law : IsMeasured IsPoint v o d p) {S O : Type 0} (compare : T → T → Ordering) (value : S → ℤ) (most : ℕ) (all : List T) where
   abbrev Until : List (RTreeNode T E) → List (Found T S O) → Type 0
   Until = AreFoundSoFar v o d p compare value most all
-
-  -- a node that is beyond what was found is left out
-  pub so-far-beyond : (scalars : S → S → Ordering) (order : (a b : S) → scalars a b ≡ int_cmp (value a) (value b)) (n : RTreeNode T E) (ns : List (RTreeNode T E)) (found : List (Found T S O)) (s : S)
-      → most ≤ length found → AllByRecursion (λ u. value u.distance <ℤ value s) found → value s ≡ pos (distance_of v d p n) → Until (n ∷ ns) found → Until ns found
-  so-far-beyond scalars order n ns found s full nearer at h =
-      let long = length-map found (λ (u : Found T S O). u.node.now) in
-      record {
-        parts = h.parts.1;
-        seen = elements n ++ h.seen;
-        bag = seen-too all n ns h.seen h.bag;
-        first = first-beyond (IsNotLater (λ t. d.distance_2 t p) compare) most (elements n) h.seen (found_elements found) (omega (arith, full, long))
-            (all-behind (λ t. d.distance_2 t p) value scalars compare order found s (distance_of v d p n) (elements n) h.at nearer at (above-node law n h.parts.0)) h.first;
-        at = h.at;
-      }
 
   -- a parent is opened
   pub so-far-parent : (q : ParentNode T E) (ns : List (RTreeNode T E)) (found : List (Found T S O)) → Until (Parent q ∷ ns) found → Until (ns ++ children_of q) found

@@ -1,5 +1,5 @@
 -- What the steps of a search for the first few elements keep, with what they cut, and what it gives at its end.
-use Rattle.std.proofs.Common.{◌≡◌, ◌≢◌, inl, inr, ℕ, ◌+◌, ◌<◌, ◌≤◌, ◌<ℤ◌, ℤ, pos, Bool, true, false, List, [], ◌∷◌, ◌++◌, length, refl, ap, sym, ◌∙◌, subst, arith, Option, Some, None, MatchOption, append_assoc, append-nil, min, All}
+use Rattle.std.proofs.Common.{◌≡◌, ◌≢◌, inl, inr, ℕ, ◌<◌, ◌≤◌, ◌<ℤ◌, ℤ, pos, Bool, true, false, List, [], ◌∷◌, ◌++◌, length, refl, ap, sym, ◌∙◌, subst, arith, Option, Some, None, IfSome, MatchOption, ◌⊎◌, ◌≤ℤ◌, append_assoc, append-nil, All}
 use lib.Dec.{leb}
 use Rattle.std.proofs.lemmas.Bool.{leb-true, leb-false}
 use Rattle.std.specs.Borrow.{Bor}
@@ -8,12 +8,14 @@ use Rattle.std.specs.List.Sorted.{IsPermutation}
 use Rattle.std.specs.Int.{int_min}
 use Rattle.std.specs.Ordering.{is_lt, int_cmp}
 use Rattle.std.specs.declared.cmp.Ordering.{Ordering}
-use Rattle.std.proofs.lemmas.Int.{ints}
+use Rattle.std.proofs.lemmas.Cmp.{int_ranked, by_ranked}
+use Rattle.std.proofs.lemmas.Int.{ints, int_min_is}
+use Rattle.std.proofs.lemmas.List.{length-map}
 use Rattle.std.proofs.lemmas.List.Sorted.{IsPermutation-refl, IsPermutation-trans, IsPermutation-sym, IsPermutation-append_left, IsPermutation-append_comm, Contains-permutation, length_permutation}
 use Rattle.std.proofs.lemmas.List.Elements.{All-from_recursion, All-contains, recursion_from_All}
 use Rattle.rstar_base.specs.Envelopes.{Boxes}
 use Rattle.rstar_base.specs.Elements.{Objects, Distances}
-use Rattle.rstar_base.proofs.Lists.{all-append, all_first, all_along, all_map}
+use Rattle.rstar_base.proofs.Lists.{all-append, all_first, all_second, all_along, all_map}
 use Rattle.rstar.specs.declared.algorithm.nearest_neighbor.few.Kept.{Kept}
 use Rattle.rstar.specs.declared.algorithm.nearest_neighbor.few.Kept.TheVariants.{One, Few}
 use Rattle.rstar.specs.declared.algorithm.nearest_neighbor.waiting.Waiting.{Waiting}
@@ -21,24 +23,28 @@ use Rattle.rstar.specs.declared.node.RTreeNode.{RTreeNode, Parent}
 use Rattle.rstar.specs.declared.node.ParentNode.{ParentNode}
 use Rattle.rstar.specs.Nodes.{elements, all_elements, node_box, children_of, elements_of, envelope_of, IsWhole}
 use Rattle.rstar.specs.Lists.{AreFirstOf, IsNearest, IsNotLater}
-use Rattle.rstar.specs.inside.Few.{Found, found_elements, kept_in, waiting_parents, AreFoundSoFar, IsAbove, IsBeyond, IsBound, IsKept, IsLowered, IsSeeking, WaitAtDistance}
+use Rattle.rstar.specs.inside.Few.{Found, found_elements, kept_in, waiting_parents, AreFoundSoFar, IsAbove, IsBound, IsKept, IsLowered, IsSeeking, IsTightened, WaitAtDistance}
 use Rattle.rstar.specs.inside.Searches.{any_first, distance_of, nearest_on_top}
 use Rattle.rstar.proofs.searching.ByOrder.{later-far, no-nearer}
-use Rattle.rstar.proofs.searching.Few.{first-along, first-beyond, not-less, so-far-same, so-far-end, so-far-beyond, so-far-parent, so-far-start, popped-nodes, popped-waiting}
+use Rattle.rstar.proofs.searching.Few.{first-along, first-beyond, not-less, so-far-same, so-far-end, so-far-parent, so-far-start, popped-nodes, popped-waiting}
 use Rattle.rstar.proofs.searching.Nearness.{IsMeasured, above-node, node-within, root-below, root-within}
 use Rattle.rstar.proofs.searching.Searches.{then-first}
 use Rattle.rstar.proofs.selecting.Traversals.{nil-length}
 
 -- ---- limits of a list's numbers
 
-over : {X : Type 0} (f : X → ℕ) (m n : ℕ) (xs : List X) → m < n → AllByRecursion (λ x. n ≤ f x) xs → AllByRecursion (λ x. m < f x) xs
-over f m n xs le = all_map (λ x. n ≤ f x) (λ x. m < f x) (λ x h. omega (arith, le, h)) xs
+over : {X : Type 0} (f : X → ℕ) (m : ℤ) (n : ℕ) (xs : List X) → m <ℤ pos n → AllByRecursion (λ x. n ≤ f x) xs → AllByRecursion (λ x. m <ℤ pos (f x)) xs
+over f m n xs le = all_map (λ x. n ≤ f x) (λ x. m <ℤ pos (f x)) (λ x h. omega (arith, ints, le, h)) xs
 
-below : {X : Type 0} (f : X → ℕ) (m n : ℕ) (xs : List X) → m ≤ n → AllByRecursion (λ x. n < f x) xs → AllByRecursion (λ x. m < f x) xs
-below f m n xs le = all_map (λ x. n < f x) (λ x. m < f x) (λ x h. omega (arith, le, h)) xs
+below : {X : Type 0} (f : X → ℕ) (m n : ℤ) (xs : List X) → m ≤ℤ n → AllByRecursion (λ x. n <ℤ pos (f x)) xs → AllByRecursion (λ x. m <ℤ pos (f x)) xs
+below f m n xs le = all_map (λ x. n <ℤ pos (f x)) (λ x. m <ℤ pos (f x)) (λ x h. omega (arith, ints, le, h)) xs
 
-lesser : (x y r : ℤ) (a b : ℕ) → x ≡ pos a → y ≡ pos b → r ≡ int_min x y → r ≡ pos (min a b)
-lesser x y r a b h k e = e ∙ ap (λ w. int_min w y) h ∙ ap (λ w. int_min (pos a) w) k ∙ grind (arith, ints)
+-- the lesser of two is one of these, and no greater than the first
+lesser : (x y r : ℤ) → r ≡ int_min x y → ((r ≡ x) ⊎ (r ≡ y)) × (r ≤ℤ x)
+lesser x y r is = by_ranked (x <ℤ y) (x ≡ y) (y <ℤ x) (int_cmp x y) (int_ranked x y (int_cmp x y) refl)
+    (λ e l. let least = int_min_is x y in let same : r ≡ x = omega (arith, ints, is, l, least) in (inl same, omega (arith, ints, same)))
+    (λ e l. let least = int_min_is x y in let same : r ≡ x = omega (arith, ints, is, l, least) in (inl same, omega (arith, ints, same)))
+    (λ e l. let least = int_min_is x y in let same : r ≡ y = omega (arith, ints, is, l, least) in (inr same, omega (arith, ints, same, l)))
 
 -- ---- what is sought
 
@@ -73,33 +79,30 @@ module _ {T E : Type 0} {IsPoint : List ℤ → Type 0} {v : Boxes E} {o : Objec
   seek-lowered n ns found old new (inl same) s = subst (λ b. Seeking (n ∷ ns) b found) (sym same) s
   seek-lowered n ns found old new (inr (x, is, by)) s = subst (λ b. Seeking (n ∷ ns) b found) (sym is) record { left = s.left; cut = s.cut; bag = s.bag; bounded = lowered old by s.bounded; so_far = s.so_far }
     where
-      some : AllByRecursion (λ t. v.min_max_dist_2 (node_box o.box_of n) p < d.distance_2 t p) s.left → ⊥
-      some far = node-within law n s.so_far.parts.0 _ (omega arith)
-          (all_first _ (elements n) (all_elements ns) (all_first _ (all_elements (n ∷ ns)) s.so_far.seen (all_along _ _ _ s.so_far.bag far)))
+      reach : ℕ
+      reach = v.min_max_dist_2 (node_box o.box_of n) p
 
-      lowered : (old : Option S) → MatchOption old (value x ≡ pos (v.min_max_dist_2 (node_box o.box_of n) p)) (λ b. value x ≡ int_min (value b) (pos (v.min_max_dist_2 (node_box o.box_of n) p)))
+      some : AllByRecursion (λ t. pos reach <ℤ pos (d.distance_2 t p)) s.left → ⊥
+      some far = node-within law n s.so_far.parts.0 _ (omega arith)
+          (all_map (λ t. pos reach <ℤ pos (d.distance_2 t p)) (λ t. reach < d.distance_2 t p) (λ t h. omega (arith, ints, h)) (elements n)
+          (all_first _ (elements n) (all_elements ns) (all_first _ (all_elements (n ∷ ns)) s.so_far.seen (all_along _ _ _ s.so_far.bag far))))
+
+      lowered : (old : Option S) → MatchOption old (value x ≡ pos reach) (λ b. value x ≡ int_min (value b) (pos reach))
           → MatchOption old (s.cut ≡ []) (λ b. IsBound (λ t. d.distance_2 t p) s.left s.cut (value b)) → IsBound (λ t. d.distance_2 t p) s.left s.cut (value x)
-      lowered None at none = record { limit = v.min_max_dist_2 (node_box o.box_of n) p; at = at; above = subst (AllByRecursion (λ t. v.min_max_dist_2 (node_box o.box_of n) p < d.distance_2 t p)) (sym none) tt; within = some }
-      lowered (Some b) at h = go (leb (v.min_max_dist_2 (node_box o.box_of n) p) h.limit) refl
+      lowered None at none = record { above = subst (AllByRecursion (λ t. value x <ℤ pos (d.distance_2 t p))) (sym none) tt; within = subst (λ z. AllByRecursion (λ t. z <ℤ pos (d.distance_2 t p)) s.left → ⊥) (sym at) some }
+      lowered (Some b) at h =
+          let least = lesser (value b) (pos reach) (value x) at in
+          record { above = below (λ t. d.distance_2 t p) (value x) (value b) s.cut least.1 h.above; within = within least.0 }
         where
-          go : (w : Bool) → leb (v.min_max_dist_2 (node_box o.box_of n) p) h.limit ≡ w → IsBound (λ t. d.distance_2 t p) s.left s.cut (value x)
-          go true e =
-              let less = leb-true _ _ e in
-              record {
-                limit = v.min_max_dist_2 (node_box o.box_of n) p;
-                at = lesser (value b) _ (value x) h.limit _ h.at refl at ∙ ap pos (omega (arith, less));
-                above = below (λ t. d.distance_2 t p) _ h.limit s.cut less h.above;
-                within = some;
-              }
-          go false e = let more = leb-false _ _ e in record { limit = h.limit; at = lesser (value b) _ (value x) h.limit _ h.at refl at ∙ ap pos (omega (arith, more)); above = h.above; within = h.within }
+          within : (value x ≡ value b) ⊎ (value x ≡ pos reach) → AllByRecursion (λ t. value x <ℤ pos (d.distance_2 t p)) s.left → ⊥
+          within (inl same) = subst (λ z. AllByRecursion (λ t. z <ℤ pos (d.distance_2 t p)) s.left → ⊥) (sym same) h.within
+          within (inr same) = subst (λ z. AllByRecursion (λ t. z <ℤ pos (d.distance_2 t p)) s.left → ⊥) (sym same) some
 
   -- a node above the bound is cut
   pub seek-cut : (n : RTreeNode T E) (ns : List (RTreeNode T E)) (found : List (Found T S O)) (bound : Option S) → IsAbove value bound (distance_of v d p n) → Seeking (n ∷ ns) bound found → Seeking ns bound found
   seek-cut n ns found None is s = absurd is
   seek-cut n ns found (Some b) is s =
-      let before = s.bounded.at in
-      let less : s.bounded.limit < distance_of v d p n = omega (arith, ints) in
-      let far : AllByRecursion (λ t. s.bounded.limit < d.distance_2 t p) (elements n) = over (λ t. d.distance_2 t p) s.bounded.limit _ (elements n) less (above-node law n s.so_far.parts.0) in
+      let far : AllByRecursion (λ t. value b <ℤ pos (d.distance_2 t p)) (elements n) = over (λ t. d.distance_2 t p) (value b) _ (elements n) is (above-node law n s.so_far.parts.0) in
       let rest = all_elements ns ++ s.so_far.seen in
       let parted : IsPermutation s.left (elements n ++ rest) = subst (IsPermutation s.left) (append_assoc (elements n) (all_elements ns) s.so_far.seen) s.so_far.bag in
       record {
@@ -108,36 +111,44 @@ module _ {T E : Type 0} {IsPoint : List ℤ → Type 0} {v : Boxes E} {o : Objec
         bag = IsPermutation-trans _ _ _ s.bag (IsPermutation-trans _ _ _ (IsPermutation-append_left s.cut _ _ parted)
             (subst (IsPermutation ((elements n ++ rest) ++ s.cut)) (append_assoc rest (elements n) s.cut) (IsPermutation-append_left s.cut _ _ (IsPermutation-append_comm (elements n) rest))));
         bounded = record {
-          limit = s.bounded.limit;
-          at = s.bounded.at;
           above = all-append _ (elements n) s.cut far s.bounded.above;
           within = λ others. s.bounded.within (all_along _ _ _ (IsPermutation-sym _ _ parted) (all-append _ (elements n) rest far others));
         };
         so_far = record { parts = s.so_far.parts.1; seen = s.so_far.seen; bag = IsPermutation-refl rest; first = s.so_far.first; at = s.so_far.at };
       }
 
-  module _ (scalars : S → S → Ordering) (order : (a b : S) → scalars a b ≡ int_cmp (value a) (value b)) where
-    -- a node at which nothing is sought is left out
-    pub seek-beyond : (n : RTreeNode T E) (ns : List (RTreeNode T E)) (found : List (Found T S O)) (bound : Option S) (s : S) → value s ≡ pos (distance_of v d p n)
-        → IsBeyond value most bound found (distance_of v d p n) → Seeking (n ∷ ns) bound found → Seeking ns bound found
-    seek-beyond n ns found bound s at (inl is) = seek-cut n ns found bound is
-    seek-beyond n ns found bound s at (inr full) =
-        seek-step (λ left. so-far-beyond law compare value most left scalars order n ns found s full.0 (subst (λ z. AllByRecursion (λ u. value u.distance <ℤ z) found) (sym at) full.1) at)
+  -- a bound is lowered, and not all that were found lie above it
+  pub seek-tightened : (ns : List (RTreeNode T E)) (found : List (Found T S O)) (old new : Option S) → IsTightened value old new found → Seeking ns old found → Seeking ns new found
+  seek-tightened ns found old new (inl same) s = subst (λ b. Seeking ns b found) (sym same) s
+  seek-tightened ns found old new (inr (x, is, less, some)) s = subst (λ b. Seeking ns b found) (sym is) record { left = s.left; cut = s.cut; bag = s.bag; bounded = record { above = above old less s.bounded; within = within }; so_far = s.so_far }
+    where
+      above : (old : Option S) → IfSome old (λ b. value x ≤ℤ value b) → MatchOption old (s.cut ≡ []) (λ b. IsBound (λ t. d.distance_2 t p) s.left s.cut (value b)) → AllByRecursion (λ t. value x <ℤ pos (d.distance_2 t p)) s.cut
+      above None less none = subst (AllByRecursion (λ t. value x <ℤ pos (d.distance_2 t p))) (sym none) tt
+      above (Some b) less h = below (λ t. d.distance_2 t p) (value x) (value b) s.cut less h.above
 
+      lying : (us : List (Found T S O)) → AllByRecursion (λ w. value w.distance ≡ pos (d.distance_2 w.node.now p)) us → AllByRecursion (λ t. value x <ℤ pos (d.distance_2 t p)) (found_elements us) → AllByRecursion (λ w. value x <ℤ value w.distance) us
+      lying [] at far = tt
+      lying (u ∷ us) at far = (subst (λ z. value x <ℤ z) (sym at.0) far.0, lying us at.1 far.1)
+
+      within : AllByRecursion (λ t. value x <ℤ pos (d.distance_2 t p)) s.left → ⊥
+      within far =
+          let seen = all_second _ (all_elements ns) s.so_far.seen (all_along _ _ _ s.so_far.bag far) in
+          some (lying found s.so_far.at (all_first _ (found_elements found) s.so_far.first.left (all_along _ _ _ s.so_far.first.first.bag seen)))
+
+  module _ (scalars : S → S → Ordering) (order : (a b : S) → scalars a b ≡ int_cmp (value a) (value b)) where
     -- and so are parents that wait no nearer
-    pub seek-all-beyond : {Y : Type 0} (ties : ParentNode T E → ParentNode T E → Ordering) (x : Waiting (Bor (ParentNode T E)) S Y) (ws : List (Waiting (Bor (ParentNode T E)) S Y)) (found : List (Found T S O)) (bound : Option S) (m : ℕ) → value x.distance ≡ pos m
-        → IsBeyond value most bound found m → AllByRecursion (λ w. is_lt (nearest_on_top scalars ties x w) ≡ false) ws → WaitAtDistance v d p value ws → Seeking (waiting_parents ws) bound found → Seeking [] bound found
-    seek-all-beyond ties x [] found bound m own beyond least at h = h
-    seek-all-beyond ties x (w ∷ ws) found bound m own beyond least at h =
+    pub seek-all-cut : {Y : Type 0} (ties : ParentNode T E → ParentNode T E → Ordering) (x : Waiting (Bor (ParentNode T E)) S Y) (ws : List (Waiting (Bor (ParentNode T E)) S Y)) (found : List (Found T S O)) (bound : Option S) (m : ℕ) → value x.distance ≡ pos m
+        → IsAbove value bound m → AllByRecursion (λ w. is_lt (nearest_on_top scalars ties x w) ≡ false) ws → WaitAtDistance v d p value ws → Seeking (waiting_parents ws) bound found → Seeking [] bound found
+    seek-all-cut ties x [] found bound m own above least at h = h
+    seek-all-cut ties x (w ∷ ws) found bound m own above least at h =
         let far = not-less (value w.distance) (value x.distance) (sym (ap is_lt (order w.distance x.distance)) ∙ then-first (scalars w.distance x.distance) (ties w.node.now x.node.now) least.0) in
         let mine = at.0 in
         let le : m ≤ distance_of v d p (Parent w.node.now) = omega (arith, ints, far, own, mine) in
-        seek-all-beyond ties x ws found bound m own beyond least.1 at.1 (seek-beyond (Parent w.node.now) (waiting_parents ws) found bound w.distance at.0 (farther-beyond m _ le bound found beyond) h)
+        seek-all-cut ties x ws found bound m own above least.1 at.1 (seek-cut (Parent w.node.now) (waiting_parents ws) found bound (farther m _ le bound above) h)
       where
-        farther-beyond : (m k : ℕ) → m ≤ k → (bound : Option S) (found : List (Found T S O)) → IsBeyond value most bound found m → IsBeyond value most bound found k
-        farther-beyond m k le None found (inl is) = elim is [ ]
-        farther-beyond m k le (Some b) found (inl is) = inl (omega (arith, ints, le, is))
-        farther-beyond m k le bound found (inr full) = inr (full.0, all_map _ (λ u. value u.distance <ℤ pos k) (λ u less. omega (arith, ints, le, less)) found full.1)
+        farther : (m k : ℕ) → m ≤ k → (bound : Option S) → IsAbove value bound m → IsAbove value bound k
+        farther m k le None is = is
+        farther m k le (Some b) is = omega (arith, ints, le, is)
 
   -- a parent is opened
   pub seek-parent : (q : ParentNode T E) (ns : List (RTreeNode T E)) (found : List (Found T S O)) (bound : Option S) → Seeking (Parent q ∷ ns) bound found → Seeking (ns ++ children_of q) bound found
@@ -145,8 +156,8 @@ module _ {T E : Type 0} {IsPoint : List ℤ → Type 0} {v : Boxes E} {o : Objec
 
 -- where no node is left, those found are the first of all
 pub seek-end : {T E S O : Type 0} (v : Boxes E) (o : Objects T E) (d : Distances T) (p : List ℤ) (compare : T → T → Ordering) (value : S → ℤ) (most : ℕ) (all : List T) (ns : List (RTreeNode T E)) (bound : Option S) (kept : Kept T S O)
-    → ns ≡ [] → IsKept most bound kept → IsSeeking v o d p compare value most all ns bound (kept_in kept) → AreFirstOf (IsNotLater (λ t. d.distance_2 t p) compare) all most (found_elements (kept_in kept))
-seek-end {T} {E} {S} {O} v o d p compare value most all ns bound kept none is s = whole bound kept is s.bounded first
+    → ns ≡ [] → IsKept value most bound kept → IsSeeking v o d p compare value most all ns bound (kept_in kept) → AreFirstOf (IsNotLater (λ t. d.distance_2 t p) compare) all most (found_elements (kept_in kept))
+seek-end {T} {E} {S} {O} v o d p compare value most all ns bound kept none is s = whole bound kept is s.so_far.at s.bounded first
   where
     before : T → T → Type 0
     before = IsNotLater (λ t. d.distance_2 t p) compare
@@ -157,32 +168,42 @@ seek-end {T} {E} {S} {O} v o d p compare value most all ns bound kept none is s 
     along : (found : List T) → AreFirstOf before (s.cut ++ s.left) most found → AreFirstOf before all most found
     along found h = first-along before most (s.cut ++ s.left) all found (IsPermutation-trans _ _ _ s.bag (IsPermutation-append_comm s.left s.cut)) h
 
-    whole : (bound : Option S) (kept : Kept T S O) → IsKept most bound kept → MatchOption bound (s.cut ≡ []) (λ b. IsBound (λ t. d.distance_2 t p) s.left s.cut (value b)) → AreFirstOf before s.left most (found_elements (kept_in kept))
+    cut-behind : (b : S) → AllByRecursion (λ t. value b <ℤ pos (d.distance_2 t p)) s.cut → (u : Found T S O) → value u.distance ≡ pos (d.distance_2 u.node.now p) → value u.distance ≤ℤ value b → AllByRecursion (before u.node.now) s.cut
+    cut-behind b above u own near = all_map (λ t. value b <ℤ pos (d.distance_2 t p)) (before u.node.now) (λ t far. later-far (λ t. d.distance_2 t p) compare u.node.now t (omega (arith, ints, own, near, far))) s.cut above
+
+    whole : (bound : Option S) (kept : Kept T S O) → IsKept value most bound kept → AllByRecursion (λ w. value w.distance ≡ pos (d.distance_2 w.node.now p)) (kept_in kept) → MatchOption bound (s.cut ≡ []) (λ b. IsBound (λ t. d.distance_2 t p) s.left s.cut (value b)) → AreFirstOf before s.left most (found_elements (kept_in kept))
         → AreFirstOf before all most (found_elements (kept_in kept))
-    whole None kept is uncut h = first-along before most s.left all (found_elements (kept_in kept)) (subst (IsPermutation all) (append-nil s.left) (subst (λ c. IsPermutation all (s.left ++ c)) uncut s.bag)) h
-    whole (Some b) (Few ws) is h first = cc is.0
-    whole (Some b) (One None) is h first = absurd (h.within (all_along _ _ s.left (IsPermutation-sym _ _ (subst (λ l. IsPermutation s.left l) (first.enough (omega (arith, is))) first.first.bag)) tt))
-    whole (Some b) (One (Some x)) is h first = along (x.node.now ∷ []) (first-beyond before most s.cut s.left (x.node.now ∷ []) (omega (arith, is)) (go (leb (d.distance_2 x.node.now p) h.limit) refl, tt) first)
+    whole None kept is at uncut h = first-along before most s.left all (found_elements (kept_in kept)) (subst (IsPermutation all) (append-nil s.left) (subst (λ c. IsPermutation all (s.left ++ c)) uncut s.bag)) h
+    whole (Some b) (Few ws) is at h first = along (found_elements ws.items) (first-beyond before most s.cut s.left (found_elements ws.items) (let full = is.full in let long = length-map ws.items (λ (u : Found T S O). u.node.now) in omega (arith, full, long)) (nearer ws.items at is.within) first)
       where
-        go : (w : Bool) → leb (d.distance_2 x.node.now p) h.limit ≡ w → AllByRecursion (before x.node.now) s.cut
-        go true e =
-            let near = leb-true _ _ e in
-            all_map (λ u. h.limit < d.distance_2 u p) (before x.node.now) (λ u far. later-far (λ t. d.distance_2 t p) compare x.node.now u (omega (arith, near, far))) s.cut h.above
-        go false e =
-            let more = leb-false _ _ e in
+        nearer : (us : List (Found T S O)) → AllByRecursion (λ w. value w.distance ≡ pos (d.distance_2 w.node.now p)) us → AllByRecursion (λ w. value w.distance ≤ℤ value b) us → AllByRecursion (λ t. AllByRecursion (before t) s.cut) (found_elements us)
+        nearer [] at near = tt
+        nearer (u ∷ us) at near = (cut-behind b h.above u at.0 near.0, nearer us at.1 near.1)
+    whole (Some b) (One None) is at h first = absurd (h.within (all_along _ _ s.left (IsPermutation-sym _ _ (subst (λ l. IsPermutation s.left l) (first.enough (omega (arith, is))) first.first.bag)) tt))
+    whole (Some b) (One (Some x)) is at h first = along (x.node.now ∷ []) (first-beyond before most s.cut s.left (x.node.now ∷ []) (omega (arith, is)) (near, tt) first)
+      where
+        own : value x.distance ≡ pos (d.distance_2 x.node.now p)
+        own = at.0
+
+        near : AllByRecursion (before x.node.now) s.cut
+        near = by_ranked (value b <ℤ value x.distance) (value b ≡ value x.distance) (value x.distance <ℤ value b) (int_cmp (value b) (value x.distance)) (int_ranked (value b) (value x.distance) (int_cmp (value b) (value x.distance)) refl)
+            (λ e more.
             let nearer = all_map (before x.node.now) (λ u. d.distance_2 x.node.now p ≤ d.distance_2 u p) (λ u h. no-nearer (λ t. d.distance_2 t p) compare x.node.now u h) first.left first.first.least.0 in
-            absurd (h.within (all_along _ _ s.left (IsPermutation-sym _ _ first.first.bag) (more, over (λ t. d.distance_2 t p) h.limit (d.distance_2 x.node.now p) first.left more nearer)))
+            let far : value b <ℤ pos (d.distance_2 x.node.now p) = subst (λ z. value b <ℤ z) own more in
+            absurd (h.within (all_along _ _ s.left (IsPermutation-sym _ _ first.first.bag) (far, over (λ t. d.distance_2 t p) (value b) (d.distance_2 x.node.now p) first.left far nearer))))
+            (λ e same. cut-behind b h.above x own (omega (arith, ints, same)))
+            (λ e less. cut-behind b h.above x own (omega (arith, ints, less)))
 
 -- where nothing is sought at the distance of the parent that the heap gives, none is sought at those of the others
 pub seek-stops : {T E : Type 0} {IsPoint : List ℤ → Type 0} {v : Boxes E} {o : Objects T E} {d : Distances T} {p : List ℤ} (law : IsMeasured IsPoint v o d p) {S O Y : Type 0} (compare : T → T → Ordering) (value : S → ℤ) (most : ℕ) (all : List T)
     (scalars : S → S → Ordering) (order : (a b : S) → scalars a b ≡ int_cmp (value a) (value b)) (ties : ParentNode T E → ParentNode T E → Ordering) (w : Waiting (Bor (ParentNode T E)) S Y) (ws us : List (Waiting (Bor (ParentNode T E)) S Y)) (found : List (Found T S O)) (bound : Option S)
-    → IsPermutation ws (w ∷ us) → All (λ u. is_lt (nearest_on_top scalars ties w u) ≡ false) us → WaitAtDistance v d p value ws → ((m : ℕ) → value w.distance ≡ pos m → IsBeyond value most bound found m)
+    → IsPermutation ws (w ∷ us) → All (λ u. is_lt (nearest_on_top scalars ties w u) ≡ false) us → WaitAtDistance v d p value ws → ((m : ℕ) → value w.distance ≡ pos m → IsAbove value bound m)
     → IsSeeking v o d p compare value most all (waiting_parents ws) bound found → IsSeeking v o d p compare value most all [] bound found
-seek-stops {v = v} {o = o} {d = d} {p = p} law compare value most all scalars order ties w ws us found bound popped greatest waiting beyond s =
+seek-stops {v = v} {o = o} {d = d} {p = p} law compare value most all scalars order ties w ws us found bound popped greatest waiting above s =
     let at = popped-waiting w ws us popped v d p value waiting in
     let front = seek-step (λ left. so-far-same v o d p compare value most left (waiting_parents ws) (Parent w.node.now ∷ waiting_parents us) found (popped-nodes w ws us popped)) s in
-    let others = seek-beyond law compare value most all scalars order (Parent w.node.now) (waiting_parents us) found bound w.distance at.0 (beyond _ at.0) front in
-    seek-all-beyond law compare value most all scalars order ties w us found bound _ at.0 (beyond _ at.0) (recursion_from_All _ us greatest) at.1 others
+    let others = seek-cut law compare value most all (Parent w.node.now) (waiting_parents us) found bound (above _ at.0) front in
+    seek-all-cut law compare value most all scalars order ties w us found bound _ at.0 (above _ at.0) (recursion_from_All _ us greatest) at.1 others
 
 -- ---- one element
 
@@ -214,4 +235,4 @@ module _ {T E : Type 0} {IsPoint : List ℤ → Type 0} {v : Boxes E} {o : Objec
       go true e = leb-true _ _ e
       go false e =
           let more = leb-false _ _ e in
-          absurd (root-within law root whole (some (elements_of root) nearest.member) (over (λ t. d.distance_2 t p) _ (d.distance_2 t p) (elements_of root) (omega arith) nearest.least))
+          absurd (root-within law root whole (some (elements_of root) nearest.member) (all_map (λ u. d.distance_2 t p ≤ d.distance_2 u p) (λ u. v.min_max_dist_2 (envelope_of root) p < d.distance_2 u p) (λ u h. omega (arith, more, h)) (elements_of root) nearest.least))

@@ -1,9 +1,9 @@
 -- What a search for the first few elements keeps: those found so far, a bound for the nearest, and the parents that wait.
 -- T is the element's type, E its envelope's, S its scalar's.
-use Rattle.std.specs.Prelude.{◌≡◌, ◌≢◌, ℕ, ◌<◌, ◌≤◌, ◌<ℤ◌, ◌⊎◌, ℤ, pos, true, false, List, [], ◌∷◌, ◌++◌, length, map, Option, Some, None, MatchOption, option_to_list}
+use Rattle.std.specs.Prelude.{◌≡◌, ℕ, ◌<◌, ◌≤◌, ◌<ℤ◌, ◌≤ℤ◌, ◌⊎◌, ℤ, pos, Bool, true, false, List, [], ◌∷◌, ◌++◌, length, map, Option, Some, None, IfSome, MatchOption, option_to_list}
 use Rattle.std.specs.Borrow.{Bor}
 use Rattle.std.specs.Int.{int_min}
-use Rattle.std.specs.List.{AllByRecursion, insert}
+use Rattle.std.specs.List.{AllByRecursion, Contains, insert}
 use Rattle.std.specs.List.Sorted.{IsPermutation}
 use Rattle.std.specs.Ordering.{is_lt}
 use Rattle.std.specs.declared.cmp.Ordering.{Ordering}
@@ -60,10 +60,23 @@ abbrev pub kept_in : {T S O : Type 0} → Kept T S O → List (Found T S O)
 kept_in (One w) = option_to_list w
 kept_in (Few ws) = ws.items
 
--- one element that is asked for is kept in place, and only then is there a bound
-abbrev pub IsKept : {T S O : Type 0} → ℕ → Option S → Kept T S O → Type 0
-IsKept most bound (One w) = most ≡ 1
-IsKept most bound (Few ws) = (bound ≡ None) × (most ≢ 1)
+-- whether one is kept in place
+abbrev pub is_one : {T S O : Type 0} → Kept T S O → Bool
+is_one (One w) = true
+is_one (Few ws) = false
+
+-- as many as asked for were found, one of them at this distance, and none farther
+pub record IsFarthest {T S O : Type 0} (value : S → ℤ) (most : ℕ) (found : List (Found T S O)) (s : S) : Type 0 where
+  pub full : most ≤ length found
+  pub last : Found T S O
+  pub among : Contains found last
+  pub at : s ≡ last.distance
+  pub within : AllByRecursion (λ w. value w.distance ≤ℤ value s) found
+
+-- one element that is asked for is kept in place, and the bound of several is the distance of the last of a full list
+abbrev pub IsKept : {T S O : Type 0} → (S → ℤ) → ℕ → Option S → Kept T S O → Type 0
+IsKept value most bound (One w) = most ≡ 1
+IsKept value most bound (Few ws) = IfSome bound (IsFarthest value most ws.items)
 
 -- the parents that wait in a heap, as nodes
 abbrev pub waiting_parents : {T E S O : Type 0} → List (Waiting (Bor (ParentNode T E)) S O) → List (RTreeNode T E)
@@ -87,10 +100,8 @@ pub record AreFoundSoFar {T E S O : Type 0} (v : Boxes E) (o : Objects T E) (d :
 
 -- each element that was cut lies above it, and not all that are left do
 pub record IsBound {T : Type 0} (distance : T → ℕ) (left cut : List T) (bound : ℤ) : Type 0 where
-  pub limit : ℕ
-  pub at : bound ≡ pos limit
-  pub above : AllByRecursion (λ t. limit < distance t) cut
-  pub within : AllByRecursion (λ t. limit < distance t) left → ⊥
+  pub above : AllByRecursion (λ t. bound <ℤ pos (distance t)) cut
+  pub within : AllByRecursion (λ t. bound <ℤ pos (distance t)) left → ⊥
 
 -- a distance lies above a bound, where there is one
 abbrev pub IsAbove : {S : Type 0} → (S → ℤ) → Option S → ℕ → Type 0
@@ -102,11 +113,10 @@ abbrev pub IsLowered : {S : Type 0} → (S → ℤ) → ℕ → Option S → Opt
 IsLowered {S} value reach old new =
     (new ≡ old) ⊎ ((s : S) × (new ≡ Some s) × MatchOption old (value s ≡ pos reach) (λ b. value s ≡ int_min (value b) (pos reach)))
 
--- a distance at which nothing is sought: above the bound, or behind as many elements as asked for
-abbrev pub IsBeyond : {T S O : Type 0} → (S → ℤ) → ℕ → Option S → List (Found T S O) → ℕ → Type 0
-IsBeyond value most bound found distance =
-    IsAbove value bound distance
-    ⊎ ((most ≤ length found) × AllByRecursion (λ w. value w.distance <ℤ pos distance) found)
+-- a bound is left as it is, or lowered, and not all that were found lie above it
+abbrev pub IsTightened : {T S O : Type 0} → (S → ℤ) → Option S → Option S → List (Found T S O) → Type 0
+IsTightened {T} {S} {O} value old new found =
+    (new ≡ old) ⊎ ((s : S) × (new ≡ Some s) × IfSome old (λ b. value s ≤ℤ value b) × (AllByRecursion (λ w. value s <ℤ value w.distance) found → ⊥))
 
 -- all elements are those that are left and those that were cut, which are none where there is no bound
 pub record IsSeeking {T E S O : Type 0} (v : Boxes E) (o : Objects T E) (d : Distances T) (p : List ℤ)

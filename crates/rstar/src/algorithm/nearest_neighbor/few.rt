@@ -1,26 +1,28 @@
 //! The nearest, and the k nearest for small k: the best elements found so far prune what is farther than the
 //! last of them, and the least MINMAXDIST seen prunes a search for one (Roussopoulos et al. 1995).
 
-ghost use Rattle.std.specs.Prelude.{◌≡◌, ◌≤◌, ◌<ℤ◌, ◌+◌, ◌++◌, ◌∷◌, [], List, ℕ, true, false, length, pos, map, None, Option, OnOk, IfOk, IfSome, IfNone, MatchOption, option_to_list};
+ghost use Rattle.std.specs.Prelude.{◌≡◌, ◌≤◌, ◌≤ℤ◌, ◌+◌, ◌++◌, ◌∷◌, [], List, ℕ, true, false, length, pos, map, None, Option, OnOk, IfOk, IfSome, IfNone, MatchOption, option_to_list};
 ghost use Rattle.std.specs.List.{AllByRecursion, insert};
 ghost use Rattle.std.specs.Ordering.{flip_args, is_lt};
 ghost use Rattle.rstar_base.specs.SmallHeaps.{items_of, IsOrdered, Rises};
 ghost use Rattle.rstar.specs.declared.node.RTreeNode.{RTreeNode};
-ghost use Rattle.rstar.specs.inside.Few.{found_elements, kept_in, IsAbove, IsBeyond, IsKept, IsLowered, IsSeeking, KeepsGreatest, WaitAtDistance, waiting_parents};
+ghost use Rattle.rstar.specs.inside.Few.{found_elements, is_one, kept_in, IsAbove, IsFarthest, IsKept, IsLowered, IsSeeking, IsTightened, KeepsGreatest, WaitAtDistance, waiting_parents};
 ghost use Rattle.rstar.specs.Lists.{IsNearest, IsNotLater, AreFirstOf};
 ghost use Rattle.rstar.specs.Nodes.{all_parents, elements_of, envelope_of, parents, IsWhole};
 ghost use Rattle.rstar.specs.inside.Searches.{any_first, distance_of, nearest_on_top};
 
 use crate::algorithm::nearest_neighbor::search::{distance_to, fits};
-use crate::algorithm::nearest_neighbor::waiting::{AnyFirst, TieOrder, Waiting};
+use crate::algorithm::nearest_neighbor::waiting::{AnyFirst, ParentsFor, TieOrder, Waiting};
 use crate::bounds::{Measured, SquaredDistance};
 use crate::node::{ParentNode, RTreeNode};
 use rstar_base::heap::SmallHeap;
-use std::alloc::{AllocError, Global};
+use std::alloc::AllocError;
 use std::marker::PhantomData;
 
 /// The priority queue of parents, the nearest on top.
-type Parents<'a, T> = SmallHeap<Waiting<&'a ParentNode<T>, <T as Measured>::Distance, AnyFirst>>;
+type Parents<'a, T, E> = SmallHeap<
+    Waiting<&'a ParentNode<T>, <T as Measured>::Distance, ParentsFor<E>>,
+>;
 
 /// The best elements found so far, the nearest first. One lies in place, and takes no memory.
 #[derive(Drop)]
@@ -29,8 +31,9 @@ enum Kept<'a, T, S, E> {
     Few(Vec<Waiting<&'a T, S, E>>),
 }
 
-/// What a search knows: the best elements so far, and of a search for one a distance within which there is
-/// an element.
+/// What a search knows: the best elements so far, and a bound, above which nothing is sought. Of a search for
+/// one it is a distance within which there is an element. Of others it is the distance of the last of a full
+/// list.
 #[derive(Drop)]
 struct Best<'a, T, S, E> {
     kept: Kept<'a, T, S, E>,
@@ -74,7 +77,7 @@ pub(crate) fn one_nearest<'a, T: Measured>(
 /// ties.
 ///
 /// Each element found is inserted into a sorted list, so this costs less than a priority queue only for
-/// small `most`. `room` is the capacity that the list starts with; one element is found without a list.
+/// small `most`. `room` is the capacity that the list starts with.
 pub(crate) fn first_few<'a, T: Measured, E: TieOrder<T>>(
     root: &'a ParentNode<T>,
     point: &T::Place,
@@ -89,14 +92,18 @@ pub(crate) fn first_few<'a, T: Measured, E: TieOrder<T>>(
 {
     fits::<T::Distance>();
     let alloc = *root.children.allocator();
-    let kept = if most == 1 {
-        Kept::One(None)
-    } else {
-        Kept::Few(Vec::with_capacity(alloc, room)?)
+    if most == 0 {
+        return Ok(Vec::new(alloc));
+    }
+    let mut best: Best<'a, T, T::Distance, E> = Best {
+        kept: Kept::Few(Vec::with_capacity(alloc, room)?),
+        bound: None,
     };
-    let mut best: Best<'a, T, T::Distance, E> = Best { kept, bound: None };
     search(root, point, most, &mut best)?;
-    lent(&best.kept, alloc)
+    match &best.kept {
+        Kept::Few(found) => lent(found),
+        Kept::One(_) => unreachable!(),
+    }
 }
 
 /// Finds the first `most` elements by distance, from nothing found.
@@ -107,10 +114,10 @@ fn search<'a, T: Measured, E: TieOrder<T>>(
     best: &mut Best<'a, T, T::Distance, E>,
 ) -> Result<(), AllocError>
     requires whole { IsWhole T.Cover.boxes T.object root.now }
-    requires kept { IsKept most best.old.bound best.old.kept }
+    requires kept { IsKept T.Distance.number most best.old.bound best.old.kept }
     requires unbound { best.old.bound ≡ None }
     requires none { kept_in best.old.kept ≡ [] }
-    ensures kept { IsKept most best.new.bound best.new.kept }
+    ensures same { is_one best.new.kept ≡ is_one best.old.kept }
     ensures first { OnOk result (AreFirstOf (IsNotLater (λ t. T.distances.distance_2 t (T.at point.now)) E.order)
         (elements_of root.now) most (found_elements (kept_in best.new.kept))) }
     ensures distances { OnOk result (AllByRecursion
@@ -120,10 +127,10 @@ fn search<'a, T: Measured, E: TieOrder<T>>(
     // Does nothing but tell that the point's coordinates are in their range.
     T::known(point);
     fits::<T::Distance>();
-    let mut heap: Parents<'a, T> = SmallHeap::new(*root.children.allocator());
+    let mut heap: Parents<'a, T, E> = SmallHeap::new(*root.children.allocator());
     open(&mut heap, best, &root.children, point, most)?;
     while let Some(current) = heap.pop() {
-        if rules_out(best, most, current.distance) {
+        if rules_out(best.bound, current.distance) {
             // The others that wait are no nearer.
             return Ok(());
         }
@@ -132,28 +139,8 @@ fn search<'a, T: Measured, E: TieOrder<T>>(
     Ok(())
 }
 
-/// The elements that are kept, with their distances.
-fn lent<'a, T, S: Copy, E>(
-    kept: &Kept<'a, T, S, E>,
-    alloc: Global,
-) -> Result<Vec<(&'a T, S)>, AllocError>
-    ensures { IfOk result (λ all. all.items ≡ map (λ w. (w.node, w.distance)) (kept_in kept.now)) }
-{
-    match kept {
-        Kept::One(None) => Ok(Vec::new(alloc)),
-        Kept::One(Some(first)) => {
-            let mut all = Vec::with_capacity(alloc, 1)?;
-            all.push((first.node, first.distance))?;
-            Ok(all)
-        }
-        Kept::Few(found) => all_lent(found),
-    }
-}
-
 /// The elements of a list, with their distances.
-fn all_lent<'a, T, S: Copy, E>(
-    found: &Vec<Waiting<&'a T, S, E>>,
-) -> Result<Vec<(&'a T, S)>, AllocError>
+fn lent<'a, T, S: Copy, E>(found: &Vec<Waiting<&'a T, S, E>>) -> Result<Vec<(&'a T, S)>, AllocError>
     ensures { IfOk result (λ all. all.items ≡ map (λ w. (w.node, w.distance)) found.now.items) }
 {
     let mut all = Vec::with_capacity(*found.allocator(), found.len())?;
@@ -163,48 +150,20 @@ fn all_lent<'a, T, S: Copy, E>(
     Ok(all)
 }
 
-/// Whether nothing at a distance is sought.
-fn rules_out<'a, T, S: SquaredDistance, E: TieOrder<T>>(
-    best: &Best<'a, T, S, E>,
-    most: usize,
-    distance: S,
-) -> bool
-    requires kept { IsKept most best.now.bound best.now.kept }
-    requires falls { Rises (flip_args (nearest_on_top S.cmp E.order)) (kept_in best.now.kept) }
-    ensures { result ≡ true → (m : ℕ) → S.number distance ≡ pos m → IsBeyond S.number most best.now.bound
-        (kept_in best.now.kept) m }
+/// Whether a distance lies above the bound.
+#[inline(always)]
+fn rules_out<S: SquaredDistance>(bound: Option<S>, distance: S) -> bool
+    ensures { result ≡ true → (m : ℕ) → S.number distance ≡ pos m → IsAbove S.number bound m }
 {
-    if let Some(limit) = best.bound {
-        if !distance.is_within(limit) {
-            return true;
-        }
-    }
-    match &best.kept {
-        Kept::One(None) => false,
-        Kept::One(Some(first)) => !distance.is_within(first.distance),
-        Kept::Few(found) => is_beyond(found, most, distance),
-    }
-}
-
-/// Whether a list holds as many elements as asked for, each nearer than a distance.
-fn is_beyond<'a, T, S: SquaredDistance, E: TieOrder<T>>(
-    found: &[Waiting<&'a T, S, E>],
-    most: usize,
-    distance: S,
-) -> bool
-    ensures full { result ≡ true → most ≤ length found.now }
-    ensures beyond { result ≡ true → Rises (flip_args (nearest_on_top S.cmp E.order)) found.now → AllByRecursion
-        (λ w. S.number w.distance <ℤ S.number distance) found.now }
-{
-    match found.last() {
-        Some(last) => most <= found.len() && last.distance.cmp(&distance).is_lt(),
-        None => most == 0,
+    match bound {
+        Some(limit) => !distance.is_within(limit),
+        None => false,
     }
 }
 
 /// Visits nodes: parents are queued and elements are kept, unless they are ruled out.
 fn open<'a, T: Measured, E: TieOrder<T>>(
-    heap: &mut Parents<'a, T>,
+    heap: &mut Parents<'a, T, E>,
     best: &mut Best<'a, T, T::Distance, E>,
     children: &'a [RTreeNode<T>],
     point: &T::Place,
@@ -212,10 +171,11 @@ fn open<'a, T: Measured, E: TieOrder<T>>(
 ) -> Result<(), AllocError>
     requires point { T.Cover.is_point (T.at point.now) }
     requires ordered { IsOrdered (nearest_on_top T.Distance.cmp any_first) heap.old }
-    requires kept { IsKept most best.old.bound best.old.kept }
+    requires kept { IsKept T.Distance.number most best.old.bound best.old.kept }
     requires falls { Rises (flip_args (nearest_on_top T.Distance.cmp E.order)) (kept_in best.old.kept) }
     ensures ordered { IsOrdered (nearest_on_top T.Distance.cmp any_first) heap.new }
-    ensures kept { IsKept most best.new.bound best.new.kept }
+    ensures kept { OnOk result (IsKept T.Distance.number most best.new.bound best.new.kept) }
+    ensures same { is_one best.new.kept ≡ is_one best.old.kept }
     ensures falls { Rises (flip_args (nearest_on_top T.Distance.cmp E.order)) (kept_in best.new.kept) }
     ensures waiting { OnOk result (WaitAtDistance T.Cover.boxes T.distances (T.at point.now) T.Distance.number
         (items_of heap.old) → WaitAtDistance T.Cover.boxes T.distances (T.at point.now) T.Distance.number
@@ -235,7 +195,7 @@ fn open<'a, T: Measured, E: TieOrder<T>>(
 
 /// Visits one node.
 fn offer<'a, T: Measured, E: TieOrder<T>>(
-    heap: &mut Parents<'a, T>,
+    heap: &mut Parents<'a, T, E>,
     best: &mut Best<'a, T, T::Distance, E>,
     node: &'a RTreeNode<T>,
     point: &T::Place,
@@ -243,10 +203,11 @@ fn offer<'a, T: Measured, E: TieOrder<T>>(
 ) -> Result<(), AllocError>
     requires point { T.Cover.is_point (T.at point.now) }
     requires ordered { IsOrdered (nearest_on_top T.Distance.cmp any_first) heap.old }
-    requires kept { IsKept most best.old.bound best.old.kept }
+    requires kept { IsKept T.Distance.number most best.old.bound best.old.kept }
     requires falls { Rises (flip_args (nearest_on_top T.Distance.cmp E.order)) (kept_in best.old.kept) }
     ensures ordered { IsOrdered (nearest_on_top T.Distance.cmp any_first) heap.new }
-    ensures kept { IsKept most best.new.bound best.new.kept }
+    ensures kept { OnOk result (IsKept T.Distance.number most best.new.bound best.new.kept) }
+    ensures same { is_one best.new.kept ≡ is_one best.old.kept }
     ensures falls { Rises (flip_args (nearest_on_top T.Distance.cmp E.order)) (kept_in best.new.kept) }
     ensures waiting { OnOk result (WaitAtDistance T.Cover.boxes T.distances (T.at point.now) T.Distance.number
         (items_of heap.old) → WaitAtDistance T.Cover.boxes T.distances (T.at point.now) T.Distance.number
@@ -262,12 +223,9 @@ fn offer<'a, T: Measured, E: TieOrder<T>>(
     let Some(distance) = distance_within(node, point, best.bound) else {
         return Ok(());
     };
-    if rules_out(best, most, distance) {
-        return Ok(());
-    }
     match node {
         RTreeNode::Leaf(t) => take_in(
-            &mut best.kept,
+            best,
             most,
             Waiting {
                 node: t,
@@ -291,6 +249,7 @@ fn offer<'a, T: Measured, E: TieOrder<T>>(
 
 /// The distance at which a node is queued, where it is at most the bound.
 #[tactic(auto, unfolding(crate::specs::Nodes::node_distance, crate::specs::Nodes::fold_tree))]
+#[inline(always)]
 fn distance_within<T: Measured>(
     node: &RTreeNode<T>,
     point: &T::Place,
@@ -298,6 +257,7 @@ fn distance_within<T: Measured>(
 ) -> Option<T::Distance>
     ensures at { IfSome result
         (λ d. T.Distance.number d ≡ pos (distance_of T.Cover.boxes T.distances (T.at point.now) node.now)) }
+    ensures within { IfSome result (λ d. IfSome bound (λ b. T.Distance.number d ≤ℤ T.Distance.number b)) }
     ensures above { IfNone result
         (IsAbove T.Distance.number bound (distance_of T.Cover.boxes T.distances (T.at point.now) node.now)) }
 {
@@ -314,6 +274,7 @@ fn distance_within<T: Measured>(
 }
 
 /// The bound where a parent with this envelope waits: of a search for one at most its MINMAXDIST.
+#[inline(always)]
 fn bound_with<'a, T: Measured, E>(
     best: &Best<'a, T, T::Distance, E>,
     envelope: &T::Cover,
@@ -321,7 +282,8 @@ fn bound_with<'a, T: Measured, E>(
 ) -> Option<T::Distance>
     ensures lowered { IsLowered T.Distance.number (T.Cover.boxes.min_max_dist_2 envelope.now (T.at point.now))
         best.now.bound result }
-    ensures kept { (most : ℕ) → IsKept most best.now.bound best.now.kept → IsKept most result best.now.kept }
+    ensures kept { (most : ℕ) → IsKept T.Distance.number most best.now.bound best.now.kept → IsKept T.Distance.number
+        most result best.now.kept }
 {
     match &best.kept {
         Kept::Few(_) => best.bound,
@@ -335,24 +297,67 @@ fn bound_with<'a, T: Measured, E>(
     }
 }
 
-/// Keeps an element where it is one of the first.
+/// Keeps an element where it is one of the first, and lowers the bound to the last of as many as asked for.
+#[inline(always)]
 fn take_in<'a, T, S: SquaredDistance, E: TieOrder<T>>(
-    kept: &mut Kept<'a, T, S, E>,
+    best: &mut Best<'a, T, S, E>,
     most: usize,
     item: Waiting<&'a T, S, E>,
 ) -> Result<(), AllocError>
-    requires falls { Rises (flip_args (nearest_on_top S.cmp E.order)) (kept_in kept.old) }
-    ensures falls { Rises (flip_args (nearest_on_top S.cmp E.order)) (kept_in kept.new) }
-    ensures same { (bound : Option S) → IsKept most bound kept.old → IsKept most bound kept.new }
-    ensures kept { OnOk result ((bound : Option S) → IsKept most bound kept.old → KeepsGreatest
-        (nearest_on_top S.cmp E.order) most item.entry (kept_in kept.old) (kept_in kept.new)) }
+    requires kept { IsKept S.number most best.old.bound best.old.kept }
+    requires falls { Rises (flip_args (nearest_on_top S.cmp E.order)) (kept_in best.old.kept) }
+    requires within { IfSome best.old.bound (λ b. S.number item.distance ≤ℤ S.number b) }
+    ensures falls { Rises (flip_args (nearest_on_top S.cmp E.order)) (kept_in best.new.kept) }
+    ensures same { is_one best.new.kept ≡ is_one best.old.kept }
+    ensures fits { OnOk result (IsKept S.number most best.new.bound best.new.kept) }
+    ensures kept { OnOk result (KeepsGreatest (nearest_on_top S.cmp E.order) most item.entry (kept_in best.old.kept)
+        (kept_in best.new.kept) × IsTightened S.number best.old.bound best.new.bound (kept_in best.new.kept)) }
 {
-    match kept {
+    match &mut best.kept {
         Kept::One(found) => {
+            best.bound = Some(item.distance);
             keep_one(found, item);
-            Ok(())
         }
-        Kept::Few(found) => keep(found, most, item),
+        Kept::Few(found) => {
+            best.bound = keep_few(found, most, item)?;
+        }
+    }
+    Ok(())
+}
+
+/// Inserts an element into a sorted list, as `keep` does. Returns the distance of the last of a full list.
+#[inline(always)]
+fn keep_few<'a, T, S: SquaredDistance, E: TieOrder<T>>(
+    found: &mut Vec<Waiting<&'a T, S, E>>,
+    most: usize,
+    item: Waiting<&'a T, S, E>,
+) -> Result<Option<S>, AllocError>
+    requires { Rises (flip_args (nearest_on_top S.cmp E.order)) found.old.items }
+    ensures falls { Rises (flip_args (nearest_on_top S.cmp E.order)) found.new.items }
+    ensures kept { OnOk result (KeepsGreatest (nearest_on_top S.cmp E.order) most item.entry found.old.items
+        found.new.items) }
+    ensures last { IfOk result (λ r. IfSome r (IsFarthest S.number most found.new.items)) }
+    ensures none { IfOk result (λ r. IfNone r (most ≤ length found.new.items → found.new.items ≡ [])) }
+{
+    keep(found, most, item)?;
+    Ok(last_of(found, most))
+}
+
+/// The distance of the last of as many elements as asked for.
+fn last_of<'a, T, S: SquaredDistance, E: TieOrder<T>>(
+    found: &[Waiting<&'a T, S, E>],
+    most: usize,
+) -> Option<S>
+    requires { Rises (flip_args (nearest_on_top S.cmp E.order)) found.now }
+    ensures last { IfSome result (IsFarthest S.number most found.now) }
+    ensures none { IfNone result (most ≤ length found.now → found.now ≡ []) }
+{
+    if found.len() < most {
+        return None;
+    }
+    match found.last() {
+        Some(last) => Some(last.distance),
+        None => None,
     }
 }
 

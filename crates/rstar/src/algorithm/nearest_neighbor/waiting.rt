@@ -52,6 +52,22 @@ impl<T: Covered> ElementOrder<T> for AnyFirst {
     ghost ties = { any_ties };
 }
 
+/// No order of parents, in a search whose elements come in the order `E`. Each such search has a queue of its
+/// own type, which the compiler writes into it in place.
+pub(crate) struct ParentsFor<E> {
+    order: PhantomData<E>,
+}
+
+impl<N, E> TieOrder<N> for ParentsFor<E> {
+    ghost order = { any_first };
+
+    fn compare(_a: &N, _b: &N) -> Ordering {
+        Ordering::Equal
+    }
+
+    ghost total = { Prim.search (comparing, rules) };
+}
+
 /// Elements come in their own order.
 pub(crate) struct OwnOrder;
 

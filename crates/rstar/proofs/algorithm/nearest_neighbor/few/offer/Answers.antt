@@ -33,22 +33,8 @@ returns-in_default-clause-first g c = λ all rest s.
     let front = seeking.seek-same g.T.Cover.Merges.boxes g.T.Covered.object g.T.Measured.distances p g.E.TieOrder.order value c.args.most all bound (ws ++ c.args.node.now ∷ rest) (c.args.node.now ∷ (ws ++ rest)) found (IsPermutation-middle ws c.args.node.now rest) s in
     seeking.seek-cut (measured g p c.requires.point) g.E.TieOrder.order value c.args.most all c.args.node.now (ws ++ rest) found bound c.in_default.ensures.above front
 
-pub returns-then-rules_out-clause-first : goal.returns-then-rules_out-clause-first
-returns-then-rules_out-clause-first g c = λ all rest s.
-    let p = g.T.Measured.at c.args.point.now in
-    let ws = waiting_parents (items_of c.args.heap.now) in
-    let value = g.T.Distance.SquaredDistance.number in
-    let found = kept_in c.args.best.now.kept in
-    let bound = c.args.best.now.bound in
-    let front = seeking.seek-same g.T.Cover.Merges.boxes g.T.Covered.object g.T.Measured.distances p g.E.TieOrder.order value c.args.most all bound (ws ++ c.args.node.now ∷ rest) (c.args.node.now ∷ (ws ++ rest)) found (IsPermutation-middle ws c.args.node.now rest) s in
-    seeking.seek-beyond (measured g p c.requires.point) g.E.TieOrder.order value c.args.most all g.T.Distance.Ord.cmp (order g) c.args.node.now (ws ++ rest) found bound c.in-Some.distance c.in-Some.ensures.at
-    (c.rules_out.ensures c.if-rules_out.true (distance_of g.T.Cover.Merges.boxes g.T.Measured.distances p c.args.node.now) c.in-Some.ensures.at) front
-
-pub returns-in-Leaf-clause-kept : goal.returns-in-Leaf-clause-kept
-returns-in-Leaf-clause-kept g c = c.take_in.ensures.same c.args.best.now.bound c.requires.kept
-
 pub returns-in-Leaf-clause-first : goal.returns-in-Leaf-clause-first
-returns-in-Leaf-clause-first g c = on_ok_weaker c.take_in.result (λ keeps all rest s.
+returns-in-Leaf-clause-first g c = on_ok_weaker c.take_in.result (λ kept all rest s.
     let p = g.T.Measured.at c.args.point.now in
     let ws = waiting_parents (items_of c.args.heap.now) in
     let value = g.T.Distance.SquaredDistance.number in
@@ -59,14 +45,12 @@ returns-in-Leaf-clause-first g c = on_ok_weaker c.take_in.result (λ keeps all r
     let at : value c.in-Some.distance ≡ pos (g.T.Measured.distances.distance_2 t p) =
     c.in-Some.ensures.at ∙ ap (λ n. pos (distance_of g.T.Cover.Merges.boxes g.T.Measured.distances p n)) c.in-Leaf.is
     ∙ ap pos (node_distance-Leaf g.row.T.Denot g.row.T-Cover.Denot (λ e. g.T.Cover.Merges.boxes.distance_2 e p) (λ u. g.T.Measured.distances.distance_2 u p) t) in
-    seeking.seek-step (λ left. few.so-far-leaf g.T.Cover.Merges.boxes g.T.Covered.object g.T.Measured.distances p g.E.TieOrder.order value c.args.most left g.T.Distance.Ord.cmp (order g) g.met.E.TieOrder.total _ (ws ++ rest) found (kept_in c.take_in.new.kept)
-    at (keeps bound c.requires.kept) c.take_in.ensures.falls) (subst (λ n. IsSeeking g.T.Cover.Merges.boxes g.T.Covered.object g.T.Measured.distances p g.E.TieOrder.order value c.args.most all (n ∷ (ws ++ rest)) bound found) c.in-Leaf.is front)) c.take_in.ensures.kept
+    seeking.seek-tightened (measured g p c.requires.point) g.E.TieOrder.order value c.args.most all (ws ++ rest) (kept_in c.take_in.new.best.kept) bound c.take_in.new.best.bound kept.1
+    (seeking.seek-step (λ left. few.so-far-leaf g.T.Cover.Merges.boxes g.T.Covered.object g.T.Measured.distances p g.E.TieOrder.order value c.args.most left g.T.Distance.Ord.cmp (order g) g.met.E.TieOrder.total _ (ws ++ rest) found (kept_in c.take_in.new.best.kept)
+    at kept.0 c.take_in.ensures.falls) (subst (λ n. IsSeeking g.T.Cover.Merges.boxes g.T.Covered.object g.T.Measured.distances p g.E.TieOrder.order value c.args.most all (n ∷ (ws ++ rest)) bound found) c.in-Leaf.is front))) c.take_in.ensures.kept
 
 pub returns-in-Ok-clause-kept : goal.returns-in-Ok-clause-kept
 returns-in-Ok-clause-kept g c = c.bound_with-best.ensures.kept c.args.most c.requires.kept
-
-pub returns-in-Err-clause-kept : goal.returns-in-Err-clause-kept
-returns-in-Err-clause-kept g c = c.bound_with-best.ensures.kept c.args.most c.requires.kept
 
 pub returns-in-Ok-clause-fewer : goal.returns-in-Ok-clause-fewer
 returns-in-Ok-clause-fewer g c =

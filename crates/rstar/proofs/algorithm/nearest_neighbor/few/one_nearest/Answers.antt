@@ -1,6 +1,6 @@
-use Rattle.std.proofs.Common.{◌≡◌, subst, Some, None, rules}
+use Rattle.std.proofs.Common.{◌≡◌, ◌∙◌, ap, subst, sym, Some, None, rules}
 use Rattle.rstar.specs.declared.algorithm.nearest_neighbor.few.Kept.TheVariants.{One}
-use Rattle.rstar.specs.inside.Few.{found_elements, kept_in}
+use Rattle.rstar.specs.inside.Few.{found_elements, is_one, kept_in}
 use Rattle.rstar.specs.inside.Searches.{any_first}
 use Rattle.rstar.specs.Lists.{AreFirstOf, IsNotLater}
 use Rattle.rstar.specs.Nodes.{elements_of}
@@ -33,3 +33,6 @@ returns-in-One-None-clause-none g c =
     let is : c.search.new.best.kept ≡ One None = search rules in
     seeking.first-none (elements_of c.args.root.now)
     (subst (λ k. AreFirstOf (IsNotLater distance any_first) (elements_of c.args.root.now) 1 (found_elements (kept_in k))) is c.in_ok-search.ensures.first)
+
+pub unreachable-requires : goal.unreachable-requires
+unreachable-requires g c = cc (sym c.search.ensures.same ∙ ap is_one c.in-Few.is)

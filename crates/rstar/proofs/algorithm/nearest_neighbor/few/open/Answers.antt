@@ -1,4 +1,4 @@
-use Rattle.std.proofs.Common.{◌∷◌, [], ◌++◌, ◌+◌, ◌<◌, length, drop, take, arith, sym, subst, ap, ◌∙◌}
+use Rattle.std.proofs.Common.{◌∷◌, [], ◌++◌, ◌+◌, ◌<◌, length, drop, take, arith, refl, sym, subst, ap, ◌∙◌}
 use Rattle.std.proofs.lemmas.List.{append-nil, take_more, drop_more, drop_all}
 use Rattle.std.proofs.lemmas.List.Sums.{sum_by-cons, sum_by-append}
 use Rattle.rstar_base.specs.SmallHeaps.{items_of}
@@ -7,7 +7,7 @@ use Rattle.rstar.specs.Nodes.{all_parents, parents}
 use Rattle.rstar.proofs.algorithm.nearest_neighbor.few.open.Goals as goal
 
 pub loop-child-init : goal.loop-child-init
-loop-child-init g c = record { ordered = c.requires.ordered; kept = c.requires.kept; falls = c.requires.falls; waiting = λ before. before; fewer = omega arith; first = λ all s. s }
+loop-child-init g c = record { ordered = c.requires.ordered; kept = c.requires.kept; same = refl; falls = c.requires.falls; waiting = λ before. before; fewer = omega arith; first = λ all s. s }
 
 pub loop-child-preserved : goal.loop-child-preserved
 loop-child-preserved g c =
@@ -22,7 +22,8 @@ loop-child-preserved g c =
     let p = g.T.Measured.at c.args.point.now in
     record {
       ordered = c.offer.ensures.ordered;
-      kept = c.offer.ensures.kept;
+      kept = c.in_ok-offer.ensures.kept;
+      same = c.offer.ensures.same ∙ c.loop-child.invariant.same;
       falls = c.offer.ensures.falls;
       waiting = λ before. c.in_ok-offer.ensures.waiting (c.loop-child.invariant.waiting before);
       fewer = omega arith;

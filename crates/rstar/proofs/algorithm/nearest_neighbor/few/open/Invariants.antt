@@ -1,7 +1,7 @@
-use Rattle.std.proofs.Common.{◌≤◌, ◌+◌, ◌++◌, drop, take, List}
+use Rattle.std.proofs.Common.{◌≡◌, ◌≤◌, ◌+◌, ◌++◌, drop, take, List}
 use Rattle.std.specs.Ordering.{flip_args}
 use Rattle.rstar_base.specs.SmallHeaps.{items_of, IsOrdered, Rises}
-use Rattle.rstar.specs.inside.Few.{kept_in, IsKept, IsSeeking, WaitAtDistance, waiting_parents}
+use Rattle.rstar.specs.inside.Few.{is_one, kept_in, IsKept, IsSeeking, WaitAtDistance, waiting_parents}
 use Rattle.rstar.specs.Nodes.{all_parents}
 use Rattle.rstar.specs.inside.Searches.{any_first, nearest_on_top}
 use Rattle.rstar.proofs.algorithm.nearest_neighbor.few.open.Given as goal
@@ -10,7 +10,8 @@ use Rattle.rstar.proofs.algorithm.nearest_neighbor.few.open.Given as goal
 abbrev pub invariant-loop-child : goal.invariant-loop-child
 invariant-loop-child g l = record {
   ordered : IsOrdered (nearest_on_top g.T.Distance.Ord.cmp any_first) l.heap;
-  kept : IsKept l.most l.best.bound l.best.kept;
+  kept : IsKept g.T.Distance.SquaredDistance.number l.most l.best.bound l.best.kept;
+  same : is_one l.best.kept ≡ is_one l.fn.best.kept;
   falls : Rises (flip_args (nearest_on_top g.T.Distance.Ord.cmp g.E.TieOrder.order)) (kept_in l.best.kept);
   waiting : WaitAtDistance g.T.Cover.Merges.boxes g.T.Measured.distances (g.T.Measured.at l.fn.point) g.T.Distance.SquaredDistance.number (items_of l.fn.heap)
       → WaitAtDistance g.T.Cover.Merges.boxes g.T.Measured.distances (g.T.Measured.at l.fn.point) g.T.Distance.SquaredDistance.number (items_of l.heap);

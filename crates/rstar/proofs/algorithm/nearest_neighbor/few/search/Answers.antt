@@ -1,4 +1,4 @@
-use Rattle.std.proofs.Common.{◌≡◌, [], ◌∷◌, ◌++◌, arith, refl, sym, subst, ap}
+use Rattle.std.proofs.Common.{◌≡◌, [], ◌∷◌, ◌++◌, arith, refl, sym, subst, ap, ◌∙◌}
 use Rattle.std.specs.Ordering.{int_cmp}
 use Rattle.rstar_base.specs.SmallHeaps.{items_of}
 use Rattle.rstar.specs.declared.node.RTreeNode.{Parent}
@@ -28,7 +28,8 @@ loop-current-init g c =
     let start = seeking.seek-start g.T.Cover.Merges.boxes g.T.Covered.object g.T.Measured.distances p g.E.TieOrder.order value c.args.most c.args.root.now (items_of c.new-heap.result) c.args.best.now.bound found c.new-heap.ensures.none c.requires.none c.requires.unbound c.requires.whole in
     record {
       ordered = c.open.ensures.ordered;
-      kept = c.open.ensures.kept;
+      kept = c.in_ok-open.ensures.kept;
+      same = c.open.ensures.same;
       falls = c.open.ensures.falls;
       waiting = c.in_ok-open.ensures.waiting (rw c.new-heap.ensures.none tt);
       first = c.in_ok-open.ensures.first (elements_of c.args.root.now) (subst (λ l. IsSeeking g.T.Cover.Merges.boxes g.T.Covered.object g.T.Measured.distances p g.E.TieOrder.order value c.args.most (elements_of c.args.root.now) (waiting_parents (items_of c.new-heap.result) ++ l) c.args.best.now.bound found) (sym c.deref.ensures.value) start);
@@ -55,7 +56,8 @@ loop-current-preserved g c =
     let opened = seeking.seek-parent (measured g p c.known.ensures.range) g.E.TieOrder.order value c.args.most all q us found bound front in
     record {
       ordered = c.open-in-Some.ensures.ordered;
-      kept = c.open-in-Some.ensures.kept;
+      kept = c.in_ok-open-2.ensures.kept;
+      same = c.open-in-Some.ensures.same ∙ c.loop-current.invariant.same;
       falls = c.open-in-Some.ensures.falls;
       waiting = c.in_ok-open-2.ensures.waiting rest.1;
       first = c.in_ok-open-2.ensures.first all (subst (λ l. IsSeeking g.T.Cover.Merges.boxes g.T.Covered.object g.T.Measured.distances p g.E.TieOrder.order value c.args.most all (us ++ l) bound found) (sym c.deref-in-Some.ensures.value) opened);

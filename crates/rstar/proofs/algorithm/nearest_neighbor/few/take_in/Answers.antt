@@ -1,13 +1,38 @@
-use Rattle.std.proofs.Common.{sym, subst}
-use Rattle.std.proofs.lemmas.Result.{on_ok_weaker}
-use Rattle.rstar.specs.inside.Few.{kept_in, KeepsGreatest}
+use Rattle.std.proofs.Common.{◌≡◌, inr, refl, sym, subst, ap}
+use Rattle.std.specs.Ordering.{int_cmp}
+use Rattle.rstar.specs.inside.Few.{is_one, kept_in, IsKept, KeepsGreatest}
 use Rattle.rstar.specs.inside.Searches.{nearest_on_top}
-use Rattle.rstar.proofs.searching.Few.{kept-in-one}
+use Rattle.rstar.proofs.searching.Few.{few-tightened, kept-in-one, one-within}
+use Rattle.rstar.proofs.searching.SearchTurns as turns
+use Rattle.rstar.proofs.algorithm.nearest_neighbor.few.take_in.Given.{Over}
 use Rattle.rstar.proofs.algorithm.nearest_neighbor.few.take_in.Goals as goal
 
-pub returns-in-One-clause-kept : goal.returns-in-One-clause-kept
-returns-in-One-clause-kept g c = λ bound fits. kept-in-one (nearest_on_top g.S.Ord.cmp g.E.TieOrder.order) c.args.most c.args.item bound c.args.kept.now c.in-One.found _ c.in-One.is fits c.keep_one.ensures
+order : (g : Over) (a b : g.row.S.Denot) → g.S.Ord.cmp a b ≡ int_cmp (g.S.SquaredDistance.number a) (g.S.SquaredDistance.number b)
+order g = turns.order_of g.S.SquaredDistance.number g.S.Ord.cmp _ g.met.S.Ord.matches_partial_cmp g.met.S.SquaredDistance.number_order
 
-pub returns-in-Few-clause-kept : goal.returns-in-Few-clause-kept
-returns-in-Few-clause-kept g c =
-    on_ok_weaker c.keep.result (λ keeps bound fits. subst (λ k. KeepsGreatest (nearest_on_top g.S.Ord.cmp g.E.TieOrder.order) c.args.most c.args.item (kept_in k) c.keep.new.found.items) (sym c.in-Few.is) keeps) c.keep.ensures.kept
+pub returns-in-One-clause-same : goal.returns-in-One-clause-same
+returns-in-One-clause-same g c = sym (ap is_one c.in-One.is)
+
+pub returns-in-One-clause-kept : goal.returns-in-One-clause-kept
+returns-in-One-clause-kept g c =
+    let value = g.S.SquaredDistance.number in
+    let top = nearest_on_top g.S.Ord.cmp g.E.TieOrder.order in (
+      kept-in-one value top c.args.most c.args.item c.args.best.now.bound c.args.best.now.kept c.in-One.found _ c.in-One.is c.requires.kept c.keep_one.ensures,
+      inr (c.args.item.distance, refl, c.requires.within, one-within (λ _. 0) value g.S.Ord.cmp g.E.TieOrder.order (order g) c.args.item c.in-One.found _ c.keep_one.ensures),
+    )
+
+pub returns-in_err-best-in-Few-clause-same : goal.returns-in_err-best-in-Few-clause-same
+returns-in_err-best-in-Few-clause-same g c = sym (ap is_one c.in-Few.is)
+
+pub returns-in_ok-best-in-Few-clause-same : goal.returns-in_ok-best-in-Few-clause-same
+returns-in_ok-best-in-Few-clause-same g c = sym (ap is_one c.in-Few.is)
+
+pub returns-in_ok-best-in-Few-clause-kept : goal.returns-in_ok-best-in-Few-clause-kept
+returns-in_ok-best-in-Few-clause-kept g c =
+    let value = g.S.SquaredDistance.number in
+    let top = nearest_on_top g.S.Ord.cmp g.E.TieOrder.order in
+    let keeps = c.in_ok-best-in-Few.ensures.kept in
+    let fits = subst (IsKept value c.args.most c.args.best.now.bound) c.in-Few.is c.requires.kept in (
+      subst (λ k. KeepsGreatest top c.args.most c.args.item (kept_in k) c.keep_few.new.found.items) (sym c.in-Few.is) keeps,
+      few-tightened value top c.args.most c.args.item c.in-Few.found.items c.keep_few.new.found.items c.args.best.now.bound c.in_ok-best-in-Few.field-0 fits c.requires.within keeps c.in_ok-best-in-Few.ensures.last c.in_ok-best-in-Few.ensures.none,
+    )

@@ -1,5 +1,5 @@
 use Rattle.std.proofs.Common.{◌≡◌, map, take}
-use Rattle.rstar.proofs.algorithm.nearest_neighbor.few.all_lent.Given as goal
+use Rattle.rstar.proofs.algorithm.nearest_neighbor.few.lent.Given as goal
 
 -- those so far
 abbrev pub invariant-loop-one : goal.invariant-loop-one
