@@ -147,6 +147,7 @@ fn parse_command(verb: Verb, args: &[&[u8]]) -> Option<Line>
 }
 
 /// The point in the first two words of a text, and the text after them.
+#[inline(always)]
 fn take_point(text: &[u8]) -> Option<([i64; 2], &[u8])>
     ensures point { option_map (λ taken. taken.0) result ≡ point_of (word_at text.now 0) (word_at text.now 1) }
     ensures rest { IfSome result (λ taken. words_of taken.1.now ≡ drop 2 (words_of text.now)) }
@@ -225,6 +226,7 @@ pub fn parse_line(text: &[u8]) -> Line
 }
 
 /// Parses a line of a load without its end.
+#[inline(always)]
 pub fn parse_entry(text: &[u8]) -> Entry
     ensures is { result ≡ entry_of (words_of text.now) }
     ensures filled { IsFilled result }

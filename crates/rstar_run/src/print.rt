@@ -45,6 +45,7 @@ impl Printer {
     }
 
     /// Prints a number in decimal digits.
+    #[inline(always)]
     pub fn put_number<W: Write>(&mut self, output: &mut W, number: u64) -> Result<(), Stop>
         ensures all { OnOk result (Prints (W.contents output.old) (W.contents output.new)
             self.old.held.items (decimal number) self.new.held.items) }
