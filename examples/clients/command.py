@@ -86,7 +86,7 @@ def main(words=None):
     parser.add_argument("--journal", metavar="FILE", help="keeps all changes in this file, and begins with what it says")
     parser.add_argument("--sync", action="store_true", help="waits for the disk at each change of the journal")
     parser.add_argument("--load", metavar="FILE", help="holds just the rectangles of this .csv, .json or .geojson")
-    parser.add_argument("--degrees", action="store_true", help="coordinates are degrees, held as whole numbers of 10**-7")
+    parser.add_argument("--degrees", action="store_true", help="degrees in questions and files, held as whole numbers of 10**-7")
     parser.add_argument("words", nargs="*", metavar="WORD", help="a question, as: hit 0 0 4 4")
     chosen = parser.parse_args(words)
     units = Degrees if chosen.degrees else Whole
