@@ -23,11 +23,6 @@ GREATEST = 2**63 - 1  # distances are held at it, as the package holds them
 KEY = 6  # a neighbour as it crosses the cluster: distance, corners and ID
 
 
-def distance(box, point):
-    across = [max(box[k] - point[k], 0, point[k] - box[k + 2]) for k in (0, 1)]
-    return min(across[0] ** 2 + across[1] ** 2, GREATEST)
-
-
 def split(rows):
     """The IDs of rows, and their boxes."""
     boxes = array("q", bytes(8 * 4 * (len(rows) // 5)))
@@ -70,12 +65,8 @@ class Shard:
         return [list(chain.from_iterable(self.keys(point, most))) for point in tuples(points, 2)]
 
     def keys(self, point, most):
-        """Of equal distances the index may give any: where the last one has more behind it, all at most as far are asked."""
-        ids, distances = (numbers.tolist() for numbers in self.index.nearest(point, most + 1))
-        if len(ids) > most > 0 and distances[most - 1] == distances[most]:
-            ids = self.index.within(point, distances[most]).tolist()
-        boxes = [self.box(number) for number in ids]
-        return sorted((distance(box, point), *box, number) for box, number in zip(boxes, ids))[:most]
+        ids, distances = (numbers.tolist() for numbers in self.index.nearest(point, most))
+        return [(distance, *self.box(number), number) for number, distance in zip(ids, distances)]
 
     def ask(self, name, questions, *more):
         """The answers to questions that came as bytes, as bytes."""

@@ -15,7 +15,7 @@ from array import array
 from math import isqrt
 from time import monotonic
 
-from shards import Shard, Shards, connect, distance, tiles, tuples
+from shards import GREATEST, Shard, Shards, connect, tiles, tuples
 
 CLUSTER = os.environ.get("DASK", "tcp://127.0.0.1:8786")
 ASKED, MOST = 10000, 10
@@ -79,6 +79,11 @@ def by_one(rows, others, side):
     here, there = timed("one index: join", lambda: one.join(others))
     pairs = sorted(zip(array("Q", here), array("Q", there)))
     return [hits, [[(key[-1], key[0]) for key in keys] for keys in near], pairs]
+
+
+def distance(box, point):
+    across = [max(box[k] - point[k], 0, point[k] - box[k + 2]) for k in (0, 1)]
+    return min(across[0] ** 2 + across[1] ** 2, GREATEST)
 
 
 def by_scan(rows, others, side):

@@ -227,7 +227,8 @@ class Index:
     def nearest(self, point: Point, k: int = 1) -> tuple[Numbers, Numbers]:
         """The IDs and the squared distances of the k rectangles nearest to the point, the nearest first.
 
-        They are fewer than k where the index holds fewer.
+        At equal distance the lesser lower corner comes first, then the lesser upper corner, then the lesser ID. They are
+        fewer than k where the index holds fewer.
 
         >>> ids, squared_distances = Index([(0, 0, 2, 2), (5, 5, 9, 9)]).nearest((4, 4), 5)
         >>> ids.tolist(), squared_distances.tolist()
@@ -255,7 +256,7 @@ class Index:
         return given(ids, rows.length * found.value, *shape), given(distances, rows.length * found.value, *shape)
 
     def pop_nearest(self, point: Point) -> tuple[int, tuple[int, int, int, int], int] | None:
-        """Takes a rectangle out that is nearest to the point, and gives its ID, its box and its squared distance.
+        """Takes the first rectangle out that `nearest` gives, and gives its ID, its box and its squared distance.
 
         None: there is no rectangle.
 
