@@ -1,5 +1,4 @@
 /// Objects at places, which are their IDs in the index. A place that is left is used again.
-#[derive(Debug)]
 pub(crate) struct Slab<T> {
     places: Vec<Option<T>>,
     free: Vec<usize>,
