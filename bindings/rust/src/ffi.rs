@@ -23,8 +23,7 @@ struct Handle {
 
 // The types of a call that answers IDs to a question, and of one that takes these rectangles out.
 type Ask<Question> = unsafe extern "C" fn(*mut Handle, *const Question, *mut u64, usize) -> usize;
-type Drain<Question> =
-    unsafe extern "C" fn(*mut Handle, *const Question, *mut u64, usize, *mut usize) -> Status;
+type Drain<Question> = unsafe extern "C" fn(*mut Handle, *const Question, *mut u64, usize, *mut usize) -> Status;
 
 extern "C" {
     fn rstar_index_clear(index: *mut Handle);
@@ -39,24 +38,9 @@ extern "C" {
     fn rstar_index_insert(index: *mut Handle, id: u64, of: *const Envelope) -> Status;
     fn rstar_index_remove(index: *mut Handle, id: u64, of: *const Envelope) -> bool;
     fn rstar_index_contains(index: *mut Handle, id: u64, of: *const Envelope) -> bool;
-    fn rstar_index_meeting(
-        index: *mut Handle,
-        of: *const Envelope,
-        ids: *mut u64,
-        ids_len: usize,
-    ) -> usize;
-    fn rstar_index_inside(
-        index: *mut Handle,
-        of: *const Envelope,
-        ids: *mut u64,
-        ids_len: usize,
-    ) -> usize;
-    fn rstar_index_at(
-        index: *mut Handle,
-        point: *const Point,
-        ids: *mut u64,
-        ids_len: usize,
-    ) -> usize;
+    fn rstar_index_meeting(index: *mut Handle, of: *const Envelope, ids: *mut u64, ids_len: usize) -> usize;
+    fn rstar_index_inside(index: *mut Handle, of: *const Envelope, ids: *mut u64, ids_len: usize) -> usize;
+    fn rstar_index_at(index: *mut Handle, point: *const Point, ids: *mut u64, ids_len: usize) -> usize;
     fn rstar_index_within(
         index: *mut Handle,
         point: *const Point,
@@ -153,10 +137,7 @@ unsafe impl Send for Index {}
 impl Index {
     pub fn new() -> Self {
         let at = std::ptr::null_mut();
-        Index {
-            handle: UnsafeCell::new(Handle { is_made: false, at }),
-            room: Cell::default(),
-        }
+        Index { handle: UnsafeCell::new(Handle { is_made: false, at }), room: Cell::default() }
     }
 
     /// All answers of a call that writes as many as there is room for, and says how many there are.
@@ -178,10 +159,7 @@ impl Index {
     }
 
     /// The same for pairs.
-    fn all_pairs(
-        &self,
-        mut call: impl FnMut(&mut [u64], &mut [u64], &mut usize) -> Status,
-    ) -> Vec<(u64, u64)> {
+    fn all_pairs(&self, mut call: impl FnMut(&mut [u64], &mut [u64], &mut usize) -> Status) -> Vec<(u64, u64)> {
         let mut second = Vec::new();
         let first = self.all_ids(|first, found| {
             second.resize(first.len(), 0);
@@ -198,15 +176,7 @@ impl Index {
     }
 
     pub fn load(&mut self, boxes: &[Envelope], ids: &[u64]) {
-        require(unsafe {
-            rstar_index_load(
-                self.handle.get(),
-                boxes.as_ptr(),
-                boxes.len(),
-                ids.as_ptr(),
-                ids.len(),
-            )
-        });
+        require(unsafe { rstar_index_load(self.handle.get(), boxes.as_ptr(), boxes.len(), ids.as_ptr(), ids.len()) });
     }
 
     pub fn insert(&mut self, id: u64, envelope: &Envelope) {
@@ -229,15 +199,7 @@ impl Index {
     }
 
     fn drain<Question>(&mut self, call: Drain<Question>, question: &Question) -> Vec<u64> {
-        self.all_ids(|ids, found| unsafe {
-            call(
-                self.handle.get(),
-                question,
-                ids.as_mut_ptr(),
-                ids.len(),
-                found,
-            )
-        })
+        self.all_ids(|ids, found| unsafe { call(self.handle.get(), question, ids.as_mut_ptr(), ids.len(), found) })
     }
 
     pub fn meeting(&self, envelope: &Envelope) -> Vec<u64> {
@@ -255,8 +217,7 @@ impl Index {
     pub fn within(&self, point: &Point, distance: i64) -> Vec<u64> {
         self.all_ids(|ids, found| {
             let at = ids.as_mut_ptr();
-            *found =
-                unsafe { rstar_index_within(self.handle.get(), point, distance, at, ids.len()) };
+            *found = unsafe { rstar_index_within(self.handle.get(), point, distance, at, ids.len()) };
             OK
         })
     }
@@ -271,18 +232,12 @@ impl Index {
 
     pub fn drain_within(&mut self, point: &Point, distance: i64) -> Vec<u64> {
         self.all_ids(|ids, found| unsafe {
-            rstar_index_drain_within(
-                self.handle.get(),
-                point,
-                distance,
-                ids.as_mut_ptr(),
-                ids.len(),
-                found,
-            )
+            rstar_index_drain_within(self.handle.get(), point, distance, ids.as_mut_ptr(), ids.len(), found)
         })
     }
 
-    /// So many of them, without the first ones that were given. A longer list begins with a shorter one, where no ID stands twice.
+    /// So many of them, without the first ones that were given. A longer list begins with a shorter one, where no ID
+    /// stands twice.
     pub fn nearest(&self, point: &Point, most: usize, given: usize) -> Nearest {
         let (mut ids, mut distances) = (vec![0; most], vec![0; most]);
         let mut found = 0;
@@ -334,14 +289,7 @@ impl Index {
         let (mut id, mut distance, mut found) = (0, 0, false);
         let mut envelope = Envelope::from_point([0, 0]);
         require(unsafe {
-            rstar_index_pop_nearest(
-                self.handle.get(),
-                point,
-                &mut id,
-                &mut envelope,
-                &mut distance,
-                &mut found,
-            )
+            rstar_index_pop_nearest(self.handle.get(), point, &mut id, &mut envelope, &mut distance, &mut found)
         });
         found.then_some(id)
     }

@@ -18,10 +18,7 @@ pub struct RTree<T> {
 impl<T> RTree<T> {
     /// A tree of no object.
     pub fn new() -> Self {
-        RTree {
-            index: Index::new(),
-            objects: Slab::new(Vec::new()),
-        }
+        RTree { index: Index::new(), objects: Slab::new(Vec::new()) }
     }
 
     /// The number of objects.
@@ -62,10 +59,7 @@ impl<T: RTreeObject<Envelope = Envelope>> RTree<T> {
         let ids: Vec<u64> = (0..elements.len() as u64).collect();
         let mut index = Index::new();
         index.load(&boxes, &ids);
-        RTree {
-            index,
-            objects: Slab::new(elements),
-        }
+        RTree { index, objects: Slab::new(elements) }
     }
 
     /// Puts an object in. An object that is there already stands in the tree twice then.
@@ -91,8 +85,7 @@ impl<T: RTreeObject<Envelope = Envelope>> RTree<T> {
     {
         let envelope = t.envelope();
         let mut inside = self.index.inside(&envelope).into_iter();
-        let id =
-            inside.find(|id| self.objects.get(*id) == t && self.index.remove(*id, &envelope))?;
+        let id = inside.find(|id| self.objects.get(*id) == t && self.index.remove(*id, &envelope))?;
         Some(self.objects.take(id))
     }
 
@@ -124,11 +117,7 @@ impl<T: RTreeObject<Envelope = Envelope>> RTree<T> {
     }
 
     /// The objects whose squared distance from a point is at most `max_squared_radius`.
-    pub fn locate_within_distance(
-        &self,
-        query_point: Point,
-        max_squared_radius: i64,
-    ) -> impl Iterator<Item = &T> {
+    pub fn locate_within_distance(&self, query_point: Point, max_squared_radius: i64) -> impl Iterator<Item = &T> {
         self.found(self.index.within(&query_point, max_squared_radius))
     }
 
@@ -160,10 +149,7 @@ impl<T: RTreeObject<Envelope = Envelope>> RTree<T> {
     }
 
     /// The same, each with its squared distance.
-    pub fn nearest_neighbor_iter_with_distance_2(
-        &self,
-        query_point: Point,
-    ) -> impl Iterator<Item = (&T, i64)> {
+    pub fn nearest_neighbor_iter_with_distance_2(&self, query_point: Point) -> impl Iterator<Item = (&T, i64)> {
         let neighbors = Neighbors {
             index: &self.index,
             point: query_point,
@@ -186,20 +172,13 @@ impl<T: RTreeObject<Envelope = Envelope>> RTree<T> {
     }
 
     /// Takes the objects out whose envelopes meet one; touching is enough.
-    pub fn drain_in_envelope_intersecting(
-        &mut self,
-        envelope: Envelope,
-    ) -> impl Iterator<Item = T> {
+    pub fn drain_in_envelope_intersecting(&mut self, envelope: Envelope) -> impl Iterator<Item = T> {
         let ids = self.index.drain_meeting(&envelope);
         self.taken(ids)
     }
 
     /// Takes the objects out whose squared distance from a point is at most `max_squared_radius`.
-    pub fn drain_within_distance(
-        &mut self,
-        query_point: Point,
-        max_squared_radius: i64,
-    ) -> impl Iterator<Item = T> {
+    pub fn drain_within_distance(&mut self, query_point: Point, max_squared_radius: i64) -> impl Iterator<Item = T> {
         let ids = self.index.drain_within(&query_point, max_squared_radius);
         self.taken(ids)
     }
@@ -280,9 +259,7 @@ impl<T: fmt::Debug> fmt::Debug for RTree<T> {
             }
         }
         let mut tree = formatter.debug_struct("RTree");
-        tree.field("size", &self.size())
-            .field("items", &Items(self))
-            .finish()
+        tree.field("size", &self.size()).field("items", &Items(self)).finish()
     }
 }
 

@@ -6,10 +6,7 @@ pub(crate) struct Slab<T> {
 
 impl<T> Slab<T> {
     pub fn new(objects: Vec<T>) -> Self {
-        Slab {
-            places: objects.into_iter().map(Some).collect(),
-            free: Vec::new(),
-        }
+        Slab { places: objects.into_iter().map(Some).collect(), free: Vec::new() }
     }
 
     /// The place that the next object gets.

@@ -18,11 +18,7 @@ struct Named {
 }
 
 fn named(name: char, lower: [i64; 2], upper: [i64; 2]) -> Named {
-    Named {
-        name,
-        corners: Cell::new((lower, upper)),
-        calls_left: Rc::new(Cell::new(usize::MAX)),
-    }
+    Named { name, corners: Cell::new((lower, upper)), calls_left: Rc::new(Cell::new(usize::MAX)) }
 }
 
 impl Named {
@@ -77,10 +73,7 @@ fn an_object_whose_envelope_changed_stays() {
         object.corners.set(([7, 7], [7, 7]));
     }
     assert_eq!(tree.remove(&named('a', [7, 7], [7, 7])), None);
-    assert_eq!(
-        tree.remove_at_point([1, 1]).map(|taken| taken.name),
-        Some('b')
-    );
+    assert_eq!(tree.remove_at_point([1, 1]).map(|taken| taken.name), Some('b'));
     assert_eq!(tree.remove_at_point([1, 1]), None);
     assert_eq!(tree.size(), 1);
     let found = tree.pop_nearest_neighbor([1, 1]).map(|taken| taken.name);
@@ -147,10 +140,7 @@ fn objects_of_no_size_at_the_ends_of_the_range() {
     assert_eq!(tree.drain_within_distance([0, 0], 0).count(), 100);
     let mut tree = RTree::bulk_load(vec![[i64::MIN, i64::MAX]]);
     let far = [i64::MAX, i64::MIN];
-    assert_eq!(
-        tree.nearest_neighbor_with_distance_2(far),
-        Some((&[i64::MIN, i64::MAX], i64::MAX))
-    );
+    assert_eq!(tree.nearest_neighbor_with_distance_2(far), Some((&[i64::MIN, i64::MAX], i64::MAX)));
     assert_eq!(tree.locate_within_distance(far, i64::MAX - 1).count(), 0);
     assert_eq!(tree.drain_within_distance(far, i64::MAX).count(), 1);
 }
@@ -158,9 +148,7 @@ fn objects_of_no_size_at_the_ends_of_the_range() {
 /// Answers longer and shorter than the room that earlier ones left.
 #[test]
 fn answers_of_each_length() {
-    let counts = [
-        0, 1, 15, 16, 17, 32, 33, 64, 65, 1023, 1024, 1025, 40, 3000, 2, 0,
-    ];
+    let counts = [0, 1, 15, 16, 17, 32, 33, 64, 65, 1023, 1024, 1025, 40, 3000, 2, 0];
     let ids = |count: usize| (0..count).collect::<Vec<_>>();
     let at = |count: usize| [count as i64 * 10, 0];
     let objects = counts.iter().enumerate().flat_map(|(turn, count)| {
