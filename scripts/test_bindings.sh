@@ -98,7 +98,7 @@ check_rust() {
   cargo test --offline --quiet
   [[ $quick == quick ]] && return
   local valgrind='valgrind -q --error-exitcode=1 --leak-check=full --show-leak-kinds=definite --errors-for-leak-kinds=definite'
-  cargo test --offline --quiet --test ported --config "target.'cfg(unix)'.runner = '$valgrind'" \
+  cargo test --offline --quiet --test ported --test callers --config "target.'cfg(unix)'.runner = '$valgrind'" \
     -- --skip drains
 }
 

@@ -119,7 +119,7 @@ fn require(status: Status) {
     }
 }
 
-/// The most IDs that are copied. A longer list is given away, and the next question gets a new one.
+/// The longest room that is kept for the next question, so that IDs are copied out of it. A longer one is given away.
 const LONGEST_ROOM: usize = 1024;
 
 /// The nearest, the nearest first: their IDs and their squared distances.
@@ -150,7 +150,6 @@ impl Index {
         }
         require(status);
         if found > LONGEST_ROOM {
-            room.truncate(found);
             return room;
         }
         let ids = room[..found].to_vec();
