@@ -32,9 +32,16 @@ def _by(predicate: str, functions: dict[str, Any]) -> Any:
     return functions[predicate]
 
 
+class _Handle(Handle):
+    """It is cleared with its index, also where that begins again."""
+
+    def __del__(self, clear: Any = calls.clear) -> None:
+        clear(self)
+
+
 def _restored(kind: type[Index], boxes: array[int], ids: array[int]) -> Index:
     index = kind.__new__(kind)
-    Index.load(index, boxes, ids)
+    Index.__init__(index, boxes, ids)
     return index
 
 
@@ -66,26 +73,17 @@ class Index:
     True
     """
 
-    __slots__ = "_handle", "_lock", "_room", "__dict__", "__weakref__"
-    _handle: Handle
-    _lock: Any  # of a kind that a finalizer or a signal may take again, amid a call of the same thread
-    _room: array[int] | None  # for the next answer; a call that uses it leaves None to such a one
-
-    def __new__(cls, *_: Any, **__: Any) -> Index:
-        """No rectangle yet, whatever becomes of `__init__`."""
-        self = super().__new__(cls)
-        self._handle, self._lock, self._room = Handle(), RLock(), None
-        return self
+    __slots__ = "_handle", "_lock", "_room", "__dict__", "__weakref__"  # so that __dict__ has what a subclass adds
 
     def __init__(self, boxes: Boxes | None = None, ids: IDs | None = None) -> None:
         """The rectangles of `boxes`, loaded at once, with the IDs of `ids`, or else 0, 1, 2 and so on."""
+        self._handle = _Handle()
+        self._lock = RLock()  # a finalizer or a signal may take it again, amid a call of the same thread
+        self._room: array[int] | None = None  # for the next answer; a call that uses it leaves None to such a one
         if boxes is not None:
             self.load(boxes, ids)
         elif ids is not None:
             raise TypeError("IDs without boxes")
-
-    def __del__(self, clear: Any = calls.clear) -> None:
-        clear(self._handle)
 
     def load(self, boxes: Boxes, ids: IDs | None = None) -> None:
         """Puts rectangles in the place of all that the index holds."""
