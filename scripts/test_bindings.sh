@@ -29,6 +29,24 @@ check_names() {
   echo "$(wc -l <"$work/wanted") names in both libraries"
 }
 
+# The header is one of each standard since C99 and C++11.
+check_header() {
+  local warnings='-Wall -Wextra -Wpedantic -Wconversion -Werror -fsyntax-only' compiler
+  for compiler in gcc clang; do
+    command -v "$compiler" >/dev/null || continue
+    # shellcheck disable=SC2086
+    {
+      for standard in c99 c11 c17; do
+        "$compiler" -std=$standard $warnings -I"$RSTAR_LIB_DIR" "$top/bindings/c/examples/first.c"
+      done
+      for standard in c++11 c++14 c++17 c++20; do
+        "$compiler" -x c++ -std=$standard $warnings -I"$RSTAR_LIB_DIR" "$top/bindings/c/examples/first.cpp"
+      done
+    }
+    echo "$compiler: C99 to C17, C++11 to C++20"
+  done
+}
+
 # The examples print 7 and 8: by the static library, and by the shared one through pkg-config.
 check_examples() {
   local examples=$top/bindings/c/examples warnings='-Wall -Wextra -Wpedantic -Werror' flags
@@ -80,12 +98,14 @@ check_rust() {
   cargo test --offline --quiet
   [[ $quick == quick ]] && return
   local valgrind='valgrind -q --error-exitcode=1 --leak-check=full --show-leak-kinds=definite --errors-for-leak-kinds=definite'
-  cargo test --offline --quiet --test ported --config "target.'cfg(unix)'.runner = '$valgrind'" \
+  cargo test --offline --quiet --test ported --test callers --config "target.'cfg(unix)'.runner = '$valgrind'" \
     -- --skip drains
 }
 
 say names
 check_names
+say header
+check_header
 say examples
 check_examples
 say C

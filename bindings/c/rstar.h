@@ -88,8 +88,9 @@ size_t rstar_index_at(rstar_index *index, const rstar_point *point, uint64_t *id
 size_t rstar_index_within(rstar_index *index, const rstar_point *point, int64_t distance,
                           uint64_t *ids, size_t ids_len);
 
-/* The same questions, many at once; only lengths are refused. The IDs for question i are ids[offsets[i]] up to ids[offsets[i + 1]], as far as there
- * is room. `offsets_len` is one more than the number of questions; the last offset is the number of all IDs. */
+/* The same questions, many at once; only lengths are refused. The IDs for question i are ids[offsets[i]] up to
+ * ids[offsets[i + 1]], as far as there is room. `offsets_len` is one more than the number of questions; the last offset is
+ * the number of all IDs. */
 rstar_status rstar_index_meeting_each(rstar_index *index, const rstar_box *boxes, size_t boxes_len,
                                       size_t *offsets, size_t offsets_len, uint64_t *ids, size_t ids_len);
 rstar_status rstar_index_inside_each(rstar_index *index, const rstar_box *boxes, size_t boxes_len,

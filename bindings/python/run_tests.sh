@@ -13,6 +13,9 @@ trap 'rm -rf "$scratch"' EXIT
 "$python" -m pip install --quiet --no-index --target "$scratch/with" . 2> "$scratch/log" || { cat "$scratch/log"; exit 1; }
 mkdir "$scratch/without"
 echo 'raise ImportError("this run goes without numpy")' > "$scratch/without/numpy.py"
+if "$python" -c 'import mypy, numpy' 2> /dev/null; then
+    MYPYPATH=$scratch/with "$python" -m mypy --strict --cache-dir=/dev/null "$scratch/with/vaikrone" tests/typed.py
+fi
 cd tests
 if "$python" -c 'import numpy' 2> /dev/null; then
     echo "with numpy, $STEPS calls beside a scan"

@@ -12,10 +12,7 @@ fn main() {
     let archive = folder.join("librstar.a");
     println!("cargo:rerun-if-changed={}", archive.display());
     if !archive.exists() {
-        panic!(
-            "there is no {}: run scripts/build_library.sh, or set RSTAR_LIB_DIR",
-            archive.display()
-        );
+        panic!("there is no {}: run scripts/build_library.sh, or set RSTAR_LIB_DIR", archive.display());
     }
     println!("cargo:rustc-link-search=native={}", folder.display());
     println!("cargo:rustc-link-lib=static=rstar");

@@ -57,6 +57,10 @@ class Boxes:
     def __len__(self):
         return len(self.boxes)
 
+    def __iter__(self):
+        """The IDs."""
+        return iter(self.boxes)
+
     def __contains__(self, number):
         return number in self.boxes
 

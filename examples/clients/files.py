@@ -13,7 +13,10 @@ from vaikrone import STEP, Progress
 
 def read(path, units=Whole, tell=None):
     """The rectangles of a file, by the end of its name: .csv, or .json or .geojson."""
-    return read_csv(path, units, tell) if str(path).endswith(".csv") else read_geojson(path, units)
+    try:
+        return read_csv(path, units, tell) if str(path).lower().endswith(".csv") else read_geojson(path, units)
+    except (UnicodeError, csv.Error, json.JSONDecodeError, RecursionError) as fault:
+        raise ValueError(f"{path}: {fault}") from None
 
 
 def read_csv(path, units=Whole, tell=None):
@@ -41,15 +44,16 @@ def read_geojson(path, units=Degrees):
 
     Its ID is the feature's `id`, or its property `id`, or its place in the file, from 0 on.
     """
-    with open(path, encoding="utf-8") as file:
+    with open(path, encoding="utf-8-sig") as file:
         top = json.load(file, parse_float=Decimal)
-    features = top.get("features", [top]) if isinstance(top, dict) else []
-    rows = []
+    features, rows = top.get("features", [top]) if isinstance(top, dict) else None, []
+    if not isinstance(features, list):
+        raise ValueError(f"{path}: a feature or a collection of features is wanted")
     for place, feature in enumerate(features):
         try:
             number = feature.get("id", (feature.get("properties") or {}).get("id", place))
             rows.append((whole(number), units.box(box_of(feature))))
-        except (ValueError, TypeError, AttributeError) as fault:
+        except (ValueError, TypeError, AttributeError, LookupError) as fault:
             raise ValueError(f"{path}, feature {place}: {fault}") from None
     return rows
 
@@ -57,7 +61,9 @@ def read_geojson(path, units=Degrees):
 def box_of(feature):
     if "bbox" in feature:
         bbox = feature["bbox"]
-        half = len(bbox) // 2  # with heights a box has six numbers
+        if len(bbox) not in (4, 6):
+            raise ValueError(f"a box has 4 numbers, or 6 with heights, and not {len(bbox)}")
+        half = len(bbox) // 2
         west, south, east, north = *bbox[:2], *bbox[half : half + 2]
         if west > east:
             raise ValueError(f"the box from {west} to {east} goes over the 180th meridian: cut it in two")

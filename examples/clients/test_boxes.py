@@ -126,6 +126,15 @@ class ById(unittest.TestCase):
                     met = [(a, b) for a in ordered for b in ordered if a < b and scan.meets(turns.table[a], turns.table[b])]
                     self.assertEqual(boxes.pairs(), met, turn)
 
+    def test_it_gives_its_ids(self):
+        with Boxes() as boxes:
+            boxes.insert_all((number, (0, 0, 1, 1)) for number in (7, 0, 2**64 - 1))
+            self.assertEqual(sorted(boxes), [0, 7, 2**64 - 1])
+            with self.assertRaises(RuntimeError):
+                for number in boxes:
+                    boxes.remove(number)
+            self.assertEqual(len(boxes), 2)
+
     def test_refused_changes_change_nothing(self):
         refused = [
             (ValueError, lambda b: b.insert(7, (0, 0, 1, 1))),

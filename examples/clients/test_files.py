@@ -6,6 +6,7 @@
 
 import json
 import os
+import re
 import subprocess
 import sys
 import tempfile
@@ -102,10 +103,31 @@ class OfGeoJson(WithFiles):
             ({"geometry": None}, "feature 0: there are no coordinates"),
             ({"id": "a", "bbox": [0, 0, 1, 1]}, "feature 0: 'a' is no whole number"),
             ({"geometry": {"type": "Point", "coordinates": ["x", 1]}}, "feature 0: 'x' is no number of degrees"),
+            ({"geometry": {"type": "Point", "coordinates": [1]}}, "feature 0: list index out of range"),
+            ({"bbox": [1, 2, 3, 4, 5]}, "feature 0: a box has 4 numbers, or 6 with heights, and not 5"),
         ]:
             with self.assertRaises(ValueError) as told:
                 read(self.feature(**parts), Degrees)
             self.assertIn(fault, str(told.exception))
+
+
+    def test_what_is_no_such_file(self):
+        for name, text in [
+            ("a.json", "{"),
+            ("a.json", '[{"bbox": [1, 2, 3, 4]}]'),
+            ("a.json", '{"features": null}'),
+            ("a.json", '{"coordinates": ' + 9999 * "[" + 9999 * "]" + "}"),
+            ("a.json", '{"id": "\udcff"}'),
+            ("a.csv", "1,0,0,1,\udcff\n"),
+            ("a.CSV", "1,0,0,1," + 200000 * "1" + "\n"),
+        ]:
+            path = Path(self.room.name, name)
+            path.write_text(text, errors="surrogateescape")
+            with self.assertRaisesRegex(ValueError, re.escape(f"{path}: ")):
+                read(path)
+
+    def test_marks_and_endings_of_others(self):
+        self.assertEqual(read(self.file("a.JSON", '\ufeff{"bbox": [1, 2, 3, 4]}')), [(0, (1, 2, 3, 4))])
 
 
 class OfTheCommand(WithFiles):

@@ -9,7 +9,7 @@ int main(void) {
     const uint64_t ids[] = {7, 8, 9};
     const rstar_box area = {{4, 4}, {6, 6}};
     rstar_index index = RSTAR_INDEX_EMPTY;
-    uint64_t answers[10];
+    uint64_t answers[10] = {0};
     if (rstar_index_load(&index, boxes, 3, ids, 3) != RSTAR_OK) {
         return 1;
     }

@@ -358,49 +358,42 @@ static void try_within_each(size_t at) {
     try_question_each(at, WITHIN);
 }
 
-/* Of neighbours that are equally near any may come. */
-static void expect_neighbours(size_t at, const rstar_point *point, const uint64_t *ids, const uint64_t *distances,
-                              size_t found) {
-    size_t all = scan.len(&scans[at]), ignored;
-    uint64_t *scan_ids = untouched(all), *scan_distances = untouched(all);
-    scan.nearest(&scans[at], point, scan_ids, all, (int64_t *)scan_distances, all, &ignored);
-    expect(memcmp(distances, scan_distances, found * sizeof *distances) == 0, "the distances differ");
-    expect_among(rows_of(ids, distances, found, true), found, rows_of(scan_ids, scan_distances, all, true), all);
-    free(scan_ids), free(scan_distances);
+/* The same elements, those behind the answers included. */
+static void expect_same(const uint64_t *of_tree, const uint64_t *of_scan, size_t room, const char *otherwise) {
+    expect(memcmp(of_tree, of_scan, (room + 1) * sizeof *of_tree) == 0, otherwise);
 }
 
 static void try_nearest(size_t at) {
-    size_t all = scan.len(&scans[at]), most = below(8) ? below(12) : random_room(all), found = 0;
-    size_t wanted = lesser(most, all);
+    size_t all = scan.len(&scans[at]), most = below(8) ? below(12) : random_room(all), found = 0, wanted = 0;
     rstar_point point = random_point();
     uint64_t *ids = untouched(most), *distances = untouched(most);
+    uint64_t *scan_ids = untouched(most), *scan_distances = untouched(most);
     rstar_status status = tree.nearest(&trees[at], &point, ids, most, (int64_t *)distances, most, &found);
     expect(status == RSTAR_OK, "the status is not RSTAR_OK");
+    scan.nearest(&scans[at], &point, scan_ids, most, (int64_t *)scan_distances, most, &wanted);
     expect(found == wanted, "the number of answers differs");
-    expect_untouched(ids, wanted, most);
-    expect_untouched(distances, wanted, most);
-    expect_neighbours(at, &point, ids, distances, wanted);
-    free(ids), free(distances);
+    expect_same(distances, scan_distances, most, "the distances differ");
+    expect_same(ids, scan_ids, most, "the IDs differ, or come in another order");
+    free(ids), free(distances), free(scan_ids), free(scan_distances);
 }
 
 static void try_nearest_each(size_t at) {
     rstar_point points[MOST_QUESTIONS];
     size_t len = below(MOST_QUESTIONS + 1), most = below(8) ? below(5) : below(MOST_ITEMS), room = len * most;
-    size_t wanted = lesser(most, scan.len(&scans[at])), found = 0;
+    size_t found = 0, wanted = 0;
     for (size_t i = 0; i < len; i++) {
         points[i] = random_point();
     }
     uint64_t *ids = untouched(room), *distances = untouched(room);
+    uint64_t *scan_ids = untouched(room), *scan_distances = untouched(room);
     rstar_status status =
         tree.nearest_each(&trees[at], points, len, most, ids, room, (int64_t *)distances, room, &found);
     expect(status == RSTAR_OK, "the status is not RSTAR_OK");
+    scan.nearest_each(&scans[at], points, len, most, scan_ids, room, (int64_t *)scan_distances, room, &wanted);
     expect(found == wanted, "the number of answers for each point differs");
-    expect_untouched(ids, len * wanted, room);
-    expect_untouched(distances, len * wanted, room);
-    for (size_t i = 0; i < len && !wrong; i++) {
-        expect_neighbours(at, &points[i], ids + i * wanted, distances + i * wanted, wanted);
-    }
-    free(ids), free(distances);
+    expect_same(distances, scan_distances, room, "the distances differ");
+    expect_same(ids, scan_ids, room, "the IDs differ, or come in another order");
+    free(ids), free(distances), free(scan_ids), free(scan_distances);
 }
 
 static rstar_status join(const struct library *of, rstar_index *index, rstar_index *other, uint64_t *first,
@@ -488,25 +481,21 @@ static void try_drain_within(size_t at) {
     try_drain(at, WITHIN);
 }
 
-/* Of rectangles that are equally near any may go; the scan loses the same one. */
 static void try_pop_nearest(size_t at) {
     rstar_point point = random_point();
-    uint64_t nearest_id, id = UNTOUCHED;
-    int64_t nearest, distance = -5;
-    rstar_box box = {{-5, -5}, {-5, -5}};
-    size_t is_there;
-    bool found = false;
-    scan.nearest(&scans[at], &point, &nearest_id, 1, &nearest, 1, &is_there);
-    expect(tree.pop_nearest(&trees[at], &point, &id, &box, &distance, &found) == RSTAR_OK, "the status is not RSTAR_OK");
-    expect(found == (is_there == 1), "`found` differs");
-    if (is_there) {
-        expect(distance == nearest, "the distance differs");
-        expect(scan_distance(&box, &point) == nearest, "the rectangle is not a nearest one");
-        expect(box.one[0] <= box.other[0] && box.one[1] <= box.other[1], "the corners are not the lower and the upper one");
-        expect(scan.remove(&scans[at], id, &box), "the rectangle was not there");
-    } else {
-        expect(id == UNTOUCHED && distance == -5 && box.one[0] == -5, "something is written where nothing was found");
-    }
+    struct {
+        uint64_t id;
+        rstar_box box;
+        int64_t distance;
+    } of_tree, of_scan;
+    bool found = false, wanted = false;
+    memset(&of_tree, 0x5a, sizeof of_tree);
+    memset(&of_scan, 0x5a, sizeof of_scan);
+    expect(tree.pop_nearest(&trees[at], &point, &of_tree.id, &of_tree.box, &of_tree.distance, &found) == RSTAR_OK,
+           "the status is not RSTAR_OK");
+    scan.pop_nearest(&scans[at], &point, &of_scan.id, &of_scan.box, &of_scan.distance, &wanted);
+    expect(found == wanted, "`found` differs");
+    expect(memcmp(&of_tree, &of_scan, sizeof of_tree) == 0, "the ID, the box or the distance differs");
 }
 
 static const struct step {

@@ -268,27 +268,42 @@ rstar_status scan_index_within_each(rstar_index *index, const rstar_point *point
 
 struct neighbour {
     int64_t distance;
-    uint64_t id;
+    struct item item;
 };
 
-static int by_distance(const void *a, const void *b) {
-    int64_t one = ((const struct neighbour *)a)->distance, other = ((const struct neighbour *)b)->distance;
-    return one < other ? -1 : one > other;
+/* By distance, then by the lower corner, then by the upper one, then by the ID. */
+static int by_order(const void *a, const void *b) {
+    const struct neighbour *one = a, *other = b;
+    const rstar_box *box = &one->item.box, *other_box = &other->item.box;
+    int64_t numbers[] = {one->distance, box->one[0], box->one[1], box->other[0], box->other[1]};
+    int64_t others[] = {other->distance, other_box->one[0], other_box->one[1], other_box->other[0], other_box->other[1]};
+    for (size_t i = 0; i < sizeof numbers / sizeof *numbers; i++) {
+        if (numbers[i] != others[i]) {
+            return numbers[i] < others[i] ? -1 : 1;
+        }
+    }
+    return one->item.id < other->item.id ? -1 : one->item.id > other->item.id;
 }
 
-static size_t neighbours(const rstar_index *index, const rstar_point *point, uint64_t *ids, int64_t *distances,
-                         size_t most) {
-    size_t len = len_of(index), found = most < len ? most : len;
+/* All rectangles as neighbours of a point, in their order. The caller frees them. */
+static struct neighbour *neighbours(const rstar_index *index, const rstar_point *point) {
+    size_t len = len_of(index);
     struct neighbour *all = malloc((len + 1) * sizeof *all);
     if (!all) {
         abort();
     }
     for (size_t i = 0; i < len; i++) {
-        all[i] = (struct neighbour){scan_distance(&items_of(index)[i].box, point), items_of(index)[i].id};
+        all[i] = (struct neighbour){scan_distance(&items_of(index)[i].box, point), items_of(index)[i]};
     }
-    qsort(all, len, sizeof *all, by_distance);
+    qsort(all, len, sizeof *all, by_order);
+    return all;
+}
+
+static size_t nearest(const rstar_index *index, const rstar_point *point, uint64_t *ids, int64_t *distances, size_t most) {
+    size_t found = most < len_of(index) ? most : len_of(index);
+    struct neighbour *all = neighbours(index, point);
     for (size_t i = 0; i < found; i++) {
-        ids[i] = all[i].id;
+        ids[i] = all[i].item.id;
         distances[i] = all[i].distance;
     }
     free(all);
@@ -300,7 +315,7 @@ rstar_status scan_index_nearest(rstar_index *index, const rstar_point *point, ui
     if (ids_len != distances_len) {
         return RSTAR_BAD_LENGTH;
     }
-    *found = neighbours(index, point, ids, distances, ids_len);
+    *found = nearest(index, point, ids, distances, ids_len);
     return RSTAR_OK;
 }
 
@@ -313,7 +328,7 @@ rstar_status scan_index_nearest_each(rstar_index *index, const rstar_point *poin
     }
     *found = most < len_of(index) ? most : len_of(index);
     for (size_t i = 0; i < points_len; i++) {
-        neighbours(index, &points[i], ids + i * *found, distances + i * *found, most);
+        nearest(index, &points[i], ids + i * *found, distances + i * *found, most);
     }
     return RSTAR_OK;
 }
@@ -374,19 +389,14 @@ rstar_status scan_index_drain_within(rstar_index *index, const rstar_point *poin
 
 rstar_status scan_index_pop_nearest(rstar_index *index, const rstar_point *point, uint64_t *id, rstar_box *box,
                                     int64_t *distance, bool *found) {
-    size_t nearest = 0;
     *found = len_of(index) > 0;
-    if (!*found) {
-        return RSTAR_OK;
+    if (*found) {
+        struct neighbour *all = neighbours(index, point);
+        *id = all[0].item.id;
+        *box = all[0].item.box;
+        *distance = all[0].distance;
+        free(all);
+        scan_index_remove(index, *id, box);
     }
-    for (size_t i = 1; i < len_of(index); i++) {
-        if (scan_distance(&items_of(index)[i].box, point) < scan_distance(&items_of(index)[nearest].box, point)) {
-            nearest = i;
-        }
-    }
-    *id = items_of(index)[nearest].id;
-    *box = items_of(index)[nearest].box;
-    *distance = scan_distance(box, point);
-    take(index, nearest);
     return RSTAR_OK;
 }

@@ -30,8 +30,9 @@ def within(items, point, limit):
     return sorted(number for number, box in items if distance(box, point) <= limit)
 
 
-def distances(items, point):
-    return sorted(distance(box, point) for _, box in items)
+def neighbours(items, point):
+    """All as (distance, box, ID), in the order of neighbours."""
+    return sorted((distance(box, point), box, number) for number, box in items)
 
 
 def pairs(items):

@@ -1,9 +1,13 @@
 """Buffers and sequences that go in, answers that come out, and arguments that are refused."""
 
+import copy
 import ctypes
+import gc
 import pickle
+import sys
 import unittest
 from array import array
+from unittest import mock
 
 from vaikrone import Index
 from vaikrone._numbers import rows_of
@@ -36,7 +40,8 @@ class Forms(unittest.TestCase):
         strided = memoryview(array("q", [n for x in FLAT for n in (x, 99)]))[::2]
         table = memoryview(FLAT.tobytes()).cast("q", (3, 4))
         for boxes in (BOXES, tuple(BOXES), iter(BOXES), [list(box) for box in BOXES], FLAT, memoryview(FLAT),
-                      read_only, own, not_aligned, strided, table, array("i", FLAT), array("d", FLAT)):  # fmt: skip
+                      read_only, own, not_aligned, strided, table, array("b", FLAT), array("i", FLAT), array("d", FLAT),
+                      (ctypes.c_int32 * 12)(*FLAT), (ctypes.c_double * 12)(*FLAT)):  # fmt: skip
             with self.subTest(form=type(boxes)):
                 self.same(boxes)
         self.same([tuple(map(float, box)) for box in BOXES])
@@ -65,8 +70,11 @@ class Forms(unittest.TestCase):
         read_only.flags.writeable = False
         wide = numpy.zeros((3, 8), "q")
         wide[:, ::2] = table
-        for boxes in (table, table.ravel(), read_only, wide[:, ::2], numpy.asfortranarray(table), table.astype("i4"),
-                      table.astype("f8"), table.astype("f4"), list(table)):  # fmt: skip
+        packed = numpy.zeros(3, [("name", "i1"), ("box", "i8", 4), ("as_floats", "f8", 4), ("id", "i8")])
+        packed["box"], packed["as_floats"], packed["id"] = table, table, (7, 8, 9)
+        self.same(packed["box"], packed["id"])
+        for boxes in (table, table.ravel(), read_only, wide[:, ::2], numpy.asfortranarray(table), packed["as_floats"],
+                      *(table.astype(kind) for kind in ("i1", "i4", "f2", "f4", "f8", ">i8", ">i2", ">f8")), list(table)):  # fmt: skip
             with self.subTest(form=getattr(boxes, "dtype", type(boxes))):
                 self.same(boxes)
         self.same(table, numpy.array([7, 8, 9]))
@@ -101,7 +109,8 @@ class Forms(unittest.TestCase):
             (ValueError, table.reshape(3, 2, 2), None),
             (TypeError, table.astype(bool), None),
             (TypeError, table.astype(object), None),
-            (TypeError, table.astype(">i8"), None),
+            (TypeError, table.astype("u1"), None),  # bytes look like it
+            (OverflowError, table, numpy.array([1, 2, -3], ">i8")),
             (OverflowError, table, numpy.array([1, 2, -3])),
             (ValueError, table, numpy.arange(4)),
             (ValueError, table, table),
@@ -257,7 +266,19 @@ class Copies(unittest.TestCase):
         self.assertNotIn(b"numpy", pickle.dumps(Index(BOXES)))
 
     def test_a_class_of_ones_own(self):
-        self.assertEqual(repr(pickle.loads(pickle.dumps(Own(BOXES)))), "<vaikrone.Own of 3 rectangles>")
+        for again in (copy.copy, copy.deepcopy, *(lambda own, n=n: pickle.loads(pickle.dumps(own, n)) for n in range(6))):
+            own = again(Own("a name"))
+            self.assertEqual((repr(own), own.name, held(own)), ("<vaikrone.Own of 3 rectangles>", "a name", held(Index(BOXES))))
+
+    def test_a_beginning_that_fails_ends_in_silence(self):
+        class Fails(Index):
+            def __init__(self):
+                raise KeyError
+
+        with mock.patch.object(sys, "unraisablehook") as told:
+            self.assertRaises(KeyError, Fails)
+            gc.collect()
+        told.assert_not_called()
 
     def test_pairs_with_itself(self):
         here, there = Index([(0, 0, 2, 2), (2, 2, 4, 4)]).pairs_with(index := Index([(2, 2, 2, 2)]))
@@ -267,4 +288,6 @@ class Copies(unittest.TestCase):
 
 
 class Own(Index):
-    pass
+    def __init__(self, name):
+        super().__init__(BOXES)
+        self.name = name

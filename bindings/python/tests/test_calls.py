@@ -5,7 +5,6 @@ import os
 import pickle
 import unittest
 from array import array
-from collections import Counter
 from itertools import chain
 from random import Random
 
@@ -138,9 +137,8 @@ class Trial:
         self.each(answer, [scan.within(self.items, p, limit) for p in points])
 
     def near(self, point, k, ids, distances):
-        """Equal distances may come in any order: each ID is to have a rectangle of its own at its distance."""
-        expect(distances, scan.distances(self.items, point)[:k])
-        expect(Counter(zip(ids, distances)) - Counter((n, scan.distance(b, point)) for n, b in self.items), Counter())
+        wanted = scan.neighbours(self.items, point)[:k]
+        expect(list(zip(distances, ids)), [(distance, number) for distance, _, number in wanted])
 
     def nearest(self):
         point, k = self.ask(self.point(), self.random.choice((0, 1, 5, 1000)))
@@ -163,8 +161,7 @@ class Trial:
         if got is None:
             return expect(self.items, [])
         number, box, distance = got
-        expect((number, box) in self.items, True)
-        expect((distance, scan.distance(box, point)), (scan.distances(self.items, point)[0],) * 2)
+        expect((distance, box, number), min(scan.neighbours(self.items, point)))
         self.items.remove((number, box))
 
     def drain(self):

@@ -55,6 +55,7 @@ print("refused", count)
 def python(code, **environment):
     return subprocess.run([sys.executable, "-c", code], env={**os.environ, **environment}, capture_output=True, text=True)
 
+
 GIVEN_BACK = """
 from array import array
 from resource import RUSAGE_SELF, getrusage
@@ -65,6 +66,7 @@ for turn in range(200):
     if turn == 10:
         before = getrusage(RUSAGE_SELF).ru_maxrss
     index = Index(boxes)
+    index.__init__(boxes)
     index.load(boxes)
     index.drain((0, 0, 40000, 40000))
     if turn % 2:

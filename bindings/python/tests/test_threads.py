@@ -1,5 +1,6 @@
 """Threads that share an index."""
 
+import gc
 import sys
 import unittest
 from threading import Thread
@@ -89,6 +90,34 @@ class Threads(unittest.TestCase):
                 assert sorted(here.pairs_with(there)[0].tolist()) == list(range(50))
 
         run(lambda: join(one, other), lambda: join(other, one), lambda: join(one, one))
+
+    def test_a_finalizer_may_ask_amid_a_call(self):
+        index, asked = Index([(n, 0, n, 0) for n in range(50)]), []
+
+        class Ends:
+            def __init__(self):
+                self.cycle = self
+
+            def __del__(self):
+                index.insert(99, (99, 0, 99, 0))
+                asked.append(sorted(index.query((0, 0, 9, 0)).tolist()))
+                index.remove(99, (99, 0, 99, 0))
+
+        def ask():
+            for n in range(600):
+                gc.set_threshold(n % 30 + 1)  # so that it comes at each place of a call
+                Ends()
+                assert sorted(index.query((20, 0, 29, 0)).tolist()) == list(range(20, 30))
+                assert sorted(index.nearest((5, 0), 9)[0].tolist()) == list(range(1, 10))
+                assert sorted(index.items()[1].tolist()) == list(range(50))
+
+        before = gc.get_threshold()
+        try:
+            run(ask)
+        finally:
+            gc.set_threshold(*before)
+        self.assertGreater(len(asked), 100)
+        self.assertEqual(set(map(tuple, asked)), {tuple(range(10))})
 
     def test_indexes_that_come_and_go(self):
         def make(t):

@@ -4,22 +4,20 @@ from __future__ import annotations
 
 from array import array
 from ctypes import c_bool, c_int64, c_size_t, c_uint64
-from threading import Lock
-from typing import TYPE_CHECKING, Any, Iterable, Sequence
+from threading import RLock
+from typing import TYPE_CHECKING, Any, Iterable
 
 from ._library import Handle, calls, check
 from ._numbers import SIGNED, UNSIGNED, Rows, address, apart, box_of, given, point_of, rows_of, within_bits, zeros
 
 if TYPE_CHECKING:
-    import numpy
+    from ._numbers import Numbers
 
-    Numbers = numpy.ndarray[Any, Any] | array[int]
-    Buffer = Numbers | memoryview
-    Box = Sequence[float]
-    Point = Sequence[float]
-    Boxes = Buffer | Iterable[Box]
-    Points = Buffer | Iterable[Point]
-    IDs = Buffer | Iterable[int]
+    Box = Iterable[float]
+    Point = Iterable[float]
+    Boxes = Numbers | memoryview | Iterable[Box]
+    Points = Numbers | memoryview | Iterable[Point]
+    IDs = Numbers | memoryview | Iterable[int]
 
 _GREATEST = 2**63 - 1
 _LONGEST_ROOM = 16384
@@ -32,6 +30,19 @@ def _by(predicate: str, functions: dict[str, Any]) -> Any:
     if predicate not in functions:
         raise ValueError(f"predicate is one of {', '.join(functions)}, not {predicate!r}")
     return functions[predicate]
+
+
+class _Handle(Handle):
+    """It is cleared with its index, also where that begins again."""
+
+    def __del__(self, clear: Any = calls.clear) -> None:
+        clear(self)
+
+
+def _restored(kind: type[Index], boxes: array[int], ids: array[int]) -> Index:
+    index = kind.__new__(kind)
+    Index.__init__(index, boxes, ids)
+    return index
 
 
 def _id(number: int) -> int:
@@ -49,8 +60,8 @@ class Index:
     numbers from -2**63 to 2**63 - 1, IDs from 0 to 2**64 - 1. IDs and boxes may stand many times. Distances are squared,
     and held at 2**63 - 1.
 
-    Many boxes are an array of shape (n, 4), a buffer of 4 * n 64-bit integers, or a sequence of boxes. Answers are arrays
-    of numpy, or of the module array where numpy is not installed.
+    Many boxes are an array of shape (n, 4), a buffer of 4 * n numbers, or an iterable of boxes. Buffers of 64-bit integers
+    are read where they lie. Answers are arrays of numpy, or of the module array where numpy is not installed.
 
     A wrong argument raises TypeError, ValueError or OverflowError, refused memory MemoryError. Then the index is as it
     was. Threads may share an index: one call at a time goes on, and the others wait.
@@ -62,19 +73,17 @@ class Index:
     True
     """
 
+    __slots__ = "_handle", "_lock", "_room", "__dict__", "__weakref__"  # so that __dict__ has what a subclass adds
+
     def __init__(self, boxes: Boxes | None = None, ids: IDs | None = None) -> None:
         """The rectangles of `boxes`, loaded at once, with the IDs of `ids`, or else 0, 1, 2 and so on."""
-        self._handle = Handle()
-        self._lock = Lock()
-        self._found = c_size_t()
-        self._room = zeros(UNSIGNED, 64)
+        self._handle = _Handle()
+        self._lock = RLock()  # a finalizer or a signal may take it again, amid a call of the same thread
+        self._room: array[int] | None = None  # for the next answer; a call that uses it leaves None to such a one
         if boxes is not None:
             self.load(boxes, ids)
         elif ids is not None:
             raise TypeError("IDs without boxes")
-
-    def __del__(self, clear: Any = calls.clear) -> None:
-        clear(self._handle)
 
     def load(self, boxes: Boxes, ids: IDs | None = None) -> None:
         """Puts rectangles in the place of all that the index holds."""
@@ -101,19 +110,19 @@ class Index:
         """
         number, packed = _id(id), box_of(box)
         with self._lock:
-            return calls.remove(self._handle, number, packed)
+            return bool(calls.remove(self._handle, number, packed))
 
     def __contains__(self, item: tuple[int, Box]) -> bool:
         """`(id, box) in index`: whether there is a rectangle with this ID and this box."""
         id, box = item
         number, packed = _id(id), box_of(box)
         with self._lock:
-            return calls.contains(self._handle, number, packed)
+            return bool(calls.contains(self._handle, number, packed))
 
     def __len__(self) -> int:
         """The number of rectangles."""
         with self._lock:
-            return calls.len(self._handle)
+            return int(calls.len(self._handle))
 
     def clear(self) -> None:
         """Takes all rectangles out."""
@@ -129,10 +138,13 @@ class Index:
         >>> (7, (0, 0, 2, 2)) in Index(*index.items())
         True
         """
+        room, found = 0, c_size_t(1)
         with self._lock:
-            count = calls.len(self._handle)
-            boxes, ids = zeros(SIGNED, 4 * count), zeros(UNSIGNED, count)
-            check(calls.items(self._handle, address(boxes), count, address(ids), count, self._found))
+            while found.value > room:
+                room = calls.len(self._handle)
+                boxes, ids = zeros(SIGNED, 4 * room), zeros(UNSIGNED, room)
+                check(calls.items(self._handle, address(boxes), room, address(ids), room, found))
+        count = found.value
         return given(boxes, 4 * count, count, 4), given(ids, count)
 
     def query(self, box: Box, predicate: str = "intersects") -> Numbers:
@@ -213,35 +225,36 @@ class Index:
     def nearest(self, point: Point, k: int = 1) -> tuple[Numbers, Numbers]:
         """The IDs and the squared distances of the k rectangles nearest to the point, the nearest first.
 
-        They are fewer than k where the index holds fewer.
+        At equal distance the lesser lower corner comes first, then the lesser upper corner, then the lesser ID. They are
+        fewer than k where the index holds fewer.
 
         >>> ids, squared_distances = Index([(0, 0, 2, 2), (5, 5, 9, 9)]).nearest((4, 4), 5)
         >>> ids.tolist(), squared_distances.tolist()
         ([1, 0], [2, 8])
         """
-        packed, most = point_of(point), within_bits(k, 0, _GREATEST)
+        packed, most, found = point_of(point), within_bits(k, 0, _GREATEST), c_size_t()
         with self._lock:
-            most = min(most, calls.len(self._handle))
-            ids, distances = zeros(UNSIGNED, most), zeros(SIGNED, most)
-            check(calls.nearest(self._handle, packed, address(ids), most, address(distances), most, self._found))
-        return given(ids, most), given(distances, most)
+            room = min(most, calls.len(self._handle))
+            ids, distances = zeros(UNSIGNED, room), zeros(SIGNED, room)
+            check(calls.nearest(self._handle, packed, address(ids), room, address(distances), room, found))
+        return given(ids, found.value), given(distances, found.value)
 
     def nearest_many(self, points: Points, k: int = 1) -> tuple[Numbers, Numbers]:
         """The same as `nearest` for n points at once, m for each: k, or the number of rectangles where that is less.
 
         Arrays of numpy have the shape (n, m). Without numpy, those of point i begin at i * m.
         """
-        rows, most = rows_of(points, SIGNED, 2), within_bits(k, 0, _GREATEST)
+        rows, most, found = rows_of(points, SIGNED, 2), within_bits(k, 0, _GREATEST), c_size_t()
         with self._lock:
-            most = min(most, calls.len(self._handle))
-            size = rows.length * most
+            room = min(most, calls.len(self._handle))
+            size = rows.length * room
             ids, distances = zeros(UNSIGNED, size), zeros(SIGNED, size)
-            arrays = address(ids), size, address(distances), size
-            check(calls.nearest_each(self._handle, *rows[:2], most, *arrays, self._found))
-        return given(ids, size, rows.length, most), given(distances, size, rows.length, most)
+            check(calls.nearest_each(self._handle, *rows[:2], room, address(ids), size, address(distances), size, found))
+        shape = rows.length, found.value
+        return given(ids, rows.length * found.value, *shape), given(distances, rows.length * found.value, *shape)
 
     def pop_nearest(self, point: Point) -> tuple[int, tuple[int, int, int, int], int] | None:
-        """Takes a rectangle out that is nearest to the point, and gives its ID, its box and its squared distance.
+        """Takes the first rectangle out that `nearest` gives, and gives its ID, its box and its squared distance.
 
         None: there is no rectangle.
 
@@ -284,48 +297,47 @@ class Index:
         return f"<vaikrone.{type(self).__name__} of {len(self)} rectangles>"
 
     def __reduce__(self) -> tuple[Any, ...]:
-        """Pickles and copies by what the index holds, whether numpy is installed or not."""
+        """Pickles and copies by what the index holds, whether numpy is installed or not, and by its attributes."""
         boxes, ids = self.items()
-        return type(self), (array(SIGNED, boxes.tobytes()), array(UNSIGNED, ids.tobytes()))
+        held = array(SIGNED, boxes.tobytes()), array(UNSIGNED, ids.tobytes())
+        return _restored, (type(self), *held), self.__dict__
 
     def _ids(self, select: Any, *question: Any) -> Numbers:
         """The answer of one question. It is asked again where there are more IDs than room."""
         with self._lock:
-            ids = self._room
-            count = select(self._handle, *question, address(ids), len(ids))
-            if count <= len(ids):
-                return given(ids[:count], count)
-            ids = zeros(UNSIGNED, count)
-            select(self._handle, *question, address(ids), count)
-            self._room = zeros(UNSIGNED, min(2 * count, _LONGEST_ROOM))
+            ids, self._room = self._room or zeros(UNSIGNED, 64), None
+            while (count := select(self._handle, *question, address(ids), len(ids))) > len(ids):
+                ids = zeros(UNSIGNED, max(count, min(2 * count, _LONGEST_ROOM)))
+            if len(ids) <= _LONGEST_ROOM:
+                self._room, ids = ids, ids[:count]
         return given(ids, count)
 
     def _drained(self, drain: Any, *question: Any) -> Numbers:
-        """The answer of one drain. Without room nothing is taken out, and so no ID is lost where memory is refused."""
+        """The answer of one drain. It is made before, and so no ID is lost where memory is refused."""
+        found, room = c_size_t(), 0
         with self._lock:
-            check(drain(self._handle, *question, address(self._room), 0, self._found))
-            count = self._found.value
-            ids = zeros(UNSIGNED, count)
-            answer = given(ids, count)
-            if count:
-                check(drain(self._handle, *question, address(ids), count, self._found))
-        return answer
+            while True:
+                ids = zeros(UNSIGNED, room)
+                answer = given(ids, len(ids))
+                if check(drain(self._handle, *question, address(ids), room, found)):
+                    return answer if len(answer) == found.value else answer[: found.value]
+                room = found.value
 
     def _ids_of_each(self, select: Any, rows: Rows, *more: Any) -> tuple[Numbers, Numbers]:
         offsets, ids = zeros(SIGNED, rows.length + 1), zeros(UNSIGNED, 8 * rows.length)
         with self._lock:
             question = self._handle, *rows[:2], *more, address(offsets), len(offsets)
             check(select(*question, address(ids), len(ids)))
-            if offsets[-1] > len(ids):
+            while offsets[-1] > len(ids):
                 ids = zeros(UNSIGNED, offsets[-1])
                 check(select(*question, address(ids), len(ids)))
         return given(offsets, rows.length + 1), given(ids, offsets[-1])
 
     def _pairs(self, join: Any, *other: Any) -> tuple[Numbers, Numbers]:
-        room = max(64, calls.len(self._handle))
+        room, found = max(64, calls.len(self._handle)), c_size_t()
         while True:
             first, second = zeros(UNSIGNED, room), zeros(UNSIGNED, room)
-            check(join(self._handle, *other, address(first), room, address(second), room, self._found))
-            if self._found.value <= room:
-                return given(first, self._found.value), given(second, self._found.value)
-            room = self._found.value
+            check(join(self._handle, *other, address(first), room, address(second), room, found))
+            if found.value <= room:
+                return given(first, found.value), given(second, found.value)
+            room = found.value

@@ -65,11 +65,12 @@ def _calls(path: str) -> SimpleNamespace:
     return SimpleNamespace(**functions)
 
 
-def check(status: int) -> None:
-    """Raises what a status says. An array without room is no error here: its caller looks at `found`."""
+def check(status: int) -> bool:
+    """Raises what a status says. False: a drain had no room."""
     if status in _ERRORS:
         error, message = _ERRORS[status]
         raise error(message)
+    return status == 0
 
 
 calls = _calls(os.environ.get("VAIKRONE_LIBRARY") or str(Path(__file__).with_name("librstar.so")))

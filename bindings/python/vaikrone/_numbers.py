@@ -7,15 +7,19 @@ from ctypes import Structure, addressof, byref, c_int64, c_void_p, py_object, py
 from itertools import chain
 from numbers import Real
 from operator import index
-from struct import Struct, error
-from typing import Any, Iterable, NamedTuple, Sequence
+from struct import Struct, error, iter_unpack
+from typing import TYPE_CHECKING, Any, Iterable, NamedTuple, Sequence
 
 try:
     import numpy
 except ImportError:
     numpy = None  # type: ignore[assignment]
 
+if TYPE_CHECKING:
+    Numbers = numpy.ndarray[Any, Any] | array[int]
+
 SIGNED, UNSIGNED = "q", "Q"
+_OTHERS = tuple("bhHiIlLqQefd")  # other numbers of buffers; bytes are none
 _ZERO = {SIGNED: array(SIGNED, [0]), UNSIGNED: array(UNSIGNED, [0])}
 _BOX, _POINT = Struct("4q"), Struct("2q")
 _EMPTY = c_int64()  # the library takes no null pointer, so what is empty lies here
@@ -31,10 +35,10 @@ def whole(number: Any) -> int:
 
 
 def within_bits(number: Any, least: int, greatest: int) -> int:
-    number = whole(number)
-    if not least <= number <= greatest:
-        raise OverflowError(f"{number} is not from {least} to {greatest}")
-    return number
+    result = whole(number)
+    if not least <= result <= greatest:
+        raise OverflowError(f"{result} is not from {least} to {greatest}")
+    return result
 
 
 def box_of(box: Iterable[Any]) -> bytes:
@@ -53,7 +57,7 @@ def _packed(form: Struct, values: Iterable[Any], width: int, message: str) -> by
     except error:  # a float that is whole, or what array refuses
         if len(values) != width:
             raise ValueError(message) from None
-        return array(SIGNED, map(whole, values)).tobytes()
+        return _array_of(SIGNED, values).tobytes()
 
 
 class _PyBuffer(Structure):
@@ -84,7 +88,7 @@ def rows_of(values: Any, code: str, width: int) -> Rows:
     try:
         view = memoryview(values)
     except TypeError:
-        return _rows_in(memoryview(_array_of(list(values), code, width)), width)
+        return _rows_in(memoryview(_array_of(code, _flat(values, width))), width)
     shape: Any = view.shape
     if not (view.ndim == 2 and shape[1] == width or view.ndim == 1 and shape[0] % width == 0):
         raise ValueError(f"an array of {width} numbers a row is needed, not one of shape {shape}")
@@ -107,12 +111,16 @@ def _rows_in(view: memoryview, width: int) -> Rows:
     return Rows(_start(view), view.nbytes // (8 * width), view)
 
 
-def _array_of(values: Sequence[Any], code: str, width: int) -> array[int]:
-    if width > 1:
-        values = [tuple(row) for row in values]
-        if any(len(row) != width for row in values):
-            raise ValueError(f"each row is {width} numbers")
-        values = list(chain.from_iterable(values))
+def _flat(values: Iterable[Any], width: int) -> list[Any]:
+    if width == 1:
+        return list(values)
+    rows = [tuple(row) for row in values]
+    if any(len(row) != width for row in rows):
+        raise ValueError(f"each row is {width} numbers")
+    return list(chain.from_iterable(rows))
+
+
+def _array_of(code: str, values: Sequence[Any]) -> array[int]:
     try:
         return array(code, values)
     except TypeError:  # a float that is whole, or what array refuses
@@ -120,19 +128,14 @@ def _array_of(values: Sequence[Any], code: str, width: int) -> array[int]:
 
 
 def _converted(view: memoryview, code: str) -> array[int]:
-    if view.format not in tuple("hHiIfd"):
-        raise TypeError(f"64-bit integers are needed, not a buffer of format {view.format!r}")
-    values: Any = view.tolist()
-    if view.ndim == 2:
-        values = list(chain.from_iterable(values))
-    if view.format in "fd" and not all(map(float.is_integer, values)):
-        raise ValueError("a number of the buffer is not whole")
-    return array(code, map(int, values))
+    if view.format.lstrip("@=<>") not in _OTHERS:
+        raise TypeError(f"a buffer of numbers is needed, not one of format {view.format!r}")
+    return _array_of(code, [number for number, in iter_unpack(view.format, view.tobytes())])
 
 
 def _least(view: memoryview) -> int:
     numbers = view.cast("B").cast(SIGNED)
-    return numpy.min(numbers) if numpy else min(numbers)
+    return int(numpy.min(numbers)) if numpy else min(numbers)
 
 
 def apart(ids: Rows, boxes: Rows) -> Rows:
@@ -151,7 +154,7 @@ def address(numbers: array[int]) -> int:
     return numbers.buffer_info()[0]
 
 
-def given(numbers: array[int], count: int, *shape: int) -> Any:
+def given(numbers: array[int], count: int, *shape: int) -> Numbers:
     """The first so many numbers, to the caller: as a numpy array where numpy is installed. None is copied."""
     del numbers[count:]
     if numpy is None:

@@ -9,10 +9,7 @@ pub struct AABB<P> {
 impl AABB<[i64; 2]> {
     /// The box of two opposite corners, in any order.
     pub fn from_corners(p1: [i64; 2], p2: [i64; 2]) -> Self {
-        AABB {
-            lower: [p1[0].min(p2[0]), p1[1].min(p2[1])],
-            upper: [p1[0].max(p2[0]), p1[1].max(p2[1])],
-        }
+        AABB { lower: [p1[0].min(p2[0]), p1[1].min(p2[1])], upper: [p1[0].max(p2[0]), p1[1].max(p2[1])] }
     }
 
     /// The box of a point alone.

@@ -5,14 +5,15 @@
 //! filled before the call, and is a list of its own.
 
 use crate::{Envelope, Point};
-use std::cell::UnsafeCell;
+use std::cell::{Cell, UnsafeCell};
 use std::ffi::c_void;
+use std::iter::{Skip, Zip};
+use std::vec::IntoIter;
 
 type Status = i32;
 const OK: Status = 0;
 const NO_MEMORY: Status = 1;
 const TOO_MANY: Status = 2;
-const NO_ROOM: Status = 4;
 
 #[repr(C)]
 struct Handle {
@@ -22,8 +23,7 @@ struct Handle {
 
 // The types of a call that answers IDs to a question, and of one that takes these rectangles out.
 type Ask<Question> = unsafe extern "C" fn(*mut Handle, *const Question, *mut u64, usize) -> usize;
-type Drain<Question> =
-    unsafe extern "C" fn(*mut Handle, *const Question, *mut u64, usize, *mut usize) -> Status;
+type Drain<Question> = unsafe extern "C" fn(*mut Handle, *const Question, *mut u64, usize, *mut usize) -> Status;
 
 extern "C" {
     fn rstar_index_clear(index: *mut Handle);
@@ -37,24 +37,10 @@ extern "C" {
     ) -> Status;
     fn rstar_index_insert(index: *mut Handle, id: u64, of: *const Envelope) -> Status;
     fn rstar_index_remove(index: *mut Handle, id: u64, of: *const Envelope) -> bool;
-    fn rstar_index_meeting(
-        index: *mut Handle,
-        of: *const Envelope,
-        ids: *mut u64,
-        ids_len: usize,
-    ) -> usize;
-    fn rstar_index_inside(
-        index: *mut Handle,
-        of: *const Envelope,
-        ids: *mut u64,
-        ids_len: usize,
-    ) -> usize;
-    fn rstar_index_at(
-        index: *mut Handle,
-        point: *const Point,
-        ids: *mut u64,
-        ids_len: usize,
-    ) -> usize;
+    fn rstar_index_contains(index: *mut Handle, id: u64, of: *const Envelope) -> bool;
+    fn rstar_index_meeting(index: *mut Handle, of: *const Envelope, ids: *mut u64, ids_len: usize) -> usize;
+    fn rstar_index_inside(index: *mut Handle, of: *const Envelope, ids: *mut u64, ids_len: usize) -> usize;
+    fn rstar_index_at(index: *mut Handle, point: *const Point, ids: *mut u64, ids_len: usize) -> usize;
     fn rstar_index_within(
         index: *mut Handle,
         point: *const Point,
@@ -133,38 +119,16 @@ fn require(status: Status) {
     }
 }
 
-/// The room of the first call, which is enough for most questions.
-const FIRST_ROOM: usize = 32;
+/// The longest room that is kept for the next question, so that IDs are copied out of it. A longer one is given away.
+const LONGEST_ROOM: usize = 1024;
 
-/// All answers of a call that writes as many as there is room for, and says how many there are.
-fn all_ids(mut call: impl FnMut(&mut [u64], &mut usize) -> Status) -> Vec<u64> {
-    let mut ids = vec![0; FIRST_ROOM];
-    let mut found = 0;
-    let mut status = call(&mut ids, &mut found);
-    if status == NO_ROOM || found > ids.len() {
-        ids.resize(found, 0);
-        status = call(&mut ids, &mut found);
-    }
-    require(status);
-    ids.truncate(found);
-    ids
-}
-
-/// The same for pairs.
-fn all_pairs(
-    mut call: impl FnMut(&mut [u64], &mut [u64], &mut usize) -> Status,
-) -> Vec<(u64, u64)> {
-    let mut second = Vec::new();
-    let first = all_ids(|first, found| {
-        second.resize(first.len(), 0);
-        call(first, &mut second, found)
-    });
-    first.into_iter().zip(second).collect()
-}
+/// The nearest, the nearest first: their IDs and their squared distances.
+pub(crate) type Nearest = Skip<Zip<IntoIter<u64>, IntoIter<i64>>>;
 
 /// Rectangles with IDs: a handle of the library. It is not `Sync`, since a question uses its handle alone.
 pub(crate) struct Index {
     handle: UnsafeCell<Handle>,
+    room: Cell<Vec<u64>>,
 }
 
 // SAFETY: a handle and its memory belong to no thread.
@@ -173,9 +137,34 @@ unsafe impl Send for Index {}
 impl Index {
     pub fn new() -> Self {
         let at = std::ptr::null_mut();
-        Index {
-            handle: UnsafeCell::new(Handle { is_made: false, at }),
+        Index { handle: UnsafeCell::new(Handle { is_made: false, at }), room: Cell::default() }
+    }
+
+    /// All answers of a call that writes as many as there is room for, and says how many there are.
+    fn all_ids(&self, mut call: impl FnMut(&mut [u64], &mut usize) -> Status) -> Vec<u64> {
+        let (mut room, mut found) = (self.room.take(), 0);
+        let mut status = call(&mut room, &mut found);
+        if found > room.len() {
+            room.resize(found, 0);
+            status = call(&mut room, &mut found);
         }
+        require(status);
+        if found > LONGEST_ROOM {
+            return room;
+        }
+        let ids = room[..found].to_vec();
+        self.room.set(room);
+        ids
+    }
+
+    /// The same for pairs.
+    fn all_pairs(&self, mut call: impl FnMut(&mut [u64], &mut [u64], &mut usize) -> Status) -> Vec<(u64, u64)> {
+        let mut second = Vec::new();
+        let first = self.all_ids(|first, found| {
+            second.resize(first.len(), 0);
+            call(first, &mut second, found)
+        });
+        first.into_iter().zip(second).collect()
     }
 
     // SAFETY of each call below: the handle is used by this call alone, since an index is not `Sync`
@@ -186,15 +175,7 @@ impl Index {
     }
 
     pub fn load(&mut self, boxes: &[Envelope], ids: &[u64]) {
-        require(unsafe {
-            rstar_index_load(
-                self.handle.get(),
-                boxes.as_ptr(),
-                boxes.len(),
-                ids.as_ptr(),
-                ids.len(),
-            )
-        });
+        require(unsafe { rstar_index_load(self.handle.get(), boxes.as_ptr(), boxes.len(), ids.as_ptr(), ids.len()) });
     }
 
     pub fn insert(&mut self, id: u64, envelope: &Envelope) {
@@ -205,23 +186,19 @@ impl Index {
         unsafe { rstar_index_remove(self.handle.get(), id, envelope) }
     }
 
+    pub fn contains(&self, id: u64, envelope: &Envelope) -> bool {
+        unsafe { rstar_index_contains(self.handle.get(), id, envelope) }
+    }
+
     fn ask<Question>(&self, call: Ask<Question>, question: &Question) -> Vec<u64> {
-        all_ids(|ids, found| {
+        self.all_ids(|ids, found| {
             *found = unsafe { call(self.handle.get(), question, ids.as_mut_ptr(), ids.len()) };
             OK
         })
     }
 
     fn drain<Question>(&mut self, call: Drain<Question>, question: &Question) -> Vec<u64> {
-        all_ids(|ids, found| unsafe {
-            call(
-                self.handle.get(),
-                question,
-                ids.as_mut_ptr(),
-                ids.len(),
-                found,
-            )
-        })
+        self.all_ids(|ids, found| unsafe { call(self.handle.get(), question, ids.as_mut_ptr(), ids.len(), found) })
     }
 
     pub fn meeting(&self, envelope: &Envelope) -> Vec<u64> {
@@ -237,10 +214,9 @@ impl Index {
     }
 
     pub fn within(&self, point: &Point, distance: i64) -> Vec<u64> {
-        all_ids(|ids, found| {
+        self.all_ids(|ids, found| {
             let at = ids.as_mut_ptr();
-            *found =
-                unsafe { rstar_index_within(self.handle.get(), point, distance, at, ids.len()) };
+            *found = unsafe { rstar_index_within(self.handle.get(), point, distance, at, ids.len()) };
             OK
         })
     }
@@ -254,20 +230,14 @@ impl Index {
     }
 
     pub fn drain_within(&mut self, point: &Point, distance: i64) -> Vec<u64> {
-        all_ids(|ids, found| unsafe {
-            rstar_index_drain_within(
-                self.handle.get(),
-                point,
-                distance,
-                ids.as_mut_ptr(),
-                ids.len(),
-                found,
-            )
+        self.all_ids(|ids, found| unsafe {
+            rstar_index_drain_within(self.handle.get(), point, distance, ids.as_mut_ptr(), ids.len(), found)
         })
     }
 
-    /// The IDs and the squared distances of the nearest, the nearest first.
-    pub fn nearest(&self, point: &Point, most: usize) -> Vec<(u64, i64)> {
+    /// So many of them, without the first ones that were given. A longer list begins with a shorter one, where no ID
+    /// stands twice.
+    pub fn nearest(&self, point: &Point, most: usize, given: usize) -> Nearest {
         let (mut ids, mut distances) = (vec![0; most], vec![0; most]);
         let mut found = 0;
         require(unsafe {
@@ -282,11 +252,11 @@ impl Index {
             )
         });
         ids.truncate(found);
-        ids.into_iter().zip(distances).collect()
+        ids.into_iter().zip(distances).skip(given)
     }
 
     pub fn pairs(&self) -> Vec<(u64, u64)> {
-        all_pairs(|first, second, found| unsafe {
+        self.all_pairs(|first, second, found| unsafe {
             rstar_index_pairs(
                 self.handle.get(),
                 first.as_mut_ptr(),
@@ -301,7 +271,7 @@ impl Index {
     /// The pairs with another index.
     pub fn pairs_between(&self, other: &Index) -> Vec<(u64, u64)> {
         assert!(!std::ptr::eq(self, other), "the library wants two handles");
-        all_pairs(|first, second, found| unsafe {
+        self.all_pairs(|first, second, found| unsafe {
             rstar_index_pairs_between(
                 self.handle.get(),
                 other.handle.get(),
@@ -318,14 +288,7 @@ impl Index {
         let (mut id, mut distance, mut found) = (0, 0, false);
         let mut envelope = Envelope::from_point([0, 0]);
         require(unsafe {
-            rstar_index_pop_nearest(
-                self.handle.get(),
-                point,
-                &mut id,
-                &mut envelope,
-                &mut distance,
-                &mut found,
-            )
+            rstar_index_pop_nearest(self.handle.get(), point, &mut id, &mut envelope, &mut distance, &mut found)
         });
         found.then_some(id)
     }

@@ -23,6 +23,7 @@
 //!   points and rectangles that is rstar's answer.
 //! - An iterator finds all its answers when it is made, but for `nearest_neighbor_iter`. A drain takes
 //!   all of them out then, also where it is dropped early.
+//! - There is no selection function, no parameter, no `root`, and no variant `_mut` or `_int` but `iter_mut`.
 //! - A tree may be sent to another thread, and one thread at a time may use it: [`RTree`] is `Send` and
 //!   not `Sync`.
 //!

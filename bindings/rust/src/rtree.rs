@@ -1,7 +1,6 @@
-use crate::ffi::Index;
+use crate::ffi::{Index, Nearest};
 use crate::slab::Slab;
 use crate::{Envelope, Point, RTreeObject};
-use std::collections::HashSet;
 use std::fmt;
 use std::iter::Flatten;
 
@@ -19,10 +18,7 @@ pub struct RTree<T> {
 impl<T> RTree<T> {
     /// A tree of no object.
     pub fn new() -> Self {
-        RTree {
-            index: Index::new(),
-            objects: Slab::new(Vec::new()),
-        }
+        RTree { index: Index::new(), objects: Slab::new(Vec::new()) }
     }
 
     /// The number of objects.
@@ -63,10 +59,7 @@ impl<T: RTreeObject<Envelope = Envelope>> RTree<T> {
         let ids: Vec<u64> = (0..elements.len() as u64).collect();
         let mut index = Index::new();
         index.load(&boxes, &ids);
-        RTree {
-            index,
-            objects: Slab::new(elements),
-        }
+        RTree { index, objects: Slab::new(elements) }
     }
 
     /// Puts an object in. An object that is there already stands in the tree twice then.
@@ -80,8 +73,9 @@ impl<T: RTreeObject<Envelope = Envelope>> RTree<T> {
     where
         T: PartialEq,
     {
-        self.locate_in_envelope(t.envelope())
-            .any(|found| found == t)
+        let envelope = t.envelope();
+        let mut inside = self.index.inside(&envelope).into_iter();
+        inside.any(|id| self.objects.get(id) == t && self.index.contains(id, &envelope))
     }
 
     /// Takes one object out that is equal, and has an equal envelope.
@@ -89,21 +83,17 @@ impl<T: RTreeObject<Envelope = Envelope>> RTree<T> {
     where
         T: PartialEq,
     {
-        let inside = self.index.inside(&t.envelope());
-        let id = inside.into_iter().find(|id| self.objects.get(*id) == t)?;
-        self.take(id)
+        let envelope = t.envelope();
+        let mut inside = self.index.inside(&envelope).into_iter();
+        let id = inside.find(|id| self.objects.get(*id) == t && self.index.remove(*id, &envelope))?;
+        Some(self.objects.take(id))
     }
 
     /// Takes one object out whose envelope contains a point.
     pub fn remove_at_point(&mut self, point: Point) -> Option<T> {
-        let id = *self.index.at(&point).first()?;
-        self.take(id)
-    }
-
-    fn take(&mut self, id: u64) -> Option<T> {
-        let envelope = self.objects.get(id).envelope();
-        let is_removed = self.index.remove(id, &envelope);
-        is_removed.then(|| self.objects.take(id))
+        let mut at = self.index.at(&point).into_iter();
+        let id = at.find(|id| self.index.remove(*id, &self.objects.get(*id).envelope()))?;
+        Some(self.objects.take(id))
     }
 
     /// The objects whose envelopes lie inside one.
@@ -127,11 +117,7 @@ impl<T: RTreeObject<Envelope = Envelope>> RTree<T> {
     }
 
     /// The objects whose squared distance from a point is at most `max_squared_radius`.
-    pub fn locate_within_distance(
-        &self,
-        query_point: Point,
-        max_squared_radius: i64,
-    ) -> impl Iterator<Item = &T> {
+    pub fn locate_within_distance(&self, query_point: Point, max_squared_radius: i64) -> impl Iterator<Item = &T> {
         self.found(self.index.within(&query_point, max_squared_radius))
     }
 
@@ -143,7 +129,7 @@ impl<T: RTreeObject<Envelope = Envelope>> RTree<T> {
 
     /// An object that is nearest to a point, with its squared distance.
     pub fn nearest_neighbor_with_distance_2(&self, query_point: Point) -> Option<(&T, i64)> {
-        let (id, distance_2) = *self.index.nearest(&query_point, 1).first()?;
+        let (id, distance_2) = self.index.nearest(&query_point, 1, 0).next()?;
         Some((self.objects.get(id), distance_2))
     }
 
@@ -163,11 +149,13 @@ impl<T: RTreeObject<Envelope = Envelope>> RTree<T> {
     }
 
     /// The same, each with its squared distance.
-    pub fn nearest_neighbor_iter_with_distance_2(
-        &self,
-        query_point: Point,
-    ) -> impl Iterator<Item = (&T, i64)> {
-        let neighbors = Neighbors::new(&self.index, query_point);
+    pub fn nearest_neighbor_iter_with_distance_2(&self, query_point: Point) -> impl Iterator<Item = (&T, i64)> {
+        let neighbors = Neighbors {
+            index: &self.index,
+            point: query_point,
+            asked: 0,
+            batch: self.index.nearest(&query_point, 0, 0),
+        };
         neighbors.map(|(id, distance_2)| (self.objects.get(id), distance_2))
     }
 
@@ -184,20 +172,13 @@ impl<T: RTreeObject<Envelope = Envelope>> RTree<T> {
     }
 
     /// Takes the objects out whose envelopes meet one; touching is enough.
-    pub fn drain_in_envelope_intersecting(
-        &mut self,
-        envelope: Envelope,
-    ) -> impl Iterator<Item = T> {
+    pub fn drain_in_envelope_intersecting(&mut self, envelope: Envelope) -> impl Iterator<Item = T> {
         let ids = self.index.drain_meeting(&envelope);
         self.taken(ids)
     }
 
     /// Takes the objects out whose squared distance from a point is at most `max_squared_radius`.
-    pub fn drain_within_distance(
-        &mut self,
-        query_point: Point,
-        max_squared_radius: i64,
-    ) -> impl Iterator<Item = T> {
+    pub fn drain_within_distance(&mut self, query_point: Point, max_squared_radius: i64) -> impl Iterator<Item = T> {
         let ids = self.index.drain_within(&query_point, max_squared_radius);
         self.taken(ids)
     }
@@ -235,43 +216,22 @@ impl<T: RTreeObject<Envelope = Envelope>> RTree<T> {
     }
 }
 
-/// Neighbours by growing lists. Those of a longer list that came already are left out: equally near ones
-/// may come in another order.
+/// Neighbours by growing lists, each of which begins with the one before.
 struct Neighbors<'a> {
     index: &'a Index,
     point: Point,
     asked: usize,
-    given: Vec<u64>,
-    batch: std::vec::IntoIter<(u64, i64)>,
-}
-
-impl<'a> Neighbors<'a> {
-    fn new(index: &'a Index, point: Point) -> Self {
-        Neighbors {
-            index,
-            point,
-            asked: 0,
-            given: Vec::new(),
-            batch: Vec::new().into_iter(),
-        }
-    }
-
-    fn grow(&mut self) {
-        self.asked = (4 * self.asked).max(16).min(self.index.len());
-        let mut nearest = self.index.nearest(&self.point, self.asked);
-        let given: HashSet<u64> = self.given.iter().copied().collect();
-        nearest.retain(|neighbor| !given.contains(&neighbor.0));
-        self.given.extend(nearest.iter().map(|neighbor| neighbor.0));
-        self.batch = nearest.into_iter();
-    }
+    batch: Nearest,
 }
 
 impl Iterator for Neighbors<'_> {
     type Item = (u64, i64);
 
     fn next(&mut self) -> Option<(u64, i64)> {
-        if self.batch.len() == 0 && self.asked < self.index.len() {
-            self.grow();
+        let given = self.asked;
+        if self.batch.len() == 0 && given < self.index.len() {
+            self.asked = (4 * given).max(16).min(self.index.len());
+            self.batch = self.index.nearest(&self.point, self.asked, given);
         }
         self.batch.next()
     }
@@ -299,9 +259,7 @@ impl<T: fmt::Debug> fmt::Debug for RTree<T> {
             }
         }
         let mut tree = formatter.debug_struct("RTree");
-        tree.field("size", &self.size())
-            .field("items", &Items(self))
-            .finish()
+        tree.field("size", &self.size()).field("items", &Items(self)).finish()
     }
 }
 

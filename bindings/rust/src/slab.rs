@@ -1,5 +1,4 @@
 /// Objects at places, which are their IDs in the index. A place that is left is used again.
-#[derive(Debug)]
 pub(crate) struct Slab<T> {
     places: Vec<Option<T>>,
     free: Vec<usize>,
@@ -7,10 +6,7 @@ pub(crate) struct Slab<T> {
 
 impl<T> Slab<T> {
     pub fn new(objects: Vec<T>) -> Self {
-        Slab {
-            places: objects.into_iter().map(Some).collect(),
-            free: Vec::new(),
-        }
+        Slab { places: objects.into_iter().map(Some).collect(), free: Vec::new() }
     }
 
     /// The place that the next object gets.

@@ -41,10 +41,7 @@ fn remove_of_two() {
 #[test]
 fn fmt_debug() {
     let tree = RTree::bulk_load(vec![[0, 1], [0, 1]]);
-    assert_eq!(
-        format!("{tree:?}"),
-        "RTree { size: 2, items: {[0, 1], [0, 1]} }"
-    );
+    assert_eq!(format!("{tree:?}"), "RTree { size: 2, items: {[0, 1], [0, 1]} }");
 }
 
 #[test]
@@ -106,9 +103,7 @@ fn remove_and_insert() {
     assert_eq!(tree.size(), 1000);
     assert!(points.iter().all(|point| !tree.contains(point)));
     assert!(later.iter().all(|point| tree.contains(point)));
-    assert!(later
-        .iter()
-        .all(|point| tree.remove_at_point(*point).is_some()));
+    assert!(later.iter().all(|point| tree.remove_at_point(*point).is_some()));
     assert_eq!(tree.size(), 0);
 }
 
@@ -159,18 +154,10 @@ fn drains() {
     let points = random_points(1000, SEED_2);
     points.iter().for_each(|point| tree.insert(*point));
     let envelope = AABB::from_corners([-700_000, -600_000], [200_000, 850_000]);
-    let is_inside = |point: &&[i64; 2]| {
-        lies_in(
-            (**point, **point),
-            ([-700_000, -600_000], [200_000, 850_000]),
-        )
-    };
+    let is_inside = |point: &&[i64; 2]| lies_in((**point, **point), ([-700_000, -600_000], [200_000, 850_000]));
     let wanted = points.iter().filter(is_inside).count();
     assert!((200..800).contains(&wanted));
-    assert_eq!(
-        tree.drain_in_envelope_intersecting(envelope).count(),
-        wanted
-    );
+    assert_eq!(tree.drain_in_envelope_intersecting(envelope).count(), wanted);
     assert_eq!(tree.locate_in_envelope_intersecting(envelope).count(), 0);
     assert_eq!(tree.size(), 1000 - wanted);
     std::mem::forget(tree.drain());
@@ -204,9 +191,7 @@ fn locate_all() {
     let tree = RTree::bulk_load(rectangles.clone());
     let mut most = 0;
     for point in random_points(20, SEED_1) {
-        let wanted = rectangles
-            .iter()
-            .filter(|r| lies_in((point, point), corners(r)));
+        let wanted = rectangles.iter().filter(|r| lies_in((point, point), corners(r)));
         let found = sorted(tree.locate_all_at_point(point));
         assert_eq!(found, sorted(wanted));
         assert_eq!(tree.locate_at_point(point).is_some(), !found.is_empty());
@@ -220,16 +205,9 @@ fn locate_in_envelope() {
     let points = random_points(100, SEED_1);
     let tree = RTree::bulk_load(points.clone());
     let area = ([-500_000, -500_000], [500_000, 1_000_000]);
-    let wanted = sorted(
-        points
-            .iter()
-            .filter(|point| lies_in((**point, **point), area)),
-    );
+    let wanted = sorted(points.iter().filter(|point| lies_in((**point, **point), area)));
     assert!((10..90).contains(&wanted.len()));
-    assert_eq!(
-        sorted(tree.locate_in_envelope(AABB::from_corners(area.0, area.1))),
-        wanted
-    );
+    assert_eq!(sorted(tree.locate_in_envelope(AABB::from_corners(area.0, area.1))), wanted);
 }
 
 #[test]
@@ -238,10 +216,7 @@ fn iteration() {
     let mut tree = RTree::new();
     points.iter().for_each(|point| tree.insert(*point));
     assert_eq!(sorted(tree.iter().copied()), sorted(points.clone()));
-    assert_eq!(
-        sorted(tree.iter_mut().map(|point| *point)),
-        sorted(points.clone())
-    );
+    assert_eq!(sorted(tree.iter_mut().map(|point| *point)), sorted(points.clone()));
     assert_eq!(sorted(&tree), sorted(&points));
 }
 
@@ -250,16 +225,9 @@ fn locate_within_distance() {
     let points = random_points(100, SEED_1);
     let tree = RTree::bulk_load(points.clone());
     let (origin, radius_2) = ([200_000, 600_000], 400_000_000_000);
-    let wanted = sorted(
-        points
-            .iter()
-            .filter(|p| distance_2((**p, **p), origin) <= radius_2),
-    );
+    let wanted = sorted(points.iter().filter(|p| distance_2((**p, **p), origin) <= radius_2));
     assert!((10..90).contains(&wanted.len()));
-    assert_eq!(
-        sorted(tree.locate_within_distance(origin, radius_2)),
-        wanted
-    );
+    assert_eq!(sorted(tree.locate_within_distance(origin, radius_2)), wanted);
 }
 
 #[test]
@@ -283,11 +251,7 @@ fn nearest_neighbor() {
     let points = random_points(1000, SEED_1);
     let tree = RTree::bulk_load(points.clone());
     for sample in random_points(100, SEED_2) {
-        let least = points
-            .iter()
-            .map(|p| distance_2((*p, *p), sample))
-            .min()
-            .unwrap();
+        let least = points.iter().map(|p| distance_2((*p, *p), sample)).min().unwrap();
         let nearest = tree.nearest_neighbor(sample).unwrap();
         assert!(points.contains(nearest));
         assert_eq!(distance_2((*nearest, *nearest), sample), least);
@@ -299,21 +263,12 @@ fn nearest_neighbors() {
     let points: Vec<_> = (0..900).map(|i| [i / 30, i % 30]).collect();
     let tree = RTree::bulk_load(points.clone());
     for sample in [[-3, -3], [7, 40], [15, -9], [0, 0], [29, 31]] {
-        let least = points
-            .iter()
-            .map(|p| distance_2((*p, *p), sample))
-            .min()
-            .unwrap();
-        let wanted = points
-            .iter()
-            .filter(|p| distance_2((**p, **p), sample) == least);
+        let least = points.iter().map(|p| distance_2((*p, *p), sample)).min().unwrap();
+        let wanted = points.iter().filter(|p| distance_2((**p, **p), sample) == least);
         assert_eq!(sorted(tree.nearest_neighbors(&sample)), sorted(wanted));
     }
     let of_four = RTree::bulk_load(vec![[0, 0], [0, 1], [1, 0], [9, 9]]);
-    assert_eq!(
-        sorted(of_four.nearest_neighbors(&[1, 1])),
-        [&[0, 1], &[1, 0]]
-    );
+    assert_eq!(sorted(of_four.nearest_neighbors(&[1, 1])), [&[0, 1], &[1, 0]]);
 }
 
 #[test]
@@ -354,51 +309,28 @@ fn pop_nearest_neighbor() {
 fn intersection_between_trees() {
     let ones = random_rectangles(100, SEED_1);
     let others = random_rectangles(42, SEED_2);
-    let all = ones
-        .iter()
-        .flat_map(|one| others.iter().map(move |other| (one, other)));
+    let all = ones.iter().flat_map(|one| others.iter().map(move |other| (one, other)));
     let wanted = sorted(all.filter(|pair| do_meet(corners(pair.0), corners(pair.1))));
     assert!(wanted.len() > 10);
-    let (first, second) = (
-        RTree::bulk_load(ones.clone()),
-        RTree::bulk_load(others.clone()),
-    );
-    assert_eq!(
-        sorted(first.intersection_candidates_with_other_tree(&second)),
-        wanted
-    );
+    let (first, second) = (RTree::bulk_load(ones.clone()), RTree::bulk_load(others.clone()));
+    assert_eq!(sorted(first.intersection_candidates_with_other_tree(&second)), wanted);
 }
 
 #[test]
 fn trivial_intersections() {
     let first = RTree::bulk_load(random_points(1000, SEED_1));
     let second = RTree::bulk_load(random_points(2000, SEED_2));
-    assert_eq!(
-        first
-            .intersection_candidates_with_other_tree(&second)
-            .count(),
-        0
-    );
-    assert_eq!(
-        first
-            .intersection_candidates_with_other_tree(&first)
-            .count(),
-        first.size()
-    );
+    assert_eq!(first.intersection_candidates_with_other_tree(&second).count(), 0);
+    assert_eq!(first.intersection_candidates_with_other_tree(&first).count(), first.size());
 }
 
 #[test]
 fn intersections_with_itself() {
     let rectangles = random_rectangles(100, SEED_1);
     let tree = RTree::bulk_load(rectangles.clone());
-    let all = rectangles
-        .iter()
-        .flat_map(|one| rectangles.iter().map(move |other| (one, other)));
+    let all = rectangles.iter().flat_map(|one| rectangles.iter().map(move |other| (one, other)));
     let wanted = sorted(all.filter(|pair| do_meet(corners(pair.0), corners(pair.1))));
-    assert_eq!(
-        sorted(tree.intersection_candidates_with_other_tree(&tree)),
-        wanted
-    );
+    assert_eq!(sorted(tree.intersection_candidates_with_other_tree(&tree)), wanted);
     assert_eq!(2 * tree.intersecting_pairs().count() + 100, wanted.len());
 }
 
@@ -407,10 +339,7 @@ fn intersections_with_itself() {
 #[test]
 fn objects_with_data() {
     let mut tree = RTree::new();
-    tree.insert(GeomWithData::new(
-        Rectangle::from_corners([0, 0], [0, 0]),
-        (),
-    ));
+    tree.insert(GeomWithData::new(Rectangle::from_corners([0, 0], [0, 0]), ()));
     assert_eq!(tree.size(), 1);
     let label = |x, name| GeomWithData::new(Rectangle::from_corners([x, 0], [x + 1, 1]), name);
     let tree = RTree::bulk_load(vec![label(0, "one"), label(10, "two"), label(20, "three")]);
@@ -422,14 +351,8 @@ fn objects_with_data() {
 fn rectangle_distance() {
     let tree = RTree::bulk_load(vec![Rectangle::from_corners([10, 20], [5, 5])]);
     let distance = |x, y| tree.nearest_neighbor_with_distance_2([x, y]).unwrap().1;
-    assert_eq!(
-        [distance(5, 5), distance(0, 5), distance(5, 10)],
-        [0, 25, 0]
-    );
-    assert_eq!(
-        [distance(0, 0), distance(0, 10), distance(10, 30)],
-        [50, 25, 100]
-    );
+    assert_eq!([distance(5, 5), distance(0, 5), distance(5, 10)], [0, 25, 0]);
+    assert_eq!([distance(0, 0), distance(0, 10), distance(10, 30)], [50, 25, 100]);
     assert_eq!(distance(i64::MIN, 0), i64::MAX);
 }
 
@@ -438,16 +361,8 @@ fn rectangle_distance() {
 #[test]
 fn examples_of_envelopes() {
     let tree = RTree::bulk_load(vec![[0, 0], [0, 10], [10, 10]]);
-    assert_eq!(
-        tree.locate_in_envelope(AABB::from_corners([0, 0], [5, 10]))
-            .count(),
-        2
-    );
-    assert_eq!(
-        tree.locate_in_envelope(AABB::from_corners([0, 0], [10, 10]))
-            .count(),
-        3
-    );
+    assert_eq!(tree.locate_in_envelope(AABB::from_corners([0, 0], [5, 10])).count(), 2);
+    assert_eq!(tree.locate_in_envelope(AABB::from_corners([0, 0], [10, 10])).count(), 3);
     let tree = RTree::bulk_load(vec![Rectangle::from_corners([0, 0], [10, 10])]);
     let point = AABB::from_point([5, 5]);
     assert_eq!(tree.locate_in_envelope(point).count(), 0);
@@ -455,24 +370,13 @@ fn examples_of_envelopes() {
     let [left, middle, right] =
         [[0, 4], [3, 7], [6, 10]].map(|[from, to]| Rectangle::from_corners([from, 0], [to, 10]));
     let tree = RTree::bulk_load(vec![left, middle, right]);
-    assert_eq!(
-        tree.locate_in_envelope_intersecting(left.envelope())
-            .count(),
-        2
-    );
-    assert_eq!(
-        tree.locate_in_envelope_intersecting(middle.envelope())
-            .count(),
-        3
-    );
+    assert_eq!(tree.locate_in_envelope_intersecting(left.envelope()).count(), 2);
+    assert_eq!(tree.locate_in_envelope_intersecting(middle.envelope()).count(), 3);
 }
 
 #[test]
 fn examples_of_points() {
-    let rectangles = vec![
-        Rectangle::from_corners([0, 0], [2, 2]),
-        Rectangle::from_corners([1, 1], [3, 3]),
-    ];
+    let rectangles = vec![Rectangle::from_corners([0, 0], [2, 2]), Rectangle::from_corners([1, 1], [3, 3])];
     let mut tree = RTree::bulk_load(rectangles);
     assert_eq!(tree.locate_all_at_point([1, 1]).count(), 2);
     assert_eq!(tree.locate_all_at_point([0, 0]).count(), 1);

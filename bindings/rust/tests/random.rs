@@ -26,11 +26,7 @@ impl Both {
     }
 
     fn selected(&self, holds: impl Fn(Box) -> bool) -> Vec<&Object> {
-        sorted(
-            self.list
-                .iter()
-                .filter(|object| holds(corners(object.geom()))),
-        )
+        sorted(self.list.iter().filter(|object| holds(corners(object.geom()))))
     }
 
     fn change(&mut self) {
@@ -65,20 +61,12 @@ impl Both {
 
     fn pop(&mut self) {
         let point = self.random.point(15);
-        let least = self
-            .list
-            .iter()
-            .map(|object| distance_2(corners(object.geom()), point))
-            .min();
+        let least = self.list.iter().map(|object| distance_2(corners(object.geom()), point)).min();
         let popped = self.tree.pop_nearest_neighbor(point);
-        assert_eq!(
-            popped.map(|object| distance_2(corners(object.geom()), point)),
-            least
-        );
+        assert_eq!(popped.map(|object| distance_2(corners(object.geom()), point)), least);
         if let Some(popped) = popped {
             let place = self.list.iter().position(|other| *other == popped);
-            self.list
-                .swap_remove(place.expect("what is popped was there"));
+            self.list.swap_remove(place.expect("what is popped was there"));
         }
     }
 
@@ -114,31 +102,19 @@ impl Both {
         let meeting = tree.locate_in_envelope_intersecting(envelope);
         assert_eq!(sorted(meeting), self.selected(|of| do_meet(of, area)));
         let at_point = tree.locate_all_at_point(point);
-        assert_eq!(
-            sorted(at_point),
-            self.selected(|of| lies_in((point, point), of))
-        );
+        assert_eq!(sorted(at_point), self.selected(|of| lies_in((point, point), of)));
         let within = tree.locate_within_distance(point, radius_2);
-        assert_eq!(
-            sorted(within),
-            self.selected(|of| distance_2(of, point) <= radius_2)
-        );
+        assert_eq!(sorted(within), self.selected(|of| distance_2(of, point) <= radius_2));
         self.ask_neighbors(point);
     }
 
     fn ask_neighbors(&self, point: [i64; 2]) {
-        let found: Vec<_> = self
-            .tree
-            .nearest_neighbor_iter_with_distance_2(point)
-            .collect();
+        let found: Vec<_> = self.tree.nearest_neighbor_iter_with_distance_2(point).collect();
         assert!(found.is_sorted_by_key(|neighbor| neighbor.1));
         for (object, distance) in &found {
             assert_eq!(distance_2(corners(object.geom()), point), *distance);
         }
-        assert_eq!(
-            sorted(found.iter().map(|neighbor| neighbor.0)),
-            self.selected(|_| true)
-        );
+        assert_eq!(sorted(found.iter().map(|neighbor| neighbor.0)), self.selected(|_| true));
         assert_eq!(
             sorted(self.tree.nearest_neighbors(&point)),
             self.selected(|of| { distance_2(of, point) == found[0].1 })
@@ -146,26 +122,16 @@ impl Both {
     }
 
     fn ask_pairs(&self) {
-        let both_ways = self
-            .tree
-            .intersection_candidates_with_other_tree(&self.tree);
-        let all = self
-            .list
-            .iter()
-            .flat_map(|one| self.list.iter().map(move |other| (one, other)));
-        let meet =
-            |pair: &(&Object, &Object)| do_meet(corners(pair.0.geom()), corners(pair.1.geom()));
+        let both_ways = self.tree.intersection_candidates_with_other_tree(&self.tree);
+        let all = self.list.iter().flat_map(|one| self.list.iter().map(move |other| (one, other)));
+        let meet = |pair: &(&Object, &Object)| do_meet(corners(pair.0.geom()), corners(pair.1.geom()));
         assert_eq!(sorted(both_ways), sorted(all.filter(meet)));
     }
 }
 
 #[test]
 fn random_calls() {
-    let mut both = Both {
-        random: Random(7),
-        tree: RTree::new(),
-        list: Vec::new(),
-    };
+    let mut both = Both { random: Random(7), tree: RTree::new(), list: Vec::new() };
     for call in 0..20_000 {
         both.change();
         if call % 5 == 0 {

@@ -49,12 +49,7 @@ fn read(path: &str, random: &mut Random) -> Drawn {
     let text = std::fs::read_to_string(path).expect("a file of lines");
     let row = |line: &str| {
         let mut words = line.split(' ').skip(1);
-        let mut number = || {
-            words
-                .next()
-                .and_then(|word| word.parse().ok())
-                .expect("ID X1 Y1 X2 Y2")
-        };
+        let mut number = || words.next().and_then(|word| word.parse().ok()).expect("ID X1 Y1 X2 Y2");
         ([number(), number()], [number(), number()])
     };
     let boxes: Vec<Box> = text.lines().skip(1).take(ITEMS).map(row).collect();
@@ -63,10 +58,7 @@ fn read(path: &str, random: &mut Random) -> Drawn {
         let (one, other) = drawn();
         let sides = [other[0] - one[0], other[1] - one[1]];
         let lower = [one[0] - sides[0], one[1] - sides[1]];
-        (
-            (lower, [other[0] + sides[0], other[1] + sides[1]]),
-            drawn().0,
-        )
+        ((lower, [other[0] + sides[0], other[1] + sides[1]]), drawn().0)
     });
     let (areas, points) = questions.unzip();
     (boxes, areas, points)
@@ -95,11 +87,7 @@ fn object(corners: &Box, id: u64) -> Object {
 
 impl Bench {
     fn load(&mut self) {
-        let objects = self
-            .boxes
-            .iter()
-            .zip(&self.ids)
-            .map(|(corners, id)| object(corners, *id));
+        let objects = self.boxes.iter().zip(&self.ids).map(|(corners, id)| object(corners, *id));
         self.tree = RTree::bulk_load(objects.collect());
     }
 
@@ -107,9 +95,7 @@ impl Bench {
         (self.sums.hits, self.sums.ids) = (0, 0);
         for area in &self.areas {
             self.answers.clear();
-            let found = self
-                .tree
-                .locate_in_envelope_intersecting(AABB::from_corners(area.0, area.1));
+            let found = self.tree.locate_in_envelope_intersecting(AABB::from_corners(area.0, area.1));
             self.answers.extend(found.map(|object| object.data));
             self.sums.hits += self.answers.len() as u64;
             self.sums.ids += self.answers.iter().sum::<u64>();
@@ -119,10 +105,7 @@ impl Bench {
     fn find_nearest(&mut self) {
         self.sums.distances = 0;
         for point in &self.points {
-            let found = self
-                .tree
-                .nearest_neighbor_iter_with_distance_2(*point)
-                .take(NEAREST);
+            let found = self.tree.nearest_neighbor_iter_with_distance_2(*point).take(NEAREST);
             for (object, distance) in found {
                 self.answers.push(object.data);
                 self.sums.distances += distance as u64;
@@ -158,11 +141,7 @@ fn main() {
     let rows: [Row; 4] = [
         ("load of 100,000, ms", Bench::load, 1e3),
         ("question, us", Bench::ask, 1e6 / QUESTIONS as f64),
-        (
-            "10 nearest, us",
-            Bench::find_nearest,
-            1e6 / QUESTIONS as f64,
-        ),
+        ("10 nearest, us", Bench::find_nearest, 1e6 / QUESTIONS as f64),
         ("insertion, us", Bench::insert, 1e6 / ITEMS as f64),
     ];
     let mut best = [f64::INFINITY; 4];
@@ -177,10 +156,6 @@ fn main() {
     for (row, least) in rows.iter().zip(best) {
         println!("{}\t{:.2}", row.0, least * row.2);
     }
-    let Sums {
-        hits,
-        ids,
-        distances,
-    } = bench.sums;
+    let Sums { hits, ids, distances } = bench.sums;
     println!("answers\t{hits} {ids} {distances}");
 }

@@ -29,10 +29,7 @@ impl Random {
 
     pub fn rectangle(&mut self, bound: i64, side: i64) -> Rectangle<[i64; 2]> {
         let corner = self.point(bound);
-        let other = [
-            corner[0] + self.around_zero(side),
-            corner[1] + self.around_zero(side),
-        ];
+        let other = [corner[0] + self.around_zero(side), corner[1] + self.around_zero(side)];
         Rectangle::from_corners(corner, other)
     }
 }
@@ -44,9 +41,7 @@ pub fn random_points(count: usize, seed: u64) -> Vec<[i64; 2]> {
 
 pub fn random_rectangles(count: usize, seed: u64) -> Vec<Rectangle<[i64; 2]>> {
     let mut random = Random(seed);
-    (0..count)
-        .map(|_| random.rectangle(1_000_000, 200_000))
-        .collect()
+    (0..count).map(|_| random.rectangle(1_000_000, 200_000)).collect()
 }
 
 pub type Box = ([i64; 2], [i64; 2]);
