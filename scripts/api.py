@@ -223,7 +223,7 @@ def faults(pages):
             yield f"{name} is not as the sources are: run scripts/api.py"
         if len(text.encode()) > LIMITS[name]:
             yield f"{name} has {len(text.encode())} bytes, more than {LIMITS[name]}"
-    for crate in [*CRATES, "rstar_uses", "rstar_vectors"]:
+    for crate in [*CRATES, "rstar_base_vectors", "rstar_uses", "rstar_vectors"]:
         for item in [item for path in sources(crate) for item in items(path)]:
             yield from examples(f"{item.path.relative_to(ROOT)}: {item.name}", item.docs)
         for edit in edits(crate):

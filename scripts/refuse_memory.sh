@@ -65,8 +65,8 @@ declare -A least=(
 # three slabs take two lists, and three in one slab none; and of pushes on a heap the first twelve take none, and one of the others.
 declare -A just=(
   [refusals::stored_trees_that_are_refused]=4
-  [base::slabs::a_refused_slab_ends_the_slabs]=2
-  [base::heaps::the_greatest_leaves_first]=1
+  [slabs::a_refused_slab_ends_the_slabs]=2
+  [heaps::the_greatest_leaves_first]=1
 )
 # Runs those tests of a crate whose names fit a pattern, one at least, until no allocation between two marks is left to refuse.
 try_tests() {
@@ -94,8 +94,8 @@ try_tests() {
     fi
   done
 }
-try_tests rstar_vectors 'base::slabs::a_refused_slab_ends_the_slabs'
-try_tests rstar_vectors 'base::heaps::the_greatest_leaves_first'
+try_tests rstar_base_vectors 'slabs::a_refused_slab_ends_the_slabs'
+try_tests rstar_base_vectors 'heaps::the_greatest_leaves_first'
 try_tests rstar_vectors 'refusals::[a-z_]*'
 try_tests rstar_run 'tests::commands::rows_of_commands'
 try_tests rstar_run 'tests::lines::a_refused_line_is_the_last'

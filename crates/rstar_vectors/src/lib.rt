@@ -1,8 +1,6 @@
-//! Tests over all crates, and types of one's own.
+//! Tests over trees, and types of one's own.
 #![tactic(auto)]
 
-#[cfg(test)]
-mod base;
 #[cfg(test)]
 mod by_order;
 #[cfg(test)]

@@ -3,7 +3,7 @@
 ghost use Rattle.std.specs.Ordering.{int_cmp};
 ghost use Rattle.rstar_base.specs.SmallHeaps.{IsOrdered};
 
-use crate::refusals::is_marked;
+use crate::marks::is_marked;
 use rstar_base::heap::SmallHeap;
 use std::alloc::Global;
 

@@ -1,6 +1,6 @@
 use Rattle.std.specs.Ordering.{int_cmp}
 use Rattle.rstar_base.specs.SmallHeaps.{IsOrdered}
-use Rattle.rstar_vectors.proofs.base.heaps.pushes_again.Given as goal
+use Rattle.rstar_base_vectors.proofs.heaps.pushes.Given as goal
 
 abbrev pub invariant-loop-number : goal.invariant-loop-number
 invariant-loop-number l = IsOrdered int_cmp l.heap

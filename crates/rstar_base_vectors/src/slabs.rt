@@ -2,7 +2,7 @@
 
 ghost use Rattle.std.specs.Prelude.{◌<◌};
 
-use crate::refusals::is_marked;
+use crate::marks::is_marked;
 use num_traits::Zero;
 use rstar_base::clusters::{ClusterGroupIterator, calculate_number_of_clusters_on_axis};
 use rstar_base::envelope::Envelope;
