@@ -231,7 +231,7 @@ pub(crate) fn same_coordinates<P: Point>(p: &P, q: &P) -> bool
 ///     }
 /// }
 /// ```
-/// *`crates/rstar_vectors/src/base/boxes.rt`*
+/// *`crates/rstar_base_vectors/src/boxes.rt`*
 #[derive(Copy, Debug, PartialEq, Eq, PartialOrd, Ord, Hash, Drop)]
 pub struct AABB<P: Point> {
     lower: P,
