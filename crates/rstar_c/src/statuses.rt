@@ -1,9 +1,5 @@
 //! What a call answers.
 
-ghost use Rattle.std.specs.Prelude.{◌≡◌, OnOk, OnErr};
-
-use std::alloc::AllocError;
-
 /// It was done.
 pub const OK: i32 = 0;
 /// Memory was refused.
@@ -14,14 +10,3 @@ pub const TOO_MANY: i32 = 2;
 pub const BAD_LENGTH: i32 = 3;
 /// The list has not room for all that would be taken out.
 pub const NO_ROOM: i32 = 4;
-
-/// The status of a call that only memory can refuse.
-pub(crate) fn done(call: Result<(), AllocError>) -> i32
-    ensures ok { OnOk call (result ≡ OK) }
-    ensures refused { OnErr call (result ≡ NO_MEMORY) }
-{
-    match call {
-        Ok(()) => OK,
-        Err(_) => NO_MEMORY,
-    }
-}

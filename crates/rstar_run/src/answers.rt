@@ -81,8 +81,9 @@ pub fn print_number<W: Write>(
     output: &mut W,
     number: u64,
 ) -> Result<(), Stop>
-    ensures { PrintsSome (λ text. text ≡ decimal number ++ codes "\n") (W.contents output.old) (W.contents output.new)
-        printer.old.held.items printer.new.held.items result }
+    ensures printed { PrintsSome (λ text. text ≡ decimal number ++ codes "\n") (W.contents output.old)
+        (W.contents output.new) printer.old.held.items printer.new.held.items result }
+    ensures stop { IfErr result (λ stop. stop ≡ Stop.Output) }
 {
     printer.put_number(output, number)?;
     printer.put(output, b"\n")

@@ -1,6 +1,7 @@
 //! The bytes of an input.
 
-ghost use Rattle.std.specs.Prelude.{◌≡◌, ◌⊎◌, IfOk, IfErr, IfSome};
+ghost use Rattle.std.specs.Prelude.{◌≡◌, ◌⊎◌, ◌↔◌, IfOk, IfErr, IfSome};
+ghost use Rattle.std.specs.IoError.{error_kind};
 
 use super::stops::Stop;
 use std::alloc::Global;
@@ -27,7 +28,8 @@ impl<R: Read> Read for Source<R> {
 
 /// Why an input could not be read. `OutOfMemory` comes only from the buffer.
 pub fn input_stop(e: Error) -> Stop
-    ensures { (result ≡ Stop.Memory) ⊎ (result ≡ Stop.Input) }
+    ensures either { (result ≡ Stop.Memory) ⊎ (result ≡ Stop.Input) }
+    ensures memory { (result ≡ Stop.Memory) ↔ (error_kind e ≡ ErrorKind.OutOfMemory) }
 {
     match e.kind() {
         ErrorKind::OutOfMemory => Stop::Memory,

@@ -1,6 +1,6 @@
 //! `pack` and `unpack`: stored trees from lines of points, and back.
 
-ghost use Rattle.std.specs.Prelude.{◌≡◌, ◌++◌, OnOk, IfOk, IfErr};
+ghost use Rattle.std.specs.Prelude.{◌≡◌, ◌++◌, IsErr, OnOk, IfOk, IfErr};
 ghost use Rattle.std.specs.Io.KnownBytes.{Keeps};
 ghost use Rattle.std.specs.List.Sorted.{IsPermutation};
 ghost use Rattle.rstar.specs.Stored.{boxes, places};
@@ -77,6 +77,8 @@ fn print_fault<W: Write>(printer: &mut Printer, output: &mut W, fault: Fault) ->
         printer.old.held.items (fault_text fault) printer.new.held.items) }
     ensures front { AppendsFront (W.contents output.old) (W.contents output.new)
         (printer.old.held.items ++ fault_text fault) }
+    ensures silent { fault ≡ Fault.Stop Stop.Output →
+        IsErr result × Keeps (W.contents output.old) (W.contents output.new) }
     ensures failed { IfErr result (λ why. why ≡ Stop.Output) }
 {
     match fault {

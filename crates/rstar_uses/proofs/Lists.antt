@@ -1,11 +1,13 @@
 -- Elements of lists, and filters of them.
-use Rattle.std.proofs.Common.{◌≡◌, ◌∙◌, ◌&&◌, ◌↔◌, if◌then◌else◌, Bool, true, false, List, [], ◌∷◌, filter, map, refl, sym, ap, subst, arith, IsTrue}
-use Rattle.std.specs.List.{Contains, list_any}
+use Rattle.std.proofs.Common.{◌≡◌, ◌∙◌, ◌+◌, ◌&&◌, ◌↔◌, if◌then◌else◌, ℕ, Bool, true, false, List, [], ◌∷◌, filter, fold, length, map, min, refl, sym, ap, ap₂, subst, arith, zero-add, IsTrue}
+use Rattle.std.specs.List.{Contains, list_any, sum_by}
 use Rattle.std.specs.List.Sorted.{IsPermutation}
 use Rattle.std.proofs.lemmas.List.Elements.{All-contains, All-from_recursion, Contains-append_right}
 use Rattle.std.proofs.lemmas.List.Folds.{Any-from_list_any, list_any-from_Any}
 use Rattle.std.proofs.lemmas.List.Sorted.{IsPermutation-sym, Contains-permutation}
+use Rattle.rstar_base.specs.Counts.{usize_max}
 use Rattle.rstar.specs.Lists.{NoneSelected}
+use Rattle.rstar_uses.specs.Numbered.{count_and_sum}
 
 -- none that is selected is in a list which has one
 pub none-there : {X : Type 0} (p : X → Bool) (xs : List X) (x : X) → NoneSelected p xs → Contains xs x → p x ≡ false
@@ -55,3 +57,24 @@ filter-seen {A} {B} seen p (x ∷ xs) = by (p (seen x)) (filter-seen seen p xs)
     by : (b : Bool) → map seen (filter (λ y. p (seen y)) xs) ≡ filter p (map seen xs) → map seen (if b then x ∷ filter (λ y. p (seen y)) xs else filter (λ y. p (seen y)) xs) ≡ (if b then seen x ∷ filter p (map seen xs) else filter p (map seen xs))
     by true e = ap (λ (ys : List B). seen x ∷ ys) e
     by false e = e
+
+-- one more is counted, and its number added
+abbrev pub one-more : {R : Type 0} → ℕ × ℕ → R × ℕ → ℕ × ℕ
+one-more told r = (min (told.0 + 1) usize_max, min (told.1 + r.1) usize_max)
+
+-- one that comes is told, and the others are still to come
+pub one-told : {R : Type 0} (n s n' s' : ℕ) (r : R × ℕ) (old new : List (R × ℕ)) (all : ℕ × ℕ) → fold one-more (n, s) old ≡ all → old ≡ r ∷ new
+    → n' ≡ min (n + 1) usize_max → s' ≡ min (s + r.1) usize_max → fold one-more (n', s') new ≡ all
+one-told n s n' s' r old new all told came count sum = ap₂ (λ (k m : ℕ). fold one-more (k, m) new) count sum ∙ sym (ap (fold one-more (n, s)) came) ∙ told
+
+-- at the end all are
+told-from : {R : Type 0} (rs : List (R × ℕ)) (n s : ℕ) → fold one-more (min n usize_max, min s usize_max) rs ≡ (min (n + length rs) usize_max, min (fold (λ a r. a + r.1) s rs) usize_max)
+told-from {R} [] n s = ap (λ (k : ℕ). (k, min s usize_max)) (omega arith)
+told-from {R} (r ∷ rs) n s =
+    let count : min (min n usize_max + 1) usize_max ≡ min (n + 1) usize_max = omega arith in
+    let sum : min (min s usize_max + r.1) usize_max ≡ min (s + r.1) usize_max = omega arith in
+    let longer : min ((n + 1) + length rs) usize_max ≡ min (n + length (r ∷ rs)) usize_max = omega arith in
+    ap₂ (λ (k m : ℕ). fold one-more (k, m) rs) count sum ∙ told-from rs (n + 1) (s + r.1) ∙ ap (λ (k : ℕ). (k, min (fold (λ a r. a + r.1) (s + r.1) rs) usize_max)) longer
+
+pub all-told : {R : Type 0} (n s : ℕ) (left all : List (R × ℕ)) → fold one-more (n, s) left ≡ fold one-more (0, 0) all → left ≡ [] → (n, s) ≡ count_and_sum all
+all-told n s left all told none = sym (ap (fold one-more (n, s)) none) ∙ told ∙ told-from all 0 0 ∙ ap (λ (k : ℕ). (min k usize_max, min (sum_by (λ r. r.1) all) usize_max)) (zero-add (length all))

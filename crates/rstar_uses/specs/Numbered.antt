@@ -1,7 +1,9 @@
 -- Rectangles that each carry a number, and what is asked of lists of them.
-use Rattle.std.specs.Prelude.{◌&&◌, ◌==◌, ℕ, ℤ, Bool, List, filter, not, pos, negsuc, int_lt}
+use Rattle.std.specs.Prelude.{◌&&◌, ◌==◌, ℕ, ℤ, Bool, List, filter, length, min, not, pos, negsuc, int_lt}
+use Rattle.std.specs.List.{sum_by}
+use Rattle.rstar_base.specs.Counts.{usize_max}
 use Rattle.rstar_base.specs.declared.primitives.Rectangle.{Rectangle}
-use Rattle.rstar.specs.Boxes.{box_contains_point, boxes_intersect}
+use Rattle.rstar.specs.Boxes.{box_contains_point, boxes_intersect, contains_box}
 use Rattle.rstar.specs.Gaps.{gap_sum}
 use Rattle.rstar.specs.Points.{table}
 use Rattle.rstar.specs.Rectangles.{box_or_empty}
@@ -26,6 +28,14 @@ box_of r = box_or_empty low high 2 (coordinate r.0.lower) (coordinate r.0.upper)
 -- whether it contains a point, borders included
 abbrev pub covers : List ℤ → Numbered → Bool
 covers point r = box_contains_point (box_of r) (table 2 (coordinate point))
+
+-- whether it lies inside a box, borders included
+abbrev pub lies_in : List (ℤ × ℤ) → Numbered → Bool
+lies_in area r = contains_box area (box_of r)
+
+-- how many these are, and the sum of their numbers, both clamped to the greatest `u64`
+abbrev pub count_and_sum : {R : Type 0} → List (R × ℕ) → ℕ × ℕ
+count_and_sum rs = (min (length rs) usize_max, min (sum_by (λ r. r.1) rs) usize_max)
 
 -- whether two lie over each other that have two numbers; touching is enough
 abbrev pub overlap : Numbered × Numbered → Bool

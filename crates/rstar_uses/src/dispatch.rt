@@ -1,6 +1,6 @@
 //! A dispatch planner: vehicles that are free, of which the nearest is sent.
 
-ghost use Rattle.std.specs.Prelude.{◌≡◌, ◌==◌, ◌∷◌, ◌&&◌, ◌↔◌, ◌%◌, ℕ, ℤ, Bool, List, [], true, false, map, filter, pos, int_le, IsTrue, IfOk, IfSome, IfNone, OnOk, OnErr};
+ghost use Rattle.std.specs.Prelude.{◌≡◌, ◌==◌, ◌∷◌, ◌&&◌, ◌↔◌, ◌%◌, ℕ, ℤ, Bool, List, [], true, false, map, filter, pos, int_le, IsTrue, IfOk, IfErr, IfSome, IfNone, OnOk, OnErr};
 ghost use Rattle.std.specs.List.{AllByRecursion, Contains, list_any};
 ghost use Rattle.std.specs.List.Sorted.{IsPermutation};
 ghost use Rattle.rstar.specs.Lists.{IsNearest, AreNearestOf};
@@ -53,10 +53,11 @@ impl Dispatch {
         }
     }
 
-    /// One vehicle more is free. A refusal leaves all as it was, and tells why.
+    /// One vehicle more is free. A refusal hands it back and leaves all as it was.
     pub fn add(&mut self, place: [i64; 2], number: u64) -> Result<(), InsertError<Vehicle>>
         ensures added { OnOk result (IsPermutation ((place, number) ∷ self.old) self.new) }
-        ensures refused { OnErr result (self.new ≡ self.old) }
+        ensures handed_back { IfErr result (λ refused. refused.element ≡ (place, number)) }
+        ensures unchanged { OnErr result (self.new ≡ self.old) }
     {
         self.free.insert(Vehicle::new(place, number))
     }
@@ -110,7 +111,8 @@ impl Dispatch {
         first_able(alloc, &mut neighbors, limit, most, is_able)
     }
 
-    /// A vehicle moves from one place to another. Whether there was one. A refusal leaves all as it was.
+    /// A vehicle moves from one place to another. Whether there was one. A refusal leaves all as it was, and has the
+    /// vehicle at the other place.
     pub fn relocate(
         &mut self,
         number: u64,
@@ -121,6 +123,7 @@ impl Dispatch {
         ensures moved { IfOk result (λ there. there ≡ true
             → IsPermutation ((to, number) ∷ self.old) ((from, number) ∷ self.new)) }
         ensures kept { IfOk result (λ there. there ≡ false → self.new ≡ self.old) }
+        ensures handed_back { IfErr result (λ refused. refused.element ≡ (to, number)) }
         ensures refused { OnErr result (self.new ≡ self.old) }
     {
         replaced(
@@ -178,6 +181,7 @@ fn replaced<T: EqualEnvelopes>(tree: &mut RTree<T>, old: &T, new: T) -> Result<b
     ensures replaced { IfOk result (λ there. there ≡ true → (t : T) × (T.eq t old.now ≡ true)
         × IsPermutation (new ∷ elements_in tree.old) (t ∷ elements_in tree.new)) }
     ensures kept { IfOk result (λ there. there ≡ false → elements_in tree.new ≡ elements_in tree.old) }
+    ensures handed_back { IfErr result (λ refused. refused.element ≡ new) }
     ensures refused { OnErr result (elements_in tree.new ≡ elements_in tree.old) }
     ensures whole { IsWholeTree T.Envelope.boxes T.object ⟦<DefaultParams as RTreeParams>⟧.MAX_SIZE tree.new }
 {

@@ -11,7 +11,7 @@ ghost use Rattle.rstar.specs.Lists.{NoneSelected};
 ghost use Rattle.rstar.specs.Points.{table};
 ghost use Rattle.rstar.specs.Segments.{coordinate};
 ghost use Rattle.rstar.specs.Trees.{elements_in, IsWholeTree};
-ghost use Rattle.rstar_uses.specs.Numbered.{box_of, covers};
+ghost use Rattle.rstar_uses.specs.Numbered.{box_of, count_and_sum, covers, lies_in};
 
 use rstar::object::PointOf;
 use rstar::point::Point;
@@ -99,9 +99,11 @@ impl Fences {
         self.tree.size()
     }
 
-    /// The number of fences inside a box, and the sum of their numbers, clamped to the greatest `u64`.
+    /// The number of fences inside a box, and the sum of their numbers, both clamped to the greatest `u64`.
     /// Memory may be refused.
-    pub fn count_and_sum_in(&self, area: AABB<[i64; 2]>) -> Result<(usize, u64), AllocError> {
+    pub fn count_and_sum_in(&self, area: AABB<[i64; 2]>) -> Result<(usize, u64), AllocError>
+        ensures { IfOk result (λ told. told ≡ count_and_sum (filter (lies_in area) self.now)) }
+    {
         count_and_sum(&self.tree, area)
     }
 }
@@ -138,13 +140,15 @@ fn all_at<'a, T: PointDistance>(
     }
 }
 
-/// The number of elements inside an envelope, and the sum of their numbers, clamped to the greatest `u64`.
+/// The number of elements inside an envelope, and the sum of their numbers, both clamped to the greatest `u64`.
 fn count_and_sum<R: RTreeObject>(
     tree: &RTree<GeomWithData<R, u64>>,
     envelope: R::Envelope,
 ) -> Result<(usize, u64), AllocError>
     requires { IsWholeTree R.Envelope.boxes ⟦<GeomWithData<R, u64> as RTreeObject>⟧.object
         ⟦<DefaultParams as RTreeParams>⟧.MAX_SIZE tree.now }
+    ensures { IfOk result (λ told. told ≡ count_and_sum
+        (filter (λ t. R.Envelope.boxes.contains envelope (R.object.box_of t.0)) (elements_in tree.now))) }
 {
     // In the place of a `?`, which the check pays for in each statement that has a walk in hand.
     let Ok(mut found) = tree.locate_in_envelope(envelope) else {

@@ -25,7 +25,7 @@ pub extern "C" fn rstar_index_clear(alloc: Global, index: &mut Index)
 #[unsafe(no_mangle)]
 pub extern "C" fn rstar_index_len(alloc: Global, index: &mut Index) -> usize
     ensures counted { result ≡ length (items_in index.old) }
-    ensures same { items_in index.new ≡ items_in index.old }
+    ensures same { index.new.held.value ≡ index.old.held.value }
 {
     match taken(alloc, index) {
         Some(store) => {
@@ -46,7 +46,7 @@ pub extern "C" fn rstar_index_load(
     ids: &[u64],
 ) -> i32
     ensures loaded { result ≡ OK → IsPermutation (items_of boxes.now ids.now) (items_in index.new) }
-    ensures unchanged { result ≢ OK → items_in index.new ≡ items_in index.old }
+    ensures unchanged { result ≢ OK → index.new.held.value ≡ index.old.held.value }
     ensures lengths { (result ≡ BAD_LENGTH) ↔ (length boxes.now ≢ length ids.now) }
     ensures refused { result ≢ OK → result ≢ BAD_LENGTH → result ≡ NO_MEMORY }
 {
@@ -105,7 +105,7 @@ pub extern "C" fn rstar_index_remove(
 ) -> bool
     ensures taken { result ≡ true → IsPermutation (items_in index.old) (item_of id corners.now ∷ items_in index.new) }
     ensures none { result ≡ false → Contains (items_in index.old) (item_of id corners.now) → ⊥ }
-    ensures unchanged { result ≡ false → items_in index.new ≡ items_in index.old }
+    ensures unchanged { result ≡ false → index.new.held.value ≡ index.old.held.value }
 {
     match taken(alloc, index) {
         Some(mut store) => {
@@ -126,7 +126,7 @@ pub extern "C" fn rstar_index_contains(
     corners: &Corners,
 ) -> bool
     ensures there { (result ≡ true) ↔ Contains (items_in index.old) (item_of id corners.now) }
-    ensures same { items_in index.new ≡ items_in index.old }
+    ensures same { index.new.held.value ≡ index.old.held.value }
 {
     match taken(alloc, index) {
         Some(store) => {
@@ -148,7 +148,7 @@ pub extern "C" fn rstar_index_items(
     ids: &mut [u64],
     found: &mut usize,
 ) -> i32
-    ensures same { items_in index.new ≡ items_in index.old }
+    ensures same { index.new.held.value ≡ index.old.held.value }
     ensures counted { result ≡ OK → found.new ≡ length (items_in index.old) }
     ensures boxes { result ≡ OK → boxes.new ≡ over (map corners_of (items_in index.old)) boxes.old }
     ensures ids { result ≡ OK → ids.new ≡ over (map number (items_in index.old)) ids.old }

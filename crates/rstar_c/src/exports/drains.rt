@@ -23,7 +23,7 @@ fn take<Q: Question>(
 ) -> i32
     ensures drained { result ≡ OK → IsDrained (Q.chosen question shape.now) (items_in index.old) (items_in index.new)
         ids.old ids.new found.new }
-    ensures unchanged { result ≢ OK → (items_in index.new ≡ items_in index.old) × (ids.new ≡ ids.old) }
+    ensures unchanged { result ≢ OK → (index.new.held.value ≡ index.old.held.value) × (ids.new ≡ ids.old) }
     ensures room { (result ≡ NO_ROOM) ↔ (length ids.old < length (filter (Q.chosen question shape.now) (items_in index.old))) }
     ensures wanted { result ≡ NO_ROOM → found.new ≡ length (filter (Q.chosen question shape.now) (items_in index.old)) }
     ensures refused { result ≢ OK → result ≢ NO_ROOM → (result ≡ NO_MEMORY) × (found.new ≡ found.old) }
@@ -50,7 +50,7 @@ pub extern "C" fn rstar_index_drain_meeting(
 ) -> i32
     ensures drained { result ≡ OK
         → IsDrained (meets area.now) (items_in index.old) (items_in index.new) ids.old ids.new found.new }
-    ensures unchanged { result ≢ OK → (items_in index.new ≡ items_in index.old) × (ids.new ≡ ids.old) }
+    ensures unchanged { result ≢ OK → (index.new.held.value ≡ index.old.held.value) × (ids.new ≡ ids.old) }
     ensures room { (result ≡ NO_ROOM) ↔ (length ids.old < length (filter (meets area.now) (items_in index.old))) }
     ensures wanted { result ≡ NO_ROOM → found.new ≡ length (filter (meets area.now) (items_in index.old)) }
     ensures refused { result ≢ OK → result ≢ NO_ROOM → (result ≡ NO_MEMORY) × (found.new ≡ found.old) }
@@ -71,7 +71,7 @@ pub extern "C" fn rstar_index_drain_inside(
 ) -> i32
     ensures drained { result ≡ OK
         → IsDrained (lies_in area.now) (items_in index.old) (items_in index.new) ids.old ids.new found.new }
-    ensures unchanged { result ≢ OK → (items_in index.new ≡ items_in index.old) × (ids.new ≡ ids.old) }
+    ensures unchanged { result ≢ OK → (index.new.held.value ≡ index.old.held.value) × (ids.new ≡ ids.old) }
     ensures room { (result ≡ NO_ROOM) ↔ (length ids.old < length (filter (lies_in area.now) (items_in index.old))) }
     ensures wanted { result ≡ NO_ROOM → found.new ≡ length (filter (lies_in area.now) (items_in index.old)) }
     ensures refused { result ≢ OK → result ≢ NO_ROOM → (result ≡ NO_MEMORY) × (found.new ≡ found.old) }
@@ -92,7 +92,7 @@ pub extern "C" fn rstar_index_drain_at(
 ) -> i32
     ensures drained { result ≡ OK
         → IsDrained (covers place.now) (items_in index.old) (items_in index.new) ids.old ids.new found.new }
-    ensures unchanged { result ≢ OK → (items_in index.new ≡ items_in index.old) × (ids.new ≡ ids.old) }
+    ensures unchanged { result ≢ OK → (index.new.held.value ≡ index.old.held.value) × (ids.new ≡ ids.old) }
     ensures room { (result ≡ NO_ROOM) ↔ (length ids.old < length (filter (covers place.now) (items_in index.old))) }
     ensures wanted { result ≡ NO_ROOM → found.new ≡ length (filter (covers place.now) (items_in index.old)) }
     ensures refused { result ≢ OK → result ≢ NO_ROOM → (result ≡ NO_MEMORY) × (found.new ≡ found.old) }
@@ -114,7 +114,7 @@ pub extern "C" fn rstar_index_drain_within(
 ) -> i32
     ensures drained { result ≡ OK
         → IsDrained (is_within distance place.now) (items_in index.old) (items_in index.new) ids.old ids.new found.new }
-    ensures unchanged { result ≢ OK → (items_in index.new ≡ items_in index.old) × (ids.new ≡ ids.old) }
+    ensures unchanged { result ≢ OK → (index.new.held.value ≡ index.old.held.value) × (ids.new ≡ ids.old) }
     ensures room { (result ≡ NO_ROOM) ↔ (length ids.old < length (filter (is_within distance place.now) (items_in index.old))) }
     ensures wanted { result ≡ NO_ROOM → found.new ≡ length (filter (is_within distance place.now) (items_in index.old)) }
     ensures refused { result ≢ OK → result ≢ NO_ROOM → (result ≡ NO_MEMORY) × (found.new ≡ found.old) }

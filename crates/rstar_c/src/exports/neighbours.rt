@@ -24,7 +24,7 @@ pub extern "C" fn rstar_index_nearest(
     distances: &mut [i64],
     found: &mut usize,
 ) -> i32
-    ensures same { items_in index.new ≡ items_in index.old }
+    ensures same { index.new.held.value ≡ index.old.held.value }
     ensures put { result ≡ OK → AreNearestPut place.now (length ids.old) (items_in index.old) 0 ids.old ids.new
         distances.old distances.new found.new }
     ensures lengths { (result ≡ BAD_LENGTH) ↔ (length ids.old ≢ length distances.old) }
@@ -63,7 +63,7 @@ pub extern "C" fn rstar_index_nearest_each(
     distances: &mut [i64],
     found: &mut usize,
 ) -> i32
-    ensures same { items_in index.new ≡ items_in index.old }
+    ensures same { index.new.held.value ≡ index.old.held.value }
     ensures put { result ≡ OK → (written : ℕ) × AreNearestEach places.now most (items_in index.old) ids.old ids.new
         distances.old distances.new written }
     ensures counted { result ≡ OK → found.new ≡ min most (length (items_in index.old)) }
@@ -120,7 +120,7 @@ pub extern "C" fn rstar_index_pop_nearest(
         × IsPermutation (items_in index.old) (item ∷ items_in index.new)
         × (id.new ≡ number item) × (corners.new ≡ corners_of item) × (distance.new ≡ pos (distance_to place.now item)) }
     ensures none { result ≡ OK → found.new ≡ false → items_in index.old ≡ [] }
-    ensures same { (result ≡ OK → found.new ≡ false) → items_in index.new ≡ items_in index.old }
+    ensures same { (result ≡ OK → found.new ≡ false) → index.new.held.value ≡ index.old.held.value }
     ensures unwritten { (result ≡ OK → found.new ≡ false)
         → (id.new ≡ id.old) × (corners.new ≡ corners.old) × (distance.new ≡ distance.old) }
     ensures refused { result ≢ OK → (result ≡ NO_MEMORY) × (found.new ≡ found.old) }

@@ -22,7 +22,7 @@ pub extern "C" fn rstar_index_pairs(
     second: &mut [u64],
     found: &mut usize,
 ) -> i32
-    ensures same { items_in index.new ≡ items_in index.old }
+    ensures same { index.new.held.value ≡ index.old.held.value }
     ensures given { result ≡ OK → ArePairsGiven number (self_join boxes_intersect box_of (items_in index.old))
         first.old first.new second.old second.new found.new }
     ensures lengths { (result ≡ BAD_LENGTH) ↔ (length first.old ≢ length second.old) }
@@ -58,8 +58,8 @@ pub extern "C" fn rstar_index_pairs_between(
     second: &mut [u64],
     found: &mut usize,
 ) -> i32
-    ensures same { items_in index.new ≡ items_in index.old }
-    ensures other { items_in other.new ≡ items_in other.old }
+    ensures same { index.new.held.value ≡ index.old.held.value }
+    ensures other { other.new.held.value ≡ other.old.held.value }
     ensures given { result ≡ OK → ArePairsGiven number
         (join boxes_intersect box_of box_of (items_in index.old) (items_in other.old))
         first.old first.new second.old second.new found.new }
@@ -90,7 +90,7 @@ fn put_with(
     second: &mut [u64],
     found: &mut usize,
 ) -> i32
-    ensures other { items_in other.new ≡ items_in other.old }
+    ensures other { other.new.held.value ≡ other.old.held.value }
     ensures given { result ≡ OK → ArePairsGiven number (join boxes_intersect box_of box_of store.now (items_in other.old))
         first.old first.new second.old second.new found.new }
     ensures unwritten { result ≢ OK → (first.new ≡ first.old) × (second.new ≡ second.old) × (found.new ≡ found.old) }

@@ -20,7 +20,7 @@ fn ask<Q: Question>(
     shape: &Q::Shape,
     ids: &mut [u64],
 ) -> usize
-    ensures same { items_in index.new ≡ items_in index.old }
+    ensures same { index.new.held.value ≡ index.old.held.value }
     ensures found { IsFound number (filter (Q.chosen question shape.now) (items_in index.old)) ids.old ids.new result }
 {
     match taken(alloc, index) {
@@ -42,7 +42,7 @@ fn ask_each<Q: Question>(
     offsets: &mut [usize],
     ids: &mut [u64],
 ) -> i32
-    ensures same { items_in index.new ≡ items_in index.old }
+    ensures same { index.new.held.value ≡ index.old.held.value }
     ensures found { result ≡ OK
         → AreFound number (λ a. filter (Q.chosen question a) (items_in index.old)) shapes.now offsets.new
         ids.old ids.new }
@@ -70,7 +70,7 @@ pub extern "C" fn rstar_index_meeting(
     area: &Corners,
     ids: &mut [u64],
 ) -> usize
-    ensures same { items_in index.new ≡ items_in index.old }
+    ensures same { index.new.held.value ≡ index.old.held.value }
     ensures found { IsFound number (filter (meets area.now) (items_in index.old)) ids.old ids.new result }
 {
     ask(alloc, index, Meeting, area, ids)
@@ -84,7 +84,7 @@ pub extern "C" fn rstar_index_inside(
     area: &Corners,
     ids: &mut [u64],
 ) -> usize
-    ensures same { items_in index.new ≡ items_in index.old }
+    ensures same { index.new.held.value ≡ index.old.held.value }
     ensures found { IsFound number (filter (lies_in area.now) (items_in index.old)) ids.old ids.new result }
 {
     ask(alloc, index, Inside, area, ids)
@@ -98,7 +98,7 @@ pub extern "C" fn rstar_index_at(
     place: &Place,
     ids: &mut [u64],
 ) -> usize
-    ensures same { items_in index.new ≡ items_in index.old }
+    ensures same { index.new.held.value ≡ index.old.held.value }
     ensures found { IsFound number (filter (covers place.now) (items_in index.old)) ids.old ids.new result }
 {
     ask(alloc, index, At, place, ids)
@@ -113,7 +113,7 @@ pub extern "C" fn rstar_index_within(
     distance: i64,
     ids: &mut [u64],
 ) -> usize
-    ensures same { items_in index.new ≡ items_in index.old }
+    ensures same { index.new.held.value ≡ index.old.held.value }
     ensures found { IsFound number (filter (is_within distance place.now) (items_in index.old)) ids.old ids.new result }
 {
     ask(alloc, index, distance, place, ids)
@@ -128,7 +128,7 @@ pub extern "C" fn rstar_index_meeting_each(
     offsets: &mut [usize],
     ids: &mut [u64],
 ) -> i32
-    ensures same { items_in index.new ≡ items_in index.old }
+    ensures same { index.new.held.value ≡ index.old.held.value }
     ensures found { result ≡ OK → AreFound number (λ a. filter (meets a) (items_in index.old)) areas.now
         offsets.new ids.old ids.new }
     ensures lengths { (result ≡ OK) ↔ (length offsets.old ≡ length areas.now + 1) }
@@ -146,7 +146,7 @@ pub extern "C" fn rstar_index_inside_each(
     offsets: &mut [usize],
     ids: &mut [u64],
 ) -> i32
-    ensures same { items_in index.new ≡ items_in index.old }
+    ensures same { index.new.held.value ≡ index.old.held.value }
     ensures found { result ≡ OK → AreFound number (λ a. filter (lies_in a) (items_in index.old)) areas.now
         offsets.new ids.old ids.new }
     ensures lengths { (result ≡ OK) ↔ (length offsets.old ≡ length areas.now + 1) }
@@ -164,7 +164,7 @@ pub extern "C" fn rstar_index_at_each(
     offsets: &mut [usize],
     ids: &mut [u64],
 ) -> i32
-    ensures same { items_in index.new ≡ items_in index.old }
+    ensures same { index.new.held.value ≡ index.old.held.value }
     ensures found { result ≡ OK → AreFound number (λ a. filter (covers a) (items_in index.old)) places.now
         offsets.new ids.old ids.new }
     ensures lengths { (result ≡ OK) ↔ (length offsets.old ≡ length places.now + 1) }
@@ -183,7 +183,7 @@ pub extern "C" fn rstar_index_within_each(
     offsets: &mut [usize],
     ids: &mut [u64],
 ) -> i32
-    ensures same { items_in index.new ≡ items_in index.old }
+    ensures same { index.new.held.value ≡ index.old.held.value }
     ensures found { result ≡ OK → AreFound number (λ a. filter (is_within distance a) (items_in index.old)) places.now
         offsets.new ids.old ids.new }
     ensures lengths { (result ≡ OK) ↔ (length offsets.old ≡ length places.now + 1) }

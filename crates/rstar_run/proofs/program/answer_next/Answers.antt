@@ -42,7 +42,7 @@ returns-in_err-print_number-in-Size g c =
     said_some (bytes_left g.R.Read.remaining c.args.lines.now) (bytes_left g.R.Read.remaining c.next_line.new.lines) c.args.lines.now.number c.next_line.new.lines.number c.args.store.now c.args.store.now
     (g.W.Write.contents c.args.output.now) _ (g.W.Write.contents c.print_number.new.output) c.args.printer.now.held.items _ c.print_number.new.printer.held.items (bytes ∷ []) (λ text. text ≡ decimal c.size.result ++ codes "\n") (_, took, refl) c.in_ok-next_line.ensures.number
     (λ text k. subst (λ l. LineSays c.args.store.now l [] text c.args.store.now) (sym means) (refl, k ∙ ap (λ n. decimal n ++ codes "\n") c.size.ensures, refl)) c.in_ok-next_line.ensures.shown
-    c.in_err-print_number-in-Size.field-0.0 c.in_err-print_number-in-Size.ensures c.from_residual-in_err-print_number-in-Size.result c.from_residual-in_err-print_number-in-Size.ensures.1
+    c.in_err-print_number-in-Size.field-0.0 c.in_err-print_number-in-Size.ensures.printed c.from_residual-in_err-print_number-in-Size.result c.from_residual-in_err-print_number-in-Size.ensures.1
 
 pub returns-in_ok-print_number-in-Size : goal.returns-in_ok-print_number-in-Size
 returns-in_ok-print_number-in-Size g c =
@@ -52,7 +52,7 @@ returns-in_ok-print_number-in-Size g c =
     said_all (bytes_left g.R.Read.remaining c.args.lines.now) (bytes_left g.R.Read.remaining c.next_line.new.lines) c.args.lines.now.number c.next_line.new.lines.number c.args.store.now c.args.store.now
     (g.W.Write.contents c.args.output.now) _ (g.W.Write.contents c.print_number.new.output) c.args.printer.now.held.items _ c.print_number.new.printer.held.items (bytes ∷ []) (λ text. text ≡ decimal c.size.result ++ codes "\n") (_, took, refl) c.in_ok-next_line.ensures.number
     (λ text k. subst (λ l. LineSays c.args.store.now l [] text c.args.store.now) (sym means) (refl, k ∙ ap (λ n. decimal n ++ codes "\n") c.size.ensures, refl)) c.in_ok-next_line.ensures.shown
-    c.in_ok-print_number-in-Size.ensures
+    c.in_ok-print_number-in-Size.ensures.printed
 
 pub returns-in_err-run_command-in-Command : goal.returns-in_err-run_command-in-Command
 returns-in_err-run_command-in-Command g c =
