@@ -1,12 +1,12 @@
 //! What C holds.
 
-ghost use Rattle.std.specs.Prelude.{◌≡◌, [], ◌∷◌, length, IfSome, IfNone, IfOk, OnErr};
-ghost use Rattle.rstar_c.specs.Owned.{count_of_made, first_of};
+ghost use Rattle.std.specs.Prelude.{◌≡◌, [], ◌∷◌, length, IfSome, IfNone};
+ghost use Rattle.rstar_c.specs.Owned.{count_of_made};
 
 use crate::held::Held;
 use crate::parts::Parts;
 use crate::store::Store;
-use std::alloc::{AllocError, Global};
+use std::alloc::Global;
 use std::mem;
 
 /// A handle: nothing, which is all bytes zero, or the address of a store.
@@ -62,19 +62,4 @@ pub(crate) fn taken(alloc: Global, index: &mut Index) -> Option<Box<Store>>
     ensures left { index.new.held.value ≡ [] }
 {
     mem::replace(index, Index::none(alloc)).into_box()
-}
-
-/// The store that a handle holds, or an empty one where it holds none; it holds none then.
-pub(crate) fn taken_or_made(alloc: Global, index: &mut Index) -> Result<Box<Store>, AllocError>
-    ensures ok { IfOk result (λ store. store.value ≡ first_of index.old.held.value) }
-    ensures refused { OnErr result (index.old.held.value ≡ []) }
-    ensures left { index.new.held.value ≡ [] }
-{
-    match taken(alloc, index) {
-        Some(store) => Ok(store),
-        None => match Box::new(alloc, Store::new(alloc)) {
-            Ok(store) => Ok(store),
-            Err(_) => Err(AllocError),
-        },
-    }
 }

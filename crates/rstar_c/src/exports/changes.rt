@@ -7,7 +7,7 @@ ghost use Rattle.rstar_c.specs.Handles.{items_in};
 ghost use Rattle.rstar_c.specs.Items.{corners_of, item_of, items_of, number};
 ghost use Rattle.rstar_c.specs.Put.{over};
 
-use crate::index::{Index, taken, taken_or_made};
+use crate::index::{Index, taken};
 use crate::items::Corners;
 use crate::statuses::{BAD_LENGTH, NO_MEMORY, OK, TOO_MANY};
 use crate::store::Store;
@@ -74,12 +74,12 @@ pub extern "C" fn rstar_index_insert(
     corners: &Corners,
 ) -> i32
     ensures added { result ≡ OK → IsPermutation (item_of id corners.now ∷ items_in index.old) (items_in index.new) }
-    ensures unchanged { result ≢ OK → items_in index.new ≡ items_in index.old }
+    ensures unchanged { result ≢ OK → index.new.held.value ≡ index.old.held.value }
     ensures many { (result ≡ TOO_MANY) ↔ (length (items_in index.old) ≡ usize.MAX) }
     ensures refused { result ≢ OK → result ≢ TOO_MANY → result ≡ NO_MEMORY }
 {
-    match taken_or_made(alloc, index) {
-        Ok(mut store) => {
+    match taken(alloc, index) {
+        Some(mut store) => {
             let status = if store.size() == usize::MAX {
                 TOO_MANY
             } else {
@@ -91,7 +91,17 @@ pub extern "C" fn rstar_index_insert(
             *index = Index::of(store);
             status
         }
-        Err(_) => NO_MEMORY,
+        // An insertion that is refused leaves an empty handle empty.
+        None => match Box::new(alloc, Store::new(alloc)) {
+            Ok(mut store) => match store.insert(id, corners) {
+                Ok(()) => {
+                    *index = Index::of(store);
+                    OK
+                }
+                Err(_) => NO_MEMORY,
+            },
+            Err(_) => NO_MEMORY,
+        },
     }
 }
 
