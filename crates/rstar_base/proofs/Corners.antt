@@ -1,7 +1,6 @@
 -- Boxes between corners, axis by axis.
-use Rattle.std.proofs.Common.{◌≡◌, ◌<◌, ℕ, ℤ, zero, suc, true, List, ◌∷◌, refl, ap, IsTrue}
+use Rattle.std.proofs.Common.{◌≡◌, ◌<◌, ℕ, ℤ, zero, suc, true, refl, IsTrue}
 use Rattle.std.specs.Prelude.{int_le}
-use Rattle.std.specs.Int.{int_min, int_max}
 use Rattle.rstar_base.specs.Points.{table}
 use Rattle.rstar_base.specs.Boxes.{between_corners, box_of_corners}
 use Rattle.rstar_base.specs.laws.BoxLaws.{corners-same}
@@ -12,15 +11,7 @@ le_along a b x y h k l = rw (h, k) l
 
 pub corners-nearest : (n : ℕ) (l u p : ℕ → ℤ) → table n (λ i. nearest_on_axis (l i, u i) (p i)) ≡ nearest_point (between_corners n l u) (table n p)
 corners-nearest zero l u p = refl
-corners-nearest (suc n) l u p =
-    ap (λ (w : List ℤ). nearest_on_axis (l zero, u zero) (p zero) ∷ w) (corners-nearest n (λ i. l (suc i)) (λ i. u (suc i)) (λ i. p (suc i)))
-
-least_same : (a b x y : ℤ) → a ≡ x → b ≡ y → int_min a b ≡ int_min x y
-least_same a b x y h k = rw (h, k) refl
-
-greatest_same : (a b x y : ℤ) → a ≡ x → b ≡ y → int_max a b ≡ int_max x y
-greatest_same a b x y h k = rw (h, k) refl
+corners-nearest (suc n) l u p = simp (corners-nearest n)
 
 pub corners-hull : (n : ℕ) (p q p' q' : ℕ → ℤ) → ((i : ℕ) → i < n → p i ≡ p' i) → ((i : ℕ) → i < n → q i ≡ q' i) → box_of_corners n p q ≡ box_of_corners n p' q'
-corners-hull n p q p' q' h k =
-    corners-same n _ _ _ _ (λ i l. least_same (p i) (q i) (p' i) (q' i) (h i l) (k i l)) (λ i l. greatest_same (p i) (q i) (p' i) (q' i) (h i l) (k i l))
+corners-hull n p q p' q' h k = corners-same n _ _ _ _ (λ i l. cc (h i l, k i l)) (λ i l. cc (h i l, k i l))

@@ -12,10 +12,7 @@ abbrev pub halves : ℤ → ℤ → ℤ
 halves a b = (int_div a (pos 2) +ℤ int_div b (pos 2)) +ℤ int_div (int_rem a (pos 2) +ℤ int_rem b (pos 2)) (pos 2)
 
 negated-sum : (m n : ℕ) → neg_ℤ (pos m) +ℤ neg_ℤ (pos n) ≡ neg_ℤ (pos (m + n))
-negated-sum zero zero = refl
-negated-sum zero (suc n) = omega (arith, ints)
-negated-sum (suc m) zero = omega (arith, ints)
-negated-sum (suc m) (suc n) = omega (arith, ints)
+negated-sum m n = omega (arith, ints)
 
 negated-half : (n : ℕ) → int_div (neg_ℤ (pos n)) (pos 2) ≡ neg_ℤ (pos (n / 2))
 negated-half zero = refl
@@ -27,15 +24,27 @@ negated-halves p q r s t e = rw (negated-sum p q, negated-sum r s, negated-half 
 
 pub halves_sum : (a b : ℤ) → beq (int_lt a (pos 0)) (int_lt b (pos 0)) ≡ true → halves a b ≡ int_div (a +ℤ b) (pos 2)
 halves_sum (pos m) (pos n) h = omega (arith, ints)
-halves_sum (pos m) (negsuc n) h = absurd (grind (arith, ints))
-halves_sum (negsuc m) (pos n) h = absurd (grind (arith, ints))
 halves_sum (negsuc m) (negsuc n) h = negated-halves (suc m / 2) (suc n / 2) (suc m % 2) (suc n % 2) (suc (suc (m + n)) / 2) (omega arith)
+halves_sum a b h = absurd (grind (arith, ints))
 
--- each step of that half fits
+-- ---- half of a sum of two numbers that fit fits
 
-negated-fits : (n : ℕ) → n ≤ 2 ^ 127 → FitsSigned w128 (neg_ℤ (pos n))
-negated-fits zero h = record { sfits = omega arith }
-negated-fits (suc n) h = record { sfits = omega arith }
+negative-fits : (w : Width) (n : ℕ) → 0 < 2 ^ hbits w → n ≤ 2 ^ hbits w → FitsSigned w (neg_ℤ (pos n))
+negative-fits w zero p h = record { sfits = p }
+negative-fits w (suc n) p h = record { sfits = omega arith }
+
+apart-fits : (w : Width) (m n : ℕ) → m < 2 ^ hbits w → n < 2 ^ hbits w → FitsSigned w (pos m +ℤ negsuc n)
+apart-fits w zero n h k =
+    let e : negsuc n ≡ pos zero +ℤ negsuc n = omega (arith, ints) in subst (FitsSigned w) e (record { sfits = k })
+apart-fits w (suc m) n h k = fits_signed_from_abs w (pos (suc m) +ℤ negsuc n) (omega (arith, ints))
+
+half-fits : (w : Width) (a b : ℤ) → FitsSigned w a → FitsSigned w b → FitsSigned w (int_div (a +ℤ b) (pos 2))
+half-fits w (pos m) (pos n) h k = let i = h.sfits in let j = k.sfits in record { sfits = omega (arith, i, j) }
+half-fits w (pos m) (negsuc n) h k = quot_fits w (pos m +ℤ negsuc n) (pos 2) (apart-fits w m n h.sfits k.sfits) (record { lt = tt })
+half-fits w (negsuc m) (pos n) h k = quot_fits w (pos n +ℤ negsuc m) (pos 2) (apart-fits w n m k.sfits h.sfits) (record { lt = tt })
+half-fits w (negsuc m) (negsuc n) h k = let i = h.sfits in let j = k.sfits in negative-fits w (suc (suc (m + n)) / 2) (omega (arith, i)) (omega (arith, i, j))
+
+-- ---- each step of that half fits
 
 abs_of_sum : (x y : ℤ) → unsigned_abs (x +ℤ y) ≤ unsigned_abs x + unsigned_abs y
 abs_of_sum x y = omega (arith, ints)
@@ -52,47 +61,21 @@ rests_fit a b =
 
 pub parts_fit : (a b : ℤ) → FitsSigned w128 a → FitsSigned w128 b → beq (int_lt a (pos 0)) (int_lt b (pos 0)) ≡ true → FitsSigned w128 (int_div a (pos 2) +ℤ int_div b (pos 2))
 parts_fit (pos m) (pos n) h k e = record { sfits = omega (arith, h.sfits, k.sfits) }
-parts_fit (pos m) (negsuc n) h k e = absurd (grind (arith, ints))
-parts_fit (negsuc m) (pos n) h k e = absurd (grind (arith, ints))
-parts_fit (negsuc m) (negsuc n) h k e = rw (negated-sum (suc m / 2) (suc n / 2)) (negated-fits (suc m / 2 + suc n / 2) (omega (arith, h.sfits, k.sfits)))
-
-half_fits : (a b : ℤ) → FitsSigned w128 a → FitsSigned w128 b → beq (int_lt a (pos 0)) (int_lt b (pos 0)) ≡ true → FitsSigned w128 (int_div (a +ℤ b) (pos 2))
-half_fits (pos m) (pos n) h k e = record { sfits = omega (arith, h.sfits, k.sfits) }
-half_fits (pos m) (negsuc n) h k e = absurd (grind (arith, ints))
-half_fits (negsuc m) (pos n) h k e = absurd (grind (arith, ints))
-half_fits (negsuc m) (negsuc n) h k e = negated-fits (suc (suc (m + n)) / 2) (omega (arith, h.sfits, k.sfits))
+parts_fit (negsuc m) (negsuc n) h k e = rw (negated-sum (suc m / 2) (suc n / 2)) (negative-fits w128 (suc m / 2 + suc n / 2) (omega arith) (omega (arith, h.sfits, k.sfits)))
+parts_fit a b h k e = absurd (grind (arith, ints))
 
 pub halves_fit : (a b : ℤ) → FitsSigned w128 a → FitsSigned w128 b → beq (int_lt a (pos 0)) (int_lt b (pos 0)) ≡ true → FitsSigned w128 (halves a b)
-halves_fit a b h k e = rw (halves_sum a b e) (half_fits a b h k e)
+halves_fit a b h k e = rw (halves_sum a b e) (half-fits w128 a b h k)
 
 -- ---- half of a sum of two numbers of a narrow type, computed in a wider one
 
 sum_size : (a b : ℤ) (n m : ℕ) → unsigned_abs a ≤ n → unsigned_abs b ≤ n → n + n < m → unsigned_abs (a +ℤ b) < m
 sum_size a b n m h k room = let l = abs_of_sum a b in omega arith
 
-negative-fits : (w : Width) (n : ℕ) → 0 < 2 ^ hbits w → n ≤ 2 ^ hbits w → FitsSigned w (neg_ℤ (pos n))
-negative-fits w zero p h = record { sfits = p }
-negative-fits w (suc n) p h = record { sfits = omega arith }
-
-apart-fits : (w : Width) (m n : ℕ) → m < 2 ^ hbits w → n < 2 ^ hbits w → FitsSigned w (pos m +ℤ negsuc n)
-apart-fits w zero n h k =
-    let e : negsuc n ≡ pos zero +ℤ negsuc n = omega (arith, ints) in subst (FitsSigned w) e (record { sfits = k })
-apart-fits w (suc m) zero h k =
-    let e : pos m ≡ pos (suc m) +ℤ negsuc zero = omega (arith, ints) in subst (FitsSigned w) e (record { sfits = omega arith })
-apart-fits w (suc m) (suc n) h k =
-    let e : pos m +ℤ negsuc n ≡ pos (suc m) +ℤ negsuc (suc n) = omega (arith, ints) in
-    subst (FitsSigned w) e (apart-fits w m n (omega arith) (omega arith))
-
-half-fits : (w : Width) (a b : ℤ) → FitsSigned w a → FitsSigned w b → FitsSigned w (int_div (a +ℤ b) (pos 2))
-half-fits w (pos m) (pos n) h k = let i = h.sfits in let j = k.sfits in record { sfits = omega (arith, i, j) }
-half-fits w (pos m) (negsuc n) h k = quot_fits w (pos m +ℤ negsuc n) (pos 2) (apart-fits w m n h.sfits k.sfits) (record { lt = tt })
-half-fits w (negsuc m) (pos n) h k = quot_fits w (pos n +ℤ negsuc m) (pos 2) (apart-fits w n m k.sfits h.sfits) (record { lt = tt })
-half-fits w (negsuc m) (negsuc n) h k = let i = h.sfits in let j = k.sfits in negative-fits w (suc (suc (m + n)) / 2) (omega (arith, i)) (omega (arith, i, j))
-
 module _ (narrow wide : Width) (a b x y : ℤ) (room : 2 ^ hbits narrow + 2 ^ hbits narrow < 2 ^ hbits wide)
     (h : FitsSigned narrow a) (k : FitsSigned narrow b) (e : x ≡ a) (f : y ≡ b) where
   sum-is : x +ℤ y ≡ a +ℤ b
-  sum-is = ap (λ z. z +ℤ y) e ∙ ap (λ z. a +ℤ z) f
+  sum-is = cc (e, f)
 
   pub sum_fits : FitsSigned wide (x +ℤ y)
   sum_fits =

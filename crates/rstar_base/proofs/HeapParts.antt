@@ -1,7 +1,9 @@
 -- What a push and a pop keep: of the inline items, and of the rest.
-use Rattle.std.proofs.Common.{◌≡◌, ℕ, zero, suc, ◌+◌, ◌-◌, ◌≤◌, ◌<◌, List, [], ◌∷◌, ◌++◌, length, refl, sym, ap, subst, ◌∙◌, arith, true, false, Option, Some, None, slice_index_or, drop, length-append, All}
+use Rattle.std.proofs.Common.{◌≡◌, ℕ, zero, suc, ◌+◌, ◌-◌, ◌≤◌, ◌<◌, List, [], ◌∷◌, ◌++◌, length, refl, sym, ap, subst, ◌∙◌, arith, true, false, Option, Some, None, ◌↔◌, slice_index_or, drop, length-append, All}
 use Rattle.std.proofs.HeapSift as sifts
-use Rattle.std.proofs.lemmas.List.{get_or_default}
+use Rattle.std.proofs.Math.Seq.{take-length, drop-length}
+use Rattle.std.proofs.lemmas.List.{drop_all, get_or_default, same_from_push}
+use Rattle.std.proofs.lemmas.List.Edits.{get_or-insert_below}
 use Rattle.std.specs.Cmp.{IsTotalOrder, IsStrictWeakOrder}
 use Rattle.std.specs.Option.{option_cmp}
 use Rattle.std.specs.Ordering.{is_lt}
@@ -12,29 +14,23 @@ use Rattle.std.specs.Prelude.{slice_get, slice_set}
 use Rattle.std.specs.BinaryHeap.{IsHeap, IsUpperBound, lt_by_cmp}
 use Rattle.std.specs.BinaryHeap.Sift.{SiftsUp, SiftsDown, RestoresHeap}
 use Rattle.std.specs.Slice.Heapsort.{IsHeapWithin}
-use Rattle.std.proofs.lemmas.List.Sorted.{IsPermutation-trans, IsPermutation-to_front, IsPermutation-sym, IsPermutation-cons, IsPermutation-insert, IsPermutation-middle, IsPermutation-append_left, IsPermutation-append_right, IsPermutation-swap_remove, length_permutation, All-permutation}
-use Rattle.std.proofs.lemmas.List.Elements.{All-from_recursion, recursion_from_All}
+use Rattle.std.proofs.lemmas.List.Sorted.{IsPermutation-trans, IsPermutation-to_front, IsPermutation-sym, IsPermutation-cons, IsPermutation-insert, IsPermutation-middle, IsPermutation-append_left, IsPermutation-append_right, IsPermutation-swap_remove, length_permutation}
+use Rattle.std.proofs.lemmas.List.Elements.{All-from_recursion}
 use Rattle.rstar_base.specs.SmallHeaps.{Held, present, Rises, IsOrdered}
-use Rattle.rstar_base.proofs.Lists.{all-append}
+use Rattle.rstar_base.proofs.Lists.{all-append, all_along, all_first, all_map, all_second}
 use Rattle.rstar_base.proofs.Present.{AreFull, present-permutation}
 
 -- ---- lists
 
 pub all-insert : {X : Type 0} (P : X → Type 0) (xs : List X) (i : ℕ) (x : X) → AllByRecursion P xs → P x → AllByRecursion P (insert xs i x)
-all-insert P xs zero x h p = (p, h)
-all-insert P [] (suc i) x h p = (p, tt)
-all-insert P (a ∷ xs) (suc i) x h p = (h.0, all-insert P xs i x h.1 p)
+all-insert P xs i x h p = all_along P _ _ (IsPermutation-insert xs i x) (p, h)
 
 pub none-beyond : {X : Type 0} (P : X → Type 0) (xs : List X) (n : ℕ) → length xs ≤ n → AllByRecursion P (drop n xs)
-none-beyond P [] zero le = tt
-none-beyond P [] (suc n) le = tt
-none-beyond P (a ∷ xs) zero le = absurd (omega arith)
-none-beyond P (a ∷ xs) (suc n) le = none-beyond P xs n (omega arith)
+none-beyond P xs n le = rw (drop_all n xs le) tt
 
 -- a place kept free at the end, and one further down: the item from there moves up
 pub insert-end : {X : Type 0} (xs : List X) (x : X) → insert xs (length xs) x ≡ xs ++ x ∷ []
-insert-end [] x = refl
-insert-end (a ∷ xs) x = ap (λ l. a ∷ l) (insert-end xs x)
+insert-end xs x = rw (take-length xs, drop-length xs) refl
 
 moved-up : {X : Type 0} (xs : List X) (i : ℕ) (x d : X) → i < length xs → slice_set (slice_set (insert xs (suc i) x) i x) (suc i) (slice_index_or (insert xs (suc i) x) i d) ≡ insert xs i x
 moved-up [] i x d less = absurd (omega (arith, less))
@@ -52,18 +48,8 @@ insert-set xs zero x y le = refl
 insert-set [] (suc i) x y le = absurd (omega arith)
 insert-set (a ∷ xs) (suc i) x y le = ap (λ l. a ∷ l) (insert-set xs i x y (omega arith))
 
-insert-before : {X : Type 0} (xs : List X) (i j : ℕ) (x d : X) → i < j → j ≤ length xs → slice_index_or (insert xs j x) i d ≡ slice_index_or xs i d
-insert-before xs i zero x d less le = absurd (omega arith)
-insert-before [] i (suc j) x d less le = absurd (omega arith)
-insert-before (a ∷ xs) zero (suc j) x d less le = refl
-insert-before (a ∷ xs) (suc i) (suc j) x d less le = insert-before xs i j x d (omega arith) (omega arith)
-
 pub read-before : {X : Type 0} (front xs : List X) (i j : ℕ) (x d e : X) → xs ≡ insert front j x → i < j → j ≤ length front → slice_index_or xs i d ≡ slice_index_or front i e
-read-before front xs i j x d e is less le = ap (λ l. slice_index_or l i d) is ∙ insert-before front i j x d less le ∙ get_or_default front i d e (omega arith)
-
-all-first : {X : Type 0} (P : X → Type 0) (xs : List X) (x : X) → AllByRecursion P (xs ++ x ∷ []) → AllByRecursion P xs × P x
-all-first P [] x h = (tt, h.0)
-all-first P (a ∷ xs) x h = let rest = all-first P xs x h.1 in ((h.0, rest.0), rest.1)
+read-before front xs i j x d e is less le = ap (λ l. slice_index_or l i d) is ∙ get_or-insert_below front j x d i less le ∙ get_or_default front i d e (omega arith)
 
 pub present-snoc : {X : Type 0} (os : List (Option X)) (x : X) → present (os ++ Some x ∷ []) ≡ present os ++ x ∷ []
 present-snoc [] x = refl
@@ -71,12 +57,6 @@ present-snoc (None ∷ os) x = present-snoc os x
 present-snoc (Some y ∷ os) x = ap (λ l. y ∷ l) (present-snoc os x)
 
 -- the last of a list
-last_of : {X : Type 0} (xs ys : List X) (x y : X) → xs ++ x ∷ [] ≡ ys ++ y ∷ [] → x ≡ y
-last_of [] [] x y e = cc
-last_of [] (b ∷ ys) x y e = let n : length (x ∷ []) ≡ length (b ∷ (ys ++ y ∷ [])) = ap length e in let m = length-append ys (y ∷ []) in absurd (omega arith)
-last_of (a ∷ xs) [] x y e = let n : length (a ∷ (xs ++ x ∷ [])) ≡ length (y ∷ []) = ap length e in let m = length-append xs (x ∷ []) in absurd (omega arith)
-last_of (a ∷ xs) (b ∷ ys) x y e = last_of xs ys x y (let same : a ∷ (xs ++ x ∷ []) ≡ b ∷ (ys ++ y ∷ []) = e in cc)
-
 pub last_split : {X : Type 0} (os : List (Option X)) (x : X) → Some (Some x) ≡ slice_get os (length os - 1) → (front : List (Option X)) × (os ≡ front ++ Some x ∷ [])
 last_split [] x e = cc
 last_split (o ∷ []) x e = ([], let same : Some (Some x) ≡ Some o = e in let got : Some x ≡ o = cc in ap (λ a. a ∷ []) (sym got))
@@ -91,46 +71,39 @@ first_is (a ∷ xs) x d e = let same : Some x ≡ Some a = e in cc
 
 module _ {X : Type 0} (R : X → X → Ordering) where
   -- the order of the places is that of the items
-  all-present : (x : X) (os : List (Option X)) → AreFull os → AllByRecursion (λ p. is_lt (option_cmp R p (Some x)) ≡ false) os → AllByRecursion (λ y. is_lt (R y x) ≡ false) (present os)
-  all-present x [] f h = tt
-  all-present x (None ∷ os) f h = let n = f.0 in cc
-  all-present x (Some y ∷ os) f h = (h.0, all-present x os f.1 h.1)
+  all-same : (x : X) (os : List (Option X)) → AreFull os
+      → AllByRecursion (λ p. is_lt (option_cmp R p (Some x)) ≡ false) os ↔ AllByRecursion (λ y. is_lt (R y x) ≡ false) (present os)
+  all-same x [] f = ((λ h. h), λ h. h)
+  all-same x (None ∷ os) f = absurd (let n = f.0 in cc)
+  all-same x (Some y ∷ os) f = let r = all-same x os f.1 in ((λ h. (h.0, r.0 h.1)), λ h. (h.0, r.1 h.1))
 
-  all-options : (x : X) (os : List (Option X)) → AreFull os → AllByRecursion (λ y. is_lt (R y x) ≡ false) (present os) → AllByRecursion (λ p. is_lt (option_cmp R p (Some x)) ≡ false) os
-  all-options x [] f h = tt
-  all-options x (None ∷ os) f h = let n = f.0 in cc
-  all-options x (Some y ∷ os) f h = (h.0, all-options x os f.1 h.1)
-
-  pub rises-options : (os : List (Option X)) → AreFull os → Rises R (present os) → Rises (option_cmp R) os
-  rises-options [] f h = tt
-  rises-options (None ∷ os) f h = let n = f.0 in cc
-  rises-options (Some x ∷ os) f h = (all-options x os f.1 h.0, rises-options os f.1 h.1)
-
-  pub rises-present : (os : List (Option X)) → AreFull os → Rises (option_cmp R) os → Rises R (present os)
-  rises-present [] f h = tt
-  rises-present (None ∷ os) f h = let n = f.0 in cc
-  rises-present (Some x ∷ os) f h = (all-present x os f.1 h.0, rises-present os f.1 h.1)
+  pub rises-same : (os : List (Option X)) → AreFull os → Rises (option_cmp R) os ↔ Rises R (present os)
+  rises-same [] f = ((λ h. h), λ h. h)
+  rises-same (None ∷ os) f = absurd (let n = f.0 in cc)
+  rises-same (Some x ∷ os) f =
+      let a = all-same x os f.1 in let r = rises-same os f.1 in ((λ h. (a.0 h.0, r.0 h.1)), λ h. (a.1 h.0, r.1 h.1))
 
   -- the last is less than none before it
   pub rises-last : (xs : List X) (x : X) → Rises R (xs ++ x ∷ []) → AllByRecursion (λ y. is_lt (R x y) ≡ false) xs
   rises-last [] x h = tt
-  rises-last (a ∷ xs) x h = ((all-first (λ y. is_lt (R y a) ≡ false) xs x h.0).1, rises-last xs x h.1)
+  rises-last (a ∷ xs) x h = ((all_second (λ y. is_lt (R y a) ≡ false) xs (x ∷ []) h.0).0, rises-last xs x h.1)
 
   pub rises-front : (xs : List X) (x : X) → Rises R (xs ++ x ∷ []) → Rises R xs
   rises-front [] x h = tt
-  rises-front (a ∷ xs) x h = ((all-first (λ y. is_lt (R y a) ≡ false) xs x h.0).0, rises-front xs x h.1)
+  rises-front (a ∷ xs) x h = (all_first (λ y. is_lt (R y a) ≡ false) xs (x ∷ []) h.0, rises-front xs x h.1)
 
   pub ordered-of : (h : Held X) → Rises R h.inline → IsHeap R h.rest → IsOrdered R h
   unfolding IsOrdered
   ordered-of h a b = (a, b)
 
-  pub inline-of : (h : Held X) → IsOrdered R h → Rises R h.inline
+  -- what lies in the places of an ordered heap, h as the code sees it and k as callers do
+  pub inline-of : (h k : Held X) → h ≡ k → IsOrdered R k → Rises R h.inline
   unfolding IsOrdered
-  inline-of h a = a.0
+  inline-of h k e a = rw e a.0
 
-  pub rest-of : (h : Held X) → IsOrdered R h → IsHeap R h.rest
+  pub rest-of : (h k : Held X) → h ≡ k → IsOrdered R k → IsHeap R h.rest
   unfolding IsOrdered
-  rest-of h a = a.1
+  rest-of h k e a = rw e a.1
 
 module _ {X : Type 0} (R : X → X → Ordering) (o : IsTotalOrder R) where
   ranks : IsStrictWeakOrder (λ x y. is_lt (R x y))
@@ -150,8 +123,7 @@ module _ {X : Type 0} (R : X → X → Ordering) (o : IsTotalOrder R) where
 
   -- one less than the first of a list that is less than no other
   below-all : (x y : X) (xs : List X) → is_lt (R x y) ≡ false → AllByRecursion (λ z. is_lt (R y z) ≡ false) xs → AllByRecursion (λ z. is_lt (R x z) ≡ false) xs
-  below-all x y [] e h = tt
-  below-all x y (z ∷ xs) e h = (ranks.chain x y z e h.0, below-all x y xs e h.1)
+  below-all x y xs e h = all_map (λ z. is_lt (R y z) ≡ false) (λ z. is_lt (R x z) ≡ false) (λ z. ranks.chain x y z e) xs h
 
   -- ---- the greater of the two ends
 
@@ -172,7 +144,7 @@ module _ {X : Type 0} (R : X → X → Ordering) (o : IsTotalOrder R) where
 
     pub last-above : is_lt (R last first) ≡ false → (xs : List X) (x : X) → present os ≡ xs ++ x ∷ [] → IsUpperBound R x others
     last-above more xs x e =
-        let same : last ≡ x = last_of (present split.0) xs last x (sym shown ∙ e) in
+        let same : last ≡ x = (same_from_push (present split.0) xs last x (sym shown ∙ e)).1 in
         let top = sifts.greatest o others first (sym (first_is others first first there)) heap in
         subst (λ y. IsUpperBound R y others) same (below-all last first others more top)
 
@@ -219,7 +191,7 @@ bag-rest-more a b c x p = IsPermutation-trans _ _ _ (IsPermutation-sym _ _ (IsPe
 pub greatest-rest : {X : Type 0} (R : X → X → Ordering) (a b c : List X) (x : X) → ((d : X) → AllByRecursion (λ y. is_lt (R (slice_index_or b 0 d) y) ≡ false) a) → x ≡ slice_index_or b 0 x → IsPermutation b (x ∷ c) → IsUpperBound R x b → All (λ y. is_lt (R x y) ≡ false) (a ++ c)
 greatest-rest R a b c x above first p top =
     let inline : AllByRecursion (λ y. is_lt (R x y) ≡ false) a = subst (λ f. AllByRecursion (λ y. is_lt (R f y) ≡ false) a) (sym first) (above x) in
-    let left = recursion_from_All (λ y. is_lt (R x y) ≡ false) (x ∷ c) (All-permutation (λ y. is_lt (R x y) ≡ false) b (x ∷ c) p (All-from_recursion (λ y. is_lt (R x y) ≡ false) b top)) in
+    let left = all_along (λ y. is_lt (R x y) ≡ false) b (x ∷ c) p top in
     All-from_recursion (λ y. is_lt (R x y) ≡ false) (a ++ c) (all-append (λ y. is_lt (R x y) ≡ false) a c inline left.1)
 
 pub greatest-last : {X : Type 0} (R : X → X → Ordering) (a b c : List X) (x : X) → Rises R a → a ≡ c ++ x ∷ [] → ((xs : List X) (x : X) → a ≡ xs ++ x ∷ [] → IsUpperBound R x b) → All (λ y. is_lt (R x y) ≡ false) (c ++ b)

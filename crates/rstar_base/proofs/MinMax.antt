@@ -16,17 +16,10 @@ best_from best sum (suc n) near far =
 
 pub best_from-more : (best sum n m : ℕ) (near far : ℕ → ℕ) → m ≡ n + 1
     → best_from best sum m near far ≡ min (best_from best sum n near far + far n) (sum + sum_below n far + near n)
-best_from-more best sum zero zero near far e = absurd (omega arith)
 best_from-more best sum zero (suc zero) near far e = omega arith
-best_from-more best sum zero (suc (suc m)) near far e = absurd (omega arith)
-best_from-more best sum (suc n) zero near far e = absurd (omega arith)
 best_from-more best sum (suc n) (suc m) near far e =
-    let ih = best_from-more (min (best + far zero) (sum + near zero)) (sum + far zero) n m (λ i. near (suc i)) (λ i. far (suc i)) (omega arith) in omega (arith, ih)
-
-corners-far : (n : ℕ) (l u p : ℕ → ℤ) → sum_below n (λ i. far_face (l i, u i) (p i)) ≡ far_sum (between_corners n l u) (table n p)
-corners-far zero l u p = refl
-corners-far (suc n) l u p =
-    ap (λ w. far_face (l zero, u zero) (p zero) + w) (corners-far n (λ i. l (suc i)) (λ i. u (suc i)) (λ i. p (suc i)))
+    omega (arith, best_from-more (min (best + far zero) (sum + near zero)) (sum + far zero) n m (λ i. near (suc i)) (λ i. far (suc i)) (omega arith))
+best_from-more best sum n m near far e = absurd (omega arith)
 
 best_step : (best sum near far rest top tail all : ℕ) → all ≡ min (min (min (best + far) (sum + near) + rest) top) tail
     → all ≡ min (min (best + (far + rest)) top) (min (sum + (near + rest)) tail)
@@ -63,13 +56,12 @@ best_min_max high (suc n) l u p h =
     ∙ least-same top (length b) (length b) (λ k. 0 + faces_at k b qs) (λ k. faces_at k b qs) refl (λ k. omega arith)
 
 pub above_zero : (n : ℕ) → (n ≡ 0 → ⊥) → 0 < n
-above_zero zero h = absurd (h refl)
-above_zero (suc n) h = omega arith
+above_zero n h = omega arith
 
 -- ---- clamped
 
 pub least_clamped : (x y r : ℤ) (a b top : ℕ) → x ≡ pos (min a top) → y ≡ pos (min b top) → r ≡ int_min x y → r ≡ pos (min (min a b) top)
-least_clamped x y r a b top h k e = e ∙ ap (λ w. int_min w y) h ∙ ap (λ w. int_min (pos (min a top)) w) k ∙ grind (arith, ints)
+least_clamped x y r a b top h k e = grind (arith, ints)
 
 pub greatest_clamped : (x y r : ℤ) (a b top : ℕ) → x ≡ pos (min a top) → y ≡ pos (min b top) → r ≡ int_max x y → r ≡ pos (min (max a b) top)
-greatest_clamped x y r a b top h k e = e ∙ ap (λ w. int_max w y) h ∙ ap (λ w. int_max (pos (min a top)) w) k ∙ grind (arith, ints)
+greatest_clamped x y r a b top h k e = grind (arith, ints)

@@ -31,7 +31,7 @@ least_power base n d power large more is below h = record {
 }
 
 pub product_positive : (a b : ℕ) → 0 < a → 0 < b → 0 < a * b
-product_positive a b p q = let one_a : 1 ≤ a = omega arith in let one_b : 1 ≤ b = omega arith in let h : 1 * 1 ≤ a * b = mul-le-mul one_a one_b in omega arith
+product_positive a b p q = grind arith
 
 pub zero_power : (e : ℕ) → 0 < e → 0 ^ e ≡ 0
 zero_power zero h = absurd (omega arith)

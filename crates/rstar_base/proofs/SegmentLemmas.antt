@@ -7,9 +7,10 @@ use Rattle.std.proofs.lemmas.Bool.Decides.{nat_tests}
 use Rattle.num_traits.specs.Laws.{between, Checks}
 use Rattle.rstar_base.specs.Scalars.{InRange}
 use Rattle.rstar_base.specs.Points.{table, IsPoint}
-use Rattle.rstar_base.specs.laws.PointLemmas.{and_parts, and_both, and_left, and_right, table-get, all_below-same}
+use Rattle.std.proofs.lemmas.Bool.{and_right}
+use Rattle.rstar_base.specs.laws.PointLemmas.{and_both, table-get, all_below-same}
 use Rattle.rstar_base.specs.Boxes.{in_range, box_of_corners, IsBox}
-use Rattle.rstar_base.specs.laws.BoxLaws.{corners-same, corners-box}
+use Rattle.rstar_base.specs.laws.BoxLaws.{corners-box, min_max}
 use Rattle.rstar_base.specs.Sums.{sum_below}
 use Rattle.rstar_base.specs.laws.SegmentLaws.{step-between}
 use Rattle.rstar_base.specs.Segments.{point_apart, dot, direction, along, length_squared, difference_fits, dot_fits, multiple_fits, interior, has_interior, nearer, nearest_of_segment, coordinate, segment_distance}
@@ -20,21 +21,14 @@ AreSame n f g = (i : ℕ) → i < n → f i ≡ g i
 
 -- ---- what fits
 
-yes-or-no : (b : Bool) → (b ≡ true → ⊥) → b ≡ false
-yes-or-no true h = absurd (h refl)
-yes-or-no false h = refl
-
 pub fits_within : (low high x : ℤ) → in_range low high x ≡ true → (low ≤ℤ x) × (x ≤ℤ high)
-fits_within low high x h =
-    let p = and_parts _ _ h in
-    let a : int_le low x ≡ true = p.0 in
-    let b : int_le x high ≡ true = p.1 in (grind (arith, ints), grind (arith, ints))
+fits_within low high x h = (grind (arith, ints), grind (arith, ints))
 
 pub within_fits : (low high x : ℤ) → (low ≤ℤ x) × (x ≤ℤ high) → in_range low high x ≡ true
-within_fits low high x h = let a = h.0 in let b = h.1 in and_both (int_le low x) (int_le x high) (grind (arith, ints)) (grind (arith, ints))
+within_fits low high x h = grind (arith, ints)
 
 pub none_fits : (low high x : ℤ) → ((low ≤ℤ x) × (x ≤ℤ high) → ⊥) → in_range low high x ≡ false
-none_fits low high x h = yes-or-no _ (λ e. h (fits_within low high x e))
+none_fits low high x h = grind (arith, ints)
 
 pub some_fits : {T : Type 0} (value : T → ℤ) (fits : ℤ → Type 0) (low high x : ℤ) (r : Option T) → fits x ↔ ((low ≤ℤ x) × (x ≤ℤ high)) → Checks value fits x r
     → is_some r ≡ in_range low high x
@@ -45,101 +39,71 @@ some_fits value fits low high x (Some y) law h = sym (within_fits low high x (la
 pub sum_of_product : {T : Type 0} (value : T → ℤ) (fits : ℤ → Type 0) (low high sum product x : ℤ) (r : Option T) → (fits (sum +ℤ product) ↔ ((low ≤ℤ (sum +ℤ product)) × ((sum +ℤ product) ≤ℤ high)))
     → in_range low high x ≡ true → product ≡ x → Checks value fits (sum +ℤ product) r
     → MatchOption r ((in_range low high x && in_range low high (sum +ℤ x)) ≡ false) (λ s. ((in_range low high x && in_range low high (sum +ℤ x)) ≡ true) × (value s ≡ (sum +ℤ x)))
-sum_of_product value fits low high sum product x None law h e k =
-    sym (and_right _ _ (sym (subst (λ (z : ℤ). in_range low high (sum +ℤ z) ≡ false) e (none_fits low high (sum +ℤ product) (λ p. k (law.1 p))))))
-sum_of_product value fits low high sum product x (Some y) law h e k = (
-  and_both _ _ h (subst (λ (z : ℤ). in_range low high (sum +ℤ z) ≡ true) e (within_fits low high (sum +ℤ product) (law.0 k.0))),
-  subst (λ (z : ℤ). value y ≡ (sum +ℤ z)) e k.1,
-)
-
-pub not_left : (a b : Bool) → a ≡ false → (a && b) ≡ false
-not_left a b h = sym (and_left a b (sym h))
-
-pub not_right : (a b : Bool) → b ≡ false → (a && b) ≡ false
-not_right a b h = sym (and_right a b (sym h))
+sum_of_product value fits low high sum product x None law h e k = rw (← e) (and_right _ _ (none_fits low high (sum +ℤ product) (λ p. k (law.1 p))))
+sum_of_product value fits low high sum product x (Some y) law h e k = rw (← e) (and_both _ _ (rw (← e) at h) (within_fits low high (sum +ℤ product) (law.0 k.0)), k.1)
 
 pub exact : (low high z : ℤ) → in_range low high z ≡ true → between z low high ≡ z
-exact low high z h = let p = fits_within low high z h in let a = p.0 in let b = p.1 in grind (arith, ints)
+exact low high z h = grind (arith, ints)
 
-pub sum_below-same : (n : ℕ) (f g : ℕ → ℕ) → AreSame n f g → sum_below n f ≡ sum_below n g
+sum_below-same : (n : ℕ) (f g : ℕ → ℕ) → AreSame n f g → sum_below n f ≡ sum_below n g
 sum_below-same zero f g h = refl
-sum_below-same (suc n) f g h =
-    let e : f zero ≡ g zero = h zero (omega arith) in
-    let r : sum_below n (λ i. f (suc i)) ≡ sum_below n (λ i. g (suc i)) = sum_below-same n (λ i. f (suc i)) (λ i. g (suc i)) (λ i l. h (suc i) (omega arith)) in omega (arith, e, r)
+sum_below-same (suc n) f g h = omega (arith, h zero (omega arith), sum_below-same n (λ i. f (suc i)) (λ i. g (suc i)) (λ i l. h (suc i) (omega arith)))
 
 -- ---- the same coordinates give the same
 
-pub dot-same : (n : ℕ) (f g f' g' : ℕ → ℤ) → AreSame n f f' → AreSame n g g' → dot n f g ≡ dot n f' g'
+dot-same : (n : ℕ) (f g f' g' : ℕ → ℤ) → AreSame n f f' → AreSame n g g' → dot n f g ≡ dot n f' g'
 dot-same zero f g f' g' h k = refl
-dot-same (suc n) f g f' g' h k =
-    let a : f n ≡ f' n = h n (omega arith) in
-    let b : g n ≡ g' n = k n (omega arith) in
-    let r : dot n f g ≡ dot n f' g' = dot-same n f g f' g' (λ i l. h i (omega arith)) (λ i l. k i (omega arith)) in rw (a, b, r) refl
+dot-same (suc n) f g f' g' h k = cc (h n (omega arith), k n (omega arith), dot-same n f g f' g' (λ i l. h i (omega arith)) (λ i l. k i (omega arith)))
 
-pub dot_fits-same : (low high : ℤ) (n : ℕ) (f g f' g' : ℕ → ℤ) → AreSame n f f' → AreSame n g g' → dot_fits low high n f g ≡ dot_fits low high n f' g'
+dot_fits-same : (low high : ℤ) (n : ℕ) (f g f' g' : ℕ → ℤ) → AreSame n f f' → AreSame n g g' → dot_fits low high n f g ≡ dot_fits low high n f' g'
 dot_fits-same low high n f g f' g' h k = all_below-same n _ _ (λ i l.
-    let a : f i ≡ f' i = h i l in
-    let b : g i ≡ g' i = k i l in
-    let r : dot i f g ≡ dot i f' g' = dot-same i f g f' g' (λ j m. h j (omega arith)) (λ j m. k j (omega arith)) in rw (a, b, r) refl)
+    cc (h i l, k i l, dot-same i f g f' g' (λ j m. h j (omega arith)) (λ j m. k j (omega arith))))
 
-pub multiple_fits-same : (low high : ℤ) (n : ℕ) (f f' : ℕ → ℤ) (t : ℤ) → AreSame n f f' → multiple_fits low high n f t ≡ multiple_fits low high n f' t
-multiple_fits-same low high n f f' t h = all_below-same n _ _ (λ i l. let a : f i ≡ f' i = h i l in rw a refl)
+multiple_fits-same : (low high : ℤ) (n : ℕ) (f f' : ℕ → ℤ) (t : ℤ) → AreSame n f f' → multiple_fits low high n f t ≡ multiple_fits low high n f' t
+multiple_fits-same low high n f f' t h = all_below-same n _ _ (λ i l. cc (h i l))
 
-pub point_apart-same : (high : ℤ) (n : ℕ) (a q a' q' : ℕ → ℤ) → AreSame n a a' → AreSame n q q' → point_apart high n a q ≡ point_apart high n a' q'
-point_apart-same high n a q a' q' h k = ap (λ s. min s (unsigned_abs high)) (sum_below-same n _ _ (λ i l. let e : a i ≡ a' i = h i l in let f : q i ≡ q' i = k i l in rw (e, f) refl))
+point_apart-same : (high : ℤ) (n : ℕ) (a q a' q' : ℕ → ℤ) → AreSame n a a' → AreSame n q q' → point_apart high n a q ≡ point_apart high n a' q'
+point_apart-same high n a q a' q' h k = ap (λ s. min s (unsigned_abs high)) (sum_below-same n _ _ (λ i l. cc (h i l, k i l)))
 
-choice-same : (t : Bool) (x y x' y' : ℤ) → x ≡ x' → y ≡ y' → (if t then x else y) ≡ (if t then x' else y')
-choice-same true x y x' y' h k = h
-choice-same false x y x' y' h k = k
-
-pub nearer-same : (high : ℤ) (n : ℕ) (q a b q' a' b' : ℕ → ℤ) → AreSame n q q' → AreSame n a a' → AreSame n b b'
+nearer-same : (high : ℤ) (n : ℕ) (q a b q' a' b' : ℕ → ℤ) → AreSame n q q' → AreSame n a a' → AreSame n b b'
     → AreSame n (nearer high n q a b) (nearer high n q' a' b')
 unfolding nearer
 nearer-same high n q a b q' a' b' h k l i s =
-    let e : point_apart high n a q ≡ point_apart high n a' q' = point_apart-same high n a q a' q' k h in
-    let f : point_apart high n b q ≡ point_apart high n b' q' = point_apart-same high n b q b' q' l h in
-    rw (e, f) (choice-same _ _ _ _ _ (k i s) (l i s))
-
-direction-same : (f g f' g' : ℕ → ℤ) (i : ℕ) → f i ≡ f' i → g i ≡ g' i → direction f g i ≡ direction f' g' i
-direction-same f g f' g' i h k = rw (h, k) refl
+    cc (point_apart-same high n a q a' q' k h, point_apart-same high n b q b' q' l h, k i s, l i s)
 
 -- the point asked about enters by its coordinates on the n axes
 module _ (n : ℕ) (f g q q' : ℕ → ℤ) (same : AreSame n q q') where
   along-same : along n f g q ≡ along n f g q'
-  along-same = dot-same n _ _ _ _ (λ i l. direction-same f q f q' i refl (same i l)) (λ i l. refl)
+  along-same = dot-same n (direction f q) _ (direction f q') _ (λ i l. cc (same i l)) (λ i l. refl)
 
   interior-same : AreSame n (interior n f g q) (interior n f g q')
   unfolding interior
-  interior-same i l = let e = along-same in rw e refl
+  interior-same i l = cc along-same
 
   has_interior-same : (low high : ℤ) → has_interior low high n f g q ≡ has_interior low high n f g q'
   unfolding has_interior
   has_interior-same low high =
-      let a = all_below-same n (λ i. in_range low high (q i -ℤ f i)) (λ i. in_range low high (q' i -ℤ f i)) (λ i l. let e : q i ≡ q' i = same i l in rw e refl) in
-      let b = dot_fits-same low high n (direction f q) (direction f g) (direction f q') (direction f g) (λ i l. direction-same f q f q' i refl (same i l)) (λ i l. refl) in
-      let c = along-same in
-      rw (a, b, c) refl
+      cc (
+        all_below-same n (λ i. in_range low high (q i -ℤ f i)) (λ i. in_range low high (q' i -ℤ f i)) (λ i l. cc (same i l)),
+        dot_fits-same low high n (direction f q) (direction f g) (direction f q') (direction f g) (λ i l. cc (same i l)) (λ i l. refl),
+        along-same,
+      )
 
   nearest-same : (low high : ℤ) → AreSame n (nearest_of_segment low high n f g q) (nearest_of_segment low high n f g q')
   unfolding nearest_of_segment
   nearest-same low high i l =
       let ends = nearer-same high n q f g q' f g same (λ _ _. refl) (λ _ _. refl) in
-      let e = has_interior-same low high in
-      rw e (choice-same _ _ _ _ _ (nearer-same high n q _ _ q' _ _ same ends interior-same i l) (ends i l))
+      cc (has_interior-same low high, nearer-same high n q _ _ q' _ _ same ends interior-same i l, ends i l)
 
 -- ---- the nearer of two points
 
 no_farther : (x y : ℤ) (a b : ℕ) (t : Bool) → x ≡ pos a → y ≡ pos b → t ≡ int_le x y → nat_le a b ≡ t
-no_farther x y a b true h k e = grind (arith, ints, nat_tests)
-no_farther x y a b false h k e = grind (arith, ints, nat_tests)
-
-chosen : (b t : Bool) (x y : ℤ) → b ≡ t → (if b then x else y) ≡ (if t then x else y)
-chosen b t x y e = rw e refl
+no_farther x y a b t h k e = grind (arith, ints, nat_tests)
 
 pub nearer-chosen : (high : ℤ) (n : ℕ) (q a b : ℕ → ℤ) (x y : ℤ) (t : Bool) → x ≡ pos (point_apart high n a q) → y ≡ pos (point_apart high n b q) → t ≡ int_le x y
     → (i : ℕ) → nearer high n q a b i ≡ (if t then a i else b i)
 unfolding nearer
-nearer-chosen high n q a b x y t h k e i = chosen _ t (a i) (b i) (no_farther x y _ _ t h k e)
+nearer-chosen high n q a b x y t h k e i = rw (no_farther x y _ _ t h k e) refl
 
 pub after_both : (t len : ℤ) → pos 0 <ℤ t → t <ℤ len → pos 0 <ℤ len
 after_both t len h k = omega (arith, ints)
@@ -150,11 +114,7 @@ point-at : (low high : ℤ) (n : ℕ) (f : ℕ → ℤ) (i : ℕ) → IsPoint lo
 point-at low high n f i h l = subst (InRange low high) (table-get n f i (pos 0) l) (h.ranged i (pos 0) (omega (arith, h.long)))
 
 held : (low high a b z : ℤ) → InRange low high a → InRange low high b → int_min a b ≤ℤ z → z ≤ℤ int_max a b → between z low high ≡ z
-held low high a b z h k l m =
-    let p = h.above in let q = h.below in let r = k.above in let s = k.below in
-    let x : low ≤ℤ z = grind (arith, ints) in
-    let y : z ≤ℤ high = grind (arith, ints) in
-    exact low high z (within_fits low high z (x, y))
+held low high a b z h k l m = exact low high z (within_fits low high z (grind (arith, ints), grind (arith, ints)))
 
 -- ---- the scalar product, axis by axis
 
@@ -167,73 +127,61 @@ fits-next low high i sum x y b f g h k l e = rw (← h, ← k, ← l) (sym e)
 
 -- ---- whether the interior point is considered
 
+-- d and o are the direction and the offset as they were computed
 module _ (low high : ℤ) {n : ℕ} (f g q : ℕ → ℤ) {d o : ℕ → ℤ} (hd : AreSame n d (direction f g)) (ho : AreSame n o (direction f q)) where
-  pub no_offset_product : dot_fits low high n o d ≡ false → has_interior low high n f g q ≡ false
-  unfolding has_interior
-  no_offset_product h = not_left _ _ (not_right _ _ (not_left _ _ (sym (dot_fits-same low high n o d _ _ ho hd) ∙ h)))
-
-  pub no_length : dot_fits low high n d d ≡ false → has_interior low high n f g q ≡ false
-  unfolding has_interior
-  no_length h = not_left _ _ (not_right _ _ (not_right _ _ (sym (dot_fits-same low high n d d _ _ hd hd) ∙ h)))
-
-  pub is_along : (t : ℤ) → t ≡ dot n o d → t ≡ along n f g q
+  is_along : (t : ℤ) → t ≡ dot n o d → t ≡ along n f g q
   is_along t h = h ∙ dot-same n o d _ _ ho hd
 
-  pub is_length : (len : ℤ) → len ≡ dot n d d → len ≡ length_squared n f g
+  is_length : (len : ℤ) → len ≡ dot n d d → len ≡ length_squared n f g
   is_length len h = h ∙ dot-same n d d _ _ hd hd
 
-  pub not_inside : (t len : ℤ) → t ≡ dot n o d → len ≡ dot n d d → (int_lt (pos 0) t && int_lt t len) ≡ false → has_interior low high n f g q ≡ false
+  computed : has_interior low high n f g q
+      ≡ (((difference_fits low high n g f && difference_fits low high n q f) && (dot_fits low high n o d && dot_fits low high n d d))
+      && ((int_lt (pos 0) (dot n o d) && int_lt (dot n o d) (dot n d d)) && multiple_fits low high n d (dot n o d)))
   unfolding has_interior
-  not_inside t len h k e =
-      let a = is_along t h in
-      let b = is_length len k in
-      let r : (int_lt (pos 0) (along n f g q) && int_lt (along n f g q) (length_squared n f g)) ≡ false = rw (← a, ← b) e in
-      not_right _ _ (not_left _ _ r)
+  computed = cc (
+    dot_fits-same low high n o d _ _ ho hd,
+    dot_fits-same low high n d d _ _ hd hd,
+    dot-same n o d _ _ ho hd,
+    dot-same n d d _ _ hd hd,
+    multiple_fits-same low high n d (direction f g) (dot n o d) hd,
+  )
+
+  pub no_offset_product : dot_fits low high n o d ≡ false → has_interior low high n f g q ≡ false
+  no_offset_product h = grind (arith, computed)
+
+  pub no_length : dot_fits low high n d d ≡ false → has_interior low high n f g q ≡ false
+  no_length h = grind (arith, computed)
+
+  pub not_inside : (t len : ℤ) → t ≡ dot n o d → len ≡ dot n d d → (int_lt (pos 0) t && int_lt t len) ≡ false → has_interior low high n f g q ≡ false
+  not_inside t len h k e = grind (arith, computed)
 
   pub no_multiple : (t : ℤ) → t ≡ dot n o d → multiple_fits low high n d t ≡ false → has_interior low high n f g q ≡ false
-  unfolding has_interior
-  no_multiple t h e =
-      let a = is_along t h in
-      let r : multiple_fits low high n (direction f g) (along n f g q) ≡ false = rw (← a) (sym (multiple_fits-same low high n d (direction f g) t hd) ∙ e) in
-      not_right _ _ (not_right _ _ r)
+  no_multiple t h e = grind (arith, computed)
 
   pub all_fit : (t len : ℤ) → t ≡ dot n o d → len ≡ dot n d d → difference_fits low high n g f ≡ true → difference_fits low high n q f ≡ true → dot_fits low high n o d ≡ true → dot_fits low high n d d ≡ true
       → (int_lt (pos 0) t && int_lt t len) ≡ true → multiple_fits low high n d t ≡ true → has_interior low high n f g q ≡ true
-  unfolding has_interior
-  all_fit t len h k a b p r s m =
-      let u = is_along t h in
-      let v = is_length len k in
-      let x : (int_lt (pos 0) (along n f g q) && int_lt (along n f g q) (length_squared n f g)) ≡ true = rw (← u, ← v) s in
-      let y : multiple_fits low high n (direction f g) (along n f g q) ≡ true = rw (← u) (sym (multiple_fits-same low high n d (direction f g) t hd) ∙ m) in
-      and_both _ _
-      (and_both _ _ (and_both _ _ a b) (and_both _ _ (sym (dot_fits-same low high n o d _ _ ho hd) ∙ p) (sym (dot_fits-same low high n d d _ _ hd hd) ∙ r)))
-      (and_both _ _ x y)
+  all_fit t len h k a b p r s m = grind (arith, computed)
 
   -- the clamped steps are the interior point, since it lies between the ends
   pub stepped-interior : (t len : ℤ) → t ≡ dot n o d → len ≡ dot n d d → pos 0 <ℤ t → t <ℤ len → IsPoint low high n (table n f) → IsPoint low high n (table n g)
       → (i : ℕ) → i < n → between (f i +ℤ int_div (d i *ℤ t) len) low high ≡ interior n f g q i
   unfolding interior
   stepped-interior t len h k p r hf hg i l =
-      let u = is_along t h in
-      let v = is_length len k in
-      let e : d i ≡ (g i -ℤ f i) = hd i l in
       let b = step-between (f i) (g i) t len p r in
-      rw (e, ← u, ← v) (held low high (f i) (g i) _ (point-at low high n f i hf l) (point-at low high n g i hg l) b.0 b.1)
+      rw (hd i l, ← is_along t h, ← is_length len k) (held low high (f i) (g i) _ (point-at low high n f i hf l) (point-at low high n g i hg l) b.0 b.1)
 
 module _ (low high : ℤ) (n : ℕ) (f g q : ℕ → ℤ) where
   pub no_direction : difference_fits low high n g f ≡ false → has_interior low high n f g q ≡ false
   unfolding has_interior
-  no_direction h = not_left _ _ (not_left _ _ (not_left _ _ h))
+  no_direction h = grind arith
 
   pub no_offset : difference_fits low high n q f ≡ false → has_interior low high n f g q ≡ false
   unfolding has_interior
-  no_offset h = not_left _ _ (not_left _ _ (not_right _ _ h))
+  no_offset h = grind arith
 
 pub inside_parts : (t len : ℤ) → (int_lt (pos 0) t && int_lt t len) ≡ true → (pos 0 <ℤ t) × (t <ℤ len)
-inside_parts t len h =
-    let p = and_parts _ _ h in
-    let a : int_lt (pos 0) t ≡ true = p.0 in
-    let b : int_lt t len ≡ true = p.1 in (grind (arith, ints), grind (arith, ints))
+inside_parts t len h = (grind (arith, ints), grind (arith, ints))
 
 -- ---- the nearest point
 
@@ -256,25 +204,12 @@ distance-at low high n f g q c h =
 
 -- ---- the box of the ends
 
-pub corners_of-same : (n : ℕ) (f g f' g' : ℕ → ℤ) → AreSame n f f' → AreSame n g g' → box_of_corners n f g ≡ box_of_corners n f' g'
-corners_of-same n f g f' g' h k = corners-same n _ _ _ _
-    (λ i l. let a : f i ≡ f' i = h i l in let b : g i ≡ g' i = k i l in rw (a, b) refl)
-    (λ i l. let a : f i ≡ f' i = h i l in let b : g i ≡ g' i = k i l in rw (a, b) refl)
-
-least-ranged : (low high a b : ℤ) → InRange low high a → InRange low high b → InRange low high (int_min a b)
-least-ranged low high a b h k =
-    let p = h.above in let q = h.below in let r = k.above in let s = k.below in record { above = grind (arith, ints); below = grind (arith, ints) }
-
-greatest-ranged : (low high a b : ℤ) → InRange low high a → InRange low high b → InRange low high (int_max a b)
-greatest-ranged low high a b h k =
-    let p = h.above in let q = h.below in let r = k.above in let s = k.below in record { above = grind (arith, ints); below = grind (arith, ints) }
-
-upright : (a b : ℤ) → int_le (int_min a b) (int_max a b) ≡ true
-upright a b = grind (arith, ints)
+in_between : (low high a b : ℤ) → InRange low high a → InRange low high b → InRange low high (int_min a b) × InRange low high (int_max a b)
+in_between low high a b h k = (grind (arith, ints), grind (arith, ints))
 
 pub corners_of-box : (low high : ℤ) (n : ℕ) (f g : ℕ → ℤ) → ((i : ℕ) → i < n → InRange low high (f i)) → ((i : ℕ) → i < n → InRange low high (g i)) → IsBox low high n (box_of_corners n f g)
 corners_of-box low high n f g h k = corners-box low high n _ _
-    (λ i l. least-ranged low high (f i) (g i) (h i l) (k i l)) (λ i l. greatest-ranged low high (f i) (g i) (h i l) (k i l)) (λ i _. upright (f i) (g i))
+    (λ i l. (in_between low high (f i) (g i) (h i l) (k i l)).0) (λ i l. (in_between low high (f i) (g i) (h i l) (k i l)).1) (λ i _. min_max _ _ (f i) (g i) refl refl)
 
 pub still_ranged : (low high : ℤ) (n : ℕ) (f f' : ℕ → ℤ) → AreSame n f' f → ((i : ℕ) → i < n → InRange low high (f' i)) → (i : ℕ) → i < n → InRange low high (f i)
 still_ranged low high n f f' h k i l = subst (InRange low high) (h i l) (k i l)

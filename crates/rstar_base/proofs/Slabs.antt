@@ -1,5 +1,4 @@
 -- Slabs of a list of elements.
-use Prim.Native.Nat.{zero, suc}
 use Rattle.std.proofs.Common.{◌≡◌, ◌≢◌, ◌≤◌, ◌<◌, ◌+◌, ◌*◌, ℕ, ℤ, List, [], ◌∷◌, length, take, drop, min, max, arith, sym, subst, refl, inl, inr}
 use Rattle.std.specs.Int.{div_ceil}
 use Rattle.std.specs.List.Sorted.{IsPermutation}
@@ -37,8 +36,7 @@ module _ {T : Type 0} (key : T → ℤ) where
   length-left s xs slab rest cut = omega (arith, length_permutation _ _ cut.same, length-append rest slab, cut.size)
 
 positive_part : (n c q : ℕ) → 0 < n → n ≤ q * c → 0 < q
-positive_part n c zero some h = absurd (omega (arith, h))
-positive_part n c (suc q) some h = omega arith
+positive_part n c q some h = grind arith
 
 some_length : {X : Type 0} (xs : List X) → xs ≢ [] → 0 < length xs
 some_length [] some = absurd (some refl)
@@ -74,16 +72,11 @@ no_slabs s xs rest some full none =
 -- the slabs of some elements are not empty
 pub slab_size-is : {X : Type 0} (xs : List X) (n c q r : ℕ) → 0 < c → n ≡ length xs → q ≡ div_ceil n c → r ≡ max q 1 → xs ≢ [] → r ≡ div_ceil (length xs) c
 slab_size-is xs n c q r some long is most full =
-    let spread = (div_ceil_times n c some).0 in
     let held = some_length xs full in
-    let pos : 0 < div_ceil n c = positive_part n c (div_ceil n c) (omega arith) spread in
-    let here : r ≡ div_ceil n c = omega (arith, pos) in
-    subst (λ k. r ≡ div_ceil k c) long here
+    rw (← long) (omega (arith, positive_part n c (div_ceil n c) (omega arith) (div_ceil_times n c some).0))
 
 -- slabs of a c-th part of the elements, rounded up, are at most c
 pub few_slabs : {X : Type 0} (xs : List X) (n c q r : ℕ) → 0 < c → n ≡ length xs → q ≡ div_ceil n c → r ≡ max q 1 → div_ceil (length xs) r ≤ c
 few_slabs xs n c q r some long is most =
-    let spread = (div_ceil_times n c some).0 in
-    let larger : div_ceil n c ≤ r = omega arith in
-    let wide : div_ceil n c * c ≤ r * c = mul-le-mul larger (omega arith) in
-    ceil_small (length xs) r c (omega arith) (omega (arith, spread, wide))
+    let wide : div_ceil n c * c ≤ r * c = mul-le-mul (omega arith) (omega arith) in
+    ceil_small (length xs) r c (omega arith) (omega (arith, (div_ceil_times n c some).0, wide))

@@ -1,67 +1,32 @@
 -- Equality of boxes is equality of their intervals.
-use Rattle.std.specs.Prelude.{◌≡◌, ◌&&◌, ◌↔◌, ℕ, ℤ, Bool, true, zero, suc, List, [], ◌∷◌, map, IsTrue, int_le}
+use Rattle.std.specs.Prelude.{◌≡◌, ◌&&◌, ◌↔◌, ℕ, ℤ, Bool, true, List, [], ◌∷◌, map, IsTrue}
 use Rattle.std.specs.List.{All}
 use Rattle.std.proofs.Common.{refl, ap, arith, sym, ◌∙◌}
 use Rattle.std.proofs.lemmas.Int.{ints}
 use Rattle.std.proofs.lemmas.List.{length-map}
+use Rattle.std.proofs.lemmas.List.Elements.{All-nil, All-cons}
 use Rattle.rstar_base.specs.Points.{table, IsPoint}
 use Rattle.rstar_base.specs.laws.PointLemmas.{and_parts, and_both}
 use Rattle.rstar_base.specs.Scalars.{InRange}
-use Rattle.rstar_base.specs.Boxes.{in_range, all_in_range, IsBox}
+use Rattle.rstar_base.specs.Boxes.{all_in_range, IsBox}
 
-module _ (low high : ℤ) where
-  range_of : (z : ℤ) → in_range low high z ≡ true → InRange low high z
-  range_of z h =
-      let p = and_parts (int_le low z) (int_le z high) h in
-      let a : int_le low z ≡ true = p.0 in let b : int_le z high ≡ true = p.1 in
-      record { above = grind (arith, ints); below = grind (arith, ints) }
+-- the bounds of a box are in the range
+bounds-ranged : (low high : ℤ) (b : List (ℤ × ℤ)) → all_in_range low high b ≡ true
+    → All (λ z. InRange low high z) (map (λ (x : ℤ × ℤ). x.0) b)
+    × All (λ z. InRange low high z) (map (λ (x : ℤ × ℤ). x.1) b)
+bounds-ranged low high [] h = (All-nil (InRange low high), All-nil (InRange low high))
+bounds-ranged low high (x ∷ xs) h =
+    let rest : all_in_range low high xs ≡ true = grind arith in
+    let r = bounds-ranged low high xs rest in
+    let P = InRange low high in
+    (All-cons P x.0 _ (grind (arith, ints)) r.0, All-cons P x.1 _ (grind (arith, ints)) r.1)
 
-  firsts-ranged : (b : List (ℤ × ℤ)) → all_in_range low high b ≡ true
-      → All (λ z. InRange low high z) (map (λ (x : ℤ × ℤ). x.0) b)
-  firsts-ranged [] h k d l = absurd (omega arith)
-  firsts-ranged (x ∷ xs) h zero d l =
-      range_of x.0
-      (and_parts (in_range low high x.0) (in_range low high x.1)
-      (and_parts (in_range low high x.0 && in_range low high x.1) (all_in_range low high xs) h).0).0
-  firsts-ranged (x ∷ xs) h (suc k) d l =
-      firsts-ranged xs
-      (and_parts (in_range low high x.0 && in_range low high x.1) (all_in_range low high xs) h).1 k d (omega arith)
-
-  seconds-ranged : (b : List (ℤ × ℤ)) → all_in_range low high b ≡ true
-      → All (λ z. InRange low high z) (map (λ (x : ℤ × ℤ). x.1) b)
-  seconds-ranged [] h k d l = absurd (omega arith)
-  seconds-ranged (x ∷ xs) h zero d l =
-      range_of x.1
-      (and_parts (in_range low high x.0) (in_range low high x.1)
-      (and_parts (in_range low high x.0 && in_range low high x.1) (all_in_range low high xs) h).0).1
-  seconds-ranged (x ∷ xs) h (suc k) d l =
-      seconds-ranged xs
-      (and_parts (in_range low high x.0 && in_range low high x.1) (all_in_range low high xs) h).1 k d (omega arith)
-
-module _ (low high : ℤ) (n : ℕ) where
-  firsts-point : (b : List (ℤ × ℤ)) → IsBox low high n b
-      → IsPoint low high n (map (λ (x : ℤ × ℤ). x.0) b)
-  firsts-point b h =
-      record { long = length-map b (λ (x : ℤ × ℤ). x.0) ∙ h.long; ranged = firsts-ranged low high b h.ranged }
-
-  seconds-point : (b : List (ℤ × ℤ)) → IsBox low high n b
-      → IsPoint low high n (map (λ (x : ℤ × ℤ). x.1) b)
-  seconds-point b h =
-      record { long = length-map b (λ (x : ℤ × ℤ). x.1) ∙ h.long; ranged = seconds-ranged low high b h.ranged }
-
-parts-same : (a b : List (ℤ × ℤ)) → map (λ (x : ℤ × ℤ). x.0) a ≡ map (λ (x : ℤ × ℤ). x.0) b
+-- a box is its lower and its upper bounds
+pub parts-same : (a b : List (ℤ × ℤ)) → map (λ (x : ℤ × ℤ). x.0) a ≡ map (λ (x : ℤ × ℤ). x.0) b
     → map (λ (x : ℤ × ℤ). x.1) a ≡ map (λ (x : ℤ × ℤ). x.1) b → a ≡ b
 parts-same [] [] h k = refl
-parts-same [] (y ∷ ys) h k = cc
-parts-same (x ∷ xs) [] h k = cc
-parts-same (x ∷ xs) (y ∷ ys) h k =
-    let p : x.0 ≡ y.0 = cc in
-    let q : x.1 ≡ y.1 = cc in
-    let r : map (λ (x : ℤ × ℤ). x.0) xs ≡ map (λ (x : ℤ × ℤ). x.0) ys = cc in
-    let s : map (λ (x : ℤ × ℤ). x.1) xs ≡ map (λ (x : ℤ × ℤ). x.1) ys = cc in
-    let ih : xs ≡ ys = parts-same xs ys r s in
-    let e : ((x.0, x.1) ∷ ys) ≡ ((y.0, y.1) ∷ ys) = rw (p, q) refl in
-    ap (λ (w : List (ℤ × ℤ)). x ∷ w) ih ∙ e
+parts-same (x ∷ xs) (y ∷ ys) h k = let ih = parts-same xs ys in grind arith
+parts-same a b h k = cc
 
 module _ {A : Type 0} (low high : ℤ) (n : ℕ) (coord : A → ℕ → ℤ) (of : List ℤ → A) (eq : A → A → Bool)
     (forth : (zs : List ℤ) → IsPoint low high n zs → table n (coord (of zs)) ≡ zs)
@@ -78,9 +43,12 @@ module _ {A : Type 0} (low high : ℤ) (n : ℕ) (coord : A → ℕ → ℤ) (of
       → IsTrue (eq (of (map (λ (x : ℤ × ℤ). x.0) a)) (of (map (λ (x : ℤ × ℤ). x.0) b))
       && eq (of (map (λ (x : ℤ × ℤ). x.1) a)) (of (map (λ (x : ℤ × ℤ). x.1) b))) ↔ (a ≡ b)
   box_eq a b h k =
-      let l = point-eq _ _ (firsts-point low high n a h) (firsts-point low high n b k) in
-      let u = point-eq _ _ (seconds-point low high n a h) (seconds-point low high n b k) in (
+      let r = bounds-ranged low high a h.ranged in
+      let s = bounds-ranged low high b k.ranged in
+      let l = point-eq _ _ (record { long = length-map a _ ∙ h.long; ranged = r.0 })
+      (record { long = length-map b _ ∙ k.long; ranged = s.0 }) in
+      let u = point-eq _ _ (record { long = length-map a _ ∙ h.long; ranged = r.1 })
+      (record { long = length-map b _ ∙ k.long; ranged = s.1 }) in (
         (λ t. let p = and_parts _ _ t in parts-same a b (l.0 p.0) (u.0 p.1)),
-        λ e. and_both _ _ (l.1 (ap (λ (w : List (ℤ × ℤ)). map (λ (x : ℤ × ℤ). x.0) w) e))
-            (u.1 (ap (λ (w : List (ℤ × ℤ)). map (λ (x : ℤ × ℤ). x.1) w) e)),
+        λ e. and_both _ _ (l.1 (ap (map (λ (x : ℤ × ℤ). x.0)) e)) (u.1 (ap (map (λ (x : ℤ × ℤ). x.1)) e)),
       )

@@ -1,29 +1,30 @@
 -- Equal points, rectangles and lines have equal boxes.
-use Rattle.std.specs.Prelude.{◌≡◌, ◌&&◌, IsTrue, ℕ, ℤ, Bool}
+use Rattle.std.specs.Prelude.{◌≡◌, ◌<◌, ◌&&◌, IsTrue, ℕ, ℤ, Bool, int_le}
 use Rattle.std.proofs.Common.{refl}
 use Rattle.rstar_base.specs.Points.{table}
 use Rattle.rstar_base.specs.laws.PointLemmas.{and_parts, table-same, table-each, all_below-same}
-use Rattle.std.specs.Int.{int_max}
+use Rattle.std.specs.Int.{int_min, int_max}
 use Rattle.rstar_base.specs.Boxes.{between_corners, box_of_corners}
-use Rattle.rstar_base.specs.Rectangles.{are_empty_corners, box_or_empty}
+use Rattle.rstar_base.specs.Rectangles.{box_or_empty}
 
 -- ---- what is made of the same two lists of coordinates
 
 module _ (n : ℕ) (l u k v : ℕ → ℤ) (e : table n l ≡ table n k) (f : table n u ≡ table n v) where
-  pub between-same : between_corners n l u ≡ between_corners n k v
-  between-same = table-same n _ _ (λ i h. rw (table-each n l k e i h, table-each n u v f i h) refl)
+  each : {A : Type 0} (make : ℤ → ℤ → A) (i : ℕ) → i < n → make (l i) (u i) ≡ make (k i) (v i)
+  each make i h = cc (table-each n l k e i h, table-each n u v f i h)
 
-  empty-same : (low high : ℤ) → are_empty_corners low high n l u ≡ are_empty_corners low high n k v
-  empty-same low high = all_below-same n _ _ (λ i h. rw (table-each n l k e i h, table-each n u v f i h) refl)
+  between-same : between_corners n l u ≡ between_corners n k v
+  between-same = table-same n _ _ (each (λ a b. (a, b)))
 
-  greater-same : between_corners n l (λ i. int_max (l i) (u i)) ≡ between_corners n k (λ i. int_max (k i) (v i))
-  greater-same = table-same n _ _ (λ i h. rw (table-each n l k e i h, table-each n u v f i h) refl)
+  box_or_empty-equal : (low high : ℤ) → box_or_empty low high n l u ≡ box_or_empty low high n k v
+  box_or_empty-equal low high =
+      rw (
+        all_below-same n _ _ (each (λ a b. int_le high a && int_le b low)),
+        table-same {A = ℤ × ℤ} n _ _ (each (λ a b. (a, int_max a b))),
+      ) refl
 
-  pub box_or_empty-equal : (low high : ℤ) → box_or_empty low high n l u ≡ box_or_empty low high n k v
-  box_or_empty-equal low high = rw (empty-same low high, greater-same) refl
-
-  pub corners-same : box_of_corners n l u ≡ box_of_corners n k v
-  corners-same = table-same n _ _ (λ i h. rw (table-each n l k e i h, table-each n u v f i h) refl)
+  corners-same : box_of_corners n l u ≡ box_of_corners n k v
+  corners-same = table-same n _ _ (each (λ a b. (int_min a b, int_max a b)))
 
 -- ---- points, and what is made of two of them
 

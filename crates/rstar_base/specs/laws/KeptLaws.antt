@@ -1,22 +1,19 @@
 -- An element beside an envelope that is kept for it keeps the laws of elements.
-use Rattle.std.specs.Prelude.{◌≡◌, ◌≤◌, ℕ, ℤ, Bool, true, false, List, min, max, if◌then◌else◌}
-use Rattle.std.proofs.Common.{refl, arith}
+use Rattle.std.specs.Prelude.{◌≡◌, ◌≤◌, ℕ, ℤ, Bool, false, List, min, max, if◌then◌else◌}
+use Rattle.std.proofs.Common.{arith}
 use Rattle.rstar_base.specs.laws.PointLemmas.{and_parts}
 use Rattle.rstar_base.specs.Envelopes.{Boxes}
 use Rattle.rstar_base.specs.Elements.{Objects, Distances, DistanceLaws}
 use Rattle.rstar_base.specs.KeptEnvelopes.{kept_distance, kept_objects, kept_distances}
 
 held-near : (t : Bool) (a b d : ℕ) → t ≡ false → a ≤ (if t then d else max a (min b d))
-held-near true a b d h = cc
-held-near false a b d h = omega arith
+held-near t a b d h = grind arith
 
 held-within : (t : Bool) (a b d : ℕ) → t ≡ false → a ≤ b → (if t then d else max a (min b d)) ≤ b
-held-within true a b d h k = cc
-held-within false a b d h k = omega arith
+held-within t a b d h k = grind arith
 
 held-own : (t : Bool) (a b d : ℕ) → (t ≡ false → (a ≤ d) × (d ≤ b)) → (if t then d else max a (min b d)) ≡ d
-held-own true a b d h = refl
-held-own false a b d h = let p = h refl in let q = p.0 in let r = p.1 in omega arith
+held-own t a b d h = grind arith
 
 -- where the envelope is the element's own, the distance is the element's
 pub kept_distance-own : {T E : Type 0} {IsPoint : List ℤ → Type 0} (v : Boxes E) (o : Objects T E) (d : Distances T)

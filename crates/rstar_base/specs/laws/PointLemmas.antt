@@ -7,17 +7,11 @@ use Rattle.std.proofs.Common.{refl, ap, arith, subst, sym, ◌∙◌, inl, inr}
 use Rattle.std.proofs.lemmas.List.{length-map, get_or-set_other}
 use Rattle.std.proofs.lemmas.Grind.{get_or-set_at}
 use Rattle.std.proofs.lemmas.Bool.Decides.{eqb_tells}
+use Rattle.std.proofs.Math.Nat.{eq-or-lt_of_le}
 use Rattle.rstar_base.specs.Scalars.{InRange}
 use Rattle.rstar_base.specs.Points.{table, all_below, CallableFrom, MadeFrom, Callable, Made, list_coord}
 use lib.Pointwise.{pointwise}
 use denote.Param.Members.{Mut, Called}
-
--- the first number from i on, or a later one
-pub by_first : {P : Type 0} (i k : ℕ) → i ≤ k → (i ≡ k → P) → (i + 1 ≤ k → P) → P
-by_first zero zero h p q = p refl
-by_first zero (suc k) h p q = q (omega arith)
-by_first (suc i) zero h p q = absurd (omega arith)
-by_first (suc i) (suc k) h p q = by_first i k (omega arith) (λ e. p (ap suc e)) (λ l. q (omega arith))
 
 module _ {F S : Type 0} (step : F → ℕ → S → F → Type 0) where
   -- `from_fn` may be called where n calls may be made
@@ -59,22 +53,23 @@ module _ {F S : Type 0} (step : F → ℕ → S → F → Type 0) where
   callable pre f n h k = record { run = callable_always pre f n 0 n (omega arith) h k }
 
   -- where each call gives a value with Q, and none changes the closure
-  pub made_all : (value : S → ℤ) (coord : ℕ → ℤ) (Q : ℕ → ℤ → Type 0) (f : F) (all i n : ℕ) → i + n ≡ all
+  made_all : (value : S → ℤ) (coord : ℕ → ℤ) (Q : ℕ → ℤ → Type 0) (f : F) (all i n : ℕ) → i + n ≡ all
       → ((k : ℕ) (y : S) (q : F) → k < all → step f k y q → Q k (value y) × (q ≡ f))
       → MadeFrom step value coord f i n → (k : ℕ) → i ≤ k → k < all → Q k (coord k)
   made_all value coord Q f all i zero e h m k l u = absurd (omega arith)
   made_all value coord Q f all i (suc n) e h m k l u =
       let s = h i m.1 m.0 (omega arith) m.2 in
-      by_first i k l
-      (λ (e' : i ≡ k). subst (λ (j : ℕ). Q j (coord j)) e' (subst (λ (z : ℤ). Q i z) (sym m.3) s.0))
-      (λ (l' : i + 1 ≤ k). made_all value coord Q m.0 all (i + 1) n (omega arith)
-      (λ k y q b t. let r = h k y q b (subst (λ (w : F). step w k y q) s.1 t) in (r.0, r.1 ∙ sym s.1)) m.4 k l' u)
+      elim (eq-or-lt_of_le l) [
+        | inl e' ↦ subst (λ (j : ℕ). Q j (coord j)) e' (subst (λ (z : ℤ). Q i z) (sym m.3) s.0)
+        | inr l' ↦ made_all value coord Q m.0 all (i + 1) n (omega arith)
+            (λ k y q b t. let r = h k y q b (subst (λ (w : F). step w k y q) s.1 t) in (r.0, r.1 ∙ sym s.1))
+            m.4 k (omega arith) u
+      ]
 
-module _ {F S : Type 0} (step : F → ℕ → S → F → Type 0) where
   pub made_holds : (value : S → ℤ) (coord : ℕ → ℤ) (Q : ℕ → ℤ → Type 0) (f : F) (n : ℕ) → Made step value coord f n
       → ((k : ℕ) (y : S) (q : F) → k < n → step f k y q → Q k (value y) × (q ≡ f))
       → (k : ℕ) → k < n → Q k (coord k)
-  made_holds value coord Q f n m h k l = made_all step value coord Q f n 0 n (omega arith) h m.run k (omega arith) l
+  made_holds value coord Q f n m h k l = made_all value coord Q f n 0 n (omega arith) h m.run k (omega arith) l
 
 pub and_parts : (a b : Bool) → IsTrue (a && b) → IsTrue a × IsTrue b
 and_parts true b h = (refl, h)
@@ -85,18 +80,15 @@ and_both true b h k = k
 and_both false b h k = cc
 
 pub all_below-each : (n : ℕ) (t : ℕ → Bool) (k : ℕ) → k < n → IsTrue (all_below n t) → IsTrue (t k)
-all_below-each zero t k l h = absurd (omega arith)
-all_below-each (suc n) t zero l h = (and_parts (t zero) (all_below n (λ i. t (suc i))) h).0
-all_below-each (suc n) t (suc k) l h =
-    all_below-each n (λ i. t (suc i)) k (omega arith) (and_parts (t zero) (all_below n (λ i. t (suc i))) h).1
+all_below-each (suc n) t zero l h = (and_parts _ _ h).0
+all_below-each (suc n) t (suc k) l h = all_below-each n (λ i. t (suc i)) k (omega arith) (and_parts _ _ h).1
+all_below-each n t k l h = absurd (omega arith)
 
 -- where t holds of each number below n, and where it fails at one
 pub all_below-true : (n : ℕ) (t : ℕ → Bool) → ((k : ℕ) → k < n → true ≡ t k) → true ≡ all_below n t
 all_below-true zero t h = refl
 all_below-true (suc n) t h =
-    let e : true ≡ t zero = h zero (omega arith) in
-    let ih : true ≡ all_below n (λ i. t (suc i)) = all_below-true n (λ i. t (suc i)) (λ k l. h (suc k) (omega arith)) in
-    sym (and_both (t zero) (all_below n (λ i. t (suc i))) (sym e) (sym ih))
+    rw (← h zero (omega arith)) (all_below-true n (λ i. t (suc i)) (λ k l. h (suc k) (omega arith)))
 
 pub and_left : (a b : Bool) → false ≡ a → false ≡ (a && b)
 and_left true b h = cc
@@ -107,10 +99,9 @@ and_right true b h = h
 and_right false b h = refl
 
 pub all_below-false : (n k : ℕ) (t : ℕ → Bool) → k < n → false ≡ t k → false ≡ all_below n t
-all_below-false zero k t l h = absurd (omega arith)
-all_below-false (suc n) zero t l h = and_left (t zero) (all_below n (λ i. t (suc i))) h
-all_below-false (suc n) (suc k) t l h =
-    and_right (t zero) (all_below n (λ i. t (suc i))) (all_below-false n k (λ i. t (suc i)) (omega arith) h)
+all_below-false (suc n) zero t l h = and_left _ _ h
+all_below-false (suc n) (suc k) t l h = and_right _ _ (all_below-false n k (λ i. t (suc i)) (omega arith) h)
+all_below-false n k t l h = absurd (omega arith)
 
 -- what `from_fn` says of the array that it made
 pub made_from : {F S : Type 0} (g : Mut F (ℕ × Unit {0}) S) (value : S → ℤ) (z : S) (whole : List S) (f : F) (i n : ℕ)
@@ -130,61 +121,44 @@ array-with value d p i s j l =
 
 module _ {S : Type 0} (eq : S → S → Bool) (value : S → ℤ)
     (law : (a b : S) → IsTrue (eq a b) ↔ (value a ≡ value b)) where
-  pub array-eq : (z : S) (n : ℕ) (xs ys : List S) → length xs ≡ n → length ys ≡ n
-      → IsTrue (pointwise eq xs ys) ↔ (table n (list_coord value z xs) ≡ table n (list_coord value z ys))
-  array-eq z zero [] [] h k = ((λ _. refl), λ _. refl)
-  array-eq z zero [] (y ∷ ys) h k = absurd (omega arith)
-  array-eq z zero (x ∷ xs) ys h k = absurd (omega arith)
-  array-eq z (suc n) [] ys h k = absurd (omega arith)
-  array-eq z (suc n) (x ∷ xs) [] h k = absurd (omega arith)
-  array-eq z (suc n) (x ∷ xs) (y ∷ ys) h k =
-      let hx : length xs ≡ n = omega arith in
-      let hy : length ys ≡ n = omega arith in
-      let ih = array-eq z n xs ys hx hy in (
-        (λ e. let p = and_parts (eq x y) (pointwise eq xs ys) e in
-            let f : value x ≡ value y = (law x y).0 p.0 in
-            let t : table n (list_coord value z xs) ≡ table n (list_coord value z ys) = ih.0 p.1 in cc),
-        λ e. let f : value x ≡ value y = cc in
-            let t : table n (list_coord value z xs) ≡ table n (list_coord value z ys) = cc in
-            and_both (eq x y) (pointwise eq xs ys) ((law x y).1 f) (ih.1 t),
-      )
-
   -- with no word on the lengths
   pub array-same : (z : S) (n : ℕ) (xs ys : List S) → IsTrue (pointwise eq xs ys)
       → table n (list_coord value z xs) ≡ table n (list_coord value z ys)
   array-same z zero xs ys e = refl
   array-same z (suc n) [] [] e = refl
-  array-same z (suc n) [] (y ∷ ys) e = cc
-  array-same z (suc n) (x ∷ xs) [] e = cc
   array-same z (suc n) (x ∷ xs) (y ∷ ys) e =
-      let p = and_parts (eq x y) (pointwise eq xs ys) e in
-      let f : value x ≡ value y = (law x y).0 p.0 in
-      let t : table n (list_coord value z xs) ≡ table n (list_coord value z ys) = array-same z n xs ys p.1 in cc
+      let p = and_parts (eq x y) (pointwise eq xs ys) e in cc ((law x y).0 p.0, array-same z n xs ys p.1)
+  array-same z n xs ys e = cc
+
+  same-array : (z : S) (n : ℕ) (xs ys : List S) → length xs ≡ n → length ys ≡ n
+      → table n (list_coord value z xs) ≡ table n (list_coord value z ys) → IsTrue (pointwise eq xs ys)
+  same-array z zero [] [] h k e = refl
+  same-array z (suc n) (x ∷ xs) (y ∷ ys) h k e =
+      and_both _ _ ((law x y).1 (cc)) (same-array z n xs ys (omega arith) (omega arith) (cc))
+  same-array z n xs ys h k e = absurd (omega arith)
+
+  pub array-eq : (z : S) (n : ℕ) (xs ys : List S) → length xs ≡ n → length ys ≡ n
+      → IsTrue (pointwise eq xs ys) ↔ (table n (list_coord value z xs) ≡ table n (list_coord value z ys))
+  array-eq z n xs ys h k = (array-same z n xs ys, same-array z n xs ys h k)
 
 module _ {S : Type 0} (value : S → ℤ) (of : ℤ → S) (law : (x : S) → of (value x) ≡ x) where
   pub array-back : (z : S) (n : ℕ) (xs : List S) → length xs ≡ n → map of (table n (list_coord value z xs)) ≡ xs
   array-back z zero [] h = refl
-  array-back z zero (x ∷ xs) h = absurd (omega arith)
-  array-back z (suc n) [] h = absurd (omega arith)
-  array-back z (suc n) (x ∷ xs) h =
-      let e : of (value x) ≡ x = law x in
-      let ih : map of (table n (list_coord value z xs)) ≡ xs = array-back z n xs (omega arith) in cc
+  array-back z (suc n) (x ∷ xs) h = cc (law x, array-back z n xs (omega arith))
+  array-back z n xs h = absurd (omega arith)
 
 module _ {S : Type 0} (value : S → ℤ) (of : ℤ → S) (low high : ℤ)
     (law : (z : ℤ) → InRange low high z → value (of z) ≡ z) where
   pub array-forth : (d : S) (n : ℕ) (zs : List ℤ) → length zs ≡ n → All (λ z. InRange low high z) zs
       → table n (list_coord value d (map of zs)) ≡ zs
   array-forth d zero [] h r = refl
-  array-forth d zero (z ∷ zs) h r = absurd (omega arith)
-  array-forth d (suc n) [] h r = absurd (omega arith)
   array-forth d (suc n) (z ∷ zs) h r =
-      let a : value (of z) ≡ z = law z (r 0 z (omega arith)) in
-      let ih : table n (list_coord value d (map of zs)) ≡ zs =
-      array-forth d n zs (omega arith) (λ k e l. r (suc k) e (omega arith)) in cc
+      cc (law z (r 0 z (omega arith)), array-forth d n zs (omega arith) (λ k e l. r (suc k) e (omega arith)))
+  array-forth d n zs h r = absurd (omega arith)
 
 pub table-long : {A : Type 0} (n : ℕ) (f : ℕ → A) → length (table n f) ≡ n
 table-long zero f = refl
-table-long (suc n) f = let ih = table-long n (λ i. f (suc i)) in omega arith
+table-long (suc n) f = omega (arith, table-long n (λ i. f (suc i)))
 
 pub array-long : {S : Type 0} (of : ℤ → S) (f : ℕ → ℤ) (n : ℕ) (xs : List S) → map of (table n f) ≡ xs → length xs ≡ n
 array-long of f n xs e = sym (ap length e) ∙ length-map (table n f) of ∙ table-long n f
@@ -192,23 +166,21 @@ array-long of f n xs e = sym (ap length e) ∙ length-map (table n f) of ∙ tab
 -- the first and the second parts of a table of pairs
 pub table-firsts : (n : ℕ) (f g : ℕ → ℤ) → map (λ (x : ℤ × ℤ). x.0) (table n (λ i. (f i, g i))) ≡ table n f
 table-firsts zero f g = refl
-table-firsts (suc n) f g = ap (λ (l : List ℤ). f zero ∷ l) (table-firsts n (λ i. f (suc i)) (λ i. g (suc i)))
+table-firsts (suc n) f g = simp (table-firsts n)
 
 pub table-seconds : (n : ℕ) (f g : ℕ → ℤ) → map (λ (x : ℤ × ℤ). x.1) (table n (λ i. (f i, g i))) ≡ table n g
 table-seconds zero f g = refl
-table-seconds (suc n) f g = ap (λ (l : List ℤ). g zero ∷ l) (table-seconds n (λ i. f (suc i)) (λ i. g (suc i)))
+table-seconds (suc n) f g = simp (table-seconds n)
 
 pub table-same : {A : Type 0} (n : ℕ) (f h : ℕ → A) → ((i : ℕ) → i < n → f i ≡ h i) → table n f ≡ table n h
 table-same zero f h e = refl
 table-same (suc n) f h e =
-    let p : f zero ≡ h zero = e zero (omega arith) in
-    let ih : table n (λ i. f (suc i)) ≡ table n (λ i. h (suc i)) =
-    table-same n (λ i. f (suc i)) (λ i. h (suc i)) (λ i l. e (suc i) (omega arith)) in cc
+    cc (e zero (omega arith), table-same n (λ i. f (suc i)) (λ i. h (suc i)) (λ i l. e (suc i) (omega arith)))
 
 pub table-get : {A : Type 0} (n : ℕ) (f : ℕ → A) (i : ℕ) (d : A) → i < n → slice_index_or (table n f) i d ≡ f i
-table-get zero f i d l = absurd (omega arith)
 table-get (suc n) f zero d l = refl
 table-get (suc n) f (suc i) d l = table-get n (λ k. f (suc k)) i d (omega arith)
+table-get n f i d l = absurd (omega arith)
 
 -- equal tables are equal at each place
 pub table-each : (n : ℕ) (f h : ℕ → ℤ) → table n f ≡ table n h → (i : ℕ) → i < n → f i ≡ h i
@@ -218,7 +190,4 @@ table-each n f h e i l =
 pub all_below-same : (n : ℕ) (f h : ℕ → Bool) → ((i : ℕ) → i < n → f i ≡ h i) → all_below n f ≡ all_below n h
 all_below-same zero f h e = refl
 all_below-same (suc n) f h e =
-    let p : f zero ≡ h zero = e zero (omega arith) in
-    let ih : all_below n (λ i. f (suc i)) ≡ all_below n (λ i. h (suc i)) =
-    all_below-same n (λ i. f (suc i)) (λ i. h (suc i)) (λ i l. e (suc i) (omega arith)) in
-    rw (p, ih) refl
+    cc (e zero (omega arith), all_below-same n (λ i. f (suc i)) (λ i. h (suc i)) (λ i l. e (suc i) (omega arith)))

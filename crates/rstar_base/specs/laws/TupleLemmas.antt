@@ -1,5 +1,5 @@
 -- Lemmas on tuples as lists: what a write leaves, which numbers they have, and where two are equal.
-use Rattle.std.specs.Prelude.{◌≡◌, ◌+◌, ◌<◌, ◌==◌, ◌&&◌, ◌↔◌, if◌then◌else◌, ℕ, ℤ, Bool, true, false, zero, suc, List, [], ◌∷◌, IsTrue, length, map, pos, slice_index_or}
+use Rattle.std.specs.Prelude.{◌≡◌, ◌+◌, ◌<◌, ◌==◌, ◌&&◌, ◌↔◌, if◌then◌else◌, ℕ, ℤ, Bool, true, zero, suc, List, [], ◌∷◌, IsTrue, length, map, pos, slice_index_or}
 use Rattle.std.proofs.Common.{refl, arith}
 use Rattle.std.proofs.Math.Bool.{and_assoc}
 use Rattle.std.specs.List.{All}
@@ -14,16 +14,15 @@ all_after_write i s k (x ∷ xs) = after_write i s k x ∷ all_after_write i s (
 
 value_of_choice : {S : Type 0} (value : S → ℤ) (b : Bool) (s x : S)
     → value (if b then s else x) ≡ (if b then value s else value x)
-value_of_choice value true s x = refl
-value_of_choice value false s x = refl
+value_of_choice value b s x = grind arith
 
-pub write-from : {S : Type 0} (value : S → ℤ) (d : S) (i : ℕ) (s : S) (k : ℕ) (xs : List S) (j m : ℕ) → m ≡ k + j
+write-from : {S : Type 0} (value : S → ℤ) (d : S) (i : ℕ) (s : S) (k : ℕ) (xs : List S) (j m : ℕ) → m ≡ k + j
     → j < length xs
     → list_coord value d (all_after_write i s k xs) j ≡ (if m == i then value s else list_coord value d xs j)
-write-from value d i s k [] j m e l = absurd (omega arith)
 write-from value d i s k (x ∷ xs) zero m e l =
     let e' : m ≡ k = omega arith in rw e' (value_of_choice value (k == i) s x)
 write-from value d i s k (x ∷ xs) (suc j) m e l = write-from value d i s (k + 1) xs j m (omega arith) (omega arith)
+write-from value d i s k [] j m e l = absurd (omega arith)
 
 -- a write changes the number at its place and no other
 pub tuple-with : {S : Type 0} (value : S → ℤ) (d : S) (xs : List S) (i : ℕ) (s : S) (j : ℕ) → j < length xs
@@ -36,12 +35,9 @@ module _ {S : Type 0} (value : S → ℤ) (of : ℤ → S) (low high : ℤ)
   forth : (n : ℕ) (zs : List ℤ) → length zs ≡ n → All (λ z. InRange low high z) zs
       → table n (λ i. value (of (slice_index_or zs i (pos 0)))) ≡ zs
   forth zero [] h r = refl
-  forth zero (z ∷ zs) h r = absurd (omega arith)
-  forth (suc n) [] h r = absurd (omega arith)
   forth (suc n) (z ∷ zs) h r =
-      let a : value (of z) ≡ z = law z (r 0 z (omega arith)) in
-      let ih : table n (λ i. value (of (slice_index_or zs i (pos 0)))) ≡ zs =
-      forth n zs (omega arith) (λ k e l. r (suc k) e (omega arith)) in cc
+      cc (law z (r 0 z (omega arith)), forth n zs (omega arith) (λ k e l. r (suc k) e (omega arith)))
+  forth n zs h r = absurd (omega arith)
 
   pub tuple-forth : (n : ℕ) (zs : List ℤ) → IsPoint low high n zs
       → table n (λ i. value (of (slice_index_or zs i (pos 0)))) ≡ zs
@@ -58,31 +54,18 @@ module _ {S : Type 0} (eq : S → S → Bool) (value : S → ℤ)
   equal-from : (b : Bool) (xs ys : List S) → length xs ≡ length ys
       → IsTrue (all_equal eq b xs ys) ↔ (IsTrue b × (map value xs ≡ map value ys))
   equal-from b [] [] h = ((λ t. (t, refl)), λ t. t.0)
-  equal-from b [] (y ∷ ys) h = absurd (omega arith)
-  equal-from b (x ∷ xs) [] h = absurd (omega arith)
   equal-from b (x ∷ xs) (y ∷ ys) h =
       let ih = equal-from (b && eq x y) xs ys (omega arith) in (
-        (λ t. let p = ih.0 t in
-            let q = and_parts b (eq x y) p.0 in
-            let e : value x ≡ value y = (law x y).0 q.1 in
-            let f : map value xs ≡ map value ys = p.1 in (q.0, cc)),
-        λ t. let e : value x ≡ value y = cc in
-            let f : map value xs ≡ map value ys = cc in
-            ih.1 (and_both b (eq x y) t.0 ((law x y).1 e), f),
+        (λ t. let p = ih.0 t in let q = and_parts b (eq x y) p.0 in (q.0, cc ((law x y).0 q.1, p.1))),
+        λ t. ih.1 (and_both b (eq x y) t.0 ((law x y).1 (cc)), cc),
       )
+  equal-from b xs ys h = absurd (omega arith)
 
   -- two tuples are equal exactly where their numbers are
   pub tuple-eq : (x y : S) (xs ys : List S) → length xs ≡ length ys
       → IsTrue (all_equal eq (eq x y) xs ys) ↔ (map value (x ∷ xs) ≡ map value (y ∷ ys))
   tuple-eq x y xs ys h =
-      let r = equal-from (eq x y) xs ys h in (
-        (λ t. let p = r.0 t in
-            let e : value x ≡ value y = (law x y).0 p.0 in
-            let f : map value xs ≡ map value ys = p.1 in cc),
-        λ t. let e : value x ≡ value y = cc in
-            let f : map value xs ≡ map value ys = cc in
-            r.1 ((law x y).1 e, f),
-      )
+      let r = equal-from true (x ∷ xs) (y ∷ ys) (omega arith) in ((λ t. (r.0 t).1), λ e. r.1 (refl, e))
 
   -- the same of a struct of three fields, whose derived test groups to the right
   pub triple-eq : (a b c x y z : S)

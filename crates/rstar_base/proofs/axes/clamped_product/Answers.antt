@@ -1,6 +1,7 @@
 use Rattle.std.proofs.Common.{◌≡◌, ◌∙◌, arith, refl, ap, pos, min, unsigned_abs}
 use Rattle.rstar_base.specs.Sums.{product_below}
-use Rattle.rstar_base.proofs.Measures.{clamped_times, product_below-more, one_clamped}
+use Rattle.rstar_base.proofs.Measures.{product_below-more, one_clamped}
+use Rattle.rstar_base.proofs.Squares.{clamped_times}
 use Rattle.rstar_base.proofs.axes.clamped_product.Goals as goal
 
 pub loop-i-init : goal.loop-i-init

@@ -1,4 +1,4 @@
-use Rattle.std.proofs.Common.{◌≡◌, ◌<◌, ◌∙◌, vec_len, refl, sym, subst}
+use Rattle.std.proofs.Common.{◌≡◌, ◌<◌, ◌∙◌, vec_len, sym, subst}
 use Rattle.std.specs.List.{refill}
 use Rattle.std.specs.List.Sorted.{IsPermutation}
 use Rattle.std.proofs.lemmas.List.Sorted.{length_permutation}
@@ -16,9 +16,6 @@ partition_envelopes-requires-clause-place g c = subst (λ n. c.args.k < n) (sym 
 
 pub returns-clause-same : goal.returns-clause-same
 returns-clause-same g c = subst (IsPermutation c.args.list.now.items) (sym (written g c)) (subst (λ l. IsPermutation l c.partition_envelopes.new.list) c.deref_mut.ensures.value c.partition_envelopes.ensures.same)
-
-pub returns-clause-len : goal.returns-clause-len
-returns-clause-len g c = refl
 
 pub returns-clause-split : goal.returns-clause-split
 returns-clause-split g c = subst (IsSplitAt (λ t. g.T.Envelope.Envelope.boxes.axis_key (g.T.RTreeObject.object.box_of t) c.args.axis) c.args.k) (sym (written g c)) c.partition_envelopes.ensures.split

@@ -3,7 +3,7 @@ use Rattle.std.specs.List.{AllByRecursion, insert, refill}
 use Rattle.std.specs.List.Sorted.{IsPermutation}
 use Rattle.std.proofs.lemmas.List.Sorted.{IsPermutation-insert, length_permutation}
 use Rattle.rstar_base.specs.SmallHeaps.{present, Rises}
-use Rattle.rstar_base.proofs.HeapParts.{all-insert, rises-options, rises-present, bag-inline}
+use Rattle.rstar_base.proofs.HeapParts.{all-insert, rises-same, bag-inline}
 use Rattle.rstar_base.proofs.Present.{refill-same}
 use Rattle.rstar_base.proofs.heap.put_inline.Goals as goal
 
@@ -17,38 +17,18 @@ put-back old put new at free x is there =
     let more = ap length is ∙ length-append old (free ∷ []) in
     refill-same (length put) put new (omega (arith, long, more)) ∙ there
 
-pub returns-clause-filled : goal.returns-clause-filled
-returns-clause-filled g c =
+pub returns : goal.returns
+returns g c =
     let old = c.args.inline.now.items in
     let item = Some c.args.item in
     let put = c.put_in_order.ensures old (c.as_mut_slice.ensures.value ∙ c.push.ensures.items) in
     let same = put-back old c.push.new.self.items c.put_in_order.new.items put.0 None item c.push.ensures.items put.1 in
-    record {
-      full = subst (AllByRecursion IsSome) (sym same) (all-insert IsSome old put.0 item c.requires.filled.full refl);
-      few = omega (arith, ap length same, length-put old put.0 item);
-    }
-
-pub returns-clause-rises : goal.returns-clause-rises
-returns-clause-rises g c =
-    let old = c.args.inline.now.items in
-    let item = Some c.args.item in
-    let put = c.put_in_order.ensures old (c.as_mut_slice.ensures.value ∙ c.push.ensures.items) in
-    let same = put-back old c.push.new.self.items c.put_in_order.new.items put.0 None item c.push.ensures.items put.1 in
+    let longer = ap length same ∙ length-put old put.0 item in
     let full = all-insert IsSome old put.0 item c.requires.filled.full refl in
-    let up = put.2 (rises-options g.T.Ord.cmp old c.requires.filled.full c.requires.rises) in
-    subst (λ l. Rises g.T.Ord.cmp (present l)) (sym same) (rises-present g.T.Ord.cmp (insert old put.0 item) full up)
-
-pub returns-clause-bag : goal.returns-clause-bag
-returns-clause-bag g c =
-    let old = c.args.inline.now.items in
-    let put = c.put_in_order.ensures old (c.as_mut_slice.ensures.value ∙ c.push.ensures.items) in
-    let same = put-back old c.push.new.self.items c.put_in_order.new.items put.0 None (Some c.args.item) c.push.ensures.items put.1 in
-    subst (λ l. IsPermutation (c.args.item ∷ present old) (present l)) (sym same) (bag-inline old put.0 c.args.item c.requires.filled.full)
-
-pub returns-clause-len : goal.returns-clause-len
-returns-clause-len g c =
-    let old = c.args.inline.now.items in
-    let item = Some c.args.item in
-    let put = c.put_in_order.ensures old (c.as_mut_slice.ensures.value ∙ c.push.ensures.items) in
-    let same = put-back old c.push.new.self.items c.put_in_order.new.items put.0 None item c.push.ensures.items put.1 in
-    ap length same ∙ length-put old put.0 item
+    let up = put.2 ((rises-same g.T.Ord.cmp old c.requires.filled.full).1 c.requires.rises) in
+    record {
+      filled = record { full = subst (AllByRecursion IsSome) (sym same) full; few = omega (arith, longer) };
+      rises = subst (λ l. Rises g.T.Ord.cmp (present l)) (sym same) ((rises-same g.T.Ord.cmp (insert old put.0 item) full).0 up);
+      bag = subst (λ l. IsPermutation (c.args.item ∷ present old) (present l)) (sym same) (bag-inline old put.0 c.args.item c.requires.filled.full);
+      len = longer;
+    }

@@ -1,5 +1,6 @@
 use Rattle.std.proofs.Common.{ℤ}
-use Rattle.rstar_base.proofs.SegmentLemmas.{sum_of_product, within_fits, none_fits, not_left}
+use Rattle.std.proofs.lemmas.Bool.{and_left}
+use Rattle.rstar_base.proofs.SegmentLemmas.{sum_of_product, within_fits, none_fits}
 use Rattle.rstar_base.proofs.segments.add_product.Goals as goal
 
 pub returns-in-Some : goal.returns-in-Some
@@ -12,4 +13,4 @@ returns-in-Some g c =
 pub returns-in-None : goal.returns-in-None
 returns-in-None g c =
     let h = g.met.S.CheckedMul.checked_mul_law _ _ _ c.in-None.ensures in
-    not_left _ _ (none_fits _ _ _ (λ p. h ((g.met.S.Bounded.bounds_law _ g.met.S.Integral.exact_law).1 p)))
+    and_left _ _ (none_fits _ _ _ (λ p. h ((g.met.S.Bounded.bounds_law _ g.met.S.Integral.exact_law).1 p)))

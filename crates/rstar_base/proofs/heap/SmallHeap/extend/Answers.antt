@@ -1,9 +1,9 @@
-use Rattle.std.proofs.Common.{◌≤◌, ◌++◌, ◌∷◌, [], length, ap, sym, subst, arith, rules, length-append, append-nil, append_assoc}
+use Rattle.std.proofs.Common.{◌++◌, ◌∷◌, [], length, ap, sym, subst, arith, rules, length-append, append-nil, append_assoc}
 use Rattle.std.specs.Iterator.{IsFinite, size}
 use Rattle.std.specs.BinaryHeap.{IsHeap}
 use Rattle.std.specs.List.Sorted.{IsPermutation}
 use Rattle.std.proofs.lemmas.List.Sorted.{IsPermutation-refl, IsPermutation-push_more}
-use Rattle.rstar_base.specs.SmallHeaps.{present, IsOrdered, items_of}
+use Rattle.rstar_base.specs.SmallHeaps.{present, items_of}
 use Rattle.rstar_base.proofs.Present.{length-present}
 use Rattle.rstar_base.proofs.HeapParts.{ordered-of, inline-of, rest-of}
 use Rattle.rstar_base.proofs.heap.SmallHeap.extend.Goals as goal
@@ -28,8 +28,8 @@ loop-item-init g c =
       can = subst g.I.Iterator.can_next same c.requires.items;
       finite = subst (λ i. IsFinite (g.I.Iterator.remaining i)) same c.len.ensures.finite;
       filled = c.self.invariant;
-      rises = inline-of g.T.Ord.cmp _ (subst (IsOrdered g.T.Ord.cmp) (sym c.self.view_is) c.requires.ordered);
-      heap = subst (IsHeap g.T.Ord.cmp) (sym c.reserve.ensures.items) (rest-of g.T.Ord.cmp _ (subst (IsOrdered g.T.Ord.cmp) (sym c.self.view_is) c.requires.ordered));
+      rises = inline-of g.T.Ord.cmp _ _ c.self.view_is c.requires.ordered;
+      heap = subst (IsHeap g.T.Ord.cmp) (sym c.reserve.ensures.items) (rest-of g.T.Ord.cmp _ _ c.self.view_is c.requires.ordered);
       bag = subst (λ r. IsPermutation (items_of c.args.self.now ++ []) (present c.self.inside.inline.items ++ r)) (sym c.reserve.ensures.items) (subst (λ h. IsPermutation (items_of h ++ []) (present c.self.inside.inline.items ++ c.self.inside.rest.items)) c.self.view_is
           (subst (λ l. IsPermutation l (present c.self.inside.inline.items ++ c.self.inside.rest.items)) (sym (append-nil (present c.self.inside.inline.items ++ c.self.inside.rest.items))) (IsPermutation-refl _)));
       room = omega arith;
@@ -57,22 +57,10 @@ loop-item-preserved g c =
       room = omega arith;
     }
 
-pub invariant_of-self-in-None : goal.invariant_of-self-in-None
-invariant_of-self-in-None g c = c.loop-item.invariant.filled
-
 pub returns-clause-ordered : goal.returns-clause-ordered
 returns-clause-ordered g c = ordered-of g.T.Ord.cmp _ c.loop-item.invariant.rises c.loop-item.invariant.heap
 
-pub overflow_sub-free : goal.overflow_sub-free
-overflow_sub-free g c = subst (λ n. n ≤ 32) (sym c.len-free.ensures.value) c.self.invariant.few
-
-pub invariant_of-self : goal.invariant_of-self
-invariant_of-self g c = c.self.invariant
-
 pub returns-in_err-reserve-clause-ordered : goal.returns-in_err-reserve-clause-ordered
 returns-in_err-reserve-clause-ordered g c =
-    let before = subst (IsOrdered g.T.Ord.cmp) (sym c.self.view_is) c.requires.ordered in
-    ordered-of g.T.Ord.cmp _ (inline-of g.T.Ord.cmp _ before) (subst (IsHeap g.T.Ord.cmp) (sym c.reserve.ensures.items) (rest-of g.T.Ord.cmp _ before))
-
-pub next-requires : goal.next-requires
-next-requires g c = c.loop-item.invariant.can
+    ordered-of g.T.Ord.cmp _ (inline-of g.T.Ord.cmp _ _ c.self.view_is c.requires.ordered)
+    (subst (IsHeap g.T.Ord.cmp) (sym c.reserve.ensures.items) (rest-of g.T.Ord.cmp _ _ c.self.view_is c.requires.ordered))

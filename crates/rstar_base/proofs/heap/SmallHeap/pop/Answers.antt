@@ -1,25 +1,25 @@
-use Rattle.std.proofs.Common.{◌≡◌, ◌<◌, IsSome, ◌++◌, ◌∷◌, [], List, Option, Some, None, IfSome, IfNone, slice_index_or, false, refl, ap, sym, subst, ◌∙◌}
+use Rattle.std.proofs.Common.{◌≡◌, ◌++◌, ◌∷◌, [], List, Option, Some, None, IfSome, IfNone, slice_index_or, false, refl, ap, sym, subst, ◌∙◌}
 use Rattle.std.specs.List.{AllByRecursion}
 use Rattle.std.specs.List.Sorted.{IsPermutation}
 use Rattle.std.specs.Ordering.{is_lt}
 use Rattle.std.specs.declared.cmp.Ordering.{Ordering}
 use Rattle.std.specs.BinaryHeap.{IsHeap, IsUpperBound}
-use Rattle.rstar_base.specs.SmallHeaps.{present, Rises, IsOrdered, items_of}
+use Rattle.rstar_base.specs.SmallHeaps.{present, Rises, items_of}
 use Rattle.rstar_base.proofs.HeapParts.{ordered-of, inline-of, rest-of, rises-front, bag-rest, bag-last, greatest-rest, greatest-last}
 use Rattle.rstar_base.proofs.heap.SmallHeap.pop.Given.{Over}
 use Rattle.rstar_base.proofs.heap.SmallHeap.pop.Goals as goal
 
 pub is_above_all-requires-clause-rises : goal.is_above_all-requires-clause-rises
-is_above_all-requires-clause-rises g c = subst (λ os. Rises g.T.Ord.cmp (present os)) (sym c.as_slice-2.ensures.value) (inline-of g.T.Ord.cmp _ (subst (IsOrdered g.T.Ord.cmp) (sym c.self.view_is) c.requires))
+is_above_all-requires-clause-rises g c = subst (λ os. Rises g.T.Ord.cmp (present os)) (sym c.as_slice-2.ensures.value) (inline-of g.T.Ord.cmp _ _ c.self.view_is c.requires)
 
 pub is_above_all-requires-clause-heap : goal.is_above_all-requires-clause-heap
-is_above_all-requires-clause-heap g c = subst (IsHeap g.T.Ord.cmp) (sym c.as_slice.ensures.value) (rest-of g.T.Ord.cmp _ (subst (IsOrdered g.T.Ord.cmp) (sym c.self.view_is) c.requires))
+is_above_all-requires-clause-heap g c = subst (IsHeap g.T.Ord.cmp) (sym c.as_slice.ensures.value) (rest-of g.T.Ord.cmp _ _ c.self.view_is c.requires)
 
 pub take_greatest-requires-clause-heap : goal.take_greatest-requires-clause-heap
-take_greatest-requires-clause-heap g c = rest-of g.T.Ord.cmp _ (subst (IsOrdered g.T.Ord.cmp) (sym c.self.view_is) c.requires)
+take_greatest-requires-clause-heap g c = rest-of g.T.Ord.cmp _ _ c.self.view_is c.requires
 
 pub returns-then-is_above_all-clause-ordered : goal.returns-then-is_above_all-clause-ordered
-returns-then-is_above_all-clause-ordered g c = ordered-of g.T.Ord.cmp _ (inline-of g.T.Ord.cmp _ (subst (IsOrdered g.T.Ord.cmp) (sym c.self.view_is) c.requires)) c.take_greatest.ensures.heap
+returns-then-is_above_all-clause-ordered g c = ordered-of g.T.Ord.cmp _ (inline-of g.T.Ord.cmp _ _ c.self.view_is c.requires) c.take_greatest.ensures.heap
 
 pub returns-then-is_above_all-clause-some : goal.returns-then-is_above_all-clause-some
 returns-then-is_above_all-clause-some g c = subst (λ h. IsPermutation (items_of h) (c.take_greatest.result ∷ (present c.self.inside.inline.items ++ c.take_greatest.new.rest.items))) c.self.view_is (bag-rest (present c.self.inside.inline.items) c.self.inside.rest.items c.take_greatest.new.rest.items c.take_greatest.result c.take_greatest.ensures.bag)
@@ -45,7 +45,7 @@ still-rises R None a c h n e = subst (λ l. Rises R (present l)) (sym n) tt
 still-rises R (Some x) a c h n e = rises-front R (present c) x (subst (Rises R) e h)
 
 inline-rises : (g : Over) (c : goal.After-take_last g) → Rises g.T.Ord.cmp (present c.self.inside.inline.items)
-inline-rises g c = inline-of g.T.Ord.cmp _ (subst (IsOrdered g.T.Ord.cmp) (sym c.self.view_is) c.requires)
+inline-rises g c = inline-of g.T.Ord.cmp _ _ c.self.view_is c.requires
 
 -- nothing lies inline, and so nothing at all
 nothing : (g : Over) (c : goal.After-take_last g) → c.self.inside.inline.items ≡ [] → present c.self.inside.inline.items ++ c.self.inside.rest.items ≡ []
@@ -54,7 +54,7 @@ nothing g c e =
     ap (λ l. present l ++ c.self.inside.rest.items) e ∙ rest
 
 pub returns-else-is_above_all-clause-ordered : goal.returns-else-is_above_all-clause-ordered
-returns-else-is_above_all-clause-ordered g c = ordered-of g.T.Ord.cmp _ (still-rises g.T.Ord.cmp c.take_last.result c.self.inside.inline.items c.take_last.new.inline.items (inline-rises g c) c.take_last.ensures.stays c.take_last.ensures.some) (rest-of g.T.Ord.cmp _ (subst (IsOrdered g.T.Ord.cmp) (sym c.self.view_is) c.requires))
+returns-else-is_above_all-clause-ordered g c = ordered-of g.T.Ord.cmp _ (still-rises g.T.Ord.cmp c.take_last.result c.self.inside.inline.items c.take_last.new.inline.items (inline-rises g c) c.take_last.ensures.stays c.take_last.ensures.some) (rest-of g.T.Ord.cmp _ _ c.self.view_is c.requires)
 
 pub returns-else-is_above_all-clause-none : goal.returns-else-is_above_all-clause-none
 returns-else-is_above_all-clause-none g c = untaken _ _ c.take_last.result c.take_last.ensures.none (λ e. subst (λ h. items_of h ≡ []) c.self.view_is (nothing g c e))
@@ -74,21 +74,3 @@ pub returns-else-is_above_all-clause-greatest : goal.returns-else-is_above_all-c
 returns-else-is_above_all-clause-greatest g c = taken _ c.take_last.result (present c.self.inside.inline.items) (present c.take_last.new.inline.items) c.take_last.ensures.some
     (λ x e. greatest-last g.T.Ord.cmp (present c.self.inside.inline.items) c.self.inside.rest.items (present c.take_last.new.inline.items) x (inline-rises g c) e
     (λ xs y d. subst (IsUpperBound g.T.Ord.cmp y) c.as_slice.ensures.value (c.if-is_above_all.ensures.below refl xs y (ap present c.as_slice-2.ensures.value ∙ d))))
-
-pub is_above_all-requires-clause-full : goal.is_above_all-requires-clause-full
-is_above_all-requires-clause-full g c = subst (AllByRecursion IsSome) (sym c.as_slice-2.ensures.value) c.self.invariant.full
-
-pub take_greatest-requires-clause-some : goal.take_greatest-requires-clause-some
-take_greatest-requires-clause-some g c = subst (λ n. 0 < n) c.as_slice.ensures.len (c.if-is_above_all.ensures.there refl)
-
-pub invariant_of-self : goal.invariant_of-self
-invariant_of-self g c = c.self.invariant
-
-pub invariant_of-self-else-is_above_all : goal.invariant_of-self-else-is_above_all
-invariant_of-self-else-is_above_all g c = c.take_last.ensures.filled
-
-pub returns-then-is_above_all-clause-none : goal.returns-then-is_above_all-clause-none
-returns-then-is_above_all-clause-none g c = tt
-
-pub returns-then-is_above_all-clause-stays : goal.returns-then-is_above_all-clause-stays
-returns-then-is_above_all-clause-stays g c = tt
