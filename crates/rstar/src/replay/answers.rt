@@ -1,22 +1,24 @@
 //! Commands that leave the tree as it is.
 
-ghost use Rattle.std.specs.Prelude.{◌≡◌, ◌≤◌, filter, map, IfOk};
+ghost use Rattle.std.specs.Prelude.{◌≡◌, ◌≤◌, ◌++◌, filter, map, IfOk, OnOk};
 ghost use Rattle.std.specs.List.Sorted.{IsPermutation};
 ghost use Rattle.rstar_base.specs.Points.{table};
 ghost use Rattle.rstar_base.specs.Selections.{IsLawful};
 ghost use Rattle.rstar.specs.declared.replay.Command.TheVariants.{Ask, Contains, Nearest, Neighbours, Join};
 ghost use Rattle.rstar.specs.Clones.{ClonesEqual};
 ghost use Rattle.rstar.specs.Joins.{join, meets_by, pairs_to_come, IsJoining};
-ghost use Rattle.rstar.specs.Selections.{IsWalking, to_come};
 ghost use Rattle.rstar.specs.Lists.{NoneEmpty, IsNotLater};
+ghost use Rattle.rstar.specs.Nodes.{all_given};
 ghost use Rattle.rstar.specs.Steps.{selects, IsFirstWith, AreFirstWith, Step, StepByOrder};
 ghost use Rattle.rstar.specs.Trees.{elements_in, IsWholeTree};
 
 use crate::algorithm::nearest_neighbor::{ElementOrder, first_nearest};
 use crate::bounds::{Covered, Meets, Question};
-use crate::iterators::{IntersectionIterator, SelectionIterator};
+use crate::iterators::IntersectionIterator;
+use crate::node::RTreeNode;
 use crate::replay::{Query, Reply, Scanned};
 use crate::rtree::RTree;
+use crate::visits::{Look, NodesRef, enters};
 use rstar_base::algorithm::selection_functions::{
     SelectAllFunc, SelectAtPointFunction, SelectInEnvelopeFuncIntersecting,
     SelectInEnvelopeFunction, SelectWithinDistanceFunction, SelectionFunction,
@@ -74,30 +76,44 @@ fn clones_of<T: RTreeObject + Clone, Func: SelectionFunction<T>, Params: RTreePa
     requires lawful { IsLawful T.Envelope.boxes T.object (Func.accepts func) (Func.selects func) }
     ensures { IfOk result (λ found. found.items ≡ filter (Func.selects func) (elements_in tree.now)) }
 {
-    clones_to_come(
-        *tree.root().children.allocator(),
-        tree.locate_with_selection_function(func)?,
-    )
+    let root = tree.root();
+    let alloc = *root.children.allocator();
+    if !enters(root, &func) {
+        return Ok(Vec::new(alloc));
+    }
+    let mut found = Vec::with_capacity(alloc, ROOM)?;
+    clones_below(root.children.as_slice(), &func, &mut found)?;
+    Ok(found)
 }
 
 /// The capacity that an answer starts with. Most answers are shorter and do not grow.
 const ROOM: usize = 32;
 
-/// Clones of the elements that an iterator has left.
-fn clones_to_come<'a, T: Covered + Clone, Func: Question<T>>(
-    alloc: Global,
-    walk: SelectionIterator<'a, T, Func>,
-) -> Result<Vec<T>, AllocError>
-    requires walking { IsWalking Func.accepts walk }
-    requires clones { ClonesEqual T.is_clone }
-    ensures { IfOk result (λ found. found.items ≡ to_come Func.accepts Func.selects walk.entry) }
+/// Appends clones of the selected elements below some nodes.
+fn clones_below<'a, T: Covered + Clone, Func: Question<T>>(
+    nodes: &'a [RTreeNode<T>],
+    func: &Func,
+    found: &mut Vec<T>,
+) -> Result<(), AllocError>
+    requires { ClonesEqual T.is_clone }
+    ensures { OnOk result (found.new.items
+        ≡ found.old.items ++ all_given (Func.accepts func.now) (Func.selects func.now) nodes.now) }
 {
-    let mut found = Vec::with_capacity(alloc, ROOM)?;
-    let mut items = walk;
-    while let Some(t) = items.next() {
-        found.push(t.clone()?)?;
+    let mut left = nodes;
+    loop {
+        match left.look(func) {
+            Look::End => return Ok(()),
+            Look::Give(t, rest) => {
+                found.push(t.clone()?)?;
+                left = rest;
+            }
+            Look::Pass(rest) => left = rest,
+            Look::Open(below, rest) => {
+                clones_below(below, func, found)?;
+                left = rest;
+            }
+        }
     }
-    Ok(found)
 }
 
 /// Whether an element equals this one.
