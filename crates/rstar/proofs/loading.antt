@@ -1,4 +1,3 @@
 -- Bulk loads.
 pub mod Depths
 pub mod Loads
-pub mod LoadedTrees

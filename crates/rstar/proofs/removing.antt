@@ -2,10 +2,7 @@
 pub mod Parts
 pub mod Scans
 pub mod Earliest
-pub mod TakenAt
 pub mod Gathered
 pub mod Removed
-pub mod DrainSteps
 pub mod TakenApart
-pub mod Popped
 pub mod PoppedByOrder

@@ -2,7 +2,6 @@
 pub mod Nearness
 pub mod Searches
 pub mod SearchTurns
-pub mod Openings
 pub mod ByOrder
 pub mod Seeking
 pub mod Ties

@@ -1,18 +1,19 @@
 -- The first elements in an order, as the first of all elements in such an order; with their clones.
-use Rattle.std.proofs.Common.{◌≡◌, ℕ, ℤ, pos, ◌+◌, ◌<◌, ◌≤◌, ◌⊎◌, inl, inr, Bool, true, false, List, [], ◌∷◌, ◌++◌, Some, None, refl, ap, sym, ◌∙◌, subst, arith, length, map, take, get_or, slice_get, append-nil}
+use Rattle.std.proofs.Common.{◌≡◌, ℕ, ℤ, pos, ◌+◌, ◌<◌, ◌≤◌, ◌⊎◌, inl, inr, List, [], ◌∷◌, ◌++◌, Some, None, refl, ap, sym, ◌∙◌, subst, arith, length, map, take, get_or, slice_get, append-nil}
 use Rattle.std.specs.Borrow.{Bor}
 use Rattle.std.specs.Cmp.{IsTotalOrder}
 use Rattle.std.specs.List.{AllByRecursion}
 use Rattle.std.specs.List.Sorted.{IsPermutation}
 use Rattle.std.specs.Ordering.{is_lt}
 use Rattle.std.specs.declared.cmp.Ordering.{Ordering}
-use lib.Dec.{leb}
 use Rattle.std.proofs.HeapSift as sifts
-use Rattle.std.proofs.lemmas.Bool.{leb-true, leb-false}
+use Rattle.std.proofs.lemmas.Bool.{cases_lt, cases_Bool}
 use Rattle.std.proofs.lemmas.Cmp.{nat_cmp_total, on_total, then_total}
-use Rattle.std.proofs.lemmas.List.{nil_from_length, map-append, take_all, take_more, take-append-le}
+use Rattle.std.proofs.lemmas.List.{nil_from_length, map-append, take_all, take-append-le}
 use Rattle.std.proofs.lemmas.List.Sorted.{IsPermutation-refl, IsPermutation-sym, IsPermutation-trans, IsPermutation-cons, IsPermutation-middle, IsPermutation-append_right, Contains-permutation, length_permutation}
+use Rattle.std.proofs.lemmas.Simd.{map-map}
 use Rattle.rstar_base.proofs.Lists.{all-append, all_along, all_map}
+use Rattle.rstar.proofs.trees.Clones.{next_item}
 use Rattle.rstar.specs.Lists.{AreOrdered, IsLeast, AreFirstOf, IsNotLater, by_distance}
 use Rattle.rstar.specs.Steps.{AreFirstWith}
 
@@ -30,13 +31,9 @@ module _ {T : Type 0} (distance : T → ℕ) where
 
     pub stated_ranks : Ranks (IsNotLater distance compare)
     stated_ranks = record {
-      any_two = λ t u. by_test t u (is_lt (by_distance distance compare u t)) refl;
+      any_two = λ t u. elim (cases_Bool (is_lt (by_distance distance compare u t))) [ inl e ↦ inr ((sifts.ranks stated_total).one_way u t e) | inr e ↦ inl e ];
       chain = λ t u v h k. (sifts.ranks stated_total).chain v u t k h;
     }
-      where
-        by_test : (t u : T) (b : Bool) → is_lt (by_distance distance compare u t) ≡ b → IsNotLater distance compare t u ⊎ IsNotLater distance compare u t
-        by_test t u true e = inr ((sifts.ranks stated_total).one_way u t e)
-        by_test t u false e = inl e
 
 order-append : {T : Type 0} (before : T → T → Type 0) (ts us : List T) → AreOrdered before ts → AreOrdered before us → AllByRecursion (λ t. AllByRecursion (before t) us) ts → AreOrdered before (ts ++ us)
 order-append before [] us h k least = k
@@ -46,15 +43,16 @@ module _ {T : Type 0} (before : T → T → Type 0) (ranks : Ranks before) where
   -- one element put into a list in order
   placed : (t : T) (us : List T) → AreOrdered before us → (vs : List T) × IsPermutation (t ∷ us) vs × AreOrdered before vs
   placed t [] h = (t ∷ [], IsPermutation-refl _, (tt, tt))
-  placed t (u ∷ us) h = by_test (placed t us h.1) (ranks.any_two t u)
-    where
-      by_test : (vs : List T) × IsPermutation (t ∷ us) vs × AreOrdered before vs → before t u ⊎ before u t → (vs : List T) × IsPermutation (t ∷ u ∷ us) vs × AreOrdered before vs
-      by_test rest (inl first) = (t ∷ u ∷ us, IsPermutation-refl _, ((first, all_map (before u) (before t) (λ v k. ranks.chain t u v first k) us h.0), h))
-      by_test rest (inr first) = (
-        u ∷ rest.0,
-        IsPermutation-trans _ _ _ (IsPermutation-middle (t ∷ []) u us) (IsPermutation-cons u (t ∷ us) rest.0 rest.1),
-        (all_along (before u) (t ∷ us) rest.0 rest.1 (first, h.0), rest.2),
-      )
+  placed t (u ∷ us) h =
+      let rest = placed t us h.1 in
+      elim (ranks.any_two t u) [
+        | inl first ↦ (t ∷ u ∷ us, IsPermutation-refl _, ((first, all_map (before u) (before t) (λ v k. ranks.chain t u v first k) us h.0), h))
+        | inr first ↦ (
+          u ∷ rest.0,
+          IsPermutation-trans _ _ _ (IsPermutation-middle (t ∷ []) u us) (IsPermutation-cons u (t ∷ us) rest.0 rest.1),
+          (all_along (before u) (t ∷ us) rest.0 rest.1 (first, h.0), rest.2),
+        )
+      ]
 
   ordered : (ts : List T) → (us : List T) × IsPermutation ts us × AreOrdered before us
   ordered [] = ([], IsPermutation-refl [], tt)
@@ -65,28 +63,12 @@ module _ {T : Type 0} (before : T → T → Type 0) (ranks : Ranks before) where
 
 -- ---- so many of them, or all, with their distances
 
-first-taken : {T : Type 0} (k : ℕ) (ts others : List T) → length ts ≤ k → (length ts < k → others ≡ []) → (b : Bool) → leb k (length ts) ≡ b → ts ≡ take k (ts ++ others)
-first-taken k ts others few enough true e =
-    let le = leb-true k (length ts) e in
-    sym (take-append-le k ts others (omega (arith, le)) ∙ take_all k ts (omega (arith, few)))
-first-taken k ts others few enough false e =
-    let less = leb-false k (length ts) e in
-    sym (ap (λ l. take k (ts ++ l)) (enough (omega (arith, less))) ∙ ap (take k) (append-nil ts) ∙ take_all k ts (omega (arith, few)))
-
-module _ {T S : Type 0} (before : T → T → Type 0) (ranks : Ranks before) (distance : T → ℕ) (value : S → ℤ) (all : List T) where
-  first-of : (k : ℕ) (ns : List (T × S)) → AreFirstOf before all k (map (λ n. n.0) ns) → AllByRecursion (λ n. value n.1 ≡ pos (distance n.0)) ns → AreFirstWith before distance value k all ns
-  first-of k ns first at =
-      let rest = ordered before ranks first.left in
-      let ts = map (λ (n : T × S). n.0) ns in
-      let none : length ts < k → rest.0 ≡ [] = λ less. nil_from_length rest.0 (length_permutation _ _ rest.1 ∙ ap length (first.enough less)) in
-      record {
-        order = ts ++ rest.0;
-        bag = IsPermutation-trans _ _ _ first.first.bag (IsPermutation-append_right ts first.left rest.0 rest.1);
-        rising = order-append before ts rest.0 first.first.order rest.2
-            (all_map _ _ (λ t. all_along (before t) first.left rest.0 rest.1) ts first.first.least);
-        first = first-taken k ts rest.0 first.few none (leb k (length ts)) refl;
-        distances = at;
-      }
+first-taken : {T : Type 0} (k : ℕ) (ts others : List T) → length ts ≤ k → (length ts < k → others ≡ []) → ts ≡ take k (ts ++ others)
+first-taken k ts others few enough =
+    elim (cases_lt (length ts) k) [
+      | inl less ↦ sym (ap (λ l. take k (ts ++ l)) (enough less) ∙ ap (take k) (append-nil ts) ∙ take_all k ts few)
+      | inr le ↦ sym (take-append-le k ts others le ∙ take_all k ts few)
+    ]
 
 -- ---- their clones
 
@@ -99,18 +81,11 @@ module _ {T S : Type 0} where
   pub clone-more : (found items : List (Bor T × S)) (k : ℕ) (n : Bor T × S) (t : T) (before after : List (T × S)) → items ≡ found → k < length items → n ≡ get_or items k n → t ≡ n.0.now
       → before ≡ map lent (take k found) → after ≡ before ++ (t, n.1) ∷ [] → after ≡ map lent (take (k + 1) found)
   clone-more found items k n t before after same below is clone was put =
-      let here : k < length found = rw same at below in
-      let at : n ≡ get_or found k n = rw same at is in
-      let more : take (k + 1) found ≡ take k found ++ n ∷ [] = take_more found k n here ∙ ap (λ u. take k found ++ u ∷ []) (sym at) in
-      put ∙ ap (λ l. l ++ (t, n.1) ∷ []) was ∙ ap (λ (u : T). map lent (take k found) ++ (u, n.1) ∷ []) clone ∙ sym (map-append lent (take k found) (n ∷ [])) ∙ ap (map lent) (sym more)
+      rw (put, was, next_item found items k n same below is, map-append lent (take k found) (n ∷ [])) (ap (λ (u : T). map lent (take k found) ++ (u, n.1) ∷ []) clone)
 
   -- the clones of all
   pub clones-whole : (found items : List (Bor T × S)) (k : ℕ) (clones : List (T × S)) → items ≡ found → length items ≤ k → clones ≡ map lent (take k found) → clones ≡ map lent found
   clones-whole found items k clones same ended is = let all : length found ≤ k = rw same at ended in is ∙ ap (map lent) (take_all k found all)
-
-  elements-lent : (ns : List (Bor T × S)) → map (λ (n : T × S). n.0) (map lent ns) ≡ map (λ (n : Bor T × S). n.0.now) ns
-  elements-lent [] = refl
-  elements-lent (n ∷ ns) = ap (λ (l : List T). n.0.now ∷ l) (elements-lent ns)
 
   distances-lent : (distance : T → ℕ) (value : S → ℤ) (ns : List (Bor T × S)) → AllByRecursion (λ n. value n.1 ≡ pos (distance n.0.now)) ns → AllByRecursion (λ (n : T × S). value n.1 ≡ pos (distance n.0)) (map lent ns)
   distances-lent distance value [] h = tt
@@ -122,8 +97,17 @@ module _ {T S : Type 0} (before : T → T → Type 0) (ranks : Ranks before) (di
   pub first-clones : (k : ℕ) (found : List (Bor T × S)) (clones : List (T × S)) → clones ≡ map lent found
       → AreFirstOf before all k (map (λ n. n.0.now) found) → AllByRecursion (λ n. value n.1 ≡ pos (distance n.0.now)) found → AreFirstWith before distance value k all clones
   first-clones k found clones is first at =
-      subst (AreFirstWith before distance value k all) (sym is)
-      (first-of before ranks distance value all k (map lent found) (subst (AreFirstOf before all k) (sym (elements-lent found)) first) (distances-lent distance value found at))
+      let rest = ordered before ranks first.left in
+      let ts = map (λ (n : Bor T × S). n.0.now) found in
+      let none : length ts < k → rest.0 ≡ [] = λ less. nil_from_length rest.0 (length_permutation _ _ rest.1 ∙ ap length (first.enough less)) in
+      subst (AreFirstWith before distance value k all) (sym is) (record {
+        order = ts ++ rest.0;
+        bag = IsPermutation-trans _ _ _ first.first.bag (IsPermutation-append_right ts first.left rest.0 rest.1);
+        rising = order-append before ts rest.0 first.first.order rest.2
+            (all_map _ _ (λ t. all_along (before t) first.left rest.0 rest.1) ts first.first.least);
+        first = map-map (λ (n : T × S). n.0) lent found ∙ first-taken k ts rest.0 first.few none;
+        distances = distances-lent distance value found at;
+      })
 
   itself : (t : T) → before t t
   itself t = elim (ranks.any_two t t) [ inl h ↦ h | inr h ↦ h ]

@@ -1,12 +1,12 @@
 -- Commands over a tree: what its calls give is what a step may give, and a run goes on by one step.
-use Rattle.std.proofs.Common.{◌≡◌, ℕ, ◌+◌, ◌<◌, ◌≤◌, min, Bool, true, false, List, [], ◌∷◌, ◌++◌, refl, ap, sym, ◌∙◌, subst, arith, length, length-append, filter, Option, Some, None, IfSome, IfNone, if◌then◌else◌, append_assoc, append-nil}
-use lib.Dec.{leb}
-use Rattle.std.proofs.lemmas.Bool.{leb-true, leb-false}
+use Rattle.std.proofs.Common.{◌≡◌, ℕ, ◌+◌, ◌<◌, ◌≤◌, inl, inr, min, Bool, true, List, [], ◌∷◌, ◌++◌, refl, ap, sym, ◌∙◌, subst, arith, length, length-append, filter, Option, Some, None, IfSome, IfNone, if◌then◌else◌, append_assoc, append-nil}
+use Rattle.std.proofs.lemmas.Bool.{cases_lt}
 use Rattle.std.proofs.lemmas.Grind.{common_steps}
 use Rattle.std.specs.List.{AllByRecursion}
 use Rattle.std.specs.List.Sorted.{IsPermutation}
 use Rattle.std.specs.declared.cmp.Ordering.{Ordering}
 use Rattle.std.proofs.lemmas.List.Elements.{filter-append}
+use Rattle.std.proofs.lemmas.List.Sums.{length-filter, count_by-le-length}
 use Rattle.std.proofs.lemmas.List.Sorted.{IsPermutation-refl, IsPermutation-map, IsPermutation-append, length_permutation}
 use Rattle.rstar_base.specs.Envelopes.{Boxes}
 use Rattle.rstar_base.specs.Elements.{Objects}
@@ -46,54 +46,28 @@ module _ {T : Type 0} (test : T → Bool) where
   filter_nothing [] h = refl
   filter_nothing (t ∷ ts) h = subst (λ b. (if b then t ∷ filter test ts else filter test ts) ≡ []) (sym h.0) (filter_nothing ts h.1)
 
-  filter_shorter : (ts : List T) → length (filter test ts) ≤ length ts
-  filter_shorter [] = omega arith
-  filter_shorter (t ∷ ts) = by_test (test t) (filter_shorter ts)
-    where
-      by_test : (b : Bool) → length (filter test ts) ≤ length ts → length (if b then t ∷ filter test ts else filter test ts) ≤ length (t ∷ ts)
-      by_test true le = omega (arith, le)
-      by_test false le = omega (arith, le)
-
-  -- so many as were selected of the old list: those taken, and those that are left
-  selected_in : (old taken new : List T) → IsPermutation old (taken ++ new) → AllByRecursion (λ t. test t ≡ true) taken → length (filter test old) ≡ length taken + length (filter test new)
-  selected_in old taken new bag all =
-      sym (length_permutation _ _ (filter-along test old (taken ++ new) bag)) ∙ ap length (filter-append test taken new ∙ ap (λ l. l ++ filter test new) (filter_every taken all)) ∙ length-append taken (filter test new)
-
-  -- n were taken out, or room was made for all of a shorter list, and what is left has none where fewer were taken
-  pub takes_some : (n : ℕ) (old taken new : List T) → IsPermutation old (taken ++ new) → AllByRecursion (λ t. test t ≡ true) taken → length taken ≤ min n (length old)
-      → (length taken < min n (length old) → NoneSelected test new) → TakesSome test n old taken new
-  takes_some n old taken new bag all few ended = record {
-    bag = bag;
-    selected = all;
-    count = by_test (leb (length taken + 1) (min n (length old))) refl;
-  }
-    where
-      whole : length old ≡ length taken + length new
-      whole = sym (length_permutation _ _ bag) ∙ length-append taken new
-
-      all_in : length (filter test old) ≡ length taken + length (filter test new)
-      all_in = selected_in old taken new bag all
-
-      by_test : (b : Bool) → leb (length taken + 1) (min n (length old)) ≡ b → length taken ≡ min n (length (filter test old))
-      by_test true e =
-          let less = leb-true (length taken + 1) (min n (length old)) e in
-          let nothing = ap length (filter_nothing new (ended (omega (arith, less)))) in
-          let a = few in let b = all_in in omega (arith, less, nothing, a, b)
-      by_test false e =
-          let more = leb-false (length taken + 1) (min n (length old)) e in
-          let a = few in let b = all_in in let d = whole in let f = filter_shorter new in omega (arith, more, a, b, d, f)
-
--- the same of what went to an empty list with room for all of a shorter one, by the names of its caller
+-- what went to an empty list with room for n, or for all of a shorter list, where what is left has none if fewer went; by the names of its caller
 pub gathered_some : {T : Type 0} (test : T → Bool) (most room size : ℕ) (old held new held' items : List T) → held ≡ [] → room ≡ min most size → size ≡ length old
     → Gathers test room old held new held' → (length held' < room → NoneSelected test new) → items ≡ held' → TakesSome test most old items new
 gathered_some test most room size old held new held' items none is_room is_size moved ended same =
-    let wide : room ≡ min most (length old) = is_room ∙ ap (min most) is_size in
-    let all : held' ≡ moved.more = moved.held_more ∙ ap (λ l. l ++ moved.more) none in
-    let nothing = ap length none in
-    subst (λ l. TakesSome test most old l new) (sym (same ∙ all))
-    (takes_some test most old moved.more new moved.bag moved.selected
-    (subst (λ n. length moved.more ≤ n) wide (subst (λ l. length l ≤ room) all (moved.few (omega (arith, nothing)))))
-    (subst (λ n. length moved.more < n → NoneSelected test new) wide (subst (λ l. length l < room → NoneSelected test new) all ended)))
+    let more = moved.more in
+    let all : held' ≡ more = moved.held_more ∙ ap (λ l. l ++ more) none in
+    let long = ap length all in
+    let empty = ap length none in
+    let few = moved.few (omega (arith, empty)) in
+    let whole : length old ≡ length more + length new = sym (length_permutation _ _ moved.bag) ∙ length-append more new in
+    -- so many as were selected of the old list: those taken, and those that are left
+    let counted : length (filter test old) ≡ length more + length (filter test new) =
+    sym (length_permutation _ _ (filter-along test old (more ++ new) moved.bag)) ∙ ap length (filter-append test more new ∙ ap (λ l. l ++ filter test new) (filter_every test more moved.selected)) ∙ length-append more (filter test new) in
+    let shorter : length (filter test new) ≤ length new = rw (length-filter test new) (count_by-le-length test new) in
+    subst (λ l. TakesSome test most old l new) (sym (same ∙ all)) (record {
+      bag = moved.bag;
+      selected = moved.selected;
+      count = elim (cases_lt (length held') room) [
+        | inl less ↦ let nothing = ap length (filter_nothing test new (ended less)) in omega (arith, less, nothing, few, counted, long, is_room, is_size)
+        | inr full ↦ omega (arith, full, few, counted, whole, shorter, long, is_room, is_size)
+      ];
+    })
 
 -- ---- pairs
 
@@ -119,12 +93,9 @@ module _ {T D E P S X : Type 0} (v : Boxes E) (o : Objects T E) (max reinserted 
   one_step old new c r other step whole kept = record {
     answered = step;
     whole = whole;
-    refused = λ is. unchanged (kept is);
+    refused = λ is. subst (λ (tree : RTree T D E P S X). IsUnchanged old tree) (sym (kept is)) (record { shown = refl; size = refl; elements = refl; envelopes = refl });
     too_many = (λ is. absurd (other (insertion_alone q compare (elements_in old) (elements_in new) c (subst (λ s. StepByOrder q compare (elements_in old) c s (elements_in new)) is step))), λ both. absurd (other both.0));
   }
-    where
-      unchanged : new ≡ old → IsUnchanged old new
-      unchanged e = subst (λ (tree : RTree T D E P S X). IsUnchanged old tree) (sym e) (record { shown = refl; size = refl; elements = refl; envelopes = refl })
 
 -- ---- runs
 
@@ -141,19 +112,11 @@ module _ {A C R : Type 0} (step : A → C → R → A → Type 0) where
 
   -- one step more
   pub run_more : (old mid new : A) (cs : List C) (rs : List R) (c : C) (r : R) → RunsTo old cs rs mid → step mid c r new → RunsTo old (cs ++ c ∷ []) (rs ++ r ∷ []) new
-  run_more old mid new cs rs c r runs one = λ more answers last run.
-      subst (λ (ds : List C). Runs old ds ((rs ++ r ∷ []) ++ answers) last) (sym (append_assoc cs (c ∷ []) more))
-      (subst (λ (ss : List R). Runs old (cs ++ c ∷ more) ss last) (sym (append_assoc rs (r ∷ []) answers))
-      (runs (c ∷ more) (r ∷ answers) last (new, one, run)))
+  run_more old mid new cs rs c r runs one = λ more answers last run. rw (append_assoc cs (c ∷ []) more, append_assoc rs (r ∷ []) answers) (runs (c ∷ more) (r ∷ answers) last (new, one, run))
 
-  -- at the end
-  run_done : (old new : A) (cs : List C) (rs : List R) → RunsTo old cs rs new → Runs old cs rs new
-  run_done old new cs rs runs =
-      subst (λ (ds : List C). Runs old ds rs new) (append-nil cs) (subst (λ (ss : List R). Runs old (cs ++ []) ss new) (append-nil rs) (runs [] [] new refl))
-
-  -- the same where commands come from a list of which none is left
+  -- at the end, where commands come from a list of which none is left
   pub run_whole : (old new : A) (cs rest all : List C) (rs : List R) → cs ++ rest ≡ all → length rest ≡ 0 → RunsTo old cs rs new → Runs old all rs new
-  run_whole old new cs rest all rs are none runs = subst (λ (ds : List C). Runs old ds rs new) (none_left cs rest all are none) (run_done old new cs rs runs)
+  run_whole old new cs rest all rs are none runs = rw (append-nil cs, append-nil rs, none_left cs rest all are none) at (runs [] [] new refl)
 
 -- a run by such steps is one by steps of another kind over what a state shows, where each of them is one
 pub run_shown : {A B C R : Type 0} (show : A → B) (same : A → A → Type 0) (alike : B → B → Type 0) (step : A → C → R → A → Type 0) (other : B → C → R → B → Type 0)

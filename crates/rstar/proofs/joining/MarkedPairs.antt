@@ -1,10 +1,11 @@
 -- Items that are marked by the binary digits of a number.
-use Rattle.std.proofs.Common.{◌≡◌, ℕ, zero, suc, ◌+◌, ◌-◌, ◌*◌, ◌/◌, ◌%◌, ◌^◌, ◌<◌, ◌≤◌, ◌==◌, min, Bool, true, false, if◌then◌else◌, List, [], ◌∷◌, ◌++◌, length, map, filter, drop, refl, sym, ap, ap₂, ◌∙◌, arith, subst, append-nil, append_assoc, length-append, take, mod-lt, zero-lt-suc, pow-suc, pow_mono}
+use Rattle.std.proofs.Common.{◌≡◌, ℕ, zero, suc, ◌+◌, ◌-◌, ◌*◌, ◌/◌, ◌%◌, ◌^◌, ◌<◌, ◌≤◌, ◌==◌, min, Bool, true, false, if◌then◌else◌, List, [], ◌∷◌, ◌++◌, length, map, filter, drop, get_or, refl, sym, ap, ap₂, ◌∙◌, arith, subst, append-nil, append_assoc, length-append, take, mod-lt, zero-lt-suc, pow-suc, pow_mono}
 use lib.Bits.{bit_and, and_step, and_self}
 use lib.Count.{count_trailing_zeros, under}
-use Rattle.std.proofs.lemmas.List.{take_all, length-drop, length-map, drop-append-le, drop-map}
-use Rattle.std.proofs.Math.Seq.{drop-append-add}
-use Rattle.std.proofs.Math.Nat.{zero-mul, one-mul, add-mul, zero-add, mul-le-mul_right}
+use Rattle.std.proofs.lemmas.List.{take_rest, length-take, length-drop, length-map, map-append, get_or_append_left, get_or-append-add, get_or-map, get_or-drop, nil_from_length}
+use Rattle.std.proofs.lemmas.Nat.{div-add-mod'}
+use Rattle.std.proofs.lemmas.Simd.{map-map}
+use Rattle.std.proofs.Math.Nat.{zero-add, mul-le-mul_right}
 use Rattle.rstar.specs.Lists.{product}
 use Rattle.rstar.specs.inside.PairWalks.{marked_items, with_marks, IsFirstPair}
 use Rattle.rstar.proofs.joining.PairsByChildren.{the_pair}
@@ -18,12 +19,27 @@ twice-fits : (marks n : ℕ) (b : Bool) → marks < 2 ^ n → (if b then 1 else 
 twice-fits marks n true h = omega (arith, h, pow-suc 2 n)
 twice-fits marks n false h = omega (arith, h, pow-suc 2 n)
 
+with_marks-fit : (bs : List Bool) (marks n : ℕ) → marks < 2 ^ n → with_marks bs marks < 2 ^ (length bs + n)
+with_marks-fit [] marks n h = subst (λ k. marks < 2 ^ k) (sym (zero-add n)) h
+with_marks-fit (b ∷ bs) marks n h =
+    let longer : suc (length bs + n) ≡ suc (length bs) + n = omega arith in
+    subst (λ k. (if b then 1 else 0) + 2 * with_marks bs marks < 2 ^ k) longer (twice-fits (with_marks bs marks) (length bs + n) b (with_marks-fit bs marks n h))
+
 pub marked-zero : {A : Type 0} (xs : List A) → marked_items 0 xs ≡ []
 marked-zero [] = refl
 marked-zero (x ∷ xs) = marked-zero xs
 
 abbrev with_digit : {A : Type 0} → ℕ → A → List A → List A
 with_digit d x rest = if d == 1 then x ∷ rest else rest
+
+-- the lowest digit is taken away
+cleared : {A : Type 0} (m z : ℕ) (x : A) (xs : List A) → 0 < m → bit_and (m / 2) ((m - 1) / 2) ≡ z → marked_items (bit_and m (m - 1)) (x ∷ xs) ≡ marked_items z xs
+cleared m z x xs some half =
+    let low : min (m % 2) ((m - 1) % 2) ≡ 0 = omega arith in
+    let is : bit_and m (m - 1) ≡ z * 2 + 0 = and_step m (m - 1) ∙ ap₂ (λ u v. u * 2 + v) half low in
+    let p : bit_and m (m - 1) % 2 ≡ 0 = omega arith in
+    let q : bit_and m (m - 1) / 2 ≡ z = omega arith in
+    ap₂ (λ u v. with_digit u x (marked_items v xs)) p q
 
 module _ {A : Type 0} where
   -- the place of the lowest digit lies behind the items
@@ -34,113 +50,82 @@ module _ {A : Type 0} where
   marked-none (suc k) m (x ∷ xs) long = digit (λ d. length (x ∷ xs) ≤ under d (count_trailing_zeros k (m / 2)) → with_digit d x (marked_items (m / 2) xs) ≡ [])
       (λ h. marked-none k (m / 2) xs (omega (arith, h))) (λ h. absurd (omega (arith, h))) (m % 2) (mod-lt m (zero-lt-suc 1)) long
 
-  abbrev Goal : ℕ → ℕ → A → List A → ℕ → Type 0
-  Goal k m x xs d = under d (count_trailing_zeros k (m / 2)) < length (x ∷ xs)
-      → (first : A) × (behind : List A) × (drop (under d (count_trailing_zeros k (m / 2))) (x ∷ xs) ≡ first ∷ behind) × (with_digit d x (marked_items (m / 2) xs) ≡ first ∷ marked_items (bit_and m (m - 1)) (x ∷ xs))
+  abbrev Goal : ℕ → ℕ → A → List A → A → ℕ → Type 0
+  Goal k m x xs d b = under b (count_trailing_zeros k (m / 2)) < length (x ∷ xs)
+      → with_digit b x (marked_items (m / 2) xs) ≡ get_or (x ∷ xs) (under b (count_trailing_zeros k (m / 2))) d ∷ marked_items (bit_and m (m - 1)) (x ∷ xs)
 
-  first-marked : (k m : ℕ) (xs : List A) → 0 < m → m < 2 ^ k → count_trailing_zeros k m < length xs
-      → (first : A) × (behind : List A) × (drop (count_trailing_zeros k m) xs ≡ first ∷ behind) × (marked_items m xs ≡ first ∷ marked_items (bit_and m (m - 1)) xs)
+  first-marked : (k m : ℕ) (xs : List A) (d : A) → 0 < m → m < 2 ^ k → count_trailing_zeros k m < length xs
+      → marked_items m xs ≡ get_or xs (count_trailing_zeros k m) d ∷ marked_items (bit_and m (m - 1)) xs
   unfolding count_trailing_zeros
-  first-marked k m [] some h short = absurd (omega (arith, short))
-  first-marked zero m (x ∷ xs) some h short = absurd (omega (arith, some, h))
-  first-marked (suc k) m (x ∷ xs) some h short = digit (λ d. m % 2 ≡ d → Goal k m x xs d) (even (first-marked k (m / 2) xs)) odd (m % 2) (mod-lt m (zero-lt-suc 1)) refl short where
-    odd : m % 2 ≡ 1 → Goal k m x xs 1
-    odd e s =
-        let y = bit_and m (m - 1) in
-        let half : (m - 1) / 2 ≡ m / 2 = omega arith in
-        let low : min (m % 2) ((m - 1) % 2) ≡ 0 = omega arith in
-        let is : y ≡ m / 2 * 2 + 0 = and_step m (m - 1) ∙ ap₂ (λ u v. u * 2 + v) (ap (bit_and (m / 2)) half ∙ and_self (m / 2)) low in
-        let p : y % 2 ≡ 0 = omega arith in
-        let q : y / 2 ≡ m / 2 = omega arith in
-        (x, xs, refl, ap (λ l. x ∷ l) (sym (ap₂ (λ u v. with_digit u x (marked_items v xs)) p q)))
+  first-marked k m [] d some h short = absurd (omega (arith, short))
+  first-marked zero m (x ∷ xs) d some h short = absurd (omega (arith, some, h))
+  first-marked (suc k) m (x ∷ xs) d some h short = digit (λ b. m % 2 ≡ b → Goal k m x xs d b) (even (first-marked k (m / 2) xs d)) odd (m % 2) (mod-lt m (zero-lt-suc 1)) refl short where
+    odd : m % 2 ≡ 1 → Goal k m x xs d 1
+    odd e s = let half : (m - 1) / 2 ≡ m / 2 = omega arith in ap (λ l. x ∷ l) (sym (cleared m (m / 2) x xs some (ap (bit_and (m / 2)) half ∙ and_self (m / 2))))
 
     even : (0 < m / 2 → m / 2 < 2 ^ k → count_trailing_zeros k (m / 2) < length xs
-        → (first : A) × (behind : List A) × (drop (count_trailing_zeros k (m / 2)) xs ≡ first ∷ behind) × (marked_items (m / 2) xs ≡ first ∷ marked_items (bit_and (m / 2) (m / 2 - 1)) xs)) → m % 2 ≡ 0 → Goal k m x xs 0
+        → marked_items (m / 2) xs ≡ get_or xs (count_trailing_zeros k (m / 2)) d ∷ marked_items (bit_and (m / 2) (m / 2 - 1)) xs) → m % 2 ≡ 0 → Goal k m x xs d 0
     even rest e s =
-        let y = bit_and m (m - 1) in
         let half : (m - 1) / 2 ≡ m / 2 - 1 = omega arith in
-        let low : min (m % 2) ((m - 1) % 2) ≡ 0 = omega arith in
-        let z = bit_and (m / 2) (m / 2 - 1) in
-        let is : y ≡ z * 2 + 0 = and_step m (m - 1) ∙ ap₂ (λ u v. u * 2 + v) (ap (bit_and (m / 2)) half) low in
-        let p : y % 2 ≡ 0 = omega arith in
-        let q : y / 2 ≡ z = omega arith in
-        let below = rest (omega arith) (omega (arith, pow-suc 2 k)) (omega (arith, s)) in
-        (below.0, below.1, below.2, below.3 ∙ ap (λ l. below.0 ∷ l) (sym (ap₂ (λ u v. with_digit u x (marked_items v xs)) p q)))
+        rest (omega arith) (omega (arith, pow-suc 2 k)) (omega (arith, s))
+        ∙ ap (λ l. get_or xs (count_trailing_zeros k (m / 2)) d ∷ l) (sym (cleared m (bit_and (m / 2) (m / 2 - 1)) x xs some (ap (bit_and (m / 2)) half)))
 
 -- ---- pairs, row by row
 
-one-more : (k n : ℕ) → suc k * n ≡ n + k * n
-one-more k n = ap (λ m. m * n) (omega arith) ∙ add-mul 1 k n ∙ ap (λ m. m + k * n) (one-mul n)
-
-pub length-product : {A B : Type 0} (xs : List A) (ys : List B) → length (product xs ys) ≡ length xs * length ys
-length-product [] ys = sym (zero-mul (length ys))
+length-product : {A B : Type 0} (xs : List A) (ys : List B) → length (product xs ys) ≡ length xs * length ys
+length-product [] ys = omega arith
 length-product {A} {B} (x ∷ xs) ys =
-    let a = length-append (map (λ y. the_pair x y) ys) (product xs ys) in let b = length-map ys (λ y. the_pair x y) in let c = length-product xs ys in
-    let d : length (x ∷ xs) * length ys ≡ length ys + length xs * length ys = one-more (length xs) (length ys) in
-    omega (arith, a, b, c, d)
+    omega (arith, length-append (map (λ y. the_pair x y) ys) (product xs ys), length-map ys (λ y. the_pair x y), length-product xs ys)
 
--- where two items stand, their pair stands
-drop-product : {A B : Type 0} (i j : ℕ) (xs : List A) (ys : List B) (x : A) (y : B) (below : List A) (behind : List B) → drop i xs ≡ x ∷ below → drop j ys ≡ y ∷ behind
-    → (rest : List (A × B)) × (drop (i * length ys + j) (product xs ys) ≡ the_pair x y ∷ rest)
-drop-product zero j [] ys x y below behind is is' = let e = ap length is in absurd (omega (arith, e))
-drop-product zero j (x' ∷ xs) ys x y below behind is is' =
-    let short : j ≤ length ys = (let a = ap length is' in let b = length-drop j ys in omega (arith, a, b)) in
-    let same : x' ≡ x = cc in
-    let long = length-map ys (λ y. the_pair x' y) in
-    let n = length ys in
-    let none : 0 * n + j ≡ j = ap (λ k. k + j) (zero-mul n) ∙ zero-add j in (
-      map (λ y. the_pair x y) behind ++ product xs ys,
-      ap (λ k. drop k (product (x' ∷ xs) ys)) none ∙ drop-append-le j (map (λ y. the_pair x' y) ys) (product xs ys) (omega (arith, short, long))
-          ∙ ap (λ l. l ++ product xs ys) (drop-map (λ y. the_pair x' y) j ys ∙ ap (map (λ y. the_pair x' y)) is')
-          ∙ ap (λ z. map (λ y. the_pair z y) (y ∷ behind) ++ product xs ys) same,
-    )
-drop-product (suc i) j [] ys x y below behind is is' = let e = ap length is in absurd (omega (arith, e))
-drop-product (suc i) j (x' ∷ xs) ys x y below behind is is' =
-    let rest = drop-product i j xs ys x y below behind is is' in
-    let long = length-map ys (λ y. the_pair x' y) in
-    let n = length ys in
-    let split : suc i * n ≡ n + i * n = one-more i n in
-    let place : suc i * n + j ≡ length (map (λ y. the_pair x' y) ys) + (i * n + j) = omega (arith, long, split) in
-    (rest.0, ap (λ k. drop k (product (x' ∷ xs) ys)) place ∙ drop-append-add (map (λ y. the_pair x' y) ys) (product xs ys) (i * n + j) ∙ rest.1)
+-- the pair at two places
+pair-at : {A B : Type 0} (i j : ℕ) (xs : List A) (ys : List B) (x : A) (y : B) → i < length xs → j < length ys
+    → get_or (product xs ys) (i * length ys + j) (the_pair x y) ≡ the_pair (get_or xs i x) (get_or ys j y)
+pair-at i j [] ys x y few narrow = absurd (omega (arith, few))
+pair-at zero j (x' ∷ xs) ys x y few narrow =
+    let row = map (λ z. the_pair x' z) ys in let long = length-map ys (λ z. the_pair x' z) in
+    let place : 0 * length ys + j ≡ j = omega arith in
+    ap (λ k. get_or (row ++ product xs ys) k (the_pair x y)) place ∙ get_or_append_left row (product xs ys) (the_pair x y) j (omega (arith, long, narrow))
+    ∙ get_or-map (λ z. the_pair x' z) ys j y (the_pair x y) narrow
+pair-at (suc i) j (x' ∷ xs) ys x y few narrow =
+    let row = map (λ z. the_pair x' z) ys in let long = length-map ys (λ z. the_pair x' z) in
+    let place : suc i * length ys + j ≡ length row + (i * length ys + j) = omega (arith, long) in
+    ap (λ k. get_or (row ++ product xs ys) k (the_pair x y)) place ∙ get_or-append-add row (product xs ys) (i * length ys + j) (the_pair x y)
+    ∙ pair-at i j xs ys x y (omega (arith, few)) narrow
 
-some-drop : {A : Type 0} (n : ℕ) (xs : List A) → n < length xs → (x : A) × (rest : List A) × (drop n xs ≡ x ∷ rest)
-some-drop n [] short = absurd (omega (arith, short))
-some-drop zero (x ∷ xs) short = (x, xs, refl)
-some-drop (suc n) (x ∷ xs) short = some-drop n xs (omega (arith, short))
+-- the first of the items from a place on is the item at that place
+first-from : {A : Type 0} (i : ℕ) (xs from rest : List A) (x : A) → from ≡ take (length xs - i) (drop i xs) → from ≡ x ∷ rest → get_or xs i x ≡ x
+first-from i xs from rest x is first =
+    let place : i ≡ i + 0 = omega arith in
+    ap (λ k. get_or xs k x) place ∙ sym (get_or-drop i xs 0 x) ∙ ap (λ l. get_or l 0 x) (sym (take_rest xs i) ∙ sym is ∙ first)
 
 module _ {A B : Type 0} where
   -- the place of the lowest digit is that of the first pair
-  pub lowest-pair : (m : ℕ) (xs from : List A) (ys beside : List B) (others place row column : ℕ) → 0 < m → m < 2 ^ 64 → place ≡ count_trailing_zeros 64 m → 0 < length ys
-      → place ≡ row * length ys + column → column < length ys → row < length xs → from ≡ take (length xs - row) (drop row xs) → beside ≡ take (length ys - column) (drop column ys)
+  pub lowest-pair : (m : ℕ) (xs from : List A) (ys beside : List B) (others : ℕ) → 0 < m → m < 2 ^ 64 → 0 < length ys → count_trailing_zeros 64 m / length ys < length xs
+      → from ≡ take (length xs - count_trailing_zeros 64 m / length ys) (drop (count_trailing_zeros 64 m / length ys) xs)
+      → beside ≡ take (length ys - count_trailing_zeros 64 m % length ys) (drop (count_trailing_zeros 64 m % length ys) ys)
       → others ≡ bit_and m (m - 1) → IsFirstPair xs ys m from beside others
-  lowest-pair m xs from ys beside others place row column some h at wide parts narrow few is is' made =
-      let n = length ys in
-      let rows : suc row * n ≤ length xs * n = mul-le-mul_right n few in
-      let split : suc row * n ≡ n + row * n = one-more row n in
+  lowest-pair m xs from ys beside others some h wide few is is' made =
+      let place = count_trailing_zeros 64 m in let row = place / length ys in let column = place % length ys in
+      let parts : place ≡ row * length ys + column = sym (div-add-mod' place (length ys)) in
+      let narrow : column < length ys = mod-lt place wide in
+      let rows : suc row * length ys ≤ length xs * length ys = mul-le-mul_right (length ys) few in
       let long = length-product xs ys in
-      let short : count_trailing_zeros 64 m < length (product xs ys) = omega (arith, at, parts, narrow, rows, split, long) in
-      let a = first-marked 64 m (product xs ys) some h short in
-      let x = some-drop row xs few in
-      let y = some-drop column ys narrow in
-      let p = drop-product row column xs ys x.0 y.0 x.1 y.1 x.2 y.2 in
-      let same : a.0 ∷ a.1 ≡ the_pair x.0 y.0 ∷ p.0 = sym a.2 ∙ ap (λ k. drop k (product xs ys)) (sym at ∙ parts) ∙ p.1 in
-      let head : a.0 ≡ the_pair x.0 y.0 = cc in
-      let left : from ≡ x.0 ∷ x.1 = is ∙ take_all (length xs - row) (drop row xs) (omega (arith, length-drop row xs)) ∙ x.2 in
-      let right : beside ≡ y.0 ∷ y.1 = is' ∙ take_all (length ys - column) (drop column ys) (omega (arith, length-drop column ys)) ∙ y.2 in
+      let short : count_trailing_zeros 64 m < length (product xs ys) = omega (arith, parts, narrow, rows, long) in
       record {
-        left = (let long = ap length left in omega (arith, long));
-        right = (let long = ap length right in omega (arith, long));
+        left = omega (arith, ap length is, length-take (length xs - row) (drop row xs), length-drop row xs, few);
+        right = omega (arith, ap length is', length-take (length ys - column) (drop column ys), length-drop column ys, narrow);
         all = λ l ls r rs e e'.
-            let first : x.0 ≡ l = cc in let second : y.0 ≡ r = cc in
-            a.3 ∙ (λ i. (head ∙ (λ j. the_pair (first j) (second j))) i ∷ marked_items (sym made i) (product xs ys));
+            let first = first-from row xs from ls l is e in let second = first-from column ys beside rs r is' e' in
+            let here = ap (λ k. get_or (product xs ys) k (the_pair l r)) parts ∙ pair-at row column xs ys l r few narrow ∙ ap₂ (λ (x : A) (y : B). the_pair x y) first second in
+            first-marked 64 m (product xs ys) (the_pair l r) some h short ∙ ap₂ (λ p n. p ∷ marked_items n (product xs ys)) here (sym made);
       }
 
   -- it lies behind the last row
-  pub pairs-none : (m : ℕ) (xs : List A) (ys : List B) (place row column : ℕ) → place ≡ count_trailing_zeros 64 m → place ≡ row * length ys + column → length xs ≤ row → marked_items m (product xs ys) ≡ []
-  pairs-none m xs ys place row column at parts past =
-      let rows : length xs * length ys ≤ row * length ys = mul-le-mul_right (length ys) past in
-      let long = length-product xs ys in
-      marked-none 64 m (product xs ys) (omega (arith, at, parts, rows, long))
+  pub pairs-none : (m : ℕ) (xs : List A) (ys : List B) → length xs ≤ count_trailing_zeros 64 m / length ys → marked_items m (product xs ys) ≡ []
+  pairs-none m xs ys past =
+      let place = count_trailing_zeros 64 m in
+      let rows : length xs * length ys ≤ place / length ys * length ys = mul-le-mul_right (length ys) past in
+      marked-none 64 m (product xs ys) (omega (arith, div-add-mod' place (length ys), rows, length-product xs ys))
 
 -- ---- marks made from the last item on
 
@@ -153,97 +138,60 @@ digits test x done marks is false tested =
     let p : (0 + 2 * marks) % 2 ≡ 0 = omega arith in let q : (0 + 2 * marks) / 2 ≡ marks = omega arith in
     ap₂ (λ u v. with_digit u x (marked_items v done)) p q ∙ is ∙ ap (λ (c : Bool). if c then x ∷ filter test done else filter test done) (sym tested)
 
--- so far marks stand for those behind the rest
-pub record IsRow {A : Type 0} (test : A → Bool) (items rest : List A) (others marks : ℕ) : Type 0 where
+-- marks of all items give those that pass
+pub marked-filter : {A : Type 0} (test : A → Bool) (xs : List A) → marked_items (with_marks (map test xs) 0) xs ≡ filter test xs
+marked-filter test [] = refl
+marked-filter test (x ∷ xs) = digits test x xs (with_marks (map test xs) 0) (marked-filter test xs) (test x) refl
+
+with_marks-append : (bs cs : List Bool) (marks : ℕ) → with_marks (bs ++ cs) marks ≡ with_marks bs (with_marks cs marks)
+with_marks-append [] cs marks = refl
+with_marks-append (b ∷ bs) cs marks = ap (λ n. (if b then 1 else 0) + 2 * n) (with_marks-append bs cs marks)
+
+-- so far the marks are those of the tests of what is behind the rest, in front of others
+pub record IsMarked {A : Type 0} (tests : List A → List Bool) (items rest : List A) (others marks : ℕ) : Type 0 where
   pub done : List A
   pub all : items ≡ rest ++ done
-  pub made : marks ≡ with_marks (map test done) others
-  pub room : marks < 2 ^ (64 - length rest)
+  pub made : marks ≡ with_marks (tests done) others
 
-module _ {A : Type 0} (test : A → Bool) (items : List A) (others : ℕ) where
-  pub row-first : others < 2 ^ (64 - length items) → IsRow test items items others others
-  row-first room = record { done = []; all = sym (append-nil items); made = refl; room = room }
+module _ {A : Type 0} (tests : List A → List Bool) (items : List A) (others : ℕ) where
+  pub mark-first : tests [] ≡ [] → IsMarked tests items items others others
+  mark-first none = record { done = []; all = sym (append-nil items); made = ap (λ bs. with_marks bs others) (sym none) }
 
-  pub row-fits : (rest before : List A) (x : A) (marks : ℕ) → IsRow test items rest others marks → rest ≡ before ++ x ∷ [] → marks < 2 ^ 63
-  row-fits rest before x marks so is =
-      let a = ap length is in let b = length-append before (x ∷ []) in
-      let fewer : 64 - length rest ≤ 63 = omega (arith, a, b) in
-      let power : 2 ^ (64 - length rest) ≤ 2 ^ 63 = pow_mono fewer in
-      omega (arith, so.room, power)
+  pub mark-more : (rest before : List A) (x : A) (here : List Bool) (marks more : ℕ) → IsMarked tests items rest others marks → rest ≡ before ++ x ∷ [] → more ≡ with_marks here marks
+      → ((done : List A) → tests (x ∷ done) ≡ here ++ tests done) → IsMarked tests items before others more
+  mark-more rest before x here marks more so is made next = record {
+    done = x ∷ so.done;
+    all = so.all ∙ ap (λ l. l ++ so.done) is ∙ append_assoc before (x ∷ []) so.done;
+    made = made ∙ ap (with_marks here) so.made ∙ sym (ap (λ bs. with_marks bs others) (next so.done) ∙ with_marks-append here (tests so.done) others);
+  }
 
-  pub row-more : (rest before : List A) (x : A) (marks more : ℕ) (b : Bool) → length items ≤ 64 → IsRow test items rest others marks → rest ≡ before ++ x ∷ [] → test x ≡ b
-      → more ≡ (if b then 1 else 0) + 2 * marks → IsRow test items before others more
-  row-more rest before x marks more b few so is tested made =
-      let a = ap length is in let c = length-append before (x ∷ []) in let d = ap length so.all in let e = length-append rest so.done in
-      let one : 64 - length before ≡ suc (64 - length rest) = omega (arith, a, c, d, e, few) in
-      record {
-        done = x ∷ so.done;
-        all = so.all ∙ ap (λ l. l ++ so.done) is ∙ append_assoc before (x ∷ []) so.done;
-        made = made ∙ (λ i. (if sym tested i then 1 else 0) + 2 * so.made i);
-        room = subst (λ n. n < 2 ^ (64 - length before)) (sym made) (subst (λ n. (if b then 1 else 0) + 2 * marks < 2 ^ n) (sym one) (twice-fits marks (64 - length rest) b so.room));
-      }
+  mark-fits : {rest : List A} {marks : ℕ} (so : IsMarked tests items rest others marks) (n k : ℕ) → others < 2 ^ n → length (tests so.done) + n ≤ k → marks < 2 ^ k
+  mark-fits so n k room fewer =
+      let power : 2 ^ (length (tests so.done) + n) ≤ 2 ^ k = pow_mono fewer in
+      omega (arith, so.made, power, with_marks-fit (tests so.done) others n room)
 
-  pub row-all : (rest : List A) (marks : ℕ) → IsRow test items rest others marks → length rest ≡ 0 → marks ≡ with_marks (map test items) others
-  row-all [] marks so none = so.made ∙ ap (λ l. with_marks (map test l) others) (sym so.all)
-  row-all (x ∷ rest) marks so none = absurd (omega (arith, none))
+  pub mark-all : (rest : List A) (marks : ℕ) → IsMarked tests items rest others marks → length rest ≡ 0 → marks ≡ with_marks (tests items) others
+  mark-all rest marks so none = so.made ∙ ap (λ l. with_marks (tests l) others) (sym (so.all ∙ ap (λ l. l ++ so.done) (nil_from_length rest none)))
 
--- the same of rows
-pub record AreRows {A B : Type 0} (test : A × B → Bool) (lefts rest : List A) (rights : List B) (marks : ℕ) : Type 0 where
-  pub done : List A
-  pub all : lefts ≡ rest ++ done
-  pub made : marked_items marks (product done rights) ≡ filter test (product done rights)
-  pub room : marks < 2 ^ (length done * length rights)
+-- there is room for one more mark in a row
+pub row-fits : {A : Type 0} (test : A → Bool) (items rest before : List A) (x : A) (others marks : ℕ) → length items ≤ 64 → others < 2 ^ (64 - length items)
+    → IsMarked (map test) items rest others marks → rest ≡ before ++ x ∷ [] → marks < 2 ^ 63
+row-fits test items rest before x others marks few room so is =
+    mark-fits (map test) items others so (64 - length items) 63 room
+    (omega (arith, ap length is, length-append before (x ∷ []), ap length so.all, length-append rest so.done, length-map so.done test, few))
 
-module _ {A B : Type 0} (test : A × B → Bool) (lefts : List A) (rights : List B) where
-  pub rows-first : AreRows test lefts lefts rights 0
-  rows-first = record { done = []; all = sym (append-nil lefts); made = refl; room = subst (λ n. 0 < 2 ^ n) (sym (zero-mul (length rights))) (omega arith) }
+-- and for one more row
+pub rows-fit : {A B : Type 0} (test : A × B → Bool) (lefts rest before : List A) (rights : List B) (x : A) (marks : ℕ) → IsMarked (λ ls. map test (product ls rights)) lefts rest 0 marks
+    → rest ≡ before ++ x ∷ [] → length lefts * length rights ≤ 64 → (length rights ≤ 64) × (marks < 2 ^ (64 - length rights))
+rows-fit test lefts rest before rights x marks so is few =
+    let more : suc (length so.done) ≤ length lefts = omega (arith, ap length is, length-append before (x ∷ []), ap length so.all, length-append rest so.done) in
+    let rows : suc (length so.done) * length rights ≤ length lefts * length rights = mul-le-mul_right (length rights) more in (
+      omega (arith, rows, few),
+      mark-fits (λ ls. map test (product ls rights)) lefts 0 so 0 (64 - length rights) (omega arith)
+          (omega (arith, length-map (product so.done rights) test, length-product so.done rights, rows, few)),
+    )
 
-  -- there is room for one more row
-  rows-room : (rest before : List A) (x : A) (marks : ℕ) (so : AreRows test lefts rest rights marks) → rest ≡ before ++ x ∷ [] → length lefts * length rights ≤ 64
-      → length so.done * length rights + length rights ≤ 64
-  rows-room rest before x marks so is few =
-      let a = ap length is in let b = length-append before (x ∷ []) in let c = ap length so.all in let d = length-append rest so.done in
-      let n = length rights in
-      let rows : suc (length so.done) * n ≤ length lefts * n = mul-le-mul_right n (omega (arith, a, b, c, d)) in
-      let split : suc (length so.done) * n ≡ n + length so.done * n = one-more (length so.done) n in
-      omega (arith, rows, split, few)
-
-  pub rows-few : (rest before : List A) (x : A) (marks : ℕ) → AreRows test lefts rest rights marks → rest ≡ before ++ x ∷ [] → length lefts * length rights ≤ 64 → length rights ≤ 64
-  rows-few rest before x marks so is few = let a = rows-room rest before x marks so is few in omega (arith, a)
-
-  pub rows-fit : (rest before : List A) (x : A) (marks : ℕ) → AreRows test lefts rest rights marks → rest ≡ before ++ x ∷ [] → length lefts * length rights ≤ 64
-      → marks < 2 ^ (64 - length rights)
-  rows-fit rest before x marks so is few =
-      let a = rows-room rest before x marks so is few in
-      let fewer : length so.done * length rights ≤ 64 - length rights = omega (arith, a) in
-      let power : 2 ^ (length so.done * length rights) ≤ 2 ^ (64 - length rights) = pow_mono fewer in
-      omega (arith, so.room, power)
-
-  row-marked : (x : A) (others : List (A × B)) (marks : ℕ) → marked_items marks others ≡ filter test others → (ys : List B)
-      → marked_items (with_marks (map (λ y. test (the_pair x y)) ys) marks) (map (λ y. the_pair x y) ys ++ others) ≡ filter test (map (λ y. the_pair x y) ys ++ others)
-  row-marked x others marks so [] = so
-  row-marked x others marks so (y ∷ ys) =
-      digits test (the_pair x y) (map (λ y. the_pair x y) ys ++ others) (with_marks (map (λ y. test (the_pair x y)) ys) marks) (row-marked x others marks so ys) (test (the_pair x y)) refl
-
-  row-room : (bs : List Bool) (marks n : ℕ) → marks < 2 ^ n → with_marks bs marks < 2 ^ (length bs + n)
-  row-room [] marks n h = subst (λ k. marks < 2 ^ k) (sym (zero-add n)) h
-  row-room (b ∷ bs) marks n h =
-      let longer : suc (length bs + n) ≡ suc (length bs) + n = omega arith in
-      subst (λ k. (if b then 1 else 0) + 2 * with_marks bs marks < 2 ^ k) longer (twice-fits (with_marks bs marks) (length bs + n) b (row-room bs marks n h))
-
-  pub rows-more : (rest before : List A) (x : A) (marks more : ℕ) → AreRows test lefts rest rights marks → rest ≡ before ++ x ∷ [] → more ≡ with_marks (map (λ y. test (the_pair x y)) rights) marks
-      → AreRows test lefts before rights more
-  rows-more rest before x marks more so is made =
-      let long = length-map rights (λ y. test (the_pair x y)) in
-      let rows : length rights + length so.done * length rights ≡ length (x ∷ so.done) * length rights = sym (one-more (length so.done) (length rights)) in
-      record {
-        done = x ∷ so.done;
-        all = so.all ∙ ap (λ l. l ++ so.done) is ∙ append_assoc before (x ∷ []) so.done;
-        made = ap (λ n. marked_items n (product (x ∷ so.done) rights)) made ∙ row-marked x (product so.done rights) marks so.made rights;
-        room = subst (λ n. n < 2 ^ (length (x ∷ so.done) * length rights)) (sym made)
-            (subst (λ k. with_marks (map (λ y. test (the_pair x y)) rights) marks < 2 ^ k) (ap (λ k. k + length so.done * length rights) long ∙ rows) (row-room (map (λ y. test (the_pair x y)) rights) marks (length so.done * length rights) so.room));
-      }
-
-  pub rows-all : (rest : List A) (marks : ℕ) → AreRows test lefts rest rights marks → length rest ≡ 0 → marked_items marks (product lefts rights) ≡ filter test (product lefts rights)
-  rows-all [] marks so none = subst (λ l. marked_items marks (product l rights) ≡ filter test (product l rights)) (sym so.all) so.made
-  rows-all (x ∷ rest) marks so none = absurd (omega (arith, none))
+-- the tests of one more row
+pub row-tests : {A B : Type 0} (test : A × B → Bool) (x : A) (rights : List B) (done : List A)
+    → map test (product (x ∷ done) rights) ≡ map (λ y. test (the_pair x y)) rights ++ map test (product done rights)
+row-tests test x rights done = map-append test (map (λ y. the_pair x y) rights) (product done rights) ∙ ap (λ l. l ++ map test (product done rights)) (map-map test (λ y. the_pair x y) rights)

@@ -1,9 +1,9 @@
 -- A join of a tree with itself: what the walk gives is the join of its elements with themselves, and how it goes on.
-use Rattle.std.proofs.Common.{◌≡◌, ◌≢◌, ℕ, ℤ, zero, suc, ◌+◌, ◌≤◌, ◌<◌, min, List, [], ◌∷◌, ◌++◌, length, map, filter, sum_by, refl, ap, ◌∙◌, sym, subst, arith, Bool, true, false, append_assoc, append-nil, take, if◌then◌else◌}
-use Rattle.std.specs.Prelude.{Option, Some, None}
+use Rattle.std.proofs.Common.{◌≡◌, ◌≢◌, ℕ, ℤ, zero, suc, ◌+◌, ◌≤◌, ◌<◌, min, List, [], ◌∷◌, ◌++◌, length, map, filter, sum_by, refl, ap, ◌∙◌, sym, subst, arith, Bool, true, false, append_assoc, append-nil, if◌then◌else◌}
+use Rattle.std.specs.Prelude.{Some}
 use Rattle.std.specs.Borrow.{Bor}
 use Rattle.std.specs.List.Sorted.{IsPermutation}
-use Rattle.std.proofs.lemmas.List.Sorted.{IsPermutation-refl, IsPermutation-append, IsPermutation-append_comm, IsPermutation-trans, IsPermutation-append_left}
+use Rattle.std.proofs.lemmas.List.Sorted.{IsPermutation-refl, IsPermutation-append, IsPermutation-append_comm, IsPermutation-trans, sum_by-IsPermutation}
 use Rattle.std.proofs.lemmas.List.Elements.{filter-append}
 use Rattle.std.proofs.lemmas.List.Sums.{sum_by-cons, sum_by-append}
 use Rattle.std.proofs.lemmas.List.Concat.{flat_map-append}
@@ -11,57 +11,42 @@ use Rattle.std.proofs.lemmas.Bool.{true≢false}
 use Rattle.std.proofs.lemmas.List.{map-append}
 use Rattle.rstar_base.specs.Envelopes.{Boxes, EnvelopeLaws}
 use Rattle.rstar_base.specs.Elements.{Objects, ObjectLaws}
-use Rattle.rstar_base.specs.Hulls.{hull}
-use Rattle.rstar_base.proofs.Hulls.{hull-value}
-use Rattle.rstar_base.proofs.Lists.{all_map}
 use Rattle.rstar.specs.declared.node.RTreeNode.{RTreeNode, Leaf, Parent}
 use Rattle.rstar.specs.declared.node.ParentNode.{ParentNode}
 use Rattle.rstar.specs.declared.iterators.joins.selves.SelfIntersectionIterator.{SelfIntersectionIterator}
-use Rattle.rstar.specs.Nodes.{parents, all_parents, elements, all_elements, children_of, node_box, is_leaf_node, fold_tree, IsTree, IsInner, IsElement, AreWhole, IsWhole}
+use Rattle.rstar.specs.Nodes.{parents, all_parents, elements, all_elements, elements_of, children_of, node_box, is_leaf_node, fold_tree, IsTree, IsInner, IsElement, AreWhole, IsWhole}
 use Rattle.rstar.specs.Lists.{product}
 use Rattle.rstar.specs.Meets.{opened_to, both_leaves, meet_of_roots, all_pairs, all_opens, pairs_at, opens_at}
-use Rattle.rstar.specs.inside.PairWalks.{pairs_below, opens_below, opens_by, IsNextPair, pairs_by, IsIdle, IsWalk}
-use Rattle.rstar.specs.Joins.{SeenLaws, meets_by, join}
-use Rattle.rstar.specs.SelfJoins.{pairs_behind, self_join, Lists, siblings_by, siblings_below, siblings, pairs_within, opens_within, pairs_from_lists, opens_from_lists, own_pairs, own_opens, own_meet, own_meet_of, own_to_come, list_weight, weight, weight_of, AreLists, HasItsLists, IsSelfJoining, GivesOwnPair, IsEntered}
-use Rattle.rstar.proofs.trees.ByChildren.{fold_tree-Parent, no_leaf, no_parent, parent_of, is_leaf, is_parent, elements-Leaf, elements-Parent, parents-Parent}
+use Rattle.rstar.specs.inside.PairWalks.{pairs_below, opens_below, opens_by, GoesOn, IsNextPair, pairs_by, IsIdle, IsWalk}
+use Rattle.rstar.specs.Joins.{SeenLaws, join}
+use Rattle.rstar.specs.SelfJoins.{pairs_behind, self_join, Lists, siblings_by, siblings_below, siblings, pairs_within, opens_within, pairs_from_lists, opens_from_lists, own_pairs, own_meet, own_meet_of, own_to_come, list_weight, weight, weight_of, AreLists, HasItsLists, IsSelfJoining, GivesOwnPair, IsEntered}
+use Rattle.rstar.proofs.trees.ByChildren.{fold_tree-Parent, no_leaf, no_parent, parent_of, is_leaf, is_parent, elements-Leaf, elements-Parent, node_box-Parent, parents-Parent, IsParentOf-Parent}
 use Rattle.rstar.proofs.trees.Heights.{levels_are}
 use Rattle.rstar.proofs.joining.PairsByChildren.{the_pair, opened, opened_to-Parent, is_leaf-Parent}
-use Rattle.rstar.proofs.joining.MeetingNodes.{IsJoined, all-joined, exchanged}
-use Rattle.rstar.proofs.searching.Nearness.{box-value, full-box, hull_full}
-use Rattle.rstar.proofs.trees.Trees.{merged_is_hull}
-use Rattle.rstar.proofs.joining.Joined.{right, roots-counted}
+use Rattle.rstar.proofs.joining.MeetingNodes.{exchanged, products-beside}
+use Rattle.rstar.proofs.searching.Ties.{filter-along}
+use Rattle.rstar.proofs.searching.Nearness.{box-value, full-box}
+use Rattle.rstar.proofs.joining.Joined.{nodes-joined, roots-counted}
 use Rattle.rstar_base.specs.Counts.{usize_max}
 use Rattle.rstar.proofs.joining.PairWalks.{idle-pairs, idle-opens}
 
 -- ---- joins of lists with themselves
 
-module _ {T E : Type 0} (meets : E → E → Bool) (box_of : T → E) where
-  abbrev kept : List (T × T) → List (T × T)
-  kept = filter (λ p. meets (box_of p.0) (box_of p.1))
+-- the pairs of a list put together: of the parts with one another, and of each with itself
+behind-append : {A : Type 0} (xs ys : List A) → IsPermutation (product xs ys ++ (pairs_behind xs ++ pairs_behind ys)) (pairs_behind (xs ++ ys))
+behind-append [] ys = IsPermutation-refl (pairs_behind ys)
+behind-append {A} (x ∷ xs) ys =
+    let row : List A → List (A × A) = map (λ y. the_pair x y) in
+    rw (map-append (λ y. the_pair x y) xs ys, append_assoc (row xs) (pairs_behind xs) (pairs_behind ys))
+    (IsPermutation-trans _ _ _ (exchanged (row ys) (product xs ys) (row xs) (pairs_behind xs ++ pairs_behind ys))
+    (IsPermutation-append _ _ _ _ (IsPermutation-append_comm (row ys) (row xs)) (behind-append xs ys)))
 
-  abbrev row : T → List T → List (T × T)
-  row x ys = map (λ y. the_pair x y) ys
-
-  kept-append : (ps qs : List (T × T)) → kept (ps ++ qs) ≡ kept ps ++ kept qs
-  kept-append ps qs = filter-append (λ p. meets (box_of p.0) (box_of p.1)) ps qs
-
-  -- the join of a list put together: of the parts with one another, and of each with itself
-  pub self_join-append : (xs ys : List T) → IsPermutation (join meets box_of box_of xs ys ++ (self_join meets box_of xs ++ self_join meets box_of ys)) (self_join meets box_of (xs ++ ys))
-  self_join-append [] ys = IsPermutation-refl (self_join meets box_of ys)
-  self_join-append (x ∷ xs) ys =
-      let a = kept (row x ys) in
-      let b = join meets box_of box_of xs ys in
-      let c = kept (row x xs) in
-      let s = self_join meets box_of xs in
-      let s' = self_join meets box_of ys in
-      let left : join meets box_of box_of (x ∷ xs) ys ≡ a ++ b = kept-append (row x ys) (product xs ys) in
-      let mid : self_join meets box_of (x ∷ xs) ++ s' ≡ c ++ (s ++ s') = ap (λ l. l ++ s') (kept-append (row x xs) (pairs_behind xs)) ∙ append_assoc c s s' in
-      let all : self_join meets box_of (x ∷ (xs ++ ys)) ≡ (c ++ a) ++ self_join meets box_of (xs ++ ys) =
-      kept-append (row x (xs ++ ys)) (pairs_behind (xs ++ ys)) ∙ ap (λ l. l ++ self_join meets box_of (xs ++ ys)) (ap kept (map-append (λ y. the_pair x y) xs ys) ∙ kept-append (row x xs) (row x ys)) in
-      subst (IsPermutation (join meets box_of box_of (x ∷ xs) ys ++ (self_join meets box_of (x ∷ xs) ++ s'))) (sym all)
-      (subst (λ l. IsPermutation l ((c ++ a) ++ self_join meets box_of (xs ++ ys))) (sym (λ i. left i ++ mid i))
-      (IsPermutation-trans _ _ _ (IsPermutation-trans _ _ _ (exchanged a b c (s ++ s')) (IsPermutation-append_left (b ++ (s ++ s')) (a ++ c) (c ++ a) (IsPermutation-append_comm a c)))
-      (IsPermutation-append (c ++ a) (c ++ a) (b ++ (s ++ s')) (self_join meets box_of (xs ++ ys)) (IsPermutation-refl (c ++ a)) (self_join-append xs ys))))
+self_join-append : {T E : Type 0} (meets : E → E → Bool) (box_of : T → E) (xs ys : List T)
+    → IsPermutation (join meets box_of box_of xs ys ++ (self_join meets box_of xs ++ self_join meets box_of ys)) (self_join meets box_of (xs ++ ys))
+self_join-append {T} meets box_of xs ys =
+    let test = λ (p : T × T). meets (box_of p.0) (box_of p.1) in
+    let parts = filter-append test (product xs ys) (pairs_behind xs ++ pairs_behind ys) ∙ ap (λ l. filter test (product xs ys) ++ l) (filter-append test (pairs_behind xs) (pairs_behind ys)) in
+    subst (λ l. IsPermutation l (self_join meets box_of (xs ++ ys))) parts (filter-along test _ _ (behind-append xs ys))
 
 -- ---- what the first node of a list gives, and what comes below and behind it
 
@@ -81,9 +66,8 @@ module _ {T E : Type 0} (meets : E → E → Bool) (box_of : T → E) where
   opens-parts : (n : RTreeNode T E) (ns : List (RTreeNode T E)) (ps qs : List (RTreeNode T E × RTreeNode T E))
       → opens_of (product (n ∷ []) ns ++ (ps ++ qs)) ≡ all_opens meets box_of box_of (n ∷ []) ns + (opens_of ps + opens_of qs)
   opens-parts n ns ps qs =
-      let a = sum_by-append (λ (p : RTreeNode T E × RTreeNode T E). opens_at meets box_of box_of p.0 p.1) (product (n ∷ []) ns) (ps ++ qs) in
-      let b = sum_by-append (λ (p : RTreeNode T E × RTreeNode T E). opens_at meets box_of box_of p.0 p.1) ps qs in
-      omega (arith, a, b)
+      let opens : RTreeNode T E × RTreeNode T E → ℕ = λ p. opens_at meets box_of box_of p.0 p.1 in
+      omega (arith, sum_by-append opens (product (n ∷ []) ns) (ps ++ qs), sum_by-append opens ps qs)
 
 parents-Leaf : (T E : Type 0) (t : T) → parents {T = T} {E = E} (Leaf t) ≡ 0
 unfolding parents fold_tree
@@ -91,35 +75,31 @@ parents-Leaf T E t = refl
 
 -- ---- what the walk gives of whole nodes
 
-module _ {T E : Type 0} {IsPoint : List ℤ → Type 0} {v : Boxes E} {o : Objects T E} {seen : E → E}
-    (laws : EnvelopeLaws IsPoint v) (same : SeenLaws v v seen) (ok : ObjectLaws v o) where
+-- a tree's envelopes are seen as they are
+itself : {E : Type 0} (v : Boxes E) → SeenLaws v v (λ e. e)
+itself v = record { value = λ a h. h; merge = λ a b. refl }
+
+module _ {T E : Type 0} {IsPoint : List ℤ → Type 0} {v : Boxes E} {o : Objects T E} (laws : EnvelopeLaws IsPoint v) (ok : ObjectLaws v o) where
   abbrev IsOwn : ℕ → RTreeNode T E → Type 0
-  IsOwn h n = IsPermutation (pairs_of (meets_by v seen) o.box_of (siblings_below h n)) (self_join (meets_by v seen) o.box_of (elements n))
+  IsOwn h n = IsPermutation (pairs_of v.intersects o.box_of (siblings_below h n)) (self_join v.intersects o.box_of (elements n))
 
   own-row : (h : ℕ) → ((n : RTreeNode T E) → IsTree (IsInner v o) (IsElement v o) h n → IsOwn h n) → (ns : List (RTreeNode T E)) → AreWhole v o h ns
-      → IsPermutation (pairs_of (meets_by v seen) o.box_of (siblings_by (siblings_below h) ns)) (self_join (meets_by v seen) o.box_of (all_elements ns))
+      → IsPermutation (pairs_of v.intersects o.box_of (siblings_by (siblings_below h) ns)) (self_join v.intersects o.box_of (all_elements ns))
   own-row h below [] whole = IsPermutation-refl []
   own-row h below (n ∷ ns) whole =
-      let line = all_map (IsTree (IsInner v o) (IsElement v o) h) (IsJoined (meets_by v seen) o.box_of o.box_of n) (λ m hm. (right laws laws same ok ok h h h n m (omega arith) (omega arith) whole.0 hm).joined) ns whole.1 in
-      let across = all-joined (meets_by v seen) o.box_of o.box_of (n ∷ []) ns (line, tt) in
-      let crossed = subst (λ l. IsPermutation (all_pairs (meets_by v seen) o.box_of o.box_of (n ∷ []) ns) (join (meets_by v seen) o.box_of o.box_of l (all_elements ns))) (append-nil (elements n)) across in
-      subst (λ l. IsPermutation l (self_join (meets_by v seen) o.box_of (all_elements (n ∷ ns)))) (sym (pairs-parts (meets_by v seen) o.box_of n ns (siblings_below h n) (siblings_by (siblings_below h) ns)))
+      let crossed = rw (append-nil (elements n)) at (nodes-joined laws laws (itself v) ok ok h h (n ∷ []) ns (whole.0, tt) whole.1) in
+      subst (λ l. IsPermutation l (self_join v.intersects o.box_of (all_elements (n ∷ ns)))) (sym (pairs-parts v.intersects o.box_of n ns (siblings_below h n) (siblings_by (siblings_below h) ns)))
       (IsPermutation-trans _ _ _
       (IsPermutation-append _ _ _ _ crossed (IsPermutation-append _ _ _ _ (below n whole.0) (own-row h below ns whole.1)))
-      (self_join-append (meets_by v seen) o.box_of (elements n) (all_elements ns)))
+      (self_join-append v.intersects o.box_of (elements n) (all_elements ns)))
 
   own-node : (h : ℕ) (n : RTreeNode T E) → IsTree (IsInner v o) (IsElement v o) h n → IsOwn h n
   own-node zero n w =
       let l = is_leaf _ n w in
-      let alone : elements n ≡ l.0 ∷ [] = ap elements l.1 ∙ elements-Leaf T E l.0 in
-      subst (λ x. IsPermutation [] (self_join (meets_by v seen) o.box_of x)) (sym alone) (IsPermutation-refl [])
+      rw (ap elements l.1 ∙ elements-Leaf T E l.0) (IsPermutation-refl [])
   own-node (suc h) n w =
       let p = is_parent _ n w in
-      let same' : opened_to n ≡ children_of p.0 = ap opened_to p.1 ∙ opened_to-Parent p.0 in
-      let below : elements n ≡ all_elements (children_of p.0) = ap elements p.1 ∙ elements-Parent p.0 in
-      subst (λ x. IsPermutation (pairs_of (meets_by v seen) o.box_of (siblings_by (siblings_below h) (opened_to n))) (self_join (meets_by v seen) o.box_of x)) (sym below)
-      (subst (λ x. IsPermutation (pairs_of (meets_by v seen) o.box_of (siblings_by (siblings_below h) x)) (self_join (meets_by v seen) o.box_of (all_elements (children_of p.0)))) (sym same')
-      (own-row h (own-node h) (children_of p.0) p.2.1))
+      rw (ap opened_to p.1 ∙ opened_to-Parent p.0, ap elements p.1 ∙ elements-Parent p.0) (own-row h (own-node h) (children_of p.0) p.2.1)
 
 -- ---- lists on one level
 
@@ -127,8 +107,7 @@ module _ {T E : Type 0} (v : Boxes E) (o : Objects T E) where
   own-level : (h : ℕ) (ns : List (RTreeNode T E)) → AreWhole v o h ns → siblings ns ≡ siblings_by (siblings_below h) ns
   own-level h [] whole = refl
   own-level h (n ∷ ns) whole =
-      let some : (n ∷ ns) ≢ [] = λ e. cc in
-      ap (λ k. siblings_by (siblings_below k) (n ∷ ns)) (levels_are (IsInner v o) (IsElement v o) (λ p q. q.1) h (n ∷ ns) some whole)
+      ap (λ k. siblings_by (siblings_below k) (n ∷ ns)) (levels_are (IsInner v o) (IsElement v o) (λ p q. q.1) h (n ∷ ns) (λ none. cc) whole)
 
   -- a list whose first node is a leaf, or a parent: what comes next
   own-leaf : (h : ℕ) (n : RTreeNode T E) (ns : List (RTreeNode T E)) (t : T) → AreWhole v o h (n ∷ ns) → n ≡ Leaf t → siblings (n ∷ ns) ≡ product (n ∷ []) ns ++ ([] ++ siblings ns)
@@ -152,31 +131,20 @@ module _ {T E : Type 0} (v : Boxes E) (o : Objects T E) where
 -- ---- the last of several lists
 
 module _ {T E : Type 0} (v : Boxes E) (o : Objects T E) where
-  lists-weaker : (m n : ℕ) (lists : Lists T E) → m ≤ n → AreLists v o m lists → AreLists v o n lists
-  lists-weaker m n [] le is = tt
-  lists-weaker m n (r ∷ lists) le is = (is.0, omega (arith, le, is.1), is.2, is.3)
-
+  -- it lies on a level below a bound, and others below that bound may take its place
   pub record IsLastList (h : ℕ) (lists : Lists T E) (last : Bor (List (RTreeNode T E))) : Type 0 where
     pub level : ℕ
+    pub bound : ℕ
     pub whole : AreWhole v o level last.now
+    pub below : level < bound
     pub few : length lists + level < h
-    pub again : (more : Lists T E) → AreLists v o (level + 1) more → AreLists v o h (lists ++ more)
+    pub again : (more : Lists T E) → AreLists v o bound more → AreLists v o h (lists ++ more)
 
   last-of : (h : ℕ) (lists : Lists T E) (last : Bor (List (RTreeNode T E))) → AreLists v o h (lists ++ last ∷ []) → IsLastList h lists last
-  last-of h [] last is = record {
-    level = is.0;
-    whole = is.2;
-    few = omega (arith, is.1);
-    again = λ more m. lists-weaker (is.0 + 1) h more (omega (arith, is.1)) m;
-  }
+  last-of h [] last is = record { level = is.0; bound = h; whole = is.2; below = is.1; few = omega (arith, is.1); again = λ more m. m }
   last-of h (r ∷ lists) last is =
       let l = last-of is.0 lists last is.3 in
-      record {
-        level = l.level;
-        whole = l.whole;
-        few = omega (arith, l.few, is.1);
-        again = λ more m. (is.0, is.1, is.2, l.again more m);
-      }
+      record { level = l.level; bound = l.bound; whole = l.whole; below = l.below; few = omega (arith, l.few, is.1); again = λ more m. (is.0, is.1, is.2, l.again more m) }
 
   pub last-list : (h : ℕ) (all lists : Lists T E) (last : Bor (List (RTreeNode T E))) → all ≡ lists ++ last ∷ [] → AreLists v o h all → IsLastList h lists last
   last-list h all lists last is at = last-of h lists last (subst (AreLists v o h) is at)
@@ -185,7 +153,7 @@ module _ {T E : Type 0} (v : Boxes E) (o : Objects T E) where
 
 weight-after : {T E : Type 0} (xs ys : Lists T E) → weight_of (xs ++ ys) ≡ weight_of xs + weight_of ys
 weight-after [] ys = omega arith
-weight-after (x ∷ xs) ys = let r = weight-after xs ys in omega (arith, r)
+weight-after (x ∷ xs) ys = omega (arith, weight-after xs ys)
 
 weight-Parent : {T E : Type 0} (p : ParentNode T E) → weight (Parent p) ≡ list_weight (map weight (children_of p))
 unfolding weight
@@ -202,112 +170,95 @@ module _ {T E : Type 0} (v : Boxes E) (o : Objects T E) (meets : E → E → Boo
 
   opens-after : (xs ys : Lists T E) → opens_from_lists meets o.box_of (xs ++ ys) ≡ opens_from_lists meets o.box_of xs + opens_from_lists meets o.box_of ys
   opens-after [] ys = omega arith
-  opens-after (x ∷ xs) ys = let r = opens-after xs ys in omega (arith, r)
+  opens-after (x ∷ xs) ys = omega (arith, opens-after xs ys)
 
   -- what was taken of lists, and what is left of them
-  pub record IsTaken (items items' : Lists T E) (first behind : List (RTreeNode T E)) (opened : ℕ) : Type 0 where
-    pub pairs : pairs_from_lists meets o.box_of items ≡ all_pairs meets o.box_of o.box_of first behind ++ pairs_from_lists meets o.box_of items'
-    pub opens : opens_from_lists meets o.box_of items ≡ opened + (all_opens meets o.box_of o.box_of first behind + opens_from_lists meets o.box_of items')
+  pub record IsTaken (h : ℕ) (items items' : Lists T E) (firsts behind : List (RTreeNode T E)) (opened : ℕ) : Type 0 where
+    pub pairs : pairs_from_lists meets o.box_of items ≡ all_pairs meets o.box_of o.box_of firsts behind ++ pairs_from_lists meets o.box_of items'
+    pub opens : opens_from_lists meets o.box_of items ≡ opened + (all_opens meets o.box_of o.box_of firsts behind + opens_from_lists meets o.box_of items')
     pub nearer : weight_of items' < weight_of items
+    pub lists : AreLists v o h items'
 
-  module _ (items above : Lists T E) (nodes : Bor (List (RTreeNode T E))) (is : items ≡ above ++ nodes ∷ []) where
-    pub taken-none : nodes.now ≡ [] → IsTaken items above [] [] 0
-    taken-none none =
-        let a = ap (opens_from_lists meets o.box_of) is ∙ opens-after above (nodes ∷ []) in let b = ap (opens_within meets o.box_of) none in
-        let c = ap weight_of is ∙ weight-after above (nodes ∷ []) in let d = ap (λ l. list_weight (map weight l)) none in
-        record {
-          pairs = ap (pairs_from_lists meets o.box_of) is ∙ pairs-after above (nodes ∷ []) ∙ ap (λ l. pairs_within meets o.box_of l ++ pairs_from_lists meets o.box_of above) none;
-          opens = omega (arith, a, b);
-          nearer = omega (arith, c, d);
-        }
+  module _ (h : ℕ) (items above : Lists T E) (nodes : Bor (List (RTreeNode T E))) (is : items ≡ above ++ nodes ∷ []) (at : AreLists v o h items) where
+    last : IsLastList v o h above nodes
+    last = last-list v o h items above nodes is at
 
-    module _ (h : ℕ) (items' : Lists T E) (behind : Bor (List (RTreeNode T E))) (n : RTreeNode T E) (first : nodes.now ≡ n ∷ behind.now) (whole : AreWhole v o h nodes.now) where
-      abbrev rest : List (T × T)
-      rest = pairs_from_lists meets o.box_of above
+    pub taken-none : nodes.now ≡ [] → IsTaken h items above [] [] 0
+    taken-none none = record {
+      pairs = ap (pairs_from_lists meets o.box_of) is ∙ pairs-after above (nodes ∷ []) ∙ ap (λ l. pairs_within meets o.box_of l ++ pairs_from_lists meets o.box_of above) none;
+      opens = omega (arith, ap (opens_from_lists meets o.box_of) is, opens-after above (nodes ∷ []), ap (opens_within meets o.box_of) none);
+      nearer = omega (arith, ap weight_of is, weight-after above (nodes ∷ []), ap (λ l. list_weight (map weight l)) none);
+      lists = subst (AreLists v o h) (append-nil above) (last.again [] tt);
+    }
 
-      abbrev cross : List (T × T)
-      cross = all_pairs meets o.box_of o.box_of (n ∷ []) behind.now
+    module _ (items' : Lists T E) (behind : Bor (List (RTreeNode T E))) (n : RTreeNode T E) (first : nodes.now ≡ n ∷ behind.now) (firsts : List (RTreeNode T E)) (one : firsts ≡ n ∷ []) where
+      whole : AreWhole v o last.level (n ∷ behind.now)
+      whole = subst (AreWhole v o last.level) first last.whole
 
-      was : pairs_from_lists meets o.box_of items ≡ pairs_within meets o.box_of (n ∷ behind.now) ++ rest
-      was = ap (pairs_from_lists meets o.box_of) is ∙ pairs-after above (nodes ∷ []) ∙ ap (λ l. pairs_within meets o.box_of l ++ rest) first
-
-      heavy : weight_of items ≡ weight_of above + (1 + weight n + list_weight (map weight behind.now))
-      heavy = let c = ap weight_of is ∙ weight-after above (nodes ∷ []) in let d = ap (λ l. list_weight (map weight l)) first in omega (arith, c, d)
-
-      many : opens_from_lists meets o.box_of items ≡ opens_from_lists meets o.box_of above + (parents n + all_parents behind.now + opens_of meets o.box_of (siblings (n ∷ behind.now)))
-      many =
-          let a = ap (opens_from_lists meets o.box_of) is ∙ opens-after above (nodes ∷ []) in let b = ap (opens_within meets o.box_of) first in
-          let c = sum_by-cons parents n behind.now in omega (arith, a, b, c)
-
-      pub taken-leaf : (t : T) → n ≡ Leaf t → items' ≡ above ++ behind ∷ [] → IsTaken items items' (take 1 nodes.now) behind.now 0
-      taken-leaf t leaf is' =
-          let split = own-leaf v o h n behind.now t (subst (AreWhole v o h) first whole) leaf in
-          let one = ap (take 1) first in
-          let a = many in let b = ap (opens_of meets o.box_of) split ∙ opens-parts meets o.box_of n behind.now [] (siblings behind.now) in
-          let c = ap (opens_from_lists meets o.box_of) is' ∙ opens-after above (behind ∷ []) in
-          let d = ap parents leaf ∙ parents-Leaf T E t in
-          let e = ap (λ l. all_opens meets o.box_of o.box_of l behind.now) one in
-          let x = heavy in let y = ap weight_of is' ∙ weight-after above (behind ∷ []) in
+      -- `more` is left of what lies below the first node, which gives the pairs `ps`
+      taken-first : (more : Lists T E) (ps : List (RTreeNode T E × RTreeNode T E)) (opened : ℕ) → items' ≡ above ++ (behind ∷ more)
+          → siblings (n ∷ behind.now) ≡ product (n ∷ []) behind.now ++ (ps ++ siblings behind.now) → pairs_from_lists meets o.box_of more ≡ pairs_of meets o.box_of ps
+          → opened + opens_from_lists meets o.box_of more ≡ parents n + opens_of meets o.box_of ps → weight_of more ≤ weight n → AreLists v o last.level more
+          → IsTaken h items items' firsts behind.now opened
+      taken-first more ps opened is' split pairs opens light levels =
+          let rest = pairs_from_lists meets o.box_of above in
+          let cross = all_pairs meets o.box_of o.box_of (n ∷ []) behind.now in
+          let was = ap (pairs_from_lists meets o.box_of) is ∙ pairs-after above (nodes ∷ []) ∙ ap (λ l. pairs_within meets o.box_of l ++ rest) first in
+          let later = ap (pairs_from_lists meets o.box_of) is' ∙ pairs-after above (behind ∷ more) ∙ ap (λ l. (l ++ pairs_within meets o.box_of behind.now) ++ rest) pairs in
           record {
             pairs =
-                was ∙ ap (λ l. l ++ rest) (ap (pairs_of meets o.box_of) split ∙ pairs-parts meets o.box_of n behind.now [] (siblings behind.now))
-                ∙ append_assoc cross (pairs_within meets o.box_of behind.now) rest
-                ∙ (λ i. all_pairs meets o.box_of o.box_of (sym one i) behind.now ++ sym (ap (pairs_from_lists meets o.box_of) is' ∙ pairs-after above (behind ∷ [])) i);
-            opens = omega (arith, a, b, c, d, e);
-            nearer = omega (arith, x, y);
+                was ∙ ap (λ l. l ++ rest) (ap (pairs_of meets o.box_of) split ∙ pairs-parts meets o.box_of n behind.now ps (siblings behind.now))
+                ∙ append_assoc cross (pairs_of meets o.box_of ps ++ pairs_within meets o.box_of behind.now) rest
+                ∙ (λ i. all_pairs meets o.box_of o.box_of (sym one i) behind.now ++ sym later i);
+            opens = omega (
+              arith,
+              ap (opens_from_lists meets o.box_of) is,
+              opens-after above (nodes ∷ []),
+              ap (opens_within meets o.box_of) first,
+              sum_by-cons parents n behind.now,
+              ap (opens_of meets o.box_of) split ∙ opens-parts meets o.box_of n behind.now ps (siblings behind.now),
+              ap (opens_from_lists meets o.box_of) is',
+              opens-after above (behind ∷ more),
+              ap (λ l. all_opens meets o.box_of o.box_of l behind.now) one,
+              opens,
+            );
+            nearer = omega (arith, ap weight_of is, weight-after above (nodes ∷ []), ap (λ l. list_weight (map weight l)) first, ap weight_of is', weight-after above (behind ∷ more), light);
+            lists = subst (AreLists v o h) (sym is') (last.again (behind ∷ more) (last.level, last.below, whole.1, levels));
           }
+
+      pub taken-leaf : (t : T) → n ≡ Leaf t → items' ≡ above ++ behind ∷ [] → IsTaken h items items' firsts behind.now 0
+      taken-leaf t leaf is' =
+          taken-first [] [] 0 is' (own-leaf v o last.level n behind.now t whole leaf) refl (omega (arith, ap parents leaf, parents-Leaf T E t)) (omega arith) tt
 
       pub taken-parent : (children : Bor (List (RTreeNode T E))) (p : ParentNode T E) → n ≡ Parent p → children.now ≡ children_of p → items' ≡ above ++ (behind ∷ children ∷ [])
-          → IsTaken items items' (take 1 nodes.now) behind.now 1
+          → IsTaken h items items' firsts behind.now 1
       taken-parent children p parent same is' =
-          let split = (own-parent v o h n behind.now p (subst (AreWhole v o h) first whole) parent).3 in
-          let one = ap (take 1) first in
-          let two = pairs_within meets o.box_of (children_of p) ++ pairs_within meets o.box_of behind.now in
-          let later : pairs_from_lists meets o.box_of items' ≡ two ++ rest =
-          ap (pairs_from_lists meets o.box_of) is' ∙ pairs-after above (behind ∷ children ∷ []) ∙ ap (λ l. (pairs_within meets o.box_of l ++ pairs_within meets o.box_of behind.now) ++ rest) same in
-          let a = many in let b = ap (opens_of meets o.box_of) split ∙ opens-parts meets o.box_of n behind.now (siblings (children_of p)) (siblings behind.now) in
-          let c = ap (opens_from_lists meets o.box_of) is' ∙ opens-after above (behind ∷ children ∷ []) in
-          let d = ap parents parent ∙ parents-Parent p in
-          let e = ap (λ l. all_opens meets o.box_of o.box_of l behind.now) one in
-          let f = ap (opens_within meets o.box_of) same in
-          let x = heavy in let y = ap weight_of is' ∙ weight-after above (behind ∷ children ∷ []) in
-          let z : weight n ≡ list_weight (map weight children.now) = ap weight parent ∙ weight-Parent p ∙ ap (λ l. list_weight (map weight l)) (sym same) in
-          record {
-            pairs =
-                was ∙ ap (λ l. l ++ rest) (ap (pairs_of meets o.box_of) split ∙ pairs-parts meets o.box_of n behind.now (siblings (children_of p)) (siblings behind.now))
-                ∙ append_assoc cross two rest
-                ∙ (λ i. all_pairs meets o.box_of o.box_of (sym one i) behind.now ++ sym later i);
-            opens = omega (arith, a, b, c, d, e, f);
-            nearer = omega (arith, x, y, z);
-          }
+          let low = own-parent v o last.level n behind.now p whole parent in
+          taken-first (children ∷ []) (siblings (children_of p)) 1 is' low.3 (ap (pairs_within meets o.box_of) same)
+          (omega (arith, ap parents parent, parents-Parent p, ap (opens_within meets o.box_of) same)) (omega (arith, ap weight parent, weight-Parent p, ap (λ l. list_weight (map weight l)) same))
+          (low.0, omega (arith, low.1), subst (AreWhole v o low.0) (sym same) low.2, tt)
 
-pub list-joined : {T E : Type 0} {IsPoint : List ℤ → Type 0} {v : Boxes E} {o : Objects T E} {seen : E → E} (laws : EnvelopeLaws IsPoint v) (same : SeenLaws v v seen) (ok : ObjectLaws v o)
-    (h : ℕ) (ns : List (RTreeNode T E)) → AreWhole v o h ns
-    → IsPermutation (pairs_within (meets_by v seen) o.box_of ns) (self_join (meets_by v seen) o.box_of (all_elements ns))
-list-joined {v = v} {o = o} {seen = seen} laws same ok h ns whole =
-    subst (λ l. IsPermutation (pairs_of (meets_by v seen) o.box_of l) (self_join (meets_by v seen) o.box_of (all_elements ns))) (sym (own-level v o h ns whole))
-    (own-row laws same ok h (own-node laws same ok h) ns whole)
+pub root-joined : {T E : Type 0} {IsPoint : List ℤ → Type 0} {v : Boxes E} {o : Objects T E} (laws : EnvelopeLaws IsPoint v) (ok : ObjectLaws v o) (root : ParentNode T E) → IsWhole v o root
+    → IsPermutation (pairs_within v.intersects o.box_of (children_of root)) (self_join v.intersects o.box_of (elements_of root))
+root-joined {v = v} {o = o} laws ok root whole = rw (own-level v o whole.height (children_of root) whole.below) (own-row laws ok whole.height (own-node laws ok whole.height) (children_of root) whole.below)
 
 -- ---- no more is opened than by a join of the tree with itself
 
-column-less : {A : Type 0} (f : A × A → ℕ) (x : A) (xs ys : List A) → sum_by f (product xs ys) ≤ sum_by f (product xs (x ∷ ys))
-column-less f x [] ys = omega arith
-column-less f x (z ∷ xs) ys =
-    let a = sum_by-append f (map (λ y. the_pair z y) ys) (product xs ys) in
-    let b = sum_by-cons f (the_pair z x) (map (λ y. the_pair z y) ys ++ product xs (x ∷ ys)) in
-    let c = sum_by-append f (map (λ y. the_pair z y) ys) (product xs (x ∷ ys)) in
-    let d = column-less f x xs ys in omega (arith, a, b, c, d)
-
 square-parts : {A : Type 0} (f : A × A → ℕ) (x : A) (xs : List A) → f (x, x) + (sum_by f (product (x ∷ []) xs) + sum_by f (product xs xs)) ≤ sum_by f (product (x ∷ xs) (x ∷ xs))
 square-parts f x xs =
-    let a = sum_by-cons f (the_pair x x) (map (λ y. the_pair x y) xs ++ product xs (x ∷ xs)) in
-    let b = sum_by-append f (map (λ y. the_pair x y) xs) (product xs (x ∷ xs)) in
-    let c = ap (sum_by f) (append-nil (map (λ y. the_pair x y) xs)) in
-    let d = column-less f x xs xs in omega (arith, a, b, c, d)
+    let row = map (λ y. the_pair x y) xs in
+    omega (
+      arith,
+      sum_by-cons f (the_pair x x) (row ++ product xs (x ∷ xs)),
+      sum_by-append f row (product xs (x ∷ xs)),
+      ap (sum_by f) (append-nil row),
+      sum_by-IsPermutation f _ _ (products-beside xs (x ∷ []) xs),
+      sum_by-append f (product xs (x ∷ [])) (product xs xs),
+    )
 
 module _ {T E : Type 0} {IsPoint : List ℤ → Type 0} {v : Boxes E} {o : Objects T E} (laws : EnvelopeLaws IsPoint v) (ok : ObjectLaws v o) where
-  meets-itself : (e : E) → v.IsValue e → v.is_empty e ≡ false → v.intersects e e ≡ true
-  meets-itself e value full = laws.contains_intersects e e value value (laws.contains_refl e value) full
+  meets-itself : (h : ℕ) (n : RTreeNode T E) → IsTree (IsInner v o) (IsElement v o) h n → v.intersects (node_box o.box_of n) (node_box o.box_of n) ≡ true
+  meets-itself h n w = let value = box-value laws ok h n w in laws.contains_intersects _ _ value value (laws.contains_refl _ value) (full-box laws ok h n w)
 
   abbrev IsFewer : ℕ → RTreeNode T E → Type 0
   IsFewer h n = parents n + opens_of v.intersects o.box_of (siblings_below h n) ≤ opens_at v.intersects o.box_of o.box_of n n
@@ -316,43 +267,42 @@ module _ {T E : Type 0} {IsPoint : List ℤ → Type 0} {v : Boxes E} {o : Objec
       → all_parents ns + opens_of v.intersects o.box_of (siblings_by (siblings_below h) ns) ≤ all_opens v.intersects o.box_of o.box_of ns ns
   list-fewer h each [] w = omega arith
   list-fewer h each (n ∷ ns) w =
-      let a = opens-parts v.intersects o.box_of n ns (siblings_below h n) (siblings_by (siblings_below h) ns) in
-      let b = sum_by-cons parents n ns in
-      let c = each n w.0 in
-      let d = list-fewer h each ns w.1 in
-      let e = square-parts (λ (p : RTreeNode T E × RTreeNode T E). opens_at v.intersects o.box_of o.box_of p.0 p.1) n ns in
-      omega (arith, a, b, c, d, e)
+      omega (
+        arith,
+        opens-parts v.intersects o.box_of n ns (siblings_below h n) (siblings_by (siblings_below h) ns),
+        sum_by-cons parents n ns,
+        each n w.0,
+        list-fewer h each ns w.1,
+        square-parts (λ (p : RTreeNode T E × RTreeNode T E). opens_at v.intersects o.box_of o.box_of p.0 p.1) n ns,
+      )
 
   node-fewer : (h : ℕ) (n : RTreeNode T E) → IsTree (IsInner v o) (IsElement v o) h n → IsFewer h n
-  node-fewer zero n w = let l = is_leaf _ n w in let a = ap parents l.1 ∙ parents-Leaf T E l.0 in omega (arith, a)
+  node-fewer zero n w = let l = is_leaf _ n w in omega (arith, ap parents l.1, parents-Leaf T E l.0)
   node-fewer (suc h) n w =
       let p = is_parent _ n w in
       let same : opened_to n ≡ children_of p.0 = ap opened_to p.1 ∙ opened_to-Parent p.0 in
       let leaf = ap is_leaf_node p.1 ∙ is_leaf-Parent p.0 in
       let inner : both_leaves n n ≡ false = ap (λ (b : Bool). if b then is_leaf_node n else false) leaf in
-      let met = meets-itself (node_box o.box_of n) (box-value laws ok (suc h) n w) (full-box laws ok (suc h) n w) in
-      let e = (opened v.intersects o.box_of o.box_of true n n inner met).opens in
-      let a = ap parents p.1 ∙ parents-Parent p.0 in
-      let b = ap all_parents same in
-      let c = list-fewer h (node-fewer h) (opened_to n) (subst (AreWhole v o h) (sym same) p.2.1) in
-      omega (arith, e, a, b, c)
+      let gone = opened v.intersects o.box_of o.box_of true n n inner (meets-itself (suc h) n w) in
+      omega (arith, gone.opens, ap parents p.1, parents-Parent p.0, ap all_parents same, list-fewer h (node-fewer h) (opened_to n) (subst (AreWhole v o h) (sym same) p.2.1))
 
   pub root-fewer : (root : ParentNode T E) → IsWhole v o root → own_meet v.intersects o.box_of root ≤ meet_of_roots v.intersects o.box_of o.box_of root root
   root-fewer root whole = by_list (children_of root) refl where
     by_list : (ns : List (RTreeNode T E)) → children_of root ≡ ns → own_meet v.intersects o.box_of root ≤ meet_of_roots v.intersects o.box_of o.box_of root root
-    by_list [] is = let none = ap (own_meet_of v.intersects o.box_of) is in omega (arith, none)
+    by_list [] is = omega (arith, ap (own_meet_of v.intersects o.box_of) is)
     by_list (n ∷ ns) is =
-        let below = subst (AreWhole v o whole.height) is whole.below in
-        let merged : root.envelope ≡ hull v (node_box o.box_of) (n ∷ ns) = whole.tight ∙ sym (merged_is_hull laws ok whole.height (children_of root) whole.below) ∙ ap (hull v (node_box o.box_of)) is in
-        let value = subst v.IsValue (sym merged) (hull-value laws (node_box o.box_of) (n ∷ ns) (all_map _ _ (box-value laws ok whole.height) (n ∷ ns) below)) in
-        let full = subst (λ e. v.is_empty e ≡ false) (sym merged) (hull_full laws (node_box o.box_of) (IsTree (IsInner v o) (IsElement v o) whole.height) (box-value laws ok whole.height) (full-box laws ok whole.height) n ns below) in
         let some : children_of root ≢ [] = λ e. cc in
-        let m = roots-counted laws laws (record { value = λ a h. h; merge = λ a b. refl }) ok ok root root whole whole (meets-itself root.envelope value full) some some in
-        let a = ap (own_meet_of v.intersects o.box_of) is in
-        let b = ap (opens_of v.intersects o.box_of) (own-level v o whole.height (n ∷ ns) below) in
-        let c = list-fewer whole.height (node-fewer whole.height) (n ∷ ns) below in
-        let d = ap (λ l. all_opens v.intersects o.box_of o.box_of l l) is in
-        omega (arith, m, a, b, c, d)
+        let w : IsTree (IsInner v o) (IsElement v o) (suc whole.height) (Parent root) = IsParentOf-Parent _ root ((whole.tight, some), whole.below) in
+        let met = subst (λ e. v.intersects e e ≡ true) (node_box-Parent o.box_of root) (meets-itself (suc whole.height) (Parent root) w) in
+        let m = roots-counted laws laws (itself v) ok ok root root whole whole met some some in
+        omega (
+          arith,
+          m,
+          ap (own_meet_of v.intersects o.box_of) is,
+          ap (opens_within v.intersects o.box_of) is,
+          ap (opens_of v.intersects o.box_of) (own-level v o whole.height (children_of root) whole.below),
+          list-fewer whole.height (node-fewer whole.height) (children_of root) whole.below,
+        )
 
 -- a list is opened where it has nodes
 pub own-started : {T E : Type 0} (meets : E → E → Bool) (box_of : T → E) (ns : List (RTreeNode T E)) → min (length ns) 1 + opens_within meets box_of ns ≡ own_meet_of meets box_of ns
@@ -362,73 +312,55 @@ own-started meets box_of (n ∷ ns) = omega arith
 -- ---- a call of the walk
 
 module _ {T E : Type 0} (v : Boxes E) (o : Objects T E) (meets : E → E → Bool) where
-  pub advanced : (old new : SelfIntersectionIterator T E) (r : Option (Bor T × Bor T)) → new.root.now ≡ old.root.now → new.lists.items ≡ old.lists.items → new.lists.capacity ≡ old.lists.capacity
-      → HasItsLists v o meets old → IsNextPair meets o.box_of o.box_of old.walk r new.walk → HasItsLists v o meets new
-  advanced old new r root items capacity had next =
+  pub advanced : (old new : SelfIntersectionIterator T E) → new.root.now ≡ old.root.now → new.lists.items ≡ old.lists.items → new.lists.capacity ≡ old.lists.capacity
+      → HasItsLists v o meets old → GoesOn meets o.box_of o.box_of old.walk new.walk → HasItsLists v o meets new
+  advanced old new root items capacity had on =
       let all = had.count + opens_by meets o.box_of o.box_of old.walk in
-      let count = next.on.count all (record { count = had.count; counted = had.counted; whole = refl }) in
-      let listed = ap (opens_from_lists meets o.box_of) items in
-      let meet = ap (own_meet meets o.box_of) root in
+      let count = on.count all (record { count = had.count; counted = had.counted; whole = refl }) in
       record {
-        walk = next.on.walk;
+        walk = on.walk;
         height = had.height;
-        room = omega (arith, had.room, next.on.room);
+        room = omega (arith, had.room, on.room);
         lists = subst (AreLists v o (had.height + 1)) (sym items) had.lists;
         fits = omega (arith, had.fits, capacity);
         count = count.count;
         counted = count.counted;
-        all = omega (arith, count.whole, had.all, listed, meet);
+        all = omega (arith, count.whole, had.all, ap (opens_from_lists meets o.box_of) items, ap (own_meet meets o.box_of) root);
       }
 
   -- a list was taken, and the walk begins with its first node and those behind it
-  pub takes-list : (old new : SelfIntersectionIterator T E) {first behind : List (RTreeNode T E)} {opened : ℕ} (had : HasItsLists v o meets old) → IsIdle old.walk
-      → IsTaken v o meets old.lists.items new.lists.items first behind opened → AreLists v o (had.height + 1) new.lists.items → new.lists.capacity ≡ old.lists.capacity → new.root.now ≡ old.root.now
-      → IsWalk meets o.box_of o.box_of new.walk → new.walk.path.capacity ≡ old.walk.path.capacity → pairs_by meets o.box_of o.box_of new.walk ≡ all_pairs meets o.box_of o.box_of first behind
-      → opens_by meets o.box_of o.box_of new.walk ≡ all_opens meets o.box_of o.box_of first behind → ((n : ℕ) → old.walk.opened ≡ min n usize_max → new.walk.opened ≡ min (n + opened) usize_max)
+  pub takes-list : (old new : SelfIntersectionIterator T E) {firsts behind : List (RTreeNode T E)} {opened : ℕ} (had : HasItsLists v o meets old) → IsIdle old.walk
+      → IsTaken v o meets (had.height + 1) old.lists.items new.lists.items firsts behind opened → new.lists.capacity ≡ old.lists.capacity → new.root.now ≡ old.root.now
+      → IsWalk meets o.box_of o.box_of new.walk → new.walk.path.capacity ≡ old.walk.path.capacity → pairs_by meets o.box_of o.box_of new.walk ≡ all_pairs meets o.box_of o.box_of firsts behind
+      → opens_by meets o.box_of o.box_of new.walk ≡ all_opens meets o.box_of o.box_of firsts behind → ((n : ℕ) → old.walk.opened ≡ min n usize_max → new.walk.opened ≡ min (n + opened) usize_max)
       → IsEntered v o meets old true new
-  takes-list old new {opened = opened} had idle taken lists fits root walk room pairs opens more =
-      let none = idle-opens meets o.box_of o.box_of old.walk idle in let meet = ap (own_meet meets o.box_of) root in
-      record {
-        lists = record {
-          walk = walk;
-          height = had.height;
-          room = omega (arith, had.room, room);
-          lists = lists;
-          fits = omega (arith, had.fits, fits);
-          count = had.count + opened;
-          counted = more had.count had.counted;
-          all = omega (arith, had.all, taken.opens, none, opens, meet);
-        };
-        root = root;
-        given = (λ i. idle-pairs meets o.box_of o.box_of old.walk idle i ++ taken.pairs i) ∙ ap (λ l. l ++ pairs_from_lists meets o.box_of new.lists.items) (sym pairs);
-        nearer = λ _. taken.nearer;
-        over = λ e. absurd (true≢false e);
-      }
+  takes-list old new {opened = opened} had idle taken fits root walk room pairs opens more = record {
+    lists = record {
+      walk = walk;
+      height = had.height;
+      room = omega (arith, had.room, room);
+      lists = taken.lists;
+      fits = omega (arith, had.fits, fits);
+      count = had.count + opened;
+      counted = more had.count had.counted;
+      all = omega (arith, had.all, taken.opens, idle-opens meets o.box_of o.box_of old.walk idle, opens, ap (own_meet meets o.box_of) root);
+    };
+    root = root;
+    given = (λ i. idle-pairs meets o.box_of o.box_of old.walk idle i ++ taken.pairs i) ∙ ap (λ l. l ++ pairs_from_lists meets o.box_of new.lists.items) (sym pairs);
+    nearer = λ _. taken.nearer;
+    over = λ e. absurd (true≢false e);
+  }
 
   pub gave : (start old new : SelfIntersectionIterator T E) (p : Bor T × Bor T) → old.root.now ≡ start.root.now → own_pairs meets o.box_of start ≡ own_pairs meets o.box_of old
       → new.root.now ≡ old.root.now → new.lists.items ≡ old.lists.items → new.lists.capacity ≡ old.lists.capacity
       → HasItsLists v o meets old → IsNextPair meets o.box_of o.box_of old.walk (Some p) new.walk → GivesOwnPair v o meets start (Some p) new
   unfolding own_to_come IsSelfJoining
   gave start old new p from same root items capacity had next =
-      let has = advanced old new (Some p) root items capacity had next in
-      let meet = ap (own_meet meets o.box_of) (root ∙ from) in
+      let has = advanced old new root items capacity had next.on in
       record {
         gives = same ∙ (λ i. next.given i ++ pairs_from_lists meets o.box_of (sym items i));
         root = root ∙ from;
         joining = has;
         ended = tt;
-        at_most = omega (arith, has.all, has.counted, meet);
-      }
-
-  pub ended : (start new : SelfIntersectionIterator T E) → new.root.now ≡ start.root.now → own_pairs meets o.box_of start ≡ own_pairs meets o.box_of new → own_pairs meets o.box_of new ≡ []
-      → own_opens meets o.box_of new ≡ 0 → HasItsLists v o meets new → GivesOwnPair v o meets start None new
-  unfolding own_to_come IsSelfJoining
-  ended start new from same none nothing has =
-      let meet = ap (own_meet meets o.box_of) from in
-      record {
-        gives = (same ∙ none, none);
-        root = from;
-        joining = has;
-        ended = omega (arith, has.all, has.counted, meet, nothing);
-        at_most = omega (arith, has.all, has.counted, meet);
+        at_most = omega (arith, has.all, has.counted, ap (own_meet meets o.box_of) (root ∙ from));
       }

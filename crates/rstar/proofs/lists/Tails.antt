@@ -9,13 +9,6 @@ use Rattle.rstar.specs.inside.Loads.{last_of, front_of, CutsSlab}
 use Rattle.rstar.proofs.loading.Loads.{All-front, All-back}
 
 module _ {A : Type 0} where
-  -- the same front, and the same rest, by another name
-  pub taken_as : (n k : ℕ) (xs ys front : List A) → front ≡ take n ys → n ≡ k → ys ≡ xs → front ≡ take k xs
-  taken_as n k xs ys front is e f = is ∙ ap (λ m. take m ys) e ∙ ap (take k) f
-
-  pub dropped_as : (n k : ℕ) (xs ys rest : List A) → rest ≡ drop n ys → n ≡ k → ys ≡ xs → rest ≡ drop k xs
-  dropped_as n k xs ys rest is e f = is ∙ ap (λ m. drop m ys) e ∙ ap (drop k) f
-
   pub length_last : (n : ℕ) (xs : List A) → n ≤ length xs → length (last_of n xs) ≡ n
   length_last n xs h = omega (arith, length-drop (length xs - n) xs)
 

@@ -1,5 +1,5 @@
--- The earliest of a list, and of what is given below some nodes.
-use Rattle.std.proofs.Common.{◌≡◌, ◌≢◌, ℕ, ℤ, ◌+◌, ◌<◌, Bool, true, false, List, [], ◌∷◌, ◌++◌, refl, sym, ◌∙◌, ap, subst, arith, length, get_or, take, Option, Some, None, is_some, filter, if◌then◌else◌, length-append, append-nil}
+-- The earliest of a list and of what is given below some nodes, and its removal.
+use Rattle.std.proofs.Common.{◌≡◌, ◌≢◌, ℕ, ℤ, ◌+◌, ◌-◌, ◌<◌, Bool, true, false, List, [], ◌∷◌, ◌++◌, refl, sym, ◌∙◌, ap, subst, arith, length, get_or, take, Option, Some, None, is_some, filter, if◌then◌else◌, length-append, append-nil, inl, inr}
 use Rattle.std.specs.Borrow.{Bor}
 use Rattle.std.specs.Cmp.{IsTotalOrder, IsStrictWeakOrder}
 use Rattle.std.specs.List.{AllByRecursion}
@@ -7,6 +7,8 @@ use Rattle.std.specs.Ordering.{is_lt}
 use Rattle.std.specs.declared.cmp.Ordering.{Ordering}
 use Rattle.std.proofs.Math.ListN.{get_or-append}
 use Rattle.std.proofs.Math.Seq.{get_or-append_seam}
+use Rattle.std.proofs.lemmas.Bool.{both_ways, cases_Bool, cond_both, true_from_ne_false}
+use Rattle.std.proofs.lemmas.Cmp.{tied_itself}
 use Rattle.std.proofs.lemmas.List.{take_more, length-take-le}
 use Rattle.std.proofs.lemmas.List.Concat.{flat_map-append}
 use Rattle.std.proofs.lemmas.List.Elements.{Contains-append_right}
@@ -15,13 +17,18 @@ use Rattle.rstar_base.proofs.Lists.{all_map}
 use Rattle.rstar_base.specs.Envelopes.{Boxes, EnvelopeLaws}
 use Rattle.rstar_base.specs.Elements.{Objects, ObjectLaws}
 use Rattle.rstar_base.specs.Selections.{SelectsBy}
-use Rattle.rstar.specs.declared.node.RTreeNode.{RTreeNode, Leaf, Parent}
+use Rattle.rstar.specs.declared.node.RTreeNode.{RTreeNode, Leaf, Parent, out-RTreeNode, roll-out-RTreeNode, roll-RTreeNode}
+use Rattle.rstar.specs.declared.node.RTreeNode.TheVariants.{outs-Leaf, outs-Parent, rolls-Leaf, rolls-Parent}
+use Rattle.rstar.specs.declared.node.RTreeNode.TheOpen as layer
 use Rattle.rstar.specs.declared.node.ParentNode.{ParentNode}
 use Rattle.rstar.specs.inside.Earliest.{earlier, earliest, lent, earlier_at, IsEarliestAt, IsEarliestOf}
+use Rattle.rstar.specs.inside.Taking.{Takes, is_a_leaf, leaf_in}
 use Rattle.rstar.specs.Lists.{IsLeast, IsNotAfter}
-use Rattle.rstar.specs.Nodes.{given, all_given, given_of, children_of, envelope_of, elements_of, IsWhole}
-use Rattle.rstar.proofs.selecting.Complete.{all-root}
+use Rattle.rstar.specs.Nodes.{Layer, fold_tree, given, all_given, given_of, all_elements, children_of, elements_of, is_leaf_node, IsWhole}
+use Rattle.rstar.proofs.inserting.Insertion.{whole_of_kept}
+use Rattle.rstar.proofs.selecting.Complete.{all-each, all-node, all-root}
 use Rattle.rstar.proofs.trees.ByChildren.{given-Leaf, given-Parent}
+use Rattle.rstar.proofs.removing.Scans.{filter_none, finishes, nowhere}
 
 -- ---- of a list
 
@@ -33,17 +40,13 @@ module _ {T : Type 0} (R : T → T → Ordering) where
   earlier-none None = refl
   earlier-none (Some x) = refl
 
-  never_none : (x y : T) (b : Bool) → one_of b x y ≡ None → ⊥
-  never_none x y true e = cc
-  never_none x y false e = cc
-
-  one_stays : (x : T) (a : Option T) → earlier R (Some x) a ≡ None → ⊥
-  one_stays x None e = cc
-  one_stays x (Some y) e = never_none x y (is_lt (R y x)) e
+  one_stays : (x : T) (a : Option T) → is_some (earlier R (Some x) a) ≡ true
+  one_stays x None = refl
+  one_stays x (Some y) = cond_both (is_lt (R y x)) (Some y) (Some x) (λ r. is_some r ≡ true) (λ sooner. refl) (λ later. refl)
 
   pub earliest-none : (xs : List T) → earliest R xs ≡ None → xs ≡ []
   earliest-none [] e = refl
-  earliest-none (x ∷ xs) e = absurd (one_stays x (earliest R xs) e)
+  earliest-none (x ∷ xs) e = absurd (both_ways _ (ap is_some e) (one_stays x (earliest R xs)))
 
   -- of a list with an item there is one
   pub earliest-some : (xs : List T) (r : Option T) → r ≡ earliest R xs → xs ≢ [] → is_some r ≡ true
@@ -74,30 +77,21 @@ module _ {T : Type 0} {R : T → T → Ordering} (o : IsTotalOrder R) where
   earliest-append [] ys = refl
   earliest-append (x ∷ xs) ys = ap (earlier R (Some x)) (earliest-append xs ys) ∙ sym (earlier-assoc (Some x) (earliest R xs) (earliest R ys))
 
-  not_itself : (x : T) → is_lt (R x x) ≡ false
-  not_itself x = by_test (is_lt (R x x)) refl where
-    by_test : (b : Bool) → is_lt (R x x) ≡ b → is_lt (R x x) ≡ false
-    by_test true is = ranks.one_way x x is
-    by_test false is = is
-
   -- none comes before it
   pub earliest-first : (xs : List T) (t : T) → earliest R xs ≡ Some t → IsLeast (IsNotAfter R) xs t
   earliest-first [] t e = cc
-  earliest-first (x ∷ xs) t e = by_rest (earliest R xs) refl (earliest-first xs) where
-    put_front : (c : T) → x ≡ c → AllByRecursion (IsNotAfter R x) xs → IsLeast (IsNotAfter R) (x ∷ xs) c
-    put_front c same rest = subst (IsLeast (IsNotAfter R) (x ∷ xs)) same (record { member = (0, omega arith, refl); least = (not_itself x, rest) })
+  earliest-first (x ∷ xs) t e = by_rest (earliest R xs) refl e (earliest-first xs) where
+    put_front : x ≡ t → AllByRecursion (IsNotAfter R x) xs → IsLeast (IsNotAfter R) (x ∷ xs) t
+    put_front same rest = subst (IsLeast (IsNotAfter R) (x ∷ xs)) same (record { member = (0, omega arith, refl); least = (ap is_lt (tied_itself o x), rest) })
 
-    by_test : (c : T) (b : Bool) → is_lt (R c x) ≡ b → IsLeast (IsNotAfter R) xs c → one_of b x c ≡ Some t → IsLeast (IsNotAfter R) (x ∷ xs) t
-    by_test c true is first same =
-        let here : c ≡ t = cc in
-        subst (IsLeast (IsNotAfter R) (x ∷ xs)) here (record { member = Contains-append_right (x ∷ []) xs c first.member; least = (ranks.one_way c x is, first.least) })
-    by_test c false is first same = put_front t (cc) (all_map (IsNotAfter R c) (IsNotAfter R x) (λ u h. ranks.chain u c x h is) xs first.least)
-
-    by_rest : (r : Option T) → earliest R xs ≡ r → ((c : T) → earliest R xs ≡ Some c → IsLeast (IsNotAfter R) xs c) → IsLeast (IsNotAfter R) (x ∷ xs) t
-    by_rest None is below =
-        let same : Some x ≡ Some t = sym (ap (earlier R (Some x)) is) ∙ e in
-        put_front t (cc) (subst (AllByRecursion (IsNotAfter R x)) (sym (earliest-none R xs is)) tt)
-    by_rest (Some c) is below = by_test c (is_lt (R c x)) refl (below c is) (sym (ap (earlier R (Some x)) is) ∙ e)
+    by_rest : (r : Option T) → earliest R xs ≡ r → earlier R (Some x) r ≡ Some t → ((c : T) → earliest R xs ≡ Some c → IsLeast (IsNotAfter R) xs c) → IsLeast (IsNotAfter R) (x ∷ xs) t
+    by_rest None is e below = put_front (cc) (rw (earliest-none R xs is) tt)
+    by_rest (Some c) is e below = let first = below c is in elim (cases_Bool (is_lt (R c x))) [
+      | inl sooner ↦
+          let here = rw sooner at e in let same : c ≡ t = cc in
+          subst (IsLeast (IsNotAfter R) (x ∷ xs)) same (record { member = Contains-append_right (x ∷ []) xs c first.member; least = (ranks.one_way c x sooner, first.least) })
+      | inr later ↦ put_front (let here = rw later at e in cc) (all_map (IsNotAfter R c) (IsNotAfter R x) (λ u h. ranks.chain u c x h later) xs first.least)
+    ]
 
 -- ---- of what is given below some nodes
 
@@ -133,17 +127,16 @@ module _ {T E : Type 0} (accepts : E → Bool) (selects : T → Bool) {R : T →
       all = all;
     }
 
-    by_test : (i : ℕ) (t : T) (found : ℕ × Bor T) (next : Bor T) (b : Bool) → is_lt (R next.now found.1.now) ≡ b → IsEarliestAt accepts selects R ns found.0 found.1.now → earliest R (below n) ≡ Some next.now
-        → IsEarliestOf accepts selects R (ns ++ n ∷ []) (if b then Some (length ns, next) else Some found)
-    by_test i t found next true is at here = moves next.now here (earliest-push (Some found.1.now) (Some next.now) at.all here ∙ ap (λ v. one_of v found.1.now next.now) is)
-    by_test i t found next false is at here = stays found.0 found.1.now at (earliest-push (Some found.1.now) (Some next.now) at.all here ∙ ap (λ v. one_of v found.1.now next.now) is)
-
     pushed : (found : Option (ℕ × Bor T)) (next : Option (Bor T)) → IsEarliestOf accepts selects R ns found → lent next ≡ earliest R (below n)
         → IsEarliestOf accepts selects R (ns ++ n ∷ []) (earlier_at R found (length ns) next)
     pushed None None none here = below-push ∙ ap (λ (l : List T). l ++ below n) none ∙ earliest-none R (below n) (sym here)
     pushed (Some found) None at here = stays found.0 found.1.now at (earliest-push (Some found.1.now) None at.all (sym here))
     pushed None (Some next) none here = moves next.now (sym here) (earliest-push None (Some next.now) (ap (earliest R) none) (sym here))
-    pushed (Some found) (Some next) at here = by_test found.0 found.1.now found next (is_lt (R next.now found.1.now)) refl at (sym here)
+    pushed (Some found) (Some next) spot here =
+        let all = earliest-push (Some found.1.now) (Some next.now) spot.all (sym here) in elim (cases_Bool (is_lt (R next.now found.1.now))) [
+          | inl sooner ↦ rw sooner (moves next.now (sym here) (rw sooner at all))
+          | inr later ↦ rw later (stays found.0 found.1.now spot (rw later at all))
+        ]
 
   -- one node more
   pub one_more : (ns : List (RTreeNode T E)) (i : ℕ) (n : RTreeNode T E) (found : Option (ℕ × Bor T)) (next : Option (Bor T)) → i < length ns → n ≡ get_or ns i n
@@ -155,20 +148,14 @@ module _ {T E : Type 0} (accepts : E → Bool) (selects : T → Bool) {R : T →
 
   -- of one node
   pub earliest-leaf : (n : RTreeNode T E) (t : T) (b : Bool) → n ≡ Leaf t → selects t ≡ b → earliest R (below n) ≡ (if b then Some t else None)
-  earliest-leaf n t b is chosen = ap (λ m. earliest R (below m)) is ∙ ap (earliest R) (given-Leaf T E accepts selects t) ∙ by_test b chosen where
-    by_test : (b : Bool) → selects t ≡ b → earliest R (if selects t then t ∷ [] else []) ≡ (if b then Some t else None)
-    by_test true is = ap (λ c. earliest R (if c then t ∷ [] else [])) is
-    by_test false is = ap (λ c. earliest R (if c then t ∷ [] else [])) is
+  earliest-leaf n t true is chosen = rw (is, given-Leaf T E accepts selects t, chosen)
+  earliest-leaf n t false is chosen = rw (is, given-Leaf T E accepts selects t, chosen)
 
-  pub earliest-parent : (n : RTreeNode T E) (p : ParentNode T E) (b : Bool) → n ≡ Parent p → accepts p.envelope ≡ b → earliest R (below n) ≡ (if b then earliest R (all_below (children_of p)) else None)
-  earliest-parent n p b is opened = ap (λ m. earliest R (below m)) is ∙ ap (earliest R) (given-Parent accepts selects p) ∙ by_test b opened where
-    by_test : (b : Bool) → accepts p.envelope ≡ b → earliest R (if accepts p.envelope then all_below (children_of p) else []) ≡ (if b then earliest R (all_below (children_of p)) else None)
-    by_test true is = ap (λ c. earliest R (if c then all_below (children_of p) else [])) is
-    by_test false is = ap (λ c. earliest R (if c then all_below (children_of p) else [])) is
+  pub earliest-shut : (n : RTreeNode T E) (p : ParentNode T E) → n ≡ Parent p → accepts p.envelope ≡ false → earliest R (below n) ≡ None
+  earliest-shut n p is shut = rw (is, given-Parent accepts selects p, shut)
 
-  -- of a parent that is opened
   pub earliest-opened : (n : RTreeNode T E) (p : ParentNode T E) (ns : List (RTreeNode T E)) (r : Option T) → n ≡ Parent p → accepts p.envelope ≡ true → ns ≡ children_of p → earliest R (all_below ns) ≡ r → earliest R (below n) ≡ r
-  earliest-opened n p ns r is opened same all = earliest-parent n p true is opened ∙ ap (λ l. earliest R (all_below l)) (sym same) ∙ all
+  earliest-opened n p ns r is opened same all = rw (is, given-Parent accepts selects p, opened) (rw same at all)
 
   -- what is the earliest at the place that was found is the earliest of all
   pub earliest-there : (ns read : List (RTreeNode T E)) (i : ℕ) (t : T) (r : Option T) (d : RTreeNode T E) → read ≡ ns → IsEarliestAt accepts selects R read i t → r ≡ earliest R (below (get_or ns i d))
@@ -186,3 +173,34 @@ module _ {T E : Type 0} {IsPoint : List ℤ → Type 0} {v : Boxes E} {o : Objec
       → (r : Option T) → r ≡ earliest R (given_of accepts selects root) → r ≡ earliest R (filter asks (elements_of root))
   earliest-selected {accepts} {selects} by root whole r is =
       is ∙ ap (earliest R) (all-root laws ok accepts selects by.lawful root whole ∙ ap (λ s. filter s (elements_of root)) by.selects)
+
+-- ---- its removal
+
+module _ {T E : Type 0} where
+  -- the two tests of a leaf
+  pub leaf_is : (n : RTreeNode T E) → is_leaf_node n ≡ is_a_leaf n
+  unfolding is_leaf_node fold_tree
+  leaf_is n = by_layer (out-RTreeNode T E n) (sym (roll-out-RTreeNode T E n)) where
+    by_layer : (x : Layer T E) → n ≡ roll-RTreeNode T E x → is_leaf_node n ≡ is_a_leaf n
+    by_layer (layer.Leaf t) e = let is = e ∙ rolls-Leaf t in ap is_leaf_node is ∙ sym (ap leaf_in (outs-Leaf t)) ∙ sym (ap is_a_leaf is)
+    by_layer (layer.Parent p) e = let is = e ∙ rolls-Parent p in ap is_leaf_node is ∙ sym (ap leaf_in (outs-Parent p)) ∙ sym (ap is_a_leaf is)
+
+  pub no_leaf_here : (n : RTreeNode T E) (t : T) → n ≡ Leaf t → is_leaf_node n ≡ false → ⊥
+  no_leaf_here n t e parent = let is : is_a_leaf n ≡ true = ap is_a_leaf e ∙ ap leaf_in (outs-Leaf t) in let two = leaf_is n in cc
+
+  module _ (accepts : E → Bool) (selects : T → Bool) where
+    -- a leaf below which something is given is selected, and a parent is accepted
+    pub leaf_selected : (n : RTreeNode T E) (t : T) → n ≡ Leaf t → given accepts selects n ≢ [] → selects t ≡ true
+    leaf_selected n t leaf some = true_from_ne_false (selects t) (λ passed. some (rw (leaf, given-Leaf T E accepts selects t, passed)))
+
+    pub given_below : (p : ParentNode T E) → given accepts selects (Parent p) ≢ [] → given accepts selects (Parent p) ≡ all_given accepts selects (children_of p)
+    given_below p some =
+        let opened = true_from_ne_false (accepts p.envelope) (λ shut. some (rw (given-Parent accepts selects p, shut))) in rw (given-Parent accepts selects p, opened)
+
+    -- where nothing is given, nothing is taken
+    pub takes_nothing : {IsPoint : List ℤ → Type 0} {v : Boxes E} {o : Objects T E} (laws : EnvelopeLaws IsPoint v) (ok : ObjectLaws v o) (ns : List (RTreeNode T E))
+        → all_given accepts selects ns ≡ [] → Takes v o accepts selects ns [] None None ns [] None
+    takes_nothing {v} {o} laws ok ns nothing = finishes v o accepts selects ns [] None [] None (length ns) (nowhere v o accepts selects ns (length ns)) (omega arith) (length ns) refl
+        (λ lawful w h k past.
+        let all_behind : length ns - length ns ≡ 0 = omega arith in rw all_behind (filter_none selects (all_elements ns)
+        (sym (all-each laws ok accepts selects lawful h (all-node laws ok accepts selects lawful h) ns (whole_of_kept laws ok w h ns k)) ∙ nothing)))

@@ -1,6 +1,8 @@
 -- One pass that moves selected elements out of a tree.
-use Rattle.std.proofs.Common.{◌≡◌, ◌≢◌, ℕ, ℤ, suc, ◌+◌, ◌-◌, ◌<◌, ◌≤◌, inl, inr, Bool, true, false, List, [], ◌∷◌, ◌++◌, refl, sym, ◌∙◌, ap, subst, arith, length, get_or, set, append_assoc, append-nil, length-append, length-set, get_or-set_same, get_or-set_other, IsPermutation}
-use Rattle.std.specs.List.{AllByRecursion, remove, swap_remove}
+use Rattle.std.proofs.Common.{◌≡◌, ◌≢◌, ℕ, ℤ, suc, ◌+◌, ◌-◌, ◌<◌, ◌≤◌, inl, inr, Bool, true, false, List, [], ◌∷◌, ◌++◌, refl, sym, ◌∙◌, ap, subst, arith, length, get_or, set, append_assoc, append-nil, length-append, length-set, get_or-set_same, get_or-set_other, IsPermutation, if◌then◌else◌, ◌==◌, vec_len}
+use Rattle.std.specs.List.{remove, swap_remove}
+use Rattle.std.proofs.lemmas.List.{nil_from_length, set-get_or}
+use Rattle.std.proofs.lemmas.List.Elements.{recursion_from_All}
 use Rattle.std.proofs.lemmas.List.Sorted.{IsPermutation-refl, IsPermutation-sym, IsPermutation-trans, IsPermutation-append_left, IsPermutation-append_right, IsPermutation-remove, IsPermutation-swap_remove, length_permutation}
 use Rattle.std.proofs.lemmas.Bool.Decides.{eqb_tells}
 use Rattle.rstar_base.specs.Envelopes.{Boxes, EnvelopeLaws}
@@ -8,7 +10,7 @@ use Rattle.rstar_base.specs.Elements.{Objects, ObjectLaws}
 use Rattle.rstar_base.specs.Selections.{IsLawful}
 use Rattle.rstar_base.proofs.Along.{IsPermutation-flat_map}
 use Rattle.rstar_base.proofs.Hulls.{hull_along}
-use Rattle.rstar_base.proofs.Lists.{all-append, all_along}
+use Rattle.rstar_base.proofs.Lists.{all-append}
 use Rattle.rstar.specs.declared.node.RTreeNode.{RTreeNode, Leaf, Parent}
 use Rattle.rstar.specs.declared.node.ParentNode.{ParentNode}
 use Rattle.rstar.specs.declared.rtree.RTree.{RTree}
@@ -32,33 +34,26 @@ module _ {T : Type 0} (selects : T → Bool) (most : ℕ) where
   pub moved_none : (old held new : List T) → IsPermutation old new → Gathers selects most old held new held
   moved_none old held new same = record { more = []; held_more = sym (append-nil held); bag = same; selected = tt; few = λ few. few }
 
-  pub moved_one : (old held new : List T) (t : T) → selects t ≡ true → length held < most → IsPermutation old (t ∷ new) → Gathers selects most old held new (held ++ t ∷ [])
-  moved_one old held new t chosen less same = record {
+  moved_leaf : (t : T) (held : List T) → selects t ≡ true → length held < most → Gathers selects most (t ∷ []) held [] (held ++ t ∷ [])
+  moved_leaf t held chosen less = record {
     more = t ∷ [];
     held_more = refl;
-    bag = same;
+    bag = IsPermutation-refl (t ∷ []);
     selected = (chosen, tt);
     few = λ few. let long = length-append held (t ∷ []) in omega arith;
   }
 
-  pub moved_on : (old held mid held' new held'' : List T) → Gathers selects most old held mid held' → Gathers selects most mid held' new held'' → Gathers selects most old held new held''
-  moved_on old held mid held' new held'' f g = record {
+  -- and then out of a part of what was left
+  moved_on : (old held cur held' part part' rest new held'' : List T) → Gathers selects most old held cur held' → Gathers selects most part held' part' held''
+      → IsPermutation cur (part ++ rest) → IsPermutation (part' ++ rest) new → Gathers selects most old held new held''
+  moved_on old held cur held' part part' rest new held'' f g before after = record {
     more = f.more ++ g.more;
     held_more = g.held_more ∙ ap (λ l. l ++ g.more) f.held_more ∙ append_assoc held f.more g.more;
-    bag = subst (IsPermutation old) (sym (append_assoc f.more g.more new)) (IsPermutation-trans _ _ _ f.bag (IsPermutation-append_right f.more mid (g.more ++ new) g.bag));
+    bag = rw (append_assoc f.more g.more new) (IsPermutation-trans _ _ _ f.bag (IsPermutation-append_right f.more cur (g.more ++ new)
+        (IsPermutation-trans _ _ _ before (IsPermutation-trans _ _ _ (IsPermutation-append_left rest part (g.more ++ part') g.bag)
+        (rw (append_assoc g.more part' rest) (IsPermutation-append_right g.more (part' ++ rest) new after))))));
     selected = all-append (λ x. selects x ≡ true) f.more g.more f.selected g.selected;
     few = λ few. g.few (f.few few);
-  }
-
-  -- out of a part of a list
-  pub moved_part : (part part' rest old new held held' : List T) → Gathers selects most part held part' held' → IsPermutation old (part ++ rest) → IsPermutation (part' ++ rest) new → Gathers selects most old held new held'
-  moved_part part part' rest old new held held' f before after = record {
-    more = f.more;
-    held_more = f.held_more;
-    bag = IsPermutation-trans _ _ _ before (IsPermutation-trans _ _ _ (IsPermutation-append_left rest part (f.more ++ part') f.bag)
-        (subst (λ l. IsPermutation l (f.more ++ new)) (sym (append_assoc f.more part' rest)) (IsPermutation-append_right f.more (part' ++ rest) new after)));
-    selected = f.selected;
-    few = f.few;
   }
 
   pub held_longer : (old held new held' : List T) → Gathers selects most old held new held' → length held ≤ length held'
@@ -71,10 +66,8 @@ module _ {T : Type 0} (selects : T → Bool) (most : ℕ) where
 
   -- where the list did not grow, the elements stay
   pub same_elements : (old held new held' : List T) → Gathers selects most old held new held' → length held' ≤ length held → IsPermutation old new
-  same_elements old held new held' f short = by_more f.more f.held_more f.bag where
-    by_more : (more : List T) → held' ≡ held ++ more → IsPermutation old (more ++ new) → IsPermutation old new
-    by_more [] e bag = bag
-    by_more (x ∷ more) e bag = let long = ap length e in let both = length-append held (x ∷ more) in absurd (omega arith)
+  same_elements old held new held' f short =
+      let none = nil_from_length f.more (omega (arith, short, ap length f.held_more, length-append held f.more)) in rw none at f.bag
 
 -- ---- lists of which the item at i went, and the last one took its place
 
@@ -105,10 +98,6 @@ module _ {A : Type 0} (F : A → Type 0) where
         | inr w ↦ subst F (sym (out.others k d w.1 (omega (arith, lt, long)))) (others k d on w.1 (omega (arith, lt, long)))
       ]
 
-  pub all_at : (xs : List A) → ((k : ℕ) (d : A) → k < length xs → F (get_or xs k d)) → AllByRecursion F xs
-  all_at [] each = tt
-  all_at (x ∷ xs) each = (each 0 x (omega arith), all_at xs (λ k d lt. each (suc k) d (omega (arith, lt))))
-
 -- ---- lists of nodes
 
 module _ {T E : Type 0} where
@@ -119,7 +108,7 @@ module _ {T E : Type 0} where
   elements_put : (ns : List (RTreeNode T E)) (i : ℕ) (n : RTreeNode T E) → i < length ns → IsPermutation (elements n ++ all_elements (remove ns i)) (all_elements (set ns i n))
   elements_put ns i n within =
       let long = length-set ns i n in
-      IsPermutation-sym _ _ (subst (λ (l : List (RTreeNode T E)). IsPermutation (all_elements (set ns i n)) (elements n ++ all_elements l)) (remove_set ns i n within)
+      IsPermutation-sym _ _ (subst (λ (l : List (RTreeNode T E)). IsPermutation (all_elements (set ns i n)) (elements n ++ all_elements l)) (remove_set ns i n)
       (elements_out (set ns i n) i n (omega arith) (sym (get_or-set_same ns i n n within))))
 
   elements_swapped : (ns : List (RTreeNode T E)) (i : ℕ) (n : RTreeNode T E) (ns' : List (RTreeNode T E)) → IsSwappedOut ns i ns' → n ≡ get_or ns i n → IsPermutation (all_elements ns) (elements n ++ all_elements ns')
@@ -170,36 +159,42 @@ module _ {T E : Type 0} (v : Boxes E) (o : Objects T E) (accepts : E → Bool) (
       here_kept : (w h : ℕ) (n : RTreeNode T E) → n ≡ get_or cur i n → AreKept v o w h old → IsKeptNode v o w h n
       here_kept w h n here k = subst (IsKeptNode v o w h) (sym here) (all_get (IsKeptNode v o w h) cur i n here_within (s.kept w h k))
 
+      module _ (n' : RTreeNode T E) (held'' : List T) (room : length held'' < most → length held' < most) where
+        others_passed : IsLawful v o accepts selects → length held'' < most → (w h : ℕ) → AreKept v o w h old
+            → (k : ℕ) (d : RTreeNode T E) → i ≤ k → k ≢ i → k < length (set cur i n') → NoneSelected selects (elements (get_or (set cur i n') k d))
+        others_passed lawful less w h kept k d on other lt = rw (get_or-set_other cur i k n' d other)
+            (s.passed lawful (room less) w h kept k d (omega (arith, on, other, next)) (omega (arith, lt, length-set cur i n')))
+
+        -- the node at i goes, and what it holds is moved
+        goes : (held1 : List T) (cur' : List (RTreeNode T E)) → Gathers selects most (all_elements old) held (all_elements (set cur i n')) held1 → Gathers selects most (elements n') held1 [] held''
+            → IsSwappedOut (set cur i n') i cur' → Gathering old held cur' held'' i
+        goes held1 cur' before at_last out =
+            let long = length-set cur i n' in let short = s.shorter in let within = here_within in let less_one = out.long in
+            record {
+              moved = moved_on selects most (all_elements old) held (all_elements (set cur i n')) held1 (elements n') [] (all_elements cur') (all_elements cur') held'' before at_last
+                  (elements_swapped (set cur i n') i n' cur' out (sym (get_or-set_same cur i n' n' within))) (IsPermutation-refl (all_elements cur'));
+              shorter = omega arith;
+              within = omega arith;
+              first = λ k d lt. out.others k d (λ e. omega (arith, e, lt)) (omega (arith, lt, within, long)) ∙ get_or-set_other cur i k n' d (λ e. omega (arith, e, lt)) ∙ s.first k d (omega (arith, lt, next));
+              kept = λ w h k. recursion_from_All (IsKeptNode v o w h) cur' (λ j d lt. each_left (IsKeptNode v o w h) (set cur i n') i cur' out 0 (omega (arith, within, long))
+                  (λ l e on other lt'. rw (get_or-set_other cur i l n' e other) (all_get (IsKeptNode v o w h) cur l e (omega (arith, lt', long)) (s.kept w h k))) j d (omega arith) lt);
+              passed = λ lawful less w h kept. each_left (λ x. NoneSelected selects (elements x)) (set cur i n') i cur' out i (omega (arith, within, long)) (others_passed lawful less w h kept);
+            }
+
       -- a selected leaf goes
       pub takes_leaf : (t : T) (cur' : List (RTreeNode T E)) → Leaf t ≡ get_or cur i (Leaf t) → selects t ≡ true → length held' < most → IsSwappedOut cur i cur'
           → Gathering old held cur' (held' ++ t ∷ []) i
       takes_leaf t cur' here chosen room out =
-          let long = out.long in let short = s.shorter in let within = here_within in let grown = length-append held' (t ∷ []) in
-          record {
-            moved = moved_on selects most _ _ _ _ _ _ s.moved (moved_one selects most (all_elements cur) held' (all_elements cur') t chosen room
-                (subst (λ (l : List T). IsPermutation (all_elements cur) (l ++ all_elements cur')) (elements-Leaf T E t) (elements_swapped cur i (Leaf t) cur' out here)));
-            shorter = omega arith;
-            within = omega arith;
-            first = λ k d lt. out.others k d (λ e. omega (arith, e, lt)) (omega (arith, lt, within)) ∙ s.first k d (omega (arith, lt, next));
-            kept = λ w h k. (all_along (IsKeptNode v o w h) cur (Leaf t ∷ cur') (out.bag (Leaf t) here) (s.kept w h k)).1;
-            passed = λ lawful less w h kept. each_left (λ n. NoneSelected selects (elements n)) cur i cur' out i within
-                (λ k d on other lt. s.passed lawful (omega (arith, less, grown)) w h kept k d (omega (arith, on, other, next)) lt);
-          }
+          let same : set cur i (Leaf t) ≡ cur = ap (set cur i) here ∙ set-get_or cur i (Leaf t) in
+          goes (Leaf t) (held' ++ t ∷ []) (λ less. room) held' cur' (rw same s.moved) (rw (elements-Leaf T E t) (moved_leaf selects most t held' chosen room)) (rw same out)
 
       module _ (n n' : RTreeNode T E) (held'' : List T) (here : n ≡ get_or cur i n) (ins : GathersInside v o accepts selects most n held' n' held'') (leaf : is_selected_leaf selects n ≡ false) where
         moved_inside : Gathers selects most (all_elements old) held (all_elements (set cur i n')) held''
-        moved_inside = moved_on selects most _ _ _ _ _ _ s.moved
-            (moved_part selects most (elements n) (elements n') (all_elements (remove cur i)) (all_elements cur) (all_elements (set cur i n')) held' held'' ins.moved (elements_out cur i n here_within here) (elements_put cur i n' here_within))
+        moved_inside = moved_on selects most (all_elements old) held (all_elements cur) held' (elements n) (elements n') (all_elements (remove cur i)) (all_elements (set cur i n')) held'' s.moved ins.moved
+            (elements_out cur i n here_within here) (elements_put cur i n' here_within)
 
-        less_before : length held'' < most → length held' < most
-        less_before less = let grown = held_longer selects most _ _ _ _ ins.moved in omega (arith, less, grown)
-
-        others_passed : IsLawful v o accepts selects → length held'' < most → (w h : ℕ) → AreKept v o w h old
-            → (k : ℕ) (d : RTreeNode T E) → i ≤ k → k ≢ i → k < length (set cur i n') → NoneSelected selects (elements (get_or (set cur i n') k d))
-        others_passed lawful less w h kept k d on other lt =
-            let long = length-set cur i n' in
-            subst (λ (x : RTreeNode T E). NoneSelected selects (elements x)) (sym (get_or-set_other cur i k n' d other))
-            (s.passed lawful (less_before less) w h kept k d (omega (arith, on, other, next)) (omega (arith, lt, long)))
+        room_before : length held'' < most → length held' < most
+        room_before less = let grown = held_longer selects most _ _ _ _ ins.moved in omega (arith, less, grown)
 
         -- it stays, without what went
         pub goes_inside : is_childless n' ≡ false → Gathering old held (set cur i n') held'' i
@@ -212,28 +207,14 @@ module _ {T E : Type 0} (v : Boxes E) (o : Objects T E) (accepts : E → Bool) (
               first = λ k d lt. get_or-set_other cur i k n' d (λ e. omega (arith, e, lt)) ∙ s.first k d (omega (arith, lt, next));
               kept = λ w h k. all_set (IsKeptNode v o w h) cur i n' (s.kept w h k) (ins.kept w h (here_kept w h n here k) has);
               passed = λ lawful less w h kept k d on lt. elim (eqb_tells k i) as (λ _. NoneSelected selects (elements (get_or (set cur i n') k d))) [
-                | inl w' ↦
-                    subst (λ (x : RTreeNode T E). NoneSelected selects (elements x)) (sym (ap (λ j. get_or (set cur i n') j d) w'.1 ∙ get_or-set_same cur i n' d within))
-                    (ins.ended lawful leaf less w h (here_kept w h n here kept))
-                | inr w' ↦ others_passed lawful less w h kept k d on w'.1 lt
+                | inl w' ↦ rw (w'.1, get_or-set_same cur i n' d within) (ins.ended lawful leaf less w h (here_kept w h n here kept))
+                | inr w' ↦ others_passed n' held'' room_before lawful less w h kept k d on w'.1 lt
               ];
             }
 
         -- it lost its last child, and goes too
         pub drops_childless : is_childless n' ≡ true → (cur' : List (RTreeNode T E)) → IsSwappedOut (set cur i n') i cur' → Gathering old held cur' held'' i
-        drops_childless empty cur' out =
-            let long = length-set cur i n' in let short = s.shorter in let within = here_within in let less_one = out.long in
-            record {
-              moved = moved_on selects most _ _ _ _ _ _ moved_inside (moved_none selects most (all_elements (set cur i n')) held'' (all_elements cur')
-                  (subst (λ (l : List T). IsPermutation (all_elements (set cur i n')) (l ++ all_elements cur')) (no_elements n' empty)
-                  (elements_swapped (set cur i n') i n' cur' out (sym (get_or-set_same cur i n' n' within)))));
-              shorter = omega arith;
-              within = omega arith;
-              first = λ k d lt. out.others k d (λ e. omega (arith, e, lt)) (omega (arith, lt, within, long)) ∙ get_or-set_other cur i k n' d (λ e. omega (arith, e, lt)) ∙ s.first k d (omega (arith, lt, next));
-              kept = λ w h k. all_at (IsKeptNode v o w h) cur' (λ j d lt. each_left (IsKeptNode v o w h) (set cur i n') i cur' out 0 (omega (arith, within, long))
-                  (λ l e on other lt'. subst (IsKeptNode v o w h) (sym (get_or-set_other cur i l n' e other)) (all_get (IsKeptNode v o w h) cur l e (omega (arith, lt', long)) (s.kept w h k))) j d (omega arith) lt);
-              passed = λ lawful less w h kept. each_left (λ x. NoneSelected selects (elements x)) (set cur i n') i cur' out i (omega (arith, within, long)) (others_passed lawful less w h kept);
-            }
+        drops_childless empty cur' = goes n' held'' room_before held'' cur' moved_inside (rw (no_elements n' empty) (moved_none selects most [] held'' [] (IsPermutation-refl [])))
 
   -- ---- below one node
 
@@ -284,21 +265,21 @@ module _ {T E : Type 0} {IsPoint : List ℤ → Type 0} {v : Boxes E} {o : Objec
   none_ended lawful room = let before = kept_of laws ok max old whole some in among.ended lawful room old.reserve.widest before.0 before.2
 
   -- len and before are how many are held then, and were before
-  module _ (len before : ℕ) (then : len ≡ length held') (first : before ≡ length held) where
+  module _ (len before : ℕ) (len_is : len ≡ length held') (before_is : before ≡ length held) where
     pub fewer_gone : len - before ≤ old.size
     unfolding IsWholeTree
     fewer_gone =
         let all = whole.counted in let same = moved_count selects most _ _ _ _ among.moved in omega arith
 
-    pub whole_left : (tree : RTree T D E P S X) → root_of tree ≡ new → ((w h : ℕ) → IsKept v o w (root_of old) → AreKept v o w h (children_of (root_of old)) → IsKept v o w new)
-        → tree.reserve ≡ old.reserve → tree.size ≡ old.size - (len - before)
-        → (children_of new ≡ [] → tree.levels ≡ 0) → (children_of new ≢ [] → tree.levels ≡ old.levels) → IsWholeTree v o max tree
+    abbrev left_of : ℕ → RTree T D E P S X
+    left_of levels = record { root = new; size = old.size - (len - before); levels = levels; reserve = old.reserve; params = old.params }
+
+    pub whole_left : (levels : ℕ) → ((w h : ℕ) → IsKept v o w (root_of old) → AreKept v o w h (children_of (root_of old)) → IsKept v o w new)
+        → levels ≡ (if vec_len new.children == 0 then 0 else old.levels) → IsWholeTree v o max (left_of levels)
     unfolding IsWholeTree
-    whole_left tree root kept same_reserve less none_left some_left =
+    whole_left levels kept is_left =
         let k = kept_of laws ok max old whole some in
         let all = whole.counted in let same = moved_count selects most _ _ _ _ among.moved in let grown = held_longer selects most _ _ _ _ among.moved in
-        let left : tree.size ≡ length (all_elements (children_of new)) = omega arith in
-        whole_still laws ok max old tree whole some k.0 k.2 (subst (IsKept v o old.reserve.widest) (sym root) (kept old.reserve.widest k.0 k.1 k.2))
-        (subst (λ (p : ParentNode T E). AreKept v o old.reserve.widest k.0 (children_of p)) (sym root) (among.kept old.reserve.widest k.0 k.2))
-        same_reserve (left ∙ ap (λ (p : ParentNode T E). length (all_elements (children_of p))) (sym root))
-        (λ none. none_left (ap children_of (sym root) ∙ none)) (λ some. some_left (λ none. some (ap children_of root ∙ none)))
+        let counted : old.size - (len - before) ≡ length (all_elements (children_of new)) = omega arith in
+        whole_still laws ok max old (left_of levels) whole some k.0 k.2
+        (kept old.reserve.widest k.0 k.1 k.2) (among.kept old.reserve.widest k.0 k.2) refl counted is_left

@@ -1,13 +1,15 @@
 -- One scan of a list of nodes for the next selected element.
-use Rattle.std.proofs.Common.{◌≡◌, ℕ, ℤ, zero, suc, ◌+◌, ◌<◌, ◌≤◌, Bool, true, false, List, [], ◌∷◌, ◌++◌, refl, sym, ◌∙◌, ap, subst, arith, length, get_or, set, take, drop, replicate, ◌-◌, Option, Some, None, IfNone, is_some, length-set, filter, if◌then◌else◌, ◌⊎◌, inl, inr}
+use Rattle.std.proofs.Common.{◌≡◌, ℕ, ℤ, zero, suc, ◌+◌, ◌<◌, ◌≤◌, Bool, true, false, List, [], ◌∷◌, ◌++◌, refl, sym, ◌∙◌, ap, subst, arith, length, get_or, set, take, drop, replicate, ◌-◌, append_assoc, length-append, Option, Some, None, IfSome, IfNone, is_some, filter, ◌⊎◌, inl, inr}
 use Rattle.std.specs.List.{AllByRecursion, remove}
-use Rattle.std.proofs.lemmas.List.{set-get_or, take-append-drop, take-set}
-use Rattle.std.proofs.lemmas.List.Edits.{length-remove}
+use Rattle.std.proofs.lemmas.Bool.{false_from_ne_true}
+use Rattle.std.proofs.lemmas.List.{append-nil, length-drop, set_split, take-append-drop}
+use Rattle.std.proofs.lemmas.List.Concat.{flat_map-append}
+use Rattle.std.proofs.lemmas.List.Prefix.{end_rest}
 use Rattle.rstar_base.specs.Envelopes.{Boxes, EnvelopeLaws}
 use Rattle.rstar_base.specs.Elements.{Objects, ObjectLaws}
 use Rattle.rstar_base.specs.Hulls.{hull}
 use Rattle.rstar_base.specs.Selections.{IsLawful}
-use Rattle.rstar_base.proofs.Lists.{all-append}
+use Rattle.rstar_base.proofs.Lists.{all-append, all_first, all_second}
 use Rattle.rstar_base.proofs.Hulls.{hull-value, hull-append}
 use Rattle.rstar.specs.declared.algorithm.removal.Rest.{Rest}
 use Rattle.rstar.specs.declared.node.RTreeNode.{RTreeNode, Leaf, Parent, out-RTreeNode, roll-out-RTreeNode, roll-RTreeNode}
@@ -19,13 +21,12 @@ use Rattle.rstar.specs.inside.ParentBounds.{IsKept, IsKeptInner, AreKept}
 use Rattle.rstar.specs.Lists.{NoneSelected}
 use Rattle.rstar.specs.inside.Removals.{IsWithout}
 use Rattle.rstar.specs.inside.Taking.{IsPast, IsMerged, IsRest, IsRestAt, Takes, TakesInside, first_children, node_children, children_in, with_first, first_number, lower_numbers, is_selected_leaf, selects_in, is_childless, childless_in, is_nil}
-use Rattle.rstar.proofs.lists.Items.{all_set, all_get}
 use Rattle.rstar.proofs.trees.ByChildren.{elements-Leaf, elements-Parent, is_leaf, parent_of, no_leaf, no_parent, IsParentOf-Parent}
 use Rattle.rstar.proofs.trees.Trees.{all_sound, values-of, merged_is_hull}
 use Rattle.rstar.proofs.inserting.Insertion.{whole_of_kept}
 use Rattle.rstar.proofs.selecting.Complete.{none-selected}
-use Rattle.rstar.proofs.removing.Parts.{rest_none, rest_nothing, rest_itself, rest_lower, rest_here, rest_made, rest_stays, lower_length, take_removed}
-use Rattle.rstar.proofs.removing.Parts.{drop_removed, drop_here, same_without, drop_set, drop_set_more, remove_set, without_middle, elements_split, elements_set, elements_removed, past_parts, past_made, past_zeros, past_nothing, all_take, all_drop, shorter_removed}
+use Rattle.rstar.proofs.removing.Parts.{children_at, split_at, remove_set, without_middle, past_parts, past_made, past_zeros, past_nothing}
+use Rattle.rstar.proofs.removing.Parts.{rest_none, rest_nothing, rest_past, rest_parts, rest_made, rest_later, rest_stays, lower_length}
 
 -- all leaves of the node lie h levels below it, its parents are tight and within the bound
 abbrev pub IsKeptNode : {T E : Type 0} → Boxes E → Objects T E → ℕ → ℕ → RTreeNode T E → Type 0
@@ -35,19 +36,30 @@ abbrev elements_in_layer : {T E : Type 0} → Layer T E → List T
 elements_in_layer (layer.Leaf t) = t ∷ []
 elements_in_layer (layer.Parent p) = all_elements (children_of p)
 
--- so many nodes from the last on were passed over, and none was changed
-pub record Scanned {T E : Type 0} (v : Boxes E) (o : Objects T E) (accepts : E → Bool) (selects : T → Bool)
-    (old : List (RTreeNode T E)) (start : List ℕ) (rest0 : Option (Rest E)) (cur : List (RTreeNode T E)) (path : List ℕ) (rest : Option (Rest E)) (p : ℕ) : Type 0 where
-  pub same : cur ≡ old
-  pub long : length path ≡ length start
-  pub still : length start ≡ 0 → rest ≡ rest0
-  pub rests : (w h : ℕ) → AreKept v o w h old → IsRestAt v o rest0 start old → IsRestAt v o rest (with_first path p) cur
-  pub past : IsLawful v o accepts selects → (w h : ℕ) → AreKept v o w h old → IsPast selects start old
-      → NoneSelected selects (all_elements (drop (length cur - p) cur)) × IsPast selects (lower_numbers path) (first_children (drop (length cur - suc p) cur))
+-- the levels below the first were set back, and with them what was kept there
+pub record IsCleared {E : Type 0} (path : List ℕ) (rest : Option (Rest E)) (path' : List ℕ) (rest' : Option (Rest E)) : Type 0 where
+  pub long : length path' ≡ length path
+  pub numbers : lower_numbers path' ≡ replicate (length (lower_numbers path)) 0
+  pub still : length path ≤ 1 → rest' ≡ rest
+  pub none : 1 < length path → rest' ≡ None
 
-pub if_none : {A P Q : Type 0} (r : Option A) → (P → Q) → IfNone r P → IfNone r Q
-if_none None f p = f p
-if_none (Some x) f p = p
+module _ {T E : Type 0} (v : Boxes E) (o : Objects T E) (accepts : E → Bool) (selects : T → Bool) (ns : List (RTreeNode T E)) (start : List ℕ) where
+  -- none of the last nodes of a list, so many, has a selected element
+  abbrev pub NoneBehind : ℕ → Type 0
+  NoneBehind p = IsLawful v o accepts selects → (w h : ℕ) → AreKept v o w h ns → IsPast selects start ns → NoneSelected selects (all_elements (drop (length ns - p) ns))
+
+  -- a scan reached the node with so many behind it, and changed none
+  pub record Scanned (rest0 : Option (Rest E)) (path : List ℕ) (rest : Option (Rest E)) (p : ℕ) : Type 0 where
+    pub long : length path ≡ length start
+    pub still : length start ≡ 0 → rest ≡ rest0
+    pub rests : (w h : ℕ) → AreKept v o w h ns → IsRestAt v o rest0 start ns
+        → (length path ≡ 1 → IsRest v o rest p ns) × IsRestAt v o rest (lower_numbers path) (children_at ns p)
+    pub past : IsLawful v o accepts selects → (w h : ℕ) → AreKept v o w h ns → IsPast selects start ns
+        → IsPast selects (lower_numbers path) (children_at ns p)
+
+pub if_none : {A P Q : Type 0} (r : Option A) → IfNone r P → (P → Q) → IfNone r Q
+if_none None p f = f p
+if_none (Some x) p f = p
 
 pub none_gives : {A P : Type 0} (r : Option A) → is_some r ≡ false → IfNone r P → P
 none_gives None none p = p
@@ -60,10 +72,8 @@ some_one P (Some x) some = tt
 -- where a filter keeps nothing, nothing is selected
 pub filter_none : {T : Type 0} (selects : T → Bool) (ts : List T) → filter selects ts ≡ [] → NoneSelected selects ts
 filter_none selects [] e = tt
-filter_none {T} selects (t ∷ ts) e = by_test (selects t) refl e (filter_none selects ts) where
-  by_test : (b : Bool) → selects t ≡ b → (if b then t ∷ filter selects ts else filter selects ts) ≡ [] → (filter selects ts ≡ [] → NoneSelected selects ts) → NoneSelected selects (t ∷ ts)
-  by_test true is f rest = cc
-  by_test false is f rest = (is, rest f)
+filter_none selects (t ∷ ts) e =
+    let is = false_from_ne_true (selects t) (λ chosen. let kept = rw chosen at e in cc) in (is, filter_none selects ts (rw is at e))
 
 module _ {T E : Type 0} where
   -- a leaf's element, or those of a parent's children
@@ -106,12 +116,11 @@ module _ {T E : Type 0} where
   childless_parent p = ap childless_in (outs-Parent p)
 
   module _ (v : Boxes E) (o : Objects T E) (w : ℕ) where
-    leaves_alone : (ns : List (RTreeNode T E)) → AreKept v o w 0 ns → first_children ns ≡ []
-    leaves_alone [] k = refl
-    leaves_alone (n ∷ ns) k = let l = is_leaf (IsElement v o) n k.0 in children_leaf n l.0 l.1
-
-    leaf_no_parent : (h : ℕ) (n : RTreeNode T E) (t : T) → n ≡ Leaf t → IsKeptNode v o w (suc h) n → ⊥
-    leaf_no_parent h n t e k = no_parent _ t (subst (IsKeptNode v o w (suc h)) e k)
+    leaves_alone : (ns : List (RTreeNode T E)) (j : ℕ) → AreKept v o w 0 ns → first_children (drop j ns) ≡ []
+    leaves_alone [] zero k = refl
+    leaves_alone [] (suc j) k = refl
+    leaves_alone (n ∷ ns) zero k = let l = is_leaf (IsElement v o) n k.0 in children_leaf n l.0 l.1
+    leaves_alone (n ∷ ns) (suc j) k = leaves_alone ns j k.1
 
     pub below_then : (A : Type 0) (h : ℕ) (p : ParentNode T E) → IsKeptNode v o w h (Parent p) → ((h : ℕ) → IsKept v o w p → AreKept v o w h p.children.items → A) → A
     below_then A zero p k f = absurd (no_leaf _ p k)
@@ -144,31 +153,17 @@ module _ {T E : Type 0} (v : Boxes E) (o : Objects T E) (accepts : E → Bool) (
   entered p q path path' rest rest' r takes kept same = record {
     taken = rw (elements-Parent p, elements-Parent q) takes.taken;
     selected = takes.selected;
-    whole = λ w h k at has.
-        let before : IsRestAt v o rest path p.children.items = subst (IsRestAt v o rest path) (children_parent p) at in
-        whole_again v o w h p q (λ h' a b. (kept w h' a b before, takes.whole w h' b before)) k has;
-    rests = λ w h k at.
-        let before : IsRestAt v o rest path p.children.items = subst (IsRestAt v o rest path) (children_parent p) at in
-        subst (IsRestAt v o rest' path') (sym (children_parent q))
-        (below_then v o w (IsRestAt v o rest' path' q.children.items) h p k (λ h' a b. takes.rests w h' b before));
+    whole = λ w h k spot has.
+        let before = subst (IsRestAt v o rest path) (children_parent p) spot in whole_again v o w h p q (λ h' a b. (kept w h' a b before, takes.whole w h' b before)) k has;
+    rests = λ w h k spot. subst (IsRestAt v o rest' path') (sym (children_parent q))
+        (below_then v o w _ h p k (λ h' a b. takes.rests w h' b (subst (IsRestAt v o rest path) (children_parent p) spot)));
     still = takes.still;
-    kept = if_none r (λ (e : q ≡ p). ap Parent e) same;
-    past = λ lawful w h k past.
-        let before : IsPast selects path p.children.items = subst (IsPast selects path) (children_parent p) past in
-        subst (IsPast selects path') (sym (children_parent q))
-        (below_then v o w (IsPast selects path' q.children.items) h p k (λ h' a b. takes.past lawful w h' b before));
-    missed = if_none r (λ (missed : IsLawful v o accepts selects → (w h : ℕ) → AreKept v o w h p.children.items → IsPast selects path p.children.items → NoneSelected selects (all_elements p.children.items)).
-        λ lawful w h k past.
-        let before : IsPast selects path p.children.items = subst (IsPast selects path) (children_parent p) past in
-        subst (λ (ns : List (RTreeNode T E)). NoneSelected selects (all_elements ns)) (sym (children_parent p))
-        (below_then v o w (NoneSelected selects (all_elements p.children.items)) h p k (λ h' a b. missed lawful w h' b before))) takes.missed;
+    kept = if_none r same (λ e. ap Parent e);
+    past = λ lawful w h k past. subst (IsPast selects path') (sym (children_parent q))
+        (below_then v o w _ h p k (λ h' a b. takes.past lawful w h' b (subst (IsPast selects path) (children_parent p) past)));
+    missed = if_none r takes.missed (λ missed lawful w h k past.
+        rw (children_parent p) (below_then v o w _ h p k (λ h' a b. missed lawful w h' b (subst (IsPast selects path) (children_parent p) past))));
   }
-
-  -- a leaf that is not selected
-  pub passed_leaf : (all : List (RTreeNode T E)) (n : RTreeNode T E) (t : T) (ns : List (RTreeNode T E)) → all ≡ n ∷ ns → n ≡ Leaf t → selects t ≡ false
-      → NoneSelected selects (all_elements ns) → NoneSelected selects (all_elements all)
-  passed_leaf all n t ns is leaf passed none =
-      subst (NoneSelected selects) (sym (ap all_elements is ∙ ap (λ (ts : List T). ts ++ all_elements ns) (ap elements leaf ∙ elements-Leaf T E t))) (passed, none)
 
   -- a parent that was not opened
   pub not_entered : {IsPoint : List ℤ → Type 0} (laws : EnvelopeLaws IsPoint v) (ok : ObjectLaws v o) (p : ParentNode T E) (path : List ℕ) (rest : Option (Rest E))
@@ -177,277 +172,203 @@ module _ {T E : Type 0} (v : Boxes E) (o : Objects T E) (accepts : E → Bool) (
   not_entered laws ok p path rest no_entry = record {
     taken = refl;
     selected = tt;
-    whole = λ w h k at has. k;
-    rests = λ w h k at. at;
+    whole = λ w h k spot has. k;
+    rests = λ w h k spot. spot;
     still = λ none. refl;
     kept = refl;
     past = λ lawful w h k past. past;
-    missed = λ lawful w h k past. subst (λ (ns : List (RTreeNode T E)). NoneSelected selects (all_elements ns)) (sym (children_parent p))
-        (below_then v o w (NoneSelected selects (all_elements p.children.items)) h p k (λ h' a b. by_case lawful h' a.tight (whole_of_kept laws ok w h' p.children.items b) no_entry));
-  } where
-    by_case : IsLawful v o accepts selects → (h : ℕ) → IsTight v o p → AreWhole v o h p.children.items → (accepts p.envelope ≡ false) ⊎ NoneSelected selects (all_elements p.children.items) → NoneSelected selects (all_elements p.children.items)
-    by_case lawful h tight whole (inl shut) = refused laws ok accepts selects lawful h p tight whole shut
-    by_case lawful h tight whole (inr none) = none
-
-  -- below a place that ends, or where no envelope is kept
-  rest_below : (path : List ℕ) (rest : Option (Rest E)) → (1 < length path → rest ≡ None) → (ns : List (RTreeNode T E)) → IsRestAt v o rest (lower_numbers path) ns
-  rest_below [] rest gone ns = tt
-  rest_below (i ∷ []) rest gone ns = tt
-  rest_below (i ∷ (j ∷ path)) rest gone ns = subst (λ (z : Option (Rest E)). IsRestAt v o z (j ∷ path) ns) (sym (gone (omega arith))) (rest_none v o (j ∷ path) ns)
-
-  -- where all were passed over
-  rest_past : (rest : Option (Rest E)) (e : ℕ) (ns : List (RTreeNode T E)) → length ns ≤ e → IsRest v o rest e ns
-  rest_past None e ns over = tt
-  rest_past (Some r) e ns over = λ within. absurd (omega (arith, within, over))
-
-  -- before the last node
-  pub begins : (ns : List (RTreeNode T E)) (path : List ℕ) (rest : Option (Rest E)) (p : ℕ) → p ≡ first_number path → Scanned v o accepts selects ns path rest ns path rest p
-  begins ns path rest p e = record {
-    same = refl;
-    long = refl;
-    still = λ none. refl;
-    rests = λ w h k at. subst (λ (q : ℕ). IsRestAt v o rest (with_first path q) ns) (sym e) (rest_itself v o rest path ns at);
-    past = λ lawful w h k past.
-        subst (λ (q : ℕ). NoneSelected selects (all_elements (drop (length ns - q) ns)) × IsPast selects (lower_numbers path) (first_children (drop (length ns - suc q) ns))) (sym e) (past_parts selects path ns past);
+    missed = λ lawful w h k past. rw (children_parent p) (below_then v o w (NoneSelected selects (all_elements p.children.items)) h p k (λ h' a b. elim no_entry [
+      | inl shut ↦ refused laws ok accepts selects lawful h' p a.tight (whole_of_kept laws ok w h' p.children.items b) shut
+      | inr none ↦ none
+    ]));
   }
 
-  module _ (old : List (RTreeNode T E)) (start : List ℕ) (rest0 : Option (Rest E)) (cur : List (RTreeNode T E)) (path : List ℕ) (rest : Option (Rest E)) (p : ℕ)
-      (s : Scanned v o accepts selects old start rest0 cur path rest p) where
-    same_length : length cur ≡ length old
-    same_length = ap length s.same
+  -- below a place that was set back
+  module _ {path path' : List ℕ} {rest rest' : Option (Rest E)} (cleared : IsCleared path rest path' rest') where
+    rest_below : (ns : List (RTreeNode T E)) → IsRestAt v o rest' (lower_numbers path') ns
+    rest_below = by_path path' (λ more. cleared.none (omega (arith, more, cleared.long))) where
+      by_path : (q : List ℕ) → (1 < length q → rest' ≡ None) → (ns : List (RTreeNode T E)) → IsRestAt v o rest' (lower_numbers q) ns
+      by_path [] gone ns = tt
+      by_path (i ∷ []) gone ns = tt
+      by_path (i ∷ (j ∷ q)) gone ns = subst (λ (z : Option (Rest E)). IsRestAt v o z (j ∷ q) ns) (sym (gone (omega arith))) (rest_none v o (j ∷ q) ns)
 
-    kept_now : (w h : ℕ) → AreKept v o w h old → AreKept v o w h cur
-    kept_now w h k = subst (AreKept v o w h) (sym s.same) k
+    past_below : (ns : List (RTreeNode T E)) → IsPast selects (lower_numbers path') ns
+    past_below ns = rw cleared.numbers (past_zeros selects (length (lower_numbers path)) ns)
+
+  -- before the last node
+  pub begins : (ns : List (RTreeNode T E)) (path : List ℕ) (rest : Option (Rest E)) (p : ℕ) → p ≡ first_number path
+      → Scanned v o accepts selects ns path rest path rest p × NoneBehind v o accepts selects ns path p
+  begins ns path rest p e = (
+    record {
+      long = refl;
+      still = λ none. refl;
+      rests = λ w h k spot. rw e (rest_parts v o rest path ns spot);
+      past = λ lawful w h k past. rw e (past_parts selects path ns past).1;
+    },
+    λ lawful w h k past. rw e (past_parts selects path ns past).0,
+  )
+
+  module _ (old : List (RTreeNode T E)) (start : List ℕ) (rest0 : Option (Rest E)) (path : List ℕ) (rest : Option (Rest E)) (p : ℕ)
+      (s : Scanned v o accepts selects old start rest0 path rest p) where
+    -- all nodes were passed over
+    pub finishes : length old ≤ p → (e : ℕ) → e ≡ length old → NoneBehind v o accepts selects old start p → Takes v o accepts selects old start rest0 None old (with_first path e) rest
+    finishes over e is_all behind =
+        let all : length old - p ≡ 0 = omega arith in
+        let none_left : length old - e ≡ length old - p = omega arith in
+        let below : length old - suc e ≡ length old - suc p = omega arith in
+        record {
+          taken = refl;
+          selected = tt;
+          whole = λ w h k spot. k;
+          rests = λ w h k spot. rest_made v o rest path e old (λ one. rest_past v o rest e old (omega (arith, is_all))) (rw below (s.rests w h k spot).1);
+          still = s.still;
+          shorter = omega arith;
+          past = λ lawful w h k past. past_made selects path e old (λ some. rw none_left (behind lawful w h k past)) (rw below (s.past lawful w h k past));
+          missed = λ lawful w h k past. rw all at (behind lawful w h k past);
+        }
 
     -- the node at i comes next
-    module _ (i : ℕ) (next : length cur ≡ suc (i + p)) where
+    module _ (cur : List (RTreeNode T E)) (same : cur ≡ old) (i : ℕ) (next : length cur ≡ suc (i + p)) where
+      abbrev front : List (RTreeNode T E)
+      front = take i cur
+
+      abbrev back : List (RTreeNode T E)
+      back = drop (suc i) cur
+
+      last : p ≡ length back
+      last = omega (arith, next, length-drop (suc i) cur)
+
       within : i < length cur
       within = omega (arith, next)
 
-      without_one : (w h : ℕ) → AreKept v o w h cur → AreKept v o w h (remove cur i)
-      without_one w h k = all-append (IsKeptNode v o w h) (take i cur) (drop (suc i) cur) (all_take (IsKeptNode v o w h) i cur k) (all_drop (IsKeptNode v o w h) (suc i) cur k)
+      module _ (n : RTreeNode T E) (here : n ≡ get_or cur i n) where
+        split : old ≡ front ++ n ∷ back
+        split = sym same ∙ split_at cur i n within here
 
-      here_whole : (w h : ℕ) (n : RTreeNode T E) → n ≡ get_or cur i n → AreKept v o w h cur → IsKeptNode v o w h n
-      here_whole w h n here k = subst (IsKeptNode v o w h) (sym here) (all_get (IsKeptNode v o w h) cur i n within k)
+        from_here : drop (length old - suc p) old ≡ n ∷ back
+        from_here = rw last (end_rest old (n ∷ back) front split)
 
-      -- beside a leaf stand leaves alone
-      beside_leaf : (w h j : ℕ) (t : T) → Leaf t ≡ get_or cur i (Leaf t) → AreKept v o w h cur → first_children (drop j (remove cur i)) ≡ []
-      beside_leaf w zero j t here k = leaves_alone v o w (drop j (remove cur i)) (all_drop (IsKeptNode v o w 0) j (remove cur i) (without_one w 0 k))
-      beside_leaf w (suc h) j t here k = absurd (leaf_no_parent v o w h (get_or cur i (Leaf t)) t (sym here) (all_get (IsKeptNode v o w (suc h)) cur i (Leaf t) within k))
+        from_behind : drop (length old - p) old ≡ back
+        from_behind = rw last (end_rest old back (front ++ n ∷ []) (split ∙ sym (append_assoc front (n ∷ []) back)))
 
-      behind_here : IsLawful v o accepts selects → (w h : ℕ) → AreKept v o w h old → IsPast selects start old → NoneSelected selects (all_elements (drop (suc i) cur))
-      behind_here lawful w h k past =
-          let at : length cur - p ≡ suc i = omega (arith, next) in
-          subst (λ (j : ℕ). NoneSelected selects (all_elements (drop j cur))) at (s.past lawful w h k past).0
+        parts_kept : (w h : ℕ) → AreKept v o w h old → AreKept v o w h front × AreKept v o w h (n ∷ back)
+        parts_kept w h k =
+            let parted = subst (AreKept v o w h) split k in (all_first (IsKeptNode v o w h) front (n ∷ back) parted, all_second (IsKeptNode v o w h) front (n ∷ back) parted)
 
-      -- the nodes from i on, in a list without the node at i
-      none_behind : NoneSelected selects (all_elements (drop (suc i) cur)) → NoneSelected selects (all_elements (drop (length (remove cur i) - p) (remove cur i)))
-      none_behind none =
-          let long = length-remove cur i within in
-          let at : length (remove cur i) - p ≡ i = omega (arith, next, long) in
-          subst (λ (j : ℕ). NoneSelected selects (all_elements (drop j (remove cur i)))) (sym at)
-          (subst (λ (ns : List (RTreeNode T E)). NoneSelected selects (all_elements ns)) (sym (drop_removed cur i within)) none)
+        rest_inside : (w h : ℕ) → AreKept v o w h old → IsRestAt v o rest0 start old → IsRestAt v o rest (lower_numbers path) (node_children n)
+        rest_inside w h k spot = rw from_here at ((s.rests w h k spot).1)
 
-      -- the nodes in front of i stay, and so what is kept of them
-      rest_removed : (rest' : Option (Rest E)) → IsRest v o rest' p cur → IsRest v o rest' p (remove cur i)
-      rest_removed rest' kept =
-          let long = length-remove cur i within in
-          rest_stays v o rest' p p i cur (remove cur i) (omega arith) (omega (arith, long)) (omega (arith, long, next)) (take_removed cur i within) kept
+        past_inside : IsLawful v o accepts selects → (w h : ℕ) → AreKept v o w h old → IsPast selects start old → IsPast selects (lower_numbers path) (node_children n)
+        past_inside lawful w h k past = rw from_here at (s.past lawful w h k past)
 
-      rest_set : (rest' : Option (Rest E)) (n' : RTreeNode T E) (j : ℕ) → p ≤ j → IsRest v o rest' p cur → IsRest v o rest' j (set cur i n')
-      rest_set rest' n' j on kept =
-          let long = length-set cur i n' in
-          rest_stays v o rest' p j i cur (set cur i n') on (omega (arith, long)) (omega (arith, long, next)) (take-set cur i n') kept
+        -- something below it is given, and in its place are these nodes
+        gives : (mid : List (RTreeNode T E)) (path' : List ℕ) (rest' : Option (Rest E)) (r : Option T) → length mid ≤ 1 → length path' ≡ length path → (length path ≤ 1 → rest' ≡ rest)
+            → (0 < length start → NoneBehind v o accepts selects old start p) → is_some r ≡ true → IfSome r (λ x. selects x ≡ true) → IsWithout (elements n) r (all_elements mid)
+            → ((w h : ℕ) → AreKept v o w h old → IsRestAt v o rest0 start old
+            → AreKept v o w h mid × IsRestAt v o rest' (lower_numbers path') (children_at (front ++ (mid ++ back)) p))
+            → (IsLawful v o accepts selects → (w h : ℕ) → AreKept v o w h old → IsPast selects start old
+            → IsPast selects (lower_numbers path') (children_at (front ++ (mid ++ back)) p))
+            → Takes v o accepts selects old start rest0 r (front ++ (mid ++ back)) (with_first path' p) rest'
+        gives mid path' rest' r few levels stays behind some chosen without rests past =
+            let new = front ++ (mid ++ back) in
+            let new_behind : drop (length new - p) new ≡ back = rw last (end_rest new back (front ++ mid) (sym (append_assoc front mid back))) in
+            let mids = length-append mid back in
+            record {
+              taken = rw (split, flat_map-append elements front (n ∷ back), flat_map-append elements front (mid ++ back), flat_map-append elements mid back)
+                  (without_middle (all_elements front) (elements n) (all_elements mid) (all_elements back) r without);
+              selected = chosen;
+              whole = λ w h k spot. all-append (IsKeptNode v o w h) front (mid ++ back) (parts_kept w h k).0
+                  (all-append (IsKeptNode v o w h) mid back (rests w h k spot).0 (parts_kept w h k).1.1);
+              rests = λ w h k spot. rest_made v o rest' path' p new (λ one. rest_stays v o rest' front (n ∷ back) (mid ++ back) p (omega (arith, last)) (omega (arith, last, few, mids))
+                  (rw (stays (omega (arith, one, levels))) (subst (IsRest v o rest p) split ((s.rests w h k spot).0 (omega (arith, one, levels)))))) (rests w h k spot).1;
+              still = λ none. stays (omega (arith, none, s.long)) ∙ s.still none;
+              shorter = omega (arith, ap length split, length-append front (n ∷ back), length-append front (mid ++ back), mids, few);
+              past = λ lawful w h k before. past_made selects path' p new
+                  (λ more. rw new_behind (rw from_behind at (behind (omega (arith, more, levels, s.long)) lawful w h k before))) (past lawful w h k before);
+              missed = some_one _ r some;
+            }
+
+        module _ (n' : RTreeNode T E) (path' : List ℕ) (rest' : Option (Rest E)) (r : Option T)
+            (ins : TakesInside v o accepts selects n (lower_numbers path) rest r n' (lower_numbers path') rest') (levels : length path' ≡ length path) where
+          -- where the place ends here, what is kept is left
+          stays : length path ≤ 1 → rest' ≡ rest
+          stays one = ins.still (omega (arith, one, lower_length path))
+
+          -- something below it was given, and it stays
+          pub gives_inside : (0 < length start → NoneBehind v o accepts selects old start p) → is_some r ≡ true → is_childless n' ≡ false
+              → Takes v o accepts selects old start rest0 r (set cur i n') (with_first path' p) rest'
+          gives_inside behind some has = rw (set_split cur i n' within)
+              (gives (n' ∷ []) path' rest' r (omega arith) levels stays behind some ins.selected (rw (append-nil (elements n')) ins.taken)
+              (λ w h k spot. ((ins.whole w h (parts_kept w h k).1.0 (rest_inside w h k spot) has, tt), rw from_new (ins.rests w h (parts_kept w h k).1.0 (rest_inside w h k spot))))
+              (λ lawful w h k past. rw from_new (ins.past lawful w h (parts_kept w h k).1.0 (past_inside lawful w h k past)))) where
+                from_new : drop (length (front ++ n' ∷ back) - suc p) (front ++ n' ∷ back) ≡ n' ∷ back
+                from_new = rw last (end_rest (front ++ n' ∷ back) (n' ∷ back) front refl)
+
+          module _ (path'' : List ℕ) (rest'' : Option (Rest E)) (cleared : IsCleared path' rest' path'' rest'') where
+            -- it was the last thing there
+            pub gives_last : (0 < length start → NoneBehind v o accepts selects old start p) → is_some r ≡ true → is_childless n' ≡ true
+                → Takes v o accepts selects old start rest0 r (remove (set cur i n') i) (with_first path'' p) rest''
+            gives_last behind some empty = rw (remove_set cur i n')
+                (gives [] path'' rest'' r (omega arith) (cleared.long ∙ levels) (λ one. cleared.still (omega (arith, one, levels)) ∙ stays one) behind some ins.selected
+                (rw (no_elements n' empty) at ins.taken) (λ w h k spot. (tt, rest_below cleared (children_at (front ++ back) p)))
+                (λ lawful w h k past. past_below cleared (children_at (front ++ back) p)))
+
+            -- nothing was, and it is passed over
+            pub passes : NoneBehind v o accepts selects old start p → is_some r ≡ false → is_selected_leaf selects n ≡ false
+                → Scanned v o accepts selects old start rest0 path'' rest'' (p + 1) × NoneBehind v o accepts selects old start (p + 1)
+            passes behind none chosen =
+                let one_more : p + 1 ≡ suc p = omega arith in
+                let missed = none_gives r none ins.missed in (
+                  record {
+                    long = cleared.long ∙ levels ∙ s.long;
+                    still = λ zeros. cleared.still (omega (arith, zeros, levels, s.long)) ∙ stays (omega (arith, zeros, s.long)) ∙ s.still zeros;
+                    rests = λ w h k spot. (
+                      λ one. rw (cleared.still (omega (arith, one, cleared.long)) ∙ stays (omega (arith, one, cleared.long, levels)))
+                          (rest_later v o rest p (p + 1) old (omega arith) ((s.rests w h k spot).0 (omega (arith, one, cleared.long, levels)))),
+                      rest_below cleared (children_at old (p + 1)),
+                    );
+                    past = λ lawful w h k past. past_below cleared (children_at old (p + 1));
+                  },
+                  λ lawful w h k past. rw (one_more, from_here) (all-append (λ t. selects t ≡ false) (elements n) (all_elements back)
+                      (node_none selects n chosen (missed lawful w h (parts_kept w h k).1.0 (past_inside lawful w h k past)))
+                      (rw from_behind at (behind lawful w h k past))),
+                )
 
       -- it is a leaf that is given
-      pub gives_leaf : (t : T) → Leaf t ≡ get_or cur i (Leaf t) → selects t ≡ true
+      pub gives_leaf : (t : T) → Leaf t ≡ get_or cur i (Leaf t) → (0 < length start → NoneBehind v o accepts selects old start p) → selects t ≡ true
           → Takes v o accepts selects old start rest0 (Some t) (remove cur i) (with_first path p) rest
-      gives_leaf t here chosen =
-          let parts : all_elements cur ≡ all_elements (take i cur) ++ ((t ∷ []) ++ all_elements (drop (suc i) cur)) =
-          elements_split cur i (Leaf t) within here ∙ ap (λ (z : List T). all_elements (take i cur) ++ (z ++ all_elements (drop (suc i) cur))) (elements-Leaf T E t) in
-          let short = shorter_removed cur i in let len = same_length in
-          record {
-            taken = record { before = all_elements (take i cur); after = all_elements (drop (suc i) cur); was = sym (ap all_elements s.same) ∙ parts; is = elements_removed cur i };
-            selected = chosen;
-            whole = λ w h k at. without_one w h (kept_now w h k);
-            rests = λ w h k at. rest_made v o rest path p (remove cur i) (λ one. rest_removed rest (rest_here v o rest path p cur one (s.rests w h k at)))
-                (subst (IsRestAt v o rest (lower_numbers path)) (sym (beside_leaf w h (length (remove cur i) - suc p) t here (kept_now w h k))) (rest_nothing v o rest (lower_numbers path)));
-            still = s.still;
-            shorter = omega arith;
-            past = λ lawful w h k past. past_made selects path (remove cur i) p (none_behind (behind_here lawful w h k past))
-                (subst (IsPast selects (lower_numbers path)) (sym (beside_leaf w h (length (remove cur i) - suc p) t here (kept_now w h k))) (past_nothing E selects (lower_numbers path)));
-            missed = tt;
-          }
+      gives_leaf t here behind chosen = gives (Leaf t) here [] path rest (Some t) (omega arith) refl (λ one. refl) behind refl chosen
+          (record { before = []; after = []; was = elements-Leaf T E t; is = refl })
+          (λ w h k spot. (tt, rw (alone w h k) (rest_nothing v o rest (lower_numbers path)))) (λ lawful w h k past. rw (alone w h k) (past_nothing E selects (lower_numbers path))) where
+            -- beside a leaf stand leaves alone
+            alone : (w h : ℕ) → AreKept v o w h old → children_at (front ++ back) p ≡ []
+            alone w zero k = let kept = parts_kept (Leaf t) here w 0 k in leaves_alone v o w (front ++ back) (length (front ++ back) - suc p) (all-append (IsKeptNode v o w 0) front back kept.0 kept.1.1)
+            alone w (suc h) k = absurd (no_parent _ t (parts_kept (Leaf t) here w (suc h) k).1.0)
 
-      module _ (n n' : RTreeNode T E) (path' : List ℕ) (rest' : Option (Rest E)) (r : Option T) (here : n ≡ get_or cur i n)
-          (ins : TakesInside v o accepts selects n (lower_numbers path) rest r n' (lower_numbers path') rest') (levels : length path' ≡ length path) where
-        -- where the place ends here, what is kept is left
-        same_rest : length path ≤ 1 → rest' ≡ rest
-        same_rest one = ins.still (omega (arith, one, lower_length path))
+  -- a place of no levels says nothing: so a node is taken wherever it stands
+  pub nowhere : (ns : List (RTreeNode T E)) (p : ℕ) → Scanned v o accepts selects ns [] None [] None p
+  nowhere ns p = record { long = refl; still = λ none. refl; rests = λ w h k spot. (λ one. absurd (omega (arith, one)), tt); past = λ lawful w h k past. tt }
 
-        still_here : length start ≡ 0 → rest' ≡ rest0
-        still_here none = same_rest (omega (arith, none, s.long)) ∙ s.still none
+  module _ (ns : List (RTreeNode T E)) (i : ℕ) (within_list : i < length ns) where
+    abbrev after : ℕ
+    after = length (drop (suc i) ns)
 
-        at_here : (w h : ℕ) → AreKept v o w h old → IsRestAt v o rest0 start old → IsRestAt v o rest (lower_numbers path) (node_children n)
-        at_here w h k at =
-            let spot : length cur - suc p ≡ i = omega (arith, next) in
-            subst (λ (ns : List (RTreeNode T E)). IsRestAt v o rest (lower_numbers path) (first_children ns)) (drop_here cur i n within here)
-            (subst (λ (j : ℕ). IsRestAt v o rest (lower_numbers path) (first_children (drop j cur))) spot (rest_lower v o rest path p cur (s.rests w h k at)))
+    at_i : length ns ≡ suc (i + after)
+    at_i = omega (arith, within_list, length-drop (suc i) ns)
 
-        kept_here : (w h : ℕ) → AreKept v o w h old → IsRestAt v o rest0 start old → length path ≡ 1 → IsRest v o rest' p cur
-        kept_here w h k at one =
-            subst (λ (z : Option (Rest E)). IsRest v o z p cur) (sym (same_rest (omega (arith, one)))) (rest_here v o rest path p cur one (s.rests w h k at))
+    no_level : 0 < 0 → NoneBehind v o accepts selects ns [] after
+    no_level some = absurd (omega (arith, some))
 
-        -- what the list holds with n' in the place of n
-        without_here : IsWithout (all_elements old) r (all_elements (set cur i n'))
-        without_here =
-            same_without (all_elements (take i cur) ++ (elements n ++ all_elements (drop (suc i) cur))) (all_elements old)
-            (all_elements (take i cur) ++ (elements n' ++ all_elements (drop (suc i) cur))) (all_elements (set cur i n')) r
-            (sym (elements_split cur i n within here) ∙ ap all_elements s.same) (sym (elements_set cur i n' within))
-            (without_middle (all_elements (take i cur)) (elements n) (elements n') (all_elements (drop (suc i) cur)) r ins.taken)
+    pub takes_leaf : (t : T) → Leaf t ≡ get_or ns i (Leaf t) → selects t ≡ true → Takes v o accepts selects ns [] None (Some t) (remove ns i) [] None
+    takes_leaf t here chosen = gives_leaf ns [] None [] None after (nowhere ns after) ns refl i at_i t here no_level chosen
 
-        below_here : IsLawful v o accepts selects → (w h : ℕ) → AreKept v o w h old → IsPast selects start old → IsPast selects (lower_numbers path) (node_children n)
-        below_here lawful w h k past =
-            let at : length cur - suc p ≡ i = omega (arith, next) in
-            subst (λ (ns : List (RTreeNode T E)). IsPast selects (lower_numbers path) (first_children ns)) (drop_here cur i n within here)
-            (subst (λ (j : ℕ). IsPast selects (lower_numbers path) (first_children (drop j cur))) at (s.past lawful w h k past).1)
+    module _ (n n' : RTreeNode T E) (r : Option T) (here : n ≡ get_or ns i n) (ins : TakesInside v o accepts selects n [] None r n' [] None) (some : is_some r ≡ true) where
+      pub takes_below : is_childless n' ≡ false → Takes v o accepts selects ns [] None r (set ns i n') [] None
+      takes_below has = gives_inside ns [] None [] None after (nowhere ns after) ns refl i at_i n here n' [] None r ins refl no_level some has
 
-        -- something below it was given, and it stays
-        pub gives_inside : is_some r ≡ true → is_childless n' ≡ false → Takes v o accepts selects old start rest0 r (set cur i n') (with_first path' p) rest'
-        gives_inside some has =
-            let len = same_length in let long = length-set cur i n' in
-            let at : length (set cur i n') - p ≡ suc i = omega (arith, next, long) in
-            let spot : length (set cur i n') - suc p ≡ i = omega (arith, next, long) in
-            record {
-              taken = without_here;
-              selected = ins.selected;
-              whole = λ w h k kept. all_set (IsKeptNode v o w h) cur i n' (kept_now w h k) (ins.whole w h (here_whole w h n here (kept_now w h k)) (at_here w h k kept) has);
-              rests = λ w h k kept. rest_made v o rest' path' p (set cur i n') (λ one. rest_set rest' n' p (omega arith) (kept_here w h k kept (omega (arith, one, levels))))
-                  (subst (λ (j : ℕ). IsRestAt v o rest' (lower_numbers path') (first_children (drop j (set cur i n')))) (sym spot)
-                  (subst (λ (ns : List (RTreeNode T E)). IsRestAt v o rest' (lower_numbers path') (first_children ns)) (sym (drop_set cur i n' within))
-                  (ins.rests w h (here_whole w h n here (kept_now w h k)) (at_here w h k kept))));
-              still = still_here;
-              shorter = omega arith;
-              past = λ lawful w h k past. past_made selects path' (set cur i n') p
-                  (subst (λ (j : ℕ). NoneSelected selects (all_elements (drop j (set cur i n')))) (sym at)
-                  (subst (λ (ns : List (RTreeNode T E)). NoneSelected selects (all_elements ns)) (sym (drop_set_more cur i n' within)) (behind_here lawful w h k past)))
-                  (subst (λ (j : ℕ). IsPast selects (lower_numbers path') (first_children (drop j (set cur i n')))) (sym spot)
-                  (subst (λ (ns : List (RTreeNode T E)). IsPast selects (lower_numbers path') (first_children ns)) (sym (drop_set cur i n' within))
-                  (ins.past lawful w h (here_whole w h n here (kept_now w h k)) (below_here lawful w h k past))));
-              missed = some_one _ r some;
-            }
-
-        -- something below it was given, and it was the last thing there
-        -- of no lower levels the place is kept with its envelope, and else without
-        cleared_still : (rest'' : Option (Rest E)) → (length path' ≤ 1 → rest'' ≡ rest') → length start ≡ 0 → rest'' ≡ rest0
-        cleared_still rest'' stay none = stay (omega (arith, none, s.long, levels)) ∙ still_here none
-
-        cleared_here : (rest'' : Option (Rest E)) → (length path' ≤ 1 → rest'' ≡ rest') → (w h : ℕ) → AreKept v o w h old → IsRestAt v o rest0 start old → length path' ≡ 1
-            → IsRest v o rest'' p cur
-        cleared_here rest'' stay w h k at one =
-            subst (λ (z : Option (Rest E)). IsRest v o z p cur) (sym (stay (omega (arith, one)))) (kept_here w h k at (omega (arith, one, levels)))
-
-        pub gives_last : is_some r ≡ true → is_childless n' ≡ true → (path'' : List ℕ) (rest'' : Option (Rest E)) (d : ℕ) → lower_numbers path'' ≡ replicate d 0
-            → length path'' ≡ length path' → (length path' ≤ 1 → rest'' ≡ rest') → (1 < length path' → rest'' ≡ None)
-            → Takes v o accepts selects old start rest0 r (remove (set cur i n') i) (with_first path'' p) rest''
-        gives_last some empty path'' rest'' d cleared levels'' stay gone =
-            let len = same_length in let long = length-set cur i n' in let short = shorter_removed (set cur i n') i in
-            record {
-              taken = same_without (all_elements old) (all_elements old) (all_elements (set cur i n')) (all_elements (remove (set cur i n') i)) r refl
-                  (elements_set cur i n' within ∙ ap (λ (z : List T). all_elements (take i cur) ++ (z ++ all_elements (drop (suc i) cur))) (no_elements n' empty)
-                  ∙ sym (elements_removed cur i) ∙ ap all_elements (sym (remove_set cur i n' within))) without_here;
-              selected = ins.selected;
-              whole = λ w h k kept. subst (AreKept v o w h) (sym (remove_set cur i n' within)) (without_one w h (kept_now w h k));
-              rests = λ w h k kept. subst (IsRestAt v o rest'' (with_first path'' p)) (sym (remove_set cur i n' within))
-                  (rest_made v o rest'' path'' p (remove cur i) (λ one. rest_removed rest'' (cleared_here rest'' stay w h k kept (omega (arith, one, levels''))))
-                  (rest_below path'' rest'' (λ more. gone (omega (arith, more, levels''))) (first_children (drop (length (remove cur i) - suc p) (remove cur i)))));
-              still = cleared_still rest'' stay;
-              shorter = omega arith;
-              past = λ lawful w h k past. past_made selects path'' (remove (set cur i n') i) p
-                  (subst (λ (ns : List (RTreeNode T E)). NoneSelected selects (all_elements (drop (length ns - p) ns))) (sym (remove_set cur i n' within)) (none_behind (behind_here lawful w h k past)))
-                  (subst (λ (q : List ℕ). IsPast selects q (first_children (drop (length (remove (set cur i n') i) - suc p) (remove (set cur i n') i)))) (sym cleared)
-                  (past_zeros selects d (first_children (drop (length (remove (set cur i n') i) - suc p) (remove (set cur i n') i)))));
-              missed = some_one _ r some;
-            }
-
-      module _ (n n' : RTreeNode T E) (path' : List ℕ) (rest' : Option (Rest E)) (here : n ≡ get_or cur i n)
-          (ins : TakesInside v o accepts selects n (lower_numbers path) rest None n' (lower_numbers path') rest') (levels : length path' ≡ length path) where
-        -- it is passed over
-        passes : is_selected_leaf selects n ≡ false → (path'' : List ℕ) (rest'' : Option (Rest E)) (d : ℕ) → lower_numbers path'' ≡ replicate d 0
-            → length path'' ≡ length path' → (length path' ≤ 1 → rest'' ≡ rest') → (1 < length path' → rest'' ≡ None)
-            → Scanned v o accepts selects old start rest0 (set cur i n') path'' rest'' (p + 1)
-        passes chosen path'' rest'' d cleared levels'' stay gone =
-            let long = length-set cur i n' in
-            let at : length (set cur i n') - (p + 1) ≡ i = omega (arith, next, long) in
-            record {
-              same = ap (λ z. set cur i z) ins.kept ∙ ap (set cur i) here ∙ set-get_or cur i n ∙ s.same;
-              long = levels'' ∙ levels ∙ s.long;
-              still = cleared_still n n' path' rest' None here ins levels rest'' stay;
-              rests = λ w h k kept. rest_made v o rest'' path'' (p + 1) (set cur i n')
-                  (λ one. rest_set rest'' n' (p + 1) (omega arith) (cleared_here n n' path' rest' None here ins levels rest'' stay w h k kept (omega (arith, one, levels''))))
-                  (rest_below path'' rest'' (λ more. gone (omega (arith, more, levels''))) (first_children (drop (length (set cur i n') - suc (p + 1)) (set cur i n'))));
-              past = λ lawful w h k past. (
-                subst (λ (j : ℕ). NoneSelected selects (all_elements (drop j (set cur i n')))) (sym at)
-                    (subst (λ (ns : List (RTreeNode T E)). NoneSelected selects (all_elements ns)) (sym (drop_set cur i n' within))
-                    (all-append (λ t. selects t ≡ false) (elements n') (all_elements (drop (suc i) cur))
-                    (subst (NoneSelected selects) (sym ins.taken)
-                    (node_none selects n chosen (ins.missed lawful w h (here_whole w h n here (kept_now w h k)) (below_here n n' path' rest' None here ins levels lawful w h k past))))
-                    (behind_here lawful w h k past))),
-                subst (λ (q : List ℕ). IsPast selects q (first_children (drop (length (set cur i n') - suc (p + 1)) (set cur i n')))) (sym cleared)
-                    (past_zeros selects d (first_children (drop (length (set cur i n') - suc (p + 1)) (set cur i n')))),
-              );
-            }
-
-      pub passes_any : (n n' : RTreeNode T E) (path' : List ℕ) (rest' : Option (Rest E)) (r : Option T) → is_some r ≡ false → n ≡ get_or cur i n
-          → TakesInside v o accepts selects n (lower_numbers path) rest r n' (lower_numbers path') rest' → length path' ≡ length path → is_selected_leaf selects n ≡ false
-          → (path'' : List ℕ) (rest'' : Option (Rest E)) (d : ℕ) → lower_numbers path'' ≡ replicate d 0 → length path'' ≡ length path' → (length path' ≤ 1 → rest'' ≡ rest')
-          → (1 < length path' → rest'' ≡ None) → Scanned v o accepts selects old start rest0 (set cur i n') path'' rest'' (p + 1)
-      passes_any n n' path' rest' None nothing here ins levels chosen path'' rest'' d cleared levels'' stay gone =
-          passes n n' path' rest' here ins levels chosen path'' rest'' d cleared levels'' stay gone
-      passes_any n n' path' rest' (Some x) nothing here ins levels chosen path'' rest'' d cleared levels'' stay gone = cc
-
-    -- all nodes were passed over
-    pub finishes : length cur ≤ p → (e : ℕ) → e ≡ length cur → Takes v o accepts selects old start rest0 None cur (with_first path e) rest
-    finishes over e at_end =
-        let len = same_length in
-        let all : length cur - p ≡ 0 = omega arith in
-        let behind : length cur - e ≡ length cur - p = omega arith in
-        let below : length cur - suc e ≡ length cur - suc p = omega arith in
-        record {
-          taken = ap all_elements s.same;
-          selected = tt;
-          whole = λ w h k kept. kept_now w h k;
-          rests = λ w h k kept. rest_made v o rest path e cur (λ one. rest_past rest e cur (omega (arith, at_end)))
-              (subst (λ (j : ℕ). IsRestAt v o rest (lower_numbers path) (first_children (drop j cur))) (sym below) (rest_lower v o rest path p cur (s.rests w h k kept)));
-          still = s.still;
-          shorter = omega arith;
-          past = λ lawful w h k past. past_made selects path cur e
-              (subst (λ (j : ℕ). NoneSelected selects (all_elements (drop j cur))) (sym behind) (s.past lawful w h k past).0)
-              (subst (λ (j : ℕ). IsPast selects (lower_numbers path) (first_children (drop j cur))) (sym below) (s.past lawful w h k past).1);
-          missed = λ lawful w h k past. subst (NoneSelected selects) (ap all_elements s.same)
-              (subst (λ (j : ℕ). NoneSelected selects (all_elements (drop j cur))) all (s.past lawful w h k past).0);
-        }
-
--- a step after which what is kept was written once more
-pub along : {T E : Type 0} (v : Boxes E) (o : Objects T E) (accepts : E → Bool) (selects : T → Bool) (old new : List (RTreeNode T E)) (path path' : List ℕ)
-    (rest rest' rest'' : Option (Rest E)) (r : Option T) → Takes v o accepts selects old path rest r new path' rest' → length path' ≡ length path
-    → (IsRestAt v o rest' path' new → IsRestAt v o rest'' path' new) → (length path' ≡ 0 → rest'' ≡ rest')
-    → Takes v o accepts selects old path rest r new path' rest''
-along v o accepts selects old new path path' rest rest' rest'' r takes levels rests still = record {
-  taken = takes.taken;
-  selected = takes.selected;
-  whole = takes.whole;
-  rests = λ w h k before. rests (takes.rests w h k before);
-  still = λ none. still (omega (arith, none, levels)) ∙ takes.still none;
-  shorter = takes.shorter;
-  past = takes.past;
-  missed = takes.missed;
-}
-
--- what is kept, where the next node is none of those that were merged
-pub left_front : {T E : Type 0} (v : Boxes E) (o : Objects T E) (old : Option (Rest E)) (rest : Rest E) (ns : List (RTreeNode T E)) (left passed : ℕ) → old ≡ Some rest
-    → rest.count < left → left ≡ length ns - passed → IsRest v o old passed ns → IsMerged v o rest ns
-left_front v o old rest ns left passed is less many at = (subst (λ z. IsRest v o z passed ns) is at) (omega (arith, less, many))
+      pub takes_last : is_childless n' ≡ true → Takes v o accepts selects ns [] None r (remove (set ns i n') i) [] None
+      takes_last empty = gives_last ns [] None [] None after (nowhere ns after) ns refl i at_i n here n' [] None r ins refl [] None
+          (record { long = refl; numbers = refl; still = λ one. refl; none = λ more. refl }) no_level some empty
 
 -- the merge of the envelopes of nodes, in two parts
 module _ {T E : Type 0} {IsPoint : List ℤ → Type 0} {v : Boxes E} (laws : EnvelopeLaws IsPoint v) (o : Objects T E) where

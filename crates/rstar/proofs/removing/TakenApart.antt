@@ -48,19 +48,6 @@ module _ {T E : Type 0} where
   lists-pop (suc h) (m ∷ lists) nodes is =
       let r = lists-pop h lists nodes is.1 in (r.0, omega (arith, r.1), (is.0, r.2), r.3)
 
-  -- the last node is a leaf, and is given
-  pub gives_leaf : (room : ℕ) (lists : List (List (RTreeNode T E))) (nodes rest : List (RTreeNode T E)) (t : T) → nodes ≡ rest ++ Leaf t ∷ [] → HasItsLists room (lists ++ nodes ∷ [])
-      → HasItsLists room (lists ++ rest ∷ []) × (elements_held (lists ++ nodes ∷ []) ≡ elements_held (lists ++ rest ∷ []) ++ t ∷ [])
-  gives_leaf room lists nodes rest t is its =
-      let r = lists-pop its.height lists nodes its.levels in
-      let level = subst (AllByRecursion (IsLevel r.0)) is r.3 in
-      let one : all_elements nodes ≡ all_elements rest ++ t ∷ [] =
-      ap all_elements is ∙ flat_map-append elements rest (Leaf t ∷ []) ∙ ap (λ (l : List T). all_elements rest ++ (l ++ [])) (elements-Leaf T E t) in (
-        record { height = its.height; fits = its.fits; levels = lists-push its.height r.0 lists rest r.1 r.2 (all_first (IsLevel r.0) rest (Leaf t ∷ []) level) },
-        held-last lists nodes ∙ ap (λ (l : List T). elements_held lists ++ l) one ∙ sym (append_assoc (elements_held lists) (all_elements rest) (t ∷ []))
-            ∙ ap (λ (l : List T). l ++ t ∷ []) (sym (held-last lists rest)),
-      )
-
   -- the last node is a parent, whose children come next
   pub goes_below : (room : ℕ) (lists : List (List (RTreeNode T E))) (nodes rest : List (RTreeNode T E)) (p : ParentNode T E) → nodes ≡ rest ++ Parent p ∷ [] → HasItsLists room (lists ++ nodes ∷ [])
       → (length lists < room) × HasItsLists room ((lists ++ rest ∷ []) ++ children_of p ∷ [])
@@ -76,36 +63,20 @@ module _ {T E : Type 0} where
       let beside = lists-push its.height r.0 lists rest r.1 r.2 (all_first (IsLevel r.0) rest (Parent p ∷ []) level) in
       let one : all_elements nodes ≡ all_elements rest ++ all_elements (children_of p) =
       ap all_elements is ∙ flat_map-append elements rest (Parent p ∷ []) ∙ ap (λ (l : List T). all_elements rest ++ l) (append-nil (elements (Parent p)) ∙ elements-Parent p) in
-      let s1 = steps-last lists nodes in
-      let s2 = ap (λ (l : List (RTreeNode T E)). total (map steps l)) is ∙ ap total (map-append steps rest (Parent p ∷ [])) ∙ total-append (map steps rest) (map steps (Parent p ∷ [])) in
-      let s3 = steps-Parent p in
-      let s4 = steps-last (lists ++ rest ∷ []) (children_of p) in
-      let s5 = steps-last lists rest in (
+      let steps_here = ap (λ (l : List (RTreeNode T E)). total (map steps l)) is ∙ ap total (map-append steps rest (Parent p ∷ [])) ∙ total-append (map steps rest) (map steps (Parent p ∷ [])) in (
         omega (arith, r.1, below.1, fits),
         record { height = its.height; fits = its.fits; levels = lists-push its.height below.0 (lists ++ rest ∷ []) (children_of p) (omega (arith, r.1, below.1, long)) beside below.2 },
-        held-last lists nodes ∙ ap (λ (l : List T). elements_held lists ++ l) one ∙ sym (append_assoc (elements_held lists) (all_elements rest) (all_elements (children_of p)))
-            ∙ ap (λ (l : List T). l ++ all_elements (children_of p)) (sym (held-last lists rest)) ∙ sym (held-last (lists ++ rest ∷ []) (children_of p)),
-        omega (arith, s1, s2, s3, s4, s5),
-      )
-
-  -- the last list is at its end
-  pub goes_back : (room : ℕ) (lists : List (List (RTreeNode T E))) (nodes : List (RTreeNode T E)) → nodes ≡ [] → HasItsLists room (lists ++ nodes ∷ [])
-      → HasItsLists room lists × (elements_held (lists ++ nodes ∷ []) ≡ elements_held lists) × (steps_in lists < steps_in (lists ++ nodes ∷ []))
-  goes_back room lists nodes is its =
-      let s = steps-last lists nodes in (
-        record { height = its.height; fits = its.fits; levels = (lists-pop its.height lists nodes its.levels).2 },
-        held-last lists nodes ∙ ap (λ (l : List (RTreeNode T E)). elements_held lists ++ all_elements l) is ∙ append-nil (elements_held lists),
-        omega (arith, s),
+        rw (held-last lists nodes, held-last (lists ++ rest ∷ []) (children_of p), held-last lists rest, one) (sym (append_assoc (elements_held lists) (all_elements rest) (all_elements (children_of p)))),
+        omega (arith, steps_here, steps-Parent p, steps-last lists nodes, steps-last lists rest, steps-last (lists ++ rest ∷ []) (children_of p)),
       )
 
   -- where it begins
   pub begins_below : (v : Boxes E) (o : Objects T E) (root : ParentNode T E) (room : ℕ) (lists : List (List (RTreeNode T E))) → IsWhole v o root → lists ≡ [] → levels_below (children_of root) ≤ room
       → HasItsLists room (lists ++ children_of root ∷ []) × (elements_held (lists ++ children_of root ∷ []) ≡ elements_of root)
-  begins_below v o root room lists whole none fits = (
-    subst (λ (l : List (List (RTreeNode T E))). HasItsLists room (l ++ children_of root ∷ [])) (sym none)
-        (record { height = suc (levels_below (children_of root)); fits = omega arith; levels = (all-level v o _ (children_of root) (at_levels (IsInner v o) (IsElement v o) (λ p q. q.1) whole.height _ (children_of root) refl whole.below), tt) }),
-    ap (λ (l : List (List (RTreeNode T E))). elements_held (l ++ children_of root ∷ [])) none ∙ append-nil (elements_of root),
-  )
+  begins_below v o root room lists whole none fits =
+      let height = levels_below (children_of root) in
+      let levels = all-level v o height (children_of root) (at_levels (IsInner v o) (IsElement v o) (λ p q. q.1) whole.height height (children_of root) refl whole.below) in
+      rw none (record { height = suc height; fits = omega arith; levels = (levels, tt) }, append-nil (elements_of root))
 
 module _ {T E : Type 0} where
   -- a call that gives an element, and leaves fewer
@@ -118,14 +89,7 @@ module _ {T E : Type 0} where
       → HasItsLists (vec_capacity new.path) (lists_of new) × (elements_held (lists_of old) ≡ elements_held (lists_of new)) × (steps_in (lists_of new) < steps_in (lists_of old))
   went_below old new rest p is nodes path room its =
       let all = goes_below (vec_capacity old.path) (map (λ v. v.items) old.path.items) old.nodes.items rest.items p is its in
-      let now : lists_of new ≡ (map (λ v. v.items) old.path.items ++ rest.items ∷ []) ++ children_of p ∷ [] =
-      ap (λ l. map (λ v. v.items) l ++ new.nodes.items ∷ []) path
-      ∙ ap (λ l. l ++ new.nodes.items ∷ []) (map-append (λ v. v.items) old.path.items (rest ∷ []))
-      ∙ ap (λ n. (map (λ v. v.items) old.path.items ++ rest.items ∷ []) ++ n ∷ []) nodes in (
-        rw (room, now) all.1,
-        all.2 ∙ ap elements_held (sym now),
-        subst (λ l. steps_in l < steps_in (lists_of old)) (sym now) all.3,
-      )
+      rw (room, path, map-append (λ v. v.items) old.path.items (rest ∷ []), nodes) (all.1, all.2, all.3)
 
   -- and back to the list above
   pub went_back : (old : IntoIter T E) (path : Vec (Vec (RTreeNode T E) Global) Global) (above : Vec (RTreeNode T E) Global) → old.nodes.items ≡ [] → old.path.items ≡ path.items ++ above ∷ []
@@ -133,11 +97,12 @@ module _ {T E : Type 0} where
       → HasItsLists (vec_capacity path) (map (λ v. v.items) path.items ++ above.items ∷ []) × (elements_held (lists_of old) ≡ elements_held (map (λ v. v.items) path.items ++ above.items ∷ []))
       × (steps_in (map (λ v. v.items) path.items ++ above.items ∷ []) < steps_in (lists_of old))
   went_back old path above none is room its =
-      let all = goes_back (vec_capacity old.path) (map (λ v. v.items) old.path.items) old.nodes.items none its in
-      let now : map (λ v. v.items) old.path.items ≡ map (λ v. v.items) path.items ++ above.items ∷ [] = ap (map (λ v. v.items)) is ∙ map-append (λ v. v.items) path.items (above ∷ []) in (
-        rw room (subst (HasItsLists (vec_capacity old.path)) now all.0),
-        all.1 ∙ ap elements_held now,
-        subst (λ l. steps_in l < steps_in (lists_of old)) now all.2,
+      let lists : List (List (RTreeNode T E)) = map (λ v. v.items) old.path.items in
+      let now : lists ≡ map (λ v. v.items) path.items ++ above.items ∷ [] = ap (map (λ v. v.items)) is ∙ map-append (λ v. v.items) path.items (above ∷ []) in
+      rw (room, ← now) (
+        record { height = its.height; fits = its.fits; levels = (lists-pop its.height lists old.nodes.items its.levels).2 },
+        held-last lists old.nodes.items ∙ ap (λ (l : List (RTreeNode T E)). elements_held lists ++ all_elements l) none ∙ append-nil (elements_held lists),
+        omega (arith, steps-last lists old.nodes.items),
       )
 
   -- there is room for the list that is left for a parent's
@@ -154,5 +119,12 @@ module _ {T E : Type 0} where
       → HasItsLists (vec_capacity old.path) (map (λ v. v.items) old.path.items ++ rest.items ∷ [])
       × (reverse (elements_held (lists_of old)) ≡ t ∷ reverse (elements_held (map (λ v. v.items) old.path.items ++ rest.items ∷ [])))
   gave old rest t is its =
-      let leaf = gives_leaf (vec_capacity old.path) (map (λ v. v.items) old.path.items) old.nodes.items rest.items t is its in
-      (leaf.0, ap reverse leaf.1 ∙ reverse-append (elements_held (map (λ v. v.items) old.path.items ++ rest.items ∷ [])) (t ∷ []))
+      let lists : List (List (RTreeNode T E)) = map (λ v. v.items) old.path.items in
+      let r = lists-pop its.height lists old.nodes.items its.levels in
+      let one : all_elements old.nodes.items ≡ all_elements rest.items ++ t ∷ [] =
+      ap all_elements is ∙ flat_map-append elements rest.items (Leaf t ∷ []) ∙ ap (λ (l : List T). all_elements rest.items ++ (l ++ [])) (elements-Leaf T E t) in
+      let held : elements_held (lists ++ old.nodes.items ∷ []) ≡ elements_held (lists ++ rest.items ∷ []) ++ t ∷ [] =
+      rw (held-last lists old.nodes.items, held-last lists rest.items, one) (sym (append_assoc (elements_held lists) (all_elements rest.items) (t ∷ []))) in (
+        record { height = its.height; fits = its.fits; levels = lists-push its.height r.0 lists rest.items r.1 r.2 (all_first (IsLevel r.0) rest.items (Leaf t ∷ []) (subst (AllByRecursion (IsLevel r.0)) is r.3)) },
+        ap reverse held ∙ reverse-append (elements_held (lists ++ rest.items ∷ [])) (t ∷ []),
+      )

@@ -1,17 +1,18 @@
 -- What a walk gives, against the list of the elements.
-use Rattle.std.proofs.Common.{◌≡◌, ℕ, ℤ, zero, suc, List, [], ◌∷◌, ◌++◌, refl, ap, ◌∙◌, sym, subst, Bool, true, false, if◌then◌else◌, filter, ◌⊎◌, inl, inr}
-use Rattle.std.specs.List.{AllByRecursion}
+use Rattle.std.proofs.Common.{◌≡◌, ℕ, ℤ, List, [], ◌∷◌, ◌++◌, refl, ap, ◌∙◌, sym, subst, Bool, true, false, if◌then◌else◌, filter, ◌⊎◌, inl, inr}
+use Rattle.std.specs.List.{AllByRecursion, AllZip}
 use Rattle.std.proofs.lemmas.List.Elements.{filter-append}
 use Rattle.rstar_base.specs.Envelopes.{Boxes, EnvelopeLaws}
 use Rattle.rstar_base.specs.Elements.{Objects, ObjectLaws}
 use Rattle.rstar_base.specs.Hulls.{hull}
 use Rattle.rstar_base.specs.Selections.{IsLawful}
 use Rattle.rstar_base.proofs.Hulls.{hull-value}
-use Rattle.rstar.specs.declared.node.RTreeNode.{RTreeNode, Leaf, Parent', Row_of-RTreeNode, end_of-RTreeNode, more_of-RTreeNode}
+use Rattle.rstar.specs.declared.node.RTreeNode.{RTreeNode, Parent}
 use Rattle.rstar.specs.declared.node.ParentNode.{ParentNode}
-use Rattle.rstar.specs.Nodes.{fold_tree, fold_row, joined, given, all_given, given_of, elements, all_elements, elements_of, children_of, envelope_of, IsTree, IsElement, IsInner, AreWhole, IsWhole}
+use Rattle.rstar.specs.Nodes.{joined, given, all_given, given_of, elements, all_elements, elements_of, children_of, envelope_of, IsTree, IsElement, IsTight, IsInner, AreWhole, IsWhole}
 use Rattle.rstar.specs.Selections.{IsPartOf}
-use Rattle.rstar.proofs.trees.ByChildren.{is_leaf, is_parent, elements-Leaf, elements-Parent, given-Leaf, given-Parent}
+use Rattle.rstar.proofs.selecting.Folds.{zip-fold, flat_map-each, both-folds, by_height}
+use Rattle.rstar.proofs.trees.ByChildren.{elements-Leaf, elements-Parent, given-Leaf, given-Parent}
 use Rattle.rstar.proofs.trees.Trees.{all_sound, values-of}
 
 -- ---- any function: what is given is selected, and each place at most once
@@ -20,10 +21,6 @@ part-refl : {A : Type 0} (xs : List A) → IsPartOf xs xs
 part-refl [] = refl
 part-refl (x ∷ xs) = inr (xs, refl, part-refl xs)
 
-part-none : {A : Type 0} (ys : List A) → IsPartOf [] ys
-part-none [] = refl
-part-none (y ∷ ys) = inl (part-none ys)
-
 part-append : {A : Type 0} (xs xs' ys ys' : List A) → IsPartOf xs ys → IsPartOf xs' ys' → IsPartOf (xs ++ xs') (ys ++ ys')
 part-append xs xs' [] ys' p q = subst (λ l. IsPartOf (l ++ xs') ys') (sym p) q
 part-append xs xs' (y ∷ ys) ys' (inl p) q = inl (part-append xs xs' ys ys' p q)
@@ -31,30 +28,23 @@ part-append xs xs' (y ∷ ys) ys' (inr p) q = inr (p.0 ++ xs', ap (λ l. l ++ xs
 
 part-if : {A : Type 0} (b : Bool) (xs ys : List A) → IsPartOf xs ys → IsPartOf (if b then xs else []) ys
 part-if true xs ys p = p
-part-if false xs ys p = part-none ys
+part-if false xs [] p = refl
+part-if false xs (y ∷ ys) p = inl (part-if false ys ys (part-refl ys))
 
 module _ {T E : Type 0} (accepts : E → Bool) (selects : T → Bool) where
-  mutual
-    unfolding given elements fold_tree
+  abbrev IsPart : List T → List T → Type 0
+  IsPart xs ys = IsPartOf xs (filter selects ys)
 
-    part-node : (n : RTreeNode T E) → IsPartOf (given accepts selects n) (filter selects (elements n))
-    part-node (Leaf t) = part-refl (filter selects (t ∷ []))
-    part-node (Parent' shape children envelope) = part-if (accepts envelope) _ _ (part-row children)
+  part-joined : (xs ys : List (List T)) → AllZip IsPart xs ys → IsPart (joined xs) (joined ys)
+  part-joined = zip-fold IsPart (λ xs ys. IsPart (joined xs) (joined ys)) refl
+      (λ x y xs ys part rest. rw filter-append (part-append x (joined xs) (filter selects y) (filter selects (joined ys)) part rest))
 
-    part-row : {k : _} (row : Row_of-RTreeNode T E k)
-        → IsPartOf (joined (fold_row (λ t. if selects t then t ∷ [] else []) (λ e below. if accepts e then joined below else []) row)) (filter selects (joined (fold_row (λ t. t ∷ []) (λ e below. joined below) row)))
-    part-row end_of-RTreeNode = refl
-    part-row (more_of-RTreeNode node rest) =
-        subst (IsPartOf _) (sym (filter-append selects (elements node) _)) (part-append (given accepts selects node) _ (filter selects (elements node)) _ (part-node node) (part-row rest))
-
-  part-all : (ns : List (RTreeNode T E)) → IsPartOf (all_given accepts selects ns) (filter selects (all_elements ns))
-  part-all [] = refl
-  part-all (n ∷ ns) =
-      subst (IsPartOf (all_given accepts selects (n ∷ ns))) (sym (filter-append selects (elements n) (all_elements ns)))
-      (part-append (given accepts selects n) (all_given accepts selects ns) (filter selects (elements n)) (filter selects (all_elements ns)) (part-node n) (part-all ns))
+  part-node : (n : RTreeNode T E) → IsPart (given accepts selects n) (elements n)
+  unfolding given elements
+  part-node n = both-folds IsPart _ _ _ _ (λ t. part-refl (filter selects (t ∷ []))) (λ e xs ys parts. part-if (accepts e) (joined xs) _ (part-joined xs ys parts)) n
 
   pub part-root : (root : ParentNode T E) → IsPartOf (given_of accepts selects root) (filter selects (elements_of root))
-  part-root root = part-if (accepts (envelope_of root)) _ _ (part-all (children_of root))
+  part-root root = rw (given-Parent, elements-Parent) at (part-node (Parent root))
 
 -- ---- a lawful function: all that is selected is given
 
@@ -80,38 +70,30 @@ module _ {T E : Type 0} {IsPoint : List ℤ → Type 0} {v : Boxes E} {o : Objec
       by_test false f denied others is = others
 
   -- at a parent: either it is opened, or none of its elements is selected
-  all-if : (ts below : List T) (e : E) (b : Bool) → AllByRecursion (IsElement v o) ts → e ≡ hull v o.box_of ts → accepts e ≡ b
-      → below ≡ filter selects ts → (if b then below else []) ≡ filter selects ts
-  all-if ts below e true all tight is same = same
-  all-if ts below e false all tight is same =
-      let vm = hull-value laws o.box_of ts (values-of laws ok ts all) in
-      sym (none-selected ts v.empty all laws.empty_value (ap accepts (laws.merge_empty _ vm ∙ sym tight) ∙ is))
+  pub at-parent : {X : Type 0} (h : ℕ) (p : ParentNode T E) → IsTight v o p → AreWhole v o h (children_of p) → (below other all : X)
+      → below ≡ all → (filter selects (elements_of p) ≡ [] → other ≡ all) → (if accepts (envelope_of p) then below else other) ≡ all
+  at-parent h p tight whole below other all opened refused = by_test (accepts (envelope_of p)) refl
+    where
+      by_test : (b : Bool) → accepts (envelope_of p) ≡ b → (if b then below else other) ≡ all
+      by_test true is = opened
+      by_test false is =
+          let sound = all_sound v o h (children_of p) whole in
+          let vm = hull-value laws o.box_of (elements_of p) (values-of laws ok (elements_of p) sound) in
+          refused (none-selected (elements_of p) v.empty sound laws.empty_value (ap accepts (laws.merge_empty _ vm ∙ sym tight) ∙ is))
 
-  module _ where
-    pub all-each : (h : ℕ) → ((n : RTreeNode T E) → IsTree (IsInner v o) (IsElement v o) h n → given accepts selects n ≡ filter selects (elements n))
-        → (ns : List (RTreeNode T E)) → AreWhole v o h ns → all_given accepts selects ns ≡ filter selects (all_elements ns)
-    all-each h one [] w = refl
-    all-each h one (n ∷ ns) w =
-        ap (λ (l : List T). l ++ all_given accepts selects ns) (one n w.0)
-        ∙ ap (λ (l : List T). filter selects (elements n) ++ l) (all-each h one ns w.1)
-        ∙ sym (filter-append selects (elements n) (all_elements ns))
+  pub all-each : (h : ℕ) → ((n : RTreeNode T E) → IsTree (IsInner v o) (IsElement v o) h n → given accepts selects n ≡ filter selects (elements n))
+      → (ns : List (RTreeNode T E)) → AreWhole v o h ns → all_given accepts selects ns ≡ filter selects (all_elements ns)
+  all-each h = flat_map-each (filter selects) refl (filter-append selects) (given accepts selects) elements (IsTree (IsInner v o) (IsElement v o) h)
 
-    pub all-node : (h : ℕ) (n : RTreeNode T E) → IsTree (IsInner v o) (IsElement v o) h n → given accepts selects n ≡ filter selects (elements n)
-    all-node zero n w =
-        let l = is_leaf (IsElement v o) n w in
-        ap (given accepts selects) l.1 ∙ given-Leaf T E accepts selects l.0
-        ∙ sym (ap (filter selects) (ap elements l.1 ∙ elements-Leaf T E l.0))
-    all-node (suc h) n w =
-        let p = is_parent _ n w in
-        ap (given accepts selects) p.1 ∙ given-Parent accepts selects p.0
-        ∙ all-if (elements_of p.0) (all_given accepts selects (children_of p.0)) (envelope_of p.0) (accepts (envelope_of p.0))
-        (all_sound v o h (children_of p.0) p.2.1) p.2.0.0 refl (all-each h (all-node h) (children_of p.0) p.2.1)
-        ∙ sym (ap (filter selects) (ap elements p.1 ∙ elements-Parent p.0))
+  pub all-node : (h : ℕ) (n : RTreeNode T E) → IsTree (IsInner v o) (IsElement v o) h n → given accepts selects n ≡ filter selects (elements n)
+  all-node = by_height (IsInner v o) (IsElement v o) (λ h n. given accepts selects n ≡ filter selects (elements n))
+      (λ t is. given-Leaf T E accepts selects t ∙ sym (ap (filter selects) (elements-Leaf T E t)))
+      (λ h one p inner whole. given-Parent accepts selects p ∙ at-parent h p inner.0 whole _ [] _ (all-each h one (children_of p) whole) (λ none. sym none)
+      ∙ sym (ap (filter selects) (elements-Parent p)))
 
-    pub all-root : (root : ParentNode T E) → IsWhole v o root → given_of accepts selects root ≡ filter selects (elements_of root)
-    all-root root whole =
-        all-if (elements_of root) (all_given accepts selects (children_of root)) (envelope_of root) (accepts (envelope_of root))
-        (all_sound v o whole.height (children_of root) whole.below) whole.tight refl (all-each whole.height (all-node whole.height) (children_of root) whole.below)
+  pub all-root : (root : ParentNode T E) → IsWhole v o root → given_of accepts selects root ≡ filter selects (elements_of root)
+  all-root root whole =
+      at-parent whole.height root whole.tight whole.below _ [] _ (all-each whole.height (all-node whole.height) (children_of root) whole.below) (λ none. sym none)
 
 -- a filter that keeps all
 pub filter-every : {A : Type 0} (xs : List A) → filter (λ x. true) xs ≡ xs
@@ -121,14 +103,14 @@ filter-every (x ∷ xs) = ap (λ l. x ∷ l) (filter-every xs)
 -- ---- from a root
 
 module _ {T E : Type 0} (accepts : E → Bool) (selects : T → Bool) (root : ParentNode T E) where
+  pub gives_below : accepts (envelope_of root) ≡ true → given_of accepts selects root ≡ all_given accepts selects (children_of root)
+  gives_below accepted = rw accepted
+
   -- a root without children, or one that is refused
   pub gives_none : (children_of root ≡ []) ⊎ (accepts (envelope_of root) ≡ false) → given_of accepts selects root ≡ []
-  gives_none (inl none) = ap (λ ns. if accepts (envelope_of root) then all_given accepts selects ns else []) none ∙ either (accepts (envelope_of root))
+  gives_none (inr refused) = rw refused
+  gives_none (inl none) = either (accepts (envelope_of root)) refl
     where
-      either : (b : Bool) → ◌≡◌ {A = List T} (if b then [] else []) []
-      either true = refl
-      either false = refl
-  gives_none (inr refused) = ap (λ (b : Bool). if b then all_given accepts selects (children_of root) else []) refused
-
-  pub gives_below : accepts (envelope_of root) ≡ true → given_of accepts selects root ≡ all_given accepts selects (children_of root)
-  gives_below accepted = ap (λ (b : Bool). if b then all_given accepts selects (children_of root) else []) accepted
+      either : (b : Bool) → accepts (envelope_of root) ≡ b → given_of accepts selects root ≡ []
+      either true is = gives_below is ∙ ap (all_given accepts selects) none
+      either false is = rw is

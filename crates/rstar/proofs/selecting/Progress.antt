@@ -3,6 +3,8 @@ use Rattle.std.proofs.Common.{◌≡◌, ℕ, ℤ, ◌+◌, ◌-◌, ◌<◌, �
 use Rattle.std.specs.Borrow.{Bor}
 use Rattle.std.specs.Iterator.{size}
 use Rattle.std.proofs.lemmas.List.Sorted.{length_permutation}
+use Rattle.std.proofs.lemmas.Option.{IfSome_then}
+use Rattle.std.proofs.lemmas.Result.{IfOk-weaker, IfErr-weaker}
 use Rattle.rstar_base.specs.Envelopes.{Boxes}
 use Rattle.std.specs.declared.cmp.Ordering.{Ordering}
 use Rattle.rstar_base.specs.Elements.{Objects, Distances}
@@ -14,7 +16,7 @@ use Rattle.rstar.specs.declared.algorithm.nearest_neighbor.search.Stage.TheVaria
 use Rattle.rstar.specs.Nodes.{all_elements, all_parents, all_far, far_of, parents_of}
 use Rattle.rstar_base.specs.Counts.{usize_max}
 use Rattle.rstar_base.specs.Points.{table}
-use Rattle.rstar.specs.Neighbors.{Search, IsNeighbor, HasBegun, GivesNeighbor, shown}
+use Rattle.rstar.specs.Neighbors.{IsNeighbor, HasBegun, GivesNeighbor, shown}
 use Rattle.rstar.specs.inside.Searches.{NodeSearch, Item, waiting_nodes, waiting_at, calls_at, waiting_of, held_by, calls_left, IsUnrefused, CountsOpenings, IsRunning, IsReady, IsReadyAt}
 use Rattle.rstar.proofs.searching.Searches.{fresh-counted, all-far-fewer}
 
@@ -82,19 +84,9 @@ module _ {T E S O : Type 0} (v : Boxes E) (d : Distances T) (p : List ℤ) (comp
   cost element (Some (Ok y)) gives on = given-cost (element y) gives on
   cost element (Some (Err z)) gives on = tt
 
-pub goes_on : {A Z : Type 0} (stage : Stage) (r : Option (Result A Z)) → IfSome r (λ x. IfOk x (λ _. stage ≡ Running)) → IfSome r (λ x. IfOk x (λ _. IsUnrefused stage))
-goes_on stage None h = tt
-goes_on stage (Some (Ok x)) h = subst IsUnrefused (sym h) tt
-goes_on stage (Some (Err x)) h = tt
-
 pub goes_on_at_end : {A Z : Type 0} (old new : Stage) (r : Option (Result A Z)) → IfNone r (IsUnrefused old → new ≡ Running) → IfNone r (IsUnrefused old → IsUnrefused new)
 goes_on_at_end old new None h = λ going. subst IsUnrefused (sym (h going)) tt
 goes_on_at_end old new (Some x) h = tt
-
-pub ends : {A Z : Type 0} (stage : Stage) (r : Option (Result A Z)) → IfSome r (λ x. IfErr x (λ _. stage ≡ Ended)) → IfSome r (λ x. IfErr x (λ _. IsUnrefused stage → ⊥))
-ends stage None h = tt
-ends stage (Some (Ok x)) h = tt
-ends stage (Some (Err x)) h = λ going. subst IsUnrefused h going
 
 -- what a call gives leaves fewer
 pub fewer-left : {T E S O Z : Type 0} (v : Boxes E) (d : Distances T) (p : List ℤ) (s t : NodeSearch T E S O) (r : Option (Result (Bor T × S) Z)) → IfSome r (λ x. IfOk x (λ y. IsNeighbor v d p s.root.now (waiting_of s) (waiting_of t) y.0.now))
@@ -132,72 +124,13 @@ module _ {T E P S O A Z : Type 0} (v : Boxes E) (d : Distances T) (axes : ℕ) (
         over = over;
         goes_on_at_end = goes_on_at_end s.stage t.stage r stays;
         refused = refused;
-        goes_on = goes_on t.stage r on;
-        ends = ends t.stage r last;
+        goes_on = IfSome_then r on (λ x is. IfOk-weaker x _ _ (λ y on. subst IsUnrefused (sym on) tt) is);
+        ends = IfSome_then r last (λ x is. IfErr-weaker x _ _ (λ z ended going. subst IsUnrefused ended going) is);
         once = once;
         stays_ended = ended;
         opened = λ going. subst (λ (q : ParentNode T E). t.opened ≡ min (parents_of q - all_parents (waiting_of t)) usize_max) root (count going).counts;
         fewer = λ going. subst (λ (q : ParentNode T E). all_parents (waiting_of t) ≤ parents_of q) root (count going).fewer;
       }
-
--- the same of an iterator that gives the elements alone
-module _ {T E P Z : Type 0} (v : Boxes E) (d : Distances T) (axes : ℕ) (coord : P → ℕ → ℤ) (old new : Search T E P) where
-  abbrev Gives : {A : Type 0} → (A → T) → Option (Result A Z) → Type 0
-  Gives element r = GivesNeighbor v d axes coord element old r new
-
-  pub given-ok : {S : Type 0} (y : Bor T × S) → Gives (λ x. x.0.now) (Some (Ok y)) → Gives (λ x. x.now) (Some (Ok y.0))
-  given-ok y told = record {
-    root = told.root;
-    point = told.point;
-    gives = told.gives;
-    cost = told.cost;
-    none = tt;
-    over = tt;
-    goes_on_at_end = tt;
-    refused = tt;
-    goes_on = told.goes_on;
-    ends = tt;
-    once = told.once;
-    stays_ended = told.stays_ended;
-    opened = told.opened;
-    fewer = told.fewer;
-  }
-
-  pub given-err : {S : Type 0} (z : Z) → Gives {A = Bor T × S} (λ x. x.0.now) (Some (Err z)) → Gives {A = Bor T} (λ x. x.now) (Some (Err z))
-  given-err z told = record {
-    root = told.root;
-    point = told.point;
-    gives = tt;
-    cost = tt;
-    none = tt;
-    over = tt;
-    goes_on_at_end = tt;
-    refused = told.refused;
-    goes_on = tt;
-    ends = told.ends;
-    once = told.once;
-    stays_ended = told.stays_ended;
-    opened = told.opened;
-    fewer = told.fewer;
-  }
-
-  pub given-none : {S : Type 0} → Gives {A = Bor T × S} (λ x. x.0.now) None → Gives {A = Bor T} (λ x. x.now) None
-  given-none told = record {
-    root = told.root;
-    point = told.point;
-    gives = tt;
-    cost = tt;
-    none = told.none;
-    over = told.over;
-    goes_on_at_end = told.goes_on_at_end;
-    refused = tt;
-    goes_on = tt;
-    ends = tt;
-    once = tt;
-    stays_ended = told.stays_ended;
-    opened = told.opened;
-    fewer = told.fewer;
-  }
 
 pub on-some : {A : Type 0} (P Q R : Type 0) (r : Option A) → P → Q → OnSome r R → OnSome r (P × Q × R)
 on-some P Q R None p q r = tt

@@ -1,223 +1,133 @@
 -- Each fault is the one that reading gives, so that no bytes have two.
-use Rattle.std.proofs.Common.{◌≡◌, ◌≢◌, ℕ, zero, suc, ◌+◌, ◌*◌, ◌<◌, ◌≤◌, Bool, true, false, cond, eqb, ltb, List, [], ◌∷◌, ◌++◌, length, map, take, drop, Result, Ok, Err, refl, sym, ap, subst, ◌∙◌, append_assoc, append-nil, arith, inl, inr}
-use Rattle.std.specs.Prelude.{nat_eq, IfErr}
-use Rattle.std.specs.Int.{w64, from_le_bytes, cast_signed}
+use Rattle.std.proofs.Common.{◌≡◌, ◌≢◌, ℕ, zero, suc, ◌+◌, ◌*◌, ◌<◌, ◌≤◌, cond, List, [], ◌∷◌, ◌++◌, length, map, take, drop, Result, Ok, Err, refl, sym, ap, subst, ◌∙◌, append_assoc, append-nil, arith, inl, inr}
+use Rattle.std.specs.Prelude.{nat_eq, IfOk, IfErr}
 use Rattle.std.specs.List.{AllByRecursion}
 use Rattle.std.specs.Cmp.Lexicographic.{pointwise, same_text}
-use Rattle.std.proofs.lemmas.Bool.{cases_lt, le-ltb}
-use Rattle.std.proofs.lemmas.List.{length-append, length-drop, take_at, drop_at, nil_from_length}
+use Rattle.std.proofs.lemmas.Bool.{cases_lt, lt-ltb, le-ltb, false_from_ne_true}
+use Rattle.std.proofs.lemmas.List.{length-append, length-drop, nil_from_length}
 use Rattle.rstar_base.specs.Points.{IsPoint}
 use Rattle.rstar.specs.declared.stored.StoredError.{StoredError}
 use Rattle.rstar.specs.declared.stored.StoredError.TheVariants.{Truncated, BadMagic, BadLevel, BadBox, BadCount, Trailing, NoMemory, TooHigh}
 use Rattle.rstar.specs.Nodes.{joined}
-use Rattle.rstar.specs.Shown.{parent, end, row_of}
-use Rattle.rstar.specs.Stored.{Place, Box, Tree, low, high, boxes, merge_of, points_of, IsStored, IsStoredTree, magic, number, point, corners, spelling, root_spelling}
-use Rattle.rstar.specs.StoredFaults.{BeginsParent, HasOtherBox, ParentHasFault, NodeHasFault, BeginsTree, RootHasFault, HasFault}
-use Rattle.rstar.specs.StoredReading.{◌>>=◌, Gives, Read, number_at, coordinate_at, point_at, leaf_at, each_at, has_corners, children_at, parent_at, node_at, root_at, levels_at, tree_at}
-use Rattle.rstar.proofs.storing.Bytes.{IsBytes, IsBytes-drop, IsBytes-take, number_long, number_again, point_takes, point_again, point_long}
-use Rattle.rstar.proofs.storing.Faults.{failed, err_is}
-use Rattle.rstar.proofs.storing.Laws.{ReadsNodes, same_corners, each_again, node_again}
-use Rattle.rstar.proofs.storing.Trees.{after_magic, root_other, root_trailing}
-
--- ---- numbers and points
-
-number_short : (bytes : List ℕ) → length bytes < 8 → number_at bytes ≡ Err Truncated
-unfolding number_at
-number_short bytes few = let t : ltb (length bytes) 8 ≡ true = grind (arith, few) in rw t refl
-
-number_some : (bytes : List ℕ) → 8 ≤ length bytes → number_at bytes ≡ Ok (from_le_bytes w64 (take 8 bytes), drop 8 bytes)
-unfolding number_at
-number_some bytes long = let t : ltb (length bytes) 8 ≡ false = le-ltb _ _ long in rw t refl
-
-point_short : (bytes : List ℕ) → length bytes < 16 → point_at bytes ≡ Err Truncated
-unfolding point_at coordinate_at
-point_short bytes few =
-    elim (cases_lt (length bytes) 8) [
-      | inl lt ↦ rw (number_short bytes lt) refl
-      | inr le ↦ rw (number_some bytes le, number_short (drop 8 bytes) (omega (arith, few, length-drop 8 bytes))) refl
-    ]
-
-point_some : (bytes : List ℕ) → 16 ≤ length bytes → (p : Place × List ℕ) × (point_at bytes ≡ Ok p)
-unfolding point_at coordinate_at
-point_some bytes long = (
-  (cast_signed w64 (from_le_bytes w64 (take 8 bytes)) ∷ cast_signed w64 (from_le_bytes w64 (take 8 (drop 8 bytes))) ∷ [], drop 8 (drop 8 bytes)),
-  rw (number_some bytes (omega (arith, long)), number_some (drop 8 bytes) (omega (arith, long, length-drop 8 bytes))) refl,
-)
-
--- the corners that the bytes of a box tell
-record TellsBox (box : List ℕ) : Type 0 where
-  lower : Place
-  upper : Place
-  is_lower : IsPoint low high 2 lower
-  is_upper : IsPoint low high 2 upper
-  same : box ≡ point lower ++ point upper
-
-tells_box : (box : List ℕ) → IsBytes box → length box ≡ 32 → TellsBox box
-tells_box box fits long =
-    let l = point_some box (omega (arith, long)) in
-    let t = point_takes box l.0 fits l.1 in
-    let first = point_long l.0.0 t.1 in
-    let size = ap length t.0.parts ∙ length-append (point l.0.0) l.0.1 in
-    let rest : length l.0.1 ≡ 16 = omega (arith, long, first, size) in
-    let u = point_some l.0.1 (omega (arith, rest)) in
-    let s = point_takes l.0.1 u.0 t.0.rest_fits u.1 in
-    let second = point_long u.0.0 s.1 in
-    let size_2 = ap length s.0.parts ∙ length-append (point u.0.0) u.0.1 in
-    let none : u.0.1 ≡ [] = nil_from_length u.0.1 (omega (arith, rest, second, size_2)) in
-    record {
-      lower = l.0.0;
-      upper = u.0.0;
-      is_lower = t.1;
-      is_upper = s.1;
-      same = t.0.parts ∙ ap (λ (r : List ℕ). point l.0.0 ++ r) (s.0.parts ∙ ap (λ (r : List ℕ). point u.0.0 ++ r) none ∙ append-nil (point u.0.0));
-    }
+use Rattle.rstar.specs.Shown.{parent, row_of}
+use Rattle.rstar.specs.Stored.{Place, Tree, low, high, merge_of, points_of, IsStored, Spells, magic, number, point, spelling, root_spelling}
+use Rattle.rstar.specs.StoredFaults.{BeginsParent, ParentHasFault, NodeHasFault, RootHasFault, HasFault, IsOnlyFault}
+use Rattle.rstar.specs.StoredReading.{◌>>=◌, Gives, number_at, point_at, leaf_at, each_at, has_corners, parent_at, node_at, root_at, levels_at, tree_at}
+use Rattle.rstar.proofs.storing.Bytes.{IsBytes, IsBytes-drop, IsBytes-front, IsBytes-back, Takes-long, must_give, must_refuse, number_long, number_tells, number_again, point_tells, point_long}
+use Rattle.rstar.proofs.storing.Faults.{tree_tells}
+use Rattle.rstar.proofs.storing.Laws.{same_corners, each_again, some_eqb, begun, node_again}
+use Rattle.rstar.proofs.storing.Trees.{root_other, root_trailing, levels_read, begun_tree, tree_reads, tree_again, one_tree}
 
 -- ---- nodes
 
-module _ (Q : Tree → Type 0) (child : List ℕ → Read Tree) (reads : ReadsNodes Q child) (e : StoredError) where
-  each_fails : (ns : List Tree) (n : ℕ) (rest : List ℕ) → AllByRecursion Q ns → length ns < n → child rest ≡ Err e → each_at child n (joined (map spelling ns) ++ rest) ≡ Err e
-  unfolding each_at
-  each_fails [] zero rest all few wrong = absurd (omega (arith, few))
-  each_fails [] (suc n) rest all few wrong = rw wrong refl
-  each_fails (m ∷ ns) zero rest all few wrong = absurd (omega (arith, few))
-  each_fails (m ∷ ns) (suc n) rest all few wrong =
-      let first = reads m (joined (map spelling ns) ++ rest) all.0 in
-      let others = each_fails ns n rest all.1 (omega (arith, few)) wrong in
-      let regrouped : joined (map spelling (m ∷ ns)) ++ rest ≡ spelling m ++ (joined (map spelling ns) ++ rest) = append_assoc (spelling m) (joined (map spelling ns)) rest in
-      ap (each_at child (suc n)) regrouped ∙ rw (first.0, others) refl
+number_short : (bytes : List ℕ) → length bytes < 8 → number_at bytes ≡ Err Truncated
+unfolding number_at
+number_short bytes few = rw (lt-ltb (length bytes) 8 few) refl
 
-not_corners : (l u : Place) (m : Box) (b : Bool) → has_corners l u m ≡ b → point l ++ point u ≢ corners m → b ≡ false
-not_corners l u m false is other = refl
-not_corners l u m true is other =
-    let c = same_corners m l u is in
-    absurd (other (ap (λ (p : Place). point p ++ point u) (sym c.0) ∙ ap (λ (p : Place). point (map (λ x. x.0) m) ++ point p) (sym c.1)))
+-- the corners that the bytes of a box tell
+tells_box : (box : List ℕ) → IsBytes box → length box ≡ 32 → (l u : Place) × (box ≡ point l ++ point u) × IsPoint low high 2 l × IsPoint low high 2 u
+tells_box box fits long =
+    let (l, read_l, t) = must_give (point_at box) (point_tells box fits) (λ e f. omega (arith, f.1, long)) in
+    let rest : length l.1 ≡ 16 = omega (arith, long, Takes-long t.0, point_long l.0 t.1) in
+    let (u, read_u, s) = must_give (point_at l.1) (point_tells l.1 t.0.rest_fits) (λ e f. omega (arith, f.1, rest)) in
+    let none : u.1 ≡ [] = nil_from_length u.1 (omega (arith, rest, Takes-long s.0, point_long u.0 s.1)) in
+    (l.0, u.0, t.0.parts ∙ ap (λ (r : List ℕ). point l.0 ++ r) (s.0.parts ∙ ap (λ (r : List ℕ). point u.0 ++ r) none ∙ append-nil (point u.0)), t.1, s.1)
 
 -- behind the child count and the box of a parent
-begun : (below : ℕ) (bytes : List ℕ) (count : ℕ) (box : List ℕ) (children : List Tree) (rest : List ℕ) → IsBytes bytes → BeginsParent below bytes count box children rest
-    → (b : TellsBox box) × (parent_at (node_at below) bytes ≡ (each_at (node_at below) count (joined (map spelling children) ++ rest) >>= λ ns. cond (has_corners b.lower b.upper (merge_of ns.0)) (Ok (parent (merge_of ns.0) (row_of ns.0), ns.1)) (Err BadBox)))
-unfolding parent_at children_at
-begun below bytes count box children rest fits p =
-    let after = joined (map spelling children) ++ rest in
-    let text : bytes ≡ number count ++ (box ++ after) = p.parts ∙ append_assoc (number count ++ box) (joined (map spelling children)) rest ∙ append_assoc (number count) box after in
-    let size = ap length text ∙ length-append (number count) (box ++ after) in
-    let behind : drop 8 bytes ≡ box ++ after = ap (drop 8) text ∙ drop_at (number count) (box ++ after) 8 (number_long count) in
-    let front : IsBytes (box ++ after) = subst IsBytes behind (IsBytes-drop 8 bytes fits) in
-    let b = tells_box box (subst IsBytes (take_at box after 32 p.boxed) (IsBytes-take 32 (box ++ after) front)) p.boxed in
-    let some : eqb count 0 ≡ false = (let s = p.counted.0 in grind (arith, s)) in
-    let long : ltb (length (box ++ after)) (32 + 16 * count) ≡ false = le-ltb _ _ (omega (arith, p.there, size, number_long count)) in
-    let parts : box ++ after ≡ point b.lower ++ (point b.upper ++ after) = ap (λ (t : List ℕ). t ++ after) b.same ∙ append_assoc (point b.lower) (point b.upper) after in
-    (b, ap (parent_at (node_at below)) text ∙ rw (number_again count (box ++ after) p.counted.1, some, long) (ap (children_at (node_at below) count) parts ∙ rw (point_again b.lower (point b.upper ++ after) b.is_lower, point_again b.upper after b.is_upper) refl))
+begun_parent : (h : ℕ) (bytes : List ℕ) (count : ℕ) (box : List ℕ) (children : List Tree) (rest : List ℕ) → IsBytes bytes → BeginsParent h bytes count box children rest
+    → (l u : Place) × (box ≡ point l ++ point u) × (parent_at (node_at h) bytes ≡ (each_at (node_at h) count (joined (map spelling children) ++ rest) >>= λ ns. cond (has_corners l u (merge_of ns.0)) (Ok (parent (merge_of ns.0) (row_of ns.0), ns.1)) (Err BadBox)))
+begun_parent h bytes count box children rest fits p =
+    let text = joined (map spelling children) in
+    let front = IsBytes-front (number count ++ box) text (IsBytes-front (number count ++ box ++ text) rest (subst IsBytes p.parts fits)) in
+    let (l, u, same, is_l, is_u) = tells_box box (IsBytes-back (number count) box front) p.boxed in
+    let size = ap length p.parts ∙ length-append (number count ++ box ++ text) rest in
+    let there : 16 * count ≤ length (text ++ rest) = omega (arith, p.there, p.boxed, size, length-append (number count ++ box) text, length-append (number count) box, number_long count, length-append text rest) in
+    (l, u, same, ap (parent_at (node_at h)) (p.parts ∙ ap (λ (x : List ℕ). number count ++ x ++ text ++ rest) same) ∙ begun h count l u text rest p.counted.0 p.counted.1 is_l is_u there)
 
-module _ (below : ℕ) (bytes : List ℕ) (fits : IsBytes bytes) where
-  other_box : HasOtherBox below bytes → parent_at (node_at below) bytes ≡ Err BadBox
-  other_box (count, box, children, rest, p, all, other) =
-      let b = begun below bytes count box children rest fits p in
-      let read : each_at (node_at below) count (joined (map spelling children) ++ rest) ≡ Ok (children, rest) = subst (λ (k : ℕ). each_at (node_at below) k (joined (map spelling children) ++ rest) ≡ Ok (children, rest)) all (each_again (IsStored below) (node_at below) (node_again below) children rest p.stored).0 in
-      let told : has_corners b.0.lower b.0.upper (merge_of children) ≡ false = not_corners b.0.lower b.0.upper (merge_of children) _ refl (subst (λ (t : List ℕ). t ≢ corners (merge_of children)) b.0.same other) in
-      b.1 ∙ rw (read, told) refl
+parent_fails : (h : ℕ) (bytes : List ℕ) → IsBytes bytes → (e : StoredError) → ParentHasFault h bytes e → parent_at (node_at h) bytes ≡ Err e
+unfolding parent_at
+parent_fails h bytes fits Truncated (inl few) = rw (number_short bytes few) refl
+parent_fails h bytes fits Truncated (inr (count, rest, parts, small, (some, lacks))) =
+    ap (parent_at (node_at h)) parts ∙ rw (number_again count rest small, some_eqb count some, lt-ltb (length rest) (32 + 16 * count) lacks) refl
+parent_fails h bytes fits BadLevel (count, rest, parts, small, none) = ap (parent_at (node_at h)) parts ∙ rw (number_again count rest small, none) refl
+parent_fails h bytes fits BadBox (count, box, children, rest, p, all, other) =
+    let (l, u, same, begins) = begun_parent h bytes count box children rest fits p in
+    let read = rw all at (each_again h (node_again h) children rest p.stored).0 in
+    let told = false_from_ne_true (has_corners l u (merge_of children)) (λ is. other (same ∙ sym (same_corners (merge_of children) l u is))) in
+    begins ∙ rw (read, told) refl
+parent_fails h bytes fits e f = absurd f
 
-  parent_fails : (e : StoredError) → ParentHasFault below bytes e → parent_at (node_at below) bytes ≡ Err e
-  unfolding parent_at
-  parent_fails Truncated (inl few) = rw (number_short bytes few) refl
-  parent_fails Truncated (inr (count, rest, parts, small, lacks)) =
-      let some : eqb count 0 ≡ false = (let s = lacks.0 in grind (arith, s)) in
-      let few : ltb (length rest) (32 + 16 * count) ≡ true = (let s = lacks.1 in grind (arith, s)) in
-      ap (parent_at (node_at below)) parts ∙ rw (number_again count rest small, some, few) refl
-  parent_fails BadMagic f = absurd f
-  parent_fails BadLevel (count, rest, parts, small, none) = ap (parent_at (node_at below)) parts ∙ rw (number_again count rest small, none) refl
-  parent_fails BadBox f = other_box f
-  parent_fails BadCount f = absurd f
-  parent_fails Trailing f = absurd f
-  parent_fails NoMemory f = absurd f
-  parent_fails TooHigh f = absurd f
+each_fails : (h : ℕ) (e : StoredError) (ns : List Tree) (n : ℕ) (rest : List ℕ) → AllByRecursion (IsStored h) ns → length ns < n → node_at h rest ≡ Err e → each_at (node_at h) n (joined (map spelling ns) ++ rest) ≡ Err e
+unfolding each_at
+each_fails h e [] zero rest all few wrong = absurd (omega (arith, few))
+each_fails h e [] (suc n) rest all few wrong = rw wrong refl
+each_fails h e (m ∷ ns) zero rest all few wrong = absurd (omega (arith, few))
+each_fails h e (m ∷ ns) (suc n) rest all few wrong =
+    let first = node_again h m (joined (map spelling ns) ++ rest) all.0 in
+    let others = each_fails h e ns n rest all.1 (omega (arith, few)) wrong in
+    ap (each_at (node_at h) (suc n)) (append_assoc (spelling m) (joined (map spelling ns)) rest) ∙ rw (first.0, others) refl
 
 node_fails : (h : ℕ) (e : StoredError) (bytes : List ℕ) → IsBytes bytes → NodeHasFault h bytes e → node_at h bytes ≡ Err e
 unfolding node_at leaf_at
-node_fails zero e bytes fits f = rw (point_short bytes f.1) (ap (λ (k : StoredError). failed {A = Tree × List ℕ} k) (sym f.0))
+node_fails zero e bytes fits f =
+    let (d, refused, short) = must_refuse (point_at bytes) (point_tells bytes fits) (λ p t. omega (arith, f.1, Takes-long t.0, point_long p.0 t.1)) in
+    rw (refused, short.0, f.0) refl
 node_fails (suc h) e bytes fits (inl f) = parent_fails h bytes fits e f
 node_fails (suc h) e bytes fits (inr (count, box, children, rest, p, few, f)) =
-    let b = begun h bytes count box children rest fits p in
-    let left : IsBytes rest = (let front = number count ++ box ++ joined (map spelling children) in subst IsBytes (ap (drop (length front)) p.parts ∙ drop_at front rest (length front) refl) (IsBytes-drop (length front) bytes fits)) in
-    let wrong = each_fails (IsStored h) (node_at h) (node_again h) e children count rest p.stored few (node_fails h e rest left f) in
-    b.1 ∙ rw wrong refl
+    let (l, u, same, begins) = begun_parent h bytes count box children rest fits p in
+    let left = IsBytes-back (number count ++ box ++ joined (map spelling children)) rest (subst IsBytes p.parts fits) in
+    begins ∙ rw (each_fails h e children count rest p.stored few (node_fails h e rest left f)) refl
 
 -- ---- whole trees
 
 module _ (bytes : List ℕ) (fits : IsBytes bytes) where
-  begun_tree : (count height : ℕ) (rest : List ℕ) → BeginsTree bytes count height rest → tree_at bytes ≡ levels_at count (height ∷ rest)
-  begun_tree count height rest b =
-      ap tree_at (b.parts ∙ append_assoc magic (number count) (height ∷ rest)) ∙ after_magic (number count ++ height ∷ rest)
-      ∙ ap (λ r. r >>= λ count. levels_at count.0 count.1) (number_again count (height ∷ rest) b.counted)
-
-  begun_root : (count height : ℕ) (rest : List ℕ) → BeginsTree bytes count height rest → height ≤ 64 → tree_at bytes ≡ root_at height count rest
-  unfolding levels_at
-  begun_root count height rest b le = let low : ltb 64 height ≡ false = le-ltb _ _ le in begun_tree count height rest b ∙ rw low refl
-
   root_fails : (e : StoredError) → RootHasFault bytes e → tree_at bytes ≡ Err e
   unfolding root_at
   root_fails e (count, below, rest, b, le, f) =
-      let left : IsBytes rest = (let front = magic ++ number count in subst IsBytes (ap (drop (1 + length front)) (b.parts ∙ sym (append_assoc front (suc below ∷ []) rest)) ∙ drop_at (front ++ suc below ∷ []) rest (1 + length front) (length-append front (suc below ∷ []) ∙ omega arith)) (IsBytes-drop (1 + length front) bytes fits)) in
-      begun_root count (suc below) rest b (omega (arith, le)) ∙ rw (node_fails (suc below) e rest left f) refl
+      let left = IsBytes-back (magic ++ number count) (suc below ∷ rest) (subst IsBytes b.parts fits) in
+      begun_tree bytes count (suc below) rest b ∙ levels_read count (suc below ∷ rest) rest (suc below) (suc below) refl (omega (arith, le)) refl ∙ rw (node_fails (suc below) e rest (λ i. left (suc i)) f) refl
 
   head_fails : length bytes < 13 → (4 ≤ length bytes → take 4 bytes ≡ magic) → tree_at bytes ≡ Err Truncated
   unfolding tree_at levels_at
   head_fails few front =
       elim (cases_lt (length bytes) 4) [
-        | inl lt ↦ let t : ltb (length bytes) 4 ≡ true = grind (arith, lt) in rw t refl
+        | inl lt ↦ rw (lt-ltb (length bytes) 4 lt) refl
         | inr le ↦
-            let t : ltb (length bytes) 4 ≡ false = le-ltb _ _ le in
-            let is = front le in
             elim (cases_lt (length (drop 4 bytes)) 8) [
-              | inl lt ↦ rw (t, is, number_short (drop 4 bytes) lt) refl
+              | inl lt ↦ rw (le-ltb (length bytes) 4 le, front le, number_short (drop 4 bytes) lt) refl
               | inr long ↦
-                  let none : drop 8 (drop 4 bytes) ≡ [] = nil_from_length (drop 8 (drop 4 bytes)) (omega (arith, few, length-drop 4 bytes, length-drop 8 (drop 4 bytes))) in
-                  rw (t, is, number_some (drop 4 bytes) long, none) refl
+                  let (count, read, t) = must_give (number_at (drop 4 bytes)) (number_tells (drop 4 bytes) (IsBytes-drop 4 bytes fits)) (λ e f. omega (arith, f.1, long)) in
+                  let none : count.1 ≡ [] = nil_from_length count.1 (omega (arith, few, length-drop 4 bytes, Takes-long t.0, number_long count.0)) in
+                  rw (le-ltb (length bytes) 4 le, front le, read, none) refl
             ]
       ]
 
-  magic_fails : 4 ≤ length bytes → take 4 bytes ≢ magic → tree_at bytes ≡ Err BadMagic
-  unfolding tree_at
-  magic_fails long other =
-      let t : ltb (length bytes) 4 ≡ false = le-ltb _ _ long in
-      let no : pointwise nat_eq (take 4 bytes) magic ≡ false = test _ refl in
-      rw (t, no) refl where
-        test : (b : Bool) → pointwise nat_eq (take 4 bytes) magic ≡ b → b ≡ false
-        test false is = refl
-        test true is = absurd (other (same_text (take 4 bytes) magic (sym is)))
-
-  counts_another : (count height : ℕ) (t : Tree) (rest : List ℕ) → BeginsTree bytes count height (root_spelling height t ++ rest) → height ≤ 64 → IsStoredTree height t → length (points_of t) ≢ count → tree_at bytes ≡ Err BadCount
-  unfolding root_at
-  counts_another count zero t rest b le is other =
-      let some : eqb count 0 ≡ false = (let no : count ≢ 0 = (λ z. other (ap (λ (u : Tree). length (points_of u)) is ∙ sym z)) in grind (arith, no)) in
-      begun_root count 0 rest b le ∙ rw some refl
-  counts_another count (suc h) t rest b le is other =
-      begun_root count (suc h) (spelling t ++ rest) b le ∙ rw (node_again (suc h) t rest is).0 (root_other (length (points_of t)) count t rest other)
-
-  trails : (count height : ℕ) (t : Tree) (rest : List ℕ) → BeginsTree bytes count height (root_spelling height t ++ rest) → height ≤ 64 → IsStoredTree height t → length (points_of t) ≡ count → 0 < length rest → tree_at bytes ≡ Err Trailing
-  unfolding root_at
-  trails count zero t rest b le is same some =
-      let none : count ≡ 0 = sym same ∙ ap (λ (u : Tree). length (points_of u)) is in
-      begun_root count 0 rest b le ∙ root_trailing count 0 (parent boxes.empty end) rest none some
-  trails count (suc h) t rest b le is same some =
-      begun_root count (suc h) (spelling t ++ rest) b le ∙ rw (node_again (suc h) t rest is).0 (root_trailing (length (points_of t)) count t rest same some)
-
   fails : (e : StoredError) → e ≢ NoMemory → HasFault bytes e → tree_at bytes ≡ Err e
-  unfolding levels_at
+  unfolding tree_at levels_at
   fails Truncated known (inl f) = head_fails f.0 f.1
   fails Truncated known (inr f) = root_fails Truncated f
-  fails BadMagic known f = magic_fails f.0 f.1
-  fails BadLevel known (inl (count, height, rest, b, above)) = let high : ltb 64 height ≡ true = grind (arith, above) in begun_tree count height rest b ∙ rw high refl
+  fails BadMagic known (long, other) = rw (le-ltb (length bytes) 4 long, false_from_ne_true (pointwise nat_eq (take 4 bytes) magic) (λ e. other (same_text (take 4 bytes) magic (sym e)))) refl
+  fails BadLevel known (inl (count, height, rest, b, above)) = begun_tree bytes count height rest b ∙ rw (lt-ltb 64 height above) refl
   fails BadLevel known (inr f) = root_fails BadLevel f
   fails BadBox known f = root_fails BadBox f
-  fails BadCount known (count, height, t, rest, b, le, is, other) = counts_another count height t rest b le is other
+  fails BadCount known (count, height, t, rest, b, le, is, other) = tree_reads bytes count height t rest b le is ∙ root_other (length (points_of t)) count t rest other
   fails Trailing known (front, rest, t, parts, some, s) =
-      let text : bytes ≡ magic ++ number (length (points_of t)) ++ s.height ∷ (root_spelling s.height t ++ rest) = parts ∙ ap (λ (u : List ℕ). u ++ rest) s.spelled ∙ append_assoc (magic ++ number (length (points_of t))) (s.height ∷ root_spelling s.height t) rest in
-      trails (length (points_of t)) s.height t rest (record { parts = text; counted = s.counted }) s.low s.whole refl some
+      let n = length (points_of t) in
+      let text = parts ∙ ap (λ (u : List ℕ). u ++ rest) s.spelled ∙ append_assoc (magic ++ number n) (s.height ∷ root_spelling s.height t) rest in
+      tree_reads bytes n s.height t rest (record { parts = text; counted = s.counted }) s.low s.whole ∙ root_trailing n n t rest refl some
   fails NoMemory known f = absurd (known refl)
   fails TooHigh known f = absurd f
 
--- what a call answers: no other fault
-pub one_fault : {X : Type 0} (bytes : List ℕ) (view : X → Tree) (r : Result X StoredError) → IsBytes bytes → Gives view r (tree_at bytes) → IfErr r (λ e. e ≢ NoMemory → (d : StoredError) → d ≢ NoMemory → HasFault bytes d → d ≡ e)
-one_fault bytes view (Ok x) fits g = tt
-one_fault bytes view (Err e) fits (inl m) = λ known d also f. absurd (known m)
-one_fault bytes view (Err e) fits (inr read) = λ known d also f. err_is d e (sym (fails bytes fits d also f) ∙ read)
+-- what a call answers: the one tree that the bytes spell, or the one fault that they have
+pub answer_told : {X : Type 0} (bytes : List ℕ) (view : X → Tree) (r : Result X StoredError) → IsBytes bytes → Gives view r (tree_at bytes)
+    → IfOk r (λ x. Spells bytes (view x)) × IfOk r (λ x. (t : Tree) → Spells bytes t → t ≡ view x)
+    × IfErr r (λ e. e ≢ NoMemory → (t : Tree) → Spells bytes t → ⊥) × IfErr r (HasFault bytes) × IfErr r (λ e. e ≢ NoMemory → IsOnlyFault bytes e)
+answer_told bytes view (Ok x) fits g = let spelled = rw g at (tree_tells bytes fits).told in (spelled, λ t s. one_tree bytes t (view x) s spelled, tt, tt, tt)
+answer_told bytes view (Err e) fits (inl m) = (tt, tt, λ known. absurd (known m), subst (HasFault bytes) (sym m) tt, λ known. absurd (known m))
+answer_told bytes view (Err e) fits (inr read) = (
+  tt,
+  tt,
+  λ known t s. let both : Ok t ≡ Err e = sym (tree_again bytes t s) ∙ read in absurd cc,
+  rw read at (tree_tells bytes fits).told,
+  λ known d also f. let same = sym (fails bytes fits d also f) ∙ read in cc,
+)

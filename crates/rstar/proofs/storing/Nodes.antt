@@ -1,8 +1,7 @@
 -- The nodes that are made of stored bytes.
-use Rattle.std.proofs.Common.{◌≡◌, ◌==◌, ◌*◌, Bool, Err, eqb, ltb, if◌then◌else◌, ℕ, zero, suc, ◌+◌, ◌-◌, ◌<◌, ◌≤◌, false, List, [], ◌∷◌, ◌++◌, length, map, Ok, refl, sym, ap, subst, ◌∙◌, arith}
-use Rattle.std.proofs.lemmas.Bool.{le-ltb}
-use Rattle.std.proofs.lemmas.List.{length-append, map_push}
-use Rattle.std.proofs.lemmas.List.Elements.{recursion_from_All}
+use Rattle.std.proofs.Common.{◌≡◌, ◌==◌, ◌*◌, Bool, Err, eqb, ltb, if◌then◌else◌, ℕ, suc, ◌+◌, ◌-◌, ◌<◌, ◌≤◌, false, List, [], ◌∷◌, ◌++◌, length, map, Ok, refl, sym, ap, subst, ◌∙◌, arith, ◌⊎◌, inl, inr, append_assoc, append-nil}
+use Rattle.std.proofs.lemmas.Bool.{le-ltb, ne_eqb}
+use Rattle.std.proofs.lemmas.List.{length-append}
 use Rattle.rstar_base.specs.Envelopes.{Boxes, EnvelopeLaws}
 use Rattle.rstar_base.specs.Elements.{Objects, ObjectLaws}
 use Rattle.rstar_base.specs.Hulls.{hull}
@@ -15,14 +14,15 @@ use Rattle.rstar_base.proofs.Lists.{all-append}
 use Rattle.rstar.specs.declared.node.RTreeNode.{RTreeNode, Leaf, Parent}
 use Rattle.rstar.specs.declared.node.ParentNode.{ParentNode}
 use Rattle.rstar.specs.Nodes.{elements, elements_of, all_elements, node_box, IsElement, IsTree, children_of, joined}
-use Rattle.rstar.specs.Shapes.{AreTrees}
 use Rattle.rstar.specs.Shown.{shown, shown_root, parent, end, row_of}
 use Rattle.rstar.specs.Meets.{shown_box}
 use Rattle.rstar.specs.inside.ParentBounds.{IsKeptInner, IsKeptTree, AreKept}
-use Rattle.rstar.specs.declared.stored.StoredError.TheVariants.{BadBox, BadCount}
-use Rattle.rstar.specs.StoredReading.{Read, number_at, point_at, leaf_at, each_at, children_at, parent_at, node_at, has_corners, root_at, ended}
+use Rattle.rstar.specs.declared.stored.StoredError.{StoredError}
+use Rattle.rstar.specs.declared.stored.StoredError.TheVariants.{BadBox, BadCount, NoMemory}
+use Rattle.rstar.specs.StoredReading.{◌>>=◌, Read, number_at, point_at, leaf_at, each_at, children_at, parent_at, node_at, has_corners, root_at, ended}
 use Rattle.rstar.specs.Stored.{Place, Box, Tree, low, high, boxes, places, merge_of, points_of}
-use Rattle.rstar.proofs.trees.ByChildren.{elements-Leaf, elements-Parent, shown-Leaf, shown-Parent, is_leaf, is_parent}
+use Rattle.rstar.proofs.trees.ByChildren.{joined-map, shown-Leaf, shown-Parent}
+use Rattle.rstar.proofs.trees.Shown.{elements-row}
 use Rattle.rstar.proofs.inserting.Insertion.{trees_map, inner_of_fit, all_elements-append, all_elements-single}
 use Rattle.rstar.proofs.joining.PairsByChildren.{shown-box, folded-row}
 
@@ -40,14 +40,6 @@ points_push old new n was now next is before one =
     let all : length (all_elements new) ≡ length (all_elements old) + length (elements n) = ap (λ ns. length (all_elements ns)) is ∙ ap length (all_elements-append old (n ∷ []) ∙ ap (λ ts. all_elements old ++ ts) (all_elements-single n)) ∙ length-append (all_elements old) (elements n) in
     omega (arith, all, before, one)
 
--- a leaf counts one
-pub leaf_counts : (T E : Type 0) (t : T) (n : ℕ) → n + 1 ≡ n + length (elements {T = T} {E = E} (Leaf t))
-leaf_counts T E t n = let one = ap length (elements-Leaf T E t) in omega (arith, one)
-
--- what a list of nodes shows, with one more
-pub shown_push : {T E : Type 0} (old new : List (RTreeNode T E)) (n : RTreeNode T E) → new ≡ old ++ n ∷ [] → map shown new ≡ map shown old ++ shown n ∷ []
-shown_push old new n is = ap (map shown) is ∙ map_push shown old n
-
 -- the merge of what nodes show is that of the nodes
 pub merge_same : {T E : Type 0} (v : Boxes E) (box_of : T → E) (ns : List (RTreeNode T E)) → hull v (shown_box box_of) (map shown ns) ≡ hull v (node_box box_of) ns
 merge_same v box_of [] = refl
@@ -56,12 +48,7 @@ merge_same v box_of (n ∷ ns) = ap (λ e. v.merge e (hull v (shown_box box_of) 
 -- ---- points
 
 point_in : (p : Place) → IsPoint low high 2 p → (i : ℕ) → i < 2 → InRange low high (coordinate p i)
-point_in [] is i lt = absurd (omega (arith, is.long))
-point_in (x ∷ []) is i lt = absurd (omega (arith, is.long))
-point_in (x ∷ y ∷ []) is zero lt = (recursion_from_All (λ z. InRange low high z) (x ∷ y ∷ []) is.ranged).0
-point_in (x ∷ y ∷ []) is (suc zero) lt = (recursion_from_All (λ z. InRange low high z) (x ∷ y ∷ []) is.ranged).1.0
-point_in (x ∷ y ∷ []) is (suc (suc i)) lt = absurd (omega arith)
-point_in (x ∷ y ∷ z ∷ p) is i lt = absurd (omega (arith, is.long))
+point_in p is i lt = is.ranged i _ (omega (arith, lt, is.long))
 
 -- a point of two coordinates is an element that a tree may hold
 pub point_element : (p : Place) → IsPoint low high 2 p → IsElement boxes places p
@@ -79,80 +66,80 @@ place_laws = λ t h. h
 -- what reading gives for a leaf
 pub leaf_read : (h : ℕ) (bytes : List ℕ) (p : Place) (rest : List ℕ) → h ≡ 0 → point_at bytes ≡ Ok (p, rest) → node_at h bytes ≡ Ok (shown {E = Box} (Leaf p), rest)
 unfolding node_at leaf_at
-leaf_read zero bytes p rest none e = rw (e, shown-Leaf Place Box p) refl
-leaf_read (suc h) bytes p rest none e = absurd (omega (arith, none))
+leaf_read h bytes p rest none e = rw (none, e, shown-Leaf Place Box p) refl
 
-module _ where
-  -- a parent of such nodes, under the merge of their boxes
-  pub parent_kept : (w w' h : ℕ) (p : ParentNode Place Box) → w ≤ w' → length p.children.items ≤ w' → 0 < length p.children.items → p.envelope ≡ hull boxes (node_box places.box_of) p.children.items
-      → AreKept boxes places w h p.children.items → IsKeptTree boxes places w' h p
-  parent_kept w w' h p le few some merged trees =
-      let kept = kept_wider boxes places w w' h p.children.items le trees in
-      (inner_of_fit point_laws place_laws w' h p kept (record { merged = merged; some = some; narrow = few }), kept)
+-- a parent of such nodes, under the merge of their boxes
+pub parent_kept : (w w' h : ℕ) (p : ParentNode Place Box) → w ≤ w' → length p.children.items ≤ w' → 0 < length p.children.items → p.envelope ≡ hull boxes (node_box places.box_of) p.children.items
+    → AreKept boxes places w h p.children.items → IsKeptTree boxes places w' h p
+parent_kept w w' h p le few some merged trees =
+    let kept = kept_wider boxes places w w' h p.children.items le trees in
+    (inner_of_fit point_laws place_laws w' h p kept (record { merged = merged; some = some; narrow = few }), kept)
 
-  -- ---- what reading gives
+-- ---- what reading gives
 
-  pub parent_read : (h : ℕ) (bytes : List ℕ) (p : ParentNode Place Box) (rest : List ℕ) → 0 < h → parent_at (node_at (h - 1)) bytes ≡ Ok (shown_root p, rest) → node_at h bytes ≡ Ok (shown (Parent p), rest)
-  unfolding node_at
-  parent_read zero bytes p rest some e = absurd (omega (arith, some))
-  parent_read (suc h) bytes p rest some e =
-      let one : suc h - 1 ≡ h = omega arith in
-      let here : parent_at (node_at h) bytes ≡ Ok (shown_root p, rest) = subst (λ (k : ℕ). parent_at (node_at k) bytes ≡ Ok (shown_root p, rest)) one e in
-      here ∙ ap (λ (t : Tree). Ok (t, rest)) (sym (shown-Parent p))
+pub parent_read : (h : ℕ) (bytes : List ℕ) (p : ParentNode Place Box) (rest : List ℕ) → 0 < h → parent_at (node_at (h - 1)) bytes ≡ Ok (shown_root p, rest) → node_at h bytes ≡ Ok (shown (Parent p), rest)
+unfolding node_at
+parent_read h bytes p rest some e = let up : h ≡ suc (h - 1) = omega (arith, some) in rw (up, e, shown-Parent p) refl
 
--- the answer for a parent whose parts were read
-pub parent_by : (child : List ℕ → Read Tree) (bytes r0 r1 r2 rest : List ℕ) (count : ℕ) (lower upper : Place) (ns : List Tree) → number_at bytes ≡ Ok (count, r0) → 0 < count → 32 + 16 * count ≤ length r0
-    → point_at r0 ≡ Ok (lower, r1) → point_at r1 ≡ Ok (upper, r2) → each_at child count r2 ≡ Ok (ns, rest)
-    → parent_at child bytes ≡ (if has_corners lower upper (merge_of ns) then Ok (parent (merge_of ns) (row_of ns), rest) else Err BadBox)
-unfolding parent_at children_at
-parent_by child bytes r0 r1 r2 rest count lower upper ns e0 some long e1 e2 e3 =
-    let a : eqb count 0 ≡ false = grind (arith, some) in
-    let b : ltb (length r0) (32 + 16 * count) ≡ false = le-ltb _ _ long in
-    rw (e0, a, b, e1, e2, e3) refl
-
--- the same, by nodes that show what was read
+-- the answer for a parent whose parts were read, by nodes that show its children
 pub parent_shown : (child : List ℕ → Read Tree) (bytes r0 r1 r2 rest : List ℕ) (count : ℕ) (lower upper : Place) (ns : List (RTreeNode Place Box)) (merged : Box) (b : Bool) → number_at bytes ≡ Ok (count, r0) → 0 < count → 32 + 16 * count ≤ length r0
     → point_at r0 ≡ Ok (lower, r1) → point_at r1 ≡ Ok (upper, r2) → each_at child count r2 ≡ Ok (map shown ns, rest)
     → merged ≡ hull boxes (node_box places.box_of) ns → has_corners lower upper merged ≡ b
     → parent_at child bytes ≡ (if b then Ok (parent merged (row_of (map shown ns)), rest) else Err BadBox)
+unfolding parent_at children_at
 parent_shown child bytes r0 r1 r2 rest count lower upper ns merged b e0 some long e1 e2 e3 is test =
+    let full : eqb count 0 ≡ false = ne_eqb count 0 (λ none. omega (arith, none, some)) in
+    let room : ltb (length r0) (32 + 16 * count) ≡ false = le-ltb _ _ long in
     let same : merge_of (map shown ns) ≡ merged = merge_same boxes places.box_of ns ∙ sym is in
-    parent_by child bytes r0 r1 r2 rest count lower upper (map shown ns) e0 some long e1 e2 e3
-    ∙ rw (same, test) refl
+    rw (e0, full, room, e1, e2, e3, same, test) refl
+
+-- ---- the children of a parent one after another, as a loop reads them
+
+-- what was read before, and what is still read
+abbrev pub with_front : List Tree → Read (List Tree) → Read (List Tree)
+with_front front read = read >>= λ x. Ok (front ++ x.0, x.1)
+
+regroup : (front : List Tree) (n : Tree) (read : Read (List Tree)) → with_front front (read >>= λ x. Ok (n ∷ x.0, x.1)) ≡ with_front (front ++ n ∷ []) read
+regroup front n (Ok x) = ap (λ (ns : List Tree). Ok (ns, x.1)) (sym (append_assoc front (n ∷ []) x.0))
+regroup front n (Err e) = refl
+
+module _ (child : List ℕ → Read Tree) where
+  pub goes_on : (front : List Tree) (count i : ℕ) (bytes : List ℕ) (n : Tree) (after : List ℕ) (total : Read (List Tree)) → i < count → child bytes ≡ Ok (n, after)
+      → with_front front (each_at child (count - i) bytes) ≡ total → with_front (front ++ n ∷ []) (each_at child (count - (i + 1)) after) ≡ total
+  unfolding each_at
+  goes_on front count i bytes n after total lt h so_far =
+      let k : count - i ≡ suc (count - (i + 1)) = omega arith in
+      sym (regroup front n (each_at child (count - (i + 1)) after)) ∙ (rw (k, h) at so_far)
+
+  pub ends : (e : StoredError) (front : List Tree) (count i : ℕ) (bytes : List ℕ) (total : Read (List Tree)) → i < count → (e ≡ NoMemory) ⊎ (child bytes ≡ Err e)
+      → with_front front (each_at child (count - i) bytes) ≡ total → (e ≡ NoMemory) ⊎ (total ≡ Err e)
+  unfolding each_at
+  ends e front count i bytes total lt (inl m) so_far = inl m
+  ends e front count i bytes total lt (inr h) so_far =
+      let k : count - i ≡ suc (count - (i + 1)) = omega arith in
+      inr (sym so_far ∙ rw (k, h) refl)
+
+  pub is_done : (front : List Tree) (count i : ℕ) (bytes : List ℕ) (total : Read (List Tree)) → count ≤ i → with_front front (each_at child (count - i) bytes) ≡ total → total ≡ Ok (front, bytes)
+  unfolding each_at
+  is_done front count i bytes total le so_far =
+      let k : count - i ≡ 0 = omega arith in
+      sym so_far ∙ rw k (ap (λ (ns : List Tree). Ok (ns, bytes)) (append-nil front))
 
 -- ---- how many points
 
-module _ (Q : ParentNode Place Box → Type 0) (R : Place → Type 0) where
-  all_points : (h : ℕ) → ((n : RTreeNode Place Box) → IsTree Q R h n → points_of (shown n) ≡ elements n)
-      → (ns : List (RTreeNode Place Box)) → AreTrees Q R h ns → joined (map points_of (map shown ns)) ≡ all_elements ns
-  all_points h one [] w = refl
-  all_points h one (n ∷ ns) w = ap (λ (ps : List Place). ps ++ joined (map points_of (map shown ns))) (one n w.0) ∙ ap (λ (ps : List Place). elements n ++ ps) (all_points h one ns w.1)
+-- the points that a root shows are its elements
+pub root_points : (p : ParentNode Place Box) → points_of (shown_root p) ≡ elements_of p
+root_points p =
+    ap joined (folded-row (λ (q : Place). q ∷ []) (λ b below. joined below) (map shown (children_of p))) ∙ joined-map points_of (map shown (children_of p)) ∙ sym (elements-row (children_of p))
 
-  parent_points : (h : ℕ) → ((n : RTreeNode Place Box) → IsTree Q R h n → points_of (shown n) ≡ elements n)
-      → (p : ParentNode Place Box) → AreTrees Q R h (children_of p) → points_of (shown_root p) ≡ elements_of p
-  parent_points h one p w = ap joined (folded-row (λ (q : Place). q ∷ []) (λ b below. joined below) (map shown (children_of p))) ∙ all_points h one (children_of p) w
-
-  node_points : (h : ℕ) (n : RTreeNode Place Box) → IsTree Q R h n → points_of (shown n) ≡ elements n
-  node_points zero n w =
-      let l = is_leaf R n w in
-      ap (λ m. points_of (shown m)) l.1 ∙ ap points_of (shown-Leaf Place Box l.0) ∙ sym (ap elements l.1 ∙ elements-Leaf Place Box l.0)
-  node_points (suc h) n w =
-      let p = is_parent _ n w in
-      ap (λ m. points_of (shown m)) p.1 ∙ ap points_of (shown-Parent p.0) ∙ parent_points h (node_points h) p.0 p.2.1 ∙ sym (ap elements p.1 ∙ elements-Parent p.0)
-
-  -- the points that a root shows are its elements
-  pub root_points : (h : ℕ) (p : ParentNode Place Box) → AreTrees Q R h (children_of p) → points_of (shown_root p) ≡ elements_of p
-  root_points h = parent_points h (node_points h)
-
-module _ where
-  -- the answer for a root that was read
-  pub root_by : (below count points : ℕ) (bytes rest : List ℕ) (p : ParentNode Place Box) → parent_at (node_at below) bytes ≡ Ok (shown_root p, rest) → points_of (shown_root p) ≡ elements_of p → points ≡ 0 + length (elements_of p)
-      → root_at (suc below) count bytes ≡ (if points == count then ended (shown_root p) rest else Err BadCount)
-  unfolding root_at node_at
-  root_by below count points bytes rest p e same counted =
-      let long = ap length same in
-      let size : length (points_of (shown_root p)) ≡ points = omega (arith, long, counted) in
-      rw (e, size) refl
+-- the answer for a root that was read
+pub root_by : (below count points : ℕ) (bytes rest : List ℕ) (p : ParentNode Place Box) → parent_at (node_at below) bytes ≡ Ok (shown_root p, rest) → points ≡ 0 + length (elements_of p)
+    → root_at (suc below) count bytes ≡ (if points == count then ended (shown_root p) rest else Err BadCount)
+unfolding root_at node_at
+root_by below count points bytes rest p e counted =
+    let long = ap length (root_points p) in
+    let size : length (points_of (shown_root p)) ≡ points = omega (arith, long, counted) in
+    rw (e, size) refl
 
 -- a root without children
 pub root_shows_none : (p : ParentNode Place Box) → children_of p ≡ [] → p.envelope ≡ boxes.empty → shown_root p ≡ parent boxes.empty end

@@ -1,94 +1,67 @@
--- Whole stored trees: what is read is spelled so, what is spelled so is read, and each tree has one spelling.
-use Rattle.std.proofs.Common.{◌≡◌, ◌==◌, if◌then◌else◌, ◌≢◌, ℕ, zero, suc, ◌+◌, ◌<◌, ◌≤◌, Bool, true, false, cond, eqb, ltb, List, [], ◌∷◌, ◌++◌, length, take, drop, Result, Ok, Err, refl, sym, ap, subst, ◌∙◌, append_assoc, append-nil, arith, inl, inr}
-use Rattle.std.specs.Prelude.{nat_eq, IfErr, IfOk}
-use Rattle.std.specs.Cmp.Lexicographic.{pointwise, same_text}
-use Rattle.std.proofs.lemmas.Bool.{ltb-false, le-ltb, eqb-true}
-use Rattle.std.proofs.lemmas.List.{length-append, take-append-drop}
+-- Whole stored trees: what is spelled so is read, and each tree has one spelling.
+use Rattle.std.proofs.Common.{◌≡◌, ◌==◌, if◌then◌else◌, ◌≢◌, ℕ, zero, suc, ◌<◌, ◌≤◌, false, eqb, ltb, List, [], ◌∷◌, ◌++◌, length, Result, Ok, Err, refl, sym, ap, subst, ◌∙◌, append-nil, arith, inl, inr}
+use Rattle.std.proofs.lemmas.Bool.{le-ltb, eq-eqb, ne_eqb, cases_eq}
 use Rattle.rstar.specs.declared.stored.StoredError.{StoredError}
-use Rattle.rstar.specs.declared.stored.StoredError.TheVariants.{Truncated, BadMagic, BadLevel, BadCount, Trailing, NoMemory}
+use Rattle.rstar.specs.declared.stored.StoredError.TheVariants.{BadCount, Trailing}
 use Rattle.rstar.specs.Shown.{leaf, parent, end, more}
-use Rattle.rstar.specs.Stored.{Tree, boxes, points_of, IsStored, IsStoredTree, Spells, magic, number, spelling, root_spelling}
-use Rattle.rstar.specs.StoredReading.{◌>>=◌, Gives, number_at, node_at, ended, root_at, levels_at, tree_at}
-use Rattle.rstar.proofs.storing.Bytes.{IsBytes, IsBytes-drop, bind_ok, guard_ok, ok_is, number_takes, number_again}
-use Rattle.rstar.proofs.storing.Laws.{node_takes, node_again}
+use Rattle.rstar.specs.Stored.{Tree, boxes, points_of, IsStored, IsStoredTree, Spells, magic, number, root_spelling}
+use Rattle.rstar.specs.StoredFaults.{BeginsTree}
+use Rattle.rstar.specs.StoredReading.{Gives, ended, root_at, levels_at, tree_at}
+use Rattle.rstar.proofs.storing.Bytes.{ok_is, number_again}
+use Rattle.rstar.proofs.storing.Laws.{node_again}
 
-ended_ok : (t u : Tree) (rest : List ℕ) → ended t rest ≡ Ok u → (rest ≡ []) × (t ≡ u)
-ended_ok t u [] e = (refl, cc)
-ended_ok t u (b ∷ rest) e = absurd cc
+-- ---- the answers on the way
 
--- what follows the number of points
-record Follows (count : ℕ) (bytes : List ℕ) (t : Tree) : Type 0 where
-  height : ℕ
-  low : height ≤ 64
-  whole : IsStoredTree height t
-  counted : length (points_of t) ≡ count
-  spelled : bytes ≡ height ∷ root_spelling height t
+pub root_other : (points count : ℕ) (t : Tree) (rest : List ℕ) → points ≢ count → (if points == count then ended t rest else Err BadCount) ≡ Err BadCount
+root_other points count t rest other = rw (ne_eqb points count other) refl
 
-chosen_ok : {A : Type 0} (b : Bool) (d : StoredError) (r : Result A StoredError) (y : A) → cond b r (Err d) ≡ Ok y → (b ≡ true) × (r ≡ Ok y)
-chosen_ok true d r y e = (refl, e)
-chosen_ok false d r y e = absurd cc
+pub root_trailing : (points count : ℕ) (t : Tree) (rest : List ℕ) → points ≡ count → 0 < length rest → (if points == count then ended t rest else Err BadCount) ≡ Err Trailing
+root_trailing points count t [] same some = absurd (omega (arith, some))
+root_trailing points count t (b ∷ rest) same some = rw (eq-eqb points count same) refl
 
-root_takes : (h count : ℕ) (bytes : List ℕ) (t : Tree) → h ≤ 64 → IsBytes bytes → root_at h count bytes ≡ Ok t → Follows count (h ∷ bytes) t
+pub root_done : (points count : ℕ) (t : Tree) (rest : List ℕ) → points ≡ count → length rest ≡ 0 → (if points == count then ended t rest else Err BadCount) ≡ Ok t
+root_done points count t [] same none = rw (eq-eqb points count same) refl
+root_done points count t (b ∷ rest) same none = absurd (omega (arith, none))
+
+pub root_empty : (count : ℕ) (rest : List ℕ) → count ≡ 0 → length rest ≡ 0 → root_at 0 count rest ≡ Ok (parent boxes.empty end)
 unfolding root_at
-root_takes zero count bytes t le fits e =
-    let g = chosen_ok (eqb count 0) BadCount (ended (parent boxes.empty end) bytes) t e in
-    let done = ended_ok (parent boxes.empty end) t bytes g.1 in
-    record { height = 0; low = le; whole = sym done.1; counted = ap (λ (u : Tree). length (points_of u)) (sym done.1) ∙ sym (eqb-true count 0 g.0); spelled = ap (λ (r : List ℕ). 0 ∷ r) done.0 }
-root_takes (suc h) count bytes t le fits e =
-    let a = bind_ok (node_at (suc h) bytes) (λ root. cond (eqb (length (points_of root.0)) count) (ended root.0 root.1) (Err BadCount)) t e in
-    let g = chosen_ok (eqb (length (points_of a.0.0)) count) BadCount (ended a.0.0 a.0.1) t a.2 in
-    let done = ended_ok a.0.0 t a.0.1 g.1 in
-    let n = node_takes (suc h) bytes a.0 fits a.1 in
-    let text : bytes ≡ spelling a.0.0 = n.0.parts ∙ ap (λ (r : List ℕ). spelling a.0.0 ++ r) done.0 ∙ append-nil (spelling a.0.0) in
-    subst (Follows count (suc h ∷ bytes)) done.1 (record { height = suc h; low = le; whole = n.1; counted = eqb-true (length (points_of a.0.0)) count g.0; spelled = ap (λ (r : List ℕ). suc h ∷ r) text })
+root_empty count rest none done = root_done count 0 (parent boxes.empty end) rest none done
 
-levels_takes : (count : ℕ) (bytes : List ℕ) (t : Tree) → IsBytes bytes → levels_at count bytes ≡ Ok t → Follows count bytes t
+-- what follows the number of points, by the number of levels
+pub levels_read : (count : ℕ) (bytes rest : List ℕ) (h k : ℕ) → bytes ≡ h ∷ rest → h ≤ 64 → h ≡ k → levels_at count bytes ≡ root_at k count rest
 unfolding levels_at
-levels_takes count [] t fits e = absurd cc
-levels_takes count (h ∷ bytes) t fits e =
-    let g = guard_ok (ltb 64 h) BadLevel (root_at h count bytes) t e in
-    root_takes h count bytes t (ltb-false 64 h g.0) (λ i. fits (suc i)) g.1
+levels_read count bytes rest h k is low same = rw (is, le-ltb 64 h low) (ap (λ (n : ℕ). root_at n count rest) same)
 
-pub tree_takes : (bytes : List ℕ) (t : Tree) → IsBytes bytes → tree_at bytes ≡ Ok t → Spells bytes t
+pub gives_along : {X Y : Type 0} (view : X → Y) (r : Result X StoredError) (a b : Result Y StoredError) → a ≡ b → Gives view r b → Gives view r a
+gives_along view r a b e g = subst (Gives view r) (sym e) g
+
+-- ---- what is spelled so is read
+
+pub begun_tree : (bytes : List ℕ) (count height : ℕ) (rest : List ℕ) → BeginsTree bytes count height rest → tree_at bytes ≡ levels_at count (height ∷ rest)
 unfolding tree_at
-tree_takes bytes t fits e =
-    let long = guard_ok (ltb (length bytes) 4) Truncated (cond (pointwise nat_eq (take 4 bytes) magic) (number_at (drop 4 bytes) >>= λ count. levels_at count.0 count.1) (Err BadMagic)) t e in
-    let g = chosen_ok (pointwise nat_eq (take 4 bytes) magic) BadMagic (number_at (drop 4 bytes) >>= λ count. levels_at count.0 count.1) t long.1 in
-    let a = bind_ok (number_at (drop 4 bytes)) (λ count. levels_at count.0 count.1) t g.1 in
-    let n = number_takes (drop 4 bytes) a.0 (IsBytes-drop 4 bytes fits) a.1 in
-    let f = levels_takes a.0.0 a.0.1 t n.0.rest_fits a.2 in
-    let front : take 4 bytes ≡ magic = same_text (take 4 bytes) magic (sym g.0) in
-    record {
-      height = f.height;
-      low = f.low;
-      whole = f.whole;
-      counted = rw f.counted n.1;
-      spelled = sym (take-append-drop 4 bytes) ∙ ap (λ (m : List ℕ). m ++ drop 4 bytes) front
-          ∙ ap (λ (r : List ℕ). magic ++ r) (n.0.parts ∙ ap (λ (r : List ℕ). number a.0.0 ++ r) f.spelled ∙ ap (λ (k : ℕ). number k ++ f.height ∷ root_spelling f.height t) (sym f.counted))
-          ∙ sym (append_assoc magic (number (length (points_of t))) (f.height ∷ root_spelling f.height t));
-    }
+begun_tree bytes count height rest b =
+    let text = magic ++ number count ++ height ∷ rest in
+    let long : ltb (length text) 4 ≡ false = le-ltb _ _ (omega arith) in
+    ap tree_at b.parts ∙ rw (long, number_again count (height ∷ rest) b.counted) refl
 
-root_again : (h : ℕ) (t : Tree) → IsStoredTree h t → root_at h (length (points_of t)) (root_spelling h t) ≡ Ok t
+root_reads : (h count : ℕ) (t : Tree) (rest : List ℕ) → IsStoredTree h t → root_at h count (root_spelling h t ++ rest) ≡ (if length (points_of t) == count then ended t rest else Err BadCount)
 unfolding root_at
-root_again zero t is = subst (λ (u : Tree). root_at 0 (length (points_of u)) [] ≡ Ok u) (sym is) refl
-root_again (suc h) t is =
-    let read : node_at (suc h) (spelling t) ≡ Ok (t, []) = ap (node_at (suc h)) (sym (append-nil (spelling t))) ∙ (node_again (suc h) t [] is).0 in
-    let same : eqb (length (points_of t)) (length (points_of t)) ≡ true = grind arith in
-    rw (read, same) refl
+root_reads zero count t rest is =
+    let turned : eqb count 0 ≡ eqb 0 count = elim (cases_eq count 0) [ inl e ↦ rw e refl | inr other ↦ ne_eqb count 0 other ∙ sym (ne_eqb 0 count (λ e. other (sym e))) ] in
+    rw (is, turned) refl
+root_reads (suc h) count t rest is = rw (node_again (suc h) t rest is).0 refl
 
-levels_again : (h : ℕ) (t : Tree) → h ≤ 64 → IsStoredTree h t → levels_at (length (points_of t)) (h ∷ root_spelling h t) ≡ Ok t
-unfolding levels_at
-levels_again h t le is = let low : ltb 64 h ≡ false = le-ltb _ _ le in rw low (root_again h t is)
-
-pub after_magic : (rest : List ℕ) → tree_at (magic ++ rest) ≡ (number_at rest >>= λ count. levels_at count.0 count.1)
-unfolding tree_at
-after_magic rest = let long : ltb (length (magic ++ rest)) 4 ≡ false = let l : length (magic ++ rest) ≡ 4 + length rest = length-append magic rest in le-ltb _ _ (omega (arith, l)) in rw long refl
+-- bytes that begin with the spelling of a tree are read as far as its end
+pub tree_reads : (bytes : List ℕ) (count height : ℕ) (t : Tree) (rest : List ℕ) → BeginsTree bytes count height (root_spelling height t ++ rest) → height ≤ 64 → IsStoredTree height t
+    → tree_at bytes ≡ (if length (points_of t) == count then ended t rest else Err BadCount)
+tree_reads bytes count height t rest b low is =
+    begun_tree bytes count height (root_spelling height t ++ rest) b ∙ levels_read count (height ∷ (root_spelling height t ++ rest)) (root_spelling height t ++ rest) height height refl low refl ∙ root_reads height count t rest is
 
 pub tree_again : (bytes : List ℕ) (t : Tree) → Spells bytes t → tree_at bytes ≡ Ok t
 tree_again bytes t s =
-    ap tree_at (s.spelled ∙ append_assoc magic (number (length (points_of t))) (s.height ∷ root_spelling s.height t)) ∙ after_magic (number (length (points_of t)) ++ s.height ∷ root_spelling s.height t)
-    ∙ ap (λ r. r >>= λ count. levels_at count.0 count.1) (number_again (length (points_of t)) (s.height ∷ root_spelling s.height t) s.counted)
-    ∙ levels_again s.height t s.low s.whole
+    let n = length (points_of t) in
+    let parts = s.spelled ∙ ap (λ (r : List ℕ). magic ++ number n ++ s.height ∷ r) (sym (append-nil (root_spelling s.height t))) in
+    tree_reads bytes n s.height t [] (record { parts = parts; counted = s.counted }) s.low s.whole ∙ root_done n n t [] refl refl
 
 -- no bytes spell two trees
 pub one_tree : (bytes : List ℕ) (t u : Tree) → Spells bytes t → Spells bytes u → t ≡ u
@@ -117,46 +90,3 @@ same_heights (suc h) (suc k) t is also = same_height (suc h) (suc k) t is also
 pub one_spelling : (a b : List ℕ) (t : Tree) → Spells a t → Spells b t → a ≡ b
 one_spelling a b t s r =
     s.spelled ∙ ap (λ (h : ℕ). magic ++ number (length (points_of t)) ++ h ∷ root_spelling h t) (same_heights s.height r.height t s.whole r.whole) ∙ sym r.spelled
-
--- ---- what a call answers
-
-pub spelled_of : {X : Type 0} (bytes : List ℕ) (view : X → Tree) (r : Result X StoredError) → IsBytes bytes → Gives view r (tree_at bytes) → IfOk r (λ x. Spells bytes (view x))
-spelled_of bytes view (Ok x) fits g = tree_takes bytes (view x) fits g
-spelled_of bytes view (Err e) fits g = tt
-
-pub only_tree : {X : Type 0} (bytes : List ℕ) (view : X → Tree) (r : Result X StoredError) → IsBytes bytes → Gives view r (tree_at bytes) → IfOk r (λ x. (t : Tree) → Spells bytes t → t ≡ view x)
-only_tree bytes view (Ok x) fits g = λ t s. one_tree bytes t (view x) s (tree_takes bytes (view x) fits g)
-only_tree bytes view (Err e) fits g = tt
-
-pub none_spelled : {X : Type 0} (bytes : List ℕ) (view : X → Tree) (r : Result X StoredError) → Gives view r (tree_at bytes) → IfErr r (λ e. e ≢ NoMemory → (t : Tree) → Spells bytes t → ⊥)
-none_spelled bytes view (Ok x) g = tt
-none_spelled bytes view (Err e) (inl m) = λ other t s. absurd (other m)
-none_spelled bytes view (Err e) (inr read) = λ other t s. absurd (differ t e (sym (tree_again bytes t s) ∙ read)) where
-  differ : (t : Tree) (e : StoredError) → Ok t ≡ Err e → ⊥
-  differ t e h = absurd cc
-
--- ---- the answers on the way
-
--- what follows the number of points, by the number of levels
-pub levels_read : (count : ℕ) (bytes rest : List ℕ) (h k : ℕ) → bytes ≡ h ∷ rest → h ≤ 64 → h ≡ k → levels_at count bytes ≡ root_at k count rest
-unfolding levels_at
-levels_read count bytes rest h k is low same = let lower : ltb 64 h ≡ false = le-ltb _ _ low in rw (is, lower) (ap (λ (n : ℕ). root_at n count rest) same)
-
-pub gives_along : {X Y : Type 0} (view : X → Y) (r : Result X StoredError) (a b : Result Y StoredError) → a ≡ b → Gives view r b → Gives view r a
-gives_along view r a b e g = subst (Gives view r) (sym e) g
-
-pub root_empty : (count : ℕ) (rest : List ℕ) → count ≡ 0 → length rest ≡ 0 → root_at 0 count rest ≡ Ok (parent boxes.empty end)
-unfolding root_at
-root_empty count [] none done = rw none refl
-root_empty count (b ∷ rest) none done = absurd (omega (arith, done))
-
-pub root_other : (points count : ℕ) (t : Tree) (rest : List ℕ) → points ≢ count → (if points == count then ended t rest else Err BadCount) ≡ Err BadCount
-root_other points count t rest other = let e : eqb points count ≡ false = grind (arith, other) in rw e refl
-
-pub root_trailing : (points count : ℕ) (t : Tree) (rest : List ℕ) → points ≡ count → 0 < length rest → (if points == count then ended t rest else Err BadCount) ≡ Err Trailing
-root_trailing points count t [] same some = absurd (omega (arith, some))
-root_trailing points count t (b ∷ rest) same some = let e : eqb points count ≡ true = grind (arith, same) in rw e refl
-
-pub root_done : (points count : ℕ) (t : Tree) (rest : List ℕ) → points ≡ count → length rest ≡ 0 → (if points == count then ended t rest else Err BadCount) ≡ Ok t
-root_done points count t [] same none = let e : eqb points count ≡ true = grind (arith, same) in rw e refl
-root_done points count t (b ∷ rest) same none = absurd (omega (arith, none))

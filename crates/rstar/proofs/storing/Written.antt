@@ -1,13 +1,12 @@
 -- What is written of a whole tree spells it.
-use Rattle.std.proofs.Common.{◌≡◌, ◌≢◌, ℕ, suc, ◌^◌, ◌<◌, ◌≤◌, List, [], ◌∷◌, ◌++◌, length, vec_len, refl, sym, ap, subst, ◌∙◌, append_assoc, arith}
+use Rattle.std.proofs.Common.{◌≡◌, ◌≢◌, ℕ, suc, ◌^◌, ◌<◌, ◌≤◌, List, [], ◌∷◌, ◌++◌, length, vec_len, refl, sym, ap, ap₂, subst, ◌∙◌, append_assoc, arith}
 use Rattle.std.proofs.lemmas.List.{nil_from_length}
 use Rattle.rstar_base.specs.Hulls.{hull}
-use Rattle.rstar.specs.declared.node.ParentNode.{ParentNode}
 use Rattle.rstar.specs.declared.rtree.RTree.{RTree}
 use Rattle.rstar.specs.Heights.{levels_below}
 use Rattle.rstar.specs.Nodes.{IsElement, IsInner, children_of, all_elements}
 use Rattle.rstar.specs.Shapes.{IsParentTree}
-use Rattle.rstar.specs.Shown.{shown_root, parent, end}
+use Rattle.rstar.specs.Shown.{shown_root}
 use Rattle.rstar.specs.Stored.{Place, Box, boxes, places, magic, number, spelling, points_of, IsStored, Spells}
 use Rattle.rstar.specs.Trees.{elements_in, IsWholeTree}
 use Rattle.rstar.proofs.trees.Heights.{levels_are}
@@ -16,17 +15,16 @@ use Rattle.rstar.proofs.storing.Nodes.{root_points, root_shows_none}
 module _ {D P S X : Type 0} (max : ℕ) (tree : RTree Place D Box P S X) where
   -- the points that a whole tree shows are its elements
   pub whole_points : IsWholeTree boxes places max tree → points_of (shown_root tree.root) ≡ elements_in tree
-  unfolding IsWholeTree
-  whole_points whole = root_points (IsInner boxes places) (IsElement boxes places) whole.root_whole.height tree.root whole.root_whole.below
+  whole_points whole = root_points tree.root
 
-  pub empty_written : IsWholeTree boxes places max tree → children_of tree.root ≡ [] → (d : List ℕ) (count : ℕ) → d ≡ magic ++ number count ++ 0 ∷ [] → count ≡ length (elements_in tree)
+  pub empty_written : IsWholeTree boxes places max tree → vec_len tree.root.children ≡ 0 → (d : List ℕ) (count : ℕ) → d ≡ magic ++ number count ++ 0 ∷ [] → count ≡ length (elements_in tree)
       → Spells d (shown_root tree.root)
   unfolding IsWholeTree
-  empty_written whole none d count put counted =
+  empty_written whole length_0 d count put counted =
+      let none : children_of tree.root ≡ [] = nil_from_length tree.root.children.items (omega (arith, length_0, tree.root.children.ok.0)) in
       let tight : tree.root.envelope ≡ boxes.empty = whole.root_whole.tight ∙ ap (λ ns. hull boxes places.box_of (all_elements ns)) none in
-      let shows : shown_root tree.root ≡ parent boxes.empty end = root_shows_none tree.root none tight in
       let zero_of : count ≡ 0 = counted ∙ ap (λ ns. length (all_elements ns)) none in
-      subst (Spells d) (sym shows) (record {
+      subst (Spells d) (sym (root_shows_none tree.root none tight)) (record {
         height = 0;
         low = omega arith;
         whole = refl;
@@ -34,15 +32,16 @@ module _ {D P S X : Type 0} (max : ℕ) (tree : RTree Place D Box P S X) where
         spelled = put ∙ ap (λ (k : ℕ). magic ++ number k ++ 0 ∷ []) zero_of;
       })
 
-  pub tree_written : IsWholeTree boxes places max tree → children_of tree.root ≢ [] → (levels byte : ℕ) → levels ≡ levels_below (children_of tree.root) → levels ≤ 63 → byte ≡ suc levels
+  pub tree_written : IsWholeTree boxes places max tree → (vec_len tree.root.children ≡ 0 → ⊥) → (levels byte : ℕ) → levels ≡ levels_below (children_of tree.root) → levels ≤ 63 → byte ≡ suc levels
       → ((h : ℕ) → IsParentTree (IsInner boxes places) (IsElement boxes places) h tree.root → IsStored (suc h) (shown_root tree.root))
       → (d out : List ℕ) (count : ℕ) → d ≡ magic ++ number count ++ byte ∷ [] → out ≡ d ++ spelling (shown_root tree.root) → count ≡ length (elements_in tree) → count < 2 ^ 64
       → Spells out (shown_root tree.root)
   unfolding IsWholeTree
-  tree_written whole some levels byte deep few up stored d out count put_d put_out counted fits =
+  tree_written whole full levels byte deep few up stored d out count put_d put_out counted fits =
       let h = whole.root_whole.height in
+      let some : children_of tree.root ≢ [] = λ e. let none = ap length e in full (omega (arith, none, tree.root.children.ok.0)) in
       let deepness : levels ≡ h = deep ∙ levels_are (IsInner boxes places) (IsElement boxes places) (λ p q. q.1) h (children_of tree.root) some whole.root_whole.below in
-      let points : length (points_of (shown_root tree.root)) ≡ count = ap length (whole_points whole) ∙ sym counted in
+      let points : length (points_of (shown_root tree.root)) ≡ count = ap length (root_points tree.root) ∙ sym counted in
       record {
         height = suc levels;
         low = omega (arith, few);
@@ -50,23 +49,5 @@ module _ {D P S X : Type 0} (max : ℕ) (tree : RTree Place D Box P S X) where
         counted = omega (arith, points, fits);
         spelled = put_out ∙ ap (λ t. t ++ spelling (shown_root tree.root)) put_d
             ∙ append_assoc (magic ++ number count) (byte ∷ []) (spelling (shown_root tree.root))
-            ∙ ap (λ (k : ℕ). magic ++ number count ++ k ∷ spelling (shown_root tree.root)) up
-            ∙ ap (λ (k : ℕ). magic ++ number k ++ suc levels ∷ spelling (shown_root tree.root)) (sym points);
+            ∙ ap₂ (λ (n k : ℕ). magic ++ number n ++ k ∷ spelling (shown_root tree.root)) (sym points) up;
       }
-
-module _ {D P S X : Type 0} (max : ℕ) (tree : RTree Place D Box P S X) (whole : IsWholeTree boxes places max tree) (root : ParentNode Place Box) (is : root ≡ tree.root) where
-  pub empty_root_written : vec_len root.children ≡ 0 → (d : List ℕ) (count : ℕ) → d ≡ magic ++ number count ++ 0 ∷ [] → count ≡ length (elements_in tree)
-      → Spells d (shown_root tree.root)
-  empty_root_written length_0 =
-      let none : children_of root ≡ [] = nil_from_length root.children.items (omega (arith, length_0, root.children.ok.0)) in
-      empty_written max tree whole (subst (λ r. children_of r ≡ []) is none)
-
-  pub root_written : (vec_len root.children ≡ 0 → ⊥) → (levels byte : ℕ) → levels ≡ levels_below (children_of tree.root) → levels ≤ 63 → byte ≡ suc levels
-      → ((h : ℕ) → IsParentTree (IsInner boxes places) (IsElement boxes places) h root → IsStored (suc h) (shown_root root))
-      → (d out : List ℕ) (count : ℕ) → d ≡ magic ++ number count ++ byte ∷ [] → out ≡ d ++ spelling (shown_root root) → count ≡ length (elements_in tree) → count < 2 ^ 64
-      → Spells out (shown_root tree.root)
-  root_written some levels byte deep few up stored d out count put_d put_out counted fits =
-      let full : children_of root ≢ [] = λ e. let z = ap length e in some (omega (arith, z, root.children.ok.0)) in
-      tree_written max tree whole (subst (λ r. children_of r ≢ []) is full) levels byte deep few up
-      (subst (λ r. (h : ℕ) → IsParentTree (IsInner boxes places) (IsElement boxes places) h r → IsStored (suc h) (shown_root r)) is stored)
-      d out count put_d (put_out ∙ ap (λ r. d ++ spelling (shown_root r)) is) counted fits

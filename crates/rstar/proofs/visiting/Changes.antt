@@ -1,24 +1,25 @@
 -- A change of elements that keeps their envelopes keeps a tree whole.
-use Rattle.std.proofs.Common.{◌≡◌, ◌≢◌, ℕ, zero, suc, ◌<◌, List, [], ◌∷◌, length, slice_index_or, slice_set, map, refl, ap, sym, ◌∙◌, subst, arith, ◌^◌}
+use Rattle.std.proofs.Common.{◌≡◌, ℕ, zero, suc, ◌<◌, List, [], ◌∷◌, length, slice_index_or, slice_set, map, refl, ap, sym, ◌∙◌, subst, arith, ◌^◌}
 use Rattle.std.specs.List.{AllByRecursion, AllZip}
+use Rattle.std.proofs.lemmas.List.{nil_from_length as nil-length}
 use Rattle.std.proofs.lemmas.Slice.Zip.{AllZip-long}
 use Rattle.rstar_base.specs.Envelopes.{Boxes}
 use Rattle.rstar_base.specs.Elements.{Objects}
 use Rattle.rstar_base.specs.Hulls.{hull}
 use Rattle.rstar.specs.declared.node.RTreeNode.{RTreeNode, Leaf, Parent}
 use Rattle.rstar.specs.declared.node.RTreeNode.TheVariants.{outs-Parent, outs-Leaf}
-use Rattle.rstar.specs.declared.node.RTreeNode.TheOpen as layer
 use Rattle.rstar.specs.declared.node.ParentNode.{ParentNode}
 use Rattle.rstar.specs.declared.rtree.RTree.{RTree}
-use Rattle.rstar.specs.Nodes.{Layer, layer_of, children_of, elements, all_elements, IsTree, IsInner, IsElement, IsWhole, AreWhole}
+use Rattle.rstar.specs.Nodes.{layer_of, children_of, elements, all_elements, IsTree, IsInner, IsElement, IsWhole, AreWhole}
 use Rattle.rstar.specs.Shapes.{IsAny}
 use Rattle.rstar.specs.Heights.{levels_below}
-use Rattle.rstar.specs.Shown.{parent, more, row_of, shown, shown_root, outline, outline_row}
+use Rattle.rstar.specs.Shown.{row_of, shown, shown_root, outline, outline_row}
 use Rattle.rstar.specs.inside.ParentBounds.{HasAtMost}
 use Rattle.rstar.specs.Trees.{WholeTree, HasSameOutline, elements_in, root_of}
 use Rattle.rstar.specs.inside.WaysDown.{child_at, change_at, change_below}
 use Rattle.rstar.specs.Changes.{KeepsBox, IsChangedParent, IsChanged, IsChangedTree}
 use Rattle.rstar.proofs.lists.Items.{AllZip-append, all_get}
+use Rattle.rstar.proofs.selecting.Folds.{zip-fold, by_height}
 use Rattle.rstar.proofs.trees.Heights.{levels_are}
 use Rattle.rstar.proofs.trees.ByChildren.{is_leaf, is_parent, leaf_of, parent_of, IsLeafOf-Leaf, IsParentOf-Parent, elements-Leaf, elements-Parent, shown-Leaf, shown-Parent}
 
@@ -28,80 +29,77 @@ pub AllZip-refl : {A : Type 0} (K : A → A → Type 0) (Q : A → Type 0) → (
 AllZip-refl K Q one [] w = tt
 AllZip-refl K Q one (x ∷ xs) w = (one x w.0, AllZip-refl K Q one xs w.1)
 
+pub AllZip-set : {A B : Type 0} (K : A → B → Type 0) (xs : List A) (ys : List B) (i : ℕ) (d : A) (y : B) → AllZip K xs ys
+    → (i < length xs → K (slice_index_or xs i d) y) → AllZip K xs (slice_set ys i y)
+AllZip-set K [] [] i d y w one = tt
+AllZip-set K [] (z ∷ ys) i d y w one = absurd w
+AllZip-set K (x ∷ xs) [] i d y w one = absurd w
+AllZip-set K (x ∷ xs) (z ∷ ys) zero d y w one = (one (omega arith), w.1)
+AllZip-set K (x ∷ xs) (z ∷ ys) (suc i) d y w one = (w.0, AllZip-set K xs ys i d y w.1 (λ lt. one (omega arith)))
+
 -- ---- what follows from a change
 
+pub changed-Leaf : {T : Type 0} (E : Type 0) (K : T → T → Type 0) (t u : T) → K t u → IsChanged {E = E} K 0 (Leaf t) (Leaf u)
+changed-Leaf {T} E K t u k = IsLeafOf-Leaf T E _ t (IsLeafOf-Leaf T E _ u k)
+
+pub changed-Parent : {T E : Type 0} (K : T → T → Type 0) (h : ℕ) (p q : ParentNode T E) → IsChangedParent (IsChanged K h) p q → IsChanged K (suc h) (Parent p) (Parent q)
+changed-Parent K h p q w = IsParentOf-Parent _ p (IsParentOf-Parent _ q w)
+
 pub same_hull : {T E : Type 0} (v : Boxes E) (o : Objects T E) (ts us : List T) → AllZip (KeepsBox o) ts us → hull v o.box_of us ≡ hull v o.box_of ts
-same_hull v o [] [] w = refl
-same_hull v o [] (u ∷ us) w = absurd w
-same_hull v o (t ∷ ts) [] w = absurd w
-same_hull v o (t ∷ ts) (u ∷ us) w = ap (λ e. v.merge e (hull v o.box_of us)) w.0.0 ∙ ap (v.merge (o.box_of t)) (same_hull v o ts us w.1)
+same_hull v o = zip-fold (KeepsBox o) (λ ts us. hull v o.box_of us ≡ hull v o.box_of ts) refl
+    (λ t u ts us k same. ap (λ e. v.merge e (hull v o.box_of us)) k.0 ∙ ap (v.merge (o.box_of t)) same)
 
 module _ {T E : Type 0} (K : T → T → Type 0) where
+  -- what holds of leaves, and of parents by their children, holds of a node and what it was changed to
+  module _ (P : ℕ → RTreeNode T E → RTreeNode T E → Type 0) (at_leaf : (t u : T) → K t u → P 0 (Leaf t) (Leaf u))
+      (at_parent : (h : ℕ) → ((n m : RTreeNode T E) → IsChanged K h n m → P h n m) → (p q : ParentNode T E) → IsChangedParent (IsChanged K h) p q → P (suc h) (Parent p) (Parent q)) where
+    each-changed : (h : ℕ) (n m : RTreeNode T E) → IsChanged K h n m → P h n m
+    each-changed zero n m w =
+        let l = is_leaf _ n w in let k = is_leaf _ m l.2 in
+        subst (λ a. P 0 a m) (sym l.1) (subst (P 0 (Leaf l.0)) (sym k.1) (at_leaf l.0 k.0 k.2))
+    each-changed (suc h) n m w =
+        let p = is_parent _ n w in let q = is_parent _ m p.2 in
+        subst (λ a. P (suc h) a m) (sym p.1) (subst (P (suc h) (Parent p.0)) (sym q.1) (at_parent h (each-changed h) p.0 q.0 q.2))
+
   -- the elements are pairs
   all-changed : (h : ℕ) → ((n m : RTreeNode T E) → IsChanged K h n m → AllZip K (elements n) (elements m))
       → (ns ms : List (RTreeNode T E)) → AllZip (IsChanged K h) ns ms → AllZip K (all_elements ns) (all_elements ms)
-  all-changed h one [] [] w = tt
-  all-changed h one [] (m ∷ ms) w = absurd w
-  all-changed h one (n ∷ ns) [] w = absurd w
-  all-changed h one (n ∷ ns) (m ∷ ms) w = AllZip-append K (elements n) (all_elements ns) (elements m) (all_elements ms) (one n m w.0) (all-changed h one ns ms w.1)
+  all-changed h one = zip-fold (IsChanged K h) (λ ns ms. AllZip K (all_elements ns) (all_elements ms)) tt
+      (λ n m ns ms w below. AllZip-append K (elements n) (all_elements ns) (elements m) (all_elements ms) (one n m w) below)
 
-  pub changed-node : (h : ℕ) (n m : RTreeNode T E) → IsChanged K h n m → AllZip K (elements n) (elements m)
-  changed-node zero n m w =
-      let l = is_leaf _ n w in let k = is_leaf _ m l.2 in
-      subst (λ (ts : List T). AllZip K ts (elements m)) (sym (ap elements l.1 ∙ elements-Leaf T E l.0))
-      (subst (λ (us : List T). AllZip K (l.0 ∷ []) us) (sym (ap elements k.1 ∙ elements-Leaf T E k.0)) (k.2, tt))
-  changed-node (suc h) n m w =
-      let p = is_parent _ n w in let q = is_parent _ m p.2 in
-      subst (λ (ts : List T). AllZip K ts (elements m)) (sym (ap elements p.1 ∙ elements-Parent p.0))
-      (subst (λ (us : List T). AllZip K (all_elements (children_of p.0)) us) (sym (ap elements q.1 ∙ elements-Parent q.0))
-      (all-changed h (changed-node h) (children_of p.0) (children_of q.0) q.2.children))
+  changed-node : (h : ℕ) (n m : RTreeNode T E) → IsChanged K h n m → AllZip K (elements n) (elements m)
+  changed-node = each-changed (λ h n m. AllZip K (elements n) (elements m)) (λ t u k. rw (elements-Leaf T E t, elements-Leaf T E u) (k, tt))
+      (λ h one p q w. rw (elements-Parent p, elements-Parent q) (all-changed h one (children_of p) (children_of q) w.children))
 
   pub changed-below : (h : ℕ) (ns ms : List (RTreeNode T E)) → AllZip (IsChanged K h) ns ms → AllZip K (all_elements ns) (all_elements ms)
   changed-below h = all-changed h (changed-node h)
 
   -- the outline stays
-  outlines-all : (h : ℕ) → ((n m : RTreeNode T E) → IsChanged K h n m → outline (shown m) ≡ outline (shown n))
-      → (ns ms : List (RTreeNode T E)) → AllZip (IsChanged K h) ns ms → outline_row (row_of (map shown ms)) ≡ outline_row (row_of (map shown ns))
-  outlines-all h one [] [] w = refl
-  outlines-all h one [] (m ∷ ms) w = absurd w
-  outlines-all h one (n ∷ ns) [] w = absurd w
-  outlines-all h one (n ∷ ns) (m ∷ ms) w = ap (λ k. more k (outline_row (row_of (map shown ms)))) (one n m w.0) ∙ ap (more (outline (shown n))) (outlines-all h one ns ms w.1)
-
-  outlines-parent : (h : ℕ) → ((ns ms : List (RTreeNode T E)) → AllZip (IsChanged K h) ns ms → outline_row (row_of (map shown ms)) ≡ outline_row (row_of (map shown ns)))
+  outlines-parent : (h : ℕ) → ((n m : RTreeNode T E) → IsChanged K h n m → outline (shown m) ≡ outline (shown n))
       → (p q : ParentNode T E) → IsChangedParent (IsChanged K h) p q → outline (shown_root q) ≡ outline (shown_root p)
-  outlines-parent h all p q w = ap (λ e. parent e (outline_row (row_of (map shown (children_of q))))) w.envelope ∙ ap (parent p.envelope) (all (children_of p) (children_of q) w.children)
+  outlines-parent h one p q w = rw (w.envelope, all (children_of p) (children_of q) w.children)
+    where
+      all : (ns ms : List (RTreeNode T E)) → AllZip (IsChanged K h) ns ms → outline_row (row_of (map shown ms)) ≡ outline_row (row_of (map shown ns))
+      all = zip-fold (IsChanged K h) (λ ns ms. outline_row (row_of (map shown ms)) ≡ outline_row (row_of (map shown ns))) refl (λ n m ns ms w below. rw (one n m w, below))
 
   outlines-node : (h : ℕ) (n m : RTreeNode T E) → IsChanged K h n m → outline (shown m) ≡ outline (shown n)
-  outlines-node zero n m w =
-      let l = is_leaf _ n w in let k = is_leaf _ m l.2 in
-      ap outline (ap shown k.1 ∙ shown-Leaf T E k.0) ∙ sym (ap outline (ap shown l.1 ∙ shown-Leaf T E l.0))
-  outlines-node (suc h) n m w =
-      let p = is_parent _ n w in let q = is_parent _ m p.2 in
-      ap outline (ap shown q.1 ∙ shown-Parent q.0)
-      ∙ outlines-parent h (outlines-all h (outlines-node h)) p.0 q.0 q.2
-      ∙ sym (ap outline (ap shown p.1 ∙ shown-Parent p.0))
+  outlines-node = each-changed (λ h n m. outline (shown m) ≡ outline (shown n)) (λ t u k. rw (shown-Leaf T E t, shown-Leaf T E u))
+      (λ h one p q w. rw (shown-Parent p, shown-Parent q) (outlines-parent h one p q w))
 
   pub outline-changed : (h : ℕ) (p q : ParentNode T E) → IsChangedParent (IsChanged K h) p q → outline (shown_root q) ≡ outline (shown_root p)
-  outline-changed h = outlines-parent h (outlines-all h (outlines-node h))
+  outline-changed h = outlines-parent h (outlines-node h)
 
   -- what K keeps of elements, and a changed parent of parents, is kept of a tree
   module _ (Q : ParentNode T E → Type 0) (R : T → Type 0) (kept : (t u : T) → K t u → R t → R u)
       (keeps : (h : ℕ) (p q : ParentNode T E) → IsChangedParent (IsChanged K h) p q → Q p → Q q) where
     trees-each : (h : ℕ) → ((n m : RTreeNode T E) → IsChanged K h n m → IsTree Q R h n → IsTree Q R h m)
         → (ns ms : List (RTreeNode T E)) → AllZip (IsChanged K h) ns ms → AllByRecursion (IsTree Q R h) ns → AllByRecursion (IsTree Q R h) ms
-    trees-each h one [] [] w is = tt
-    trees-each h one [] (m ∷ ms) w is = absurd w
-    trees-each h one (n ∷ ns) [] w is = absurd w
-    trees-each h one (n ∷ ns) (m ∷ ms) w is = (one n m w.0 is.0, trees-each h one ns ms w.1 is.1)
+    trees-each h one = zip-fold (IsChanged K h) (λ ns ms. AllByRecursion (IsTree Q R h) ns → AllByRecursion (IsTree Q R h) ms) (λ is. is)
+        (λ n m ns ms w below is. (one n m w is.0, below is.1))
 
     trees-node : (h : ℕ) (n m : RTreeNode T E) → IsChanged K h n m → IsTree Q R h n → IsTree Q R h m
-    trees-node zero n m w is =
-        let l = is_leaf _ n w in let k = is_leaf _ m l.2 in
-        subst (IsTree Q R 0) (sym k.1) (IsLeafOf-Leaf T E R k.0 (kept l.0 k.0 k.2 (leaf_of T E R l.0 (subst (IsTree Q R 0) l.1 is))))
-    trees-node (suc h) n m w is =
-        let p = is_parent _ n w in let q = is_parent _ m p.2 in
-        let old = parent_of _ p.0 (subst (IsTree Q R (suc h)) p.1 is) in
-        subst (IsTree Q R (suc h)) (sym q.1) (IsParentOf-Parent _ q.0 (keeps h p.0 q.0 q.2 old.0, trees-each h (trees-node h) (children_of p.0) (children_of q.0) q.2.children old.1))
+    trees-node = each-changed (λ h n m. IsTree Q R h n → IsTree Q R h m) (λ t u k is. IsLeafOf-Leaf T E R u (kept t u k (leaf_of T E R t is)))
+        (λ h one p q w is. let old = parent_of _ p is in IsParentOf-Parent _ q (keeps h p q w old.0, trees-each h one (children_of p) (children_of q) w.children old.1))
 
     pub trees-kept : (h : ℕ) (ns ms : List (RTreeNode T E)) → AllZip (IsChanged K h) ns ms → AllByRecursion (IsTree Q R h) ns → AllByRecursion (IsTree Q R h) ms
     trees-kept h = trees-each h (trees-node h)
@@ -114,13 +112,10 @@ module _ {T E : Type 0} (v : Boxes E) (o : Objects T E) where
       → p.envelope ≡ hull v o.box_of (all_elements (children_of p)) → q.envelope ≡ hull v o.box_of (all_elements (children_of q))
   tight-kept h p q w tight = w.envelope ∙ tight ∙ sym (same_hull v o _ _ (changed-below (KeepsBox o) h (children_of p) (children_of q) w.children))
 
-  full-kept : (h : ℕ) (ns ms : List (RTreeNode T E)) → AllZip (IsChanged (KeepsBox o) h) ns ms → ns ≢ [] → ms ≢ []
-  full-kept h [] ms w full = absurd (full refl)
-  full-kept h (n ∷ ns) [] w full = absurd w
-  full-kept h (n ∷ ns) (m ∷ ms) w full = λ none. cc
-
   inner-kept : (h : ℕ) (p q : ParentNode T E) → IsChangedParent (IsChanged (KeepsBox o) h) p q → IsInner v o p → IsInner v o q
-  inner-kept h p q w is = (tight-kept h p q w is.0, full-kept h (children_of p) (children_of q) w.children is.1)
+  inner-kept h p q w is =
+      let long = AllZip-long (IsChanged (KeepsBox o) h) (children_of p) (children_of q) w.children in
+      (tight-kept h p q w is.0, λ none. is.1 (nil-length _ (let e = ap length none in omega arith)))
 
   -- there are as many levels
   levels-kept : (h : ℕ) (ns ms : List (RTreeNode T E)) → AllZip (IsChanged (KeepsBox o) h) ns ms → AreWhole v o h ns → AreWhole v o h ms → levels_below ms ≡ levels_below ns
@@ -171,42 +166,24 @@ module _ {T E : Type 0} (v : Boxes E) (o : Objects T E) where
 module _ {T E : Type 0} (K : T → T → Type 0) (same : (t : T) → K t t) (Q : ParentNode T E → Type 0) (R : T → Type 0) where
   -- no change
   nodes-refl : (h : ℕ) (n : RTreeNode T E) → IsTree Q R h n → IsChanged K h n n
-  nodes-refl zero n w =
-      let l = is_leaf R n w in
-      subst (λ m. IsChanged K 0 m m) (sym l.1) (IsLeafOf-Leaf T E _ l.0 (IsLeafOf-Leaf T E _ l.0 (same l.0)))
-  nodes-refl (suc h) n w =
-      let p = is_parent _ n w in
-      subst (λ m. IsChanged K (suc h) m m) (sym p.1) (IsParentOf-Parent _ p.0 (IsParentOf-Parent _ p.0 (record { envelope = refl; children = AllZip-refl (IsChanged K h) (IsTree Q R h) (nodes-refl h) (children_of p.0) p.2.1 })))
+  nodes-refl = by_height Q R (λ h n. IsChanged K h n n) (λ t r. changed-Leaf E K t t (same t))
+      (λ h one p q w. changed-Parent K h p p (record { envelope = refl; children = AllZip-refl (IsChanged K h) (IsTree Q R h) one (children_of p) w }))
 
   pub changed-refl : (h : ℕ) (ns : List (RTreeNode T E)) → AllByRecursion (IsTree Q R h) ns → AllZip (IsChanged K h) ns ns
   changed-refl h = AllZip-refl (IsChanged K h) (IsTree Q R h) (nodes-refl h)
 
-  -- one node of a list
-  set-changed : (h : ℕ) (ns : List (RTreeNode T E)) (i : ℕ) (d m : RTreeNode T E) → AllByRecursion (IsTree Q R h) ns
-      → (i < length ns → IsChanged K h (slice_index_or ns i d) m) → AllZip (IsChanged K h) ns (slice_set ns i m)
-  set-changed h [] i d m w one = tt
-  set-changed h (n ∷ ns) zero d m w one = (one (omega arith), changed-refl h ns w.1)
-  set-changed h (n ∷ ns) (suc i) d m w one = (nodes-refl h n w.0, set-changed h ns i d m w.1 (λ lt. one (omega arith)))
-
   module _ (way : ParentNode T E → ℕ) (f : T → T) (kept : (t : T) → K t (f t)) where
+    parent-changed : (h : ℕ) → ((n : RTreeNode T E) → IsTree Q R h n → IsChanged K h n (change_at way f h (layer_of n)))
+        → (p : ParentNode T E) → AllByRecursion (IsTree Q R h) (children_of p) → IsChangedParent (IsChanged K h) p (change_below way f h p)
+    parent-changed h one p w = record {
+      envelope = refl;
+      children = AllZip-set (IsChanged K h) (children_of p) (children_of p) (way p) (Parent p) _ (changed-refl h (children_of p) w)
+          (λ lt. one (child_at p (way p)) (all_get (IsTree Q R h) (children_of p) (way p) (Parent p) lt w));
+    }
+
     at-changed : (h : ℕ) (n : RTreeNode T E) → IsTree Q R h n → IsChanged K h n (change_at way f h (layer_of n))
-    at-changed zero n w =
-        let l = is_leaf R n w in
-        let e : layer_of n ≡ layer.Leaf l.0 = ap (λ m. layer_of m) l.1 ∙ outs-Leaf l.0 in
-        let Z : Layer T E → Type 0 = λ k. IsChanged K 0 n (change_at way f 0 k) in
-        subst Z (sym e) (subst (λ m. IsChanged K 0 m (Leaf (f l.0))) (sym l.1) (IsLeafOf-Leaf T E _ l.0 (IsLeafOf-Leaf T E _ (f l.0) (kept l.0))))
-    at-changed (suc h) n w =
-        let p = is_parent _ n w in
-        let e : layer_of n ≡ layer.Parent p.0 = ap (λ m. layer_of m) p.1 ∙ outs-Parent p.0 in
-        let Z : Layer T E → Type 0 = λ k. IsChanged K (suc h) n (change_at way f (suc h) k) in
-        subst Z (sym e) (subst (λ m. IsChanged K (suc h) m (Parent (change_below way f h p.0))) (sym p.1)
-        (IsParentOf-Parent _ p.0 (IsParentOf-Parent _ (change_below way f h p.0) (record {
-          envelope = refl;
-          children = set-changed h (children_of p.0) (way p.0) (Parent p.0) _ p.2.1 (λ lt. at-changed h (child_at p.0 (way p.0)) (all_get (IsTree Q R h) (children_of p.0) (way p.0) (Parent p.0) lt p.2.1));
-        }))))
+    at-changed = by_height Q R (λ h n. IsChanged K h n (change_at way f h (layer_of n))) (λ t r. rw outs-Leaf (changed-Leaf E K t (f t) (kept t)))
+        (λ h one p q w. rw outs-Parent (changed-Parent K h p (change_below way f h p) (parent-changed h one p w)))
 
     pub below-changed : (h : ℕ) (p : ParentNode T E) → AllByRecursion (IsTree Q R h) (children_of p) → IsChangedParent (IsChanged K h) p (change_below way f h p)
-    below-changed h p w = record {
-      envelope = refl;
-      children = set-changed h (children_of p) (way p) (Parent p) _ w (λ lt. at-changed h (child_at p (way p)) (all_get (IsTree Q R h) (children_of p) (way p) (Parent p) lt w));
-    }
+    below-changed h = parent-changed h (at-changed h)

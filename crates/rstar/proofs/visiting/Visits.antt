@@ -6,7 +6,7 @@ use Rattle.std.specs.declared.ops.ControlFlow.{ControlFlow}
 use Rattle.std.specs.declared.ops.ControlFlow.TheVariants.{Continue, Break}
 use Rattle.rstar.specs.declared.node.RTreeNode.{RTreeNode, Leaf, Parent}
 use Rattle.rstar.specs.declared.node.ParentNode.{ParentNode}
-use Rattle.rstar.specs.Nodes.{total, given, all_given, children_of}
+use Rattle.rstar.specs.Nodes.{total, all_given, children_of}
 use Rattle.rstar.specs.Visits.{IsFirst, IsOneOf, Visits, IsVisit, IsVisitWithin}
 use Rattle.rstar.specs.inside.Traversals.{steps}
 use Rattle.rstar.proofs.trees.ByChildren.{given-Leaf, given-Parent, steps-Leaf, steps-Parent}
@@ -14,27 +14,18 @@ use Rattle.rstar.proofs.trees.ByChildren.{given-Leaf, given-Parent, steps-Leaf, 
 -- ---- the first node
 
 module _ {T E : Type 0} (accepts : E → Bool) (selects : T → Bool) where
-  -- a leaf
   pub look-leaf : (ns rest : List (RTreeNode T E)) (n : RTreeNode T E) (t : T) (b : Bool) → ns ≡ n ∷ rest → n ≡ Leaf t → selects t ≡ b
       → (all_given accepts selects ns ≡ (if b then t ∷ [] else []) ++ all_given accepts selects rest) × (total (map steps rest) < total (map steps ns))
   look-leaf ns rest n t b is leaf says =
-      let e = ap (λ l. total (map steps l)) is in let f = ap steps leaf ∙ steps-Leaf T E t in (
-        ap (all_given accepts selects) is
-            ∙ ap (λ l. l ++ all_given accepts selects rest) (ap (given accepts selects) leaf ∙ given-Leaf T E accepts selects t ∙ ap (λ (b : Bool). if b then t ∷ [] else []) says),
-        omega arith,
-      )
+      let e = ap (λ l. total (map steps l)) is in let f = ap steps leaf ∙ steps-Leaf T E t in
+      (rw (is, leaf, given-Leaf, says), omega arith)
 
-  -- a parent
-  pub look-parent : (ns rest : List (RTreeNode T E)) (n : RTreeNode T E) (p : ParentNode T E) (b : Bool) → ns ≡ n ∷ rest → n ≡ Parent p → accepts p.envelope ≡ b
-      → (all_given accepts selects ns ≡ (if b then all_given accepts selects (children_of p) else []) ++ all_given accepts selects rest)
-      × (total (map steps rest) < total (map steps ns)) × (total (map steps (children_of p)) < total (map steps ns))
-  look-parent ns rest n p b is parent says =
-      let e = ap (λ l. total (map steps l)) is in let f = ap steps parent ∙ steps-Parent p in (
-        ap (all_given accepts selects) is
-            ∙ ap (λ l. l ++ all_given accepts selects rest) (ap (given accepts selects) parent ∙ given-Parent accepts selects p ∙ ap (λ (b : Bool). if b then all_given accepts selects (children_of p) else []) says),
-        omega arith,
-        omega arith,
-      )
+  pub look-parent : (ns rest below : List (RTreeNode T E)) (n : RTreeNode T E) (p : ParentNode T E) (b : Bool) → ns ≡ n ∷ rest → n ≡ Parent p → accepts p.envelope ≡ b → below ≡ children_of p
+      → (all_given accepts selects ns ≡ (if b then all_given accepts selects below else []) ++ all_given accepts selects rest)
+      × (total (map steps rest) < total (map steps ns)) × (total (map steps below) < total (map steps ns))
+  look-parent ns rest below n p b is parent says same =
+      let e = ap (λ l. total (map steps l)) is in let f = ap steps parent ∙ steps-Parent p in let k = ap (λ l. total (map steps l)) same in
+      (rw (is, parent, given-Parent, says, same), omega arith, omega arith)
 
 -- ---- look-ups
 
@@ -47,27 +38,17 @@ one_of xs ys (Some x) e first = subst (λ l. Contains l x.now) (sym first.1 ∙ 
 
 module _ {V A T B : Type 0} (now : A → T) (step : V → A → ControlFlow B (Unit {0}) → V → Type 0) where
   -- what went on goes on
-  Visits-append : (v u : V) (xs ys : List T) (r : ControlFlow B (Unit {0})) (w : V)
+  pub Visits-append : (v u : V) (xs ys : List T) (r : ControlFlow B (Unit {0})) (w : V)
       → Visits now step v xs (Continue tt) u → Visits now step u ys r w → Visits now step v (xs ++ ys) r w
   Visits-append v u [] ys r w a b = subst (λ s. Visits now step s ys r w) (sym a.1) b
   Visits-append v u (x ∷ xs) ys r w (inl a) b = cc a.3
   Visits-append v u (x ∷ xs) ys r w (inr a) b = inr (a.0, a.1, a.2, a.3, Visits-append a.1 u xs ys r w a.4 b)
 
   -- what broke stays broken
-  Visits-break : (v : V) (xs ys : List T) (b : B) (w : V) → Visits now step v xs (Break b) w → Visits now step v (xs ++ ys) (Break b) w
+  pub Visits-break : (v : V) (xs ys : List T) (b : B) (w : V) → Visits now step v xs (Break b) w → Visits now step v (xs ++ ys) (Break b) w
   Visits-break v [] ys b w a = cc a.0
   Visits-break v (x ∷ xs) ys b w (inl a) = inl a
   Visits-break v (x ∷ xs) ys b w (inr a) = inr (a.0, a.1, a.2, a.3, Visits-break a.1 xs ys b w a.4)
-
-  pub Visits-broke : (v w : V) (b : B) (l ts : List T) (x : A) → l ≡ now x ∷ ts → step v x (Break b) w → Visits now step v l (Break b) w
-  Visits-broke v w b l ts x e s = subst (λ k. Visits now step v k (Break b) w) (sym e) (inl (x, b, refl, refl, s))
-
-  pub Visits-went_below : (v u : V) (r : ControlFlow B (Unit {0})) (w : V) (l xs ys : List T)
-      → l ≡ xs ++ ys → Visits now step v xs (Continue tt) u → Visits now step u ys r w → Visits now step v l r w
-  Visits-went_below v u r w l xs ys e a b = subst (λ k. Visits now step v k r w) (sym e) (Visits-append v u xs ys r w a b)
-
-  pub Visits-broke_below : (v w : V) (b : B) (l xs ys : List T) → l ≡ xs ++ ys → Visits now step v xs (Break b) w → Visits now step v l (Break b) w
-  Visits-broke_below v w b l xs ys e a = subst (λ k. Visits now step v k (Break b) w) (sym e) (Visits-break v xs ys b w a)
 
   -- a visit of all
   pub visit_all : {all : Type 0} {v : V} {xs ys : List T} {r : ControlFlow B (Unit {0})}

@@ -31,7 +31,7 @@ module _ {A E : Type 0} (way : ParentNode A E → ℕ) where
   leaf_put (suc d) n t = absurd (subst Holds (eqb-suc-zero d) t)
 
   pub leaf_at : (d : ℕ) (n : RTreeNode A E) (t : A) → Holds (eqb d 0) → Leaf t ≡ n → IsAt way d (layer_of n) t
-  leaf_at zero n t h e = let Q : Layer A E → Type 0 = λ k. IsAt way 0 k t in subst Q (sym (outs-Leaf t) ∙ ap (λ m. layer_of m) e) refl
+  leaf_at zero n t h e = rw (← e, outs-Leaf)
   leaf_at (suc d) n t h e = absurd (subst Holds (eqb-suc-zero d) h)
 
   -- the rest of a way that is not at its end, from the node n
@@ -62,19 +62,10 @@ module _ {A E : Type 0} (way : ParentNode A E → ℕ) where
     less = omega arith;
     above_zero = omega arith;
     parent = has_parent _ h.0;
-    has = λ p e. let Q : Layer A E → Type 0 = λ k. HasWay way k in subst Q (is_opened p e) h.0;
-    leads = λ p c e f.
-        let Q : Layer A E → Type 0 = λ k. Leads way m (layer_of (next_on way k)) in
-        let R : RTreeNode A E → Type 0 = λ k. Leads way m (layer_of k) in
-        subst R (sym f) (subst Q (is_opened p e) h.1);
-    put = λ p c e f.
-        let F : Layer A E → RTreeNode A E → A → RTreeNode A E = λ k c. λ u. with_parent k (with_child p (way p) (put_at way m (layer_of c) u)) in
-        let G : Layer A E → A → RTreeNode A E = λ k. put_at way (suc m) k in
-        ap (λ k. F k c) (is_opened p e) ∙ ap (F (layer.Parent p)) f ∙ sym (ap G (is_opened p e));
-    at = λ p c t e f g.
-        let Q : Layer A E → Type 0 = λ k. IsAt way m (layer_of (next_on way k)) t in
-        let R : RTreeNode A E → Type 0 = λ k. IsAt way m (layer_of k) t in
-        subst Q (sym (is_opened p e)) (subst R f g);
+    has = λ p e. rw (is_opened p e) at h.0;
+    leads = λ p c e f. rw f (rw (is_opened p e) at h.1);
+    put = λ p c e f. rw (is_opened p e, f);
+    at = λ p c t e f g. rw (is_opened p e) (rw f at g);
   }
 
   -- another element there, made from the one that stands there

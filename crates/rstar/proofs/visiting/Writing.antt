@@ -1,27 +1,27 @@
 -- Visits that write, one part of a list after another.
-use Rattle.std.proofs.Common.{◌≡◌, ◌<◌, ℕ, suc, zero, ◌+◌, ◌≤◌, ◌∙◌, List, [], ◌∷◌, ◌++◌, ◌⊎◌, inl, inr, ap, subst, sym, refl, Bool, true, false, if◌then◌else◌, map, arith, length, append_assoc, slice_set, slice_index_or, append-nil, length-append, Vec}
-use Rattle.std.proofs.lemmas.List.{map-append, with_items_is}
+use Rattle.std.proofs.Common.{◌≡◌, ◌<◌, ℕ, ℤ, suc, zero, ◌+◌, ◌-◌, ◌≤◌, ◌∙◌, List, [], ◌∷◌, ◌++◌, ◌⊎◌, inl, inr, ap, subst, sym, refl, Bool, true, false, if◌then◌else◌, map, arith, length, take, drop, slice_set, slice_index_or, append-nil, add-one, length-drop, drop-cons, Vec}
+use Rattle.std.proofs.lemmas.List.{map-append, with_items_is, take-append-drop, take_more, take_more_set, take_all, drop-set-lt}
 use Rattle.std.proofs.lemmas.List.Concat.{flat_map-append}
 use Rattle.std.specs.Vec.{with_items}
-use Rattle.std.specs.List.{AllByRecursion, AllZip}
+use Rattle.std.specs.List.{AllZip, flat_map}
 use Rattle.std.specs.Borrow.{MutBor}
 use Rattle.std.specs.declared.alloc.Global.{Global}
 use Rattle.std.specs.declared.ops.ControlFlow.{ControlFlow}
 use Rattle.std.specs.declared.ops.ControlFlow.TheVariants.{Continue, Break}
-use Rattle.std.proofs.Math.Seq.{get_or-append_seam, set_at}
-use Rattle.rstar_base.specs.Elements.{Objects}
+use Rattle.rstar_base.specs.Envelopes.{Boxes, EnvelopeLaws}
+use Rattle.rstar_base.specs.Elements.{Objects, ObjectLaws}
+use Rattle.rstar_base.specs.Selections.{IsLawful}
 use Rattle.rstar.specs.declared.node.RTreeNode.{RTreeNode, Leaf, Parent}
 use Rattle.rstar.specs.declared.node.ParentNode.{ParentNode}
-use Rattle.rstar.specs.Nodes.{total, children_of, elements, all_elements, IsTree}
+use Rattle.rstar.specs.Nodes.{total, children_of, elements, all_elements, elements_of, IsTree, IsWhole}
 use Rattle.rstar.specs.Shapes.{IsAny, AreTrees}
 use Rattle.rstar.specs.Changes.{KeepsBox, IsChanged}
-use Rattle.rstar.specs.Visits.{Marked, marked_by, unmarked, without_marks, Writes, IsWritten, IsWrittenWithin, KeepsBoxes, marked, all_marked, marked_of}
+use Rattle.rstar.specs.Visits.{Marked, marked_by, unmarked, without_marks, Writes, IsWritten, WritesWithin, IsWrittenWithin, KeepsBoxes, marked, all_marked, marked_of}
 use Rattle.rstar.specs.inside.Traversals.{steps}
-use Rattle.rstar.proofs.lists.Items.{AllZip-append}
-use Rattle.rstar.proofs.visiting.Changes.{changed-refl}
-use Rattle.rstar.proofs.visiting.VisitedMarks.{all-marks, marked-Leaf, marked-Parent}
-use Rattle.rstar.proofs.trees.ByChildren.{elements-Leaf, elements-Parent, IsLeafOf-Leaf, IsParentOf-Parent, no_leaf, no_parent, parent_of}
-use Rattle.rstar_base.proofs.Lists.{all_second}
+use Rattle.rstar.proofs.lists.Items.{all_get}
+use Rattle.rstar.proofs.visiting.Changes.{AllZip-set, changed-Leaf, changed-Parent, changed-refl}
+use Rattle.rstar.proofs.visiting.VisitedMarks.{all-marks, marks-root, marked-root, marked-Leaf, marked-Parent}
+use Rattle.rstar.proofs.trees.ByChildren.{elements-Leaf, elements-Parent, no_leaf, no_parent, parent_of}
 
 -- ---- a writing visit, one part of a list after another
 
@@ -47,189 +47,157 @@ pub Writes-none : {V T B : Type 0} (step : Step V T B) (v : V) (ms : List (Marke
 Writes-none step v [] = (refl, refl, refl)
 Writes-none step v (m ∷ ms) = (without_marks ms, refl, Writes-none step v ms)
 
--- ---- a root, or a parent
+-- ---- nodes, and what a visit leaves of them
 
-module _ {T E : Type 0} (accepts : E → Bool) (selects : T → Bool) where
-  -- nothing happens where a parent is refused
-  pub refused-writes : {V B : Type 0} (step : Step V T B) (v : V) (p : ParentNode T E) → accepts p.envelope ≡ false → Writes step v (marked_of accepts selects p) (Continue tt) v (all_elements (children_of p))
-  refused-writes step v p refused =
-      subst (λ l. Writes step v l (Continue tt) v (all_elements (children_of p))) (sym (ap (λ (b : Bool). if b then all_marked accepts selects (children_of p) else unmarked (all_marked accepts selects (children_of p))) refused))
-      (subst (λ l. Writes step v (unmarked (all_marked accepts selects (children_of p))) (Continue tt) v l) (all-marks accepts selects (children_of p)) (Writes-none step v (all_marked accepts selects (children_of p))))
-
-  -- nor below one without children
-  empty-writes : {V B : Type 0} (step : Step V T B) (v : V) (p : ParentNode T E) → children_of p ≡ [] → Writes step v (marked_of accepts selects p) (Continue tt) v (all_elements (children_of p))
-  empty-writes step v p none =
-      subst (λ l. Writes step v l (Continue tt) v (all_elements (children_of p))) (sym (ap (λ ns. if accepts p.envelope then all_marked accepts selects ns else unmarked (all_marked accepts selects ns)) none ∙ either (accepts p.envelope)))
-      (refl, refl, ap all_elements none)
-    where
-      either : (b : Bool) → (let nothing : List (Marked T) = [] in if b then nothing else unmarked nothing) ≡ []
-      either true = refl
-      either false = refl
-
-  pub passed-writes : {V B : Type 0} (step : Step V T B) (v : V) (p : ParentNode T E) → (children_of p ≡ []) ⊎ (accepts p.envelope ≡ false) → Writes step v (marked_of accepts selects p) (Continue tt) v (all_elements (children_of p))
-  passed-writes step v p (inl none) = empty-writes step v p none
-  passed-writes step v p (inr refused) = refused-writes step v p refused
-
-  -- below a parent that is accepted, what its children tell
-  pub parent-writes : {V B : Type 0} (step : Step V T B) (v : V) (p : ParentNode T E) (r : ControlFlow B (Unit {0})) (w : V) (us : List T) → accepts p.envelope ≡ true
-      → Writes step v (all_marked accepts selects (children_of p)) r w us → Writes step v (marked_of accepts selects p) r w us
-  parent-writes step v p r w us accepted a =
-      subst (λ l. Writes step v l r w us) (sym (ap (λ (b : Bool). if b then all_marked accepts selects (children_of p) else unmarked (all_marked accepts selects (children_of p))) accepted)) a
-
--- ---- a writing visit on its way through a list
-
-total-split : {T E : Type 0} (xs : List (RTreeNode T E)) (n : RTreeNode T E) (ys : List (RTreeNode T E)) → steps n ≤ total (map steps (xs ++ n ∷ ys))
-total-split [] n ys = omega arith
-total-split (x ∷ xs) n ys = let e = total-split xs n ys in omega arith
-
--- what was written back to a child list
-pub refilled : {A : Type 0} (list : Vec A Global) (ns : List A) → length ns ≡ length list.items → (with_items list ns).items ≡ ns
-refilled list ns long = with_items_is list ns (long ∙ sym list.ok.0)
+steps-at : {T E : Type 0} (ns : List (RTreeNode T E)) (i : ℕ) (d : RTreeNode T E) → i < length ns → steps (slice_index_or ns i d) ≤ total (map steps ns)
+steps-at [] i d lt = absurd (omega arith)
+steps-at (n ∷ ns) zero d lt = omega arith
+steps-at (n ∷ ns) (suc i) d lt = omega (arith, steps-at ns i d (omega arith))
 
 module _ {V T E B : Type 0} (o : Objects T E) (accepts : E → Bool) (selects : T → Bool) (step : Step V T B) where
-  -- the nodes before the index are done: a visit of the rest makes one of all
-  pub record IsHalfway (first now : V) (index : ℕ) (old new : List (RTreeNode T E)) : Type 0 where
-    pub before : List (RTreeNode T E)
-    pub done : List (RTreeNode T E)
-    pub rest : List (RTreeNode T E)
-    pub was : old ≡ before ++ rest
-    pub is : new ≡ done ++ rest
-    pub at : length done ≡ index
-    pub go : (r : ControlFlow B (Unit {0})) (w : V) (us : List T) → Writes step now (all_marked accepts selects rest) r w us → Writes step first (all_marked accepts selects old) r w (all_elements done ++ us)
-    pub changed : KeepsBoxes o step → (h : ℕ) → AreTrees IsAny IsAny h old → AllZip (IsChanged (KeepsBox o) h) before done
-
-  pub halfway-start : (v : V) (ns : List (RTreeNode T E)) → IsHalfway v v 0 ns ns
-  halfway-start v ns = record { before = []; done = []; rest = ns; was = refl; is = refl; at = refl; go = λ r w us a. a; changed = λ k h a. tt }
-
-  -- the node at the index
-  pub record IsHere (first now : V) (index : ℕ) (old new : List (RTreeNode T E)) (n : RTreeNode T E) : Type 0 where
-    pub half : IsHalfway first now index old new
-    pub more : List (RTreeNode T E)
-    pub rest_is : half.rest ≡ n ∷ more
-
-  here-at : {first now : V} {index : ℕ} {old new : List (RTreeNode T E)} (half : IsHalfway first now index old new) (d : RTreeNode T E) → index < length new
-      → (rest : List (RTreeNode T E)) → half.rest ≡ rest → IsHere first now index old new (slice_index_or new index d)
-  here-at {index = index} {new = new} half d lt [] e =
-      let a = ap length (half.is ∙ ap (λ l. half.done ++ l) e ∙ append-nil half.done) in let b = half.at in absurd (omega arith)
-  here-at {index = index} {new = new} half d lt (n ∷ more) e = record {
-    half = half;
-    more = more;
-    rest_is = e ∙ ap (λ m. m ∷ more) (sym (ap (λ l. slice_index_or l index d) (half.is ∙ ap (λ l. half.done ++ l) e) ∙ (ap (λ k. slice_index_or (half.done ++ n ∷ more) k d) (sym half.at) ∙ get_or-append_seam half.done n more d)));
+  -- a visit of a node, and of several
+  abbrev pub WritesNode : V → RTreeNode T E → ControlFlow B (Unit {0}) → V → RTreeNode T E → Type 0
+  WritesNode v n r w m = record {
+    written : Writes step v (marked accepts selects n) r w (elements m);
+    changed : KeepsBoxes o step → (h : ℕ) → IsTree IsAny IsAny h n → IsChanged (KeepsBox o) h n m;
   }
 
-  pub here : {first now : V} {index : ℕ} {old new : List (RTreeNode T E)} → IsHalfway first now index old new → (d : RTreeNode T E) → index < length new → IsHere first now index old new (slice_index_or new index d)
-  here half d lt = here-at half d lt half.rest refl
+  abbrev pub WritesNodes : V → List (RTreeNode T E) → ControlFlow B (Unit {0}) → V → List (RTreeNode T E) → Type 0
+  WritesNodes v old r w new = record {
+    written : Writes step v (all_marked accepts selects old) r w (all_elements new);
+    changed : KeepsBoxes o step → (h : ℕ) → AreTrees IsAny IsAny h old → AllZip (IsChanged (KeepsBox o) h) old new;
+  }
 
-  module _ {first now : V} {index : ℕ} {old new : List (RTreeNode T E)} {n : RTreeNode T E} (at : IsHere first now index old new n) (m : RTreeNode T E) where
-    set-here : slice_set new index m ≡ (at.half.done ++ m ∷ []) ++ at.more
-    set-here = ap (λ l. slice_set l index m) (at.half.is ∙ ap (λ l. at.half.done ++ l) at.rest_is) ∙ set_at at.half.done n at.more m index at.half.at ∙ sym (append_assoc at.half.done (m ∷ []) at.more)
+  pub unchanged : (h : ℕ) (ns : List (RTreeNode T E)) → AreTrees IsAny IsAny h ns → AllZip (IsChanged (KeepsBox o) h) ns ns
+  unchanged = changed-refl (KeepsBox o) (λ t. (refl, λ is. is)) IsAny IsAny
 
-    old-here : old ≡ at.half.before ++ n ∷ at.more
-    old-here = at.half.was ∙ ap (λ l. at.half.before ++ l) at.rest_is
+  -- ---- a root, or a parent
 
-    split-here : (ts : List T) → all_elements (at.half.done ++ m ∷ []) ++ ts ≡ all_elements at.half.done ++ (elements m ++ ts)
-    split-here ts = ap (λ l. l ++ ts) (flat_map-append elements at.half.done (m ∷ []) ∙ ap (λ l. all_elements at.half.done ++ l) (append-nil (elements m))) ∙ append_assoc (all_elements at.half.done) (elements m) ts
+  -- nothing happens where a parent is refused, nor below one without children
+  refused-writes : (v : V) (p : ParentNode T E) → accepts p.envelope ≡ false → Writes step v (marked_of accepts selects p) (Continue tt) v (all_elements (children_of p))
+  refused-writes v p refused = rw (refused, ← all-marks accepts selects (children_of p)) (Writes-none step v (all_marked accepts selects (children_of p)))
 
-    -- it was visited, and the visit goes on
-    pub halfway-next : (u : V) → Writes step now (marked accepts selects n) (Continue tt) u (elements m)
-        → (KeepsBoxes o step → (h : ℕ) → IsTree IsAny IsAny h n → IsChanged (KeepsBox o) h n m) → IsHalfway first u (index + 1) old (slice_set new index m)
-    halfway-next u a one = record {
-      before = at.half.before ++ n ∷ [];
-      done = at.half.done ++ m ∷ [];
-      rest = at.more;
-      was = old-here ∙ sym (append_assoc at.half.before (n ∷ []) at.more);
-      is = set-here;
-      at = let e = length-append at.half.done (m ∷ []) in let f = at.half.at in omega arith;
-      go = λ r w us b. subst (λ l. Writes step first (all_marked accepts selects old) r w l) (sym (split-here us))
-          (at.half.go r w (elements m ++ us) (subst (λ l. Writes step now (all_marked accepts selects l) r w (elements m ++ us)) (sym at.rest_is)
-          (Writes-append step now u (marked accepts selects n) (all_marked accepts selects at.more) (elements m) us r w a b)));
-      changed = λ k h w. AllZip-append (IsChanged (KeepsBox o) h) at.half.before (n ∷ []) at.half.done (m ∷ []) (at.half.changed k h w)
-          (one k h (all_second (IsTree IsAny IsAny h) at.half.before (n ∷ at.more) (subst (AllByRecursion (IsTree IsAny IsAny h)) old-here w)).0, tt);
-    }
+  pub passed-writes : (v : V) (p : ParentNode T E) → (children_of p ≡ []) ⊎ (accepts p.envelope ≡ false) → Writes step v (marked_of accepts selects p) (Continue tt) v (all_elements (children_of p))
+  passed-writes v p (inr refused) = refused-writes v p refused
+  passed-writes v p (inl none) = either (accepts p.envelope) refl
+    where
+      either : (b : Bool) → accepts p.envelope ≡ b → Writes step v (marked_of accepts selects p) (Continue tt) v (all_elements (children_of p))
+      either true is = rw (is, none) (refl, refl, refl)
+      either false is = refused-writes v p is
 
-    -- it was visited, and the visit ends there
-    pub halfway-break : (b : B) (w : V) → Writes step now (marked accepts selects n) (Break b) w (elements m)
-        → Writes step first (all_marked accepts selects old) (Break b) w (all_elements (slice_set new index m))
-    halfway-break b w a = subst (λ l. Writes step first (all_marked accepts selects old) (Break b) w l)
-        (sym (ap all_elements set-here ∙ flat_map-append elements (at.half.done ++ m ∷ []) at.more ∙ split-here (all_elements at.more) ∙ ap (λ l. all_elements at.half.done ++ (elements m ++ l)) (sym (all-marks accepts selects at.more))))
-        (at.half.go (Break b) w _ (subst (λ l. Writes step now (all_marked accepts selects l) (Break b) w (elements m ++ without_marks (all_marked accepts selects at.more))) (sym at.rest_is)
-        (Writes-break step now (marked accepts selects n) (all_marked accepts selects at.more) (elements m) b w a)))
+  -- what was lent of a child list, and written back to it
+  pub refilled : (list : Vec (RTreeNode T E) Global) (lent new : List (RTreeNode T E)) (v : V) (r : ControlFlow B (Unit {0})) (w : V) → lent ≡ list.items → length new ≡ length lent
+      → WritesNodes v lent r w new → WritesNodes v list.items r w (with_items list new).items
+  refilled list lent new v r w same long visited = rw (with_items_is list new (long ∙ ap length same ∙ sym list.ok.0)) (rw same at visited)
 
-    pub halfway-break-changed : (KeepsBoxes o step → (h : ℕ) → IsTree IsAny IsAny h n → IsChanged (KeepsBox o) h n m)
-        → KeepsBoxes o step → (h : ℕ) → AreTrees IsAny IsAny h old → AllZip (IsChanged (KeepsBox o) h) old (slice_set new index m)
-    halfway-break-changed one k h w =
-        let mid = all_second (IsTree IsAny IsAny h) at.half.before (n ∷ at.more) (subst (AllByRecursion (IsTree IsAny IsAny h)) old-here w) in
-        subst (λ l. AllZip (IsChanged (KeepsBox o) h) l (slice_set new index m)) (sym old-here)
-        (subst (λ l. AllZip (IsChanged (KeepsBox o) h) (at.half.before ++ n ∷ at.more) l) (sym (set-here ∙ append_assoc at.half.done (m ∷ []) at.more))
-        (AllZip-append (IsChanged (KeepsBox o) h) at.half.before (n ∷ at.more) at.half.done (m ∷ at.more) (at.half.changed k h w)
-        (one k h mid.0, changed-refl (KeepsBox o) (λ t. (refl, λ is. is)) IsAny IsAny h at.more mid.1)))
+  -- ---- one node
 
-  -- all are done
-  none-left : {first now : V} {index : ℕ} {old new : List (RTreeNode T E)} (half : IsHalfway first now index old new) → length new ≤ index → (rest : List (RTreeNode T E)) → half.rest ≡ rest → half.rest ≡ []
-  none-left half le [] e = e
-  none-left half le (n ∷ more) e =
-      let a = ap length (half.is ∙ ap (λ l. half.done ++ l) e) in let b = length-append half.done (n ∷ more) in let c = half.at in absurd (omega arith)
+  abbrev pub leaf : T → RTreeNode T E
+  leaf t = Leaf t
 
-  pub halfway-end : {first now : V} {index : ℕ} {old new : List (RTreeNode T E)} → IsHalfway first now index old new → length new ≤ index
-      → Writes step first (all_marked accepts selects old) (Continue tt) now (all_elements new)
-      × (KeepsBoxes o step → (h : ℕ) → AreTrees IsAny IsAny h old → AllZip (IsChanged (KeepsBox o) h) old new)
-  halfway-end {first} {now} {index} {old} {new} half le =
-      let none = none-left half le half.rest refl in
-      let is : new ≡ half.done = half.is ∙ ap (λ l. half.done ++ l) none ∙ append-nil half.done in
-      let was : old ≡ half.before = half.was ∙ ap (λ l. half.before ++ l) none ∙ append-nil half.before in (
-        subst (λ l. Writes step first (all_marked accepts selects old) (Continue tt) now l) (append-nil (all_elements half.done) ∙ ap all_elements (sym is))
-            (half.go (Continue tt) now [] (subst (λ l. Writes step now (all_marked accepts selects l) (Continue tt) now []) (sym none) (refl, refl, refl))),
-        λ k h w. subst (λ l. AllZip (IsChanged (KeepsBox o) h) l new) (sym was) (subst (λ l. AllZip (IsChanged (KeepsBox o) h) half.before l) (sym is) (half.changed k h w)),
-      )
+  leaf-changed : (t u : T) → KeepsBox o t u → (h : ℕ) → IsTree IsAny IsAny h (leaf t) → IsChanged (KeepsBox o) h (leaf t) (leaf u)
+  leaf-changed t u k zero w = changed-Leaf E (KeepsBox o) t u k
+  leaf-changed t u k (suc h) w = absurd (no_parent _ t w)
 
-  -- ---- a writing visit of one node
-
-  pub leaf-called : (v : V) (n m : RTreeNode T E) (t : T) (x y : MutBor T) (r : ControlFlow B (Unit {0})) (w : V) → n ≡ Leaf t → m ≡ Leaf y.now → x.now ≡ t → selects t ≡ true → step v x r y w
-      → Writes step v (marked accepts selects n) r w (elements m)
-  leaf-called v n m t x y r w is left from says s =
-      subst (λ l. Writes step v l r w (elements m)) (sym (ap (marked accepts selects) is ∙ marked-Leaf T E accepts selects t ∙ ap (λ b. (t, b) ∷ []) says))
-      (subst (λ l. Writes step v ((t, true) ∷ []) r w l) (sym (ap elements left ∙ elements-Leaf T E y.now)) (either r s))
+  pub leaf-called : (v : V) (t : T) (x y : MutBor T) (r : ControlFlow B (Unit {0})) (w : V) → x.now ≡ t → selects t ≡ true → step v x r y w → WritesNode v (leaf t) r w (leaf y.now)
+  leaf-called v t x y r w from says s = record {
+    written = rw (marked-Leaf, elements-Leaf, says) (either r s);
+    changed = λ k. leaf-changed t y.now (rw from at (k v x r y w s));
+  }
     where
       either : (r : ControlFlow B (Unit {0})) → step v x r y w → Writes step v ((t, true) ∷ []) r w (y.now ∷ [])
       either (Continue u) s = inr (x, y, w, [], from, s, refl, (refl, refl, refl))
       either (Break b) s = inl (x, y, b, from, refl, s, refl)
 
-  pub leaf-passed : (v : V) (n : RTreeNode T E) (t : T) → n ≡ Leaf t → selects t ≡ false → Writes step v (marked accepts selects n) (Continue tt) v (elements n)
-  leaf-passed v n t is says =
-      subst (λ l. Writes step v l (Continue tt) v (elements n)) (sym (ap (marked accepts selects) is ∙ marked-Leaf T E accepts selects t ∙ ap (λ b. (t, b) ∷ []) says))
-      (subst (λ l. Writes step v ((t, false) ∷ []) (Continue tt) v l) (sym (ap elements is ∙ elements-Leaf T E t)) ([], refl, (refl, refl, refl)))
+  pub leaf-passed : (v : V) (t : T) → selects t ≡ false → WritesNode v (leaf t) (Continue tt) v (leaf t)
+  leaf-passed v t says = record {
+    written = rw (marked-Leaf, elements-Leaf, says) ([], refl, (refl, refl, refl));
+    changed = λ k. leaf-changed t t (refl, λ is. is);
+  }
 
-  pub leaf-changed : (n m : RTreeNode T E) (t u : T) → n ≡ Leaf t → m ≡ Leaf u → KeepsBox o t u → (h : ℕ) → IsTree IsAny IsAny h n → IsChanged (KeepsBox o) h n m
-  leaf-changed n m t u is left k zero w =
-      subst (λ a. IsChanged (KeepsBox o) 0 a m) (sym is) (subst (λ a. IsChanged (KeepsBox o) 0 (Leaf t) a) (sym left) (IsLeafOf-Leaf T E _ t (IsLeafOf-Leaf T E _ u k)))
-  leaf-changed n m t u is left k (suc h) w = absurd (no_parent _ t (subst (IsTree IsAny IsAny (suc h)) is w))
+  pub parent-refused : (v : V) (p : ParentNode T E) → accepts p.envelope ≡ false → WritesNode v (Parent p) (Continue tt) v (Parent p)
+  parent-refused v p refused = record {
+    written = rw (marked-Parent, elements-Parent) (refused-writes v p refused);
+    changed = λ k h w. (unchanged h (Parent p ∷ []) (w, tt)).0;
+  }
 
-  pub parent-changed : (n m : RTreeNode T E) (p q : ParentNode T E) → n ≡ Parent p → m ≡ Parent q → q.envelope ≡ p.envelope
-      → ((h : ℕ) → AreTrees IsAny IsAny h (children_of p) → AllZip (IsChanged (KeepsBox o) h) (children_of p) (children_of q))
-      → (h : ℕ) → IsTree IsAny IsAny h n → IsChanged (KeepsBox o) h n m
-  parent-changed n m p q is left envelope below zero w = absurd (no_leaf _ p (subst (IsTree IsAny IsAny 0) is w))
-  parent-changed n m p q is left envelope below (suc h) w =
-      subst (λ a. IsChanged (KeepsBox o) (suc h) a m) (sym is) (subst (λ a. IsChanged (KeepsBox o) (suc h) (Parent p) a) (sym left)
-      (IsParentOf-Parent _ p (IsParentOf-Parent _ q (record { envelope = envelope; children = below h (parent_of _ p (subst (IsTree IsAny IsAny (suc h)) is w)).1 }))))
+  pub parent-visited : (v : V) (p q : ParentNode T E) (r : ControlFlow B (Unit {0})) (w : V) → q.envelope ≡ p.envelope → accepts p.envelope ≡ true
+      → WritesNodes v (children_of p) r w (children_of q) → WritesNode v (Parent p) r w (Parent q)
+  parent-visited v p q r w envelope accepted visited = record {
+    written = rw (marked-Parent, elements-Parent, accepted) visited.written;
+    changed = changed;
+  }
+    where
+      changed : KeepsBoxes o step → (h : ℕ) → IsTree IsAny IsAny h (Parent p) → IsChanged (KeepsBox o) h (Parent p) (Parent q)
+      changed k zero w = absurd (no_leaf _ p w)
+      changed k (suc h) w = changed-Parent (KeepsBox o) h p q (record { envelope = envelope; children = visited.changed k h (parent_of _ p w).1 })
 
-  pub parent-written : (v : V) (n m : RTreeNode T E) (p q : ParentNode T E) (r : ControlFlow B (Unit {0})) (w : V) → n ≡ Parent p → m ≡ Parent q → accepts p.envelope ≡ true
-      → Writes step v (all_marked accepts selects (children_of p)) r w (all_elements (children_of q)) → Writes step v (marked accepts selects n) r w (elements m)
-  parent-written v n m p q r w is left accepted a =
-      subst (λ l. Writes step v l r w (elements m)) (sym (ap (marked accepts selects) is ∙ marked-Parent accepts selects p))
-      (parent-writes accepts selects step v p r w (elements m) accepted
-      (subst (λ l. Writes step v (all_marked accepts selects (children_of p)) r w l) (sym (ap elements left ∙ elements-Parent q)) a))
+  -- ---- on the way through a list
 
-  pub parent-refused : (v : V) (n : RTreeNode T E) (p : ParentNode T E) → n ≡ Parent p → accepts p.envelope ≡ false → Writes step v (marked accepts selects n) (Continue tt) v (elements n)
-  parent-refused v n p is refused =
-      subst (λ l. Writes step v l (Continue tt) v (elements n)) (sym (ap (marked accepts selects) is ∙ marked-Parent accepts selects p))
-      (subst (λ l. Writes step v (marked_of accepts selects p) (Continue tt) v l) (sym (ap elements is ∙ elements-Parent p)) (refused-writes accepts selects step v p refused))
+  -- the nodes before the index were visited, and the rest are as they were
+  pub record IsHalfway (first : V) (r : ControlFlow B (Unit {0})) (now : V) (index : ℕ) (old new : List (RTreeNode T E)) : Type 0 where
+    pub rest : drop index new ≡ drop index old
+    pub written : Writes step first (all_marked accepts selects (take index old)) r now (all_elements (take index new))
+    pub changed : KeepsBoxes o step → (h : ℕ) → AreTrees IsAny IsAny h old → AllZip (IsChanged (KeepsBox o) h) old new
 
-  -- no change
-  pub node-unchanged : (n : RTreeNode T E) → (h : ℕ) → IsTree IsAny IsAny h n → IsChanged (KeepsBox o) h n n
-  node-unchanged n h w = (changed-refl (KeepsBox o) (λ t. (refl, λ is. is)) IsAny IsAny h (n ∷ []) (w, tt)).0
+  pub halfway-start : (v : V) (ns : List (RTreeNode T E)) → IsHalfway v (Continue tt) v 0 ns ns
+  halfway-start v ns = record { rest = refl; written = (refl, refl, refl); changed = λ k h w. unchanged h ns w }
 
-  pub here-steps : {first now : V} {index : ℕ} {old new : List (RTreeNode T E)} {n : RTreeNode T E} → IsHere first now index old new n → steps n ≤ total (map steps old)
-  here-steps {n = n} at = subst (λ l. steps n ≤ total (map steps l)) (sym (at.half.was ∙ ap (λ l. at.half.before ++ l) at.rest_is)) (total-split at.half.before n at.more)
+  module _ {first now : V} {r : ControlFlow B (Unit {0})} {index : ℕ} {old new : List (RTreeNode T E)} (half : IsHalfway first r now index old new) where
+    same-length : (length old - index) ≡ (length new - index)
+    same-length = sym (length-drop index old) ∙ sym (ap length half.rest) ∙ length-drop index new
+
+    same-node : (d : RTreeNode T E) → index < length new → (index < length old) × (slice_index_or new index d ≡ slice_index_or old index d) × (drop (suc index) new ≡ drop (suc index) old)
+    same-node d lt =
+        let within : index < length old = omega (arith, same-length) in
+        let same : slice_index_or new index d ∷ drop (suc index) new ≡ slice_index_or old index d ∷ drop (suc index) old = sym (drop-cons new index d lt) ∙ half.rest ∙ drop-cons old index d within in
+        (within, (cc), (cc))
+
+    pub here-steps : (d : RTreeNode T E) → index < length new → steps (slice_index_or new index d) ≤ total (map steps old)
+    here-steps d lt = let same = same-node d lt in rw same.1 (steps-at old index d same.0)
+
+  pub halfway-next : {first now : V} {index : ℕ} {old new : List (RTreeNode T E)} → IsHalfway first (Continue tt) now index old new → (d : RTreeNode T E) → index < length new
+      → (m : RTreeNode T E) (r : ControlFlow B (Unit {0})) (u : V) → WritesNode now (slice_index_or new index d) r u m → IsHalfway first r u (index + 1) old (slice_set new index m)
+  halfway-next {first} {now} {index} {old} {new} half d lt m r u visit =
+      let same = same-node half d lt in
+      let visit : WritesNode now (slice_index_or old index d) r u m = rw same.1 at visit in
+      record {
+        rest = rw (drop-set-lt (index + 1) new index m (omega arith), add-one) same.2;
+        written = simp (take_more old index d same.0, take_more_set new index m lt, flat_map-append, append-nil)
+            (Writes-append step first now (all_marked accepts selects (take index old)) (marked accepts selects (slice_index_or old index d)) (all_elements (take index new)) (elements m) r u half.written visit.written);
+        changed = λ k h w. AllZip-set (IsChanged (KeepsBox o) h) old new index d m (half.changed k h w)
+            (λ lt. visit.changed k h (all_get (IsTree IsAny IsAny h) old index d lt w));
+      }
+
+  -- a call broke
+  pub halfway-break : {first now : V} {b : B} {index : ℕ} {old new : List (RTreeNode T E)} → IsHalfway first (Break b) now index old new → WritesNodes first old (Break b) now new
+  halfway-break {first} {now} {b} {index} {old} {new} half = record {
+    written = rw (← split (marked accepts selects) old, ← split elements new, half.rest, ← all-marks accepts selects (drop index old))
+        (Writes-break step first (all_marked accepts selects (take index old)) (all_marked accepts selects (drop index old)) (all_elements (take index new)) b now half.written);
+    changed = half.changed;
+  }
+    where
+      split : {X : Type 0} (f : RTreeNode T E → List X) (ns : List (RTreeNode T E)) → flat_map f (take index ns) ++ flat_map f (drop index ns) ≡ flat_map f ns
+      split f ns = sym (flat_map-append f (take index ns) (drop index ns)) ∙ ap (flat_map f) (take-append-drop index ns)
+
+  -- all are done
+  pub halfway-end : {first now : V} {index : ℕ} {old new : List (RTreeNode T E)} → IsHalfway first (Continue tt) now index old new → length new ≤ index → WritesNodes first old (Continue tt) now new
+  halfway-end {index = index} {old = old} {new = new} half le =
+      let same = same-length half in
+      record { written = rw (take_all index old (omega arith), take_all index new le) at half.written; changed = half.changed }
+
+-- ---- a visit of a root
+
+pub within-root : {V T E B : Type 0} {IsPoint : List ℤ → Type 0} {v : Boxes E} {o : Objects T E} (laws : EnvelopeLaws IsPoint v) (ok : ObjectLaws v o) (accepts : E → Bool) (selects : T → Bool) (step : Step V T B)
+    (root : ParentNode T E) {first last : V} {r : ControlFlow B (Unit {0})} {us : List T} → Writes step first (marked_of accepts selects root) r last us
+    → WritesWithin step (IsWhole v o root × IsLawful v o accepts selects) first selects (elements_of root) r us last
+within-root laws ok accepts selects step root writes = record {
+  marks = marked_of accepts selects root;
+  same = (marks-root accepts selects root).0;
+  selected = (marks-root accepts selects root).1;
+  complete = λ both. marked-root laws ok accepts selects both.1 root both.0;
+  writes = writes;
+}
 
 -- ---- a lawful selection
 

@@ -1,15 +1,15 @@
 use Rattle.std.proofs.Common.{rules, inr, arith, length, map, ap, false, true}
+use Rattle.std.proofs.lemmas.List.{map_push}
 use Rattle.std.proofs.lemmas.Result.{err_from_is_err_and}
 use Rattle.rstar.specs.inside.ParentBounds.{IsKeptInner}
 use Rattle.rstar.specs.Nodes.{IsElement}
 use Rattle.rstar.specs.Shown.{shown}
-use Rattle.rstar.specs.Stored.{boxes, places}
+use Rattle.rstar.specs.Stored.{Place, Box, boxes, places}
 use Rattle.rstar.specs.StoredReading.{node_at}
-use Rattle.rstar.proofs.trees.ByChildren.{elements-Parent}
+use Rattle.rstar.proofs.trees.ByChildren.{elements-Leaf, elements-Parent}
 use Rattle.rstar.proofs.inserting.Insertion.{leaf_tree, tree_of}
-use Rattle.rstar.proofs.storing.Bytes.{point_takes}
-use Rattle.rstar.proofs.storing.Loops.{goes_on, ends, is_done}
-use Rattle.rstar.proofs.storing.Nodes.{leaf_counts, kept_push, points_push, shown_push, point_element, leaf_read, parent_read, parent_kept, parent_shown}
+use Rattle.rstar.proofs.storing.Bytes.{point_tells}
+use Rattle.rstar.proofs.storing.Nodes.{goes_on, ends, is_done, kept_push, points_push, point_element, leaf_read, parent_read, parent_kept, parent_shown}
 use Rattle.rstar.proofs.stored.+read.Goals as goal
 
 pub children_at-returns-in_err-node-clause-read : goal.children_at-returns-in_err-node-clause-read
@@ -19,7 +19,7 @@ children_at-returns-in_err-node-clause-read t c =
 
 pub children_at-loop-preserved : goal.children_at-loop-preserved
 children_at-loop-preserved t c = record {
-  read = rw (shown_push c.loop.children.items _ c.in_ok-node.node c.push_reserved.ensures.items)
+  read = rw (c.push_reserved.ensures.items, map_push shown c.loop.children.items c.in_ok-node.node)
       (goes_on (node_at c.args.below) (map shown c.loop.children.items) c.args.count c.loop.counter c.loop.rest.now (shown c.in_ok-node.node) c.in_ok-node.after.now _ c.loop-test.true c.in_ok-node.ensures.read c.loop.invariant.read);
   kept = kept_push boxes places c.loop.widest c.node_at.new.widest c.args.below c.loop.children.items _ c.in_ok-node.node c.in_ok-node.ensures.wider c.push_reserved.ensures.items c.loop.invariant.kept c.in_ok-node.ensures.kept;
   len = search rules;
@@ -40,12 +40,12 @@ node_at-returns-then-height-eq0-clause-read t c = leaf_read c.args.height c.args
 pub node_at-returns-then-height-eq0-clause-kept : goal.node_at-returns-then-height-eq0-clause-kept
 node_at-returns-then-height-eq0-clause-kept t c = (
   leaf_tree (IsKeptInner boxes places c.args.widest.now) (IsElement boxes places) c.args.height c.in_ok-point.point c.if-height-eq0.true
-      (point_element c.in_ok-point.point (point_takes c.args.bytes.now _ (λ i. omega (arith, c.type_inv.bytes i)) c.in_ok-point.ensures.read).1),
+      (point_element c.in_ok-point.point (rw c.in_ok-point.ensures.read at (point_tells c.args.bytes.now (λ i. omega (arith, c.type_inv.bytes i))).told).1),
   tt,
 )
 
 pub node_at-returns-then-height-eq0-clause-points : goal.node_at-returns-then-height-eq0-clause-points
-node_at-returns-then-height-eq0-clause-points t c = leaf_counts _ _ c.in_ok-point.point c.args.points.now
+node_at-returns-then-height-eq0-clause-points t c = let one = ap length (elements-Leaf Place Box c.in_ok-point.point) in omega (arith, one)
 
 pub node_at-returns-clause-read : goal.node_at-returns-clause-read
 node_at-returns-clause-read t c = parent_read c.args.height c.args.bytes.now c.in_ok-parent.parent c.in_ok-parent.rest.now (omega (arith, c.if-height-eq0.false)) c.in_ok-parent.ensures.read

@@ -1,6 +1,5 @@
 use Rattle.std.proofs.Common.{◌≤◌, map}
-use Rattle.rstar.specs.Nodes.{total}
-use Rattle.rstar.specs.Nodes.{all_given}
+use Rattle.rstar.specs.Nodes.{total, all_given}
 use Rattle.rstar.specs.inside.Traversals.{steps}
 use Rattle.rstar.specs.Visits.{Visits}
 use Rattle.rstar.proofs.visits.+visit_nodes.Given as goal

@@ -1,4 +1,5 @@
 use Rattle.std.proofs.Common.{length, ◌-◌, ◌+◌, map}
+use Rattle.std.specs.declared.ops.ControlFlow.TheVariants.{Continue}
 use Rattle.rstar.specs.Nodes.{total}
 use Rattle.rstar.specs.inside.Traversals.{steps}
 use Rattle.rstar.proofs.visiting.Writing.{IsHalfway}
@@ -13,7 +14,7 @@ decreases-visit_nodes_mut g l = 1 + total (map steps l.nodes.now)
 -- the nodes before the index are done
 abbrev pub invariant-visit_nodes_mut-loop-index : goal.invariant-visit_nodes_mut-loop-index
 invariant-visit_nodes_mut-loop-index g l =
-    IsHalfway g.T.Covered.object (g.F.Question.accepts l.func) (g.F.Question.selects l.func) (goal.V-step g) l.fn.visitor l.visitor l.index l.fn.nodes l.nodes
+    IsHalfway g.T.Covered.object (g.F.Question.accepts l.func) (g.F.Question.selects l.func) (goal.V-step g) l.fn.visitor (Continue tt) l.visitor l.index l.fn.nodes l.nodes
 
 abbrev pub decreases-visit_nodes_mut-loop-index : goal.decreases-visit_nodes_mut-loop-index
 decreases-visit_nodes_mut-loop-index g l = length l.initial.nodes - l.index

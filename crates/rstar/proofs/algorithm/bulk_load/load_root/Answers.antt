@@ -1,8 +1,6 @@
-use Rattle.std.proofs.Common.{ℕ, Result, Ok, Err, IfOk, IsPermutation, subst, sym, ap, ◌∙◌}
+use Rattle.std.proofs.Common.{Result, Ok, Err, IfOk, ◌∙◌}
 use Rattle.std.proofs.lemmas.List.Sorted.{length_permutation}
 use Rattle.rstar.specs.Nodes.{elements_of}
-use Rattle.rstar.specs.Loaded.{EndsAt, IsLoadDepth}
-use Rattle.rstar.specs.inside.Loads.{last_of}
 use Rattle.rstar.proofs.lists.Tails.{last_itself}
 use Rattle.rstar.proofs.algorithm.bulk_load.load_root.Goals as goal
 
@@ -11,20 +9,10 @@ both P Q R (Ok x) f p q = f x p q
 both P Q R (Err e) f p q = tt
 
 pub returns-clause-same : goal.returns-clause-same
-returns-clause-same g c =
-    let items = c.args.elements.items in
-    let whole = ap (λ n. last_of n items) (c.len-len.ensures ∙ c.args.elements.ok.0) ∙ last_itself items in
-    subst (λ l. IfOk c.load_node.result (λ root. IsPermutation l (elements_of root))) whole c.load_node.ensures.same
+returns-clause-same g c = rw (c.len-len.ensures ∙ c.args.elements.ok.0, last_itself c.args.elements.items) at c.load_node.ensures.same
 
 pub returns-clause-loaded : goal.returns-clause-loaded
-returns-clause-loaded g c =
-    let ends = EndsAt g.Params.RTreeParams.MAX_SIZE g.T.Envelope.Point.Point.DIMENSIONS c.args.levels in
-    let is_depth = λ (n : ℕ). IsLoadDepth g.Params.RTreeParams.MAX_SIZE g.T.Envelope.Point.Point.DIMENSIONS n c.args.levels in
-    both _ _ _ c.load_node.result (λ root same fresh.
+returns-clause-loaded g c = both _ _ _ c.load_node.result (λ root same fresh.
     let long = length_permutation c.args.elements.items (elements_of root) same in
-    record {
-      levels = c.args.levels;
-      cut = fresh.cut;
-      small = fresh.small (subst ends (sym long) c.requires.depth.ends);
-      depth = subst is_depth (sym long) c.requires.depth;
-    }) (returns-clause-same g c) c.load_node.ensures.fresh
+    record { levels = c.args.levels; cut = fresh.cut; small = fresh.small (rw long c.requires.depth.ends); depth = rw long c.requires.depth })
+    (returns-clause-same g c) c.load_node.ensures.fresh

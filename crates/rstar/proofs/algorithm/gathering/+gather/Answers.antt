@@ -9,20 +9,11 @@ use Rattle.rstar.proofs.algorithm.gathering.+gather.Goals as goal
 
 -- ---- the place of a child, and room, by lemmas that read no more than they need
 
-next_is : (i : ℕ) → 0 < i → i ≡ suc (i - 1)
-next_is i some = omega arith
+place : {i n : ℕ} → 0 < i → i ≤ n → (i ≡ suc (i - 1)) × (i - 1 < n)
+place some within = (omega arith, omega arith)
 
-inside : (i left n : ℕ) → left ≡ suc i → left ≤ n → i < n
-inside i left n next within = omega arith
-
-has_room : (len n m most : ℕ) → len < most → len ≡ n → n ≡ m → m < most
-has_room len n m most less e f = omega arith
-
-no_room : {P : Type 0} (len n m most : ℕ) → most ≤ len → len ≡ n → n ≡ m → m < most → P
-no_room len n m most full e f less = absurd (omega arith)
-
-not_longer : (len n m before k l : ℕ) → len ≤ before → len ≡ n → n ≡ m → before ≡ k → k ≡ l → m ≤ l
-not_longer len n m before k l short e f e' f' = omega arith
+no_room : {P : Type 0} {len most : ℕ} → most ≤ len → len < most → P
+no_room full less = absurd (omega arith)
 
 pub gather_among-loop-i-init : goal.gather_among-loop-i-init
 gather_among-loop-i-init g t c = record {
@@ -35,7 +26,7 @@ pub gather_among-returns-then-len-most-clause-gathers :
     goal.gather_among-returns-then-len-most-clause-gathers
 gather_among-returns-then-len-most-clause-gathers g t c =
     gathering_ends g.T.Cover.Merges.boxes g.T.Covered.object (g.R.Question.accepts c.args.func.now) (g.R.Question.selects c.args.func.now) c.args.most c.args.children.now.items c.args.taken.now.items c.loop-i.children.items c.loop-i.taken.items c.loop-i.i c.loop-i.invariant.gathering
-    (no_room c.len.result _ _ c.args.most c.if-len-most.true c.len.ensures c.loop-i.taken.ok.0)
+    (no_room (rw (c.len.ensures ∙ c.loop-i.taken.ok.0) at c.if-len-most.true))
 
 pub gather_among-returns-clause-gathers : goal.gather_among-returns-clause-gathers
 gather_among-returns-clause-gathers g t c =
@@ -46,12 +37,11 @@ pub gather_among-loop-i-preserved-then-is_selected_leaf :
     goal.gather_among-loop-i-preserved-then-is_selected_leaf
 gather_among-loop-i-preserved-then-is_selected_leaf g t c =
     let selects = g.R.Question.selects c.args.func.now in
-    let next = next_is c.loop-i.i c.loop-i-test.true in
-    let within = inside (c.loop-i.i - 1) c.loop-i.i _ next c.loop-i.invariant.gathering.within in
-    let here = same_read c.loop-i.children.items (c.loop-i.i - 1) c.index.result.now (Leaf c.swap_leaf_out.result) within c.index.ensures c.swap_leaf_out.ensures.node in
+    let at_i = place c.loop-i-test.true c.loop-i.invariant.gathering.within in
+    let here = same_read c.loop-i.children.items (c.loop-i.i - 1) c.index.result.now (Leaf c.swap_leaf_out.result) at_i.1 c.index.ensures c.swap_leaf_out.ensures.node in
     let chosen = sym (ap (selects_in selects) (outs-Leaf _)) ∙ ap (is_selected_leaf selects) (sym here) ∙ sym c.is_selected_leaf.ensures ∙ c.if-is_selected_leaf.true in
-    let after = takes_leaf g.T.Cover.Merges.boxes g.T.Covered.object (g.R.Question.accepts c.args.func.now) (g.R.Question.selects c.args.func.now) c.args.most c.args.children.now.items c.args.taken.now.items c.loop-i.children.items c.loop-i.taken.items c.loop-i.i (c.loop-i.i - 1) c.loop-i.invariant.gathering next c.swap_leaf_out.result c.swap_leaf_out.new.children.items c.swap_leaf_out.ensures.node chosen
-    (has_room c.len.result _ _ c.args.most c.if-len-most.false c.len.ensures c.loop-i.taken.ok.0) c.swap_leaf_out.ensures.out in
+    let after = takes_leaf g.T.Cover.Merges.boxes g.T.Covered.object (g.R.Question.accepts c.args.func.now) (g.R.Question.selects c.args.func.now) c.args.most c.args.children.now.items c.args.taken.now.items c.loop-i.children.items c.loop-i.taken.items c.loop-i.i (c.loop-i.i - 1) c.loop-i.invariant.gathering at_i.0 c.swap_leaf_out.result c.swap_leaf_out.new.children.items c.swap_leaf_out.ensures.node chosen
+    (rw (c.len.ensures ∙ c.loop-i.taken.ok.0) at c.if-len-most.false) c.swap_leaf_out.ensures.out in
     record {
       gathering = rw c.push_reserved.ensures.items after;
       unvisited = after.first;
@@ -60,12 +50,11 @@ gather_among-loop-i-preserved-then-is_selected_leaf g t c =
 
 pub gather_among-loop-i-preserved : goal.gather_among-loop-i-preserved
 gather_among-loop-i-preserved g t c =
-    let next = next_is c.loop-i.i c.loop-i-test.true in
-    let within = inside (c.loop-i.i - 1) c.loop-i.i _ next c.loop-i.invariant.gathering.within in
-    let here = same_read c.loop-i.children.items (c.loop-i.i - 1) c.index.result.now c.index_mut.result.now within c.index.ensures c.index_mut.ensures.value in
+    let at_i = place c.loop-i-test.true c.loop-i.invariant.gathering.within in
+    let here = same_read c.loop-i.children.items (c.loop-i.i - 1) c.index.result.now c.index_mut.result.now at_i.1 c.index.ensures c.index_mut.ensures.value in
     let leaf = sym (ap (is_selected_leaf (g.R.Question.selects c.args.func.now)) here) ∙ sym c.is_selected_leaf.ensures ∙ c.if-is_selected_leaf.false in
-    let written = c.index-else-is_selected_leaf.ensures ∙ get_or-set_same _ _ _ _ within in
-    let after = goes_inside g.T.Cover.Merges.boxes g.T.Covered.object (g.R.Question.accepts c.args.func.now) (g.R.Question.selects c.args.func.now) c.args.most c.args.children.now.items c.args.taken.now.items c.loop-i.children.items c.loop-i.taken.items c.loop-i.i (c.loop-i.i - 1) c.loop-i.invariant.gathering next c.index_mut.result.now c.gather_inside.new.child c.gather_inside.new.taken.items c.index_mut.ensures.value c.gather_inside.ensures.gathers leaf
+    let written = c.index-else-is_selected_leaf.ensures ∙ get_or-set_same _ _ _ _ at_i.1 in
+    let after = goes_inside g.T.Cover.Merges.boxes g.T.Covered.object (g.R.Question.accepts c.args.func.now) (g.R.Question.selects c.args.func.now) c.args.most c.args.children.now.items c.args.taken.now.items c.loop-i.children.items c.loop-i.taken.items c.loop-i.i (c.loop-i.i - 1) c.loop-i.invariant.gathering at_i.0 c.index_mut.result.now c.gather_inside.new.child c.gather_inside.new.taken.items c.index_mut.ensures.value c.gather_inside.ensures.gathers leaf
     (sym (ap is_childless written) ∙ sym c.is_childless.ensures ∙ c.if-is_childless.false) in
     record {
       gathering = after;
@@ -75,12 +64,11 @@ gather_among-loop-i-preserved g t c =
 
 pub gather_among-loop-i-preserved-then-is_childless : goal.gather_among-loop-i-preserved-then-is_childless
 gather_among-loop-i-preserved-then-is_childless g t c =
-    let next = next_is c.loop-i.i c.loop-i-test.true in
-    let within = inside (c.loop-i.i - 1) c.loop-i.i _ next c.loop-i.invariant.gathering.within in
-    let here = same_read c.loop-i.children.items (c.loop-i.i - 1) c.index.result.now c.index_mut.result.now within c.index.ensures c.index_mut.ensures.value in
+    let at_i = place c.loop-i-test.true c.loop-i.invariant.gathering.within in
+    let here = same_read c.loop-i.children.items (c.loop-i.i - 1) c.index.result.now c.index_mut.result.now at_i.1 c.index.ensures c.index_mut.ensures.value in
     let leaf = sym (ap (is_selected_leaf (g.R.Question.selects c.args.func.now)) here) ∙ sym c.is_selected_leaf.ensures ∙ c.if-is_selected_leaf.false in
-    let written = c.index-else-is_selected_leaf.ensures ∙ get_or-set_same _ _ _ _ within in
-    let after = drops_childless g.T.Cover.Merges.boxes g.T.Covered.object (g.R.Question.accepts c.args.func.now) (g.R.Question.selects c.args.func.now) c.args.most c.args.children.now.items c.args.taken.now.items c.loop-i.children.items c.loop-i.taken.items c.loop-i.i (c.loop-i.i - 1) c.loop-i.invariant.gathering next c.index_mut.result.now c.gather_inside.new.child c.gather_inside.new.taken.items c.index_mut.ensures.value c.gather_inside.ensures.gathers leaf
+    let written = c.index-else-is_selected_leaf.ensures ∙ get_or-set_same _ _ _ _ at_i.1 in
+    let after = drops_childless g.T.Cover.Merges.boxes g.T.Covered.object (g.R.Question.accepts c.args.func.now) (g.R.Question.selects c.args.func.now) c.args.most c.args.children.now.items c.args.taken.now.items c.loop-i.children.items c.loop-i.taken.items c.loop-i.i (c.loop-i.i - 1) c.loop-i.invariant.gathering at_i.0 c.index_mut.result.now c.gather_inside.new.child c.gather_inside.new.taken.items c.index_mut.ensures.value c.gather_inside.ensures.gathers leaf
     (sym (ap is_childless written) ∙ sym c.is_childless.ensures ∙ c.if-is_childless.true) c.swap_out.new.children.items c.swap_out.ensures.out in
     record {
       gathering = after;
@@ -99,7 +87,7 @@ gather_below-returns-else-len-before-clause-kept g t c w h kept below =
     let gathers = c.gather_among.ensures.gathers in
     kept_alike g.met.T.Cover.Merges.merge_laws g.met.T.Covered.cover_law w h c.args.node.now _ kept below (gathers.kept w h below) gathers.shorter refl
     (same_elements (g.R.Question.selects c.args.func.now) c.args.most _ _ _ _ gathers.moved
-    (not_longer c.len.result _ _ c.len-before.result _ _ c.if-len-before.false c.len.ensures c.gather_among.new.taken.ok.0 c.len-before.ensures c.args.taken.now.ok.0))
+    (rw (c.len.ensures ∙ c.gather_among.new.taken.ok.0, c.len-before.ensures ∙ c.args.taken.now.ok.0) at c.if-len-before.false))
 
 pub gather_inside-returns-in-Leaf-clause-gathers : goal.gather_inside-returns-in-Leaf-clause-gathers
 gather_inside-returns-in-Leaf-clause-gathers g t c =

@@ -1,65 +1,47 @@
-use Rattle.std.proofs.Common.{true, false, ◌≡◌, ◌∙◌, ◌<◌, sym, refl, arith, ap, length, suc, ◌+◌, ◌-◌, get_or, get_or-set_same, Vec, ℕ, ◌≤◌, vec_len}
+use Rattle.std.proofs.Common.{◌≡◌, ◌∙◌, ◌<◌, sym, refl, arith, ap, length, suc, ◌+◌, ◌-◌, get_or, get_or-set_same, Vec, ℕ, ◌≤◌, vec_len}
+use Rattle.std.proofs.lemmas.Bool.{true≢false}
 use Rattle.rstar.specs.declared.node.RTreeNode.{Leaf}
 use Rattle.rstar.specs.declared.node.RTreeNode.TheVariants.{outs-Leaf, outs-Parent}
 use Rattle.rstar.specs.inside.Taking.{selects_in, is_selected_leaf, is_childless, lower_numbers}
 use Rattle.rstar.proofs.removing.Parts.{same_read, same_item, lower_lent, lower_left}
-use Rattle.rstar.proofs.removing.Scans.{begins, gives_leaf, gives_inside, gives_last, passes_any, finishes, some_one, entered, not_entered, kept_anew, kept_still, hull_set, none_gives, along}
+use Rattle.rstar.proofs.removing.Scans.{begins, gives_leaf, gives_inside, gives_last, passes, finishes, some_one, entered, not_entered, kept_anew, kept_still, hull_set, none_gives}
 use Rattle.rstar_base.specs.Hulls.{hull}
 use Rattle.rstar.specs.Nodes.{node_box}
 use Rattle.rstar.proofs.trees.ByChildren.{node_box-Parent}
 use Rattle.rstar.proofs.algorithm.removal.+take.Goals as goal
 use Rattle.rstar.proofs.algorithm.removal.+take.Goals.{take_among-then-is_childless, take_among-else-is_childless, take_below-else-is_some-via-then-is_some+else-changed, take_below-else-is_some-via-else-is_some}
 
--- ---- the place of a child, by lemmas that read no more than they need
-
-some_left : (len end passed v w : ℕ) → len ≡ v → v ≡ w → end ≡ w → passed < end → 1 ≤ len
-some_left len end passed v w e f h l = omega arith
-
-not_last : (len end passed v w : ℕ) → len ≡ v → v ≡ w → end ≡ w → passed < end → passed ≤ len - 1
-not_last len end passed v w e f h l = omega arith
-
-place : (len end passed v w : ℕ) → len ≡ v → v ≡ w → end ≡ w → passed < end → len - 1 - passed < v
-place len end passed v w e f h l = omega arith
-
-next_is : (n len end passed v w : ℕ) → len ≡ v → v ≡ w → end ≡ w → passed < end → v ≡ n → n ≡ suc (len - 1 - passed + passed)
-next_is n len end passed v w e f h l k = omega arith
-
-one_of : (i p n : ℕ) → n ≡ suc (i + p) → i < n
-one_of i p n e = omega arith
-
--- where a change was told, none was not
-told_none : {P : Type 0} → true ≡ false → P
-told_none told = cc
+-- the place of a child, by a lemma that reads no more than it needs
+place : {n len end passed v w : ℕ} → len ≡ v → v ≡ w → end ≡ w → passed < end → v ≡ n → (1 ≤ len) × (passed ≤ len - 1) × (len - 1 - passed < v) × (n ≡ suc (len - 1 - passed + passed))
+place e f h l k = (omega arith, omega arith, omega arith, omega arith)
 
 pub take_among-loop-passed-init : goal.take_among-loop-passed-init
-take_among-loop-passed-init g t c = record {
-  scanned = begins g.T.Cover.Merges.boxes g.T.Covered.object (g.R.Question.accepts c.args.func.now) (g.R.Question.selects c.args.func.now) c.args.children.now.items c.args.path.now c.args.rest.now c.first_number-passed.result c.first_number-passed.ensures;
-  unvisited = λ k d. refl;
-  same = refl;
-}
+take_among-loop-passed-init g t c =
+    let start = begins g.T.Cover.Merges.boxes g.T.Covered.object (g.R.Question.accepts c.args.func.now) (g.R.Question.selects c.args.func.now) c.args.children.now.items c.args.path.now c.args.rest.now c.first_number-passed.result c.first_number-passed.ensures in
+    record { scanned = start.0; behind = start.1; unvisited = λ k d. refl; same = refl }
 
 pub take_among-returns-then-is_some : goal.take_among-returns-then-is_some
 take_among-returns-then-is_some g t c =
     let i = c.len.result - 1 - c.loop-passed.passed in
-    let next : length c.loop-passed.children.items ≡ suc (i + c.loop-passed.passed) = next_is (length c.loop-passed.children.items) c.len.result c.len-passed-end.result c.loop-passed.passed (vec_len c.loop-passed.children) (vec_len c.args.children.now) c.len.ensures (ap vec_len c.loop-passed.invariant.same) c.len-passed-end.ensures c.loop-passed-test.true c.loop-passed.children.ok.0 in
-    let within : i < length c.loop-passed.children.items = one_of i c.loop-passed.passed (length c.loop-passed.children.items) next in
+    let at_i = place c.len.ensures (ap vec_len c.loop-passed.invariant.same) c.len-passed-end.ensures c.loop-passed-test.true c.loop-passed.children.ok.0 in
+    let within : i < length c.loop-passed.children.items = omega (arith, at_i.3) in
     let written = c.index-then-is_some.ensures ∙ get_or-set_same _ _ _ _ within in
     let some = sym c.is_some.ensures ∙ c.if-is_some.true in
     record {
       takes = elim c.if-is_childless.branch [
         | take_among-then-is_childless w ↦
             rw (c.set_first-then-is_some.ensures, w.path-is, w.rest-is, w.children-is, w.drop_child.ensures.items)
-            (gives_last g.T.Cover.Merges.boxes g.T.Covered.object (g.R.Question.accepts c.args.func.now) (g.R.Question.selects c.args.func.now) c.args.children.now.items c.args.path.now c.args.rest.now c.loop-passed.children.items c.loop-passed.path c.loop-passed.rest c.loop-passed.passed c.loop-passed.invariant.scanned i next c.index_mut.result.now c.take_inside-taken.new.child c.take_inside-taken.new.path c.take_inside-taken.new.rest c.take_inside-taken.result c.index_mut.ensures.value c.take_inside-taken.ensures.takes c.take_inside-taken.auto.path
-            some (sym (ap is_childless written) ∙ sym c.is_childless.ensures ∙ w.if-is_childless.true) w.clear_lower.new.path w.clear_lower.new.rest (length (lower_numbers c.take_inside-taken.new.path)) w.clear_lower.ensures.numbers
-            w.clear_lower.auto.path w.clear_lower.ensures.still w.clear_lower.ensures.none)
+            (gives_last g.T.Cover.Merges.boxes g.T.Covered.object (g.R.Question.accepts c.args.func.now) (g.R.Question.selects c.args.func.now) c.args.children.now.items c.args.path.now c.args.rest.now c.loop-passed.path c.loop-passed.rest c.loop-passed.passed c.loop-passed.invariant.scanned c.loop-passed.children.items (ap (λ (v : Vec _ _). v.items) c.loop-passed.invariant.same) i at_i.3 c.index_mut.result.now c.index_mut.ensures.value c.take_inside-taken.new.child c.take_inside-taken.new.path c.take_inside-taken.new.rest c.take_inside-taken.result c.take_inside-taken.ensures.takes c.take_inside-taken.auto.path
+            w.clear_lower.new.path w.clear_lower.new.rest (record { long = w.clear_lower.auto.path; numbers = w.clear_lower.ensures.numbers; still = w.clear_lower.ensures.still; none = w.clear_lower.ensures.none })
+            (λ _. c.loop-passed.invariant.behind) some (sym (ap is_childless written) ∙ sym c.is_childless.ensures ∙ w.if-is_childless.true))
         | take_among-else-is_childless w ↦
             rw (c.set_first-then-is_some.ensures, w.path-is, w.rest-is, w.children-is)
-            (gives_inside g.T.Cover.Merges.boxes g.T.Covered.object (g.R.Question.accepts c.args.func.now) (g.R.Question.selects c.args.func.now) c.args.children.now.items c.args.path.now c.args.rest.now c.loop-passed.children.items c.loop-passed.path c.loop-passed.rest c.loop-passed.passed c.loop-passed.invariant.scanned i next c.index_mut.result.now c.take_inside-taken.new.child c.take_inside-taken.new.path c.take_inside-taken.new.rest c.take_inside-taken.result c.index_mut.ensures.value c.take_inside-taken.ensures.takes c.take_inside-taken.auto.path
-            some (sym (ap is_childless written) ∙ sym c.is_childless.ensures ∙ w.if-is_childless.false))
+            (gives_inside g.T.Cover.Merges.boxes g.T.Covered.object (g.R.Question.accepts c.args.func.now) (g.R.Question.selects c.args.func.now) c.args.children.now.items c.args.path.now c.args.rest.now c.loop-passed.path c.loop-passed.rest c.loop-passed.passed c.loop-passed.invariant.scanned c.loop-passed.children.items (ap (λ (v : Vec _ _). v.items) c.loop-passed.invariant.same) i at_i.3 c.index_mut.result.now c.index_mut.ensures.value c.take_inside-taken.new.child c.take_inside-taken.new.path c.take_inside-taken.new.rest c.take_inside-taken.result c.take_inside-taken.ensures.takes c.take_inside-taken.auto.path
+            (λ _. c.loop-passed.invariant.behind) some (sym (ap is_childless written) ∙ sym c.is_childless.ensures ∙ w.if-is_childless.false))
       ];
       same = some_one _ c.take_inside-taken.result some;
       unchanged = elim c.if-is_childless.branch [
-        | take_among-then-is_childless w ↦ rw w.changed-is (λ told. told_none told)
+        | take_among-then-is_childless w ↦ rw w.changed-is (λ told. absurd (true≢false told))
         | take_among-else-is_childless w ↦ rw (w.changed-is, w.children-is) (λ told.
             hull_set g.T.Cover.Merges.boxes (node_box g.T.Covered.object.box_of) c.loop-passed.children.items i c.index_mut.result.now c.take_inside-taken.new.child within c.index_mut.ensures.value (c.take_inside-taken.ensures.unchanged told)
             ∙ ap (λ (v : Vec _ _). hull g.T.Cover.Merges.boxes (node_box g.T.Covered.object.box_of) v.items) c.loop-passed.invariant.same)
@@ -69,18 +51,15 @@ take_among-returns-then-is_some g t c =
 pub take_among-loop-passed-preserved : goal.take_among-loop-passed-preserved
 take_among-loop-passed-preserved g t c =
     let i = c.len.result - 1 - c.loop-passed.passed in
-    let next : length c.loop-passed.children.items ≡ suc (i + c.loop-passed.passed) = next_is (length c.loop-passed.children.items) c.len.result c.len-passed-end.result c.loop-passed.passed (vec_len c.loop-passed.children) (vec_len c.args.children.now) c.len.ensures (ap vec_len c.loop-passed.invariant.same) c.len-passed-end.ensures c.loop-passed-test.true c.loop-passed.children.ok.0 in
-    let within : i < length c.loop-passed.children.items = one_of i c.loop-passed.passed (length c.loop-passed.children.items) next in
+    let at_i = place c.len.ensures (ap vec_len c.loop-passed.invariant.same) c.len-passed-end.ensures c.loop-passed-test.true c.loop-passed.children.ok.0 in
+    let within : i < length c.loop-passed.children.items = omega (arith, at_i.3) in
     let here = same_read c.loop-passed.children.items i c.index.result.now c.index_mut.result.now within c.index.ensures c.index_mut.ensures.value in
-    let unchanged = same_item c.loop-passed.children i c.take_inside-taken.new.child _ (none_gives c.take_inside-taken.result (sym c.is_some.ensures ∙ c.if-is_some.false) c.take_inside-taken.ensures.takes.kept ∙ c.index_mut.ensures.value) ∙ c.loop-passed.invariant.same in
-    record {
-      scanned = passes_any g.T.Cover.Merges.boxes g.T.Covered.object (g.R.Question.accepts c.args.func.now) (g.R.Question.selects c.args.func.now) c.args.children.now.items c.args.path.now c.args.rest.now c.loop-passed.children.items c.loop-passed.path c.loop-passed.rest c.loop-passed.passed c.loop-passed.invariant.scanned i next c.index_mut.result.now c.take_inside-taken.new.child c.take_inside-taken.new.path c.take_inside-taken.new.rest c.take_inside-taken.result (sym c.is_some.ensures ∙ c.if-is_some.false) c.index_mut.ensures.value
-          c.take_inside-taken.ensures.takes c.take_inside-taken.auto.path
-          (sym (ap (is_selected_leaf (g.R.Question.selects c.args.func.now)) here) ∙ sym c.is_selected_leaf.ensures ∙ c.if-is_selected_leaf.false) c.clear_lower-in-loop-passed.new.path c.clear_lower-in-loop-passed.new.rest (length (lower_numbers c.take_inside-taken.new.path))
-          c.clear_lower-in-loop-passed.ensures.numbers c.clear_lower-in-loop-passed.auto.path c.clear_lower-in-loop-passed.ensures.still c.clear_lower-in-loop-passed.ensures.none;
-      unvisited = λ k d. ap (λ (v : Vec _ _). get_or v.items k d) unchanged;
-      same = unchanged;
-    }
+    let none = sym c.is_some.ensures ∙ c.if-is_some.false in
+    let unchanged = same_item c.loop-passed.children i c.take_inside-taken.new.child _ (none_gives c.take_inside-taken.result none c.take_inside-taken.ensures.takes.kept ∙ c.index_mut.ensures.value) ∙ c.loop-passed.invariant.same in
+    let passed = passes g.T.Cover.Merges.boxes g.T.Covered.object (g.R.Question.accepts c.args.func.now) (g.R.Question.selects c.args.func.now) c.args.children.now.items c.args.path.now c.args.rest.now c.loop-passed.path c.loop-passed.rest c.loop-passed.passed c.loop-passed.invariant.scanned c.loop-passed.children.items (ap (λ (v : Vec _ _). v.items) c.loop-passed.invariant.same) i at_i.3 c.index_mut.result.now c.index_mut.ensures.value c.take_inside-taken.new.child c.take_inside-taken.new.path c.take_inside-taken.new.rest c.take_inside-taken.result c.take_inside-taken.ensures.takes c.take_inside-taken.auto.path
+    c.clear_lower-in-loop-passed.new.path c.clear_lower-in-loop-passed.new.rest (record { long = c.clear_lower-in-loop-passed.auto.path; numbers = c.clear_lower-in-loop-passed.ensures.numbers; still = c.clear_lower-in-loop-passed.ensures.still; none = c.clear_lower-in-loop-passed.ensures.none })
+    c.loop-passed.invariant.behind none (sym (ap (is_selected_leaf (g.R.Question.selects c.args.func.now)) here) ∙ sym c.is_selected_leaf.ensures ∙ c.if-is_selected_leaf.false) in
+    record { scanned = passed.0; behind = passed.1; unvisited = λ k d. ap (λ (v : Vec _ _). get_or v.items k d) unchanged; same = unchanged }
 
 pub take_inside-returns-then-may_hold : goal.take_inside-returns-then-may_hold
 take_inside-returns-then-may_hold g t c =
@@ -99,31 +78,43 @@ take_inside-returns-else-may_hold-clause-takes g t c =
     (not_entered g.T.Cover.Merges.boxes g.T.Covered.object (g.R.Question.accepts c.args.func.now) (g.R.Question.selects c.args.func.now) g.met.T.Cover.Merges.merge_laws g.met.T.Covered.cover_law c.in-Parent.parent (lower_numbers c.args.path.now) c.args.rest.now (passed c.if-may_hold.false))
 
 pub take_among-returns-then-is_selected_leaf : goal.take_among-returns-then-is_selected_leaf
-take_among-returns-then-is_selected_leaf g t c = record {
-  takes = let i = c.len.result - 1 - c.loop-passed.passed in
-      let next : length c.loop-passed.children.items ≡ suc (i + c.loop-passed.passed) = next_is (length c.loop-passed.children.items) c.len.result c.len-passed-end.result c.loop-passed.passed (vec_len c.loop-passed.children) (vec_len c.args.children.now) c.len.ensures (ap vec_len c.loop-passed.invariant.same) c.len-passed-end.ensures c.loop-passed-test.true c.loop-passed.children.ok.0 in
-      let within : i < length c.loop-passed.children.items = one_of i c.loop-passed.passed (length c.loop-passed.children.items) next in
-      let here = same_read c.loop-passed.children.items i c.index.result.now (Leaf c.take_leaf-taken.result) within c.index.ensures c.take_leaf-taken.ensures.node in
-      let chosen = ap (is_selected_leaf (g.R.Question.selects c.args.func.now)) (sym here) in
-      rw (c.set_first.ensures, c.take_leaf-taken.ensures.items)
-      (gives_leaf g.T.Cover.Merges.boxes g.T.Covered.object (g.R.Question.accepts c.args.func.now) (g.R.Question.selects c.args.func.now) c.args.children.now.items c.args.path.now c.args.rest.now c.loop-passed.children.items c.loop-passed.path c.loop-passed.rest c.loop-passed.passed c.loop-passed.invariant.scanned i next c.take_leaf-taken.result c.take_leaf-taken.ensures.node
-      (sym (ap (selects_in (g.R.Question.selects c.args.func.now)) (outs-Leaf _)) ∙ chosen ∙ sym c.is_selected_leaf.ensures ∙ c.if-is_selected_leaf.true));
-  same = tt;
-  unchanged = λ told. told_none told;
-}
+take_among-returns-then-is_selected_leaf g t c =
+    let i = c.len.result - 1 - c.loop-passed.passed in
+    let at_i = place c.len.ensures (ap vec_len c.loop-passed.invariant.same) c.len-passed-end.ensures c.loop-passed-test.true c.loop-passed.children.ok.0 in
+    let within : i < length c.loop-passed.children.items = omega (arith, at_i.3) in
+    let here = same_read c.loop-passed.children.items i c.index.result.now (Leaf c.take_leaf-taken.result) within c.index.ensures c.take_leaf-taken.ensures.node in
+    let chosen = ap (is_selected_leaf (g.R.Question.selects c.args.func.now)) (sym here) in
+    record {
+      takes = rw (c.set_first.ensures, c.take_leaf-taken.ensures.items)
+          (gives_leaf g.T.Cover.Merges.boxes g.T.Covered.object (g.R.Question.accepts c.args.func.now) (g.R.Question.selects c.args.func.now) c.args.children.now.items c.args.path.now c.args.rest.now c.loop-passed.path c.loop-passed.rest c.loop-passed.passed c.loop-passed.invariant.scanned c.loop-passed.children.items (ap (λ (v : Vec _ _). v.items) c.loop-passed.invariant.same) i at_i.3 c.take_leaf-taken.result c.take_leaf-taken.ensures.node
+          (λ _. c.loop-passed.invariant.behind) (sym (ap (selects_in (g.R.Question.selects c.args.func.now)) (outs-Leaf _)) ∙ chosen ∙ sym c.is_selected_leaf.ensures ∙ c.if-is_selected_leaf.true));
+      same = tt;
+      unchanged = λ told. absurd (true≢false told);
+    }
 
 pub take_among-returns : goal.take_among-returns
 take_among-returns g t c = record {
-  takes = rw c.set_first-2.ensures
-      (finishes g.T.Cover.Merges.boxes g.T.Covered.object (g.R.Question.accepts c.args.func.now) (g.R.Question.selects c.args.func.now) c.args.children.now.items c.args.path.now c.args.rest.now c.loop-passed.children.items c.loop-passed.path c.loop-passed.rest c.loop-passed.passed c.loop-passed.invariant.scanned (omega (arith, c.args.children.now.ok.0, ap length c.loop-passed.invariant.scanned.same)) c.len-2.result (c.len-2.ensures ∙ c.loop-passed.children.ok.0));
+  takes = rw (c.set_first-2.ensures, c.loop-passed.invariant.same)
+      (finishes g.T.Cover.Merges.boxes g.T.Covered.object (g.R.Question.accepts c.args.func.now) (g.R.Question.selects c.args.func.now) c.args.children.now.items c.args.path.now c.args.rest.now c.loop-passed.path c.loop-passed.rest c.loop-passed.passed c.loop-passed.invariant.scanned
+      (omega (arith, c.args.children.now.ok.0)) c.len-2.result (c.len-2.ensures ∙ ap vec_len c.loop-passed.invariant.same ∙ c.args.children.now.ok.0) c.loop-passed.invariant.behind);
   same = c.loop-passed.invariant.same;
   unchanged = λ told. ap (λ (v : Vec _ _). hull g.T.Cover.Merges.boxes (node_box g.T.Covered.object.box_of) v.items) c.loop-passed.invariant.same;
 }
 
 pub take_below-returns-then-changed-clause-takes : goal.take_below-returns-then-changed-clause-takes
 take_below-returns-then-changed-clause-takes g t c =
-    along g.T.Cover.Merges.boxes g.T.Covered.object (g.R.Question.accepts c.args.func.now) (g.R.Question.selects c.args.func.now) c.args.node.now.children.items c.take_among-taken.new.children.items c.args.path.now c.take_among-taken.new.path c.args.rest.now c.take_among-taken.new.rest c.merge_along-merged.new.rest c.take_among-taken.result
-    c.take_among-taken.ensures.takes c.take_among-taken.auto.path (rw c.deref.ensures.value at c.merge_along-merged.ensures.rests) c.merge_along-merged.ensures.still
+    let takes = c.take_among-taken.ensures.takes in
+    let rests = rw c.deref.ensures.value at c.merge_along-merged.ensures.rests in
+    record {
+      taken = takes.taken;
+      selected = takes.selected;
+      whole = takes.whole;
+      rests = λ w h k spot. rests (takes.rests w h k spot);
+      still = λ none. c.merge_along-merged.ensures.still (c.take_among-taken.auto.path ∙ none) ∙ takes.still none;
+      shorter = takes.shorter;
+      past = takes.past;
+      missed = takes.missed;
+    }
 
 pub take_below-returns-then-changed-clause-kept : goal.take_below-returns-then-changed-clause-kept
 take_below-returns-then-changed-clause-kept g t c w h kept below at =
@@ -142,10 +133,10 @@ take_below-returns-else-is_some-clause-kept g t c w h kept below at =
     kept_still g.met.T.Cover.Merges.merge_laws g.met.T.Covered.cover_law w h c.args.node.now _ kept below (takes.whole w h below at) takes.shorter refl hulls
 
 pub take_among-overflow_sub-i : goal.take_among-overflow_sub-i
-take_among-overflow_sub-i g t c = some_left c.len.result c.len-passed-end.result c.loop-passed.passed (vec_len c.loop-passed.children) (vec_len c.args.children.now) c.len.ensures (ap vec_len c.loop-passed.invariant.same) c.len-passed-end.ensures c.loop-passed-test.true
+take_among-overflow_sub-i g t c = (place c.len.ensures (ap vec_len c.loop-passed.invariant.same) c.len-passed-end.ensures c.loop-passed-test.true c.loop-passed.children.ok.0).0
 
 pub take_among-overflow_sub-i-in-loop-passed : goal.take_among-overflow_sub-i-in-loop-passed
-take_among-overflow_sub-i-in-loop-passed g t c = not_last c.len.result c.len-passed-end.result c.loop-passed.passed (vec_len c.loop-passed.children) (vec_len c.args.children.now) c.len.ensures (ap vec_len c.loop-passed.invariant.same) c.len-passed-end.ensures c.loop-passed-test.true
+take_among-overflow_sub-i-in-loop-passed g t c = (place c.len.ensures (ap vec_len c.loop-passed.invariant.same) c.len-passed-end.ensures c.loop-passed-test.true c.loop-passed.children.ok.0).1
 
 pub take_among-take_leaf-taken-requires-clause-within : goal.take_among-take_leaf-taken-requires-clause-within
-take_among-take_leaf-taken-requires-clause-within g t c = place c.len.result c.len-passed-end.result c.loop-passed.passed (vec_len c.loop-passed.children) (vec_len c.args.children.now) c.len.ensures (ap vec_len c.loop-passed.invariant.same) c.len-passed-end.ensures c.loop-passed-test.true
+take_among-take_leaf-taken-requires-clause-within g t c = (place c.len.ensures (ap vec_len c.loop-passed.invariant.same) c.len-passed-end.ensures c.loop-passed-test.true c.loop-passed.children.ok.0).2

@@ -18,8 +18,8 @@ returns-in-Some g c =
     let removes = c.take_earliest.ensures.removes in
     let first = earliest-selected g.met.T.Envelope.Envelope.envelope_laws g.met.T.RTreeObject.object_law g.T.Ord.cmp c.new-func.ensures c.args.self.now.root c.requires.root_whole c.take_earliest.result c.take_earliest.ensures.first in
     record {
-      first = popped-first distances g.met.T.Ord.total elements c.in-Some.found.0.now near least at_least c.take_earliest.result first;
-      none = popped-one distances g.met.T.Ord.total elements c.in-Some.found.0.now near least at_least c.take_earliest.result first;
+      first = popped-first distances elements c.in-Some.found.0.now near least at_least g.met.T.Ord.total c.take_earliest.result first;
+      none = popped-one distances elements c.in-Some.found.0.now near least at_least g.met.T.Ord.total c.take_earliest.result first;
       taken = bag_without elements _ _ removes.taken;
       counted = counted_down _ _ _ _ _ c.requires.counted (removes.whole tt).counted removes.taken;
       kept = removes.kept;

@@ -1,51 +1,27 @@
-use Rattle.std.proofs.Common.{◌∙◌, ap, sym, arith, refl}
-use Rattle.rstar.specs.Nodes.{children_of}
-use Rattle.rstar.specs.Trees.{IsWholeTree}
-use Rattle.rstar.proofs.selecting.Traversals.{no-items, some-items}
-use Rattle.rstar.proofs.removing.Scans.{none_gives, some_one}
-use Rattle.rstar.proofs.removing.Removed.{one_less, none_less, removes, same_tree, leaves, root_refused}
+use Rattle.std.proofs.Common.{◌∙◌, sym}
+use Rattle.std.proofs.lemmas.Bool.{cond-true, cond-false}
+use Rattle.rstar.proofs.removing.Removed.{removes_one, removes_none, leaves}
 use Rattle.rstar.proofs.rtree.RTree.take_next.Goals as goal
 
 pub returns-then-not-enters : goal.returns-then-not-enters
 returns-then-not-enters g c =
-    let laws = g.met.T.Envelope.Envelope.envelope_laws in
-    let ok = g.met.T.RTreeObject.object_law in
-    let accepts = g.R.SelectionFunction.accepts c.args.func.now in
-    let selects = g.R.SelectionFunction.selects c.args.func.now in
-    leaves laws ok g.Params.RTreeParams.MAX_SIZE accepts selects c.args.self.now c.args.path.now c.args.rest.now c.requires
-    (root_refused laws ok g.Params.RTreeParams.MAX_SIZE accepts selects c.args.self.now c.requires (c.enters.ensures.refused c.if-not-enters.true))
+    leaves g.met.T.Envelope.Envelope.envelope_laws g.met.T.RTreeObject.object_law g.Params.RTreeParams.MAX_SIZE (g.R.SelectionFunction.accepts c.args.func.now) (g.R.SelectionFunction.selects c.args.func.now)
+    c.args.self.now c.args.path.now c.args.rest.now c.requires (c.enters.ensures.refused c.if-not-enters.true)
 
 pub returns-then-is_empty : goal.returns-then-is_empty
-unfolding IsWholeTree
 returns-then-is_empty g c =
-    let counted = c.requires.counted in
-    let taken = sym c.is_some.ensures ∙ c.if-is_some.true in
-    let less = one_less _ _ _ taken c.take_below-taken.ensures.takes.taken in
-    removes g.met.T.Envelope.Envelope.envelope_laws g.met.T.RTreeObject.object_law g.Params.RTreeParams.MAX_SIZE (g.R.SelectionFunction.accepts c.args.func.now) (g.R.SelectionFunction.selects c.args.func.now)
-    c.args.self.now _ _ _ _ _ _ c.requires (c.enters.ensures.entered c.if-not-enters.false).0
-    c.take_below-taken.ensures.takes c.take_below-taken.ensures.kept (some_one _ _ taken) refl (omega arith)
-    (λ _. refl) (λ some. absurd (some (no-items (children_of c.take_below-taken.new.node) _ _ c.is_empty.ensures c.if-is_empty.true c.take_below-taken.new.node.children.ok.0)))
+    removes_one g.met.T.Envelope.Envelope.envelope_laws g.met.T.RTreeObject.object_law g.Params.RTreeParams.MAX_SIZE (g.R.SelectionFunction.accepts c.args.func.now) (g.R.SelectionFunction.selects c.args.func.now)
+    c.args.self.now c.take_below-taken.new.node _ _ _ _ _ c.requires (c.enters.ensures.entered c.if-not-enters.false).0 c.take_below-taken.ensures.takes c.take_below-taken.ensures.kept
+    0 (sym c.is_some.ensures ∙ c.if-is_some.true) (sym (cond-true _ _ _ (sym c.is_empty.ensures ∙ c.if-is_empty.true)))
 
 pub returns-else-is_empty : goal.returns-else-is_empty
-unfolding IsWholeTree
 returns-else-is_empty g c =
-    let counted = c.requires.counted in
-    let taken = sym c.is_some.ensures ∙ c.if-is_some.true in
-    let less = one_less _ _ _ taken c.take_below-taken.ensures.takes.taken in
-    removes g.met.T.Envelope.Envelope.envelope_laws g.met.T.RTreeObject.object_law g.Params.RTreeParams.MAX_SIZE (g.R.SelectionFunction.accepts c.args.func.now) (g.R.SelectionFunction.selects c.args.func.now)
-    c.args.self.now _ _ _ _ _ _ c.requires (c.enters.ensures.entered c.if-not-enters.false).0
-    c.take_below-taken.ensures.takes c.take_below-taken.ensures.kept (some_one _ _ taken) refl (omega arith)
-    (λ none. absurd (some-items (children_of c.take_below-taken.new.node) _ _ c.is_empty.ensures c.if-is_empty.false c.take_below-taken.new.node.children.ok.0 none)) (λ _. refl)
+    removes_one g.met.T.Envelope.Envelope.envelope_laws g.met.T.RTreeObject.object_law g.Params.RTreeParams.MAX_SIZE (g.R.SelectionFunction.accepts c.args.func.now) (g.R.SelectionFunction.selects c.args.func.now)
+    c.args.self.now c.take_below-taken.new.node _ _ _ _ _ c.requires (c.enters.ensures.entered c.if-not-enters.false).0 c.take_below-taken.ensures.takes c.take_below-taken.ensures.kept
+    c.args.self.now.levels (sym c.is_some.ensures ∙ c.if-is_some.true) (sym (cond-false _ _ _ (sym c.is_empty.ensures ∙ c.if-is_empty.false)))
 
 pub returns-else-is_some : goal.returns-else-is_some
-unfolding IsWholeTree
 returns-else-is_some g c =
-    let counted = c.requires.counted in
-    let none = sym c.is_some.ensures ∙ c.if-is_some.false in
-    let less = none_less _ _ _ none c.take_below-taken.ensures.takes.taken in
-    let root = none_gives _ none c.take_below-taken.ensures.same in
-    let some = (c.enters.ensures.entered c.if-not-enters.false).0 in
-    removes g.met.T.Envelope.Envelope.envelope_laws g.met.T.RTreeObject.object_law g.Params.RTreeParams.MAX_SIZE (g.R.SelectionFunction.accepts c.args.func.now) (g.R.SelectionFunction.selects c.args.func.now)
-    c.args.self.now _ _ _ _ _ _ c.requires some
-    c.take_below-taken.ensures.takes c.take_below-taken.ensures.kept (same_tree c.args.self.now _ _ c.take_below-taken.ensures.same) refl (omega arith)
-    (λ none. absurd (some (sym (ap children_of root) ∙ none))) (λ _. refl)
+    removes_none g.met.T.Envelope.Envelope.envelope_laws g.met.T.RTreeObject.object_law g.Params.RTreeParams.MAX_SIZE (g.R.SelectionFunction.accepts c.args.func.now) (g.R.SelectionFunction.selects c.args.func.now)
+    c.args.self.now c.take_below-taken.new.node _ _ _ _ _ c.requires (c.enters.ensures.entered c.if-not-enters.false).0 c.take_below-taken.ensures.takes c.take_below-taken.ensures.kept
+    (sym c.is_some.ensures ∙ c.if-is_some.false) c.take_below-taken.ensures.same

@@ -1,6 +1,4 @@
-use Rattle.std.proofs.Common.{◌++◌, ◌∙◌, ap, sym, arith, map}
-use Rattle.rstar.specs.Nodes.{total, all_given}
-use Rattle.rstar.specs.inside.Traversals.{steps}
+use Rattle.std.proofs.Common.{◌∙◌, refl, sym}
 use Rattle.rstar.proofs.visiting.Visits.{look-leaf, look-parent}
 use Rattle.rstar.proofs.visits.RefSliceRTreeNodeNodesRef.look.Goals as goal
 
@@ -16,15 +14,11 @@ returns-else-should_unpack_leaf g c =
 
 pub returns-then-should_unpack_parent : goal.returns-then-should_unpack_parent
 returns-then-should_unpack_parent g c =
-    let accepts = g.F.Question.accepts c.args.func.now in
-    let selects = g.F.Question.selects c.args.func.now in
-    let s = look-parent accepts selects c.args.self.now c.in-Some.rest.now c.in-Some.first.now c.in-Parent.p _
-    c.in-Some.ensures.cases.0 c.in-Parent.is (sym c.should_unpack_parent.ensures ∙ c.if-should_unpack_parent.true) in
-    let e = c.as_slice.ensures.value in
-    (s.0 ∙ ap (λ l. all_given accepts selects l ++ all_given accepts selects c.in-Some.rest.now) (sym e), s.1, let k = ap (λ l. total (map steps l)) e in omega (arith, s.2, k))
+    look-parent (g.F.Question.accepts c.args.func.now) (g.F.Question.selects c.args.func.now) c.args.self.now c.in-Some.rest.now c.as_slice.result.now c.in-Some.first.now c.in-Parent.p _
+    c.in-Some.ensures.cases.0 c.in-Parent.is (sym c.should_unpack_parent.ensures ∙ c.if-should_unpack_parent.true) c.as_slice.ensures.value
 
 pub returns-else-should_unpack_parent : goal.returns-else-should_unpack_parent
 returns-else-should_unpack_parent g c =
-    let s = look-parent (g.F.Question.accepts c.args.func.now) (g.F.Question.selects c.args.func.now) c.args.self.now c.in-Some.rest.now c.in-Some.first.now c.in-Parent.p _
-    c.in-Some.ensures.cases.0 c.in-Parent.is (sym c.should_unpack_parent.ensures ∙ c.if-should_unpack_parent.false) in
-    (s.0, s.1)
+    let passed = look-parent (g.F.Question.accepts c.args.func.now) (g.F.Question.selects c.args.func.now) c.args.self.now c.in-Some.rest.now _ c.in-Some.first.now c.in-Parent.p _
+    c.in-Some.ensures.cases.0 c.in-Parent.is (sym c.should_unpack_parent.ensures ∙ c.if-should_unpack_parent.false) refl in
+    (passed.0, passed.1)

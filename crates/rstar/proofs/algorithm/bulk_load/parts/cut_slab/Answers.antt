@@ -2,7 +2,7 @@ use Rattle.std.proofs.Common.{ℤ, ◌≡◌, ◌-◌, ◌++◌, length, length-
 use Rattle.std.proofs.lemmas.List.Sorted.{length_permutation}
 use Rattle.rstar_base.proofs.Present.{refill-same}
 use Rattle.rstar.specs.inside.Loads.{CutsSlab}
-use Rattle.rstar.proofs.lists.Tails.{taken_as, dropped_as, cut_none, cut_parted}
+use Rattle.rstar.proofs.lists.Tails.{cut_none, cut_parted}
 use Rattle.rstar.proofs.algorithm.bulk_load.parts.cut_slab.Goals as goal
 
 pub returns-then-rest-size : goal.returns-then-rest-size
@@ -13,15 +13,12 @@ returns g c =
     let key : g.row.T.Denot → ℤ = λ t. g.T.Envelope.Envelope.boxes.axis_key (g.T.RTreeObject.object.box_of t) c.args.axis in
     let items = c.args.list.now.items in
     let long = c.args.list.now.ok.0 in
+    let cut = c.split_at_mut-last.ensures in
     let front = c.split_at_mut-last.result.0.now in
     let last = c.split_at_mut-last.result.1.now in
     let parted = c.partition_envelopes.new.list in
     let first : c.len.result - c.args.rest ≡ length items - c.args.rest = omega (arith, c.len.ensures, long) in
-    let in_front = taken_as (c.len.result - c.args.rest) (length items - c.args.rest) items c.as_mut_slice.result.now front c.split_at_mut-last.ensures.front first c.as_mut_slice.ensures.value in
-    let behind = dropped_as (c.len.result - c.args.rest) (length items - c.args.rest) items c.as_mut_slice.result.now last c.split_at_mut-last.ensures.back first c.as_mut_slice.ensures.value in
-    let whole = ap length c.as_mut_slice.ensures.value in
-    let long_front = c.split_at_mut-last.ensures.front_len in
-    let long_last = c.split_at_mut-last.ensures.back_len in
-    let written = refill-same c.args.list.now.len items (front ++ parted) (omega (arith, long, whole, long_front, long_last, length-append front parted, length_permutation last parted c.partition_envelopes.ensures.same)) in
+    let written = refill-same c.args.list.now.len items (front ++ parted) (omega (arith, long, ap length c.as_mut_slice.ensures.value, cut.front_len, cut.back_len, length-append front parted, length_permutation last parted c.partition_envelopes.ensures.same)) in
     subst (CutsSlab key c.args.size c.args.rest items c.args.size) (sym written)
-    (cut_parted key c.args.size c.args.rest items front last parted c.requires.within (omega (arith, c.if-rest-size.false)) c.requires.some in_front behind c.partition_envelopes.ensures.same c.partition_envelopes.ensures.split)
+    (cut_parted key c.args.size c.args.rest items front last parted c.requires.within (omega (arith, c.if-rest-size.false)) c.requires.some (rw (c.as_mut_slice.ensures.value, first) at cut.front) (rw (c.as_mut_slice.ensures.value, first) at cut.back)
+    c.partition_envelopes.ensures.same c.partition_envelopes.ensures.split)

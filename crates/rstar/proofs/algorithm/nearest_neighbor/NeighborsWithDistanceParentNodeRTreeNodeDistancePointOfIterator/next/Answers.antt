@@ -1,5 +1,4 @@
 use Rattle.rstar.specs.inside.Searches.{any_first}
-use Rattle.rstar_base.specs.Points.{table}
 use Rattle.rstar.specs.Neighbors.{IsSearching}
 use Rattle.rstar.proofs.selecting.Progress as progress
 use Rattle.rstar.proofs.algorithm.nearest_neighbor.NeighborsWithDistanceParentNodeRTreeNodeDistancePointOfIterator.next.Goals as goal
@@ -17,12 +16,9 @@ returns-clause-steps g c =
 pub returns-clause-goes : goal.returns-clause-goes
 unfolding IsSearching
 returns-clause-goes g c =
-    let p = table g.T.Envelope.Point.Point.DIMENSIONS (g.T.Envelope.Point.Point.coord c.args.self.now.point) in
     let told = c.next_neighbor.ensures in
-    let old = c.args.self.now.search in
-    let new = c.next_neighbor.new.self in
     let r = c.next_neighbor.result in
-    let fewer = progress.fewer-left g.T.Envelope.Envelope.boxes g.T.PointDistance.distances p old new r told.gives told.goes_on told.ends told.once in
+    let fewer = progress.fewer-left _ _ _ c.args.self.now.search c.next_neighbor.new.self r told.gives told.goes_on told.ends told.once in
     record {
       on = λ _. progress.on-some _ _ _ r told.ready tt fewer;
       keeps = progress.if-some _ r told.ready;

@@ -1,7 +1,7 @@
 use Rattle.std.proofs.Common.{List, None, true, false, sym, ◌∙◌, ap, subst}
 use Rattle.std.proofs.lemmas.List.{take_all}
 use Rattle.rstar.specs.inside.Earliest.{earliest, IsEarliestOf}
-use Rattle.rstar.proofs.removing.Earliest.{earliest-leaf, earliest-parent, earliest-opened, one_more}
+use Rattle.rstar.proofs.removing.Earliest.{earliest-leaf, earliest-shut, earliest-opened, one_more}
 use Rattle.rstar.proofs.algorithm.removal.earliest.+earliest.Goals as goal
 
 pub earliest_in-returns-then-should_unpack_leaf : goal.earliest_in-returns-then-should_unpack_leaf
@@ -25,7 +25,7 @@ earliest_in-returns-in-None g t c =
 pub earliest_in-returns-else-should_unpack_parent :
     goal.earliest_in-returns-else-should_unpack_parent
 earliest_in-returns-else-should_unpack_parent g t c =
-    sym (earliest-parent (g.R.Question.accepts c.args.func.now) (g.R.Question.selects c.args.func.now) g.met.T.Ord.total c.args.node.now c.in-Parent.parent false c.in-Parent.is (sym c.should_unpack_parent.ensures ∙ c.if-should_unpack_parent.false))
+    sym (earliest-shut (g.R.Question.accepts c.args.func.now) (g.R.Question.selects c.args.func.now) g.met.T.Ord.total c.args.node.now c.in-Parent.parent c.in-Parent.is (sym c.should_unpack_parent.ensures ∙ c.if-should_unpack_parent.false))
 
 pub earliest_below-loop-place-preserved : goal.earliest_below-loop-place-preserved
 earliest_below-loop-place-preserved g t c =

@@ -1,18 +1,18 @@
 use Rattle.std.proofs.Common.{[], None, true, sym, ◌∙◌, ap, refl, get_or, get_or-set_same, rules}
+use Rattle.std.proofs.lemmas.List.{get_or_read}
 use Rattle.rstar.specs.declared.node.RTreeNode.{Leaf, Parent}
 use Rattle.rstar.specs.declared.node.RTreeNode.TheVariants.{outs-Parent}
 use Rattle.rstar.specs.inside.Earliest.{earliest}
 use Rattle.rstar.specs.Nodes.{given, all_given, node_box}
 use Rattle.rstar.specs.inside.Taking.{is_a_leaf, is_childless}
-use Rattle.rstar.proofs.removing.Earliest.{earliest-leaf, earliest-some, earliest-there}
+use Rattle.rstar.proofs.removing.Earliest.{earliest-leaf, earliest-some, earliest-there, leaf_is, no_leaf_here, leaf_selected, given_below, takes_nothing}
 use Rattle.rstar.proofs.trees.ByChildren.{node_box-Parent}
-use Rattle.rstar.proofs.removing.Scans.{entered, kept_anew, kept_still, hull_set, some_one}
-use Rattle.rstar.proofs.removing.TakenAt.{read_at, leaf_is, no_leaf_here, leaf_selected, given_below, takes_leaf, takes_below, takes_last, takes_nothing}
+use Rattle.rstar.proofs.removing.Scans.{entered, kept_anew, kept_still, hull_set, some_one, takes_leaf, takes_below, takes_last}
 use Rattle.rstar.proofs.algorithm.removal.earliest.+take_earliest.Goals as goal
 
 pub take_at-take_leaf-requires-clause-leaf : goal.take_at-take_leaf-requires-clause-leaf
 take_at-take_leaf-requires-clause-leaf g t c = λ n.
-    ap is_a_leaf (read_at c.args.children.now.items c.args.place c.index.result.now n c.requires.within c.index.ensures)
+    ap is_a_leaf (sym (get_or_read c.args.children.now.items c.args.place c.index.result.now c.requires.within c.index.ensures n))
     ∙ sym (leaf_is c.index.result.now) ∙ sym c.is_leaf.ensures ∙ c.if-is_leaf.true
 
 pub take_at-returns-then-is_leaf : goal.take_at-returns-then-is_leaf
@@ -23,7 +23,7 @@ take_at-returns-then-is_leaf g t c =
     let selected = leaf_selected accepts selects _ c.take_leaf.result (sym here) (c.requires.some (Leaf c.take_leaf.result)) in
     record {
       takes = rw c.take_leaf.ensures.items (takes_leaf g.T.Cover.Merges.boxes g.T.Covered.object accepts selects c.args.children.now.items c.args.place c.requires.within c.take_leaf.result here selected);
-      first = λ d. sym (earliest-leaf accepts selects g.met.T.Ord.total (get_or c.args.children.now.items c.args.place d) c.take_leaf.result true (read_at c.args.children.now.items c.args.place (Leaf c.take_leaf.result) d c.requires.within here) selected);
+      first = λ d. sym (earliest-leaf accepts selects g.met.T.Ord.total (get_or c.args.children.now.items c.args.place d) c.take_leaf.result true (sym (get_or_read c.args.children.now.items c.args.place (Leaf c.take_leaf.result) c.requires.within here d)) selected);
       unchanged = search rules;
     }
 
@@ -50,7 +50,7 @@ take_at-returns-else-is_childless g t c =
       takes = takes_below g.T.Cover.Merges.boxes g.T.Covered.object accepts selects c.args.children.now.items c.args.place c.requires.within n c.take_inside-taken.new.child c.take_inside-taken.result here c.take_inside-taken.ensures.takes
           (earliest-some g.T.Ord.cmp (given accepts selects n) c.take_inside-taken.result c.take_inside-taken.ensures.first (λ none. c.requires.some n (ap (given accepts selects) (sym here) ∙ none)))
           (sym (ap is_childless written) ∙ sym c.is_childless.ensures ∙ c.if-is_childless.false);
-      first = λ d. rw (read_at c.args.children.now.items c.args.place n d c.requires.within here) c.take_inside-taken.ensures.first;
+      first = λ d. rw (sym (get_or_read c.args.children.now.items c.args.place n c.requires.within here d)) c.take_inside-taken.ensures.first;
       unchanged = λ told. hull_set g.T.Cover.Merges.boxes (node_box g.T.Covered.object.box_of) c.args.children.now.items c.args.place n c.take_inside-taken.new.child c.requires.within here (c.take_inside-taken.ensures.unchanged told);
     }
 
@@ -75,7 +75,7 @@ pub take_earliest-returns-in-None-clause-takes : goal.take_earliest-returns-in-N
 take_earliest-returns-in-None-clause-takes g t c =
     let accepts = g.R.Question.accepts c.args.func.now in
     let selects = g.R.Question.selects c.args.func.now in
-    takes_nothing g.T.Cover.Merges.boxes g.T.Covered.object accepts selects g.met.T.Cover.Merges.merge_laws g.met.T.Covered.cover_law c.args.node.now.children.items
+    takes_nothing accepts selects g.met.T.Cover.Merges.merge_laws g.met.T.Covered.cover_law c.args.node.now.children.items
     (sym (ap (all_given accepts selects) c.as_slice.ensures.value) ∙ c.in-None.ensures)
 
 pub take_earliest-returns-then-changed : goal.take_earliest-returns-then-changed

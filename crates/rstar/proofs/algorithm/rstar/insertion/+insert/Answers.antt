@@ -1,9 +1,11 @@
-use Rattle.std.proofs.Common.{◌≡◌, ◌<◌, ◌≤◌, ℕ, ◌-◌, ◌+◌, ◌++◌, ◌∷◌, [], length, ap, refl, ◌∙◌, subst, arith, append-nil, vec_len, vec_capacity, IfNone, IfSome}
+use Rattle.std.proofs.Common.{◌++◌, ◌∷◌, [], refl, arith, append-nil, vec_len}
+use Rattle.std.proofs.lemmas.List.Sorted.{IsPermutation-refl}
 use Rattle.rstar.specs.declared.node.RTreeNode.{Leaf, Parent}
 use Rattle.rstar.specs.declared.node.RTreeNode.TheVariants.{outs-Parent}
 use Rattle.rstar.specs.Nodes.{IsElement}
-use Rattle.rstar.specs.inside.ParentBounds.{HasMergedBox, IsKeptInner}
-use Rattle.rstar.proofs.inserting.Insertion.{leaf_added, hull_grown, added, child_grown, child_at, tree_at, sized_leaf, sized_parts, sized_child, no_leaf_above, room_same, child_roomy, lowest_roomy, parted_roomy}
+use Rattle.rstar.specs.Shapes.{IsAny, HasSize}
+use Rattle.rstar.specs.inside.ParentBounds.{IsKeptInner, second_children}
+use Rattle.rstar.proofs.inserting.Insertion.{leaf_added, still_kept, hull_grown, parted, cut_kept, cut_bag, parent_at, no_leaf_at, leaf_put, child_put, sized_whole, sized_parts, sized_child, room_same, none_roomy, child_roomy, parts_roomy}
 use Rattle.rstar.proofs.inserting.Reserves.{ready_for, ready_again, spends_both, spends_as}
 use Rattle.rstar.proofs.algorithm.rstar.insertion.+insert.Goals as goal
 
@@ -13,55 +15,43 @@ pub insert_below-add_child-requires : goal.insert_below-add_child-requires
 insert_below-add_child-requires g t c =
     let grown = leaf_added g.met.T.Cover.Merges.merge_laws g.met.T.Covered.cover_law c.args.reserve.now.widest c.args.levels c.args.t c.args.node.now.children.items c.if-levels-eq0.true (c.envelope-envelope.ensures.own, c.requires.element) c.requires.below in
     record {
-      covered = (hull_grown g.met.T.Cover.Merges.merge_laws g.met.T.Covered.cover_law c.args.reserve.now.widest c.args.levels c.args.t c.args.node.now.children.items (c.args.node.now.children.items ++ Leaf c.args.t ∷ []) c.args.node.now.envelope c.merge.new.self c.requires.below c.requires.node.tight c.envelope-envelope.ensures.own (c.merge.ensures.merged ∙ ap (g.T.Cover.Merges.boxes.merge c.args.node.now.envelope) c.envelope-envelope.ensures.value) grown.0 grown.1).1;
+      covered = (hull_grown g.met.T.Cover.Merges.merge_laws g.met.T.Covered.cover_law c.args.reserve.now.widest c.args.levels c.args.node.now.children.items (c.args.node.now.children.items ++ Leaf c.args.t ∷ [])
+          c.requires.node.tight c.merge.ensures.merged c.envelope-envelope.ensures.value c.envelope-envelope.ensures.own c.requires.below grown.0 grown.1).1;
       narrow = c.requires.node.narrow;
-      ready = ready_for _ _ _ c.args.reserve.now c.requires.ready (omega (arith, c.requires.ready.enough));
+      ready = ready_for c.requires.ready (omega (arith, c.requires.ready.enough));
     }
 
 pub insert_below-returns-then-levels-eq0 : goal.insert_below-returns-then-levels-eq0
 insert_below-returns-then-levels-eq0 g t c =
-    let grown = leaf_added g.met.T.Cover.Merges.merge_laws g.met.T.Covered.cover_law c.args.reserve.now.widest c.args.levels c.args.t c.args.node.now.children.items c.if-levels-eq0.true (c.envelope-envelope.ensures.own, c.requires.element) c.requires.below in
-    let parts = added g.met.T.Cover.Merges.merge_laws g.met.T.Covered.cover_law c.args.reserve.now.widest c.args.levels c.args.t c.args.node.now.children.items (c.args.node.now.children.items ++ Leaf c.args.t ∷ []) c.add_child.new.node c.add_child.result grown.0 grown.1 c.add_child.ensures.same c.add_child.ensures.first c.add_child.ensures.second in
+    let old = c.args.node.now.children.items in
+    let all = old ++ Leaf c.args.t ∷ [] in
+    let low = c.if-levels-eq0.true in
+    let cut = c.add_child.ensures in
+    let grown = leaf_added g.met.T.Cover.Merges.merge_laws g.met.T.Covered.cover_law c.args.reserve.now.widest c.args.levels c.args.t old low (c.envelope-envelope.ensures.own, c.requires.element) c.requires.below in
+    let parts = parted g.met.T.Cover.Merges.merge_laws g.met.T.Covered.cover_law c.args.reserve.now.widest c.args.levels c.args.t old all (second_children c.add_child.result) c.add_child.new.node grown.0 grown.1 cut.same cut.first in
     record {
       bag = parts.0;
       first = parts.1;
-      second = parts.2;
-      sized = λ sized. sized_parts g.Params.RTreeParams.MIN_SIZE g.Params.RTreeParams.MAX_SIZE g.Params.RTreeParams.min_positive c.args.levels (vec_len c.args.node.now.children) (c.args.node.now.children.items ++ Leaf c.args.t ∷ []) c.add_child.new.node c.add_child.result
-          (sized_leaf g.Params.RTreeParams.MIN_SIZE g.Params.RTreeParams.MAX_SIZE g.Params.RTreeParams.min_positive c.args.levels c.args.t c.args.node.now.children.items c.if-levels-eq0.true sized.0) c.add_child.ensures.same sized.1
-          c.add_child.ensures.whole c.add_child.ensures.low c.add_child.ensures.first_least c.add_child.ensures.second_least c.add_child.ensures.lengths;
-      spends = spends_as _ _ _ _ c.args.reserve.now c.add_child.new.reserve
-          (λ n few. lowest_roomy n c.args.reserve.now.widest c.args.levels c.args.node.now c.add_child.new.node c.add_child.result (c.args.node.now.children.items ++ Leaf c.args.t ∷ []) few c.if-levels-eq0.true c.add_child.ensures.same c.add_child.ensures.second_room)
-          c.add_child.ensures.spends;
-      used = omega (arith, c.add_child.ensures.used);
+      second = cut_kept g.met.T.Cover.Merges.merge_laws g.met.T.Covered.cover_law c.args.reserve.now.widest c.args.levels c.add_child.result parts.2 cut.second;
+      sized = λ sized. sized_parts g.Params.RTreeParams.MIN_SIZE g.Params.RTreeParams.MAX_SIZE c.args.levels (vec_len c.args.node.now.children) all c.add_child.new.node c.add_child.result g.Params.RTreeParams.min_positive
+          (leaf_put (HasSize g.Params.RTreeParams.MIN_SIZE g.Params.RTreeParams.MAX_SIZE) IsAny c.args.levels c.args.t old low tt sized.0) cut.same sized.1 cut.whole cut.low cut.first_least cut.second_least cut.lengths;
+      spends = spends_as cut.spends (λ n few.
+          omega (arith, parts_roomy n c.args.reserve.now.widest c.args.levels all c.add_child.new.node c.add_child.result few cut.same cut.second_room, none_roomy n c.args.levels old low, none_roomy n c.args.levels all low));
+      used = omega (arith, cut.used);
     }
 
 pub insert_below-returns-in-None : goal.insert_below-returns-in-None
 insert_below-returns-in-None g t c =
     let below = rw append-nil at c.in-None.ensures.below in
-    let hull = hull_grown g.met.T.Cover.Merges.merge_laws g.met.T.Covered.cover_law c.args.reserve.now.widest c.args.levels c.args.t c.args.node.now.children.items c.insert_in_child.new.children.items c.args.node.now.envelope c.merge.new.self c.requires.below c.requires.node.tight c.envelope-envelope.ensures.own (c.merge.ensures.merged ∙ ap (g.T.Cover.Merges.boxes.merge c.args.node.now.envelope) c.envelope-envelope.ensures.value) (rw append-nil at c.in-None.ensures.bag) below in
-    let few = c.requires.node.narrow in
+    let hull = hull_grown g.met.T.Cover.Merges.merge_laws g.met.T.Covered.cover_law c.args.reserve.now.widest c.args.levels c.args.node.now.children.items c.insert_in_child.new.children.items
+    c.requires.node.tight c.merge.ensures.merged c.envelope-envelope.ensures.value c.envelope-envelope.ensures.own c.requires.below (rw append-nil at c.in-None.ensures.bag) below in
     let length = c.in-None.ensures.length in
-    let some = c.requires.some (omega arith) in
     record {
       bag = c.in-None.ensures.bag;
-      first = (
-        (
-          record { tight = hull.0; narrow = omega (arith, c.insert_in_child.new.children.ok.0, c.args.node.now.children.ok.0) },
-          omega (arith, c.insert_in_child.new.children.ok.0),
-        ),
-        below,
-      );
+      first = still_kept g.T.Cover.Merges.boxes g.T.Covered.object c.args.reserve.now.widest c.args.levels c.args.node.now _ c.requires.node.narrow (c.requires.some (omega arith)) length hull.0 below;
       second = tt;
-      sized = λ sized. record {
-        below = rw append-nil at (c.in-None.ensures.sized sized.0);
-        most = omega (arith, c.in-None.ensures.length, c.insert_in_child.new.children.ok.0);
-        still_least = λ k. omega (arith, c.in-None.ensures.length, c.insert_in_child.new.children.ok.0);
-        cut_least = tt;
-        second_sized = tt;
-      };
-      spends = spends_as _ _ _ _ c.args.reserve.now c.insert_in_child.new.reserve
-          (λ n few. let held = room_same n c.insert_in_child.new.children c.args.node.now.children c.in-None.ensures.capacity in rw append-nil (omega (arith, held)))
-          c.in-None.ensures.spends;
+      sized = λ sized. sized_whole g.Params.RTreeParams.MIN_SIZE g.Params.RTreeParams.MAX_SIZE c.args.levels (vec_len c.args.node.now.children) _ [] _ (c.in-None.ensures.sized sized.0) (IsPermutation-refl _) (omega arith) (λ least. omega arith);
+      spends = spends_as c.in-None.ensures.spends (λ n few. rw append-nil (omega (arith, room_same n c.insert_in_child.new.children c.args.node.now.children c.in-None.ensures.capacity)));
       used = omega (arith, c.in-None.ensures.used);
     }
 
@@ -70,29 +60,27 @@ insert_below-add_child-requires-in-Some g t c =
     let few = c.requires.node.narrow in
     let same = c.in-Some.ensures.spends.widest in
     record {
-      covered = (hull_grown g.met.T.Cover.Merges.merge_laws g.met.T.Covered.cover_law c.args.reserve.now.widest c.args.levels c.args.t c.args.node.now.children.items (c.insert_in_child.new.children.items ++ Parent c.in-Some.second ∷ []) c.args.node.now.envelope c.merge.new.self c.requires.below c.requires.node.tight c.envelope-envelope.ensures.own (c.merge.ensures.merged ∙ ap (g.T.Cover.Merges.boxes.merge c.args.node.now.envelope) c.envelope-envelope.ensures.value) c.in-Some.ensures.bag c.in-Some.ensures.below).1;
+      covered = (hull_grown g.met.T.Cover.Merges.merge_laws g.met.T.Covered.cover_law c.args.reserve.now.widest c.args.levels c.args.node.now.children.items (c.insert_in_child.new.children.items ++ Parent c.in-Some.second ∷ [])
+          c.requires.node.tight c.merge.ensures.merged c.envelope-envelope.ensures.value c.envelope-envelope.ensures.own c.requires.below c.in-Some.ensures.bag c.in-Some.ensures.below).1;
       narrow = omega (arith, few, same, c.in-Some.ensures.length, c.insert_in_child.new.children.ok.0, c.args.node.now.children.ok.0);
-      ready = ready_again _ _ _ _ _ c.args.reserve.now c.insert_in_child.new.reserve c.requires.ready c.in-Some.ensures.spends (omega (arith, c.requires.ready.enough, c.in-Some.ensures.used));
+      ready = ready_again c.requires.ready c.in-Some.ensures.spends (omega (arith, c.requires.ready.enough, c.in-Some.ensures.used));
     }
 
 pub insert_below-returns : goal.insert_below-returns
 insert_below-returns g t c =
-    let same = c.in-Some.ensures.spends.widest in
-    let parts = added g.met.T.Cover.Merges.merge_laws g.met.T.Covered.cover_law c.args.reserve.now.widest c.args.levels c.args.t c.args.node.now.children.items (c.insert_in_child.new.children.items ++ Parent c.in-Some.second ∷ []) c.add_child-in-Some.new.node c.add_child-in-Some.result c.in-Some.ensures.bag c.in-Some.ensures.below c.add_child-in-Some.ensures.same
-    (subst (λ w. HasMergedBox g.T.Cover.Merges.boxes g.T.Covered.object w c.add_child-in-Some.new.node) same c.add_child-in-Some.ensures.first)
-    (subst (λ w. IfSome c.add_child-in-Some.result (HasMergedBox g.T.Cover.Merges.boxes g.T.Covered.object w)) same c.add_child-in-Some.ensures.second) in
+    let all = c.insert_in_child.new.children.items ++ Parent c.in-Some.second ∷ [] in
+    let new = c.add_child-in-Some.new.node in
+    let second = c.add_child-in-Some.result in
+    let cut = rw (c.in-Some.ensures.spends.widest, c.in-Some.ensures.length) at c.add_child-in-Some.ensures in
+    let parts = parted g.met.T.Cover.Merges.merge_laws g.met.T.Covered.cover_law c.args.reserve.now.widest c.args.levels c.args.t c.args.node.now.children.items all (second_children second) new c.in-Some.ensures.bag c.in-Some.ensures.below cut.same cut.first in
     record {
       bag = parts.0;
       first = parts.1;
-      second = parts.2;
-      sized = λ sized. sized_parts g.Params.RTreeParams.MIN_SIZE g.Params.RTreeParams.MAX_SIZE g.Params.RTreeParams.min_positive c.args.levels (vec_len c.args.node.now.children) (c.insert_in_child.new.children.items ++ Parent c.in-Some.second ∷ []) c.add_child-in-Some.new.node c.add_child-in-Some.result
-          (c.in-Some.ensures.sized sized.0) c.add_child-in-Some.ensures.same sized.1
-          (subst (λ n. IfNone c.add_child-in-Some.result (vec_len c.add_child-in-Some.new.node.children ≡ n + 1)) c.in-Some.ensures.length c.add_child-in-Some.ensures.whole) c.add_child-in-Some.ensures.low c.add_child-in-Some.ensures.first_least c.add_child-in-Some.ensures.second_least
-          (subst (λ n. IfSome c.add_child-in-Some.result (λ q. vec_len c.add_child-in-Some.new.node.children + vec_len q.children ≡ n + 1)) c.in-Some.ensures.length c.add_child-in-Some.ensures.lengths);
-      spends = spends_as _ _ _ _ c.args.reserve.now c.add_child-in-Some.new.reserve
-          (λ n few. parted_roomy n c.args.reserve.now.widest c.args.levels c.args.node.now c.add_child-in-Some.new.node c.add_child-in-Some.result c.insert_in_child.new.children (c.insert_in_child.new.children.items ++ Parent c.in-Some.second ∷ []) few c.in-Some.ensures.capacity c.add_child-in-Some.ensures.same
-          (subst (λ w. IfSome c.add_child-in-Some.result (λ q. w ≤ vec_capacity q.children)) same c.add_child-in-Some.ensures.second_room))
-          (spends_both _ _ _ _ c.args.reserve.now c.insert_in_child.new.reserve c.add_child-in-Some.new.reserve c.in-Some.ensures.spends c.add_child-in-Some.ensures.spends);
+      second = cut_kept g.met.T.Cover.Merges.merge_laws g.met.T.Covered.cover_law c.args.reserve.now.widest c.args.levels second parts.2 cut.second;
+      sized = λ sized. sized_parts g.Params.RTreeParams.MIN_SIZE g.Params.RTreeParams.MAX_SIZE c.args.levels (vec_len c.args.node.now.children) all new second g.Params.RTreeParams.min_positive
+          (c.in-Some.ensures.sized sized.0) cut.same sized.1 cut.whole cut.low cut.first_least cut.second_least cut.lengths;
+      spends = spends_as (spends_both c.in-Some.ensures.spends c.add_child-in-Some.ensures.spends) (λ n few.
+          omega (arith, parts_roomy n c.args.reserve.now.widest c.args.levels all new second few cut.same cut.second_room, room_same n c.insert_in_child.new.children c.args.node.now.children c.in-Some.ensures.capacity));
       used = omega (arith, c.in-Some.ensures.used, c.add_child-in-Some.ensures.used);
     }
 
@@ -100,36 +88,33 @@ insert_below-returns g t c =
 
 pub insert_in_child-insert_below-requires : goal.insert_in_child-insert_below-requires
 insert_in_child-insert_below-requires g t c κs within =
-    let tree = child_at (IsKeptInner g.T.Cover.Merges.boxes g.T.Covered.object c.args.reserve.now.widest) (IsElement g.T.Cover.Merges.boxes g.T.Covered.object) c.args.levels c.args.children.now.items c.args.index (Parent c.in-Parent.child) (subst (λ n. c.args.index < n) c.args.children.now.ok.0 c.requires.index) (rw c.in-Parent.is at c.index_mut.ensures.value) c.requires.below in
-    let at = tree_at (IsKeptInner g.T.Cover.Merges.boxes g.T.Covered.object c.args.reserve.now.widest) (IsElement g.T.Cover.Merges.boxes g.T.Covered.object) c.args.levels c.in-Parent.child c.requires.above tree in
-    rw c.in-Parent.child-is (omega arith, (within.0, (within.1.0, (within.1.1, (at.0.0, (at.1, (λ _. omega (arith, at.0.1, c.in-Parent.child.children.ok.0), (c.requires.element, ready_for _ _ _ c.args.reserve.now c.requires.ready (omega (arith, c.requires.above, c.requires.ready.enough))))))))))
+    let at = parent_at (IsKeptInner g.T.Cover.Merges.boxes g.T.Covered.object c.args.reserve.now.widest) (IsElement g.T.Cover.Merges.boxes g.T.Covered.object) c.args.levels c.args.children.now.items c.args.index c.in-Parent.child
+    c.requires.above (rw c.args.children.now.ok.0 at c.requires.index) (rw c.in-Parent.is at c.index_mut.ensures.value) c.requires.below in
+    rw c.in-Parent.child-is (omega arith, (within.0, (within.1.0, (within.1.1, (at.0.0, (at.1, (λ _. omega (arith, at.0.1, c.in-Parent.child.children.ok.0), (c.requires.element, ready_for c.requires.ready (omega (arith, c.requires.above, c.requires.ready.enough))))))))))
 
 pub insert_in_child-unreachable-requires : goal.insert_in_child-unreachable-requires
 insert_in_child-unreachable-requires g t c =
-    no_leaf_above (IsKeptInner g.T.Cover.Merges.boxes g.T.Covered.object c.args.reserve.now.widest) (IsElement g.T.Cover.Merges.boxes g.T.Covered.object) c.args.levels c.in-Leaf.field-0 c.requires.above
-    (child_at (IsKeptInner g.T.Cover.Merges.boxes g.T.Covered.object c.args.reserve.now.widest) (IsElement g.T.Cover.Merges.boxes g.T.Covered.object) c.args.levels c.args.children.now.items c.args.index (Leaf c.in-Leaf.field-0) (subst (λ n. c.args.index < n) c.args.children.now.ok.0 c.requires.index) (rw c.in-Leaf.is at c.index_mut.ensures.value) c.requires.below)
+    no_leaf_at (IsKeptInner g.T.Cover.Merges.boxes g.T.Covered.object c.args.reserve.now.widest) (IsElement g.T.Cover.Merges.boxes g.T.Covered.object) c.args.levels c.args.children.now.items c.args.index c.in-Leaf.field-0
+    c.requires.above (rw c.args.children.now.ok.0 at c.requires.index) (rw c.in-Leaf.is at c.index_mut.ensures.value) c.requires.below
 
 pub insert_in_child-returns : goal.insert_in_child-returns
 insert_in_child-returns g t c =
-    let grown = child_grown g.met.T.Cover.Merges.merge_laws g.met.T.Covered.cover_law c.args.reserve.now.widest c.args.levels c.args.t c.args.children.now.items c.args.index c.in-Parent.child c.insert_below.new.node c.insert_below.result c.requires.above (subst (λ n. c.args.index < n) c.args.children.now.ok.0 c.requires.index) (rw c.in-Parent.is at c.index_mut.ensures.value) c.requires.below
-    (rw c.in-Parent.child-is at c.insert_below.ensures.bag) c.insert_below.ensures.first c.insert_below.ensures.second in
-    let lists = λ (count : ℕ). child_roomy count c.args.levels c.args.children.now.items c.args.index c.in-Parent.child c.insert_below.new.node c.insert_below.result c.requires.above
-    (subst (λ n. c.args.index < n) c.args.children.now.ok.0 c.requires.index) (rw c.in-Parent.is at c.index_mut.ensures.value) in
+    let old = c.args.children.now.items in
+    let i = c.args.index in
+    let child = c.in-Parent.child in
+    let new = c.insert_below.new.node in
+    let second = c.insert_below.result in
+    let above = c.requires.above in
+    let here = rw c.args.children.now.ok.0 at c.requires.index in
+    let is = rw c.in-Parent.is at c.index_mut.ensures.value in
+    let grown = rw c.in-Parent.child-is at c.insert_below.ensures in
     record {
-      bag = simp (c.in-Parent.is, outs-Parent) grown.0;
-      below = simp (c.in-Parent.is, outs-Parent) grown.1;
-      sized = simp (c.in-Parent.is, outs-Parent) (λ trees. sized_child g.Params.RTreeParams.MIN_SIZE g.Params.RTreeParams.MAX_SIZE g.Params.RTreeParams.min_positive c.args.levels c.args.children.now.items c.args.index c.in-Parent.child c.insert_below.new.node c.insert_below.result c.requires.above
-          (subst (λ n. c.args.index < n) c.args.children.now.ok.0 c.requires.index) (rw c.in-Parent.is at c.index_mut.ensures.value) trees (λ below few. (rw c.in-Parent.child-is at c.insert_below.ensures.sized) (below, few)));
+      bag = simp (c.in-Parent.is, outs-Parent) (cut_bag c.args.t old i child new here is second grown.bag);
+      below = simp (c.in-Parent.is, outs-Parent) (child_put (IsKeptInner g.T.Cover.Merges.boxes g.T.Covered.object c.args.reserve.now.widest) (IsElement g.T.Cover.Merges.boxes g.T.Covered.object)
+          c.args.levels old i new second above c.requires.below grown.first grown.second);
+      sized = simp (c.in-Parent.is, outs-Parent) (λ trees. sized_child g.Params.RTreeParams.MIN_SIZE g.Params.RTreeParams.MAX_SIZE c.args.levels old i child new second above here is trees grown.sized);
       length = refl;
       capacity = refl;
-      spends = simp (c.in-Parent.is, outs-Parent) (spends_as _ _ _ _ c.args.reserve.now c.insert_below.new.reserve (λ n few. let change = lists n in omega (arith, change)) (rw c.in-Parent.child-is at c.insert_below.ensures.spends));
-      used = omega (arith, c.requires.above, c.insert_below.ensures.used);
+      spends = simp (c.in-Parent.is, outs-Parent) (spends_as grown.spends (λ n few. omega (arith, child_roomy n c.args.levels old i child new second above here is)));
+      used = omega (arith, above, c.insert_below.ensures.used);
     }
-
--- ---- what stands there already
-
-pub insert_in_child-index_mut-requires : goal.insert_in_child-index_mut-requires
-insert_in_child-index_mut-requires g t c = c.requires.index
-
-pub insert_in_child-overflow_sub-levels : goal.insert_in_child-overflow_sub-levels
-insert_in_child-overflow_sub-levels g t c = c.requires.above

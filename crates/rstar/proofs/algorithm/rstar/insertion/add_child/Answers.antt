@@ -1,16 +1,11 @@
-use Rattle.std.proofs.Common.{arith, ◌++◌, ◌∷◌, [], ◌∙◌, append-nil, ap, refl, sym}
-use Rattle.rstar_base.proofs.Along.{IsPermutation-same}
+use Rattle.std.proofs.Common.{arith, append-nil, refl}
+use Rattle.std.proofs.lemmas.List.Sorted.{IsPermutation-refl}
 use Rattle.rstar.proofs.inserting.Insertion.{room_more, room_one, room_same}
-use Rattle.rstar.proofs.inserting.Reserves.{last_spare, spends_as}
+use Rattle.rstar.proofs.inserting.Reserves.{last_spare, spends_as, spends_one}
 use Rattle.rstar.proofs.algorithm.rstar.insertion.add_child.Goals as goal
 
-pub push_reserved-requires : goal.push_reserved-requires
-push_reserved-requires g c = c.take_place.ensures.place
-
 pub returns-then-len-MAX_SIZE-clause-same : goal.returns-then-len-MAX_SIZE-clause-same
-returns-then-len-MAX_SIZE-clause-same g c =
-    IsPermutation-same (c.args.node.now.children.items ++ c.args.child ∷ []) _
-    (sym (append-nil c.push_reserved.new.self.items ∙ c.push_reserved.ensures.items ∙ ap (λ ns. ns ++ c.args.child ∷ []) c.take_place.ensures.same))
+returns-then-len-MAX_SIZE-clause-same g c = rw (append-nil c.push_reserved.new.self.items, c.push_reserved.ensures.items, c.take_place.ensures.same) (IsPermutation-refl _)
 
 pub returns-then-len-MAX_SIZE-clause-first : goal.returns-then-len-MAX_SIZE-clause-first
 returns-then-len-MAX_SIZE-clause-first g c = record {
@@ -21,7 +16,7 @@ returns-then-len-MAX_SIZE-clause-first g c = record {
 
 pub returns-then-len-MAX_SIZE-clause-spends : goal.returns-then-len-MAX_SIZE-clause-spends
 returns-then-len-MAX_SIZE-clause-spends g c =
-    spends_as _ _ _ _ c.args.reserve.now c.take_place.new.reserve (λ n few. let held = room_same n c.push_reserved.new.self c.take_place.new.list c.push_reserved.ensures.capacity in omega (arith, held)) c.take_place.ensures.spends
+    spends_as c.take_place.ensures.spends (λ n few. omega (arith, room_same n c.push_reserved.new.self c.take_place.new.list c.push_reserved.ensures.capacity))
 
 pub move_all-requires-clause-room : goal.move_all-requires-clause-room
 move_all-requires-clause-room g c = omega (arith, c.requires.narrow, c.requires.ready.overfull.1, c.args.node.now.children.ok.0)
@@ -30,11 +25,11 @@ pub push_reserved-requires-2 : goal.push_reserved-requires-2
 push_reserved-requires-2 g c = omega (arith, c.requires.narrow, c.requires.ready.overfull.1, c.args.node.now.children.ok.0, c.move_all.ensures.length, c.move_all.ensures.empty_capacity)
 
 pub split_in_place-requires-clause-empty : goal.split_in_place-requires-clause-empty
-split_in_place-requires-clause-empty g c = (last_spare _ _ c.args.reserve.now c.take_last-second.new.self.items c.take_last-second.result c.requires.ready c.take_last-second.ensures.items).1.0
+split_in_place-requires-clause-empty g c = (last_spare c.requires.ready _ c.take_last-second.result c.take_last-second.ensures.items).1.0
 
 pub split_in_place-requires-clause-room : goal.split_in_place-requires-clause-room
 split_in_place-requires-clause-room g c =
-    let spare = (last_spare _ _ c.args.reserve.now c.take_last-second.new.self.items c.take_last-second.result c.requires.ready c.take_last-second.ensures.items).1 in
+    let spare = (last_spare c.requires.ready _ c.take_last-second.result c.take_last-second.ensures.items).1 in
     omega (arith, spare.1, c.requires.narrow, c.move_all.ensures.length, c.push_reserved-2.ensures.len, c.args.node.now.children.ok.0, g.Params.RTreeParams.min_positive)
 
 pub move_all-requires-2-clause-room : goal.move_all-requires-2-clause-room
@@ -43,46 +38,35 @@ move_all-requires-2-clause-room g c =
 
 pub returns : goal.returns
 returns g c =
-    let spare = last_spare _ _ c.args.reserve.now c.take_last-second.new.self.items c.take_last-second.result c.requires.ready c.take_last-second.ensures.items in
+    let taken = c.take_last-second.ensures in
+    let spare = (last_spare c.requires.ready _ c.take_last-second.result taken.items).1 in
     let positive = g.Params.RTreeParams.min_positive in
-    let all = c.split_in_place.ensures.lengths in
-    let firsts = c.split_in_place.ensures.first in
-    let seconds = c.split_in_place.ensures.second in
+    let split = c.split_in_place.ensures in
     let moved = c.move_all-2.ensures.length in
     let over = c.move_all.ensures.length in
     let added = c.push_reserved-2.ensures.len in
     let more = room_more c.args.reserve.now.widest c.args.node.now.children c.move_all-2.new.empty (omega (arith, c.move_all.ensures.capacity, c.move_all-2.ensures.empty_capacity)) in
-    let one = room_one 0 c.args.node.now.children (omega arith) in
-    let other = room_one 0 c.move_all-2.new.empty (omega arith) in
+    let small = c.requires.ready.overfull.1 in
     record {
-      same = rw (← c.move_all.ensures.moved, ← c.push_reserved-2.ensures.items, c.move_all-2.ensures.moved) c.split_in_place.ensures.same;
+      same = rw (← c.move_all.ensures.moved, ← c.push_reserved-2.ensures.items, c.move_all-2.ensures.moved) split.same;
       first = record {
         merged = rw (← c.deref.ensures.value) c.envelope_for_children.ensures.hull;
-        some = omega (arith, positive, firsts, moved, c.move_all-2.new.empty.ok.0);
-        narrow = omega (arith, positive, all, seconds, moved, over, added, c.requires.narrow, c.args.node.now.children.ok.0, c.move_all-2.new.empty.ok.0);
+        some = omega (arith, positive, split.first, moved, c.move_all-2.new.empty.ok.0);
+        narrow = omega (arith, positive, split.lengths, split.second, moved, over, added, c.requires.narrow, c.args.node.now.children.ok.0, c.move_all-2.new.empty.ok.0);
       };
       second = record {
         merged = rw (← c.deref-2.ensures.value) c.envelope_for_children-envelope.ensures.hull;
-        some = omega (arith, positive, seconds, c.split_in_place.new.spare.ok.0);
-        narrow = omega (arith, positive, all, firsts, over, added, c.requires.narrow, c.args.node.now.children.ok.0, c.split_in_place.new.spare.ok.0);
+        some = omega (arith, positive, split.second, c.split_in_place.new.spare.ok.0);
+        narrow = omega (arith, positive, split.lengths, split.first, over, added, c.requires.narrow, c.args.node.now.children.ok.0, c.split_in_place.new.spare.ok.0);
       };
       whole = tt;
       low = tt;
-      first_least = omega (arith, firsts, moved, c.move_all-2.new.empty.ok.0);
-      second_least = omega (arith, seconds, c.split_in_place.new.spare.ok.0);
-      lengths = omega (arith, all, moved, over, added, c.args.node.now.children.ok.0, c.move_all-2.new.empty.ok.0, c.split_in_place.new.spare.ok.0);
-      spends = record {
-        widest = refl;
-        spares = spare.0;
-        fewer = omega (arith, c.take_last-second.ensures.len);
-        places = c.take_last-second.ensures.capacity;
-        overfull = (
-          c.move_all-2.ensures.left,
-          omega (arith, c.requires.ready.overfull.1, c.move_all.ensures.empty_capacity, c.push_reserved-2.ensures.capacity, c.split_in_place.ensures.first_capacity, c.move_all-2.ensures.capacity),
-        );
-        room = omega (arith, more, c.take_last-second.ensures.len);
-        made = omega (arith, one, other, c.take_last-second.ensures.len);
-      };
-      used = omega (arith, c.take_last-second.ensures.len);
-      second_room = omega (arith, spare.1.1, c.split_in_place.ensures.second_capacity);
+      first_least = omega (arith, split.first, moved, c.move_all-2.new.empty.ok.0);
+      second_least = omega (arith, split.second, c.split_in_place.new.spare.ok.0);
+      lengths = omega (arith, split.lengths, moved, over, added, c.args.node.now.children.ok.0, c.move_all-2.new.empty.ok.0, c.split_in_place.new.spare.ok.0);
+      spends = spends_one c.requires.ready c.take_last-second.result taken.items taken.len taken.capacity refl
+          (c.move_all-2.ensures.left, omega (arith, small, c.move_all.ensures.empty_capacity, c.push_reserved-2.ensures.capacity, split.first_capacity, c.move_all-2.ensures.capacity))
+          (omega (arith, more)) (omega (arith, room_one 0 c.args.node.now.children (omega arith), room_one 0 c.move_all-2.new.empty (omega arith)));
+      used = omega (arith, taken.len);
+      second_room = omega (arith, spare.1, split.second_capacity);
     }

@@ -4,6 +4,4 @@ use Rattle.rstar.proofs.algorithm.rstar.split.make_place.Goals as goal
 
 pub returns-then-len-capacity-clause-rooms : goal.returns-then-len-capacity-clause-rooms
 returns-then-len-capacity-clause-rooms g c = λ n.
-    let more = room_more n c.args.empty.now c.move_over.new.list c.move_over.ensures.capacity in
-    let same = room_same n c.move_over.new.empty c.args.list.now c.move_over.ensures.left_capacity in
-    omega (arith, more, same)
+    omega (arith, room_more n c.args.empty.now c.move_over.new.list c.move_over.ensures.capacity, room_same n c.move_over.new.empty c.args.list.now c.move_over.ensures.left_capacity)

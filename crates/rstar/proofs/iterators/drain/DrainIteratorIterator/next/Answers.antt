@@ -1,4 +1,4 @@
-use Rattle.rstar.proofs.removing.DrainSteps.{takes_next, goes_on}
+use Rattle.rstar.proofs.removing.Removed.{takes_next, goes_on}
 use Rattle.rstar.proofs.iterators.drain.DrainIteratorIterator.next.Goals as goal
 
 pub returns : goal.returns

@@ -15,17 +15,12 @@ loop-last-preserved-in_default g c =
     c.in-Some-pop.ensures.items c.pop-in_default.ensures.capacity c.loop-last.invariant.giving in
     record { giving = back.0; same = c.loop-last.invariant.same ∙ back.1 }
 
-pub returns-in-Leaf-clause-steps : goal.returns-in-Leaf-clause-steps
+pub returns-in-Leaf : goal.returns-in-Leaf
 unfolding left_to_give IsGiving
-returns-in-Leaf-clause-steps g c =
+returns-in-Leaf g c =
     let leaf = gave c.loop-last.self c.pop.new.self c.in-Leaf.t (c.in-Some.ensures.items ∙ ap (λ n. c.pop.new.self.items ++ n ∷ []) c.in-Leaf.is) c.loop-last.invariant.giving in
-    (ap reverse c.loop-last.invariant.same ∙ leaf.1, leaf.0)
-
-pub returns-in-Leaf-clause-goes : goal.returns-in-Leaf-clause-goes
-unfolding left_to_give IsGiving
-returns-in-Leaf-clause-goes g c =
-    let leaf = gave c.loop-last.self c.pop.new.self c.in-Leaf.t (c.in-Some.ensures.items ∙ ap (λ n. c.pop.new.self.items ++ n ∷ []) c.in-Leaf.is) c.loop-last.invariant.giving in
-    goes_on c.args.self.now (record { nodes = c.pop.new.self; path = c.loop-last.self.path }) c.in-Leaf.t (ap reverse c.loop-last.invariant.same ∙ leaf.1) leaf.0
+    let gives = ap reverse c.loop-last.invariant.same ∙ leaf.1 in
+    record { steps = (gives, leaf.0); goes = goes_on c.args.self.now (record { nodes = c.pop.new.self; path = c.loop-last.self.path }) c.in-Leaf.t gives leaf.0 }
 
 pub enter-requires : goal.enter-requires
 enter-requires g c =

@@ -1,14 +1,11 @@
-use Rattle.std.proofs.Common.{◌≡◌, ◌≢◌, ◌⊎◌, inl, inr, [], ◌∙◌, refl, sym, subst, arith, ◌+◌, rules}
+use Rattle.std.proofs.Common.{◌≡◌, ◌≢◌, ◌⊎◌, inl, inr, [], ◌∙◌, refl, sym, arith, rules}
 use Rattle.std.proofs.lemmas.Bool.{true≢false}
 use Rattle.rstar.specs.Joins.{meets_by, IsJoining, pairs_to_come}
-use Rattle.rstar.specs.Meets.{meet_of_roots, pairs_from_roots, all_pairs, all_opens}
-use Rattle.rstar.specs.Nodes.{children_of, IsInner, IsElement}
-use Rattle.rstar.specs.Heights.{levels_below}
-use Rattle.rstar.specs.inside.PairWalks.{AreJoinable}
-use Rattle.rstar.proofs.trees.Heights.{at_levels}
+use Rattle.rstar.specs.Meets.{meet_of_roots, pairs_from_roots}
+use Rattle.rstar.specs.Nodes.{children_of}
 use Rattle.rstar.proofs.selecting.Traversals.{no-items, some-items}
 use Rattle.rstar.proofs.joining.PairWalks.{idle-pairs, idle-opens}
-use Rattle.rstar.proofs.joining.Joined.{joinable, roots-counted, roots-apart, roots-empty, roots-met}
+use Rattle.rstar.proofs.joining.Joined.{roots-joinable, roots-counted, roots-apart, roots-empty, roots-met}
 use Rattle.rstar.proofs.iterators.joins.IntersectionIterator.new.Goals as goal
 use Rattle.rstar.proofs.iterators.joins.IntersectionIterator.new.Goals.{then-is_empty, else-is_empty, then-empty-via-then-empty, then-empty-via-else-empty+then-not-meet}
 
@@ -32,28 +29,24 @@ returns-then-empty g c =
           left right c.requires.left c.requires.right
           (sym w.meet.ensures ∙ w.if-not-meet.true)
     ] in
-    let opens = idle-opens meets left_box right_box c.in_ok-walk.walk c.in_ok-walk.ensures.idle in
     record {
       gives = idle-pairs meets left_box right_box c.in_ok-walk.walk c.in_ok-walk.ensures.idle ∙ sym none.1;
       made = search rules;
-      joining = record { walk = c.in_ok-walk.ensures.walk; count = record { count = 0; counted = omega (arith, c.in_ok-walk.ensures.opened); whole = omega (arith, opens, none.0) } };
+      joining = record {
+        walk = c.in_ok-walk.ensures.walk;
+        count = record {
+          count = 0;
+          counted = omega (arith, c.in_ok-walk.ensures.opened);
+          whole = omega (arith, idle-opens meets left_box right_box c.in_ok-walk.walk c.in_ok-walk.ensures.idle, none.0);
+        };
+      };
       near = search rules;
     }
 
 pub begin-requires-clause-fits : goal.begin-requires-clause-fits
 begin-requires-clause-fits g c =
-    let v = g.T.Cover.Merges.boxes in
-    let w = g.U.Cover.Merges.boxes in
-    let o = g.T.Covered.object in
-    let o' = g.U.Covered.object in
-    let left = children_of c.args.left.now in
-    let right = children_of c.args.right.now in
-    let room = c.in_ok-walk.walk.path.capacity in
-    subst (λ ls. AreJoinable room ls c.as_slice-2.result.now) (sym c.as_slice.ensures.value) (subst (AreJoinable room left) (sym c.as_slice-2.ensures.value)
-    (joinable v w o o' room (levels_below left) (levels_below right) left right
-    (at_levels (IsInner v o) (IsElement v o) (λ p q. q.1) c.requires.left.height _ left refl c.requires.left.below)
-    (at_levels (IsInner w o') (IsElement w o') (λ p q. q.1) c.requires.right.height _ right refl c.requires.right.below)
-    (omega (arith, c.requires.levels, c.in_ok-walk.ensures.room))))
+    rw (c.as_slice.ensures.value, c.as_slice-2.ensures.value)
+    (roots-joinable c.requires.left c.requires.right _ (omega (arith, c.requires.levels, c.in_ok-walk.ensures.room)))
 
 pub returns : goal.returns
 unfolding pairs_to_come IsJoining
@@ -70,10 +63,11 @@ returns g c =
     ] in
     let all = roots-counted g.met.T.Cover.Merges.merge_laws g.met.U.Cover.Merges.merge_laws g.met.U.Meets.seen_laws g.met.T.Covered.cover_law g.met.U.Covered.cover_law
     left right c.requires.left c.requires.right does some.0 some.1 in
-    let here : 1 + all_opens meets left_box right_box c.as_slice.result.now c.as_slice-2.result.now ≡ 1 + all_opens meets left_box right_box (children_of left) (children_of right) = λ i. 1 + all_opens meets left_box right_box (c.as_slice.ensures.value i) (c.as_slice-2.ensures.value i) in
+    let pairs = rw (c.as_slice.ensures.value, c.as_slice-2.ensures.value) at c.begin.ensures.pairs in
+    let opens = rw (c.as_slice.ensures.value, c.as_slice-2.ensures.value) at c.begin.ensures.opens in
     record {
-      gives = c.begin.ensures.pairs ∙ (λ i. all_pairs meets left_box right_box (c.as_slice.ensures.value i) (c.as_slice-2.ensures.value i)) ∙ sym (roots-met meets left_box right_box left right does);
+      gives = pairs ∙ sym (roots-met meets left_box right_box left right does);
       made = record { left_over = refl; right_over = refl; opened = omega arith; at_most = omega (arith, all) };
-      joining = record { walk = c.begin.ensures.walk; count = record { count = 1; counted = omega arith; whole = omega (arith, c.begin.ensures.opens, here, all) } };
+      joining = record { walk = c.begin.ensures.walk; count = record { count = 1; counted = omega arith; whole = omega (arith, opens, all) } };
       near = search rules;
     }

@@ -5,4 +5,4 @@ use Rattle.rstar.proofs.iterators.joins.IntersectionIteratorIterator.next.Goals 
 
 pub returns-clause-steps : goal.returns-clause-steps
 returns-clause-steps g c =
-    next-gives (meets_by g.T.Cover.Merges.boxes g.U.Meets.seen) g.T.Covered.object.box_of g.U.Covered.object.box_of _ _ c.advance.result refl refl c.requires c.advance.ensures
+    next-gives (meets_by g.T.Cover.Merges.boxes g.U.Meets.seen) g.T.Covered.object.box_of g.U.Covered.object.box_of _ _ refl refl c.advance.result c.requires c.advance.ensures

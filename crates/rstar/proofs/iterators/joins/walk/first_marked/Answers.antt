@@ -1,7 +1,5 @@
-use Rattle.std.proofs.Common.{◌∙◌, ◌≡◌, ◌<◌, ◌/◌, ◌%◌, ap, sym, arith, refl, length, mod-lt}
+use Rattle.std.proofs.Common.{◌∙◌, ◌≡◌, ◌<◌, ap, arith, refl, length}
 use Rattle.std.proofs.lemmas.Bool.Decides.{nat_tests}
-use Rattle.std.proofs.lemmas.Nat.{div-add-mod'}
-use lib.Count.{count_trailing_zeros}
 use Rattle.rstar.specs.inside.PairWalks.{marked_items}
 use Rattle.rstar.specs.Lists.{product}
 use Rattle.rstar.proofs.joining.PairsByChildren.{product-none}
@@ -20,15 +18,10 @@ returns-then-is_empty-clause-none g c =
     ap (λ l. marked_items c.args.marks (product c.args.lefts.now l)) empty ∙ ap (marked_items c.args.marks) (product-none c.args.lefts.now)
 
 pub returns-then-lefts-row-clause-none : goal.returns-then-lefts-row-clause-none
-returns-then-lefts-row-clause-none g c =
-    let place = count_trailing_zeros 64 c.args.marks in
-    let n = length c.args.rights.now in
-    pairs-none c.args.marks c.args.lefts.now c.args.rights.now place (place / n) (place % n) refl (sym (div-add-mod' place n)) (grind (arith, nat_tests, c.if-lefts-row.true))
+returns-then-lefts-row-clause-none g c = pairs-none c.args.marks c.args.lefts.now c.args.rights.now (grind (arith, nat_tests, c.if-lefts-row.true))
 
 pub returns-clause-some : goal.returns-clause-some
 returns-clause-some g c =
-    let place = count_trailing_zeros 64 c.args.marks in
-    let n = length c.args.rights.now in
-    let some : 0 < n = grind (arith, nat_tests, c.is_empty.ensures, c.if-is_empty.false) in
-    lowest-pair c.args.marks c.args.lefts.now _ c.args.rights.now _ _ place (place / n) (place % n) (grind (arith, nat_tests, c.if-marks-eq0.false)) c.ranges.marks.fits refl some
-    (sym (div-add-mod' place n)) (mod-lt place some) (grind (arith, nat_tests, c.if-lefts-row.false)) refl refl refl
+    let some : 0 < length c.args.rights.now = grind (arith, nat_tests, c.is_empty.ensures, c.if-is_empty.false) in
+    lowest-pair c.args.marks c.args.lefts.now _ c.args.rights.now _ _ (grind (arith, nat_tests, c.if-marks-eq0.false)) c.ranges.marks.fits some
+    (grind (arith, nat_tests, c.if-lefts-row.false)) refl refl refl

@@ -1,17 +1,9 @@
-use Rattle.std.proofs.Common.{refl, sym}
-use Rattle.rstar.proofs.selecting.Traversals.{first-taken, way-take, given-leaf, reach-leaf, nearer-leaf}
+use Rattle.std.proofs.Common.{refl, arith}
+use Rattle.rstar.proofs.selecting.Traversals.{leaf-moved, stepped}
 use Rattle.rstar.proofs.iterators.selection.SelectionIterator.leave.Goals as goal
 
 pub returns : goal.returns
 returns g c =
-    let accepts = g.Func.Question.accepts c.args.self.now.func in
-    let selects = g.Func.Question.selects c.args.self.now.func in
-    let t = c.args.t.now in
-    let taken = first-taken c.args.self.now.path.items c.args.self.now.nodes c.args.rest c.requires.first in
-    record {
-      walking = way-take accepts c.args.self.now.root.now taken (reach-leaf accepts t refl) c.requires.way;
-      root = refl;
-      question = refl;
-      given = given-leaf accepts selects t _ taken refl (sym c.should_unpack_leaf.ensures);
-      nearer = nearer-leaf t taken refl;
-    }
+    let it = c.args.self.now in
+    let moved = leaf-moved (g.Func.Question.accepts it.func) (g.Func.Question.selects it.func) it.path.items it.nodes c.args.rest c.args.t.now c.should_unpack_leaf.result c.requires.first c.should_unpack_leaf.ensures in
+    stepped g.Func.Question.accepts g.Func.Question.selects it it.path c.args.rest it.opened moved refl (omega (arith, c.requires.way.counted)) c.requires.way

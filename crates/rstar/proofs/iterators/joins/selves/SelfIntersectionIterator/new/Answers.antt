@@ -19,9 +19,6 @@ returns g c =
     let whole = subst (AreWhole v o levels) (sym c.as_slice.ensures.value) (at_levels (IsInner v o) (IsElement v o) (λ p q. q.1) c.requires.whole.height levels children c.requires.levels c.requires.whole.below) in
     let started = own-started meets o.box_of children in
     let none = idle-pairs meets o.box_of o.box_of c.in_ok-walk.walk c.in_ok-walk.ensures.idle in
-    let opens = idle-opens meets o.box_of o.box_of c.in_ok-walk.walk c.in_ok-walk.ensures.idle in
-    let left = ap (opens_from_lists meets o.box_of) is in
-    let same = ap (opens_within meets o.box_of) c.as_slice.ensures.value in
     record {
       gives = (λ i. none i ++ pairs_from_lists meets o.box_of (is i)) ∙ ap (pairs_within meets o.box_of) c.as_slice.ensures.value;
       made = record { over = refl; opened = omega (arith, c.min.ensures); at_most = omega (arith, started, c.min.ensures, c.len.ensures) };
@@ -33,7 +30,15 @@ returns g c =
         fits = omega (arith, c.push_reserved.ensures.capacity, c.in_ok-lists.ensures.room, c.in_ok-lists.ensures.small, c.saturating_add.ensures);
         count = c.min.result;
         counted = omega (arith, c.min.ensures);
-        all = omega (arith, started, opens, left, same, c.min.ensures, c.len.ensures);
+        all = omega (
+          arith,
+          started,
+          idle-opens meets o.box_of o.box_of c.in_ok-walk.walk c.in_ok-walk.ensures.idle,
+          ap (opens_from_lists meets o.box_of) is,
+          ap (opens_within meets o.box_of) c.as_slice.ensures.value,
+          c.min.ensures,
+          c.len.ensures,
+        );
       };
       near = search rules;
     }

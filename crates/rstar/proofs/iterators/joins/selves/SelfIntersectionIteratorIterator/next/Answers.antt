@@ -16,4 +16,4 @@ returns-in-Some-clause-goes g c =
 
 pub enter-requires-clause-lists : goal.enter-requires-clause-lists
 enter-requires-clause-lists g c =
-    advanced g.T.Cover.Merges.boxes g.T.Covered.object (meets_by g.T.Cover.Merges.boxes g.T.Meets.seen) c.loop-pair.self _ c.advance.result refl refl refl c.loop-pair.invariant.lists c.advance.ensures
+    advanced g.T.Cover.Merges.boxes g.T.Covered.object (meets_by g.T.Cover.Merges.boxes g.T.Meets.seen) c.loop-pair.self _ refl refl refl c.loop-pair.invariant.lists c.advance.ensures.on

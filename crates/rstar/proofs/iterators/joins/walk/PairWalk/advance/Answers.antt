@@ -1,5 +1,4 @@
 use Rattle.std.proofs.Common.{◌∙◌, refl}
-use Rattle.rstar.specs.Joins.{meets_by}
 use Rattle.rstar.proofs.joining.PairWalks.{goes-on}
 use Rattle.rstar.proofs.iterators.joins.walk.PairWalk.advance.Goals as goal
 
@@ -7,25 +6,19 @@ pub loop-t-init : goal.loop-t-init
 loop-t-init g c = record { on = record { walk = c.requires; room = refl; count = λ all h. h }; same = refl }
 
 pub loop-t-preserved : goal.loop-t-preserved
-loop-t-preserved g c =
-    let meets = meets_by g.T.Cover.Merges.boxes g.U.Meets.seen in
-    record {
-      on = goes-on meets g.T.Covered.object.box_of g.U.Covered.object.box_of c.loop-t.invariant.on c.in-Passed.ensures.on;
-      same = c.loop-t.invariant.same ∙ c.in-Passed.ensures.given;
-    }
+loop-t-preserved g c = record {
+  on = goes-on _ _ _ c.loop-t.invariant.on c.in-Passed.ensures.on;
+  same = c.loop-t.invariant.same ∙ c.in-Passed.ensures.given;
+}
 
 pub returns-in-Ended : goal.returns-in-Ended
-returns-in-Ended g c =
-    let meets = meets_by g.T.Cover.Merges.boxes g.U.Meets.seen in
-    record {
-      on = goes-on meets g.T.Covered.object.box_of g.U.Covered.object.box_of c.loop-t.invariant.on c.in-Ended.ensures.on;
-      given = (c.loop-t.invariant.same ∙ c.in-Ended.ensures.given, c.in-Ended.ensures.over);
-    }
+returns-in-Ended g c = record {
+  on = goes-on _ _ _ c.loop-t.invariant.on c.in-Ended.ensures.on;
+  given = (c.loop-t.invariant.same ∙ c.in-Ended.ensures.given, c.in-Ended.ensures.over);
+}
 
 pub returns-in-Found : goal.returns-in-Found
-returns-in-Found g c =
-    let meets = meets_by g.T.Cover.Merges.boxes g.U.Meets.seen in
-    record {
-      on = goes-on meets g.T.Covered.object.box_of g.U.Covered.object.box_of c.loop-t.invariant.on c.in-Found.ensures.on;
-      given = c.loop-t.invariant.same ∙ c.in-Found.ensures.given;
-    }
+returns-in-Found g c = record {
+  on = goes-on _ _ _ c.loop-t.invariant.on c.in-Found.ensures.on;
+  given = c.loop-t.invariant.same ∙ c.in-Found.ensures.given;
+}

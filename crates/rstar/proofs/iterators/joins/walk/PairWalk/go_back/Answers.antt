@@ -1,4 +1,4 @@
-use Rattle.std.proofs.Common.{◌∷◌, ◌++◌, [], ◌∙◌, ap, sym, arith, append-nil, ◌≡◌, ◌+◌}
+use Rattle.std.proofs.Common.{◌∷◌, ◌++◌, [], ◌∙◌, ap, sym, refl, arith, append-nil, ◌≡◌, ◌+◌}
 use Rattle.rstar.specs.inside.PairWalks.{in_hand, frames_of, opens_from_frames}
 use Rattle.rstar.specs.Joins.{meets_by}
 use Rattle.rstar.proofs.joining.PairWalks.{frames-along, idle-pairs, move-drop, passes}
@@ -26,12 +26,9 @@ returns-in_default g c =
 
 pub returns : goal.returns
 returns g c =
-    let meets = meets_by g.T.Cover.Merges.boxes g.U.Meets.seen in
-    let left_box = g.T.Covered.object.box_of in
-    let right_box = g.U.Covered.object.box_of in
     let self = c.args.self.now in
     let frame = in_hand self in
-    let move = move-drop meets left_box right_box frame c.requires.none in
     let frames = c.pop.new.self.items ++ c.in-Some.frame ∷ [] in
     let was : frames_of self ≡ frames ++ frame ∷ [] = ap (λ l. l ++ frame ∷ []) c.in-Some.ensures.some in
-    passes meets left_box right_box move frames self _ was (sym (append-nil frames)) c.pop.ensures.capacity (λ n h. omega (arith, h)) c.requires.walk
+    let move = move-drop (meets_by g.T.Cover.Merges.boxes g.U.Meets.seen) g.T.Covered.object.box_of g.U.Covered.object.box_of frame c.requires.none in
+    passes _ _ _ move frames self _ was (sym (append-nil frames)) c.pop.ensures.capacity (λ n h. omega (arith, h)) c.requires.walk refl

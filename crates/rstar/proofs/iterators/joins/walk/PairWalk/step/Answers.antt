@@ -4,30 +4,24 @@ use Rattle.rstar.specs.Lists.{product}
 use Rattle.rstar.specs.inside.PairWalks.{marked_items, in_hand, rows_beside, IsFirstPair}
 use Rattle.rstar.specs.Joins.{meets_by}
 use Rattle.rstar.proofs.selecting.Traversals.{no-items}
-use Rattle.rstar.proofs.joining.PairWalks.{parts-are, block-fits, block-some, last-frame, meets_pair, move-row, move-ask, passes}
+use Rattle.rstar.proofs.joining.PairWalks.{cut-at, block-fits, block-some, last-frame, meets_pair, move-row, move-ask, passes}
 use Rattle.rstar.proofs.iterators.joins.walk.PairWalk.step.Goals as goal
 
 pub read-requires-clause-met : goal.read-requires-clause-met
 read-requires-clause-met g c =
     let self = c.args.self.now in
-    let k = rows_beside self.rights.now in
-    let parts = parts-are k self.lefts.now c.split_at.result.0.now c.split_at.result.1.now c.split_at.ensures.by_index.0 (c.split_at.ensures.front_len ∙ c.min-rows.ensures ∙ ap (min (length self.lefts.now)) c.rows_beside.ensures) in
-    subst (λ b. IsFirstPair b self.asked.now self.marks c.in-Some.left.now c.in-Some.right.now c.in-Some.marks) parts.0 c.in-Some.ensures.some
+    let cut = cut-at (rows_beside self.rights.now) _ self.lefts.now (c.min-rows.ensures ∙ ap (min (length self.lefts.now)) c.rows_beside.ensures) in
+    subst (λ b. IsFirstPair b self.asked.now self.marks c.in-Some.left.now c.in-Some.right.now c.in-Some.marks) (c.split_at.ensures.front ∙ cut.0) c.in-Some.ensures.some
 
 pub returns-then-is_empty-2 : goal.returns-then-is_empty-2
 returns-then-is_empty-2 g c =
-    let meets = meets_by g.T.Cover.Merges.boxes g.U.Meets.seen in
-    let left_box = g.T.Covered.object.box_of in
-    let right_box = g.U.Covered.object.box_of in
     let self = c.args.self.now in
-    let above = self.path.items in
-    let k = rows_beside self.rights.now in
-    let parts = parts-are k self.lefts.now c.split_at.result.0.now c.split_at.result.1.now c.split_at.ensures.by_index.0 (c.split_at.ensures.front_len ∙ c.min-rows.ensures ∙ ap (min (length self.lefts.now)) c.rows_beside.ensures) in
-    let none = ap (λ b. marked_items self.marks (product b self.asked.now)) (sym parts.0) ∙ c.in_default.ensures.none in
+    let cut = cut-at (rows_beside self.rights.now) _ self.lefts.now (c.min-rows.ensures ∙ ap (min (length self.lefts.now)) c.rows_beside.ensures) in
+    let none = ap (λ b. marked_items self.marks (product b self.asked.now)) (sym (c.split_at.ensures.front ∙ cut.0)) ∙ c.in_default.ensures.none in
     let some : 0 < length self.lefts.now = grind (arith, nat_tests, c.is_empty.ensures, c.if-is_empty.false) in
     let over = no-items self.later.now _ _ c.is_empty-2.ensures c.if-is_empty-2.true refl in
-    let move = move-row meets left_box right_box self.lefts c.split_at.result.1 self.asked self.later self.rights self.marks parts.1 some none over in
-    passes meets left_box right_box move above self _ refl refl refl (λ n h. omega (arith, h)) c.requires
+    let move = move-row (meets_by g.T.Cover.Merges.boxes g.U.Meets.seen) g.T.Covered.object.box_of g.U.Covered.object.box_of (in_hand self) c.split_at.result.1 (c.split_at.ensures.back ∙ cut.1) some none over in
+    passes _ _ _ move self.path.items self _ refl refl refl (λ n h. omega (arith, h)) c.requires refl
 
 pub returns : goal.returns
 returns g c =
@@ -35,17 +29,16 @@ returns g c =
     let left_box = g.T.Covered.object.box_of in
     let right_box = g.U.Covered.object.box_of in
     let self = c.args.self.now in
-    let above = self.path.items in
-    let k = rows_beside self.rights.now in
     let chunk = c.split_at-2.result.0 in
-    let parts = parts-are k self.lefts.now c.split_at.result.0.now c.split_at.result.1.now c.split_at.ensures.by_index.0 (c.split_at.ensures.front_len ∙ c.min-rows.ensures ∙ ap (min (length self.lefts.now)) c.rows_beside.ensures) in
-    let none = ap (λ b. marked_items self.marks (product b self.asked.now)) (sym parts.0) ∙ c.in_default.ensures.none in
-    let frame = last-frame meets left_box right_box self.path.capacity above (in_hand self) c.requires in
-    let fits = block-fits self.rights.now self.later.now chunk.now c.split_at-2.result.1.now self.lefts.now frame.1.no_more c.split_at-2.ensures.by_index.0 (c.split_at-2.ensures.front_len ∙ c.min.ensures) in
+    let rest = c.split_at-2.result.1 in
+    let cut = cut-at (rows_beside self.rights.now) _ self.lefts.now (c.min-rows.ensures ∙ ap (min (length self.lefts.now)) c.rows_beside.ensures) in
+    let block = c.split_at.ensures.front ∙ cut.0 in
+    let none = ap (λ b. marked_items self.marks (product b self.asked.now)) (sym block) ∙ c.in_default.ensures.none in
+    let split = c.split_at-2.ensures.by_index.0 in
+    let fits = block-fits self.rights.now self.later.now chunk.now rest.now self.lefts.now (last-frame meets left_box right_box self c.requires).1.no_more split (c.split_at-2.ensures.front_len ∙ c.min.ensures) in
     let lefts : 0 < length self.lefts.now = grind (arith, nat_tests, c.is_empty.ensures, c.if-is_empty.false) in
     let some : 0 < length chunk.now = grind (arith, nat_tests, c.is_empty-2.ensures, c.if-is_empty-2.false, c.min.ensures, c.split_at-2.ensures.front_len) in
-    let few = subst (λ b. length b * length chunk.now ≤ 64) (sym parts.0) fits.0 in
-    let made = subst (λ b. marked_items c.marks_of-self.result (product b chunk.now) ≡ filter (meets_pair meets left_box right_box) (product b chunk.now)) parts.0 (c.marks_of-self.ensures few) in
-    let move = move-ask meets left_box right_box self.lefts self.asked self.later chunk c.split_at-2.result.1 self.rights self.marks c.marks_of-self.result none c.split_at-2.ensures.by_index.0 some
-    (block-some self.rights.now self.lefts.now lefts) fits.1 made in
-    passes meets left_box right_box move above self _ refl refl refl (λ n h. omega (arith, h)) c.requires
+    let few = subst (λ b. length b * length chunk.now ≤ 64) (sym block) fits.0 in
+    let made = subst (λ b. marked_items c.marks_of-self.result (product b chunk.now) ≡ filter (meets_pair meets left_box right_box) (product b chunk.now)) block (c.marks_of-self.ensures few) in
+    let move = move-ask meets left_box right_box (in_hand self) chunk rest c.marks_of-self.result none split some (block-some self.rights.now self.lefts.now lefts) fits.1 made in
+    passes meets left_box right_box move self.path.items self _ refl refl refl (λ n h. omega (arith, h)) c.requires refl
