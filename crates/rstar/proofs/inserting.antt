@@ -1,3 +1,2 @@
 -- Insertion, forced reinsertion and splits.
 pub mod Insertion
-pub mod Reserves

@@ -1,3 +1,2 @@
 -- Lists, whatever they hold.
 pub mod Items
-pub mod Tails

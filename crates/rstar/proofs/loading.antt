@@ -1,3 +1,2 @@
 -- Bulk loads.
-pub mod Depths
 pub mod Loads

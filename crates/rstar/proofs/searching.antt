@@ -8,5 +8,4 @@ pub mod Ties
 pub mod InOrder
 pub mod OneOrder
 pub mod Room
-pub mod Fits
 pub mod Few

@@ -3,5 +3,5 @@ pub mod ByChildren
 pub mod Trees
 pub mod Heights
 pub mod WholeTrees
-pub mod Clones
 pub mod Shown
+pub mod Clones

@@ -6,16 +6,14 @@ use Rattle.std.specs.Borrow.{Lends, LendsIf, MutBor, Fml}
 use denote.RattleType.{RattleType}
 use Rattle.rstar_base.specs.Envelopes.{Boxes}
 use Rattle.rstar_base.specs.Elements.{Objects, Distances}
-use Rattle.rstar.specs.declared.node.RTreeNode.{RTreeNode}
 use Rattle.rstar.specs.declared.node.ParentNode.{ParentNode}
 use Rattle.rstar.specs.declared.rtree.RTree.{RTree}
 use Rattle.rstar_base.specs.contracts.primitives.GeomWithData.{the_row as geom_row}
 use Rattle.rstar.specs.contracts.node.ParentNode.{the_row as parent_row}
-use Rattle.rstar.specs.contracts.node.RTreeNode.{the_row as node_row}
 use Rattle.rstar.specs.contracts.rtree.RTree.{the_row as tree_row}
-use Rattle.rstar.specs.Nodes.{Layer, layer_of}
+use Rattle.rstar.specs.Nodes.{Layer}
 use Rattle.rstar.specs.Trees.{elements_in, HasSameOutline, IsWholeTree}
-use Rattle.rstar.specs.inside.WaysDown.{IsAt, change_at, change_below, way_to}
+use Rattle.rstar.specs.inside.WaysDown.{IsAt, change_below, way_to}
 
 -- ---- one element, and the way to it
 
@@ -32,11 +30,6 @@ abbrev pub IsAtPayload : {R D E : Type 0} → (ParentNode (R × D) E → ℕ) �
 IsAtPayload {R} way d n w = (g : R) × IsAt way d n (g, w)
 
 module _ (R D E : RattleType) where
-  abbrev pub LendsPayload : (ParentNode (R.Denot × D.Denot) E.Denot → ℕ)
-      → MutBor (RTreeNode (R.Denot × D.Denot) E.Denot) → ℕ → MutBor D.Denot → Fml
-  LendsPayload way n depth r =
-      Lends (node_row (geom_row R D) E) D n r (λ d. change_at way (with_data d) depth (layer_of n.now))
-
   abbrev pub LendsBelow : (ParentNode (R.Denot × D.Denot) E.Denot → ℕ)
       → MutBor (ParentNode (R.Denot × D.Denot) E.Denot) → ℕ → MutBor D.Denot → Fml
   LendsBelow way p depth r =

@@ -10,6 +10,8 @@ pub mod Taking
 pub mod Earliest
 pub mod Gathering
 pub mod Searches
+pub mod SearchSteps
 pub mod Fits
 pub mod Few
 pub mod PairWalks
+pub mod Appends

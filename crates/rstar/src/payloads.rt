@@ -4,7 +4,7 @@ ghost use Rattle.std.specs.Prelude.{◌≡◌, ◌<◌, length};
 ghost use Rattle.std.specs.Borrow.{sem};
 ghost use Rattle.rstar_base.specs.Points.{table};
 ghost use Rattle.rstar.specs.declared.node.RTreeNode.{Leaf, Parent};
-ghost use Rattle.rstar.specs.Payloads.{LendsData, LendsPayload, LendsBelow, IsAtPayload};
+ghost use Rattle.rstar.specs.Payloads.{LendsData, LendsBelow, IsAtPayload};
 ghost use Rattle.rstar.specs.Nodes.{layer_of};
 ghost use Rattle.rstar.specs.inside.WaysDown.{finds_at, first_at, way_to, child_at, IsLeaf, IsParent, Leads, LeadsBelow, IsAt};
 ghost use Rattle.rstar.specs.inside.WaysDown.{LendsLeaf, LendsParent, LendsChild, LendsElement};
@@ -127,24 +127,7 @@ fn data_of<'a, R: RTreeObject, D: Drop>(element: &'a mut GeomWithData<R, D>) -> 
     &mut element.data
 }
 
-/// The payload of the element that contains the point on the first path, this many levels below the node.
-fn payload_with<'a, R: PointDistance, D: Drop>(
-    node: &'a mut RTreeNode<GeomWithData<R, D>>,
-    point: &PointOf<R>,
-    depth: usize,
-) -> &'a mut D
-    requires { Leads (way_to R.Envelope.boxes ⟦<GeomWithData<R, D> as PointDistance>⟧.distances
-        (table R.Envelope.Point.DIMENSIONS (R.Envelope.Point.coord point.now))) depth (layer_of node.old) }
-    ensures* writes_back { sem 𝓛 (LendsPayload R.row D.row R.Envelope.row
-        (way_to R.Envelope.boxes ⟦<GeomWithData<R, D> as PointDistance>⟧.distances
-        (table R.Envelope.Point.DIMENSIONS (R.Envelope.Point.coord point.now))) node.entry depth result) }
-    ensures value { IsAtPayload (way_to R.Envelope.boxes ⟦<GeomWithData<R, D> as PointDistance>⟧.distances
-        (table R.Envelope.Point.DIMENSIONS (R.Envelope.Point.coord point.now))) depth (layer_of node.old) result.now }
-{
-    data_of(element_with(node, point, depth))
-}
-
-/// The same from this child of the parent on.
+/// The payload of the element that contains the point on the first path, from this child of the parent on.
 pub(crate) fn payload_below<'a, R: PointDistance, D: Drop>(
     parent: &'a mut ParentNode<GeomWithData<R, D>>,
     index: usize,
@@ -163,5 +146,5 @@ pub(crate) fn payload_below<'a, R: PointDistance, D: Drop>(
         (layer_of (child_at parent.old (way_to R.Envelope.boxes ⟦<GeomWithData<R, D> as PointDistance>⟧.distances
         (table R.Envelope.Point.DIMENSIONS (R.Envelope.Point.coord point.now)) parent.old))) result.now }
 {
-    payload_with(child_of(parent, index), point, depth)
+    data_of(element_with(child_of(parent, index), point, depth))
 }

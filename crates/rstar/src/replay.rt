@@ -16,8 +16,8 @@ mod readings;
 
 use crate::algorithm::nearest_neighbor::{AnyFirst, OwnOrder};
 use crate::rtree::RTree;
-use answers::{ask, contains, join, nearest, neighbours};
-use changes::{drain, insert, load, remove, remove_at_point};
+use answers::{ask, join, nearest, neighbours};
+use changes::{drain, insert, load};
 pub use fits::{all_fit, is_fit};
 use readings::Reading;
 use rstar_base::envelope::Envelope;
@@ -216,12 +216,12 @@ fn step_in<T: PointDistance + EqualEnvelopes + Clone, O: Reading<T>, Params: RTr
     match command {
         Command::Load(list) => load(tree, list),
         Command::Insert(t) => insert(tree, t),
-        Command::Remove(t) => remove(tree, &t),
-        Command::RemoveAtPoint(point) => remove_at_point(tree, point),
+        Command::Remove(t) => Reply::Taken(tree.remove(&t)),
+        Command::RemoveAtPoint(point) => Reply::Taken(tree.remove_at_point(point)),
         Command::PopNearest(point) => O::pop(tree, point),
         Command::Drain(query, most) => drain(tree, query, most),
         Command::Ask(query) => ask(tree, query),
-        Command::Contains(t) => contains(tree, &t),
+        Command::Contains(t) => Reply::Has(tree.contains(&t)),
         Command::Nearest(point) => nearest::<T, O, Params>(tree, point),
         Command::Neighbours(point, most) => neighbours::<T, O, Params>(tree, point, most),
         Command::Join(list) => join(tree, list),

@@ -1,12 +1,12 @@
 //! The tree.
 
-ghost use Rattle.std.specs.Prelude.{◌≡◌, ◌⊎◌, ◌∷◌, ◌+◌, ◌<◌, ◌≤◌, [], false, length, OnOk, IfSome, IfNone};
+ghost use Rattle.std.specs.Prelude.{◌≡◌, ◌⊎◌, ◌∷◌, ◌+◌, ◌^◌, ◌<◌, ◌≤◌, [], false, length, OnOk, IfSome, IfNone};
 ghost use Rattle.std.specs.List.Sorted.{IsPermutation};
-ghost use Rattle.rstar.specs.Heights.{height_of, spare_lists};
+ghost use Rattle.rstar.specs.Heights.{height_of, levels_below, spare_lists};
 ghost use Rattle.rstar.specs.Insertions.{Inserts};
-ghost use Rattle.rstar.specs.inside.ParentBounds.{roomy_of};
+ghost use Rattle.rstar.specs.inside.ParentBounds.{IsKeptTree, roomy_of};
 ghost use Rattle.rstar.specs.inside.Reserves.{IsReady, Spends};
-ghost use Rattle.rstar.specs.Nodes.{children_of, envelope_of, IsWhole};
+ghost use Rattle.rstar.specs.Nodes.{children_of, elements_of, envelope_of, IsWhole};
 ghost use Rattle.rstar.specs.Shapes.{IsSized};
 ghost use Rattle.rstar.specs.Trees.{root_of, size_of, elements_in, IsUnchanged, IsWholeTree};
 
@@ -16,11 +16,9 @@ mod joins;
 mod loads;
 pub mod nearby;
 mod neighbours;
-mod parts;
 mod payloads;
 mod removal;
 mod selections;
-mod self_joins;
 mod texts;
 mod visits;
 
@@ -28,7 +26,7 @@ use crate::algorithm::rstar::RStarInsertionStrategy;
 use crate::algorithm::rstar::preparation::{Reserve, lists_wanted, top_up};
 use crate::algorithm::rstar::reinsertion::insert_with_reinsertion;
 use crate::node::{ParentNode, RTreeNode};
-use crate::params::{InsertCause, InsertError, InsertionStrategy};
+use crate::params::{InsertError, InsertionStrategy};
 use rstar_base::envelope::Envelope;
 use rstar_base::object::RTreeObject;
 use rstar_base::params::{DefaultParams, RTreeParams};
@@ -162,6 +160,41 @@ impl<T: RTreeObject, Params: RTreeParams> RTree<T, Params> {
             t self.old result self.new }
     {
         RStarInsertionStrategy::insert(self, t)
+    }
+
+    /// The tree of this root, with this many elements and levels of parents, and at most this many children
+    /// of a parent.
+    pub(crate) fn from_root(
+        alloc: Global,
+        root: ParentNode<T>,
+        size: usize,
+        levels: usize,
+        widest: usize,
+    ) -> Self
+        requires kept { IsKeptTree T.Envelope.boxes T.object widest levels root }
+        requires counted { size ≡ length (elements_of root) }
+        requires wide { Params.MAX_SIZE ≤ widest }
+        requires fits { widest + 1 < 2 ^ 64 }
+        ensures root { root_of result ≡ root }
+        ensures size { size_of result ≡ size }
+        ensures whole { IsWholeTree T.Envelope.boxes T.object Params.MAX_SIZE result }
+    {
+        RTree {
+            root,
+            size,
+            levels,
+            reserve: Reserve::new(alloc, widest),
+            params: PhantomData,
+        }
+    }
+
+    /// The number of levels of parents below the root.
+    #[tactic(auto, unfolding(crate::specs::Trees::IsWholeTree))]
+    pub(crate) fn levels(&self) -> usize
+        requires { IsWholeTree T.Envelope.boxes T.object Params.MAX_SIZE self.now }
+        ensures { result ≡ levels_below (children_of (root_of self.now)) }
+    {
+        self.levels
     }
 
     /// The number of spare lists for an insertion; `None` where the tree cannot count one more element, or

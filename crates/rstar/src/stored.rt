@@ -6,17 +6,17 @@
 //! leaf is its point, two `i64`.
 
 ghost use Rattle.std.specs.Prelude.{◌≡◌, ◌⊎◌, ◌++◌, Err, suc, ◌≢◌, IfErr, ◌∷◌, [], List, ◌≤◌, ◌<◌, ◌+◌, ◌*◌, ◌^◌, ℕ, length, map, min, IfOk, OnOk, vec_len, vec_capacity};
-ghost use Rattle.rstar.specs.declared.node.RTreeNode.{Parent};
 ghost use Rattle.rstar.specs.declared.stored.StoredError.TheVariants.{NoMemory, TooHigh};
-ghost use Rattle.rstar.specs.inside.ParentBounds.{IsKeptTree, AreKept};
-ghost use Rattle.rstar.specs.Nodes.{IsTree, IsElement, IsInner, elements, all_elements, elements_of};
+ghost use Rattle.rstar.specs.inside.Appends.{Appends};
+ghost use Rattle.rstar.specs.inside.ParentBounds.{IsKeptTree, AreKept, Widens};
+ghost use Rattle.rstar.specs.Nodes.{IsElement, IsInner, elements, all_elements, elements_of};
 ghost use Rattle.rstar.specs.Heights.{height_of};
 ghost use Rattle.rstar.specs.Shapes.{IsParentTree};
 ghost use Rattle.rstar_base.specs.Points.{IsPoint};
 ghost use Rattle.rstar.specs.Shown.{shown, shown_root};
 ghost use Rattle.rstar.specs.Stored.{Tree, boxes, places, low, high, IsStored, Spells, magic, number, point, spelling, stored_size};
 ghost use Rattle.rstar.specs.StoredFaults.{HasFault, IsOnlyFault};
-ghost use Rattle.rstar.specs.StoredReading.{Gives, number_at, coordinate_at, point_at, leaf_at, each_at, has_corners, parent_at, node_at, root_at, levels_at, tree_at};
+ghost use Rattle.rstar.specs.StoredReading.{Gives, number_at, coordinate_at, point_at, each_at, has_corners, parent_at, node_at, root_at, levels_at, tree_at};
 ghost use Rattle.rstar.specs.Trees.{root_of, IsWholeTree};
 
 use crate::node::{ParentNode, RTreeNode, envelope_for_children};
@@ -118,8 +118,7 @@ fn node_at<'a>(
     requires points { points.old + length bytes.now < 2 ^ 64 }
     ensures read { Gives (λ x. (shown x.0, x.1.now)) result (node_at height bytes.now) }
     ensures kept { IfOk result (λ x. AreKept boxes places widest.new height (x.0 ∷ [])) }
-    ensures wider { OnOk result (widest.old ≤ widest.new) }
-    ensures counted { OnOk result (widest.new + 1 < 2 ^ 64) }
+    ensures wider { OnOk result (Widens widest.old widest.new) }
     ensures points { IfOk result (λ x. points.new ≡ points.old + length (elements x.0)) }
     ensures left { IfOk result (λ x. points.new + length x.1.now ≤ points.old + length bytes.now) }
 {
@@ -147,8 +146,7 @@ fn parent_at<'a>(
     requires points { points.old + length bytes.now < 2 ^ 64 }
     ensures read { Gives (λ x. (shown_root x.0, x.1.now)) result (parent_at (node_at below) bytes.now) }
     ensures kept { IfOk result (λ x. IsKeptTree boxes places widest.new below x.0) }
-    ensures wider { OnOk result (widest.old ≤ widest.new) }
-    ensures counted { OnOk result (widest.new + 1 < 2 ^ 64) }
+    ensures wider { OnOk result (Widens widest.old widest.new) }
     ensures points { IfOk result (λ x. points.new ≡ points.old + length (elements_of x.0)) }
     ensures left { IfOk result (λ x. points.new + length x.1.now ≤ points.old + length bytes.now) }
 {
@@ -186,8 +184,7 @@ fn children_at<'a>(
     ensures read { Gives (λ x. (map shown x.0.items, x.1.now)) result (each_at (node_at below) count bytes.now) }
     ensures kept { IfOk result (λ x. AreKept boxes places widest.new below x.0.items) }
     ensures len { IfOk result (λ x. vec_len x.0 ≡ count) }
-    ensures wider { OnOk result (widest.old ≤ widest.new) }
-    ensures counted { OnOk result (widest.new + 1 < 2 ^ 64) }
+    ensures wider { OnOk result (Widens widest.old widest.new) }
     ensures points { IfOk result (λ x. points.new ≡ points.old + length (all_elements x.0.items)) }
     ensures left { IfOk result (λ x. points.new + length x.1.now ≤ points.old + length bytes.now) }
 {
@@ -308,9 +305,7 @@ pub fn read_stored<Params: RTreeParams>(
 /// Appends bytes, for which there is room.
 fn put_bytes(out: &mut Vec<u8>, bytes: &[u8])
     requires room { vec_len out.old + length bytes.now ≤ vec_capacity out.old }
-    ensures put { out.new.items ≡ out.old.items ++ bytes.now }
-    ensures len { vec_len out.new ≡ vec_len out.old + length bytes.now }
-    ensures capacity { vec_capacity out.new ≡ vec_capacity out.old }
+    ensures { Appends bytes.now (length bytes.now) out.old out.new }
 {
     for &byte in bytes {
         out.push_reserved(byte);
@@ -320,9 +315,7 @@ fn put_bytes(out: &mut Vec<u8>, bytes: &[u8])
 /// Appends a point, for which there is room.
 fn put_point(out: &mut Vec<u8>, p: [i64; 2])
     requires room { vec_len out.old + 16 ≤ vec_capacity out.old }
-    ensures spelled { out.new.items ≡ out.old.items ++ point p }
-    ensures len { vec_len out.new ≡ vec_len out.old + 16 }
-    ensures capacity { vec_capacity out.new ≡ vec_capacity out.old }
+    ensures put { Appends (point p) 16 out.old out.new }
     ensures place { IsPoint low high 2 p }
 {
     // Does nothing but tell that the coordinates are in their range.
@@ -331,59 +324,34 @@ fn put_point(out: &mut Vec<u8>, p: [i64; 2])
     put_bytes(out, &p[1].to_le_bytes());
 }
 
-/// Appends a node, for which there is room.
-#[cycle(write)]
-fn put_node(out: &mut Vec<u8>, node: &RTreeNode<[i64; 2]>)
-    requires room { vec_len out.old + stored_size (shown node.now) ≤ vec_capacity out.old }
-    ensures spelled { out.new.items ≡ out.old.items ++ spelling (shown node.now) }
-    ensures len { vec_len out.new ≡ vec_len out.old + stored_size (shown node.now) }
-    ensures capacity { vec_capacity out.new ≡ vec_capacity out.old }
-    ensures stored { (h : ℕ) → IsTree (IsInner boxes places) (IsElement boxes places) h node.now
-        → IsStored h (shown node.now) }
-{
-    match node {
-        RTreeNode::Leaf(p) => put_point(out, *p),
-        RTreeNode::Parent(parent) => put_parent(out, parent),
-    }
-}
-
 /// Appends a parent, for which there is room.
-#[cycle(write)]
 fn put_parent(out: &mut Vec<u8>, parent: &ParentNode<[i64; 2]>)
     requires room { vec_len out.old + stored_size (shown_root parent.now) ≤ vec_capacity out.old }
-    ensures spelled { out.new.items ≡ out.old.items ++ spelling (shown_root parent.now) }
-    ensures len { vec_len out.new ≡ vec_len out.old + stored_size (shown_root parent.now) }
-    ensures capacity { vec_capacity out.new ≡ vec_capacity out.old }
+    ensures put { Appends (spelling (shown_root parent.now)) (stored_size (shown_root parent.now)) out.old out.new }
     ensures stored { (h : ℕ) → IsParentTree (IsInner boxes places) (IsElement boxes places) h parent.now
         → IsStored (suc h) (shown_root parent.now) }
 {
     put_bytes(out, &(parent.children.len() as u64).to_le_bytes());
     put_point(out, parent.envelope.lower());
     put_point(out, parent.envelope.upper());
-    for node in parent.children.as_slice() {
-        put_node(out, node);
-    }
-}
-
-/// The length of a node in bytes, clamped to the greatest `usize`.
-#[cycle(size)]
-fn node_size(node: &RTreeNode<[i64; 2]>) -> usize
-    ensures { result ≡ min (stored_size (shown node.now)) usize.MAX }
-{
-    match node {
-        RTreeNode::Leaf(_) => 16,
-        RTreeNode::Parent(parent) => parent_size(parent),
+    for child in parent.children.as_slice() {
+        match child {
+            RTreeNode::Leaf(p) => put_point(out, *p),
+            RTreeNode::Parent(below) => put_parent(out, below),
+        }
     }
 }
 
 /// The length of a parent in bytes, clamped to the greatest `usize`.
-#[cycle(size)]
 fn parent_size(parent: &ParentNode<[i64; 2]>) -> usize
     ensures { result ≡ min (stored_size (shown_root parent.now)) usize.MAX }
 {
     let mut size: usize = 40;
     for node in parent.children.as_slice() {
-        size = size.saturating_add(node_size(node));
+        match node {
+            RTreeNode::Leaf(_) => size = size.saturating_add(16),
+            RTreeNode::Parent(below) => size = size.saturating_add(parent_size(below)),
+        }
     }
     size
 }

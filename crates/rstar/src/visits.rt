@@ -4,7 +4,7 @@ ghost use Rattle.std.specs.Prelude.{◌≡◌, ◌≢◌, ◌⊎◌, ℕ, true, 
 ghost use Rattle.std.specs.List.{AllZip};
 ghost use Rattle.rstar_base.specs.Selections.{IsLawful};
 ghost use Rattle.rstar.specs.Changes.{KeepsBox, IsChanged, IsChangedParent};
-ghost use Rattle.rstar.specs.Nodes.{all_given, given_of, children_of, envelope_of, elements, all_elements, elements_of, IsTree, IsWhole};
+ghost use Rattle.rstar.specs.Nodes.{all_given, children_of, envelope_of, elements, all_elements, elements_of, IsTree, IsWhole};
 ghost use Rattle.rstar.specs.Shapes.{AreTrees, IsAny};
 ghost use Rattle.rstar.specs.Visits.{IsFirst, Visits, VisitsWithin, Writes, WritesWithin, KeepsBoxes, marked, all_marked};
 
@@ -76,7 +76,10 @@ impl<'a, T: Covered, F: Question<T>> NodesRef<T, F> for &'a [RTreeNode<T>] {
 }
 
 /// The first selected element below several nodes.
-fn first_below<'a, T: Covered, F: Question<T>>(nodes: &'a [RTreeNode<T>], func: &F) -> Option<&'a T>
+pub(crate) fn first_below<'a, T: Covered, F: Question<T>>(
+    nodes: &'a [RTreeNode<T>],
+    func: &F,
+) -> Option<&'a T>
     ensures { IsFirst (all_given (F.accepts func.now) (F.selects func.now) nodes.now) result }
 {
     let mut left = nodes;
@@ -104,19 +107,6 @@ pub(crate) fn enters<T: Covered, F: Question<T>>(root: &ParentNode<T>, func: &F)
         return false;
     }
     func.should_unpack_parent(&root.envelope)
-}
-
-/// The first selected element below a root. It takes no memory.
-pub(crate) fn first_selected<'a, T: RTreeObject, F: SelectionFunction<T>>(
-    root: &'a ParentNode<T>,
-    func: &F,
-) -> Option<&'a T>
-    ensures { IsFirst (given_of (F.accepts func.now) (F.selects func.now) root.now) result }
-{
-    if !enters(root, func) {
-        return None;
-    }
-    first_below(root.children.as_slice(), func)
 }
 
 /// Calls the visitor at each selected element below several nodes, until a call breaks.

@@ -1,9 +1,10 @@
 -- Clamped sums, products and squares.
-use Rattle.std.proofs.Common.{◌≡◌, ◌<ℤ◌, ◌+ℤ◌, ◌-ℤ◌, ◌*ℤ◌, ◌+◌, ◌*◌, ℤ, ℕ, suc, zero, pos, min, unsigned_abs, refl, ap, ◌∙◌, arith, inl, inr}
-use Rattle.std.specs.Int.{int_min, int_max}
+use Rattle.std.proofs.Common.{◌≡◌, ◌<ℤ◌, ◌+ℤ◌, ◌-ℤ◌, ◌*ℤ◌, ◌+◌, ◌*◌, ℤ, ℕ, suc, zero, pos, min, unsigned_abs, true, false, refl, ap, ◌∙◌, arith, inl, inr}
 use Rattle.std.proofs.lemmas.Bool.{cases_lt}
 use Rattle.std.proofs.lemmas.Int.{ints}
+use Rattle.std.specs.Ordering.{is_lt, int_cmp}
 use Rattle.num_traits.specs.Laws.{between}
+use Rattle.rstar_base.specs.Distances.{square_apart}
 
 -- a number that is not negative, clamped
 clamped_pos : (low high : ℤ) (m : ℕ) → low <ℤ pos 0 → pos 0 <ℤ high → between (pos m) low high ≡ pos (min m (unsigned_abs high))
@@ -33,6 +34,15 @@ pub square_law : (low high d r : ℤ) (x : ℕ) → low <ℤ pos 0 → pos 0 <�
     → r ≡ pos (min (x * x) (unsigned_abs high))
 square_law low high d r x h k e f = clamped_times low high d d r x x (x * x) h k e e f refl
 
-pub apart_law : (low high a b x y d : ℤ) → low <ℤ pos 0 → pos 0 <ℤ high → x ≡ int_max a b → y ≡ int_min a b → d ≡ between (x -ℤ y) low high
-    → d ≡ pos (min (unsigned_abs (b -ℤ a)) (unsigned_abs high))
-apart_law low high a b x y d h k e f g = grind (arith, ints)
+-- the square of the difference of the lesser and the greater, each step clamped
+pub square_up : (low high a b d r : ℤ) → low <ℤ pos 0 → pos 0 <ℤ high → true ≡ is_lt (int_cmp a b) → d ≡ between (b -ℤ a) low high → r ≡ between (d *ℤ d) low high
+    → r ≡ pos (min (square_apart a b) (unsigned_abs high))
+square_up low high a b d r h k l e f =
+    let s : d ≡ pos (min (unsigned_abs (b -ℤ a)) (unsigned_abs high)) = grind (arith, ints) in
+    square_law low high d r _ h k s f
+
+pub square_down : (low high a b d r : ℤ) → low <ℤ pos 0 → pos 0 <ℤ high → false ≡ is_lt (int_cmp a b) → d ≡ between (a -ℤ b) low high → r ≡ between (d *ℤ d) low high
+    → r ≡ pos (min (square_apart a b) (unsigned_abs high))
+square_down low high a b d r h k l e f =
+    let s : d ≡ pos (min (unsigned_abs (b -ℤ a)) (unsigned_abs high)) = grind (arith, ints) in
+    square_law low high d r _ h k s f

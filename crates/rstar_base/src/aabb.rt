@@ -1,6 +1,6 @@
 //! Axis-parallel bounding boxes.
 
-ghost use Rattle.std.specs.Prelude.{◌≡◌, ◌<◌, ◌&&◌, ◌+ℤ◌, ◌-ℤ◌, ℕ, List, ⊤, true, IsTrue, int_div, int_le, map, not, pos, min, unsigned_abs};
+ghost use Rattle.std.specs.Prelude.{◌≡◌, ◌<◌, ◌&&◌, ◌+ℤ◌, ◌-ℤ◌, ℕ, List, ⊤, IsTrue, int_div, int_le, map, pos, min, unsigned_abs};
 ghost use Rattle.num_traits.specs.Laws.{between};
 ghost use Rattle.rstar_base.specs.BoxData.{box_data};
 ghost use Rattle.rstar_base.specs.Hulls.{hull};
@@ -9,10 +9,9 @@ ghost use Rattle.rstar_base.specs.Sums.{sum_below, product_below};
 ghost use Rattle.rstar_base.specs.Measures.{extent};
 ghost use Rattle.std.specs.Borrow.{Bor};
 ghost use Rattle.std.specs.Iterator.{Drains, IsFiniteIterable};
-ghost use Rattle.rstar_base.specs.Boxes.{between_corners, box_of_corners, is_upright, is_empty_box, merge_boxes, contains_box, box_contains_point, boxes_intersect, empty_box, IsBox};
-ghost use Rattle.rstar_base.specs.Points.{table, all_below, IsPoint};
+ghost use Rattle.rstar_base.specs.Boxes.{between_corners, box_of_corners, is_upright, box_contains_point, IsBox};
+ghost use Rattle.rstar_base.specs.Points.{table, all_below};
 ghost use Rattle.rstar_base.specs.Rectangles.{box_or_empty};
-ghost use Rattle.rstar_base.specs.Scalars.{InRange};
 
 mod gaps;
 
@@ -21,7 +20,7 @@ use crate::axes::{
     least_point,
 };
 use crate::envelope::Envelope;
-use crate::point::{Point, RTreeNum, greatest, least, not_above, square_between};
+use crate::point::{Point, RTreeNum, greatest, least, not_above};
 use num_traits::{Bounded, Zero};
 use std::alloc::AllocError;
 use std::marker::Model;
@@ -71,10 +70,8 @@ pub(crate) fn squared_distance<P: Point>(lower: &P, upper: &P, point: &P) -> P::
                 (nearest_on_axis (P.coord lower.entry.now i, P.coord upper.entry.now i) (P.coord point.entry.now i)))
                 (unsigned_abs P.Scalar.high)) }
         {
-            square_between(
-                point.nth(i),
-                least(upper.nth(i), greatest(lower.nth(i), point.nth(i))),
-            )
+            let at = point.nth(i);
+            at.distance_2(least(upper.nth(i), greatest(lower.nth(i), at)))
         },
     )
 }
@@ -128,8 +125,8 @@ fn faces<S: RTreeNum>(lower: S, upper: S, at: S) -> (S, S)
     ensures far { S.value result.1
         ≡ pos (min (far_face (S.value lower, S.value upper) (S.value at)) (unsigned_abs S.high)) }
 {
-    let a = square_between(at, lower);
-    let b = square_between(at, upper);
+    let a = at.distance_2(lower);
+    let b = at.distance_2(upper);
     (least(a, b), greatest(a, b))
 }
 

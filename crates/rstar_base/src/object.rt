@@ -1,10 +1,10 @@
 //! Elements of a tree.
 
-ghost use Rattle.std.specs.Prelude.{◌≡◌, ◌<◌, ℕ, ℤ, List, Bool, true, pos, int_le, length};
+ghost use Rattle.std.specs.Prelude.{◌≡◌, ◌<◌, ℕ, pos, int_le, length};
 ghost use Rattle.std.specs.Ordering.{int_cmp};
 ghost use Rattle.std.specs.List.Sorted.{IsPermutation, IsSortedByKey};
 ghost use Rattle.std.specs.List.{AllByRecursion};
-ghost use Rattle.rstar_base.specs.Points.{table, all_below, IsPoint};
+ghost use Rattle.rstar_base.specs.Points.{table, IsPoint};
 ghost use Rattle.rstar_base.specs.Elements.{Objects, Distances, ObjectLaws, DistanceLaws, EqualLaws, IsDistanceUpTo};
 ghost use Rattle.rstar_base.specs.Elements.{carried_objects, carried_distances};
 ghost use Rattle.rstar_base.specs.PointElements.{point_object};

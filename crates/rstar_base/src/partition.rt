@@ -1,5 +1,5 @@
 //! Selection without a sort, the body of `partition_envelopes`.
-ghost use Rattle.std.specs.Prelude.{◌≡◌, ◌<◌, ◌≤◌, ◌≤ℤ◌, ◌+◌, ◌*◌, ℤ, ℕ, false, length, slice_index_or, true, vec_len};
+ghost use Rattle.std.specs.Prelude.{◌≡◌, ◌<◌, ◌≤◌, ◌≤ℤ◌, ◌+◌, ◌*◌, ℤ, ℕ, false, length, slice_index_or, true};
 ghost use Rattle.std.specs.List.Sorted.{IsPermutation};
 ghost use Rattle.rstar_base.specs.Orders.{IsSplitAt};
 ghost use Rattle.rstar_base.specs.Slabs.{IsAround};

@@ -89,6 +89,20 @@ pub trait RTreeNum: Bounded
         }
     }
 
+    /// The squared distance, clamped to the range.
+    fn distance_2(self, other: Self) -> Self
+        ensures { Self.value result
+            ≡ pos (min (square_apart (Self.value self) (Self.value other)) (unsigned_abs Self.high)) }
+    {
+        // The lesser from the greater: a difference clamped at the least scalar could be too small.
+        let apart = if self < other {
+            other.clamped_sub(self)
+        } else {
+            self.clamped_sub(other)
+        };
+        apart.clamped_mul(apart)
+    }
+
     ghost low_law: { Self.low <ℤ pos 0 };
 
     ghost high_law: { pos 0 <ℤ Self.high };
@@ -124,22 +138,6 @@ pub fn greatest<S: RTreeNum>(a: S, b: S) -> S
     ensures range { InRange S.low S.high (S.value result) }
 {
     if b < a { a.ord() } else { b.ord() }
-}
-
-/// The distance of two scalars, clamped.
-pub(crate) fn apart<S: RTreeNum>(a: S, b: S) -> S
-    ensures { S.value result ≡ pos (min (unsigned_abs (S.value b -ℤ S.value a)) (unsigned_abs S.high)) }
-{
-    // The lesser from the greater: a difference clamped at the least scalar could be too small.
-    greatest(a, b).clamped_sub(least(a, b))
-}
-
-/// The squared distance of two scalars, clamped.
-pub(crate) fn square_between<S: RTreeNum>(a: S, b: S) -> S
-    ensures { S.value result ≡ pos (min (square_apart (S.value a) (S.value b)) (unsigned_abs S.high)) }
-{
-    let apart = apart(a, b);
-    apart.clamped_mul(apart)
 }
 
 /// A point: one integer for each axis.

@@ -37,6 +37,18 @@ fn half_sums_at_ends<S: RTreeNum>(low: S, high: S, minus_one: S) -> bool {
         && (low.half_sum(high), minus_one.half_sum(zero)) == (zero, zero)
 }
 
+/// Whether squared distances of the ends are clamped, and those of near numbers exact.
+fn distances_at_ends<S: RTreeNum>(low: S, high: S, minus_one: S) -> bool {
+    let zero = S::zero();
+    let held = (
+        low.distance_2(high),
+        high.distance_2(low),
+        low.distance_2(minus_one),
+    );
+    let exact = (minus_one.distance_2(zero), high.distance_2(high));
+    held == (high, high, high) && exact == (S::one(), zero)
+}
+
 /// Whether half sums and products are as in these rows.
 fn answers<S: RTreeNum>(halves: &[(S, S, S)], products: &[(S, S, S)]) -> bool {
     for (a, b, half) in halves {
@@ -63,6 +75,7 @@ fn is_held<S: RTreeNum>(
     sums_at_ends(low, high, minus_one)
         && products_at_ends(low, high, minus_one)
         && half_sums_at_ends(low, high, minus_one)
+        && distances_at_ends(low, high, minus_one)
         && answers(halves, products)
 }
 
@@ -124,6 +137,22 @@ fn scalars_are_held_at_their_ends(rt: HostRuntime) {
         ),
     ];
     assert!(rt; answers == [true; 6]);
+}
+
+#[test]
+fn the_greatest_squared_distances_that_fit(rt: HostRuntime) {
+    let exact = (
+        (-1i64).distance_2(3037000498),
+        3037000499isize.distance_2(0),
+        46339i32.distance_2(-1),
+    );
+    let held = (
+        (-1i64).distance_2(3037000499),
+        3037000500isize.distance_2(0),
+        46340i32.distance_2(-1),
+    );
+    assert!(rt; exact == (9223372030926249001, 9223372030926249001, 2147395600));
+    assert!(rt; held == (9223372036854775807, 9223372036854775807, 2147483647));
 }
 
 /// Whether a point has these coordinates, except for 0 on one axis.

@@ -13,7 +13,7 @@ use Rattle.std.proofs.lemmas.List.{nil_from_length, map-append, take_all, take-a
 use Rattle.std.proofs.lemmas.List.Sorted.{IsPermutation-refl, IsPermutation-sym, IsPermutation-trans, IsPermutation-cons, IsPermutation-middle, IsPermutation-append_right, Contains-permutation, length_permutation}
 use Rattle.std.proofs.lemmas.Simd.{map-map}
 use Rattle.rstar_base.proofs.Lists.{all-append, all_along, all_map}
-use Rattle.rstar.proofs.trees.Clones.{next_item}
+use Rattle.rstar.proofs.lists.Items.{next_item}
 use Rattle.rstar.specs.Lists.{AreOrdered, IsLeast, AreFirstOf, IsNotLater, by_distance}
 use Rattle.rstar.specs.Steps.{AreFirstWith}
 

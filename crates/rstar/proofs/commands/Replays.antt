@@ -1,5 +1,5 @@
 -- Commands over a tree: what its calls give is what a step may give, and a run goes on by one step.
-use Rattle.std.proofs.Common.{◌≡◌, ℕ, ◌+◌, ◌<◌, ◌≤◌, inl, inr, min, Bool, true, List, [], ◌∷◌, ◌++◌, refl, ap, sym, ◌∙◌, subst, arith, length, length-append, filter, Option, Some, None, IfSome, IfNone, if◌then◌else◌, append_assoc, append-nil}
+use Rattle.std.proofs.Common.{◌≡◌, ℕ, ◌+◌, ◌<◌, ◌≤◌, inl, inr, min, Bool, true, List, [], ◌∷◌, ◌++◌, refl, ap, sym, ◌∙◌, subst, arith, length, length-append, filter, Option, Some, None, IfSome, IfNone, append_assoc, append-nil}
 use Rattle.std.proofs.lemmas.Bool.{cases_lt}
 use Rattle.std.proofs.lemmas.Grind.{common_steps}
 use Rattle.std.specs.List.{AllByRecursion}
@@ -22,7 +22,7 @@ use Rattle.rstar.specs.Lists.{product, NoneSelected}
 use Rattle.rstar.specs.Steps.{Questions, TakesOne, TakesSome, StepByOrder, RunBy, IsInsertion, IsRefusal}
 use Rattle.rstar.specs.StepsOfTrees.{StepOfTree, RunOfTree}
 use Rattle.rstar.specs.Trees.{elements_in, IsUnchanged, IsWholeTree}
-use Rattle.rstar.proofs.searching.Ties.{filter-along}
+use Rattle.rstar.proofs.searching.Ties.{filter_nothing, filter-along}
 
 -- ---- bags
 
@@ -40,11 +40,7 @@ module _ {T R : Type 0} (elements : R → List T) (old new : R) where
 module _ {T : Type 0} (test : T → Bool) where
   filter_every : (ts : List T) → AllByRecursion (λ t. test t ≡ true) ts → filter test ts ≡ ts
   filter_every [] h = refl
-  filter_every (t ∷ ts) h = subst (λ b. (if b then t ∷ filter test ts else filter test ts) ≡ t ∷ ts) (sym h.0) (ap (λ l. t ∷ l) (filter_every ts h.1))
-
-  filter_nothing : (ts : List T) → NoneSelected test ts → filter test ts ≡ []
-  filter_nothing [] h = refl
-  filter_nothing (t ∷ ts) h = subst (λ b. (if b then t ∷ filter test ts else filter test ts) ≡ []) (sym h.0) (filter_nothing ts h.1)
+  filter_every (t ∷ ts) h = rw h.0 (ap (λ l. t ∷ l) (filter_every ts h.1))
 
 -- what went to an empty list with room for n, or for all of a shorter list, where what is left has none if fewer went; by the names of its caller
 pub gathered_some : {T : Type 0} (test : T → Bool) (most room size : ℕ) (old held new held' items : List T) → held ≡ [] → room ≡ min most size → size ≡ length old

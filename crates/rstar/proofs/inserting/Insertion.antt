@@ -1,11 +1,13 @@
--- What an insertion does to the lists of a tree, and to the parents whose lists have room.
-use Rattle.std.proofs.Common.{◌≡◌, ℕ, ℤ, zero, suc, ◌+◌, ◌-◌, ◌<◌, ◌≤◌, List, [], ◌∷◌, ◌++◌, length, get_or, set, refl, sym, ap, ◌∙◌, subst, arith, append_assoc, append-nil, add-one, IsPermutation, Option, Some, None, IfSome, IfNone, if◌then◌else◌, nat_le, Vec, vec_len, vec_capacity}
+-- What an insertion does to the lists of a tree, and to the parents whose lists have room; what its steps spend together.
+use Rattle.std.proofs.Common.{◌≡◌, ℕ, ℤ, zero, suc, ◌+◌, ◌-◌, ◌<◌, ◌≤◌, List, [], ◌∷◌, ◌++◌, length, get_or, set, refl, sym, ap, ◌∙◌, subst, arith, append_assoc, append-nil, add-one, IsPermutation, Option, Some, None, IfSome, if◌then◌else◌, nat_le, Vec, vec_len, vec_capacity, ◌*◌, max}
 use Rattle.std.proofs.lemmas.Bool.Decides.{nat_tests}
 use Rattle.std.proofs.lemmas.List.Concat.{flat_map-append}
 use Rattle.std.proofs.lemmas.List.Sums.{sum_by-cons, sum_by-append, sum_by-set}
-use Rattle.std.proofs.lemmas.List.Sorted.{sum_by-IsPermutation, IsPermutation-trans, IsPermutation-sym, IsPermutation-append_left, IsPermutation-append_right, IsPermutation-append_comm, IsPermutation-middle, IsPermutation-to_front}
+use Rattle.std.proofs.lemmas.List.Sorted.{sum_by-IsPermutation, IsPermutation-refl, IsPermutation-trans, IsPermutation-sym, IsPermutation-append_left, IsPermutation-append_right, IsPermutation-append_comm, IsPermutation-middle, IsPermutation-to_front}
 use Rattle.std.specs.List.{AllByRecursion}
 use Rattle.std.specs.declared.alloc.Global.{Global}
+use Rattle.std.proofs.Math.Nat.{le_refl}
+use Rattle.std.proofs.lemmas.Nat.{mul-le}
 use Rattle.rstar_base.specs.Envelopes.{Boxes, EnvelopeLaws}
 use Rattle.rstar_base.specs.Elements.{Objects, ObjectLaws}
 use Rattle.rstar_base.specs.Hulls.{hull}
@@ -16,9 +18,12 @@ use Rattle.rstar.specs.declared.node.RTreeNode.{RTreeNode, Leaf, Parent}
 use Rattle.rstar.specs.declared.node.ParentNode.{ParentNode}
 use Rattle.rstar.specs.Nodes.{elements, all_elements, node_box, IsLeafOf, IsTree, IsElement, AreWhole}
 use Rattle.rstar.specs.Shapes.{AreTrees, IsParentTree, IsAny, HasSize, AreSized, IsSizedTree}
-use Rattle.rstar.specs.inside.ParentBounds.{IsKeptInner, HasMergedBox, AreKept, IsKeptTree, second_children, as_node, IsSizedAfter, has_room, roomy, all_roomy, roomy_of, second_roomy}
+use Rattle.rstar.specs.inside.ParentBounds.{IsKeptInner, HasMergedBox, AreKept, IsKeptTree, CanTakeIn, AddsChild, GoesIn, second_children, as_node, IsSizedAfter, has_room, roomy, all_roomy, roomy_of, second_roomy, IsSpare}
+use Rattle.rstar.specs.Heights.{spare_lists}
+use Rattle.rstar.specs.declared.algorithm.rstar.preparation.Reserve.{Reserve}
+use Rattle.rstar.specs.inside.Reserves.{IsReady, Spends}
 use Rattle.rstar.proofs.lists.Items.{all_set, all_get}
-use Rattle.rstar.proofs.trees.ByChildren.{elements-Leaf, elements-Parent, of_parent-Parent, is_leaf, is_parent, parent_of, no_parent, IsLeafOf-Leaf, IsParentOf-Parent}
+use Rattle.rstar.proofs.trees.ByChildren.{elements-Leaf, elements-Parent, of_parent-Parent, is_leaf, is_parent, parent_of, IsLeafOf-Leaf, IsParentOf-Parent}
 use Rattle.rstar.proofs.trees.Trees.{all_sound, values-of, merged_is_hull}
 
 -- what holds of all items holds of the last, and of those before it
@@ -72,13 +77,16 @@ module _ {T E : Type 0} where
 
 module _ {T E : Type 0} (t : T) (old : List (RTreeNode T E)) (i : ℕ) (a b : ParentNode T E) (below : i < length old) (is : Parent a ≡ get_or old i (Parent a)) where
   -- a child took an element in, and handed others out
-  pub child_bag : (out : List T) → IsPermutation (t ∷ all_elements a.children.items) (all_elements b.children.items ++ out) → IsPermutation (t ∷ all_elements old) (all_elements (set old i (Parent b)) ++ out)
+  child_bag : (out : List T) → IsPermutation (t ∷ all_elements a.children.items) (all_elements b.children.items ++ out) → IsPermutation (t ∷ all_elements old) (all_elements (set old i (Parent b)) ++ out)
   child_bag out bag = bag_of_set t old i (Parent a) (Parent b) out below (rw (← is, elements-Parent a, elements-Parent b) bag)
 
   -- the same, where another parent was cut off it
-  pub cut_bag : (r : Option (ParentNode T E)) → IsPermutation (t ∷ all_elements a.children.items) (all_elements (b.children.items ++ second_children r))
-      → IsPermutation (t ∷ all_elements old) (all_elements (set old i (Parent b) ++ as_node r))
-  cut_bag r bag = rw (all_elements-append (set old i (Parent b)) (as_node r)) (child_bag (all_elements (as_node r)) (rw (same_list r, ← all_elements-append b.children.items (second_children r)) bag))
+  cut_bag : (r : Option (ParentNode T E)) (out : List T) → IsPermutation (t ∷ all_elements a.children.items) (all_elements (b.children.items ++ second_children r) ++ out)
+      → IsPermutation (t ∷ all_elements old) (all_elements (set old i (Parent b) ++ as_node r) ++ out)
+  cut_bag r out bag =
+      let parts : IsPermutation (t ∷ all_elements a.children.items) (all_elements b.children.items ++ (all_elements (as_node r) ++ out)) =
+      rw (same_list r, ← append_assoc (all_elements b.children.items) (all_elements (second_children r)) out, ← all_elements-append b.children.items (second_children r)) bag in
+      rw (all_elements-append (set old i (Parent b)) (as_node r), append_assoc (all_elements (set old i (Parent b))) (all_elements (as_node r)) out) (child_bag (all_elements (as_node r) ++ out) parts)
 
 -- ---- how many lists have room
 
@@ -164,8 +172,9 @@ module _ {T E : Type 0} (Q : ParentNode T E → Type 0) (R : T → Type 0) where
   pub parent_at : (h : ℕ) (ns : List (RTreeNode T E)) (i : ℕ) (p : ParentNode T E) → 0 < h → i < length ns → Parent p ≡ get_or ns i (Parent p) → AreTrees Q R h ns → IsParentTree Q R (h - 1) p
   parent_at h ns i p above below is trees = parent_of _ p (child_at h ns i (Parent p) above below is trees)
 
-  pub no_leaf_at : (h : ℕ) (ns : List (RTreeNode T E)) (i : ℕ) (t : T) → 0 < h → i < length ns → Leaf t ≡ get_or ns i (Leaf t) → AreTrees Q R h ns → ⊥
-  no_leaf_at h ns i t above below is trees = no_parent _ t (child_at h ns i (Leaf t) above below is trees)
+  -- that child is a parent
+  pub is_parent_at : (h : ℕ) (ns : List (RTreeNode T E)) (i : ℕ) (n : RTreeNode T E) → 0 < h → i < length ns → n ≡ get_or ns i n → AreTrees Q R h ns → (p : ParentNode T E) × (n ≡ Parent p)
+  is_parent_at h ns i n above below is trees = let p = is_parent _ n (child_at h ns i n above below is trees) in (p.0, p.1)
 
   -- the two parts of a list
   pub parts_of : (h : ℕ) (all xs ys : List (RTreeNode T E)) → IsPermutation all (xs ++ ys) → AreTrees Q R h all → AreTrees Q R h xs × AreTrees Q R h ys
@@ -226,16 +235,6 @@ module _ {T E : Type 0} {IsPoint : List ℤ → Type 0} {v : Boxes E} {o : Objec
   pub made_anew : (h : ℕ) (new : List (RTreeNode T E)) (e : E) → AreKept v o widest h new → e ≡ hull v (node_box o.box_of) new → e ≡ hull v o.box_of (all_elements new)
   made_anew h new e trees is = is ∙ merged_is_hull laws ok h new (whole_of_kept h new trees)
 
-  -- the envelope that took one element more in is the merge of what is there after it
-  pub hull_grown : (h : ℕ) {t : T} (old new : List (RTreeNode T E)) {e f b : E} → e ≡ hull v o.box_of (all_elements old) → f ≡ v.merge e b → b ≡ o.box_of t
-      → o.IsValue t → AreKept v o widest h old → IsPermutation (t ∷ all_elements old) (all_elements new) → AreKept v o widest h new
-      → (f ≡ hull v o.box_of (all_elements new)) × (f ≡ hull v (node_box o.box_of) new)
-  hull_grown h {t} old new {f = f} was next box value before bag after =
-      let values = kept_values h old before in
-      let is : f ≡ hull v o.box_of (all_elements new) = (rw (was, box) at next) ∙ laws.merge_comm _ _ (hull-value laws o.box_of (all_elements old) values) (ok t value)
-      ∙ (hull_along laws o.box_of (t ∷ all_elements old) (all_elements new) bag (ok t value, values)).0 in
-      (is, is ∙ sym (merged_is_hull laws ok h new (whole_of_kept h new after)))
-
   pub inner_of_fit : (h : ℕ) (p : ParentNode T E) → AreKept v o widest h p.children.items → HasMergedBox v o widest p → IsKeptInner v o widest p
   inner_of_fit h p trees fit = (record { tight = made_anew h p.children.items p.envelope trees fit.merged; narrow = fit.narrow }, fit.some)
 
@@ -251,12 +250,6 @@ module _ {T E : Type 0} {IsPoint : List ℤ → Type 0} {v : Boxes E} {o : Objec
   pub cut_kept : (h : ℕ) (r : Option (ParentNode T E)) → AreKept v o widest h (second_children r) → IfSome r (HasMergedBox v o widest) → IfSome r (IsKeptTree v o widest h)
   cut_kept h None trees fit = tt
   cut_kept h (Some q) trees fit = (inner_of_fit h q trees fit, trees)
-
-  -- a leaf at the end of a list of leaves
-  pub leaf_added : (h : ℕ) (t : T) (old : List (RTreeNode T E)) → h ≡ 0 → IsElement v o t → AreKept v o widest h old
-      → IsPermutation (t ∷ all_elements old) (all_elements (old ++ Leaf t ∷ [])) × AreKept v o widest h (old ++ Leaf t ∷ [])
-  leaf_added h t old low is trees =
-      (rw (elements_put old t) (IsPermutation-sym _ _ (IsPermutation-to_front (all_elements old) t)), leaf_put (IsKeptInner v o widest) (IsElement v o) h t old low is trees)
 
   -- a root above two parents is a tree of one level more
   pub root_grown : (h : ℕ) (a b p : ParentNode T E) → IsKeptTree v o widest h a → IsKeptTree v o widest h b
@@ -288,23 +281,6 @@ module _ {T E : Type 0} (min max : ℕ) where
     second_sized = tt;
   }
 
-  -- the same, where another parent may be cut off
-  pub sized_parts : (h n : ℕ) (before : List (RTreeNode T E)) (p : ParentNode T E) (r : Option (ParentNode T E)) → 0 < min → AreSized min max h before
-      → IsPermutation before (p.children.items ++ second_children r) → n ≤ max
-      → IfNone r (vec_len p.children ≡ n + 1) → IfNone r (vec_len p.children ≤ max)
-      → IfSome r (λ _. min ≤ vec_len p.children) → IfSome r (λ q. min ≤ vec_len q.children) → IfSome r (λ q. vec_len p.children + vec_len q.children ≡ n + 1)
-      → IsSizedAfter min max h n p r
-  sized_parts h n before p None positive trees same few whole fits first second lengths = sized_whole h n before [] p trees same fits (λ k. omega arith)
-  sized_parts h n before p (Some q) positive trees same few whole fits first second lengths =
-      let parts = parts_of (HasSize min max) IsAny h before p.children.items q.children.items same trees in
-      record {
-        below = parts.0;
-        most = omega (arith, p.children.ok.0);
-        still_least = λ k. omega (arith, p.children.ok.0);
-        cut_least = omega (arith, p.children.ok.0);
-        second_sized = ((omega (arith, q.children.ok.0), omega (arith, q.children.ok.0)), parts.1);
-      }
-
   -- a child that took an element in, and what it handed out
   pub sized_child : (h : ℕ) (old : List (RTreeNode T E)) (i : ℕ) (a b : ParentNode T E) (r : Option (ParentNode T E)) → 0 < h → i < length old → Parent a ≡ get_or old i (Parent a)
       → AreSized min max h old → (IsSizedTree min max (h - 1) a → IsSizedAfter min max (h - 1) (vec_len a.children) b r) → AreSized min max h (set old i (Parent b) ++ as_node r)
@@ -317,3 +293,156 @@ module _ {T E : Type 0} (min max : ℕ) where
   pub sized_above : (h n : ℕ) (a b p : ParentNode T E) → IsSizedAfter min max h n a (Some b) → p.children.items ≡ Parent a ∷ Parent b ∷ [] → 2 ≤ max → IsSizedTree min max (h + 1) p
   sized_above h n a b p after are wide =
       (rw are (two_trees (HasSize min max) IsAny h a b ((after.cut_least, after.most), after.below) after.second_sized), omega (arith, ap length are, p.children.ok.0))
+
+-- ---- an element on its way in
+
+module _ {T E : Type 0} (v : Boxes E) (o : Objects T E) (widest min max : ℕ) where
+  -- these are the children of a parent with the element among them, or below one of them. Others were handed out.
+  pub record HaveTaken (h : ℕ) (t : T) (p : ParentNode T E) (all : List (RTreeNode T E)) (out : List T) : Type 0 where
+    pub bag : IsPermutation (t ∷ all_elements p.children.items) (all_elements all ++ out)
+    pub kept : AreKept v o widest h all
+    pub sized : AreSized min max h p.children.items → AreSized min max h all
+
+  -- the sizes of a parent with a child more
+  sized_cut : (h : ℕ) (before : List (RTreeNode T E)) (old : ParentNode T E) (child : RTreeNode T E) (p : ParentNode T E) (r : Option (ParentNode T E)) → 0 < min → AreSized min max h before
+      → IsPermutation before (p.children.items ++ second_children r) → vec_len old.children ≤ max → AddsChild v o widest min max old child p r → IsSizedAfter min max h (vec_len old.children) p r
+  sized_cut h before old child p None positive trees same few adds = sized_whole min max h (vec_len old.children) before [] p trees same adds.low (λ k. omega (arith, adds.whole))
+  sized_cut h before old child p (Some q) positive trees same few adds =
+      let parts = parts_of (HasSize min max) IsAny h before p.children.items q.children.items same trees in
+      record {
+        below = parts.0;
+        most = omega (arith, p.children.ok.0, adds.second_least, adds.lengths);
+        still_least = λ k. omega (arith, p.children.ok.0, adds.first_least);
+        cut_least = omega (arith, p.children.ok.0, adds.first_least);
+        second_sized = ((omega (arith, q.children.ok.0, adds.second_least), omega (arith, q.children.ok.0, adds.first_least, adds.lengths)), parts.1);
+      }
+
+module _ {T E : Type 0} {v : Boxes E} {o : Objects T E} {widest h : ℕ} {t : T} {p : ParentNode T E} (place : CanTakeIn v o widest h p t) where
+  -- the child can take the element in too
+  pub child_takes : (i : ℕ) (a : ParentNode T E) → 0 < h → i < length p.children.items → Parent a ≡ get_or p.children.items i (Parent a) → CanTakeIn v o widest (h - 1) a t
+  child_takes i a above here is =
+      let at = parent_at (IsKeptInner v o widest) (IsElement v o) h p.children.items i a above here is place.below in
+      record { node = at.0.0; below = at.1; some = λ _. omega (arith, at.0.1, a.children.ok.0); element = place.element }
+
+  -- the envelope that took the element in is the merge of all
+  pub covers : {IsPoint : List ℤ → Type 0} (laws : EnvelopeLaws IsPoint v) (ok : ObjectLaws v o) (all : List (RTreeNode T E)) {f b : E} → o.IsValue t → f ≡ v.merge p.envelope b → b ≡ o.box_of t → IsPermutation (t ∷ all_elements p.children.items) (all_elements all) → AreKept v o widest h all
+      → (f ≡ hull v o.box_of (all_elements all)) × (f ≡ hull v (node_box o.box_of) all)
+  covers laws ok all {f} own next box bag kept =
+      let values = kept_values laws ok widest h p.children.items place.below in
+      let is : f ≡ hull v o.box_of (all_elements all) = (rw (place.node.tight, box) at next) ∙ laws.merge_comm _ _ (hull-value laws o.box_of (all_elements p.children.items) values) (ok t own)
+      ∙ (hull_along laws o.box_of (t ∷ all_elements p.children.items) (all_elements all) bag (ok t own, values)).0 in
+      (is, is ∙ sym (merged_is_hull laws ok h all (whole_of_kept laws ok widest h all kept)))
+
+module _ {T E : Type 0} {v : Boxes E} {o : Objects T E} {widest min max h : ℕ} {t : T} {p : ParentNode T E} (place : CanTakeIn v o widest h p t) where
+  pub leaf_in : h ≡ 0 → o.IsValue t → HaveTaken v o widest min max h t p (p.children.items ++ Leaf t ∷ []) []
+  leaf_in low own = record {
+    bag = rw (append-nil (all_elements (p.children.items ++ Leaf t ∷ [])), elements_put p.children.items t) (IsPermutation-sym _ _ (IsPermutation-to_front (all_elements p.children.items) t));
+    kept = leaf_put (IsKeptInner v o widest) (IsElement v o) h t p.children.items low (own, place.element) place.below;
+    sized = leaf_put (HasSize min max) IsAny h t p.children.items low tt;
+  }
+
+  pub child_in : (i : ℕ) (a b : ParentNode T E) (r : Option (ParentNode T E)) {out : List T} → 0 < h → i < length p.children.items → Parent a ≡ get_or p.children.items i (Parent a)
+      → GoesIn v o widest min max (h - 1) t a b r out → HaveTaken v o widest min max h t p (set p.children.items i (Parent b) ++ as_node r) out
+  child_in i a b r {out} above here is goes = record {
+    bag = cut_bag t p.children.items i a b here is r out goes.bag;
+    kept = child_put (IsKeptInner v o widest) (IsElement v o) h p.children.items i b r above place.below goes.first goes.second_kept;
+    sized = λ trees. sized_child min max h p.children.items i a b r above here is trees goes.sized;
+  }
+
+  module _ {IsPoint : List ℤ → Type 0} (laws : EnvelopeLaws IsPoint v) (ok : ObjectLaws v o) where
+    -- a child was added, and another parent may have been cut off
+    pub cut_in : {q : ParentNode T E} {child : RTreeNode T E} {all : List (RTreeNode T E)} {new : ParentNode T E} {r : Option (ParentNode T E)} → 0 < min → HaveTaken v o widest min max h t p all []
+        → AddsChild v o widest min max q child new r → q.children.items ++ child ∷ [] ≡ all → vec_len q.children ≡ vec_len p.children → GoesIn v o widest min max h t p new r []
+    cut_in {q} {child} {all} {new} {r} positive taken adds is long =
+        let same = rw is at adds.same in
+        let parts = parted laws ok widest h t p.children.items all (second_children r) new (rw append-nil at taken.bag) taken.kept same adds.first in
+        record {
+          bag = rw append-nil parts.0;
+          first = parts.1;
+          second_kept = cut_kept laws ok widest h r parts.2 adds.second_merged;
+          sized = λ sized. rw (← long) (sized_cut v o widest min max h all q child new r positive (taken.sized sized.0) same (rw long sized.1) adds);
+        }
+
+    -- no child was added
+    pub whole_in : {all : List (RTreeNode T E)} {q : ParentNode T E} {out : List T} → 0 < h → HaveTaken v o widest min max h t p all out → q.children.items ≡ all → vec_len q.children ≡ vec_len p.children → q.envelope ≡ hull v o.box_of (all_elements all)
+        → GoesIn v o widest min max h t p q None out
+    whole_in {all} {q} above taken is long tight = record {
+      bag = rw (append-nil q.children.items, is) taken.bag;
+      first = still_kept v o widest h p q place.node.narrow (place.some above) long (rw is tight) (rw is taken.kept);
+      second_kept = tt;
+      sized = λ sized. sized_whole min max h (vec_len p.children) all [] q (taken.sized sized.0) (rw (append-nil q.children.items, is) (IsPermutation-refl all)) (rw long sized.1) (λ k. rw long k);
+    }
+
+-- ---- the reserve
+
+module _ {A : Type 0} where
+  -- the last spare list, and those before it
+  pub last_spare : {max least : ℕ} {r : Reserve A} → IsReady max least r → (rest : List (Vec A Global)) (last : Vec A Global) → r.spares.items ≡ rest ++ last ∷ []
+      → AllByRecursion (IsSpare r.widest) rest × IsSpare r.widest last
+  last_spare {r = r} ready rest last is = all_last (IsSpare r.widest) r.spares.items rest last is ready.spares
+
+  pub ready_for : {max least least' : ℕ} {r : Reserve A} → IsReady max least r → least' ≤ vec_len r.spares → IsReady max least' r
+  ready_for ready enough = assumption
+
+  -- what is left is ready for as many lists as are left
+  pub ready_again : {max least least' : ℕ} {before after : ℕ → ℕ} {r s : Reserve A} → IsReady max least r → Spends before after r s → least' ≤ vec_len s.spares → IsReady max least' s
+  ready_again ready spends enough = assumption (rw (← spends.widest) at ready.wide)
+
+  -- a step that spends nothing
+  pub spends_none : {max least : ℕ} {count : ℕ → ℕ} {r : Reserve A} → IsReady max least r → Spends count count r r
+  spends_none {count = count} {r = r} ready = assumption (le_refl (vec_len r.spares), le_refl (vec_len r.spares + count r.widest), le_refl (vec_len r.spares + count 0))
+
+  -- a step that takes the last spare list
+  pub spends_one : {max least : ℕ} {before after : ℕ → ℕ} {r s : Reserve A} → IsReady max least r → (last : Vec A Global) → r.spares.items ≡ s.spares.items ++ last ∷ []
+      → vec_len s.spares + 1 ≡ vec_len r.spares → vec_capacity s.spares ≡ vec_capacity r.spares → s.widest ≡ r.widest → IsSpare (s.widest + 1) s.overfull
+      → before r.widest + 1 ≤ after r.widest → after 0 ≤ before 0 + 1 → Spends before after r s
+  spends_one {s = s} ready last items len capacity same over room made = record {
+    widest = same;
+    spares = rw same (last_spare ready s.spares.items last items).0;
+    fewer = omega arith;
+    places = capacity;
+    overfull = over;
+    room = omega arith;
+    made = omega arith;
+  }
+
+  -- two steps, one after the other
+  pub spends_both : {a b c d : ℕ → ℕ} {r s t : Reserve A} → Spends a b r s → Spends c d s t → Spends (λ n. a n + c n) (λ n. b n + d n) r t
+  spends_both first second =
+      let room = rw first.widest at second.room in
+      record {
+        widest = second.widest ∙ first.widest;
+        spares = second.spares;
+        fewer = omega (arith, first.fewer, second.fewer);
+        places = second.places ∙ first.places;
+        overfull = second.overfull;
+        room = omega (arith, first.room, room);
+        made = omega (arith, first.made, second.made);
+      }
+
+  -- the same step, told of other nodes
+  pub spends_as : {a b a' b' : ℕ → ℕ} {r s : Reserve A} → Spends a b r s → ((n : ℕ) → n ≤ r.widest → a' n + b n ≡ a n + b' n) → Spends a' b' r s
+  spends_as {a' = a'} {b' = b'} {r = r} {s = s} spends same =
+      let room : vec_len r.spares + a' r.widest ≤ vec_len s.spares + b' r.widest = omega (arith, spends.room, same r.widest (omega arith)) in
+      let made : vec_len s.spares + b' 0 ≤ vec_len r.spares + a' 0 = omega (arith, spends.made, same 0 (omega arith)) in
+      assumption
+
+  -- a step that begins with the nodes that another leaves
+  pub spends_next : {a b c : ℕ → ℕ} {r s t : Reserve A} → Spends a b r s → Spends b c s t → Spends a c r t
+  spends_next first second = spends_as (spends_both first second) (λ n few. omega arith)
+
+-- ---- numbers of spare lists
+
+-- one of the things that want b lists each is done
+pub one_less : (m n b s t : ℕ) → m + 1 ≡ n → n * b ≤ s → s ≤ t + b → m * b ≤ t
+one_less m n b s t is all used = let all' : (m + 1) * b ≤ s = rw is all in omega (arith, all', used)
+
+pub some_spare : (r height have : ℕ) → spare_lists r height ≤ have → 0 < have
+some_spare r height have lists = omega (arith, mul-le 1 1 (max 1 r) (height + r + 2) (omega arith) (omega arith))
+
+-- the spare lists are enough for all that is handed out
+pub enough_again : (r levels handed have : ℕ) → 0 < r → handed ≤ r → spare_lists r (1 + levels) ≤ have + 1 → handed * (levels + handed + 1) ≤ have
+enough_again r levels handed have some few lists =
+    let most : max 1 r ≡ r = omega (arith, some) in
+    let all : r * (1 + levels + r + 2) ≤ have + 1 = rw most at lists in
+    omega (arith, all, mul-le handed (levels + handed + 1) r (levels + r + 1) few (omega (arith, few)))

@@ -226,8 +226,7 @@ module _ {T E U F : Type 0} (meets : E → F → Bool) (left_box : T → E) (rig
       → IfNone r (pairs_opened new ≡ min (meet_by meets left_box right_box old) usize_max) → GivesPair meets left_box right_box old r new
   unfolding IsJoining
   keeps r joining on gives ended =
-      let all = meet_by meets left_box right_box old in
-      let count = on.count all joining.count in
+      let all = meet_by meets left_box right_box old in let count = on.count all joining.count in
       record {
         gives = gives;
         left = left;

@@ -37,8 +37,7 @@ cleared : {A : Type 0} (m z : ℕ) (x : A) (xs : List A) → 0 < m → bit_and (
 cleared m z x xs some half =
     let low : min (m % 2) ((m - 1) % 2) ≡ 0 = omega arith in
     let is : bit_and m (m - 1) ≡ z * 2 + 0 = and_step m (m - 1) ∙ ap₂ (λ u v. u * 2 + v) half low in
-    let p : bit_and m (m - 1) % 2 ≡ 0 = omega arith in
-    let q : bit_and m (m - 1) / 2 ≡ z = omega arith in
+    let p : bit_and m (m - 1) % 2 ≡ 0 = omega arith in let q : bit_and m (m - 1) / 2 ≡ z = omega arith in
     ap₂ (λ u v. with_digit u x (marked_items v xs)) p q
 
 module _ {A : Type 0} where

@@ -16,7 +16,7 @@ use Rattle.rstar_base.specs.Counts.{usize_max}
 use Rattle.rstar.specs.inside.Traversals.{IsLevel}
 use Rattle.rstar.specs.Lists.{product}
 use Rattle.rstar.specs.Meets.{opened_to, both_leaves, pairs_at, opens_at, all_pairs, all_opens}
-use Rattle.rstar.specs.inside.PairWalks.{frame_of, marked_items, rows_beside, Frame, IsMetPair, IsFrame, AreFrames, AreJoinable, met_of, unasked_of, in_hand, frames_of, pairs_below, opens_below, pairs_by, opens_by, pairs_from_frames, opens_from_frames, IsIdle, IsWalk, CountsPairs, GoesOn, all_steps, steps_at, steps_of_pair, steps_of_frame, steps_of_frames, IsPairStep}
+use Rattle.rstar.specs.inside.PairWalks.{frame_of, marked_items, rows_beside, Frame, IsMetPair, IsFrame, AreFrames, AreJoinable, met_of, unasked_of, frames_of, pairs_below, opens_below, pairs_by, opens_by, pairs_from_frames, opens_from_frames, IsIdle, IsWalk, CountsPairs, GoesOn, all_steps, steps_at, steps_of_pair, steps_of_frame, steps_of_frames, IsPairStep}
 use Rattle.rstar.proofs.trees.ByChildren.{is_leaf, total-map}
 use Rattle.rstar.proofs.joining.PairsByChildren.{the_pair, each-product, product-none, product-rows, sum_by-map, whole-opened, does_meet, AreLeaves, IsOpened, leaves, opened, passed}
 use Rattle.rstar.proofs.joining.MarkedPairs.{marked-zero}
@@ -246,8 +246,7 @@ module _ {T E U F : Type 0} (meets : E → F → Bool) (left_box : T → E) (rig
   pub move-row : (frame : Frame T E U F) (more : Bor (List (RTreeNode T E))) → more.now ≡ drop (rows_beside frame.rights.now) frame.lefts.now → 0 < length frame.lefts.now
       → met_of frame ≡ [] → frame.later.now ≡ [] → IsMove frame (frame_of more frame.asked 0 frame.rights frame.rights ∷ []) [] 0
   move-row frame more is some none over =
-      let lefts = frame.lefts.now in
-      let k = rows_beside frame.rights.now in
+      let lefts = frame.lefts.now in let k = rows_beside frame.rights.now in
       let unasked : unasked_of frame ≡ product more.now frame.rights.now =
       (λ i. product (take k lefts) (over i) ++ product (sym is i) frame.rights.now) ∙ ap (λ x. x ++ product more.now frame.rights.now) (product-none (take k lefts)) in
       let both : met_of frame ++ unasked_of frame ≡ product more.now frame.rights.now = λ i. none i ++ unasked i in
@@ -280,10 +279,8 @@ module _ {T E U F : Type 0} (meets : E → F → Bool) (left_box : T → E) (rig
       → marked_items more (product (take (rows_beside frame.rights.now) frame.lefts.now) chunk.now) ≡ filter meets_pair (product (take (rows_beside frame.rights.now) frame.lefts.now) chunk.now)
       → IsMove frame (frame_of frame.lefts chunk more rest frame.rights ∷ []) [] 0
   move-ask frame chunk rest more none split some some' narrow made =
-      let k = rows_beside frame.rights.now in
-      let block = take k frame.lefts.now in
-      let asked = product block chunk.now in
-      let behind = product (drop k frame.lefts.now) frame.rights.now in
+      let k = rows_beside frame.rights.now in let block = take k frame.lefts.now in
+      let asked = product block chunk.now in let behind = product (drop k frame.lefts.now) frame.rights.now in
       let new = frame_of frame.lefts chunk more rest frame.rights in
       let unasked : unasked_of frame ≡ asked ++ unasked_of new =
       ap (λ x. product block x ++ behind) split ∙ ap (λ x. x ++ behind) (product-columns block chunk.now rest.now narrow) ∙ append_assoc asked (product block rest.now) behind in
@@ -391,12 +388,12 @@ module _ {T E U F : Type 0} (meets : E → F → Bool) (left_box : T → E) (rig
           }
 
   -- room for a push, where the frame that is read wants some
-  pub path-room : (w : PairWalk T U E F) → IsWalk meets left_box right_box w → ((k : ℕ) → IsFrame meets left_box right_box k (in_hand w) → 1 ≤ k) → length w.path.items < w.path.capacity
-  path-room w walk wants = let last = frames-last (w.path.capacity + 1) w.path.items (in_hand w) walk in let k = wants last.0 last.2 in omega (arith, last.1, k)
+  pub path-room : (w : PairWalk T U E F) → IsWalk meets left_box right_box w → ((k : ℕ) → IsFrame meets left_box right_box k w.frame → 1 ≤ k) → length w.path.items < w.path.capacity
+  path-room w walk wants = let last = frames-last (w.path.capacity + 1) w.path.items w.frame walk in let k = wants last.0 last.2 in omega (arith, last.1, k)
 
   -- the frame that is read is one
-  pub last-frame : (w : PairWalk T U E F) → IsWalk meets left_box right_box w → (k : ℕ) × IsFrame meets left_box right_box k (in_hand w)
-  last-frame w walk = let last = frames-last (w.path.capacity + 1) w.path.items (in_hand w) walk in (last.0, last.2)
+  pub last-frame : (w : PairWalk T U E F) → IsWalk meets left_box right_box w → (k : ℕ) × IsFrame meets left_box right_box k w.frame
+  last-frame w walk = let last = frames-last (w.path.capacity + 1) w.path.items w.frame walk in (last.0, last.2)
 
   -- one step after another
   pub goes-on : {old mid new : PairWalk T U E F} → GoesOn meets left_box right_box old mid → GoesOn meets left_box right_box mid new → GoesOn meets left_box right_box old new
@@ -405,14 +402,14 @@ module _ {T E U F : Type 0} (meets : E → F → Bool) (left_box : T → E) (rig
   -- ---- a walk with nothing to read, and one that begins
 
   module _ (w : PairWalk T U E F) (idle : IsIdle w) where
-    alone : frames_of w ≡ in_hand w ∷ []
-    alone = ap (λ l. l ++ in_hand w ∷ []) idle.bare
+    alone : frames_of w ≡ w.frame ∷ []
+    alone = ap (λ l. l ++ w.frame ∷ []) idle.bare
 
     pub idle-pairs : pairs_by meets left_box right_box w ≡ []
-    idle-pairs = ap (pairs_from_frames meets left_box right_box) alone ∙ (move-drop (in_hand w) idle.nothing).pairs
+    idle-pairs = ap (pairs_from_frames meets left_box right_box) alone ∙ (move-drop w.frame idle.nothing).pairs
 
     pub idle-opens : opens_by meets left_box right_box w ≡ 0
-    idle-opens = omega (arith, ap (opens_from_frames meets left_box right_box) alone, (move-drop (in_hand w) idle.nothing).opened)
+    idle-opens = omega (arith, ap (opens_from_frames meets left_box right_box) alone, (move-drop w.frame idle.nothing).opened)
 
     -- all was opened that there was to open
     pub idle-count : (all : ℕ) → CountsPairs meets left_box right_box all w → w.opened ≡ min all usize_max
@@ -421,18 +418,18 @@ module _ {T E U F : Type 0} (meets : E → F → Bool) (left_box : T → E) (rig
   pub at_most : (all : ℕ) (w : PairWalk T U E F) → CountsPairs meets left_box right_box all w → w.opened ≤ all
   at_most all w h = omega (arith, h.whole, h.counted)
 
-  module _ (w : PairWalk T U E F) (bare : w.path.items ≡ []) (fresh-hand : in_hand w ≡ frame_of w.lefts w.asked 0 w.rights w.rights) where
-    begun : frames_of w ≡ frame_of w.lefts w.asked 0 w.rights w.rights ∷ []
+  module _ (w : PairWalk T U E F) (bare : w.path.items ≡ []) (fresh-hand : w.frame ≡ frame_of w.frame.lefts w.frame.asked 0 w.frame.rights w.frame.rights) where
+    begun : frames_of w ≡ frame_of w.frame.lefts w.frame.asked 0 w.frame.rights w.frame.rights ∷ []
     begun = λ i. bare i ++ fresh-hand i ∷ []
 
-    pub begins : AreJoinable w.path.capacity w.lefts.now w.rights.now → IsWalk meets left_box right_box w
+    pub begins : AreJoinable w.path.capacity w.frame.lefts.now w.frame.rights.now → IsWalk meets left_box right_box w
     begins at =
         let one : suc w.path.capacity ≡ w.path.capacity + 1 = omega arith in
-        let hand = fresh-frame w.lefts w.asked w.rights w.path.capacity at.left_height at.right_height at.left at.right at.fits in
-        frames-along _ _ one (frame_of w.lefts w.asked 0 w.rights w.rights ∷ []) (frames_of w) (sym begun) (hand, tt)
+        let hand = fresh-frame w.frame.lefts w.frame.asked w.frame.rights w.path.capacity at.left_height at.right_height at.left at.right at.fits in
+        frames-along _ _ one (frame_of w.frame.lefts w.frame.asked 0 w.frame.rights w.frame.rights ∷ []) (frames_of w) (sym begun) (hand, tt)
 
-    pub begins-pairs : pairs_by meets left_box right_box w ≡ all_pairs meets left_box right_box w.lefts.now w.rights.now
-    begins-pairs = ap (pairs_from_frames meets left_box right_box) begun ∙ ap (pairs_below meets left_box right_box) (fresh w.lefts w.asked w.rights)
+    pub begins-pairs : pairs_by meets left_box right_box w ≡ all_pairs meets left_box right_box w.frame.lefts.now w.frame.rights.now
+    begins-pairs = ap (pairs_from_frames meets left_box right_box) begun ∙ ap (pairs_below meets left_box right_box) (fresh w.frame.lefts w.frame.asked w.frame.rights)
 
-    pub begins-opens : opens_by meets left_box right_box w ≡ all_opens meets left_box right_box w.lefts.now w.rights.now
-    begins-opens = omega (arith, ap (opens_from_frames meets left_box right_box) begun, ap (opens_below meets left_box right_box) (fresh w.lefts w.asked w.rights))
+    pub begins-opens : opens_by meets left_box right_box w ≡ all_opens meets left_box right_box w.frame.lefts.now w.frame.rights.now
+    begins-opens = omega (arith, ap (opens_from_frames meets left_box right_box) begun, ap (opens_below meets left_box right_box) (fresh w.frame.lefts w.frame.asked w.frame.rights))

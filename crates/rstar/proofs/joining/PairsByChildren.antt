@@ -6,17 +6,16 @@ use Rattle.std.proofs.lemmas.List.{map-append, map-id, nil_from_length}
 use Rattle.std.specs.List.{AllByRecursion}
 use Rattle.std.proofs.lemmas.List.Folds.{flat_map-map}
 use Rattle.std.proofs.lemmas.Simd.{map-map}
-use Rattle.rstar.specs.declared.node.RTreeNode.{RTreeNode, Leaf, Parent, out-RTreeNode, roll-RTreeNode, roll-out-RTreeNode}
-use Rattle.rstar.specs.declared.node.RTreeNode.TheVariants.{outs-Parent, outs-Leaf, rolls-Parent, rolls-Leaf}
-use Rattle.rstar.specs.declared.node.RTreeNode.TheOpen as layer
+use Rattle.rstar.specs.declared.node.RTreeNode.{RTreeNode, Leaf, Parent}
+use Rattle.rstar.specs.declared.node.RTreeNode.TheVariants.{outs-Parent, outs-Leaf}
 use Rattle.rstar.specs.declared.node.ParentNode.{ParentNode}
 use Rattle.rstar_base.proofs.Lists.{all-append, all_map}
-use Rattle.rstar.specs.Nodes.{Layer, children_of, fold_tree, total, reach, given, node_box, is_leaf_node, elements, all_elements, IsTree}
+use Rattle.rstar.specs.Nodes.{children_of, fold_tree, total, reach, given, node_box, is_leaf_node, elements, all_elements, IsTree}
 use Rattle.rstar.specs.Lists.{product}
 use Rattle.rstar.specs.Meets.{opened_to, next_nodes, next_shown, shown_box, count_shown, meet_shown, meet_of_shown, both_leaves, count_parents, meet, pairs_at, opens_at, all_pairs, all_opens}
 use Rattle.rstar.specs.Shown.{Shown, parent, nodes_in, row_of, fold_shown, fold_shown_row, shown}
 use Rattle.rstar.specs.inside.PairWalks.{row_steps, all_steps, steps_at, steps_beside}
-use Rattle.rstar.proofs.trees.ByChildren.{is_leaf, is_parent, elements-Parent, fold_tree-Parent, given-Parent, reach-Parent, node_box-Leaf, node_box-Parent, shown-Leaf, shown-Parent, total-map}
+use Rattle.rstar.proofs.trees.ByChildren.{by_node, is_leaf, is_parent, elements-Parent, fold_tree-Parent, given-Parent, reach-Parent, node_box-Leaf, node_box-Parent, shown-Leaf, shown-Parent, total-map}
 
 -- ---- products
 
@@ -99,17 +98,6 @@ folded-row {A = A} at_leaf at_parent (n ∷ ns) = ap (λ (l : List A). fold_show
 
 -- ---- what comes after a node
 
--- what holds of each leaf and of each parent holds of each node
-pub by_node : {T E : Type 0} (P : RTreeNode T E → Type 0) → ((t : T) → P (Leaf t)) → ((p : ParentNode T E) → P (Parent p)) → (n : RTreeNode T E) → P n
-by_node {T} {E} P of_leaf of_parent n = by_layer (out-RTreeNode T E n) (sym (roll-out-RTreeNode T E n)) where
-  by_layer : (w : Layer T E) → n ≡ roll-RTreeNode T E w → P n
-  by_layer (layer.Leaf t) e = subst P (sym (e ∙ rolls-Leaf t)) (of_leaf t)
-  by_layer (layer.Parent p) e = subst P (sym (e ∙ rolls-Parent p)) (of_parent p)
-
--- a node is a leaf or a parent
-pub node-cases : {T E : Type 0} (n : RTreeNode T E) → ((t : T) × (n ≡ Leaf t)) ⊎ ((p : ParentNode T E) × (n ≡ Parent p))
-node-cases {T} {E} = by_node (λ (n : RTreeNode T E). ((t : T) × (n ≡ Leaf t)) ⊎ ((p : ParentNode T E) × (n ≡ Parent p))) (λ t. inl (t, refl)) (λ p. inr (p, refl))
-
 module _ (T E : Type 0) where
   pub opened_to-Leaf : (t : T) → opened_to {E = E} (Leaf t) ≡ Leaf t ∷ []
   unfolding opened_to
@@ -150,8 +138,7 @@ whole-opened {T} {E} Q R m zero n le w =
     let alone : opened_to n ≡ n ∷ [] = ap opened_to l.1 ∙ opened_to-Leaf T E l.0 ∙ ap (λ x. x ∷ []) (sym l.1) in
     (0, omega arith, subst (AllByRecursion (IsTree Q R 0)) (sym alone) (w, tt), ap all_elements alone ∙ append-nil (elements n))
 whole-opened Q R m (suc h) n le w =
-    let p = is_parent _ n w in
-    let same : opened_to n ≡ children_of p.0 = ap opened_to p.1 ∙ opened_to-Parent p.0 in
+    let p = is_parent _ n w in let same : opened_to n ≡ children_of p.0 = ap opened_to p.1 ∙ opened_to-Parent p.0 in
     (h, omega (arith, le), subst (AllByRecursion (IsTree Q R h)) (sym same) p.2.1, ap all_elements same ∙ sym (ap elements p.1 ∙ elements-Parent p.0))
 
 -- a list with one node

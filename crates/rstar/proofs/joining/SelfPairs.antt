@@ -279,8 +279,7 @@ module _ {T E : Type 0} {IsPoint : List ℤ → Type 0} {v : Boxes E} {o : Objec
   node-fewer : (h : ℕ) (n : RTreeNode T E) → IsTree (IsInner v o) (IsElement v o) h n → IsFewer h n
   node-fewer zero n w = let l = is_leaf _ n w in omega (arith, ap parents l.1, parents-Leaf T E l.0)
   node-fewer (suc h) n w =
-      let p = is_parent _ n w in
-      let same : opened_to n ≡ children_of p.0 = ap opened_to p.1 ∙ opened_to-Parent p.0 in
+      let p = is_parent _ n w in let same : opened_to n ≡ children_of p.0 = ap opened_to p.1 ∙ opened_to-Parent p.0 in
       let leaf = ap is_leaf_node p.1 ∙ is_leaf-Parent p.0 in
       let inner : both_leaves n n ≡ false = ap (λ (b : Bool). if b then is_leaf_node n else false) leaf in
       let gone = opened v.intersects o.box_of o.box_of true n n inner (meets-itself (suc h) n w) in

@@ -34,3 +34,27 @@ AllZip-append R [] xs' [] ys' z w = w
 AllZip-append R [] xs' (y ∷ ys) ys' z w = absurd z
 AllZip-append R (x ∷ xs) xs' [] ys' z w = absurd z
 AllZip-append R (x ∷ xs) xs' (y ∷ ys) ys' z w = (z.0, AllZip-append R xs xs' ys ys' z.1 w)
+
+-- the first items of a list, with the next one
+pub next_item : {A : Type 0} (xs items : List A) (k : ℕ) (x : A) → items ≡ xs → k < length items → x ≡ get_or items k x → take (k + 1) xs ≡ take k xs ++ x ∷ []
+next_item xs items k x same below is = subst (λ ys. take (k + 1) ys ≡ take k ys ++ x ∷ []) same (take_more items k x below ∙ ap (λ u. take k items ++ u ∷ []) (sym is))
+
+-- one place more
+pub zip_push : {A : Type 0} (R : A → A → Type 0) (xs items ys zs : List A) (k : ℕ) (x y : A) → items ≡ xs → AllZip R (take k xs) ys → k < length items → x ≡ get_or items k x → R x y → zs ≡ ys ++ y ∷ [] → AllZip R (take (k + 1) xs) zs
+zip_push R xs items ys zs k x y same z below is one put = rw (put, next_item xs items k x same below is) (AllZip-append R (take k xs) (x ∷ []) ys (y ∷ []) z (one, tt))
+
+-- what holds of each item holds of this one
+pub item_has : {A : Type 0} (P : A → Type 0) (xs items : List A) (k : ℕ) (x : A) → items ≡ xs → k < length items → x ≡ get_or items k x → AllByRecursion P xs → P x
+item_has P xs items k x same below is h = rw is (all_get P items k x below (subst (AllByRecursion P) (sym same) h))
+
+-- two lists place by place, so far, and all of them
+pub zip_whole : {A B : Type 0} (R : A → B → Type 0) (xs items : List A) (ys : List B) (k : ℕ) → items ≡ xs → length items ≤ k → AllZip R (take k xs) ys → AllZip R xs ys
+zip_whole R xs items ys k same ended z = let all : length xs ≤ k = rw same at ended in subst (λ us. AllZip R us ys) (take_all k xs all) z
+
+-- two lists place by place, from the end
+pub zip_along : {A B : Type 0} (R : A → B → Type 0) (P : List A → List B → Type 0) → P [] [] → ((x : A) (y : B) (xs : List A) (ys : List B) → R x y → P xs ys → P (x ∷ xs) (y ∷ ys))
+    → (xs : List A) (ys : List B) → AllZip R xs ys → P xs ys
+zip_along R P none more [] [] z = none
+zip_along R P none more [] (y ∷ ys) z = absurd z
+zip_along R P none more (x ∷ xs) [] z = absurd z
+zip_along R P none more (x ∷ xs) (y ∷ ys) z = more x y xs ys z.0 (zip_along R P none more xs ys z.1)

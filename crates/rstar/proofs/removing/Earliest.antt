@@ -17,17 +17,16 @@ use Rattle.rstar_base.proofs.Lists.{all_map}
 use Rattle.rstar_base.specs.Envelopes.{Boxes, EnvelopeLaws}
 use Rattle.rstar_base.specs.Elements.{Objects, ObjectLaws}
 use Rattle.rstar_base.specs.Selections.{SelectsBy}
-use Rattle.rstar.specs.declared.node.RTreeNode.{RTreeNode, Leaf, Parent, out-RTreeNode, roll-out-RTreeNode, roll-RTreeNode}
-use Rattle.rstar.specs.declared.node.RTreeNode.TheVariants.{outs-Leaf, outs-Parent, rolls-Leaf, rolls-Parent}
-use Rattle.rstar.specs.declared.node.RTreeNode.TheOpen as layer
+use Rattle.rstar.specs.declared.node.RTreeNode.{RTreeNode, Leaf, Parent}
+use Rattle.rstar.specs.declared.node.RTreeNode.TheVariants.{outs-Leaf, outs-Parent}
 use Rattle.rstar.specs.declared.node.ParentNode.{ParentNode}
 use Rattle.rstar.specs.inside.Earliest.{earlier, earliest, lent, earlier_at, IsEarliestAt, IsEarliestOf}
 use Rattle.rstar.specs.inside.Taking.{Takes, is_a_leaf, leaf_in}
 use Rattle.rstar.specs.Lists.{IsLeast, IsNotAfter}
-use Rattle.rstar.specs.Nodes.{Layer, fold_tree, given, all_given, given_of, all_elements, children_of, elements_of, is_leaf_node, IsWhole}
+use Rattle.rstar.specs.Nodes.{fold_tree, given, all_given, given_of, all_elements, children_of, elements_of, is_leaf_node, IsWhole}
 use Rattle.rstar.proofs.inserting.Insertion.{whole_of_kept}
 use Rattle.rstar.proofs.selecting.Complete.{all-each, all-node, all-root}
-use Rattle.rstar.proofs.trees.ByChildren.{given-Leaf, given-Parent}
+use Rattle.rstar.proofs.trees.ByChildren.{by_node, given-Leaf, given-Parent}
 use Rattle.rstar.proofs.removing.Scans.{filter_none, finishes, nowhere}
 
 -- ---- of a list
@@ -180,10 +179,7 @@ module _ {T E : Type 0} where
   -- the two tests of a leaf
   pub leaf_is : (n : RTreeNode T E) → is_leaf_node n ≡ is_a_leaf n
   unfolding is_leaf_node fold_tree
-  leaf_is n = by_layer (out-RTreeNode T E n) (sym (roll-out-RTreeNode T E n)) where
-    by_layer : (x : Layer T E) → n ≡ roll-RTreeNode T E x → is_leaf_node n ≡ is_a_leaf n
-    by_layer (layer.Leaf t) e = let is = e ∙ rolls-Leaf t in ap is_leaf_node is ∙ sym (ap leaf_in (outs-Leaf t)) ∙ sym (ap is_a_leaf is)
-    by_layer (layer.Parent p) e = let is = e ∙ rolls-Parent p in ap is_leaf_node is ∙ sym (ap leaf_in (outs-Parent p)) ∙ sym (ap is_a_leaf is)
+  leaf_is = by_node (λ (n : RTreeNode T E). is_leaf_node n ≡ is_a_leaf n) (λ t. sym (ap leaf_in (outs-Leaf t))) (λ p. sym (ap leaf_in (outs-Parent p)))
 
   pub no_leaf_here : (n : RTreeNode T E) (t : T) → n ≡ Leaf t → is_leaf_node n ≡ false → ⊥
   no_leaf_here n t e parent = let is : is_a_leaf n ≡ true = ap is_a_leaf e ∙ ap leaf_in (outs-Leaf t) in let two = leaf_is n in cc

@@ -86,6 +86,12 @@ module _ {T E : Type 0} (v : Boxes E) (o : Objects T E) where
     subst (λ (ns : List (RTreeNode T E)). IsRestAt v o rest path (first_children ns)) (sym (drop_all (0 - suc i) [] (omega arith))) (rest_nothing rest path),
   )
 
+  -- at a place of one level
+  pub rest_alone : (rest : Option (Rest E)) (path : List ℕ) (ns : List (RTreeNode T E)) → length path ≡ 1 → IsRest v o rest (first_number path) ns → IsRestAt v o rest path ns
+  rest_alone rest [] ns one is = tt
+  rest_alone rest (i ∷ []) ns one is = (λ last. is, tt)
+  rest_alone rest (i ∷ j ∷ path) ns one is = absurd (omega (arith, one))
+
   -- one at the first number, or below
   pub rest_parts : (rest : Option (Rest E)) (path : List ℕ) (ns : List (RTreeNode T E)) → IsRestAt v o rest path ns
       → (length path ≡ 1 → IsRest v o rest (first_number path) ns) × IsRestAt v o rest (lower_numbers path) (children_at ns (first_number path))
@@ -105,8 +111,7 @@ module _ {T E : Type 0} (v : Boxes E) (o : Objects T E) where
   pub rest_stays : (rest : Option (Rest E)) (front back back' : List (RTreeNode T E)) (i : ℕ) → i < length back → length back' ≤ suc i → IsRest v o rest i (front ++ back) → IsRest v o rest i (front ++ back')
   rest_stays None front back back' i more few kept = tt
   rest_stays (Some r) front back back' i more few kept = λ within.
-      let long' = length-append front back' in
-      let inside : r.count ≤ length front = omega (arith, within) in
+      let long' = length-append front back' in let inside : r.count ≤ length front = omega (arith, within) in
       let before = kept (omega (arith, length-append front back)) in
       let same : take r.count (front ++ back') ≡ take r.count (front ++ back) = take-append-le r.count front back' inside ∙ sym (take-append-le r.count front back inside) in
       record { values = rw same before.values; merged = rw same before.merged }

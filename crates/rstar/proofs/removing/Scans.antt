@@ -1,7 +1,7 @@
 -- One scan of a list of nodes for the next selected element.
-use Rattle.std.proofs.Common.{◌≡◌, ℕ, ℤ, zero, suc, ◌+◌, ◌<◌, ◌≤◌, Bool, true, false, List, [], ◌∷◌, ◌++◌, refl, sym, ◌∙◌, ap, subst, arith, length, get_or, set, take, drop, replicate, ◌-◌, append_assoc, length-append, Option, Some, None, IfSome, IfNone, is_some, filter, ◌⊎◌, inl, inr}
+use Rattle.std.proofs.Common.{◌≡◌, ℕ, ℤ, zero, suc, ◌+◌, ◌<◌, ◌≤◌, Bool, true, false, List, [], ◌∷◌, ◌++◌, refl, sym, ◌∙◌, ap, subst, arith, length, get_or, set, take, drop, ◌-◌, append_assoc, length-append, Option, Some, None, IfSome, IfNone, is_some, filter, ◌⊎◌, inl, inr}
 use Rattle.std.specs.List.{AllByRecursion, remove}
-use Rattle.std.proofs.lemmas.Bool.{false_from_ne_true}
+use Rattle.std.proofs.lemmas.Bool.{true≢false, false_from_ne_true}
 use Rattle.std.proofs.lemmas.List.{append-nil, length-drop, set_split, take-append-drop}
 use Rattle.std.proofs.lemmas.List.Concat.{flat_map-append}
 use Rattle.std.proofs.lemmas.List.Prefix.{end_rest}
@@ -12,36 +12,23 @@ use Rattle.rstar_base.specs.Selections.{IsLawful}
 use Rattle.rstar_base.proofs.Lists.{all-append, all_first, all_second}
 use Rattle.rstar_base.proofs.Hulls.{hull-value, hull-append}
 use Rattle.rstar.specs.declared.algorithm.removal.Rest.{Rest}
-use Rattle.rstar.specs.declared.node.RTreeNode.{RTreeNode, Leaf, Parent, out-RTreeNode, roll-out-RTreeNode, roll-RTreeNode}
-use Rattle.rstar.specs.declared.node.RTreeNode.TheVariants.{outs-Leaf, outs-Parent, rolls-Leaf, rolls-Parent}
-use Rattle.rstar.specs.declared.node.RTreeNode.TheOpen as layer
+use Rattle.rstar.specs.declared.node.RTreeNode.{RTreeNode, Leaf, Parent}
+use Rattle.rstar.specs.declared.node.RTreeNode.TheVariants.{outs-Leaf, outs-Parent}
 use Rattle.rstar.specs.declared.node.ParentNode.{ParentNode}
-use Rattle.rstar.specs.Nodes.{Layer, node_box, elements, all_elements, elements_of, children_of, IsElement, IsTree, IsTight, AreWhole}
+use Rattle.rstar.specs.Nodes.{node_box, elements, all_elements, elements_of, IsElement, IsTree, IsTight, AreWhole}
 use Rattle.rstar.specs.inside.ParentBounds.{IsKept, IsKeptInner, AreKept}
 use Rattle.rstar.specs.Lists.{NoneSelected}
 use Rattle.rstar.specs.inside.Removals.{IsWithout}
-use Rattle.rstar.specs.inside.Taking.{IsPast, IsMerged, IsRest, IsRestAt, Takes, TakesInside, first_children, node_children, children_in, with_first, first_number, lower_numbers, is_selected_leaf, selects_in, is_childless, childless_in, is_nil}
-use Rattle.rstar.proofs.trees.ByChildren.{elements-Leaf, elements-Parent, is_leaf, parent_of, no_leaf, no_parent, IsParentOf-Parent}
+use Rattle.rstar.specs.inside.Taking.{IsCleared, IsPast, IsMerged, IsRest, IsRestAt, Takes, TakesInside, first_children, node_children, children_in, with_first, first_number, lower_numbers, is_selected_leaf, selects_in, is_childless, childless_in, is_nil}
+use Rattle.rstar.proofs.trees.ByChildren.{by_node, elements-Leaf, elements-Parent, is_leaf, parent_of, no_leaf, no_parent, IsParentOf-Parent}
 use Rattle.rstar.proofs.trees.Trees.{all_sound, values-of, merged_is_hull}
 use Rattle.rstar.proofs.inserting.Insertion.{whole_of_kept}
 use Rattle.rstar.proofs.selecting.Complete.{none-selected}
-use Rattle.rstar.proofs.removing.Parts.{children_at, split_at, remove_set, without_middle, past_parts, past_made, past_zeros, past_nothing}
-use Rattle.rstar.proofs.removing.Parts.{rest_none, rest_nothing, rest_past, rest_parts, rest_made, rest_later, rest_stays, lower_length}
+use Rattle.rstar.proofs.removing.Parts.{children_at, split_at, remove_set, without_middle, past_parts, past_made, past_zeros, past_nothing, rest_none, rest_nothing, rest_past, rest_parts, rest_made, rest_later, rest_stays, lower_length}
 
 -- all leaves of the node lie h levels below it, its parents are tight and within the bound
 abbrev pub IsKeptNode : {T E : Type 0} → Boxes E → Objects T E → ℕ → ℕ → RTreeNode T E → Type 0
 IsKeptNode v o w h n = IsTree (IsKeptInner v o w) (IsElement v o) h n
-
-abbrev elements_in_layer : {T E : Type 0} → Layer T E → List T
-elements_in_layer (layer.Leaf t) = t ∷ []
-elements_in_layer (layer.Parent p) = all_elements (children_of p)
-
--- the levels below the first were set back, and with them what was kept there
-pub record IsCleared {E : Type 0} (path : List ℕ) (rest : Option (Rest E)) (path' : List ℕ) (rest' : Option (Rest E)) : Type 0 where
-  pub long : length path' ≡ length path
-  pub numbers : lower_numbers path' ≡ replicate (length (lower_numbers path)) 0
-  pub still : length path ≤ 1 → rest' ≡ rest
-  pub none : 1 < length path → rest' ≡ None
 
 module _ {T E : Type 0} (v : Boxes E) (o : Objects T E) (accepts : E → Bool) (selects : T → Bool) (ns : List (RTreeNode T E)) (start : List ℕ) where
   -- none of the last nodes of a list, so many, has a selected element
@@ -76,44 +63,33 @@ filter_none selects (t ∷ ts) e =
     let is = false_from_ne_true (selects t) (λ chosen. let kept = rw chosen at e in cc) in (is, filter_none selects ts (rw is at e))
 
 module _ {T E : Type 0} where
-  -- a leaf's element, or those of a parent's children
-  pub elements_is : (n : RTreeNode T E) → elements n ≡ elements_in_layer (out-RTreeNode T E n)
-  elements_is n = by_layer (out-RTreeNode T E n) (sym (roll-out-RTreeNode T E n)) where
-    by_layer : (x : Layer T E) → n ≡ roll-RTreeNode T E x → elements n ≡ elements_in_layer x
-    by_layer (layer.Leaf t) e = ap elements (e ∙ rolls-Leaf t) ∙ elements-Leaf T E t
-    by_layer (layer.Parent p) e = ap elements (e ∙ rolls-Parent p) ∙ elements-Parent p
+  children_parent : (p : ParentNode T E) → node_children (Parent p) ≡ p.children.items
+  children_parent p = ap children_in (outs-Parent p)
 
-  opened_none : (selects : T → Bool) (x : Layer T E) → selects_in selects x ≡ false → NoneSelected selects (all_elements (children_in x)) → NoneSelected selects (elements_in_layer x)
-  opened_none selects (layer.Leaf t) chosen below = (chosen, tt)
-  opened_none selects (layer.Parent p) chosen below = below
+  childless_parent : (p : ParentNode T E) → is_childless (Parent p) ≡ is_nil p.children.items
+  childless_parent p = ap childless_in (outs-Parent p)
 
   -- nothing in a node is selected, where it is no selected leaf and nothing below it is selected
   pub node_none : (selects : T → Bool) (n : RTreeNode T E) → is_selected_leaf selects n ≡ false → NoneSelected selects (all_elements (node_children n)) → NoneSelected selects (elements n)
-  node_none selects n chosen below = subst (NoneSelected selects) (sym (elements_is n)) (opened_none selects (out-RTreeNode T E n) chosen below)
+  node_none selects = by_node (λ (n : RTreeNode T E). is_selected_leaf selects n ≡ false → NoneSelected selects (all_elements (node_children n)) → NoneSelected selects (elements n))
+      (λ t chosen below. rw (elements-Leaf T E t) (sym (ap (selects_in selects) (outs-Leaf t)) ∙ chosen, tt))
+      (λ p chosen below. rw (elements-Parent p) (subst (λ ns. NoneSelected selects (all_elements ns)) (children_parent p) below))
 
   nil_none : (ns : List (RTreeNode T E)) → is_nil ns ≡ true → all_elements ns ≡ []
   nil_none [] empty = refl
   nil_none (n ∷ ns) empty = cc
 
-  childless_none : (x : Layer T E) → childless_in x ≡ true → elements_in_layer x ≡ []
-  childless_none (layer.Leaf t) empty = cc
-  childless_none (layer.Parent p) empty = nil_none (children_of p) empty
-
   pub no_elements : (n : RTreeNode T E) → is_childless n ≡ true → elements n ≡ []
-  no_elements n empty = elements_is n ∙ childless_none (out-RTreeNode T E n) empty
+  no_elements = by_node (λ (n : RTreeNode T E). is_childless n ≡ true → elements n ≡ [])
+      (λ t empty. absurd (true≢false (sym empty ∙ ap childless_in (outs-Leaf t))))
+      (λ p empty. elements-Parent p ∙ nil_none p.children.items (sym (childless_parent p) ∙ empty))
 
   nil_some : (ns : List (RTreeNode T E)) → is_nil ns ≡ false → 0 < length ns
   nil_some [] e = cc
   nil_some (n ∷ ns) e = omega arith
 
-  children_parent : (p : ParentNode T E) → node_children (Parent p) ≡ p.children.items
-  children_parent p = ap children_in (outs-Parent p)
-
   pub children_leaf : (n : RTreeNode T E) (t : T) → n ≡ Leaf t → node_children n ≡ []
   children_leaf n t e = ap node_children e ∙ ap children_in (outs-Leaf t)
-
-  childless_parent : (p : ParentNode T E) → is_childless (Parent p) ≡ is_nil p.children.items
-  childless_parent p = ap childless_in (outs-Parent p)
 
   module _ (v : Boxes E) (o : Objects T E) (w : ℕ) where
     leaves_alone : (ns : List (RTreeNode T E)) (j : ℕ) → AreKept v o w 0 ns → first_children (drop j ns) ≡ []
@@ -213,8 +189,7 @@ module _ {T E : Type 0} (v : Boxes E) (o : Objects T E) (accepts : E → Bool) (
     -- all nodes were passed over
     pub finishes : length old ≤ p → (e : ℕ) → e ≡ length old → NoneBehind v o accepts selects old start p → Takes v o accepts selects old start rest0 None old (with_first path e) rest
     finishes over e is_all behind =
-        let all : length old - p ≡ 0 = omega arith in
-        let none_left : length old - e ≡ length old - p = omega arith in
+        let all : length old - p ≡ 0 = omega arith in let none_left : length old - e ≡ length old - p = omega arith in
         let below : length old - suc e ≡ length old - suc p = omega arith in
         record {
           taken = refl;

@@ -54,12 +54,9 @@ module _ {T E : Type 0} where
       × (elements_held (lists ++ nodes ∷ []) ≡ elements_held ((lists ++ rest ∷ []) ++ children_of p ∷ []))
       × (steps_in ((lists ++ rest ∷ []) ++ children_of p ∷ []) < steps_in (lists ++ nodes ∷ []))
   goes_below room lists nodes rest p is its =
-      let r = lists-pop its.height lists nodes its.levels in
-      let level = subst (AllByRecursion (IsLevel r.0)) is r.3 in
-      let last = all_second (IsLevel r.0) rest (Parent p ∷ []) level in
-      let below = level-Parent r.0 p last.0 in
-      let fits = its.fits in
-      let long = length-append lists (rest ∷ []) in
+      let r = lists-pop its.height lists nodes its.levels in let level = subst (AllByRecursion (IsLevel r.0)) is r.3 in
+      let last = all_second (IsLevel r.0) rest (Parent p ∷ []) level in let below = level-Parent r.0 p last.0 in
+      let fits = its.fits in let long = length-append lists (rest ∷ []) in
       let beside = lists-push its.height r.0 lists rest r.1 r.2 (all_first (IsLevel r.0) rest (Parent p ∷ []) level) in
       let one : all_elements nodes ≡ all_elements rest ++ all_elements (children_of p) =
       ap all_elements is ∙ flat_map-append elements rest (Parent p ∷ []) ∙ ap (λ (l : List T). all_elements rest ++ l) (append-nil (elements (Parent p)) ∙ elements-Parent p) in
@@ -110,8 +107,7 @@ module _ {T E : Type 0} where
       → vec_len old.path < vec_capacity old.path
   has_room old rest p is its =
       let room = (goes_below (vec_capacity old.path) (map (λ v. v.items) old.path.items) old.nodes.items rest p is its).0 in
-      let same = length-map old.path.items (λ v. v.items) in
-      let counted = old.path.ok.0 in
+      let same = length-map old.path.items (λ v. v.items) in let counted = old.path.ok.0 in
       omega (arith, room, same, counted)
 
   -- it gives its last node, a leaf

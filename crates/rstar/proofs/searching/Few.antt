@@ -80,12 +80,7 @@ module _ {T : Type 0} (before : T → T → Type 0) where
 
   -- their order does not matter
   pub first-along : (most : ℕ) (xs all found : List T) → IsPermutation all xs → AreFirstOf before xs most found → AreFirstOf before all most found
-  first-along most xs all found same h = record {
-    left = h.left;
-    first = record { bag = IsPermutation-trans all xs (found ++ h.left) same h.first.bag; order = h.first.order; least = h.first.least };
-    few = h.few;
-    enough = h.enough;
-  }
+  first-along most xs all found same h = record { left = h.left; first = record { bag = IsPermutation-trans all xs (found ++ h.left) same h.first.bag; order = h.first.order; least = h.first.least }; few = h.few; enough = h.enough }
 
   -- of a list in order, those in front of the last stand before it
   before-last : (front left : List T) (last : T) → AreOrdered before (front ++ last ∷ []) → AllByRecursion (λ t. AllByRecursion (before t) left) (front ++ last ∷ [])
@@ -224,6 +219,10 @@ module _ {T S O : Type 0} (value : S → ℤ) (compare : S → S → Ordering) (
 
 -- ---- one place for the greatest
 
+pub one-falls : {X : Type 0} (compare : X → X → Ordering) (one : Option X) → Rises compare (option_to_list one)
+one-falls compare None = tt
+one-falls compare (Some x) = (tt, tt)
+
 pub kept-one : {X : Type 0} (compare : X → X → Ordering) (x : X) (old : Option X) (b : Bool) → MatchOption old (b ≡ true) (λ y. b ≡ is_lt (compare y x)) → b ≡ true → KeepsGreatest compare 1 x (option_to_list old) (x ∷ [])
 kept-one compare x None b is e = inl record { room = omega arith; place = 0; is = refl }
 kept-one compare x (Some y) b is e = inr (inl record { full = omega arith; front = []; last = y; was = refl; less = sym is ∙ e; place = 0; is = refl })
@@ -265,13 +264,7 @@ module _ {T S O : Type 0} {lent : List (Bor T × S)} (ws : List (Found T S O)) (
 module _ {T E S O : Type 0} {v : Boxes E} {o : Objects T E} {d : Distances T} {p : List ℤ} {compare : T → T → Ordering} {value : S → ℤ} {most : ℕ} {all : List T} where
   -- their order does not matter
   pub so-far-same : {ns ms : List (RTreeNode T E)} {found : List (Found T S O)} → IsPermutation ns ms → AreFoundSoFar v o d p compare value most all ns found → AreFoundSoFar v o d p compare value most all ms found
-  so-far-same same s = record {
-    parts = all_along _ _ _ same s.parts;
-    seen = s.seen;
-    bag = IsPermutation-trans _ _ _ s.bag (IsPermutation-append_left s.seen _ _ (IsPermutation-flat_map elements _ _ same));
-    first = s.first;
-    at = s.at;
-  }
+  so-far-same same s = record { parts = all_along _ _ _ same s.parts; seen = s.seen; bag = IsPermutation-trans _ _ _ s.bag (IsPermutation-append_left s.seen _ _ (IsPermutation-flat_map elements _ _ same)); first = s.first; at = s.at }
 
   -- where none is left, the first of all were found
   pub so-far-end : {found : List (Found T S O)} → AreFoundSoFar v o d p compare value most all [] found → AreFirstOf (IsNotLater (λ t. d.distance_2 t p) compare) all most (found_elements found)

@@ -17,10 +17,10 @@ use Rattle.rstar_base.specs.Points.{table}
 use Rattle.rstar.specs.declared.node.RTreeNode.{Parent}
 use Rattle.rstar.specs.declared.node.ParentNode.{ParentNode}
 use Rattle.rstar.specs.ByOrder.{NearestNeighborByOrderIterator, search_by_order, GivesByOrder}
-use Rattle.rstar.specs.Lists.{AreOrdered, AreFirst, AreFirstOf, IsNoFarther, IsNotLater}
+use Rattle.rstar.specs.Lists.{AreOrdered, AreFirst, AreFirstOf, IsNoFarther, IsNotLater, AreInOrder, AreNearestOf}
 use Rattle.rstar.specs.Nodes.{elements, all_elements, elements_of, parents_of}
 use Rattle.rstar_base.specs.Counts.{usize_max}
-use Rattle.rstar.specs.Neighbors.{NearestNeighborIterator, Search, search_of, with_distances, HasBegun, GivesNeighbor, GivesElement, IsGoingOn, elements_waiting}
+use Rattle.rstar.specs.Neighbors.{NearestNeighborIterator, NearestNeighborDistance2Iterator, Search, search_of, with_distances, HasBegun, GivesNeighbor, GivesElement, GivesWithDistance, IsGoingOn, elements_waiting}
 use Rattle.rstar.proofs.trees.ByChildren.{elements-Parent}
 
 -- ---- lists
@@ -173,39 +173,81 @@ module _ {T E P S : Type 0} (v : Boxes E) (o : Objects T E) (d : Distances T) (a
 
   -- at the end of a loop
   pub neighbors_end : (ys : List (Bor T)) (t u : NearestNeighborIterator T E P S) → Yields gives it (map Ok ys) t → gives t None u
-      → IsPermutation (elements_of over) (map (λ y. y.now) ys) × AreOrdered (near at) (map (λ y. y.now) ys) × ((shows u).opened ≡ min (parents_of over) usize_max)
+      → IsPermutation (elements_of over) (map (λ y. y.now) ys) × AreInOrder (λ t. d.distance_2 t (table axes (coord at))) (map (λ y. y.now) ys)
+      × ((search_of (with_distances u)).opened ≡ min (parents_of over) usize_max)
   neighbors_end = given-end v d axes coord (λ (y : Bor T). y.now) shows gives (λ s r t h. h.0) near (λ s y t h. h.0.gives.least) over at it begun
 
   -- at the end of a loop over `take`
   pub neighbors_taken : (most : ℕ) (ys : List (Bor T)) (s t u : Take (NearestNeighborIterator T E P S)) → take_source s ≡ it → take_count s ≡ most → Yields (take_steps gives) s (map Ok ys) t → take_steps gives t None u
-      → AreFirstOf (near at) (elements_of over) most (map (λ y. y.now) ys)
+      → AreNearestOf (λ t. d.distance_2 t (table axes (coord at))) (elements_of over) most (map (λ y. y.now) ys)
   neighbors_taken = given-taken v d axes coord (λ (y : Bor T). y.now) shows gives (λ s r t h. h.0) near (λ s y t h. h.0.gives.least) over at it begun
 
   -- what `try_collect` has taken into a list
-  pub neighbors_collected : (all : Vec (Bor T) Global) → Collects gives it all → IsPermutation (elements_of over) (map (λ y. y.now) all.items) × AreOrdered (near at) (map (λ y. y.now) all.items)
+  pub neighbors_collected : (all : Vec (Bor T) Global) → Collects gives it all → IsPermutation (elements_of over) (map (λ y. y.now) all.items) × AreInOrder (λ t. d.distance_2 t (table axes (coord at))) (map (λ y. y.now) all.items)
   neighbors_collected = given-collected v d axes coord (λ (y : Bor T). y.now) shows gives (λ s r t h. h.0) near (λ s y t h. h.0.gives.least) over at it begun
 
--- ---- the same of the iterator in the stated order, which gives each element with its distance
+-- ---- each is given with its distance
 
-module _ {T E P S : Type 0} (v : Boxes E) (o : Objects T E) (d : Distances T) (order : T → T → Ordering) (axes : ℕ) (coord : P → ℕ → ℤ) (compare : S → S → Ordering) (value : S → ℤ) where
+module _ {I T E P S Z : Type 0} (v : Boxes E) (d : Distances T) (axes : ℕ) (coord : P → ℕ → ℤ) (value : S → ℤ) (shown : I → Search T E P)
+    (steps : I → Option (Result (Bor T × S) Z) → I → Type 0) (tell : (s : I) (r : Option (Result (Bor T × S) Z)) (t : I) → steps s r t → GivesNeighbor v d axes coord (λ x. x.0.now) (shown s) r (shown t))
+    (before : P → T → T → Type 0) (comes : (s : I) (y : Bor T × S) (t : I) → steps s (Some (Ok y)) t → AllByRecursion (before (shown s).point y.0.now) (elements_waiting (shown t)))
+    (lies : (s : I) (y : Bor T × S) (t : I) → steps s (Some (Ok y)) t → value y.1 ≡ pos (d.distance_2 y.0.now (table axes (coord (shown s).point)))) where
+  abbrev AreTold : P → List (Bor T × S) → Type 0
+  AreTold p ys = AllByRecursion (λ y. value y.1 ≡ pos (d.distance_2 y.0.now (table axes (coord p)))) ys
+
+  each-told : (ys : List (Bor T × S)) (s t : I) → Yields steps s (map Ok ys) t → AreTold (shown s).point ys
+  each-told [] s t run = tt
+  each-told (y ∷ ys) s t run = (lies s y run.0 run.1, subst (λ p. AreTold p ys) (tell s (Some (Ok y)) run.0 run.1).point (each-told ys run.0 t run.2))
+
+  told-end : (over : ParentNode T E) (at : P) (it : I) (begun : HasBegun over at (shown it)) (ys : List (Bor T × S)) (t u : I) → Yields steps it (map Ok ys) t → steps t None u
+      → IsPermutation (elements_of over) (map (λ y. y.0.now) ys) × AreOrdered (before at) (map (λ y. y.0.now) ys) × AreTold at ys × ((shown u).opened ≡ min (parents_of over) usize_max)
+  told-end over at it begun ys t u run last =
+      let end = given-end v d axes coord (λ (y : Bor T × S). y.0.now) shown steps tell before comes over at it begun ys t u run last in
+      (end.0, end.1, subst (λ p. AreTold p ys) begun.point (each-told ys it t run), end.2)
+
+-- ---- by the iterator that gives each element with its distance
+
+module _ {T E P S : Type 0} (v : Boxes E) (o : Objects T E) (d : Distances T) (axes : ℕ) (coord : P → ℕ → ℤ) (compare : S → S → Ordering) (value : S → ℤ)
+    (over : ParentNode T E) (at : P) (it : NearestNeighborDistance2Iterator T E P S) (begun : HasBegun over at (search_of it)) where
+  abbrev gives_distance : NearestNeighborDistance2Iterator T E P S → Option (Result (Bor T × S) AllocError) → NearestNeighborDistance2Iterator T E P S → Type 0
+  gives_distance = GivesWithDistance v o d axes coord compare value
+
+  -- at the end of a loop
+  pub distances_end : (ys : List (Bor T × S)) (t u : NearestNeighborDistance2Iterator T E P S) → Yields gives_distance it (map Ok ys) t → gives_distance t None u
+      → IsPermutation (elements_of over) (map (λ y. y.0.now) ys) × AreInOrder (λ t. d.distance_2 t (table axes (coord at))) (map (λ y. y.0.now) ys)
+      × AllByRecursion (λ y. value y.1 ≡ pos (d.distance_2 y.0.now (table axes (coord at)))) ys × ((search_of u).opened ≡ min (parents_of over) usize_max)
+  distances_end =
+      told-end v d axes coord value (λ (i : NearestNeighborDistance2Iterator T E P S). search_of i) gives_distance (λ s r t h. h.0) (λ p. IsNoFarther (λ t. d.distance_2 t (table axes (coord p))))
+      (λ s y t h. h.0.gives.least) (λ s y t h. h.1) over at it begun
+
+-- ---- by the iterator in the stated order
+
+module _ {T E P S : Type 0} (v : Boxes E) (o : Objects T E) (d : Distances T) (order : T → T → Ordering) (axes : ℕ) (coord : P → ℕ → ℤ) (compare : S → S → Ordering) (value : S → ℤ)
+    (over : ParentNode T E) (at : P) (it : NearestNeighborByOrderIterator T E P S) (begun : HasBegun over at (search_by_order it)) where
   abbrev gives_by_order : NearestNeighborByOrderIterator T E P S → Option (Result (Bor T × S) AllocError) → NearestNeighborByOrderIterator T E P S → Type 0
   gives_by_order = GivesByOrder v o d order axes coord compare value
+
+  abbrev ordered : NearestNeighborByOrderIterator T E P S → Search T E P
+  ordered i = search_by_order i
 
   abbrev stated : P → T → T → Type 0
   stated p = IsNotLater (λ t. d.distance_2 t (table axes (coord p))) order
 
-  abbrev AreTold : P → List (Bor T × S) → Type 0
-  AreTold p ys = AllByRecursion (λ y. value y.1 ≡ pos (d.distance_2 y.0.now (table axes (coord p)))) ys
-
-  each-told : (ys : List (Bor T × S)) (s t : NearestNeighborByOrderIterator T E P S) → Yields gives_by_order s (map Ok ys) t → AreTold s.point ys
-  each-told [] s t run = tt
-  each-told (y ∷ ys) s t run = (run.1.2, subst (λ p. AreTold p ys) run.1.0.point (each-told ys run.0 t run.2))
+  comes-first : (s : NearestNeighborByOrderIterator T E P S) (y : Bor T × S) (t : NearestNeighborByOrderIterator T E P S) → gives_by_order s (Some (Ok y)) t → AllByRecursion (stated (search_by_order s).point y.0.now) (elements_waiting (search_by_order t))
+  comes-first s y t h = subst (λ p. AllByRecursion (stated p y.0.now) (elements_waiting (search_by_order t))) h.0.point h.1.first
 
   -- at the end of a loop
-  pub ordered_end : (over : ParentNode T E) (at : P) (it : NearestNeighborByOrderIterator T E P S) (begun : HasBegun over at (search_by_order it)) (ys : List (Bor T × S)) (t u : NearestNeighborByOrderIterator T E P S)
-      → Yields gives_by_order it (map Ok ys) t → gives_by_order t None u
-      → IsPermutation (elements_of over) (map (λ y. y.0.now) ys) × AreOrdered (stated at) (map (λ y. y.0.now) ys) × AreTold at ys × ((search_by_order u).opened ≡ min (parents_of over) usize_max)
-  ordered_end over at it begun ys t u run last =
-      let end = given-end v d axes coord (λ (y : Bor T × S). y.0.now) (search_by_order {S = S}) gives_by_order (λ s r t h. h.0) stated
-      (λ s y t h. subst (λ p. AllByRecursion (stated p y.0.now) (elements_waiting (search_by_order t))) h.0.point h.1.first) over at it begun ys t u run last in
-      (end.0, end.1, subst (λ p. AreTold p ys) begun.point (each-told ys it t run), end.2)
+  pub ordered_end : (ys : List (Bor T × S)) (t u : NearestNeighborByOrderIterator T E P S) → Yields gives_by_order it (map Ok ys) t → gives_by_order t None u
+      → IsPermutation (elements_of over) (map (λ y. y.0.now) ys) × AreOrdered (stated at) (map (λ y. y.0.now) ys)
+      × AllByRecursion (λ y. value y.1 ≡ pos (d.distance_2 y.0.now (table axes (coord at)))) ys × ((search_by_order u).opened ≡ min (parents_of over) usize_max)
+  ordered_end = told-end v d axes coord value ordered gives_by_order (λ s r t h. h.0) stated comes-first (λ s y t h. h.2) over at it begun
+
+  -- at the end of a loop over `take`
+  pub ordered_taken : (most : ℕ) (ys : List (Bor T × S)) (s t u : Take (NearestNeighborByOrderIterator T E P S)) → take_source s ≡ it → take_count s ≡ most → Yields (take_steps gives_by_order) s (map Ok ys) t → take_steps gives_by_order t None u
+      → AreFirstOf (stated at) (elements_of over) most (map (λ y. y.0.now) ys)
+  ordered_taken = given-taken v d axes coord (λ (y : Bor T × S). y.0.now) ordered gives_by_order (λ s r t h. h.0) stated comes-first over at it begun
+
+  -- what `try_collect` has taken into a list
+  pub ordered_collected : (all : Vec (Bor T × S) Global) → Collects gives_by_order it all
+      → IsPermutation (elements_of over) (map (λ y. y.0.now) all.items) × AreOrdered (stated at) (map (λ y. y.0.now) all.items)
+  ordered_collected = given-collected v d axes coord (λ (y : Bor T × S). y.0.now) ordered gives_by_order (λ s r t h. h.0) stated comes-first over at it begun

@@ -1,8 +1,10 @@
 -- What a turn of a search keeps, over the items of its heap, and the opening of its root.
-use Rattle.std.proofs.Common.{◌≡◌, ℕ, ◌+◌, ◌<◌, ◌≤◌, min, ℤ, pos, false, List, [], ◌∷◌, ◌++◌, ap, ◌∙◌, subst, All, arith, Option, Some}
+use Rattle.std.proofs.Common.{◌≡◌, ℕ, ◌+◌, ◌<◌, ◌≤◌, min, ℤ, pos, false, List, [], ◌∷◌, ◌++◌, ap, ◌∙◌, subst, All, arith, Option, None, Some, Ok, Err}
+use Rattle.std.specs.Borrow.{Bor}
 use Rattle.std.specs.List.{AllByRecursion}
 use Rattle.std.specs.List.Sorted.{IsPermutation}
 use Rattle.std.specs.Ordering.{is_lt, int_cmp}
+use Rattle.std.specs.declared.alloc.AllocError.{AllocError}
 use Rattle.std.specs.declared.cmp.Ordering.{Ordering}
 use Rattle.std.proofs.lemmas.List.Sorted.{IsPermutation-refl, IsPermutation-trans, IsPermutation-map, sum_by_popped}
 use Rattle.std.proofs.lemmas.List.Elements.{recursion_from_All}
@@ -10,12 +12,14 @@ use Rattle.rstar_base.specs.Envelopes.{Boxes, EnvelopeLaws}
 use Rattle.rstar_base.specs.Elements.{Objects, ObjectLaws, Distances, DistanceLaws}
 use Rattle.rstar_base.specs.SmallHeaps.{Held, items_of, IsOrdered}
 use Rattle.rstar_base.proofs.Lists.{all_along, all_map}
+use Rattle.rstar.specs.declared.algorithm.nearest_neighbor.search.Stage.TheVariants.{Running, Ended}
 use Rattle.rstar.specs.declared.node.RTreeNode.{RTreeNode, Leaf, Parent}
 use Rattle.rstar.specs.declared.node.ParentNode.{ParentNode}
 use Rattle.rstar.specs.Nodes.{all_elements, all_parents, parents, children_of, IsWhole}
 use Rattle.rstar_base.specs.Counts.{usize_max}
 use Rattle.rstar.specs.Neighbors.{IsNeighbor}
-use Rattle.rstar.specs.inside.Searches.{Item, nearest_on_top, ComesFirst, waiting_nodes, distance_of, AreWholeNodes, AreWaiting, IsRunning}
+use Rattle.rstar.specs.inside.Searches.{Item, NodeSearch, nearest_on_top, waiting_of, ComesFirst, IsReady, IsUnrefused, waiting_nodes, distance_of, AreWholeNodes, AreWaiting, IsRunning}
+use Rattle.rstar.specs.inside.SearchSteps.{GivesNext, IsUnderWay}
 use Rattle.rstar.proofs.trees.ByChildren.{node_distance-Leaf, parents-Parent}
 use Rattle.rstar.proofs.searching.Nearness.{IsMeasured, IsPart, part-Parent}
 use Rattle.rstar.proofs.searching.Searches.{first-nodes, parts-parent, fewer-parents, same-elements, counted-parent, far-parent, bag-given, least-given, far-given, counted-leaf, far-rest, fresh-counted, fresh-far}
@@ -101,32 +105,48 @@ module _ {T E : Type 0} {IsPoint : List ℤ → Type 0} {v : Boxes E} {o : Objec
 
     -- its children came into the heap
     module _ (vs : Held (Item T E S O)) (put : IsPermutation (rest ++ children_of q) (waiting_nodes (items_of vs))) where
-      pub parent-running : AreWaiting v d p compare ties value vs → {more : ℕ} → more ≡ min (opened + 1) usize_max → IsRunning v d p compare ties value o root vs more
-      parent-running waiting is_more =
-          let i = part-Parent law q (subst (IsPart law) is all-parts.0) in
-          record {
-            waiting = waiting;
-            parts = parts-parent law q (nodes-as (Parent q) is) put i.0 i.2 all-parts.1;
-            counted = counted-parent law q (nodes-as (Parent q) is) put is_more running.counted;
-            still_far = far-parent law q (nodes-as (Parent q) is) put i.0 i.2 root i.1 (least-as (Parent q) is) running.still_far;
-          }
-
       pub parent-fewer : 1 + all_parents (waiting_nodes (items_of vs)) ≡ all_parents old
       parent-fewer = fewer-parents law q (nodes-as (Parent q) is) put
 
-      pub parent-same : (before : List (RTreeNode T E)) → IsPermutation (all_elements before) (all_elements old) → IsPermutation (all_elements before) (all_elements (waiting_nodes (items_of vs)))
-      parent-same before same = IsPermutation-trans _ _ _ same (same-elements law q (nodes-as (Parent q) is) put)
+      pub parent-under-way : {before : List (RTreeNode T E)} → IsPermutation (all_elements before) (all_elements old) → all_parents old ≤ all_parents before → AreWaiting v d p compare ties value vs → {more : ℕ} → more ≡ min (opened + 1) usize_max
+          → IsUnderWay v d p compare ties value o root before vs more
+      parent-under-way same few waiting is_more =
+          let i = part-Parent law q (subst (IsPart law) is all-parts.0) in
+          record {
+            running = record {
+              waiting = waiting;
+              parts = parts-parent law q (nodes-as (Parent q) is) put i.0 i.2 all-parts.1;
+              counted = counted-parent law q (nodes-as (Parent q) is) put is_more running.counted;
+              still_far = far-parent law q (nodes-as (Parent q) is) put i.0 i.2 root i.1 (least-as (Parent q) is) running.still_far;
+            };
+            bag = IsPermutation-trans _ _ _ same (same-elements law q (nodes-as (Parent q) is) put);
+            fewer = omega (arith, parent-fewer, few);
+          }
+
+-- an element was given
+pub gives-one : {T E S O : Type 0} {v : Boxes E} {d : Distances T} {p : List ℤ} {value : S → ℤ} {compare : S → S → Ordering} {ties : RTreeNode T E → RTreeNode T E → Ordering} {o : Objects T E} {old new : NodeSearch T E S O} {x : Bor T × S}
+    → new.root ≡ old.root → IsReady v d p compare ties value o new → IsNeighbor v d p old.root.now (waiting_of old) (waiting_of new) x.0.now → value x.1 ≡ pos (d.distance_2 x.0.now p) → ComesFirst v d p ties (waiting_of new) x.0.now
+    → IsUnrefused old.stage → new.stage ≡ Running → GivesNext v d p compare ties value o old (Some (Ok x)) new
+gives-one root ready gives distance first going on =
+    record { root = root; ready = ready; gives = gives; distance = distance; first = first; none = tt; over = tt; stays = tt; refused = tt; goes_on = on; ends = tt; once = going; ended = λ over. absurd (over going) }
+
+-- none was given
+pub ends-none : {T E S O : Type 0} {v : Boxes E} {d : Distances T} {p : List ℤ} {value : S → ℤ} {compare : S → S → Ordering} {ties : RTreeNode T E → RTreeNode T E → Ordering} {o : Objects T E} {old new : NodeSearch T E S O} → new.root ≡ old.root → IsReady v d p compare ties value o new
+    → (IsUnrefused old.stage → (all_elements (waiting_of old) ≡ []) × (waiting_of new ≡ []) × (new.stage ≡ Running)) → ((IsUnrefused old.stage → ⊥) → IsUnrefused new.stage → ⊥) → GivesNext v d p compare ties value o old None new
+ends-none root ready over ended =
+    record { root = root; ready = ready; gives = tt; distance = tt; first = tt; none = λ on. (over on).0; over = λ on. (over on).1; stays = λ on. (over on).2; refused = tt; goes_on = tt; ends = tt; once = tt; ended = ended }
+
+-- a refusal ends a search
+pub ends-refused : {T E S O : Type 0} {v : Boxes E} {d : Distances T} {p : List ℤ} {value : S → ℤ} {compare : S → S → Ordering} {ties : RTreeNode T E → RTreeNode T E → Ordering} {o : Objects T E} {old new : NodeSearch T E S O} {z : AllocError}
+    → new.root ≡ old.root → 0 < all_parents (waiting_of old) → IsUnrefused old.stage → new.stage ≡ Ended → GivesNext v d p compare ties value o old (Some (Err z)) new
+ends-refused root waits going is =
+    record { root = root; ready = rw is tt; gives = tt; distance = tt; first = tt; none = tt; over = tt; stays = tt; refused = waits; goes_on = tt; ends = is; once = going; ended = λ over. absurd (over going) }
 
 -- a heap of the same items
 pub same-running : {T E S O : Type 0} {v : Boxes E} {d : Distances T} {p : List ℤ} {value : S → ℤ} {compare : S → S → Ordering} {ties : RTreeNode T E → RTreeNode T E → Ordering} {o : Objects T E} {root : ParentNode T E}
     {ws us : Held (Item T E S O)} {opened : ℕ} → items_of ws ≡ items_of us → IsOrdered (nearest_on_top compare ties) us
     → IsRunning v d p compare ties value o root ws opened → IsRunning v d p compare ties value o root us opened
-same-running e ordered running = record {
-  waiting = record { ordered = ordered; at = rw e at running.waiting.at };
-  parts = rw e at running.parts;
-  counted = rw e at running.counted;
-  still_far = rw e at running.still_far;
-}
+same-running e ordered running = record { waiting = record { ordered = ordered; at = rw e at running.waiting.at }; parts = rw e at running.parts; counted = rw e at running.counted; still_far = rw e at running.still_far }
 
 -- the root is opened: its children came into an empty heap
 module _ {T E : Type 0} {IsPoint : List ℤ → Type 0} {v : Boxes E} {o : Objects T E} {d : Distances T} {p : List ℤ} (law : IsMeasured IsPoint v o d p) {S O : Type 0} (root : ParentNode T E)
@@ -134,16 +154,14 @@ module _ {T E : Type 0} {IsPoint : List ℤ → Type 0} {v : Boxes E} {o : Objec
   alone : IsPermutation (Parent root ∷ []) (Parent root ∷ [])
   alone = IsPermutation-refl (Parent root ∷ [])
 
-  pub root-running : {value : S → ℤ} {compare : S → S → Ordering} {ties : RTreeNode T E → RTreeNode T E → Ordering} → IsWhole v o root → {opened : ℕ} → opened ≡ 1 → AreWaiting v d p compare ties value us → IsRunning v d p compare ties value o root us opened
-  root-running whole is waiting = record {
-    waiting = waiting;
-    parts = parts-parent law root alone put whole.height whole.below tt;
-    counted = counted-parent law root alone put (omega arith) (fresh-counted root);
-    still_far = far-parent law root alone put whole.height whole.below root whole.tight tt (fresh-far v d p root);
+  pub root-under-way : {value : S → ℤ} {compare : S → S → Ordering} {ties : RTreeNode T E → RTreeNode T E → Ordering} → IsWhole v o root → {opened : ℕ} → opened ≡ 1 → AreWaiting v d p compare ties value us → IsUnderWay v d p compare ties value o root (Parent root ∷ []) us opened
+  root-under-way whole is waiting = let less = fewer-parents law root alone put in record {
+    running = record {
+      waiting = waiting;
+      parts = parts-parent law root alone put whole.height whole.below tt;
+      counted = counted-parent law root alone put (omega arith) (fresh-counted root);
+      still_far = far-parent law root alone put whole.height whole.below root whole.tight tt (fresh-far v d p root);
+    };
+    bag = same-elements law root alone put;
+    fewer = omega arith;
   }
-
-  pub root-bag : IsPermutation (all_elements (Parent root ∷ [])) (all_elements (waiting_nodes (items_of us)))
-  root-bag = same-elements law root alone put
-
-  pub root-fewer : all_parents (waiting_nodes (items_of us)) ≤ all_parents (Parent root ∷ [])
-  root-fewer = let less = fewer-parents law root alone put in omega arith

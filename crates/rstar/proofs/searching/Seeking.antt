@@ -10,19 +10,22 @@ use Rattle.std.specs.Ordering.{is_lt, int_cmp}
 use Rattle.std.specs.declared.cmp.Ordering.{Ordering}
 use Rattle.std.proofs.lemmas.Int.{ints, int_min_is, by_lt_z}
 use Rattle.std.proofs.lemmas.List.{length-map, nil_from_length}
+use Rattle.std.proofs.lemmas.List.Sums.{sum_by-append}
 use Rattle.std.proofs.lemmas.List.Sorted.{IsPermutation-refl, IsPermutation-trans, IsPermutation-sym, IsPermutation-map, IsPermutation-append_left, IsPermutation-append_comm, Contains-permutation, length_permutation}
 use Rattle.std.proofs.lemmas.List.Elements.{All-from_recursion, All-contains, recursion_from_All}
 use Rattle.rstar_base.specs.Envelopes.{Boxes}
 use Rattle.rstar_base.specs.Elements.{Objects, Distances}
+use Rattle.rstar_base.specs.SmallHeaps.{Held, items_of}
 use Rattle.rstar_base.proofs.Lists.{all-append, all_first, all_second, all_along, all_map, all_both}
+use Rattle.rstar.specs.declared.algorithm.nearest_neighbor.few.Best.{Best}
 use Rattle.rstar.specs.declared.algorithm.nearest_neighbor.few.Kept.{Kept}
 use Rattle.rstar.specs.declared.algorithm.nearest_neighbor.few.Kept.TheVariants.{One, Few}
 use Rattle.rstar.specs.declared.algorithm.nearest_neighbor.waiting.Waiting.{Waiting}
 use Rattle.rstar.specs.declared.node.RTreeNode.{RTreeNode, Parent}
 use Rattle.rstar.specs.declared.node.ParentNode.{ParentNode}
-use Rattle.rstar.specs.Nodes.{elements, all_elements, node_box, children_of, elements_of, envelope_of, IsWhole}
+use Rattle.rstar.specs.Nodes.{elements, parents, all_elements, all_parents, node_box, children_of, elements_of, envelope_of, IsWhole}
 use Rattle.rstar.specs.Lists.{AreFirstOf, IsNearest, IsNotLater}
-use Rattle.rstar.specs.inside.Few.{Found, found_elements, kept_in, waiting_parents, AreFoundSoFar, IsAbove, IsBound, IsKept, IsLowered, IsSeeking, IsTightened, WaitAtDistance}
+use Rattle.rstar.specs.inside.Few.{Found, found_elements, kept_in, waiting_parents, AreFoundSoFar, IsAbove, IsBound, IsKept, IsLowered, IsSeeking, IsTightened, Visits, WaitAtDistance}
 use Rattle.rstar.specs.inside.Searches.{any_first, distance_of, nearest_on_top}
 use Rattle.rstar.proofs.searching.ByOrder.{later-far, no-nearer}
 use Rattle.rstar.proofs.searching.Few.{all-mapped, first-along, first-beyond, so-far-same, so-far-end}
@@ -54,6 +57,23 @@ module _ {T E S O : Type 0} {v : Boxes E} {o : Objects T E} {d : Distances T} {p
   pub seek-popped : {Y : Type 0} {w : Waiting (Bor (ParentNode T E)) S Y} {ws us : List (Waiting (Bor (ParentNode T E)) S Y)} {found : List (Found T S O)} → IsPermutation ws (w ∷ us)
       → IsSeeking v o d p compare value most all (waiting_parents ws) bound found → IsSeeking v o d p compare value most all (Parent w.node.now ∷ waiting_parents us) bound found
   seek-popped {Y} {w = w} {ws = ws} {us = us} popped = seek-same (IsPermutation-map (λ (u : Waiting (Bor (ParentNode T E)) S Y). Parent u.node.now) ws (w ∷ us) popped)
+
+-- one visit after another
+pub visits-more : {S T E O Y : Type 0} {scalars : S → S → Ordering} {compare : T → T → Ordering} {value : S → ℤ} {most : ℕ} {v : Boxes E} {o : Objects T E} {d : Distances T} {p : List ℤ} {heap mid heap' : Held (Waiting (Bor (ParentNode T E)) S Y)} {old between new : Best T S O} {xs ys zs : List (RTreeNode T E)}
+    → Visits scalars compare value most v o d p xs heap old mid between → Visits scalars compare value most v o d p ys mid between heap' new → zs ≡ xs ++ ys → Visits scalars compare value most v o d p zs heap old heap' new
+visits-more {xs = xs} {ys = ys} a b is = record {
+  ordered = b.ordered;
+  best = b.best;
+  same = b.same ∙ a.same;
+  waiting = λ before. b.waiting (a.waiting before);
+  fewer = omega (arith, a.fewer, b.fewer, ap all_parents is, sum_by-append parents xs ys);
+  first = λ all rest s. b.first all rest (a.first all (ys ++ rest) (rw (is, append_assoc xs ys rest) at s));
+}
+
+-- where no others are left
+pub visits-all : {S T E O Y : Type 0} {scalars : S → S → Ordering} {compare : T → T → Ordering} {value : S → ℤ} {most : ℕ} {v : Boxes E} {o : Objects T E} {d : Distances T} {p : List ℤ} {heap heap' : Held (Waiting (Bor (ParentNode T E)) S Y)} {old new : Best T S O} {nodes : List (RTreeNode T E)}
+    → Visits scalars compare value most v o d p nodes heap old heap' new → (all : List T) → IsSeeking v o d p compare value most all (waiting_parents (items_of heap) ++ nodes) old.bound (kept_in old.kept) → IsSeeking v o d p compare value most all (waiting_parents (items_of heap')) new.bound (kept_in new.kept)
+visits-all {heap' = heap'} {nodes = nodes} visits all s = rw (append-nil (waiting_parents (items_of heap'))) at (visits.first all [] (rw (append-nil nodes) s))
 
 -- before a child is asked, no element was seen, and none was cut
 pub seek-start : {T E S O Y : Type 0} {v : Boxes E} {o : Objects T E} {d : Distances T} {p : List ℤ} {compare : T → T → Ordering} {value : S → ℤ} {most : ℕ} {root : ParentNode T E} {ws : List (Waiting (Bor (ParentNode T E)) S Y)} {bound : Option S} {found : List (Found T S O)}

@@ -4,20 +4,19 @@ use Rattle.std.specs.List.{AllByRecursion}
 use Rattle.std.specs.List.Sorted.{IsPermutation}
 use Rattle.std.proofs.lemmas.List.Sorted.{IsPermutation-refl}
 use Rattle.std.proofs.lemmas.List.Elements.{filter-append, filter_passes, All-contains, All-from_recursion, recursion_from_All}
-use Rattle.std.proofs.lemmas.Bool.{false_from_ne_true}
 use Rattle.std.proofs.lemmas.Bool.Decides.{nat_tests}
 use Rattle.std.proofs.lemmas.Int.{ints}
 use Rattle.rstar_base.proofs.Along.{IsPermutation-flat_map}
 use Rattle.rstar_base.proofs.Lists.{all_map}
 use Rattle.rstar.specs.declared.node.RTreeNode.{RTreeNode, Leaf, Parent, Parent'}
 use Rattle.rstar.specs.declared.node.ParentNode.{ParentNode}
-use Rattle.rstar.specs.declared.algorithm.nearest_neighbor.search.Stage.TheVariants.{Fresh}
 use Rattle.rstar.specs.Lists.{IsNearest, AreSomeNearest}
-use Rattle.rstar.specs.Nodes.{elements, all_elements, elements_of, children_of, total, fold_tree}
+use Rattle.rstar.specs.Nodes.{elements, all_elements, children_of, total, fold_tree}
 use Rattle.rstar_base.specs.Envelopes.{Boxes}
 use Rattle.rstar_base.specs.Elements.{Objects, Distances}
-use Rattle.rstar.specs.inside.Searches.{NodeSearch, waiting_of, distance_of, AreWholeNodes}
+use Rattle.rstar.specs.inside.Searches.{distance_of, AreWholeNodes}
 use Rattle.rstar.specs.inside.Traversals.{steps}
+use Rattle.rstar.proofs.removing.Scans.{filter_none}
 use Rattle.rstar.proofs.searching.Nearness.{IsMeasured, IsPart, above-node, part-Parent, parts}
 use Rattle.rstar.proofs.trees.ByChildren.{elements-Leaf, elements-Parent, node_distance-Leaf, steps-Parent}
 
@@ -40,14 +39,9 @@ module _ {X : Type 0} (p : X → Bool) where
   filter-agree q [] h = refl
   filter-agree q (x ∷ xs) h = rw (h.0, filter-agree q xs h.1)
 
-  -- where a filter leaves none, none passes
-  none-pass : (xs : List X) → filter p xs ≡ [] → AllByRecursion (λ x. p x ≡ false) xs
-  none-pass [] e = tt
-  none-pass (x ∷ xs) e = let is = false_from_ne_true (p x) (λ chosen. let kept = rw chosen at e in cc) in (is, none-pass xs (rw is at e))
-
-  filter-nothing : (xs : List X) → AllByRecursion (λ x. p x ≡ false) xs → filter p xs ≡ []
-  filter-nothing [] h = refl
-  filter-nothing (x ∷ xs) h = rw h.0 (filter-nothing xs h.1)
+  pub filter_nothing : (xs : List X) → AllByRecursion (λ x. p x ≡ false) xs → filter p xs ≡ []
+  filter_nothing [] h = refl
+  filter_nothing (x ∷ xs) h = rw h.0 (filter_nothing xs h.1)
 
 -- what a test of two distances says
 pub close-by : (x y : ℤ) (m d : ℕ) (b : Bool) → x ≡ pos m → y ≡ pos d → b ≡ int_le x y → b ≡ true → m ≤ d
@@ -70,7 +64,7 @@ nearest-within {T} distance all found t limit near reach is =
     let tied = λ (u : T). distance u == distance t in
     let here : found ≡ filter (λ u. int_le (pos (distance u)) (pos (distance t))) all = is ∙ ap (λ l. filter (λ u. int_le (pos (distance u)) l) all) reach in
     let same : filter tied all ≡ found = sym (here ∙ filter-agree (λ u. int_le (pos (distance u)) (pos (distance t))) tied all (all_map _ _ (λ u le. same-test (distance u) (distance t) le) all near.least)) in
-    let some : found ≢ [] = λ e. let not = All-contains (λ u. tied u ≡ false) all t (All-from_recursion _ all (none-pass tied all (same ∙ e))) near.member in grind (arith, nat_tests) in
+    let some : found ≢ [] = λ e. let not = All-contains (λ u. tied u ≡ false) all t (All-from_recursion _ all (filter_none tied all (same ∙ e))) near.member in grind (arith, nat_tests) in
     record {
       nearest = record {
         least = near.least;
@@ -124,7 +118,7 @@ module _ {T E : Type 0} {IsPoint : List ℤ → Type 0} {v : Boxes E} {o : Objec
   -- a node that lies beyond
   pub passed-beyond : false ≡ int_le (pos (distance_of v d p n)) limit → AreToCome v o d p limit nodes ns before taken → AreToCome v o d p limit nodes rest before taken
   passed-beyond far come =
-      let none = filter-nothing (λ t. int_le (pos (d.distance_2 t p)) limit) (elements n) (all_map (λ t. distance_of v d p n ≤ d.distance_2 t p) _ (λ t le. farther (distance_of v d p n) (d.distance_2 t p) le far) (elements n) (above-node law n (subst (AreWholeNodes v o) is come.parts).0)) in
+      let none = filter_nothing (λ t. int_le (pos (d.distance_2 t p)) limit) (elements n) (all_map (λ t. distance_of v d p n ≤ d.distance_2 t p) _ (λ t le. farther (distance_of v d p n) (d.distance_2 t p) le far) (elements n) (above-node law n (subst (AreWholeNodes v o) is come.parts).0)) in
       passed-node (sym (append-nil taken) ∙ ap (λ l. taken ++ l) (sym none)) come
     where
       farther : (m k : ℕ) → m ≤ k → false ≡ int_le (pos m) limit → int_le (pos k) limit ≡ false
@@ -141,7 +135,3 @@ module _ {T E : Type 0} {IsPoint : List ℤ → Type 0} {v : Boxes E} {o : Objec
   -- a parent, with the elements of its children
   pub passed-parent : {more : List T} (q : ParentNode T E) (cs : List (RTreeNode T E)) → n ≡ Parent q → cs ≡ children_of q → more ≡ taken ++ within v o d p limit (all_elements cs) → AreToCome v o d p limit nodes ns before taken → AreToCome v o d p limit nodes rest before more
   passed-parent q cs parent below added = passed-node (added ∙ ap (λ l. taken ++ within v o d p limit l) (ap all_elements below ∙ sym (ap elements parent ∙ elements-Parent q)))
-
--- a search that was made holds all elements
-pub fresh-elements : {T E S O : Type 0} (s : NodeSearch T E S O) (root : ParentNode T E) → s.stage ≡ Fresh → s.root.now ≡ root → all_elements (waiting_of s) ≡ elements_of root
-fresh-elements s root fresh is = rw (fresh, is, elements-Parent root, append-nil)

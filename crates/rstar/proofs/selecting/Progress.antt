@@ -1,7 +1,8 @@
 -- Each call that gives something leaves fewer.
 use Rattle.std.proofs.Common.{◌≡◌, ℕ, ℤ, ◌+◌, ◌-◌, ◌<◌, ◌≤◌, min, List, [], ◌∷◌, length, refl, ap, sym, ◌∙◌, subst, arith, Option, Some, None, Result, Ok, Err, IfSome, IfNone, IfOk, IfErr, OnSome, OnErr}
 use Rattle.std.specs.Borrow.{Bor}
-use Rattle.std.specs.Iterator.{size}
+use Rattle.std.specs.Iterator.{Count, IsFinite, MakesProgress, size}
+use Rattle.std.specs.declared.alloc.AllocError.{AllocError}
 use Rattle.std.proofs.lemmas.List.Sorted.{length_permutation}
 use Rattle.std.proofs.lemmas.Option.{IfSome_then}
 use Rattle.std.proofs.lemmas.Result.{IfOk-weaker, IfErr-weaker}
@@ -16,8 +17,9 @@ use Rattle.rstar.specs.declared.algorithm.nearest_neighbor.search.Stage.TheVaria
 use Rattle.rstar.specs.Nodes.{all_elements, all_parents, all_far, far_of, parents_of}
 use Rattle.rstar_base.specs.Counts.{usize_max}
 use Rattle.rstar_base.specs.Points.{table}
-use Rattle.rstar.specs.Neighbors.{IsNeighbor, HasBegun, GivesNeighbor, shown}
+use Rattle.rstar.specs.Neighbors.{IsNeighbor, GivesNeighbor, shown}
 use Rattle.rstar.specs.inside.Searches.{NodeSearch, Item, waiting_nodes, waiting_at, calls_at, waiting_of, held_by, calls_left, IsUnrefused, CountsOpenings, IsRunning, IsReady, IsReadyAt}
+use Rattle.rstar.specs.inside.SearchSteps.{GivesNext}
 use Rattle.rstar.proofs.searching.Searches.{fresh-counted, all-far-fewer}
 
 module _ {T E S O : Type 0} where
@@ -29,15 +31,11 @@ module _ {T E S O : Type 0} where
   many : (s : NodeSearch T E S O) → IsUnrefused s.stage → size (calls_left s) ≡ length (all_elements (waiting_of s)) + 1
   many s = many_at s.stage s.root.now (held_by s)
 
-  none_at : (stage : Stage) (root : ParentNode T E) (ws : List (Item T E S O)) → stage ≡ Ended → calls_at stage root ws ≡ 0
-  none_at stage root ws e = ap (λ v. calls_at v root ws) e
-
   module _ (v : Boxes E) (d : Distances T) (p : List ℤ) (s t : NodeSearch T E S O) where
     -- a neighbour more
     pub given-fewer : (x : T) → IsNeighbor v d p s.root.now (waiting_of s) (waiting_of t) x → t.stage ≡ Running → IsUnrefused s.stage → size (calls_left t) < size (calls_left s)
     given-fewer x gives on going =
-        let before = many s going in
-        let after = many t (subst IsUnrefused (sym on) tt) in
+        let before = many s going in let after = many t (subst IsUnrefused (sym on) tt) in
         let fewer = length_permutation _ _ gives.bag in
         omega arith
 
@@ -45,7 +43,7 @@ module _ {T E S O : Type 0} where
     pub refused-fewer : t.stage ≡ Ended → IsUnrefused s.stage → size (calls_left t) < size (calls_left s)
     refused-fewer ended going =
         let before = many s going in
-        let after : size (calls_left t) ≡ 0 = none_at t.stage t.root.now (held_by t) ended in
+        let after : size (calls_left t) ≡ 0 = ap (λ stage. calls_at stage t.root.now (held_by t)) ended in
         omega (arith, before, after)
 
 -- until a refusal, the parents opened are those that do not wait
@@ -68,13 +66,11 @@ module _ {T E S O : Type 0} (v : Boxes E) (d : Distances T) (p : List ℤ) (comp
   pub given-cost : (x : T) → IsNeighbor v d p s.root.now (waiting_of s) (waiting_of t) x → t.stage ≡ Running
       → t.opened + far_of (λ e. v.distance_2 e p) (d.distance_2 x p) t.root.now ≤ parents_of t.root.now
   given-cost x gives on =
-      let m = d.distance_2 x p in
-      let is = running on in
+      let m = d.distance_2 x p in let is = running on in
       let waits : waiting_of t ≡ waiting_nodes (held_by t) = ap (λ stage. waiting_at stage t.root.now (held_by t)) on in
       let still : all_far (λ e. v.distance_2 e p) m (waiting_nodes (held_by t)) ≡ far_of (λ e. v.distance_2 e p) m t.root.now =
       ap (all_far (λ e. v.distance_2 e p) m) (sym waits) ∙ gives.still_far ∙ ap (far_of (λ e. v.distance_2 e p) m) (sym same) in
-      let few = all-far-fewer (λ e. v.distance_2 e p) m (waiting_nodes (held_by t)) in
-      let fewer = is.counted.fewer in
+      let few = all-far-fewer (λ e. v.distance_2 e p) m (waiting_nodes (held_by t)) in let fewer = is.counted.fewer in
       let counts = is.counted.counts in
       omega (arith, still, few, fewer, counts)
 
@@ -89,21 +85,11 @@ goes_on_at_end old new None h = λ going. subst IsUnrefused (sym (h going)) tt
 goes_on_at_end old new (Some x) h = tt
 
 -- what a call gives leaves fewer
-pub fewer-left : {T E S O Z : Type 0} (v : Boxes E) (d : Distances T) (p : List ℤ) (s t : NodeSearch T E S O) (r : Option (Result (Bor T × S) Z)) → IfSome r (λ x. IfOk x (λ y. IsNeighbor v d p s.root.now (waiting_of s) (waiting_of t) y.0.now))
-    → IfSome r (λ x. IfOk x (λ _. t.stage ≡ Running)) → IfSome r (λ x. IfErr x (λ _. t.stage ≡ Ended)) → IfSome r (λ _. IsUnrefused s.stage) → OnSome r (size (calls_left t) < size (calls_left s))
-fewer-left v d p s t None gives on refused going = tt
-fewer-left v d p s t (Some (Ok y)) gives on refused going = given-fewer v d p s t y.0.now gives on going
-fewer-left v d p s t (Some (Err z)) gives on refused going = refused-fewer v d p s t refused going
-
--- a search that was made has begun
-pub has-begun : {T E P S O : Type 0} (s : NodeSearch T E S O) (root : ParentNode T E) (point : P) → s.root.now ≡ root → s.stage ≡ Fresh → s.opened ≡ 0 → HasBegun root point (shown s point)
-has-begun {T} {E} {P} {S} s root point same fresh none = record {
-  root = same;
-  point = refl;
-  waiting = ap (λ stage. waiting_at stage s.root.now (held_by s)) fresh ∙ ap (λ (q : ParentNode T E). Parent q ∷ []) same;
-  opened = none;
-  going_on = subst IsUnrefused (sym fresh) tt;
-}
+pub fewer-left : {T E S O : Type 0} {v : Boxes E} {d : Distances T} {p : List ℤ} {compare : S → S → Ordering} {ties : RTreeNode T E → RTreeNode T E → Ordering} {value : S → ℤ} {o : Objects T E} {s t : NodeSearch T E S O} (r : Option (Result (Bor T × S) AllocError)) → GivesNext v d p compare ties value o s r t
+    → OnSome r (size (calls_left t) < size (calls_left s))
+fewer-left None told = tt
+fewer-left {v = v} {d = d} {p = p} {s = s} {t = t} (Some (Ok y)) told = given-fewer v d p s t y.0.now told.gives told.goes_on told.once
+fewer-left {v = v} {d = d} {p = p} {s = s} {t = t} (Some (Err z)) told = refused-fewer v d p s t told.ends told.once
 
 -- what a call of a search gives, as what it shows
 module _ {T E P S O A Z : Type 0} (v : Boxes E) (d : Distances T) (axes : ℕ) (coord : P → ℕ → ℤ) (compare : S → S → Ordering) (ties : RTreeNode T E → RTreeNode T E → Ordering) (value : S → ℤ) (o : Objects T E)
@@ -132,17 +118,9 @@ module _ {T E P S O A Z : Type 0} (v : Boxes E) (d : Distances T) (axes : ℕ) (
         fewer = λ going. subst (λ (q : ParentNode T E). all_parents (waiting_of t) ≤ parents_of q) root (count going).fewer;
       }
 
-pub on-some : {A : Type 0} (P Q R : Type 0) (r : Option A) → P → Q → OnSome r R → OnSome r (P × Q × R)
-on-some P Q R None p q r = tt
-on-some P Q R (Some x) p q r = (p, q, r)
-
-pub if-none : {A : Type 0} (P : Type 0) (r : Option A) → P → IfNone r P
-if-none P None p = p
-if-none P (Some x) p = tt
-
-pub if-some : {A : Type 0} (P : Type 0) (r : Option A) → P → IfSome r (λ _. P)
-if-some P None p = tt
-if-some P (Some x) p = p
+pub goes-on : {I A : Type 0} {can : I → Type 0} {left : I → Count} {old new : I} (r : Option A) → can new → IsFinite (left new) → OnSome r (size (left new) < size (left old)) → MakesProgress can left old r new
+goes-on None ready finite fewer = record { on = λ _. tt; keeps = tt; rests = λ _. finite }
+goes-on (Some x) ready finite fewer = record { on = λ _. (ready, finite, fewer); keeps = ready; rests = λ _. tt }
 
 pub on_err : {A Z : Type 0} (r : Result A Z) (P : Type 0) → P → OnErr r P
 on_err (Ok x) P p = tt

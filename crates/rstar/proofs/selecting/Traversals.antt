@@ -97,8 +97,7 @@ module _ {T E : Type 0} (accepts : E → Bool) (selects : T → Bool) where
         opens = omega arith;
         nearer = omega arith;
         levels = λ h is.
-            let here = subst (AllByRecursion (IsLevel is.0)) first is.2 in
-            let down = level-Parent is.0 p here.0 in
+            let here = subst (AllByRecursion (IsLevel is.0)) first is.2 in let down = level-Parent is.0 p here.0 in
             (is.0, is.1, here.1, (down.0, omega (arith, down.1), subst (AllByRecursion (IsLevel down.0)) (sym same) down.2, tt));
       }
 

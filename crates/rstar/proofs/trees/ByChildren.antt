@@ -1,5 +1,5 @@
 -- What a definition over a tree says of a leaf, and of a parent by the list of its children.
-use Rattle.std.proofs.Common.{Some, None, ◌≡◌, ℕ, ◌+◌, Bool, List, [], ◌∷◌, ◌++◌, map, flat_map, sum_by, if◌then◌else◌, nat_lt, refl, ap, sym, ◌∙◌, subst}
+use Rattle.std.proofs.Common.{Some, None, ◌≡◌, ℕ, ◌+◌, Bool, List, [], ◌∷◌, ◌++◌, map, flat_map, sum_by, if◌then◌else◌, nat_lt, refl, ap, sym, ◌∙◌, subst, ◌⊎◌, inl, inr}
 use Rattle.std.proofs.lemmas.List.Sums.{sum_by-cons}
 use Rattle.rstar.specs.declared.node.RTreeNode.{RTreeNode, Leaf, Parent, Row_of-RTreeNode, end_of-RTreeNode, more_of-RTreeNode, items-the_row-RTreeNode, items_hidden-the_row-RTreeNode-0, out-RTreeNode, roll-RTreeNode, roll-out-RTreeNode}
 use Rattle.rstar.specs.declared.node.RTreeNode.TheVariants.{outs-Parent, outs-Leaf, rolls-Parent, rolls-Leaf}
@@ -92,20 +92,6 @@ module _ {T E : Type 0} where
   unfolding IsParentOf
   no_parent Q t h = subst (IsParentLayer Q) (outs-Leaf t) h
 
-  pub is_parent : (Q : ParentNode T E → Type 0) (n : RTreeNode T E) → IsParentOf Q n → (p : ParentNode T E) × (n ≡ Parent p) × Q p
-  unfolding IsParentOf
-  is_parent Q n h = by_layer (out-RTreeNode T E n) (sym (roll-out-RTreeNode T E n)) h where
-    by_layer : (w : Layer T E) → n ≡ roll-RTreeNode T E w → IsParentLayer Q w → (p : ParentNode T E) × (n ≡ Parent p) × Q p
-    by_layer (layer.Leaf t) e h = absurd h
-    by_layer (layer.Parent p) e h = (p, e ∙ rolls-Parent p, h)
-
-  pub is_leaf : (Q : T → Type 0) (n : RTreeNode T E) → IsLeafOf Q n → (t : T) × (n ≡ Leaf t) × Q t
-  unfolding IsLeafOf
-  is_leaf Q n h = by_layer (out-RTreeNode T E n) (sym (roll-out-RTreeNode T E n)) h where
-    by_layer : (w : Layer T E) → n ≡ roll-RTreeNode T E w → IsLeafLayer Q w → (t : T) × (n ≡ Leaf t) × Q t
-    by_layer (layer.Leaf t) e h = (t, e ∙ rolls-Leaf t, h)
-    by_layer (layer.Parent p) e h = absurd h
-
 module _ (T E : Type 0) where
   pub elements-Leaf : (t : T) → elements {E = E} (Leaf t) ≡ t ∷ []
   unfolding elements fold_tree
@@ -150,3 +136,23 @@ module _ (T E : Type 0) where
   pub steps-Leaf : (t : T) → steps {E = E} (Leaf t) ≡ 1
   unfolding steps fold_tree
   steps-Leaf t = refl
+
+-- ---- leaves and parents
+
+-- what holds of each leaf and of each parent holds of each node
+pub by_node : {T E : Type 0} (P : RTreeNode T E → Type 0) → ((t : T) → P (Leaf t)) → ((p : ParentNode T E) → P (Parent p)) → (n : RTreeNode T E) → P n
+by_node {T} {E} P of_leaf of_parent n = by_layer (out-RTreeNode T E n) (sym (roll-out-RTreeNode T E n)) where
+  by_layer : (w : Layer T E) → n ≡ roll-RTreeNode T E w → P n
+  by_layer (layer.Leaf t) e = subst P (sym (e ∙ rolls-Leaf t)) (of_leaf t)
+  by_layer (layer.Parent p) e = subst P (sym (e ∙ rolls-Parent p)) (of_parent p)
+
+module _ {T E : Type 0} where
+  -- a node is a leaf or a parent
+  pub node-cases : (n : RTreeNode T E) → ((t : T) × (n ≡ Leaf t)) ⊎ ((p : ParentNode T E) × (n ≡ Parent p))
+  node-cases = by_node (λ (n : RTreeNode T E). ((t : T) × (n ≡ Leaf t)) ⊎ ((p : ParentNode T E) × (n ≡ Parent p))) (λ t. inl (t, refl)) (λ p. inr (p, refl))
+
+  pub is_parent : (Q : ParentNode T E → Type 0) (n : RTreeNode T E) → IsParentOf Q n → (p : ParentNode T E) × (n ≡ Parent p) × Q p
+  is_parent Q = by_node (λ (n : RTreeNode T E). IsParentOf Q n → (p : ParentNode T E) × (n ≡ Parent p) × Q p) (λ t h. absurd (no_parent Q t h)) (λ p h. (p, refl, parent_of Q p h))
+
+  pub is_leaf : (Q : T → Type 0) (n : RTreeNode T E) → IsLeafOf Q n → (t : T) × (n ≡ Leaf t) × Q t
+  is_leaf Q = by_node (λ (n : RTreeNode T E). IsLeafOf Q n → (t : T) × (n ≡ Leaf t) × Q t) (λ t h. (t, refl, leaf_of T E Q t h)) (λ p h. absurd (no_leaf Q p h))

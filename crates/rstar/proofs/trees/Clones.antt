@@ -1,7 +1,6 @@
--- What clones of nodes have.
-use Rattle.std.proofs.Common.{◌≡◌, ℕ, zero, suc, ◌+◌, ◌<◌, ◌≤◌, List, [], ◌∷◌, ◌++◌, length, map, take, get_or, refl, sym, ap, ap₂, ◌∙◌, subst}
-use Rattle.std.specs.List.{AllByRecursion, AllZip, flat_map}
-use Rattle.std.proofs.lemmas.List.{take_more, take_all}
+-- Clones of nodes, and of whole trees.
+use Rattle.std.proofs.Common.{◌≡◌, ℕ, zero, suc, List, [], ◌∷◌, map, refl, ap, ap₂, subst, flat_map}
+use Rattle.std.specs.List.{AllByRecursion, AllZip}
 use Rattle.rstar_base.specs.Envelopes.{Boxes}
 use Rattle.rstar_base.specs.Elements.{Objects}
 use Rattle.rstar.specs.declared.node.RTreeNode.{RTreeNode, Leaf, Parent}
@@ -13,33 +12,9 @@ use Rattle.rstar.specs.inside.Traversals.{IsLevel}
 use Rattle.rstar.specs.Trees.{IsUnchanged, IsWholeTree}
 use Rattle.rstar.specs.Clones.{ClonesEqual, IsNodeClone, IsParentClone}
 use Rattle.rstar.proofs.inserting.Insertion.{trees_map}
-use Rattle.rstar.proofs.lists.Items.{all_get, AllZip-append}
+use Rattle.rstar.proofs.lists.Items.{AllZip-append, zip_along}
 use Rattle.rstar.proofs.trees.ByChildren.{elements-Leaf, elements-Parent, shown-Leaf, shown-Parent, parent_of, no_leaf, no_parent}
 use Rattle.rstar.proofs.trees.Shown.{whole-alike}
-
--- the first items of a list, with the next one
-pub next_item : {A : Type 0} (xs items : List A) (k : ℕ) (x : A) → items ≡ xs → k < length items → x ≡ get_or items k x → take (k + 1) xs ≡ take k xs ++ x ∷ []
-next_item xs items k x same below is = subst (λ ys. take (k + 1) ys ≡ take k ys ++ x ∷ []) same (take_more items k x below ∙ ap (λ u. take k items ++ u ∷ []) (sym is))
-
--- one clone more
-pub zip_push : {A : Type 0} (R : A → A → Type 0) (xs items ys zs : List A) (k : ℕ) (x y : A) → items ≡ xs → AllZip R (take k xs) ys → k < length items → x ≡ get_or items k x → R x y → zs ≡ ys ++ y ∷ [] → AllZip R (take (k + 1) xs) zs
-zip_push R xs items ys zs k x y same z below is one put = rw (put, next_item xs items k x same below is) (AllZip-append R (take k xs) (x ∷ []) ys (y ∷ []) z (one, tt))
-
--- what holds of each item holds of this one
-pub item_has : {A : Type 0} (P : A → Type 0) (xs items : List A) (k : ℕ) (x : A) → items ≡ xs → k < length items → x ≡ get_or items k x → AllByRecursion P xs → P x
-item_has P xs items k x same below is h = rw is (all_get P items k x below (subst (AllByRecursion P) (sym same) h))
-
--- the clones of all
-pub zip_whole : {A B : Type 0} (R : A → B → Type 0) (xs items : List A) (ys : List B) (k : ℕ) → items ≡ xs → length items ≤ k → AllZip R (take k xs) ys → AllZip R xs ys
-zip_whole R xs items ys k same ended z = let all : length xs ≤ k = rw same at ended in subst (λ us. AllZip R us ys) (take_all k xs all) z
-
--- two lists place by place, from the end
-zip_along : {A B : Type 0} (R : A → B → Type 0) (P : List A → List B → Type 0) → P [] [] → ((x : A) (y : B) (xs : List A) (ys : List B) → R x y → P xs ys → P (x ∷ xs) (y ∷ ys))
-    → (xs : List A) (ys : List B) → AllZip R xs ys → P xs ys
-zip_along R P none more [] [] z = none
-zip_along R P none more [] (y ∷ ys) z = absurd z
-zip_along R P none more (x ∷ xs) [] z = absurd z
-zip_along R P none more (x ∷ xs) (y ∷ ys) z = more x y xs ys z.0 (zip_along R P none more xs ys z.1)
 
 module _ {T E : Type 0} (is_clone : T → T → Type 0) where
   -- the elements of clones are clones, in their places

@@ -1,8 +1,8 @@
 -- Trees that show the same nodes: what holds of one, by what it shows, holds of the other.
-use Rattle.std.proofs.Common.{◌≡◌, ℕ, zero, suc, ◌+◌, ◌*◌, ◌<◌, ◌≤◌, ℤ, List, [], ◌∷◌, length, map, flat_map, get_or, refl, sym, ap, ap₂, ◌∙◌, subst, inl, inr}
-use Rattle.std.specs.List.{All, AllByRecursion, AllPairs, Contains}
-use Rattle.std.proofs.Math.ListN.{get_or-map}
+use Rattle.std.proofs.Common.{◌≡◌, ℕ, zero, suc, ◌+◌, ◌<◌, ◌≤◌, List, [], ◌∷◌, length, map, get_or, refl, sym, ap, ap₂, ◌∙◌, subst, ◌*◌, ℤ, flat_map, inl, inr}
+use Rattle.std.specs.List.{AllByRecursion, All, AllPairs, Contains}
 use Rattle.std.proofs.lemmas.List.{length-map, get_or_default, nil_from_length}
+use Rattle.std.proofs.Math.ListN.{get_or-map}
 use Rattle.rstar_base.specs.Envelopes.{Boxes}
 use Rattle.rstar_base.specs.Elements.{Objects}
 use Rattle.rstar_base.specs.Hulls.{hull}
@@ -10,15 +10,15 @@ use Rattle.rstar_base.specs.Slabs.{NoneAbove}
 use Rattle.rstar.specs.declared.node.RTreeNode.{RTreeNode, Leaf, Parent', Row_of-RTreeNode, end_of-RTreeNode, more_of-RTreeNode}
 use Rattle.rstar.specs.declared.node.ParentNode.{ParentNode}
 use Rattle.rstar.specs.declared.rtree.RTree.{RTree}
-use Rattle.rstar.specs.Nodes.{fold_tree, fold_row, joined, elements, all_elements, elements_of, envelopes, envelope_of, children_of, IsTree, IsLeafOf, IsParentOf, IsInner, IsElement}
-use Rattle.rstar.specs.Shown.{Shown, leaf, parent, row_of, nodes_in, fold_shown, fold_shown_row, shown, shown_root}
+use Rattle.rstar.specs.Nodes.{elements, elements_of, children_of, fold_tree, fold_row, joined, all_elements, envelopes, envelope_of, IsTree, IsLeafOf, IsParentOf, IsInner, IsElement}
+use Rattle.rstar.specs.Shown.{shown, shown_root, leaf, parent, row_of, Shown, nodes_in, fold_shown, fold_shown_row}
+use Rattle.rstar.specs.Trees.{IsUnchanged, IsWholeTree}
 use Rattle.rstar.specs.Heights.{levels, levels_below, first_of}
 use Rattle.rstar.specs.Shapes.{AreTrees, HasSize, IsAny, IsSized}
 use Rattle.rstar.specs.inside.ParentBounds.{HasAtMost, IsSpare}
-use Rattle.rstar.specs.Trees.{IsUnchanged, IsWholeTree}
 use Rattle.rstar.specs.Loaded.{IsParted, IsCut, IsCutAbove, HasSmallParent, IsLoadDepth, IsLoaded}
-use Rattle.rstar.proofs.joining.PairsByChildren.{node-cases, nodes-row}
-use Rattle.rstar.proofs.trees.ByChildren.{joined-map, shown-Leaf, shown-Parent, is_leaf, is_parent, IsLeafOf-Leaf, IsParentOf-Parent}
+use Rattle.rstar.proofs.trees.ByChildren.{node-cases, shown-Leaf, shown-Parent, joined-map, is_leaf, is_parent, IsLeafOf-Leaf, IsParentOf-Parent}
+use Rattle.rstar.proofs.joining.PairsByChildren.{nodes-row}
 
 -- ---- what a node shows tells what it is
 

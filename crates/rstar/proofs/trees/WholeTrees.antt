@@ -1,16 +1,19 @@
--- From what a tree keeps to what an insertion asks, and back.
-use Rattle.std.proofs.Common.{◌≡◌, ◌≢◌, ℕ, zero, suc, ◌<◌, List, [], ◌∷◌, length, max, min, ap, sym, subst, arith}
-use Rattle.rstar_base.specs.Envelopes.{Boxes}
-use Rattle.rstar_base.specs.Elements.{Objects}
+-- From what a tree keeps to what an insertion asks, and back; a tree of a root that was made elsewhere.
+use Rattle.std.proofs.Common.{◌≡◌, ◌≢◌, ℕ, zero, suc, ◌<◌, List, [], ◌∷◌, length, max, min, ap, sym, subst, arith, ℤ, ◌+◌, ◌^◌, ◌≤◌}
+use Rattle.std.specs.List.{AllByRecursion}
+use Rattle.rstar_base.specs.Envelopes.{Boxes, EnvelopeLaws}
+use Rattle.rstar_base.specs.Elements.{Objects, ObjectLaws}
 use Rattle.rstar.specs.declared.node.RTreeNode.{RTreeNode}
 use Rattle.rstar.specs.declared.node.ParentNode.{ParentNode}
 use Rattle.rstar.specs.Nodes.{IsTree, IsElement, IsInner, AreWhole, children_of}
 use Rattle.rstar.specs.Shapes.{AreTrees, IsAny, HasSize, IsSized}
 use Rattle.rstar.specs.Heights.{levels_below}
-use Rattle.rstar.specs.inside.ParentBounds.{HasAtMost, IsKeptInner, AreKept, IsKeptTree}
+use Rattle.rstar.specs.inside.ParentBounds.{HasAtMost, IsKeptInner, AreKept, IsKeptTree, IsSpare}
+use Rattle.rstar.specs.declared.rtree.RTree.{RTree}
+use Rattle.rstar.specs.Trees.{elements_in, IsWholeTree}
 use Rattle.rstar.proofs.trees.Heights.{levels_are, at_levels}
 use Rattle.rstar.proofs.trees.ByChildren.{is_parent, parent_of, IsParentOf-Parent}
-use Rattle.rstar.proofs.inserting.Insertion.{trees_map}
+use Rattle.rstar.proofs.inserting.Insertion.{trees_map, whole_of_kept}
 use Rattle.rstar.proofs.lists.Items.{some_item}
 
 module _ {T E : Type 0} (v : Boxes E) (o : Objects T E) (widest : ℕ) where
@@ -42,6 +45,11 @@ module _ {T E : Type 0} (v : Boxes E) (o : Objects T E) (widest : ℕ) where
   pub narrow_of : (h : ℕ) (ns : List (RTreeNode T E)) → AreKept v o widest h ns → AreTrees (HasAtMost widest) IsAny h ns
   narrow_of = trees_map (λ p k. k.0.narrow) (λ t k. tt)
 
+-- where there are levels there are nodes
+pub some_below : {T E : Type 0} (ns : List (RTreeNode T E)) (n : ℕ) → n ≡ levels_below ns → 0 < n → 0 < length ns
+some_below [] n is above = let zero : n ≡ 0 = is in absurd (omega (arith, zero, above))
+some_below (m ∷ ms) n is above = omega arith
+
 module _ {T E : Type 0} (min max : ℕ) (positive : 0 < min) where
   has_child : (p : ParentNode T E) → HasSize min max p → p.children.items ≢ []
   has_child p size none = let long = ap length none in absurd (omega (arith, long, size.0))
@@ -55,4 +63,20 @@ sized_along min max a b same s = record {
   height = s.height;
   most = rw same s.most;
   below = subst (AreTrees (HasSize min max) IsAny s.height) (sym same) s.below;
+}
+
+pub kept_root : {T D E P S X : Type 0} {IsPoint : List ℤ → Type 0} {v : Boxes E} {o : Objects T E} (laws : EnvelopeLaws IsPoint v) (ok : ObjectLaws v o) (max widest : ℕ) (tree : RTree T D E P S X) → IsKeptTree v o widest tree.levels tree.root
+    → tree.size ≡ length (elements_in tree) → tree.levels < 2 ^ 64 → max ≤ widest → widest + 1 < 2 ^ 64 → tree.reserve.widest ≡ widest → AllByRecursion (IsSpare tree.reserve.widest) tree.reserve.spares.items → tree.reserve.overfull.items ≡ [] → IsWholeTree v o max tree
+unfolding IsWholeTree
+kept_root {v = v} {o = o} laws ok max widest tree kept count low wide fits is spares over = record {
+  root_whole = record { height = tree.levels; tight = kept.0.0.tight; below = whole_of_kept laws ok widest tree.levels (children_of tree.root) kept.1 };
+  counted = count;
+  leveled = levels_kept v o widest tree.levels tree.root kept;
+  low = low;
+  wide = rw is wide;
+  wide_fits = rw is fits;
+  narrow = rw is kept.0.0.narrow;
+  narrow_below = rw is (narrow_of v o widest tree.levels (children_of tree.root) kept.1);
+  spares = spares;
+  none_over = over;
 }

@@ -140,8 +140,7 @@ module _ {T E : Type 0} (v : Boxes E) (o : Objects T E) where
       → IsChangedTree (KeepsBox o) whole.root_whole.height old new → WholeTree v o max new
   unfolding root-kept
   whole-kept max old new whole w =
-      let h = whole.root_whole.height in
-      let root = root-kept old.root new.root whole.root_whole w.root in
+      let h = whole.root_whole.height in let root = root-kept old.root new.root whole.root_whole w.root in
       let few = AllZip-long (IsChanged (KeepsBox o) h) (children_of (root_of old)) (children_of (root_of new)) w.root.children in
       let many = AllZip-long (KeepsBox o) (elements_in old) (elements_in new) (changed-below (KeepsBox o) h (children_of (root_of old)) (children_of (root_of new)) w.root.children) in
       record {

@@ -177,8 +177,7 @@ module _ {T E : Type 0} {IsPoint : List ℤ → Type 0} {v : Boxes E} {o : Objec
   pub search-is-scan : (h : ℕ) (ns : List (RTreeNode T E)) → AreWhole v o h ns
       → nat_lt (first_at v d p ns) (length ns) ≡ list_any (λ t. d.contains_point t p) (all_elements ns)
   search-is-scan h ns w =
-      let accepts : E → Bool = λ e. v.contains_point e p in
-      let selects : T → Bool = λ t. d.contains_point t p in
+      let accepts : E → Bool = λ e. v.contains_point e p in let selects : T → Bool = λ t. d.contains_point t p in
       full-all accepts selects ns
       ∙ ap full (all-each laws ok accepts selects point-lawful h (all-node laws ok accepts selects point-lawful h) ns w)
       ∙ any-filter selects (all_elements ns)

@@ -221,6 +221,5 @@ written_as {V} {T} {B} step first selects (t ∷ ts) r us visit f leaves =
     by_test false here below = here.1 ∙ ap (λ (l : List T). t ∷ l) (below first here.0 here.2)
     by_test true (inl here) below = cc (leaves first here.0 (Break here.2) here.1 visit.last here.5).0
     by_test true (inr here) below =
-        let next = below here.2 here.3 here.7 in
-        let one = (leaves first here.0 (Continue tt) here.1 here.2 here.5).1 in
+        let next = below here.2 here.3 here.7 in let one = (leaves first here.0 (Continue tt) here.1 here.2 here.5).1 in
         here.6 ∙ ap (λ (u : T). u ∷ here.3) (one ∙ ap f here.4) ∙ ap (λ (l : List T). f t ∷ l) next

@@ -1,22 +1,24 @@
 -- What a search for the first few elements keeps: those found so far, a bound for the nearest, and the parents that wait.
 -- T is the element's type, E its envelope's, S its scalar's.
-use Rattle.std.specs.Prelude.{◌≡◌, ℕ, ◌<◌, ◌≤◌, ◌<ℤ◌, ◌≤ℤ◌, ◌⊎◌, ℤ, pos, Bool, true, false, List, [], ◌∷◌, ◌++◌, length, map, Option, Some, None, IfSome, MatchOption, option_to_list}
+use Rattle.std.specs.Prelude.{◌≡◌, ℕ, ◌+◌, ◌<◌, ◌≤◌, ◌<ℤ◌, ◌≤ℤ◌, ◌⊎◌, ℤ, pos, Bool, true, false, List, [], ◌∷◌, ◌++◌, length, map, Option, Some, None, Result, IfOk, IfSome, IfNone, MatchOption, option_to_list}
 use Rattle.std.specs.Borrow.{Bor}
 use Rattle.std.specs.Int.{int_min}
 use Rattle.std.specs.List.{AllByRecursion, Contains, insert}
 use Rattle.std.specs.List.Sorted.{IsPermutation}
-use Rattle.std.specs.Ordering.{is_lt}
+use Rattle.std.specs.Ordering.{flip_args, is_lt}
 use Rattle.std.specs.declared.cmp.Ordering.{Ordering}
 use Rattle.rstar_base.specs.Envelopes.{Boxes}
 use Rattle.rstar_base.specs.Elements.{Objects, Distances}
+use Rattle.rstar_base.specs.SmallHeaps.{Held, items_of, IsOrdered, Rises}
 use Rattle.rstar.specs.declared.node.RTreeNode.{RTreeNode, Parent}
 use Rattle.rstar.specs.declared.node.ParentNode.{ParentNode}
+use Rattle.rstar.specs.declared.algorithm.nearest_neighbor.few.Best.{Best}
 use Rattle.rstar.specs.declared.algorithm.nearest_neighbor.few.Kept.{Kept}
 use Rattle.rstar.specs.declared.algorithm.nearest_neighbor.few.Kept.TheVariants.{One, Few}
 use Rattle.rstar.specs.declared.algorithm.nearest_neighbor.waiting.Waiting.{Waiting}
-use Rattle.rstar.specs.Lists.{IsNotLater, AreFirstOf}
-use Rattle.rstar.specs.Nodes.{all_elements}
-use Rattle.rstar.specs.inside.Searches.{AreWholeNodes, distance_of}
+use Rattle.rstar.specs.Lists.{IsNearest, IsNotLater, AreFirstOf}
+use Rattle.rstar.specs.Nodes.{all_elements, all_parents, elements_of, envelope_of}
+use Rattle.rstar.specs.inside.Searches.{any_first, AreWholeNodes, distance_of, nearest_on_top}
 
 -- ---- a list of the greatest
 
@@ -127,3 +129,47 @@ pub record IsSeeking {T E S O : Type 0} (v : Boxes E) (o : Objects T E) (d : Dis
   pub bag : IsPermutation all (left ++ cut)
   pub bounded : MatchOption bound (cut ≡ []) (λ s. IsBound (λ t. d.distance_2 t p) left cut (value s))
   pub so_far : AreFoundSoFar v o d p compare value most left nodes found
+
+-- ---- steps
+
+-- what waits and what is kept stay in order, and what is kept stays one in place or a list; also where memory is refused
+pub record StaysInOrder {T E S O Y : Type 0} (scalars : S → S → Ordering) (compare : T → T → Ordering) (old : Best T S O)
+    (heap : Held (Waiting (Bor (ParentNode T E)) S Y)) (new : Best T S O) : Type 0 where
+  pub ordered : IsOrdered (nearest_on_top scalars any_first) heap
+  pub falls : Rises (flip_args (nearest_on_top scalars compare)) (kept_in new.kept)
+  pub same : is_one new.kept ≡ is_one old.kept
+
+module _ {S T : Type 0} (scalars : S → S → Ordering) (compare : T → T → Ordering) (value : S → ℤ) (most : ℕ) where
+  -- the best so far are in order, and the bound fits them
+  pub record IsBest {O : Type 0} (best : Best T S O) : Type 0 where
+    pub kept : IsKept value most best.bound best.kept
+    pub falls : Rises (flip_args (nearest_on_top scalars compare)) (kept_in best.kept)
+
+  -- one more element comes, which does not lie above the bound
+  pub record TakesIn {O : Type 0} (w : Found T S O) (old new : Best T S O) : Type 0 where
+    pub best : IsBest new
+    pub keeps : KeepsGreatest (nearest_on_top scalars compare) most w (kept_in old.kept) (kept_in new.kept)
+    pub tightened : IsTightened value old.bound new.bound (kept_in new.kept)
+
+  -- some nodes are visited, in front of any others that are left: their parents wait, and of their elements the best are kept
+  pub record Visits {E O Y : Type 0} (v : Boxes E) (o : Objects T E) (d : Distances T) (p : List ℤ) (nodes : List (RTreeNode T E))
+      (heap : Held (Waiting (Bor (ParentNode T E)) S Y)) (old : Best T S O) (heap' : Held (Waiting (Bor (ParentNode T E)) S Y)) (new : Best T S O)
+      : Type 0 where
+    pub ordered : IsOrdered (nearest_on_top scalars any_first) heap'
+    pub best : IsBest new
+    pub same : is_one new.kept ≡ is_one old.kept
+    pub waiting : WaitAtDistance v d p value (items_of heap) → WaitAtDistance v d p value (items_of heap')
+    pub fewer : all_parents (waiting_parents (items_of heap')) ≤ all_parents (waiting_parents (items_of heap)) + all_parents nodes
+    pub first : (all : List T) (rest : List (RTreeNode T E))
+        → IsSeeking v o d p compare value most all (waiting_parents (items_of heap) ++ (nodes ++ rest)) old.bound (kept_in old.kept)
+        → IsSeeking v o d p compare value most all (waiting_parents (items_of heap') ++ rest) new.bound (kept_in new.kept)
+
+-- ---- the nearest
+
+-- a nearest element of a root is found with its distance, which lies between the two of the root's envelope; `None` where there is no element
+pub record FindsNearest {T E S Z : Type 0} (v : Boxes E) (d : Distances T) (p : List ℤ) (value : S → ℤ) (root : ParentNode T E) (r : Result (Option (Bor T × S)) Z) : Type 0 where
+  pub none : IfOk r (λ x. IfNone x (elements_of root ≡ []))
+  pub nearest : IfOk r (λ x. IfSome x (λ n. IsNearest (λ t. d.distance_2 t p) (elements_of root) n.0.now))
+  pub distance : IfOk r (λ x. IfSome x (λ n. value n.1 ≡ pos (d.distance_2 n.0.now p)))
+  pub not_below : IfOk r (λ x. IfSome x (λ n. v.distance_2 (envelope_of root) p ≤ d.distance_2 n.0.now p))
+  pub not_above : IfOk r (λ x. IfSome x (λ n. d.distance_2 n.0.now p ≤ v.min_max_dist_2 (envelope_of root) p))

@@ -10,6 +10,7 @@ use Rattle.rstar.specs.declared.node.ParentNode.{ParentNode}
 use Rattle.rstar.specs.declared.node.RTreeNode.{RTreeNode}
 use Rattle.rstar.specs.Nodes.{elements, all_elements, elements_of, IsParentOf, IsElement, IsInner}
 use Rattle.rstar.specs.Shapes.{IsParentTree, IsAny}
+use Rattle.rstar.specs.Lists.{NoneEmpty}
 use Rattle.rstar.specs.inside.ParentBounds.{HasAtMost}
 use Rattle.rstar.specs.Loaded.{IsPartSize, EndsAt, IsParted, IsCutAbove, HasSmallParent}
 
@@ -19,6 +20,13 @@ last_of n xs = drop (length xs - n) xs
 
 abbrev pub front_of : {A : Type 0} → ℕ → List A → List A
 front_of n xs = take (length xs - n) xs
+
+-- a parent can be made of the last `len` elements of a list
+pub record CanLoad {T E : Type 0} (v : Boxes E) (o : Objects T E) (len : ℕ) (list : List T) (widest : ℕ) : Type 0 where
+  pub some : 0 < len
+  pub within : len ≤ length list
+  pub elements : NoneEmpty v.is_empty o.box_of list
+  pub counted : widest + 1 < 2 ^ 64
 
 -- of the last `rest` items of a list a slab was put behind the others, at most `size` of them; those in front of them all stay
 pub record CutsSlab {T : Type 0} (key : T → ℤ) (size rest : ℕ) (old : List T) (slab : ℕ) (new : List T) : Type 0 where

@@ -9,7 +9,7 @@ use Rattle.rstar.specs.declared.iterators.joins.walk.PairStep.{PairStep}
 use Rattle.rstar.specs.declared.iterators.joins.walk.PairStep.TheVariants.{Found, Passed, Ended}
 use Rattle.rstar.specs.Nodes.{fold_tree, node_box, total}
 use Rattle.rstar.specs.Lists.{product}
-use Rattle.rstar.specs.Meets.{opened_to, pairs_at, opens_at}
+use Rattle.rstar.specs.Meets.{opened_to, pairs_at, opens_at, all_pairs, all_opens}
 use Rattle.rstar_base.specs.Counts.{usize_max}
 use Rattle.rstar.specs.inside.Traversals.{IsLevel}
 
@@ -62,15 +62,12 @@ module _ {T E U F : Type 0} where
       ++ product (drop (rows_beside frame.rights.now) frame.lefts.now) frame.rights.now
 
   -- the frames of a walk: those that are left, and behind them the one that is being read
-  abbrev pub in_hand : PairWalk T U E F → Frame T E U F
-  in_hand walk = frame_of walk.lefts walk.asked walk.marks walk.later walk.rights
-
   abbrev pub frames_of : PairWalk T U E F → List (Frame T E U F)
-  frames_of walk = walk.path.items ++ in_hand walk ∷ []
+  frames_of walk = walk.path.items ++ walk.frame ∷ []
 
   -- nothing is left to read
   pub record IsIdle (walk : PairWalk T U E F) : Type 0 where
-    pub nothing : walk.lefts.now ≡ []
+    pub nothing : walk.frame.lefts.now ≡ []
     pub bare : walk.path.items ≡ []
 
 -- two lists of nodes, each on one level, of which neither is higher than there is room for
@@ -137,6 +134,15 @@ module _ {T E U F : Type 0} (meets : E → F → Bool) (left_box : T → E) (rig
     pub count : ℕ
     pub counted : walk.opened ≡ min count usize_max
     pub whole : count + opens_by walk ≡ all
+
+  -- a walk that begins with the pairs of two lists
+  pub record Begins (old : PairWalk T U E F) (lefts : List (RTreeNode T E)) (rights : List (RTreeNode U F)) (new : PairWalk T U E F)
+      : Type 0 where
+    pub walk : IsWalk new
+    pub pairs : pairs_by new ≡ all_pairs meets left_box right_box lefts rights
+    pub opens : opens_by new ≡ all_opens meets left_box right_box lefts rights
+    pub opened : new.opened ≡ old.opened
+    pub room : new.path.capacity ≡ old.path.capacity
 
 -- ---- steps
 

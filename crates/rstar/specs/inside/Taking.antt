@@ -1,5 +1,5 @@
 -- The inside of a removal: the place in a tree that it goes on from, and what it leaves at each level.
-use Rattle.std.specs.Prelude.{◌≡◌, ℕ, ◌≤◌, ◌<◌, ◌+◌, Bool, true, false, List, [], ◌∷◌, take, drop, length, ◌-◌, suc, ⊤}
+use Rattle.std.specs.Prelude.{◌≡◌, ℕ, ◌≤◌, ◌<◌, ◌+◌, Bool, true, false, List, [], ◌∷◌, take, drop, replicate, length, ◌-◌, suc, ⊤}
 use Rattle.std.specs.Prelude.{Option, Some, None, IfSome, IfNone}
 use Rattle.std.specs.List.{AllByRecursion}
 use Rattle.rstar_base.specs.Envelopes.{Boxes}
@@ -7,11 +7,12 @@ use Rattle.rstar_base.specs.Elements.{Objects}
 use Rattle.rstar_base.specs.Hulls.{hull}
 use Rattle.rstar_base.specs.Selections.{IsLawful}
 use Rattle.rstar.specs.declared.algorithm.removal.Rest.{Rest}
+use Rattle.rstar.specs.declared.node.ParentNode.{ParentNode}
 use Rattle.rstar.specs.declared.node.RTreeNode.{RTreeNode}
 use Rattle.rstar.specs.declared.node.RTreeNode.TheOpen as layer
 use Rattle.rstar.specs.declared.rtree.RTree.{RTree}
 use Rattle.rstar.specs.Nodes.{Layer, layer_of, node_box, elements, all_elements, children_of, IsElement, IsTree}
-use Rattle.rstar.specs.inside.ParentBounds.{IsKeptInner, AreKept}
+use Rattle.rstar.specs.inside.ParentBounds.{IsKept, IsKeptInner, AreKept}
 use Rattle.rstar.specs.Trees.{root_of, elements_in, IsWholeTree}
 use Rattle.rstar.specs.Lists.{NoneSelected}
 use Rattle.rstar.specs.inside.Removals.{IsWithout}
@@ -82,6 +83,13 @@ abbrev pub lower_numbers : List ℕ → List ℕ
 lower_numbers [] = []
 lower_numbers (p ∷ path) = path
 
+-- the levels below the first were set back, and with them what was kept there
+pub record IsCleared {E : Type 0} (path : List ℕ) (rest : Option (Rest E)) (path' : List ℕ) (rest' : Option (Rest E)) : Type 0 where
+  pub long : length path' ≡ length path
+  pub numbers : lower_numbers path' ≡ replicate (length (lower_numbers path)) 0
+  pub still : length path ≤ 1 → rest' ≡ rest
+  pub none : 1 < length path → rest' ≡ None
+
 -- ---- an envelope that is kept at a place
 
 module _ {T E : Type 0} (v : Boxes E) (o : Objects T E) where
@@ -117,6 +125,15 @@ module _ {T E : Type 0} (v : Boxes E) (o : Objects T E) (accepts : E → Bool) (
         → IsPast selects path old → IsPast selects path' new
     pub missed : IfNone given (IsLawful v o accepts selects → (w h : ℕ) → AreKept v o w h old
         → IsPast selects path old → NoneSelected selects (all_elements old))
+
+  -- what it does below one parent, and whether it tells of another envelope
+  pub record TakesBelow (old : ParentNode T E) (path : List ℕ) (rest : Option (Rest E)) (given : Option T)
+      (new : ParentNode T E) (path' : List ℕ) (rest' : Option (Rest E)) (changed : Bool) : Type 0 where
+    pub takes : Takes old.children.items path rest given new.children.items path' rest'
+    pub kept : (w h : ℕ) → IsKept v o w old → AreKept v o w h old.children.items
+        → IsRestAt v o rest path old.children.items → IsKept v o w new
+    pub same : IfNone given (new ≡ old)
+    pub unchanged : changed ≡ false → new.envelope ≡ old.envelope
 
   -- what it does below one node, which may be left without children
   pub record TakesInside (old : RTreeNode T E) (path : List ℕ) (rest : Option (Rest E)) (given : Option T)

@@ -1,12 +1,13 @@
 //! Bulk loading, after Lee and Lee, "OMT: Overlap Minimizing Top-down Bulk Loading Algorithm for R-tree"
 //! (2003).
 
-ghost use Rattle.std.specs.Prelude.{◌≡◌, ◌≢◌, ◌≤◌, ◌<◌, ◌+◌, ◌^◌, ◌↔◌, [], length, IsTrue, IfOk, OnOk};
+ghost use Rattle.std.specs.Prelude.{◌≢◌, ◌≤◌, ◌<◌, ◌+◌, ◌^◌, ◌↔◌, [], length, IsTrue, IfOk, OnOk};
 ghost use Rattle.std.specs.List.Sorted.{IsPermutation};
 ghost use Rattle.rstar.specs.Nodes.{elements_of, IsWhole};
 ghost use Rattle.rstar.specs.Lists.{NoneEmpty};
 ghost use Rattle.rstar.specs.Loaded.{IsLoadDepth, IsLoaded};
 ghost use Rattle.rstar.specs.inside.Loads.{IsFresh};
+ghost use Rattle.rstar.specs.inside.ParentBounds.{Widens};
 
 pub(crate) mod depth;
 pub(crate) mod parts;
@@ -58,8 +59,7 @@ pub(crate) fn load_root<T: RTreeObject, Params: RTreeParams>(
     ensures fresh { IfOk result
         (IsFresh T.Envelope.boxes T.object Params.MAX_SIZE widest.new T.Envelope.Point.DIMENSIONS levels) }
     ensures loaded { IfOk result (IsLoaded T.Envelope.boxes T.object Params.MAX_SIZE T.Envelope.Point.DIMENSIONS) }
-    ensures wider { OnOk result (widest.old ≤ widest.new) }
-    ensures counted { OnOk result (widest.new + 1 < 2 ^ 64) }
+    ensures wider { OnOk result (Widens widest.old widest.new) }
 {
     let mut list = elements;
     let len = list.len();

@@ -26,8 +26,7 @@ pub(crate) fn gather_below<T: Covered, R: Question<T>>(
     ensures gathers { GathersAmong T.Cover.boxes T.object (R.accepts func.now) (R.selects func.now) most
         (children_of node.old) taken.old.items (children_of node.new) taken.new.items }
     ensures kept { (w h : ℕ) → IsKept T.Cover.boxes T.object w node.old
-        → AreKept T.Cover.boxes T.object w h (children_of node.old)
-        → IsKept T.Cover.boxes T.object w node.new }
+        → AreKept T.Cover.boxes T.object w h (children_of node.old) → IsKept T.Cover.boxes T.object w node.new }
     ensures capacity { vec_capacity taken.new ≡ vec_capacity taken.old }
 {
     let before = taken.len();
@@ -39,8 +38,7 @@ pub(crate) fn gather_below<T: Covered, R: Question<T>>(
 
 /// The same among the nodes of a list. Parents without children are dropped.
 ///
-/// Nodes are visited from the last to the first. The last node takes the place of a dropped one, so nothing
-/// shifts.
+/// Nodes are visited from the last to the first. The last node takes the place of a dropped one, so nothing shifts.
 #[cycle(gather)]
 fn gather_among<T: Covered, R: Question<T>>(
     children: &mut Vec<RTreeNode<T>>,

@@ -4,7 +4,7 @@ ghost use Rattle.std.specs.Prelude.{◌≡◌, ◌≤◌, ℕ, [], pos, map, IfO
 ghost use Rattle.rstar_base.specs.Points.{table};
 ghost use Rattle.rstar.specs.Nodes.{elements_of, envelope_of, IsWhole};
 ghost use Rattle.rstar.specs.Lists.{IsNearest, AreSomeNearest};
-ghost use Rattle.rstar.specs.Neighbors.{with_distances, search_of, neighbors_left, IsSearching, HasBegun, GivesElement, GivesWithDistance};
+ghost use Rattle.rstar.specs.Neighbors.{with_distances, search_of, neighbors_left, IsSearching, GivesElement, GivesWithDistance};
 
 mod by_order;
 mod few;
@@ -21,7 +21,7 @@ use rstar_base::envelope::Envelope;
 pub use rstar_base::heap::SmallHeap;
 use rstar_base::object::{Distance, PointDistance, PointOf, RTreeObject};
 use rstar_base::point::{Point, RTreeNum};
-use search::NeighborSearch;
+pub(crate) use search::NeighborSearch;
 use std::alloc::AllocError;
 pub(crate) use ties::all_nearest;
 pub(crate) use waiting::{AnyFirst, ElementOrder, OwnOrder};
@@ -43,30 +43,11 @@ pub type NearestNeighborDistance2Iterator<'a, T> = NeighborsWithDistance<
 /// point.
 #[derive(Drop)]
 pub struct NeighborsWithDistance<'a, R, N, S, P> {
-    search: NeighborSearch<'a, R, N, S, AnyFirst>,
-    point: P,
+    pub(crate) search: NeighborSearch<'a, R, N, S, AnyFirst>,
+    pub(crate) point: P,
 }
 
-impl<'a, T: PointDistance> NeighborsWithDistance<
-    'a,
-    ParentNode<T>,
-    RTreeNode<T>,
-    Distance<T>,
-    PointOf<T>,
-> {
-    /// The neighbours of a point below a root. It takes no memory.
-    pub(crate) fn new(root: &'a ParentNode<T>, point: PointOf<T>) -> Self
-        requires { IsWhole T.Envelope.boxes T.object root.now }
-        ensures begun { HasBegun root.now point (search_of result) }
-        ensures searching { IsSearching T.Envelope.boxes T.object T.distances T.Envelope.Point.DIMENSIONS
-            T.Envelope.Point.coord T.Envelope.Point.Scalar.cmp T.Envelope.Point.Scalar.value result }
-    {
-        NeighborsWithDistance {
-            search: NeighborSearch::new(root),
-            point,
-        }
-    }
-
+impl<'a, T: PointDistance> NearestNeighborDistance2Iterator<'a, T> {
     /// The number of parents visited so far. The root counts; the number is clamped to the greatest `usize`.
     pub fn opened(&self) -> usize
         ensures { result ≡ (search_of self.now).opened }
@@ -111,24 +92,11 @@ pub type NearestNeighborIterator<'a, T> = Neighbors<
 /// repeats the fields of `NeighborsWithDistance`: a field of that type would cost a size proof at each use.
 #[derive(Drop)]
 pub struct Neighbors<'a, R, N, S, P> {
-    search: NeighborSearch<'a, R, N, S, AnyFirst>,
-    point: P,
+    pub(crate) search: NeighborSearch<'a, R, N, S, AnyFirst>,
+    pub(crate) point: P,
 }
 
-impl<'a, T: PointDistance> Neighbors<'a, ParentNode<T>, RTreeNode<T>, Distance<T>, PointOf<T>> {
-    /// The neighbours of a point below a root. It takes no memory.
-    pub(crate) fn new(root: &'a ParentNode<T>, point: PointOf<T>) -> Self
-        requires { IsWhole T.Envelope.boxes T.object root.now }
-        ensures begun { HasBegun root.now point (search_of (with_distances result)) }
-        ensures searching { IsSearching T.Envelope.boxes T.object T.distances T.Envelope.Point.DIMENSIONS
-            T.Envelope.Point.coord T.Envelope.Point.Scalar.cmp T.Envelope.Point.Scalar.value (with_distances result) }
-    {
-        Neighbors {
-            search: NeighborSearch::new(root),
-            point,
-        }
-    }
-
+impl<'a, T: PointDistance> NearestNeighborIterator<'a, T> {
     /// The number of parents visited so far. The root counts; the number is clamped to the greatest `usize`.
     pub fn opened(&self) -> usize
         ensures { result ≡ (search_of (with_distances self.now)).opened }

@@ -2,15 +2,14 @@
 //!
 //! Steps that not every call needs stay out of line (`#[inline(never)]`), so that the path down is short.
 
-ghost use Rattle.std.specs.Prelude.{◌≡◌, ◌⊎◌, ℕ, ◌-◌, ◌<◌, ◌≤◌, true, false, None, IfNone, length, replicate};
+ghost use Rattle.std.specs.Prelude.{◌≡◌, ◌⊎◌, ℕ, ◌-◌, ◌<◌, ◌≤◌, true, false, IfNone, length, replicate};
 ghost use Rattle.std.specs.Prelude.{vec_len, slice_index_or};
 ghost use Rattle.std.specs.List.{remove};
 ghost use Rattle.rstar_base.specs.Hulls.{hull};
 ghost use Rattle.rstar.specs.declared.node.RTreeNode.{Leaf};
-ghost use Rattle.rstar.specs.inside.ParentBounds.{IsKept, AreKept};
 ghost use Rattle.rstar.specs.Lists.{NoneSelected};
 ghost use Rattle.rstar.specs.Nodes.{node_box, all_elements};
-ghost use Rattle.rstar.specs.inside.Taking.{IsMerged, IsRest, IsRestAt, Takes, TakesInside};
+ghost use Rattle.rstar.specs.inside.Taking.{IsCleared, IsMerged, IsRest, IsRestAt, Takes, TakesBelow, TakesInside};
 ghost use Rattle.rstar.specs.inside.Taking.{with_first, first_number, lower_numbers};
 ghost use Rattle.rstar.specs.inside.Taking.{is_selected_leaf, is_a_leaf, is_childless};
 
@@ -43,14 +42,8 @@ pub(crate) fn take_below<T: Covered, R: Question<T>>(
     changed: &mut bool,
     func: &R,
 ) -> Option<T>
-    ensures takes { Takes T.Cover.boxes T.object (R.accepts func.now) (R.selects func.now)
-        node.old.children.items path.old rest.old result node.new.children.items path.new rest.new }
-    ensures kept { (w h : ℕ) → IsKept T.Cover.boxes T.object w node.old
-        → AreKept T.Cover.boxes T.object w h node.old.children.items
-        → IsRestAt T.Cover.boxes T.object rest.old path.old node.old.children.items
-        → IsKept T.Cover.boxes T.object w node.new }
-    ensures same { IfNone result (node.new ≡ node.old) }
-    ensures unchanged { changed.new ≡ false → node.new.envelope ≡ node.old.envelope }
+    ensures { TakesBelow T.Cover.boxes T.object (R.accepts func.now) (R.selects func.now)
+        node.old path.old rest.old result node.new path.new rest.new changed.new }
 {
     let taken = take_among(&mut node.children, path, rest, changed, func);
     if taken.is_some() && *changed {
@@ -62,6 +55,8 @@ pub(crate) fn take_below<T: Covered, R: Question<T>>(
 }
 
 /// The merge of the envelopes of these nodes, with the help of what is kept at the place.
+///
+/// A drain of n nodes merges about the square root of n envelopes for each node. A few nodes are merged at once.
 #[inline(always)]
 fn merge_along<T: Covered>(
     children: &[RTreeNode<T>],
@@ -74,29 +69,10 @@ fn merge_along<T: Covered>(
         → IsRestAt T.Cover.boxes T.object rest.new path.now children.now }
     ensures still { length path.now ≡ 0 → rest.new ≡ rest.old }
 {
-    if path.len() == 1 {
-        merge_at(children, path[0], rest)
-    } else {
-        envelope_for_children(children)
+    if path.len() != 1 {
+        return envelope_for_children(children);
     }
-}
-
-/// The merge of the envelopes of these nodes, of which `passed` to the right were passed.
-///
-/// A drain of n nodes merges about the square root of n envelopes for each node. A few nodes are merged at
-/// once.
-#[inline(always)]
-fn merge_at<T: Covered>(
-    children: &[RTreeNode<T>],
-    passed: usize,
-    rest: &mut Option<Rest<T::Cover>>,
-) -> T::Cover
-    ensures merged { IsRest T.Cover.boxes T.object rest.old passed children.now
-        → result ≡ hull T.Cover.boxes (node_box T.object.box_of) children.now }
-    ensures rest { IsRest T.Cover.boxes T.object rest.old passed children.now
-        → IsRest T.Cover.boxes T.object rest.new passed children.now }
-{
-    let left = children.len().saturating_sub(passed);
+    let left = children.len().saturating_sub(first_number(path));
     if left < 32 {
         return envelope_for_children(children);
     }
@@ -184,8 +160,7 @@ fn take_inside<T: Covered, R: Question<T>>(
 ) -> Option<T>
     ensures takes { TakesInside T.Cover.boxes T.object (R.accepts func.now) (R.selects func.now)
         child.old (lower_numbers path.old) rest.old result child.new (lower_numbers path.new) rest.new }
-    ensures unchanged { changed.new ≡ false
-        → node_box T.object.box_of child.new ≡ node_box T.object.box_of child.old }
+    ensures unchanged { changed.new ≡ false → node_box T.object.box_of child.new ≡ node_box T.object.box_of child.old }
 {
     match child {
         RTreeNode::Leaf(_) => None,
@@ -303,9 +278,7 @@ fn set_first(path: &mut [usize], passed: usize)
 /// Resets the levels below the first, where there are some, and drops the kept envelope then.
 #[inline(always)]
 fn clear_lower<E: Drop>(path: &mut [usize], rest: &mut Option<Rest<E>>)
-    ensures numbers { lower_numbers path.new ≡ replicate (length (lower_numbers path.old)) 0 }
-    ensures still { length path.old ≤ 1 → rest.new ≡ rest.old }
-    ensures none { 1 < length path.old → rest.new ≡ None }
+    ensures { IsCleared path.old rest.old path.new rest.new }
 {
     if path.len() > 1 {
         clear(&mut path[1..]);

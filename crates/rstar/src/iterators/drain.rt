@@ -1,10 +1,8 @@
 //! Iterators that remove elements from a tree.
 
-ghost use Rattle.std.specs.Prelude.{◌≡◌, None};
+ghost use Rattle.std.specs.Prelude.{◌≡◌};
 ghost use Rattle.std.specs.Iterator.{item_count};
-ghost use Rattle.rstar.specs.inside.Taking.{Removes};
 ghost use Rattle.rstar.specs.Drains.{left_in_tree, IsDraining, TakesNext};
-ghost use Rattle.rstar.specs.Trees.{IsWholeTree};
 
 use crate::algorithm::removal::Rest;
 use crate::rtree::RTree;
@@ -28,12 +26,12 @@ pub struct DrainIterator<
     Params: RTreeParams = DefaultParams,
     Path: Drop = Vec<usize>,
 > {
-    tree: &'a mut RTree<T, Params>,
-    func: R,
-    path: Path,
+    pub(crate) tree: &'a mut RTree<T, Params>,
+    pub(crate) func: R,
+    pub(crate) path: Path,
     // What is kept of the node that the last number of the path stands in. It is an `Option`, since with an envelope as
     // a plain field a caller's facts hold the envelope's parts too, and its proofs are no longer found.
-    rest: Option<Rest<T::Envelope>>,
+    pub(crate) rest: Option<Rest<T::Envelope>>,
 }
 
 impl<'a, T: RTreeObject, R: SelectionFunction<T>, Params: RTreeParams, Path: Drop> Drop
@@ -51,43 +49,6 @@ impl<'a, T: RTreeObject, R: SelectionFunction<T>, Params: RTreeParams, Path: Dro
     }
 }
 
-impl<'a, T: RTreeObject, R: SelectionFunction<T>, Params: RTreeParams> DrainIterator<
-    'a,
-    T,
-    R,
-    Params,
-> {
-    /// A drain from the beginning of a tree, with a path of zeros.
-    pub(crate) fn new(tree: &'a mut RTree<T, Params>, func: R, path: Vec<usize>) -> Self
-        ensures same_reference { result.tree.ghost_name ≡ tree.entry.ghost_name }
-        ensures tree { result.tree.now ≡ tree.old }
-        ensures func { result.func ≡ func }
-        ensures path { result.path.items ≡ path.items }
-        ensures rest { result.rest ≡ None }
-    {
-        DrainIterator {
-            tree,
-            func,
-            path,
-            rest: None,
-        }
-    }
-
-    /// Removes the next selected element.
-    fn take_one(&mut self) -> Option<T>
-        requires whole { IsWholeTree T.Envelope.boxes T.object Params.MAX_SIZE self.old.tree.now }
-        ensures same_reference { self.new.tree.ghost_name ≡ self.old.tree.ghost_name }
-        ensures same_question { self.new.func ≡ self.old.func }
-        ensures removes { Removes T.Envelope.boxes T.object Params.MAX_SIZE
-            (R.accepts self.old.func) (R.selects self.old.func)
-            self.old.tree.now self.old.path.items self.old.rest
-            result self.new.tree.now self.new.path.items self.new.rest }
-    {
-        self.tree
-            .take_next(&mut self.path, &mut self.rest, &self.func)
-    }
-}
-
 impl<'a, T: RTreeObject, R: SelectionFunction<T>, Params: RTreeParams> Iterator
     for DrainIterator<'a, T, R, Params> {
     type Item = T;
@@ -101,6 +62,7 @@ impl<'a, T: RTreeObject, R: SelectionFunction<T>, Params: RTreeParams> Iterator
 
     #[tactic(auto, unfolding(crate::specs::Drains::IsDraining))]
     fn next(&mut self) -> Option<T> {
-        self.take_one()
+        self.tree
+            .take_next(&mut self.path, &mut self.rest, &self.func)
     }
 }

@@ -1,10 +1,9 @@
 //! Iterators that consume a tree.
 
-ghost use Rattle.std.specs.Prelude.{◌≡◌, ◌≤◌, ◌<◌, [], ◌∷◌, ◌++◌, reverse, vec_len, vec_capacity};
+ghost use Rattle.std.specs.Prelude.{◌≡◌, ◌<◌, [], ◌∷◌, ◌++◌, vec_len, vec_capacity};
 ghost use Rattle.std.specs.Iterator.{YieldsFirst, item_count};
-ghost use Rattle.rstar.specs.Heights.{levels_below};
 ghost use Rattle.rstar.specs.IntoIters.{left_to_give, IsGiving};
-ghost use Rattle.rstar.specs.Nodes.{children_of, elements_of, IsWhole};
+ghost use Rattle.rstar.specs.Nodes.{children_of};
 
 use crate::bounds::Covered;
 use crate::node::{ParentNode, RTreeNode};
@@ -15,30 +14,11 @@ use std::mem::replace;
 #[derive(Drop)]
 pub struct IntoIter<T: Covered> {
     // The nodes that are being given, from the last on, and in the path those that were left for them, the lowest last.
-    nodes: Vec<RTreeNode<T>>,
-    path: Vec<Vec<RTreeNode<T>>>,
+    pub(crate) nodes: Vec<RTreeNode<T>>,
+    pub(crate) path: Vec<Vec<RTreeNode<T>>>,
 }
 
 impl<T: Covered> IntoIter<T> {
-    /// All elements below a root, with an empty path that has room for each level of parents.
-    #[tactic(auto, unfolding(crate::specs::IntoIters::left_to_give, crate::specs::IntoIters::IsGiving))]
-    pub(crate) fn new(root: ParentNode<T>, path: Vec<Vec<RTreeNode<T>>>) -> Self
-        requires whole { IsWhole T.Cover.boxes T.object root }
-        requires empty { path.items ≡ [] }
-        requires room { levels_below (children_of root) ≤ vec_capacity path }
-        ensures all { left_to_give result ≡ reverse (elements_of root) }
-        ensures giving { IsGiving result }
-    {
-        let ParentNode {
-            children,
-            envelope: _,
-        } = root;
-        IntoIter {
-            nodes: children,
-            path,
-        }
-    }
-
     /// Goes on with the children of a parent, before the nodes that are left beside it.
     fn enter(&mut self, parent: ParentNode<T>)
         requires { vec_len self.old.path < vec_capacity self.old.path }
@@ -46,10 +26,7 @@ impl<T: Covered> IntoIter<T> {
         ensures path { self.new.path.items ≡ self.old.path.items ++ self.old.nodes ∷ [] }
         ensures capacity { vec_capacity self.new.path ≡ vec_capacity self.old.path }
     {
-        let ParentNode {
-            children,
-            envelope: _,
-        } = parent;
+        let ParentNode { children, .. } = parent;
         let beside = replace(&mut self.nodes, children);
         self.path.push_reserved(beside);
     }

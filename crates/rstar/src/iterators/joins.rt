@@ -44,12 +44,10 @@ impl<T: RTreeObject> InEnvelope<T::Envelope> for T {
     } };
 }
 
-/// The pairs of elements of two trees whose envelopes intersect, in some order. Each pair of places comes
-/// once.
+/// The pairs of elements of two trees whose envelopes intersect, in some order. Each pair of places comes once.
 ///
-/// The traversal visits a pair of nodes where their envelopes intersect, and goes on with the pairs of their
-/// children. Where one of the two is a leaf, the other goes on alone. `next` takes no memory: the paths were
-/// reserved before.
+/// The traversal visits a pair of nodes where their envelopes intersect, and goes on with the pairs of their children.
+/// Where one of the two is a leaf, the other goes on alone. `next` takes no memory: the paths were reserved before.
 #[derive(Drop)]
 pub struct IntersectionIterator<'a, T: Covered, U: Meets<T> = T> {
     left: &'a ParentNode<T>,
@@ -92,8 +90,7 @@ impl<'a, T: Covered, U: Meets<T>> IntersectionIterator<'a, T, U> {
     /// The number of pairs of nodes visited so far. The pair of roots counts; the number is clamped to the
     /// greatest `usize`.
     ///
-    /// At the end it counts all pairs that intersect but those of two leaves. An empty root is never
-    /// visited.
+    /// At the end it counts all pairs that intersect but those of two leaves. An empty root is never visited.
     pub fn opened(&self) -> usize
         ensures { result ≡ pairs_opened self.now }
     {

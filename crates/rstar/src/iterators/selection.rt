@@ -67,8 +67,7 @@ impl<'a, T: Covered, Func: Question<T>> SelectionIterator<'a, T, Func> {
 
     /// The number of parents visited so far. The root counts; the number is clamped to the greatest `usize`.
     ///
-    /// At the end it counts all parents that are accepted with those above them. An empty root is never
-    /// visited.
+    /// At the end it counts all parents that are accepted with those above them. An empty root is never visited.
     pub fn opened(&self) -> usize
         ensures { result ≡ opened_by self.now }
     {

@@ -1,15 +1,13 @@
 //! Commands that leave the tree as it is.
 
 ghost use Rattle.std.specs.Prelude.{◌≡◌, ◌≤◌, ◌++◌, filter, map, IfOk, OnOk};
-ghost use Rattle.std.specs.List.Sorted.{IsPermutation};
-ghost use Rattle.rstar_base.specs.Points.{table};
 ghost use Rattle.rstar_base.specs.Selections.{IsLawful};
-ghost use Rattle.rstar.specs.declared.replay.Command.TheVariants.{Ask, Contains, Nearest, Neighbours, Join};
+ghost use Rattle.rstar.specs.declared.replay.Command.TheVariants.{Ask, Nearest, Neighbours, Join};
 ghost use Rattle.rstar.specs.Clones.{ClonesEqual};
-ghost use Rattle.rstar.specs.Joins.{join, meets_by, pairs_to_come, IsJoining};
-ghost use Rattle.rstar.specs.Lists.{NoneEmpty, IsNotLater};
+ghost use Rattle.rstar.specs.Joins.{meets_by, pairs_to_come, IsJoining};
+ghost use Rattle.rstar.specs.Lists.{NoneEmpty};
 ghost use Rattle.rstar.specs.Nodes.{all_given};
-ghost use Rattle.rstar.specs.Steps.{selects, IsFirstWith, AreFirstWith, Step, StepByOrder};
+ghost use Rattle.rstar.specs.Steps.{selects, Step, StepByOrder};
 ghost use Rattle.rstar.specs.Trees.{elements_in, IsWholeTree};
 
 use crate::algorithm::nearest_neighbor::{ElementOrder, first_nearest};
@@ -24,7 +22,7 @@ use rstar_base::algorithm::selection_functions::{
     SelectInEnvelopeFunction, SelectWithinDistanceFunction, SelectionFunction,
 };
 use rstar_base::envelope::Envelope;
-use rstar_base::object::{Distance, EqualEnvelopes, PointDistance, PointOf, RTreeObject};
+use rstar_base::object::{EqualEnvelopes, PointDistance, PointOf, RTreeObject};
 use rstar_base::params::RTreeParams;
 use rstar_base::point::{Point, RTreeNum};
 use std::alloc::{AllocError, Global};
@@ -116,18 +114,6 @@ fn clones_below<'a, T: Covered + Clone, Func: Question<T>>(
     }
 }
 
-/// Whether an element equals this one.
-#[tactic(auto, using(crate::proofs::commands::Replays::same_bag))]
-pub(super) fn contains<T: PointDistance + EqualEnvelopes, Params: RTreeParams>(
-    tree: &RTree<T, Params>,
-    t: &T,
-) -> Reply<T>
-    requires { IsWholeTree T.Envelope.boxes T.object Params.MAX_SIZE tree.now }
-    ensures { Step ⟦<T as Scanned>⟧.questions (elements_in tree.now) (Contains t.now) result (elements_in tree.now) }
-{
-    Reply::Has(tree.contains(t))
-}
-
 /// The first element by distance to a point.
 #[tactic(auto, using(crate::proofs::commands::Replays::same_bag))]
 pub(super) fn nearest<
@@ -140,30 +126,16 @@ pub(super) fn nearest<
     ensures { StepByOrder ⟦<T as Scanned>⟧.questions O.order (elements_in tree.now) (Nearest point) result
         (elements_in tree.now) }
 {
-    match first_clone::<T, O, Params>(tree, &point) {
-        Ok(found) => Reply::Nearest(found),
+    let Ok(lent) = first_nearest::<T, O>(tree.root(), &point, 1, 1) else {
+        return Reply::NoMemory;
+    };
+    let Some(near) = lent.first() else {
+        return Reply::Nearest(None);
+    };
+    match near.0.clone() {
+        Ok(element) => Reply::Nearest(Some((element, near.1))),
         Err(_) => Reply::NoMemory,
     }
-}
-
-/// A clone of the first element by distance to a point, with its squared distance.
-fn first_clone<T: PointDistance + Clone, O: ElementOrder<T>, Params: RTreeParams>(
-    tree: &RTree<T, Params>,
-    point: &PointOf<T>,
-) -> Result<Option<(T, Distance<T>)>, AllocError>
-    requires whole { IsWholeTree T.Envelope.boxes T.object Params.MAX_SIZE tree.now }
-    requires clones { ClonesEqual T.is_clone }
-    ensures { IfOk result (IsFirstWith (IsNotLater (λ t. T.distances.distance_2 t
-        (table T.Envelope.Point.DIMENSIONS (T.Envelope.Point.coord point.now))) O.order) (λ t. T.distances.distance_2 t
-        (table T.Envelope.Point.DIMENSIONS (T.Envelope.Point.coord point.now))) T.Envelope.Point.Scalar.value
-        (elements_in tree.now)) }
-{
-    let lent = first_nearest::<T, O>(tree.root(), point, 1, 1)?;
-    let Some(near) = lent.first() else {
-        return Ok(None);
-    };
-    let element = near.0.clone()?;
-    Ok(Some((element, near.1)))
 }
 
 /// The first k elements by distance to a point.
@@ -178,27 +150,14 @@ pub(super) fn neighbours<
     ensures { StepByOrder ⟦<T as Scanned>⟧.questions O.order (elements_in tree.now) (Neighbours point most) result
         (elements_in tree.now) }
 {
-    match first_clones::<T, O, Params>(tree, &point, most) {
+    let room = most.min(tree.size());
+    let Ok(lent) = first_nearest::<T, O>(tree.root(), &point, most, room) else {
+        return Reply::NoMemory;
+    };
+    match clones_of_lent(&lent) {
         Ok(found) => Reply::Neighbours(found),
         Err(_) => Reply::NoMemory,
     }
-}
-
-/// Clones of the first k elements by distance to a point, with their squared distances.
-fn first_clones<T: PointDistance + Clone, O: ElementOrder<T>, Params: RTreeParams>(
-    tree: &RTree<T, Params>,
-    point: &PointOf<T>,
-    most: usize,
-) -> Result<Vec<(T, Distance<T>)>, AllocError>
-    requires whole { IsWholeTree T.Envelope.boxes T.object Params.MAX_SIZE tree.now }
-    requires clones { ClonesEqual T.is_clone }
-    ensures { IfOk result (λ found. AreFirstWith (IsNotLater (λ t. T.distances.distance_2 t
-        (table T.Envelope.Point.DIMENSIONS (T.Envelope.Point.coord point.now))) O.order) (λ t. T.distances.distance_2 t
-        (table T.Envelope.Point.DIMENSIONS (T.Envelope.Point.coord point.now))) T.Envelope.Point.Scalar.value most
-        (elements_in tree.now) found.items) }
-{
-    let room = most.min(tree.size());
-    clones_of_lent(&first_nearest::<T, O>(tree.root(), point, most, room)?)
 }
 
 /// Clones of borrowed elements, each with its distance.
@@ -214,7 +173,7 @@ fn clones_of_lent<T: Clone, S: Copy>(lent: &Vec<(&T, S)>) -> Result<Vec<(T, S)>,
     Ok(found)
 }
 
-/// The join of the tree with a list.
+/// The join of the tree with a list, which is loaded with the default node sizes.
 #[tactic(auto, using(crate::proofs::commands::Replays::same_bag))]
 pub(super) fn join<T: PointDistance + EqualEnvelopes + Clone, Params: RTreeParams>(
     tree: &RTree<T, Params>,
@@ -226,28 +185,17 @@ pub(super) fn join<T: PointDistance + EqualEnvelopes + Clone, Params: RTreeParam
     requires elements { NoneEmpty T.Envelope.boxes.is_empty T.object.box_of list.items }
     ensures { Step ⟦<T as Scanned>⟧.questions (elements_in tree.now) (Join list) result (elements_in tree.now) }
 {
-    match pairs_with(tree, list) {
+    let alloc = *list.allocator();
+    let Ok(other) = RTree::bulk_load(list) else {
+        return Reply::NoMemory;
+    };
+    let Ok(walk) = tree.intersection_candidates_with_other_tree(&other) else {
+        return Reply::NoMemory;
+    };
+    match clones_of_pairs(alloc, walk) {
         Ok(pairs) => Reply::Pairs(pairs),
         Err(_) => Reply::NoMemory,
     }
-}
-
-/// Clones of the pairs of that join. The list is loaded with the default node sizes.
-fn pairs_with<T: RTreeObject + Clone, Params: RTreeParams>(
-    tree: &RTree<T, Params>,
-    list: Vec<T>,
-) -> Result<Vec<(T, T)>, AllocError>
-    requires whole { IsWholeTree T.Envelope.boxes T.object Params.MAX_SIZE tree.now }
-    requires clones { ClonesEqual T.is_clone }
-    requires dimensions { 2 ≤ T.Envelope.Point.DIMENSIONS }
-    requires elements { NoneEmpty T.Envelope.boxes.is_empty T.object.box_of list.items }
-    ensures { IfOk result (λ pairs. IsPermutation
-        (join T.Envelope.boxes.intersects T.object.box_of T.object.box_of (elements_in tree.now) list.items)
-        pairs.items) }
-{
-    let alloc = *list.allocator();
-    let other = RTree::bulk_load(list)?;
-    clones_of_pairs(alloc, tree.intersection_candidates_with_other_tree(&other)?)
 }
 
 /// Clones of the pairs that a join has left.

@@ -2,7 +2,7 @@
 
 ghost use Rattle.std.specs.Prelude.{◌≡◌, ◌<◌, ◌≤◌, ◌↔◌, ◌⊎◌, false, IfOk, OnErr};
 ghost use Rattle.rstar_base.specs.Selections.{IsLawful};
-ghost use Rattle.rstar.specs.declared.replay.Command.TheVariants.{Load, Insert, Remove, RemoveAtPoint, Drain};
+ghost use Rattle.rstar.specs.declared.replay.Command.TheVariants.{Load, Insert, Drain};
 ghost use Rattle.rstar.specs.declared.replay.Reply.TheVariants.{TooMany};
 ghost use Rattle.rstar.specs.Heights.{height_of, spare_lists};
 ghost use Rattle.rstar.specs.Lists.{NoneEmpty};
@@ -17,7 +17,7 @@ use rstar_base::algorithm::selection_functions::{
     SelectInEnvelopeFunction, SelectWithinDistanceFunction, SelectionFunction,
 };
 use rstar_base::envelope::Envelope;
-use rstar_base::object::{EqualEnvelopes, PointDistance, PointOf, RTreeObject};
+use rstar_base::object::{EqualEnvelopes, PointDistance, RTreeObject};
 use rstar_base::params::RTreeParams;
 use rstar_base::point::{Point, RTreeNum};
 use std::alloc::AllocError;
@@ -65,32 +65,6 @@ pub(super) fn insert<T: PointDistance + EqualEnvelopes, Params: RTreeParams>(
             InsertCause::TooMany => Reply::TooMany,
         },
     }
-}
-
-/// Removes one element that equals this one.
-pub(super) fn remove<T: PointDistance + EqualEnvelopes, Params: RTreeParams>(
-    tree: &mut RTree<T, Params>,
-    t: &T,
-) -> Reply<T>
-    requires whole { IsWholeTree T.Envelope.boxes T.object Params.MAX_SIZE tree.old }
-    ensures step { Step ⟦<T as Scanned>⟧.questions (elements_in tree.old) (Remove t.now) result (elements_in tree.new) }
-    ensures whole { IsWholeTree T.Envelope.boxes T.object Params.MAX_SIZE tree.new }
-    ensures refused { IsRefusal result → tree.new ≡ tree.old }
-{
-    Reply::Taken(tree.remove(t))
-}
-
-/// Removes one element that contains a point.
-pub(super) fn remove_at_point<T: PointDistance + EqualEnvelopes, Params: RTreeParams>(
-    tree: &mut RTree<T, Params>,
-    point: PointOf<T>,
-) -> Reply<T>
-    requires whole { IsWholeTree T.Envelope.boxes T.object Params.MAX_SIZE tree.old }
-    ensures step { Step ⟦<T as Scanned>⟧.questions (elements_in tree.old) (RemoveAtPoint point) result (elements_in tree.new) }
-    ensures whole { IsWholeTree T.Envelope.boxes T.object Params.MAX_SIZE tree.new }
-    ensures refused { IsRefusal result → tree.new ≡ tree.old }
-{
-    Reply::Taken(tree.remove_at_point(point))
 }
 
 /// Removes up to this many elements of a query.

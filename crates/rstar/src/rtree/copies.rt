@@ -29,8 +29,7 @@ impl<T: RTreeObject + Clone, Params: RTreeParams> RTree<T, Params> {
         requires { IsWholeTree T.Envelope.boxes T.object Params.MAX_SIZE self.now }
         ensures clones { IfOk result (λ tree. AllZip T.is_clone (elements_in self.now) (elements_in tree)) }
         ensures same { ClonesEqual T.is_clone → IfOk result (IsUnchanged self.now) }
-        ensures whole { ClonesEqual T.is_clone
-            → IfOk result (IsWholeTree T.Envelope.boxes T.object Params.MAX_SIZE) }
+        ensures whole { ClonesEqual T.is_clone → IfOk result (IsWholeTree T.Envelope.boxes T.object Params.MAX_SIZE) }
         ensures sized { ClonesEqual T.is_clone → IsSized Params.MIN_SIZE Params.MAX_SIZE (root_of self.now)
             → IfOk result (λ tree. IsSized Params.MIN_SIZE Params.MAX_SIZE (root_of tree)) }
         ensures loaded { ClonesEqual T.is_clone
@@ -55,14 +54,8 @@ fn cloned_node<T: RTreeObject + Clone>(node: &RTreeNode<T>) -> Result<RTreeNode<
     ensures { (h : ℕ) → IsLevel h node.now → IfOk result (IsNodeClone T.is_clone h node.now) }
 {
     match node {
-        RTreeNode::Leaf(t) => {
-            let element = t.clone()?;
-            Ok(RTreeNode::Leaf(element))
-        }
-        RTreeNode::Parent(parent) => {
-            let parent = cloned_parent(parent)?;
-            Ok(RTreeNode::Parent(parent))
-        }
+        RTreeNode::Leaf(t) => Ok(RTreeNode::Leaf(t.clone()?)),
+        RTreeNode::Parent(parent) => Ok(RTreeNode::Parent(cloned_parent(parent)?)),
     }
 }
 

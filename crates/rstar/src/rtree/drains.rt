@@ -13,6 +13,7 @@ ghost use Rattle.rstar.specs.Trees.{elements_in, IsWholeTree};
 
 use crate::algorithm::gathering::gather_below;
 use crate::iterators::{DrainIterator, IntoIter};
+use crate::node::ParentNode;
 use crate::rtree::RTree;
 use crate::visits::enters;
 use rstar_base::algorithm::selection_functions::{
@@ -49,12 +50,10 @@ impl<T: RTreeObject, Params: RTreeParams> RTree<T, Params> {
             T.Envelope.Point.Scalar.row T.Envelope.Point.Scalar.FromStrRadixErr.row self.entry result) }
         ensures same { IfOk result (λ it. (drained it ≡ self.old) × (it.tree.ghost_name ≡ self.entry.ghost_name)) }
         ensures asked { IfOk result (DrainsBy T.Envelope.boxes T.object
-            ⟦<SelectAllFunc as SelectionFunction<T>>⟧.accepts
-            ⟦<SelectAllFunc as SelectionFunction<T>>⟧.selects
+            ⟦<SelectAllFunc as SelectionFunction<T>>⟧.accepts ⟦<SelectAllFunc as SelectionFunction<T>>⟧.selects
             (λ t. true)) }
         ensures draining { IfOk result (IsDraining T.Envelope.boxes T.object Params.MAX_SIZE
-            ⟦<SelectAllFunc as SelectionFunction<T>>⟧.accepts
-            ⟦<SelectAllFunc as SelectionFunction<T>>⟧.selects) }
+            ⟦<SelectAllFunc as SelectionFunction<T>>⟧.accepts ⟦<SelectAllFunc as SelectionFunction<T>>⟧.selects) }
     {
         self.drain_with_selection_function(SelectAllFunc)
     }
@@ -122,14 +121,16 @@ impl<T: RTreeObject, Params: RTreeParams> RTree<T, Params> {
     {
         let alloc = *self.root.children.allocator();
         let path = vec![in alloc; 0; self.levels.saturating_add(1)]?;
-        Ok(DrainIterator::new(self, func, path))
+        Ok(DrainIterator {
+            tree: self,
+            func,
+            path,
+            rest: None,
+        })
     }
-}
 
-impl<T: RTreeObject, Params: RTreeParams> RTree<T, Params> {
-    /// Moves elements that a function selects to the end of a list, until the list holds `most` elements or
-    /// none is left. With a function that is not lawful it may miss some. It is one pass, and takes no
-    /// memory.
+    /// Moves elements that a function selects to the end of a list, until the list holds `most` elements or none is
+    /// left. With a function that is not lawful it may miss some. It is one pass, and takes no memory.
     pub(crate) fn gather<R: SelectionFunction<T>>(
         &mut self,
         func: &R,
@@ -154,13 +155,10 @@ impl<T: RTreeObject, Params: RTreeParams> RTree<T, Params> {
             self.levels = 0;
         }
     }
-}
 
-impl<T: RTreeObject, Params: RTreeParams> RTree<T, Params> {
     /// Consumes the tree and yields all its elements, in some order.
     ///
     /// It takes memory once, for the path. A refusal hands the tree back.
-    #[tactic(auto, unfolding(crate::specs::Trees::IsWholeTree))]
     pub fn into_iter(self) -> Result<IntoIter<T>, RTree<T, Params>>
         requires { IsWholeTree T.Envelope.boxes T.object Params.MAX_SIZE self }
         ensures all { IfOk result (λ it. IsPermutation (elements_in self) (left_to_give it)) }
@@ -172,7 +170,11 @@ impl<T: RTreeObject, Params: RTreeParams> RTree<T, Params> {
             return Err(self);
         };
         let RTree { root, .. } = self;
-        Ok(IntoIter::new(root, path))
+        let ParentNode { children, .. } = root;
+        Ok(IntoIter {
+            nodes: children,
+            path,
+        })
     }
 }
 

@@ -8,14 +8,12 @@ ghost use Rattle.rstar.specs.Trees.{root_of, elements_in, IsWholeTree};
 
 use crate::algorithm::bulk_load::depth::load_depth;
 use crate::algorithm::bulk_load::load_root;
-use crate::algorithm::rstar::preparation::Reserve;
 use crate::rtree::RTree;
 use rstar_base::envelope::Envelope;
 use rstar_base::object::RTreeObject;
 use rstar_base::params::{DefaultParams, RTreeParams};
 use rstar_base::point::Point;
 use std::alloc::AllocError;
-use std::marker::PhantomData;
 
 impl<T: RTreeObject> RTree<T> {
     /// A tree of these elements, by bulk load with the default node sizes (Lee and Lee 2003).
@@ -48,7 +46,6 @@ impl<T: RTreeObject> RTree<T> {
 
 impl<T: RTreeObject, Params: RTreeParams> RTree<T, Params> {
     /// The same with chosen node sizes.
-    #[tactic(auto, unfolding(crate::specs::Trees::IsWholeTree))]
     pub fn bulk_load_with_params(elements: Vec<T>) -> Result<Self, AllocError>
         requires dimensions { 2 ≤ T.Envelope.Point.DIMENSIONS }
         requires elements { NoneEmpty T.Envelope.boxes.is_empty T.object.box_of elements.items }
@@ -65,12 +62,6 @@ impl<T: RTreeObject, Params: RTreeParams> RTree<T, Params> {
         let levels = load_depth::<T, Params>(size);
         let mut widest = Params::MAX_SIZE;
         let root = load_root::<T, Params>(elements, levels, &mut widest)?;
-        Ok(RTree {
-            root,
-            size,
-            levels,
-            reserve: Reserve::new(alloc, widest),
-            params: PhantomData,
-        })
+        Ok(RTree::from_root(alloc, root, size, levels, widest))
     }
 }

@@ -13,8 +13,8 @@ ghost use Rattle.rstar.specs.Trees.{root_of, size_of, elements_in, IsWholeTree};
 
 use crate::algorithm::nearest_neighbor::{
     AnyFirst, NearestNeighborByOrderIterator, NearestNeighborDistance2Iterator,
-    NearestNeighborIterator, Neighbors, NeighborsByOrder, NeighborsWithDistance, OwnOrder,
-    all_nearest, first_nearest, nearest_neighbor_with_distance_2, one_nearest,
+    NearestNeighborIterator, NeighborSearch, Neighbors, NeighborsByOrder, NeighborsWithDistance,
+    OwnOrder, all_nearest, first_nearest, nearest_neighbor_with_distance_2, one_nearest,
 };
 use crate::rtree::RTree;
 use rstar_base::algorithm::selection_functions::SelectWithinDistanceFunction;
@@ -48,7 +48,8 @@ impl<T: PointDistance, Params: RTreeParams> RTree<T, Params> {
         ensures searching { IsSearching T.Envelope.boxes T.object T.distances T.Envelope.Point.DIMENSIONS
             T.Envelope.Point.coord T.Envelope.Point.Scalar.cmp T.Envelope.Point.Scalar.value (with_distances result) }
     {
-        Neighbors::new(&self.root, point)
+        let search = NeighborSearch::new(&self.root);
+        Neighbors { search, point }
     }
 
     /// All elements with their squared distances, the nearest to a point first.
@@ -65,7 +66,8 @@ impl<T: PointDistance, Params: RTreeParams> RTree<T, Params> {
         ensures searching { IsSearching T.Envelope.boxes T.object T.distances T.Envelope.Point.DIMENSIONS
             T.Envelope.Point.coord T.Envelope.Point.Scalar.cmp T.Envelope.Point.Scalar.value result }
     {
-        NeighborsWithDistance::new(&self.root, point)
+        let search = NeighborSearch::new(&self.root);
+        NeighborsWithDistance { search, point }
     }
 
     /// The old name of `nearest_neighbor_iter_with_distance_2`. Distances are squared.
@@ -244,7 +246,8 @@ impl<T: PointDistance + Ord, Params: RTreeParams> RTree<T, Params> {
         ensures searching { IsSearchingByOrder T.Envelope.boxes T.object T.distances T.cmp T.Envelope.Point.DIMENSIONS
             T.Envelope.Point.coord T.Envelope.Point.Scalar.cmp T.Envelope.Point.Scalar.value result }
     {
-        NeighborsByOrder::new(&self.root, point)
+        let search = NeighborSearch::new(&self.root);
+        NeighborsByOrder { search, point }
     }
 
     /// The first `most` elements in the stated order with their squared distances. Where there are fewer it
@@ -272,9 +275,7 @@ impl<T: PointDistance + Ord, Params: RTreeParams> RTree<T, Params> {
     {
         first_nearest::<T, OwnOrder>(&self.root, point, most, most.min(self.size))
     }
-}
 
-impl<T: PointDistance + Ord, Params: RTreeParams> RTree<T, Params> {
     /// Removes the first element in the stated order. That order is by distance to a point, and at equal
     /// distance by `Ord`.
     ///

@@ -42,8 +42,7 @@ impl<T: RTreeObject, Params: RTreeParams> RTree<T, Params> {
         self.take_next(&mut [], &mut None, &func)
     }
 
-    /// Removes the next selected element from a place on: a number for each level, of the children to the
-    /// right.
+    /// Removes the next selected element from a place on: a number for each level, of the children to the right.
     ///
     /// A wrong place only begins further right or finds less. `rest` is that of the node at the last number;
     /// without it a drain only takes longer.

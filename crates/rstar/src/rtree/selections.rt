@@ -13,7 +13,7 @@ use crate::iterators::{
     RTreeIterator, SelectionIterator,
 };
 use crate::rtree::RTree;
-use crate::visits::first_selected;
+use crate::visits::{enters, first_below};
 use rstar_base::algorithm::selection_functions::{
     SelectAllFunc, SelectAtPointFunction, SelectInEnvelopeFuncIntersecting,
     SelectInEnvelopeFunction, SelectWithinDistanceFunction, SelectionFunction,
@@ -96,8 +96,7 @@ impl<T: RTreeObject, Params: RTreeParams> RTree<T, Params> {
         self.locate_with_selection_function(SelectInEnvelopeFuncIntersecting::new(envelope))
     }
 
-    /// The elements that a function selects, in some order. With a function that is not lawful it may miss
-    /// some.
+    /// The elements that a function selects, in some order. With a function that is not lawful it may miss some.
     ///
     /// It visits the parents that the function accepts. It takes memory, and may be refused, only where the
     /// tree has more than 13 levels of parents.
@@ -126,7 +125,10 @@ impl<T: RTreeObject, Params: RTreeParams> RTree<T, Params> {
         ensures { IsLawful T.Envelope.boxes T.object (Func.accepts func.now) (Func.selects func.now)
             → IsOneOf (filter (Func.selects func.now) (elements_in self.now)) result }
     {
-        first_selected(&self.root, func)
+        if !enters(&self.root, func) {
+            return None;
+        }
+        first_below(self.root.children.as_slice(), func)
     }
 }
 
@@ -147,8 +149,7 @@ impl<T: PointDistance, Params: RTreeParams> RTree<T, Params> {
     pub fn locate_at_point(&self, point: PointOf<T>) -> Option<&T>
         requires { IsWholeTree T.Envelope.boxes T.object Params.MAX_SIZE self.now }
         ensures { IsOneOf (filter (λ t. T.distances.contains_point t
-            (table T.Envelope.Point.DIMENSIONS (T.Envelope.Point.coord point)))
-            (elements_in self.now)) result }
+            (table T.Envelope.Point.DIMENSIONS (T.Envelope.Point.coord point))) (elements_in self.now)) result }
     {
         self.locate_at_point_int(point)
     }
@@ -157,8 +158,7 @@ impl<T: PointDistance, Params: RTreeParams> RTree<T, Params> {
     pub fn locate_at_point_int(&self, point: PointOf<T>) -> Option<&T>
         requires { IsWholeTree T.Envelope.boxes T.object Params.MAX_SIZE self.now }
         ensures { IsOneOf (filter (λ t. T.distances.contains_point t
-            (table T.Envelope.Point.DIMENSIONS (T.Envelope.Point.coord point)))
-            (elements_in self.now)) result }
+            (table T.Envelope.Point.DIMENSIONS (T.Envelope.Point.coord point))) (elements_in self.now)) result }
     {
         self.locate_first(&SelectAtPointFunction::new(point))
     }
@@ -173,12 +173,10 @@ impl<T: PointDistance, Params: RTreeParams> RTree<T, Params> {
     ) -> Result<LocateAllAtPoint<'_, T>, AllocError>
         requires { IsWholeTree T.Envelope.boxes T.object Params.MAX_SIZE self.now }
         ensures all { IfOk result (λ it. to_come ⟦<SelectAtPointFunction<T> as SelectionFunction<T>>⟧.accepts
-            ⟦<SelectAtPointFunction<T> as SelectionFunction<T>>⟧.selects it
-            ≡ filter (λ t. T.distances.contains_point t
+            ⟦<SelectAtPointFunction<T> as SelectionFunction<T>>⟧.selects it ≡ filter (λ t. T.distances.contains_point t
             (table T.Envelope.Point.DIMENSIONS (T.Envelope.Point.coord point))) (elements_in self.now)) }
         ensures made { IfOk result (λ it. IsMade ⟦<SelectAtPointFunction<T> as SelectionFunction<T>>⟧.accepts
-            (root_of self.now)
-            (λ e. T.Envelope.boxes.contains_point e
+            (root_of self.now) (λ e. T.Envelope.boxes.contains_point e
             (table T.Envelope.Point.DIMENSIONS (T.Envelope.Point.coord point))) it) }
         ensures walking { IfOk result
             (λ it. IsWalking ⟦<SelectAtPointFunction<T> as SelectionFunction<T>>⟧.accepts it) }
@@ -203,8 +201,7 @@ impl<T: PointDistance, Params: RTreeParams> RTree<T, Params> {
             (table T.Envelope.Point.DIMENSIONS (T.Envelope.Point.coord query_point))))
             (T.Envelope.Point.Scalar.value max_squared_radius)) (elements_in self.now)) }
         ensures made { IfOk result (λ it. IsMade ⟦<SelectWithinDistanceFunction<T> as SelectionFunction<T>>⟧.accepts
-            (root_of self.now)
-            (λ e. int_le (pos (T.Envelope.boxes.distance_2 e
+            (root_of self.now) (λ e. int_le (pos (T.Envelope.boxes.distance_2 e
             (table T.Envelope.Point.DIMENSIONS (T.Envelope.Point.coord query_point))))
             (T.Envelope.Point.Scalar.value max_squared_radius)) it) }
         ensures walking { IfOk result

@@ -19,8 +19,7 @@ use rstar_base::point::{Point, RTreeNum};
 use std::ops::ControlFlow;
 
 impl<T: RTreeObject, Params: RTreeParams> RTree<T, Params> {
-    /// Calls a visitor at each element inside an envelope, until it breaks. It returns the break and takes
-    /// no memory.
+    /// Calls a visitor at each element inside an envelope, until it breaks. It returns the break and takes no memory.
     pub fn locate_in_envelope_int<'a, V: FnMut(&'a T) -> ControlFlow<B>, B: Drop>(
         &'a self,
         envelope: T::Envelope,
@@ -70,8 +69,7 @@ impl<T: RTreeObject, Params: RTreeParams> RTree<T, Params> {
         select_nodes(&self.root, &func, &mut visitor)
     }
 
-    /// As `locate_in_envelope_int`, to write. The visitor must keep the envelope of the
-    /// element.
+    /// As `locate_in_envelope_int`, to write. The visitor must keep the envelope of the element.
     pub fn locate_in_envelope_int_mut<V: FnMut(&mut T) -> ControlFlow<B>, B: Drop>(
         &mut self,
         envelope: T::Envelope,
@@ -90,8 +88,7 @@ impl<T: RTreeObject, Params: RTreeParams> RTree<T, Params> {
         self.locate_with_selection_function_int_mut(func, visitor)
     }
 
-    /// As `locate_in_envelope_intersecting_int`, to write. The visitor must keep the
-    /// envelope of the element.
+    /// As `locate_in_envelope_intersecting_int`, to write. The visitor must keep the envelope of the element.
     ///
     /// ```rust
     /// let _went_on: ControlFlow<()> = tree.locate_in_envelope_intersecting_int_mut(
@@ -121,8 +118,7 @@ impl<T: RTreeObject, Params: RTreeParams> RTree<T, Params> {
         self.locate_with_selection_function_int_mut(func, visitor)
     }
 
-    /// As `locate_with_selection_function_int`, to write. The visitor must keep the
-    /// envelope of the element.
+    /// As `locate_with_selection_function_int`, to write. The visitor must keep the envelope of the element.
     pub fn locate_with_selection_function_int_mut<
         F: SelectionFunction<T>,
         V: FnMut(&mut T) -> ControlFlow<B>,
@@ -131,8 +127,7 @@ impl<T: RTreeObject, Params: RTreeParams> RTree<T, Params> {
         requires callable { (state : V) (x : _) → V.pre state x }
         requires keeps { KeepsBoxes T.object V.step }
         requires whole { IsWholeTree T.Envelope.boxes T.object Params.MAX_SIZE self.old }
-        ensures written { IsWrittenWithin V.step
-            (IsLawful T.Envelope.boxes T.object (F.accepts func) (F.selects func))
+        ensures written { IsWrittenWithin V.step (IsLawful T.Envelope.boxes T.object (F.accepts func) (F.selects func))
             visitor (F.selects func) (elements_in self.old) result (elements_in self.new) }
         ensures outline { HasSameOutline self.old self.new }
         ensures whole { IsWholeTree T.Envelope.boxes T.object Params.MAX_SIZE self.new }
@@ -151,16 +146,13 @@ impl<T: PointDistance, Params: RTreeParams> RTree<T, Params> {
     ) -> ControlFlow<B>
         requires callable { (state : V) (x : _) → V.pre state x }
         requires whole { IsWholeTree T.Envelope.boxes T.object Params.MAX_SIZE self.now }
-        ensures { IsVisit (λ t. t.now) V.step visitor
-            (filter (λ t. T.distances.contains_point t
-            (table T.Envelope.Point.DIMENSIONS (T.Envelope.Point.coord point)))
-            (elements_in self.now)) result }
+        ensures { IsVisit (λ t. t.now) V.step visitor (filter (λ t. T.distances.contains_point t
+            (table T.Envelope.Point.DIMENSIONS (T.Envelope.Point.coord point))) (elements_in self.now)) result }
     {
         self.locate_with_selection_function_int(SelectAtPointFunction::new(point), visitor)
     }
 
-    /// As `locate_all_at_point_int`, to write. The visitor must keep the envelope of
-    /// the element.
+    /// As `locate_all_at_point_int`, to write. The visitor must keep the envelope of the element.
     pub fn locate_all_at_point_int_mut<V: FnMut(&mut T) -> ControlFlow<B>, B: Drop>(
         &mut self,
         point: PointOf<T>,
@@ -169,8 +161,7 @@ impl<T: PointDistance, Params: RTreeParams> RTree<T, Params> {
         requires callable { (state : V) (x : _) → V.pre state x }
         requires keeps { KeepsBoxes T.object V.step }
         requires whole { IsWholeTree T.Envelope.boxes T.object Params.MAX_SIZE self.old }
-        ensures written { IsWritten V.step visitor
-            (marked_by (λ t. T.distances.contains_point t
+        ensures written { IsWritten V.step visitor (marked_by (λ t. T.distances.contains_point t
             (table T.Envelope.Point.DIMENSIONS (T.Envelope.Point.coord point))) (elements_in self.old))
             result (elements_in self.new) }
         ensures outline { HasSameOutline self.old self.new }

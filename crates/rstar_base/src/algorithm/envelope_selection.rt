@@ -1,6 +1,6 @@
 //! Which elements lie near an envelope.
 
-ghost use Rattle.std.specs.Prelude.{◌≡◌, pos, int_le};
+ghost use Rattle.std.specs.Prelude.{pos, int_le};
 ghost use Rattle.rstar_base.specs.Selections.{SelectsBy};
 
 use crate::algorithm::selection_functions::SelectionFunction;

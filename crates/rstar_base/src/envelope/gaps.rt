@@ -1,6 +1,5 @@
 //! How far envelopes with a count lie apart.
 
-ghost use Rattle.std.specs.Prelude.{◌≡◌};
 ghost use Rattle.rstar_base.specs.Gaps.{boxes_apart};
 
 use crate::envelope::Counted;

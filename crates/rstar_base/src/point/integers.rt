@@ -172,6 +172,16 @@ impl RTreeNum for i64 {
         }
     }
 
+    fn distance_2(self, other: i64) -> i64 {
+        let apart = self.abs_diff(other);
+        // The squares of these fit.
+        if apart <= 3037000499 {
+            (apart * apart) as i64
+        } else {
+            i64::MAX
+        }
+    }
+
     ghost low_law = { record { lt = tt } };
 
     ghost high_law = { record { lt = tt } };
@@ -231,6 +241,10 @@ impl RTreeNum for isize {
 
     fn clamped_mul(self, other: isize) -> isize {
         (self as i64).clamped_mul(other as i64) as isize
+    }
+
+    fn distance_2(self, other: isize) -> isize {
+        (self as i64).distance_2(other as i64) as isize
     }
 
     ghost low_law = { record { lt = tt } };

@@ -9,7 +9,7 @@ use Rattle.rstar.specs.StoredReading.{node_at}
 use Rattle.rstar.proofs.trees.ByChildren.{elements-Leaf, elements-Parent}
 use Rattle.rstar.proofs.inserting.Insertion.{leaf_tree, tree_of}
 use Rattle.rstar.proofs.storing.Bytes.{point_tells}
-use Rattle.rstar.proofs.storing.Nodes.{goes_on, ends, is_done, kept_push, points_push, point_element, leaf_read, parent_read, parent_kept, parent_shown}
+use Rattle.rstar.proofs.storing.Laws.{goes_on, ends, is_done, kept_push, points_push, point_element, leaf_read, parent_read, parent_kept, parent_shown}
 use Rattle.rstar.proofs.stored.+read.Goals as goal
 
 pub children_at-returns-in_err-node-clause-read : goal.children_at-returns-in_err-node-clause-read
@@ -21,11 +21,11 @@ pub children_at-loop-preserved : goal.children_at-loop-preserved
 children_at-loop-preserved t c = record {
   read = rw (c.push_reserved.ensures.items, map_push shown c.loop.children.items c.in_ok-node.node)
       (goes_on (node_at c.args.below) (map shown c.loop.children.items) c.args.count c.loop.counter c.loop.rest.now (shown c.in_ok-node.node) c.in_ok-node.after.now _ c.loop-test.true c.in_ok-node.ensures.read c.loop.invariant.read);
-  kept = kept_push boxes places c.loop.widest c.node_at.new.widest c.args.below c.loop.children.items _ c.in_ok-node.node c.in_ok-node.ensures.wider c.push_reserved.ensures.items c.loop.invariant.kept c.in_ok-node.ensures.kept;
+  kept = kept_push boxes places c.loop.widest c.node_at.new.widest c.args.below c.loop.children.items _ c.in_ok-node.node c.in_ok-node.ensures.wider.0 c.push_reserved.ensures.items c.loop.invariant.kept c.in_ok-node.ensures.kept;
   len = search rules;
   room = search rules;
-  wider = let a = c.in_ok-node.ensures.wider in let b = c.loop.invariant.wider in omega (arith, a, b);
-  counted = c.in_ok-node.ensures.counted;
+  wider = let a = c.in_ok-node.ensures.wider.0 in let b = c.loop.invariant.wider in omega (arith, a, b);
+  counted = c.in_ok-node.ensures.wider.1;
   points = points_push c.loop.children.items _ c.in_ok-node.node c.args.points.now c.loop.points c.node_at.new.points c.push_reserved.ensures.items c.loop.invariant.points c.in_ok-node.ensures.points;
   left = let a = c.in_ok-node.ensures.left in let b = c.loop.invariant.left in omega (arith, a, b);
 }

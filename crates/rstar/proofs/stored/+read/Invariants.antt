@@ -5,7 +5,7 @@ use Rattle.rstar.specs.Nodes.{all_elements}
 use Rattle.rstar.specs.Shown.{shown}
 use Rattle.rstar.specs.Stored.{boxes, places}
 use Rattle.rstar.specs.StoredReading.{each_at, node_at}
-use Rattle.rstar.proofs.storing.Nodes.{with_front}
+use Rattle.rstar.proofs.storing.Laws.{with_front}
 use Rattle.rstar.proofs.stored.+read.Given as goal
 
 abbrev pub decreases-children_at : goal.decreases-children_at

@@ -1,7 +1,7 @@
 use Rattle.std.proofs.Common.{arith}
 use Rattle.rstar.specs.Shown.{shown_root}
 use Rattle.rstar.specs.Trees.{root_of}
-use Rattle.rstar.proofs.storing.Exact.{answer_told}
+use Rattle.rstar.proofs.storing.Faults.{answer_told}
 use Rattle.rstar.proofs.stored.read_stored.Goals as goal
 
 pub returns : goal.returns

@@ -1,8 +1,7 @@
 use Rattle.std.proofs.Common.{rules, inr, ap, ◌∙◌, sym}
 use Rattle.std.proofs.Common.{Ok}
 use Rattle.rstar.specs.Shown.{shown_root}
-use Rattle.rstar.proofs.storing.Nodes.{root_by}
-use Rattle.rstar.proofs.storing.Trees.{root_other, root_trailing, root_done}
+use Rattle.rstar.proofs.storing.Laws.{root_by, root_other, root_trailing, root_done}
 use Rattle.rstar.proofs.stored.root_after.Goals as goal
 
 pub returns-then-points-count-clause-read : goal.returns-then-points-count-clause-read

@@ -1,6 +1,5 @@
 use Rattle.std.proofs.Common.{rules, ap, ◌∙◌, sym, Ok}
-use Rattle.rstar.proofs.storing.Trees.{levels_read, gives_along, root_empty}
-use Rattle.rstar.proofs.storing.Nodes.{root_shows_none}
+use Rattle.rstar.proofs.storing.Laws.{levels_read, gives_along, root_empty, root_shows_none}
 use Rattle.rstar.proofs.stored.tree_after.Goals as goal
 
 pub returns-then-height-eq0-clause-read : goal.returns-then-height-eq0-clause-read

@@ -13,8 +13,7 @@ use Rattle.rstar.proofs.visits.+writing.Goals as goal
 
 pub visit_node_mut-visit_nodes_mut-requires : goal.visit_node_mut-visit_nodes_mut-requires
 visit_node_mut-visit_nodes_mut-requires g t c κs within =
-    let here = ap (λ n. steps n) c.in-Parent.is in
-    let below = steps-Parent c.in-Parent.parent in
+    let here = ap (λ n. steps n) c.in-Parent.is in let below = steps-Parent c.in-Parent.parent in
     let same = ap (λ ns. total (map steps ns)) (rw c.in-Parent.parent-is at c.as_mut_slice.ensures.value) in
     (omega (arith, c.decreases), search (rules, within))
 
@@ -32,10 +31,8 @@ visit_node_mut-returns-else-should_unpack_leaf g t c =
 
 pub visit_node_mut-returns-then-should_unpack_parent : goal.visit_node_mut-returns-then-should_unpack_parent
 visit_node_mut-returns-then-should_unpack_parent g t c =
-    let o = g.T.Covered.object in
-    let accepts = g.F.Question.accepts c.args.func.now in
-    let selects = g.F.Question.selects c.args.func.now in
-    let p = c.in-Parent.parent in
+    let o = g.T.Covered.object in let accepts = g.F.Question.accepts c.args.func.now in
+    let selects = g.F.Question.selects c.args.func.now in let p = c.in-Parent.parent in
     let new = c.visit_nodes_mut.new.nodes in
     let below = refilled o accepts selects (goal.V-step g) p.children c.as_mut_slice.result.now new c.args.visitor.now c.visit_nodes_mut.result c.visit_nodes_mut.new.visitor
     (rw c.in-Parent.parent-is at c.as_mut_slice.ensures.value) c.visit_nodes_mut.auto.nodes c.visit_nodes_mut.ensures in

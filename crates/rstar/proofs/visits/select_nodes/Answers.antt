@@ -1,17 +1,15 @@
 use Rattle.std.proofs.Common.{ap, sym, ◌∙◌, subst}
 use Rattle.rstar.specs.Nodes.{all_given, given_of}
 use Rattle.rstar.specs.Visits.{Visits}
-use Rattle.rstar.proofs.selecting.Complete.{part-root, all-root}
+use Rattle.rstar.proofs.selecting.Complete.{part-root, all-root, gives_none, gives_below}
 use Rattle.rstar.proofs.visiting.Visits.{visits_none}
-use Rattle.rstar.proofs.selecting.Complete.{gives_none, gives_below}
 use Rattle.rstar.proofs.visits.select_nodes.Goals as goal
 
 -- an empty root, or one that is refused
 pub returns-then-not-enters : goal.returns-then-not-enters
 returns-then-not-enters g c =
     let accepts = g.F.SelectionFunction.accepts c.args.func.now in
-    let selects = g.F.SelectionFunction.selects c.args.func.now in
-    let root = c.args.root.now in
+    let selects = g.F.SelectionFunction.selects c.args.func.now in let root = c.args.root.now in
     record {
       visited = given_of accepts selects root;
       part = part-root accepts selects root;
@@ -22,8 +20,7 @@ returns-then-not-enters g c =
 pub returns : goal.returns
 returns g c =
     let accepts = g.F.SelectionFunction.accepts c.args.func.now in
-    let selects = g.F.SelectionFunction.selects c.args.func.now in
-    let root = c.args.root.now in
+    let selects = g.F.SelectionFunction.selects c.args.func.now in let root = c.args.root.now in
     let same = gives_below accepts selects root (c.enters.ensures.entered c.if-not-enters.false).1 ∙ ap (all_given accepts selects) (sym c.as_slice.ensures.value) in
     record {
       visited = given_of accepts selects root;

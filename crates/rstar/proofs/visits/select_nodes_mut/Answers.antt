@@ -9,10 +9,8 @@ use Rattle.rstar.proofs.visits.select_nodes_mut.Goals as goal
 
 pub returns-then-not-enters : goal.returns-then-not-enters
 returns-then-not-enters g c =
-    let o = g.T.RTreeObject.object in
-    let accepts = g.F.SelectionFunction.accepts c.args.func.now in
-    let selects = g.F.SelectionFunction.selects c.args.func.now in
-    let root = c.args.root.now in
+    let o = g.T.RTreeObject.object in let accepts = g.F.SelectionFunction.accepts c.args.func.now in
+    let selects = g.F.SelectionFunction.selects c.args.func.now in let root = c.args.root.now in
     record {
       written = within-root g.met.T.Envelope.Envelope.envelope_laws g.met.T.RTreeObject.object_law accepts selects (goal.V-step g) root
           (passed-writes o accepts selects (goal.V-step g) c.args.visitor.now root (c.enters.ensures.refused c.if-not-enters.true));
@@ -24,10 +22,8 @@ returns-then-not-enters g c =
 
 pub returns-clause-written : goal.returns-clause-written
 returns-clause-written g c =
-    let o = g.T.RTreeObject.object in
-    let accepts = g.F.SelectionFunction.accepts c.args.func.now in
-    let selects = g.F.SelectionFunction.selects c.args.func.now in
-    let root = c.args.root.now in
+    let o = g.T.RTreeObject.object in let accepts = g.F.SelectionFunction.accepts c.args.func.now in
+    let selects = g.F.SelectionFunction.selects c.args.func.now in let root = c.args.root.now in
     let below = refilled o accepts selects (goal.V-step g) root.children c.as_mut_slice.result.now c.visit_nodes_mut.new.nodes c.args.visitor.now c.visit_nodes_mut.result c.visit_nodes_mut.new.visitor
     c.as_mut_slice.ensures.value c.visit_nodes_mut.auto.nodes c.visit_nodes_mut.ensures in
     within-root g.met.T.Envelope.Envelope.envelope_laws g.met.T.RTreeObject.object_law accepts selects (goal.V-step g) root

@@ -7,9 +7,9 @@ ghost use Rattle.std.specs.Prelude.{◌≡◌, ℕ, ◌+◌, ◌^◌, ◌<◌, �
 ghost use Rattle.std.specs.List.Sorted.{IsPermutation};
 ghost use Rattle.rstar.specs.declared.node.RTreeNode.{Leaf};
 ghost use Rattle.rstar.specs.Nodes.{elements_of};
-ghost use Rattle.rstar.specs.Lists.{NoneEmpty};
 ghost use Rattle.rstar.specs.Loaded.{IsPartSize, GoesDeep};
-ghost use Rattle.rstar.specs.inside.Loads.{AddsParts, CutsSlab, IsFresh, IsFreshNode, front_of, last_of};
+ghost use Rattle.rstar.specs.inside.Loads.{AddsParts, CanLoad, CutsSlab, IsFresh, IsFreshNode, front_of, last_of};
+ghost use Rattle.rstar.specs.inside.ParentBounds.{Widens};
 
 use crate::bounds::{Covered, InSlabs};
 use crate::node::{ParentNode, RTreeNode, envelope_for_children};
@@ -43,8 +43,7 @@ fn give_back<T>(list: &mut Vec<T>)
 fn widen<A>(widest: &mut usize, nodes: &Vec<A>)
     requires counted { widest.old + 1 < 2 ^ 64 }
     ensures narrow { vec_len nodes.now ≤ widest.new }
-    ensures wider { widest.old ≤ widest.new }
-    ensures counted { widest.new + 1 < 2 ^ 64 }
+    ensures wider { Widens widest.old widest.new }
 {
     *widest = nodes.len().max(*widest);
 }
@@ -68,21 +67,21 @@ pub(crate) fn load_node<T: InSlabs, Params: RTreeParams>(
     below: usize,
     widest: &mut usize,
 ) -> Result<ParentNode<T>, AllocError>
-    requires some { 0 < len }
-    requires within { len ≤ length list.old.items }
-    requires elements { NoneEmpty T.Cover.boxes.is_empty T.object.box_of list.old.items }
+    requires part { CanLoad T.Cover.boxes T.object len list.old.items widest.old }
     requires dimensions { 2 ≤ T.axes }
     requires deep { GoesDeep Params.MAX_SIZE T.axes below len }
-    requires counted { widest.old + 1 < 2 ^ 64 }
     ensures left { OnOk result (list.new.items ≡ front_of len list.old.items) }
     ensures same { IfOk result (λ parent. IsPermutation (last_of len list.old.items) (elements_of parent)) }
-    ensures fresh { IfOk result
-        (IsFresh T.Cover.boxes T.object Params.MAX_SIZE widest.new T.axes below) }
-    ensures wider { OnOk result (widest.old ≤ widest.new) }
-    ensures counted { OnOk result (widest.new + 1 < 2 ^ 64) }
+    ensures fresh { IfOk result (IsFresh T.Cover.boxes T.object Params.MAX_SIZE widest.new T.axes below) }
+    ensures wider { OnOk result (Widens widest.old widest.new) }
 {
     if below == 0 {
-        return leaf_parent::<T, Params>(list, len, widest);
+        let elements = list.split_off(list.len() - len)?;
+        give_back(list);
+        let envelope = T::envelope_of_all(&elements);
+        let children = leaves(elements)?;
+        widen(widest, &children);
+        return Ok(ParentNode { children, envelope });
     }
     let clusters = T::slabs_on_axis::<Params>(len);
     let axes = T::axes();
@@ -94,31 +93,6 @@ pub(crate) fn load_node<T: InSlabs, Params: RTreeParams>(
         children: nodes,
         envelope,
     })
-}
-
-/// A parent whose children are leaves, of the last elements of a list.
-fn leaf_parent<T: InSlabs, Params: RTreeParams>(
-    list: &mut Vec<T>,
-    len: usize,
-    widest: &mut usize,
-) -> Result<ParentNode<T>, AllocError>
-    requires some { 0 < len }
-    requires within { len ≤ length list.old.items }
-    requires elements { NoneEmpty T.Cover.boxes.is_empty T.object.box_of list.old.items }
-    requires counted { widest.old + 1 < 2 ^ 64 }
-    ensures left { OnOk result (list.new.items ≡ front_of len list.old.items) }
-    ensures same { IfOk result (λ parent. IsPermutation (last_of len list.old.items) (elements_of parent)) }
-    ensures fresh { IfOk result
-        (IsFresh T.Cover.boxes T.object Params.MAX_SIZE widest.new T.axes 0) }
-    ensures wider { OnOk result (widest.old ≤ widest.new) }
-    ensures counted { OnOk result (widest.new + 1 < 2 ^ 64) }
-{
-    let elements = list.split_off(list.len() - len)?;
-    give_back(list);
-    let envelope = T::envelope_of_all(&elements);
-    let children = leaves(elements)?;
-    widen(widest, &children);
-    Ok(ParentNode { children, envelope })
 }
 
 /// Partitions the last `rest` elements of a list so that the `size` elements of the greatest keys come last.
@@ -156,21 +130,16 @@ fn load_parts<T: InSlabs, Params: RTreeParams>(
     nodes: &mut Vec<RTreeNode<T>>,
     widest: &mut usize,
 ) -> Result<(), AllocError>
-    requires some { 0 < len }
-    requires within { len ≤ length list.old.items }
-    requires elements { NoneEmpty T.Cover.boxes.is_empty T.object.box_of list.old.items }
+    requires part { CanLoad T.Cover.boxes T.object len list.old.items widest.old }
     requires dimensions { 2 ≤ T.axes }
     requires axes { axes ≤ T.axes }
     requires clusters { 2 ≤ clusters }
-    requires deep { (m : ℕ) → IsPartSize clusters axes len m
-        → GoesDeep Params.MAX_SIZE T.axes below m }
-    requires counted { widest.old + 1 < 2 ^ 64 }
+    requires deep { (m : ℕ) → IsPartSize clusters axes len m → GoesDeep Params.MAX_SIZE T.axes below m }
     ensures left { OnOk result (list.new.items ≡ front_of len list.old.items) }
     ensures adds { OnOk result (AddsParts (λ t axis. T.Cover.boxes.axis_key (T.object.box_of t) axis)
         (IsFreshNode T.Cover.boxes T.object Params.MAX_SIZE widest.new T.axes below)
         clusters axes (last_of len list.old.items) nodes.old.items nodes.new.items) }
-    ensures wider { OnOk result (widest.old ≤ widest.new) }
-    ensures counted { OnOk result (widest.new + 1 < 2 ^ 64) }
+    ensures wider { OnOk result (Widens widest.old widest.new) }
 {
     if axes == 0 {
         let node = load_node::<T, Params>(list, len, below, widest)?;

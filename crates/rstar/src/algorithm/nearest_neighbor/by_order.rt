@@ -2,8 +2,6 @@
 
 ghost use Rattle.std.specs.Prelude.{◌≡◌};
 ghost use Rattle.rstar.specs.ByOrder.{search_by_order, neighbors_left, IsSearchingByOrder, GivesByOrder};
-ghost use Rattle.rstar.specs.Neighbors.{HasBegun};
-ghost use Rattle.rstar.specs.Nodes.{IsWhole};
 
 use crate::algorithm::nearest_neighbor::search::NeighborSearch;
 use crate::algorithm::nearest_neighbor::waiting::ParentsFirst;
@@ -30,30 +28,11 @@ pub type NearestNeighborByOrderIterator<'a, T> = NeighborsByOrder<
 /// point.
 #[derive(Drop)]
 pub struct NeighborsByOrder<'a, R, N, S, P> {
-    search: NeighborSearch<'a, R, N, S, ParentsFirst>,
-    point: P,
+    pub(crate) search: NeighborSearch<'a, R, N, S, ParentsFirst>,
+    pub(crate) point: P,
 }
 
-impl<'a, T: PointDistance + Ord> NeighborsByOrder<
-    'a,
-    ParentNode<T>,
-    RTreeNode<T>,
-    Distance<T>,
-    PointOf<T>,
-> {
-    /// The neighbours of a point below a root. It takes no memory.
-    pub(crate) fn new(root: &'a ParentNode<T>, point: PointOf<T>) -> Self
-        requires { IsWhole T.Envelope.boxes T.object root.now }
-        ensures begun { HasBegun root.now point (search_by_order result) }
-        ensures searching { IsSearchingByOrder T.Envelope.boxes T.object T.distances T.cmp T.Envelope.Point.DIMENSIONS
-            T.Envelope.Point.coord T.Envelope.Point.Scalar.cmp T.Envelope.Point.Scalar.value result }
-    {
-        NeighborsByOrder {
-            search: NeighborSearch::new(root),
-            point,
-        }
-    }
-
+impl<'a, T: PointDistance + Ord> NearestNeighborByOrderIterator<'a, T> {
     /// The number of parents visited so far. The root counts; the number is clamped to the greatest `usize`.
     pub fn opened(&self) -> usize
         ensures { result ≡ (search_by_order self.now).opened }

@@ -1,14 +1,13 @@
 //! The nearest, and the k nearest for small k: the best elements found so far prune what is farther than the
 //! last of them, and the least MINMAXDIST seen prunes a search for one (Roussopoulos et al. 1995).
 
-ghost use Rattle.std.specs.Prelude.{◌≡◌, ◌≤◌, ◌≤ℤ◌, ◌+◌, ◌++◌, ◌∷◌, [], List, ℕ, true, false, length, pos, map, None, Option, OnOk, IfOk, IfSome, IfNone, MatchOption, option_to_list};
+ghost use Rattle.std.specs.Prelude.{◌≡◌, ◌≤◌, ◌≤ℤ◌, ◌++◌, ◌∷◌, [], List, ℕ, true, false, length, pos, map, None, Option, OnOk, IfOk, IfSome, IfNone, MatchOption, option_to_list};
 ghost use Rattle.std.specs.List.{AllByRecursion, insert};
 ghost use Rattle.std.specs.Ordering.{flip_args, is_lt};
-ghost use Rattle.rstar_base.specs.SmallHeaps.{items_of, IsOrdered, Rises};
-ghost use Rattle.rstar.specs.declared.node.RTreeNode.{RTreeNode};
-ghost use Rattle.rstar.specs.inside.Few.{found_elements, is_one, kept_in, IsAbove, IsFarthest, IsKept, IsLowered, IsSeeking, IsTightened, KeepsGreatest, WaitAtDistance, waiting_parents};
-ghost use Rattle.rstar.specs.Lists.{IsNearest, IsNotLater, AreFirstOf};
-ghost use Rattle.rstar.specs.Nodes.{all_parents, elements_of, envelope_of, parents, IsWhole};
+ghost use Rattle.rstar_base.specs.SmallHeaps.{IsOrdered, Rises};
+ghost use Rattle.rstar.specs.inside.Few.{found_elements, is_one, kept_in, FindsNearest, IsAbove, IsBest, IsFarthest, IsKept, IsLowered, KeepsGreatest, StaysInOrder, TakesIn, Visits};
+ghost use Rattle.rstar.specs.Lists.{IsNotLater, AreFirstOf};
+ghost use Rattle.rstar.specs.Nodes.{elements_of, IsWhole};
 ghost use Rattle.rstar.specs.inside.Searches.{any_first, distance_of, nearest_on_top};
 
 use crate::algorithm::nearest_neighbor::search::{distance_to, fits};
@@ -46,17 +45,7 @@ pub(crate) fn one_nearest<'a, T: Measured>(
     point: &T::Place,
 ) -> Result<Option<(&'a T, T::Distance)>, AllocError>
     requires { IsWhole T.Cover.boxes T.object root.now }
-    ensures none { IfOk result (λ r. IfNone r (elements_of root.now ≡ [])) }
-    ensures nearest { IfOk result (λ r. IfSome r
-        (λ x. IsNearest (λ t. T.distances.distance_2 t (T.at point.now)) (elements_of root.now) x.0.now)) }
-    ensures distance { IfOk result
-        (λ r. IfSome r (λ x. T.Distance.number x.1 ≡ pos (T.distances.distance_2 x.0.now (T.at point.now)))) }
-    ensures not_below { IfOk result (λ r. IfSome r
-        (λ x. T.Cover.boxes.distance_2 (envelope_of root.now) (T.at point.now) ≤ T.distances.distance_2 x.0.now
-        (T.at point.now))) }
-    ensures not_above { IfOk result (λ r. IfSome r
-        (λ x. T.distances.distance_2 x.0.now (T.at point.now) ≤ T.Cover.boxes.min_max_dist_2 (envelope_of root.now)
-        (T.at point.now))) }
+    ensures { FindsNearest T.Cover.boxes T.distances (T.at point.now) T.Distance.number root.now result }
 {
     // Does nothing but tell that the point's coordinates are in their range.
     T::known(point);
@@ -171,21 +160,10 @@ fn open<'a, T: Measured, E: TieOrder<T>>(
 ) -> Result<(), AllocError>
     requires point { T.Cover.is_point (T.at point.now) }
     requires ordered { IsOrdered (nearest_on_top T.Distance.cmp any_first) heap.old }
-    requires kept { IsKept T.Distance.number most best.old.bound best.old.kept }
-    requires falls { Rises (flip_args (nearest_on_top T.Distance.cmp E.order)) (kept_in best.old.kept) }
-    ensures ordered { IsOrdered (nearest_on_top T.Distance.cmp any_first) heap.new }
-    ensures kept { OnOk result (IsKept T.Distance.number most best.new.bound best.new.kept) }
-    ensures same { is_one best.new.kept ≡ is_one best.old.kept }
-    ensures falls { Rises (flip_args (nearest_on_top T.Distance.cmp E.order)) (kept_in best.new.kept) }
-    ensures waiting { OnOk result (WaitAtDistance T.Cover.boxes T.distances (T.at point.now) T.Distance.number
-        (items_of heap.old) → WaitAtDistance T.Cover.boxes T.distances (T.at point.now) T.Distance.number
-        (items_of heap.new)) }
-    ensures fewer { OnOk result (all_parents (waiting_parents (items_of heap.new)) ≤ all_parents
-        (waiting_parents (items_of heap.old)) + all_parents children.now) }
-    ensures first { OnOk result ((all : List T) → IsSeeking T.Cover.boxes T.object T.distances (T.at point.now)
-        E.order T.Distance.number most all (waiting_parents (items_of heap.old) ++ children.now) best.old.bound
-        (kept_in best.old.kept) → IsSeeking T.Cover.boxes T.object T.distances (T.at point.now) E.order
-        T.Distance.number most all (waiting_parents (items_of heap.new)) best.new.bound (kept_in best.new.kept)) }
+    requires best { IsBest T.Distance.cmp E.order T.Distance.number most best.old }
+    ensures order { StaysInOrder T.Distance.cmp E.order best.old heap.new best.new }
+    ensures visits { OnOk result (Visits T.Distance.cmp E.order T.Distance.number most T.Cover.boxes T.object T.distances
+        (T.at point.now) children.now heap.old best.old heap.new best.new) }
 {
     for child in children {
         offer(heap, best, child, point, most)?;
@@ -203,22 +181,10 @@ fn offer<'a, T: Measured, E: TieOrder<T>>(
 ) -> Result<(), AllocError>
     requires point { T.Cover.is_point (T.at point.now) }
     requires ordered { IsOrdered (nearest_on_top T.Distance.cmp any_first) heap.old }
-    requires kept { IsKept T.Distance.number most best.old.bound best.old.kept }
-    requires falls { Rises (flip_args (nearest_on_top T.Distance.cmp E.order)) (kept_in best.old.kept) }
-    ensures ordered { IsOrdered (nearest_on_top T.Distance.cmp any_first) heap.new }
-    ensures kept { OnOk result (IsKept T.Distance.number most best.new.bound best.new.kept) }
-    ensures same { is_one best.new.kept ≡ is_one best.old.kept }
-    ensures falls { Rises (flip_args (nearest_on_top T.Distance.cmp E.order)) (kept_in best.new.kept) }
-    ensures waiting { OnOk result (WaitAtDistance T.Cover.boxes T.distances (T.at point.now) T.Distance.number
-        (items_of heap.old) → WaitAtDistance T.Cover.boxes T.distances (T.at point.now) T.Distance.number
-        (items_of heap.new)) }
-    ensures fewer { OnOk result (all_parents (waiting_parents (items_of heap.new)) ≤ all_parents
-        (waiting_parents (items_of heap.old)) + parents node.now) }
-    ensures first { OnOk result ((all : List T) (rest : List (RTreeNode T T.Cover)) → IsSeeking T.Cover.boxes T.object
-        T.distances (T.at point.now) E.order T.Distance.number most all (waiting_parents (items_of heap.old)
-        ++ node.now ∷ rest) best.old.bound (kept_in best.old.kept) → IsSeeking T.Cover.boxes T.object T.distances
-        (T.at point.now) E.order T.Distance.number most all (waiting_parents (items_of heap.new) ++ rest)
-        best.new.bound (kept_in best.new.kept)) }
+    requires best { IsBest T.Distance.cmp E.order T.Distance.number most best.old }
+    ensures order { StaysInOrder T.Distance.cmp E.order best.old heap.new best.new }
+    ensures visits { OnOk result (Visits T.Distance.cmp E.order T.Distance.number most T.Cover.boxes T.object T.distances
+        (T.at point.now) (node.now ∷ []) heap.old best.old heap.new best.new) }
 {
     let Some(distance) = distance_within(node, point, best.bound) else {
         return Ok(());
@@ -304,14 +270,11 @@ fn take_in<'a, T, S: SquaredDistance, E: TieOrder<T>>(
     most: usize,
     item: Waiting<&'a T, S, E>,
 ) -> Result<(), AllocError>
-    requires kept { IsKept S.number most best.old.bound best.old.kept }
-    requires falls { Rises (flip_args (nearest_on_top S.cmp E.order)) (kept_in best.old.kept) }
+    requires best { IsBest S.cmp E.order S.number most best.old }
     requires within { IfSome best.old.bound (λ b. S.number item.distance ≤ℤ S.number b) }
     ensures falls { Rises (flip_args (nearest_on_top S.cmp E.order)) (kept_in best.new.kept) }
     ensures same { is_one best.new.kept ≡ is_one best.old.kept }
-    ensures fits { OnOk result (IsKept S.number most best.new.bound best.new.kept) }
-    ensures kept { OnOk result (KeepsGreatest (nearest_on_top S.cmp E.order) most item.entry (kept_in best.old.kept)
-        (kept_in best.new.kept) × IsTightened S.number best.old.bound best.new.bound (kept_in best.new.kept)) }
+    ensures takes { OnOk result (TakesIn S.cmp E.order S.number most item.entry best.old best.new) }
 {
     match &mut best.kept {
         Kept::One(found) => {

@@ -1,15 +1,16 @@
 //! The traversal behind the neighbour iterators: a priority queue of nodes, the nearest first.
 
-ghost use Rattle.std.specs.Prelude.{◌≡◌, ◌<◌, ◌≤◌, ◌∷◌, ◌++◌, [], pos, OnOk, OnErr, IfOk, IfErr, IfSome, IfNone};
+ghost use Rattle.std.specs.Prelude.{◌≡◌, ◌<◌, ◌∷◌, ◌++◌, [], pos, OnOk, OnErr, IfOk};
 ghost use Rattle.std.specs.List.Sorted.{IsPermutation};
 ghost use Rattle.std.specs.Mem.{FitsInMemory};
-ghost use Rattle.rstar_base.specs.SmallHeaps.{items_of, IsOrdered};
+ghost use Rattle.rstar_base.specs.SmallHeaps.{IsOrdered};
 ghost use Rattle.rstar.specs.inside.Fits.{heap_row, search_row};
 ghost use Rattle.rstar.specs.declared.node.RTreeNode.{Parent};
-ghost use Rattle.rstar.specs.declared.algorithm.nearest_neighbor.search.Stage.TheVariants.{Fresh, Running, Ended};
-ghost use Rattle.rstar.specs.Nodes.{all_elements, all_parents, IsWhole};
-ghost use Rattle.rstar.specs.Neighbors.{IsNeighbor};
-ghost use Rattle.rstar.specs.inside.Searches.{nearest_on_top, waiting_nodes, distance_of, ComesFirst, AreWaiting, IsRunning, IsReady, IsReadyAt, IsUnrefused, held_by, waiting_of};
+ghost use Rattle.rstar.specs.declared.algorithm.nearest_neighbor.search.Stage.TheVariants.{Fresh, Running};
+ghost use Rattle.rstar.specs.Nodes.{all_parents, IsWhole};
+ghost use Rattle.rstar.specs.Neighbors.{shown, HasBegun};
+ghost use Rattle.rstar.specs.inside.Searches.{nearest_on_top, waiting_nodes, distance_of, AreWaiting, IsRunning, IsReady, IsReadyAt, IsUnrefused, held_by, waiting_of};
+ghost use Rattle.rstar.specs.inside.SearchSteps.{GivesFirst, GivesNext, IsUnderWay};
 
 use crate::algorithm::nearest_neighbor::waiting::{TieOrder, Waiting};
 use crate::bounds::{Measured, SquaredDistance};
@@ -71,19 +72,13 @@ pub(crate) type NodeSearch<'a, T, O> = NeighborSearch<
     O,
 >;
 
-impl<'a, T: Measured, O: TieOrder<RTreeNode<T>>> NeighborSearch<
-    'a,
-    ParentNode<T>,
-    RTreeNode<T>,
-    T::Distance,
-    O,
-> {
+impl<'a, T: Measured, O: TieOrder<RTreeNode<T>>> NodeSearch<'a, T, O> {
     /// A search in which the root waits. It takes no memory.
     pub(crate) fn new(root: &'a ParentNode<T>) -> Self
         requires { IsWhole T.Cover.boxes T.object root.now }
         ensures root { result.root ≡ root.entry }
+        ensures begun { (p : T.Place) → HasBegun root.now p (shown result p) }
         ensures stage { result.stage ≡ Fresh }
-        ensures opened { result.opened ≡ 0 }
         ensures ready { (p : _) → IsReady T.Cover.boxes T.distances p T.Distance.cmp O.order T.Distance.number T.object
             result }
     {
@@ -102,23 +97,8 @@ impl<'a, T: Measured, O: TieOrder<RTreeNode<T>>> NeighborSearch<
     ) -> Option<Result<(&'a T, T::Distance), AllocError>>
         requires { IsReady T.Cover.boxes T.distances (T.at point.now) T.Distance.cmp O.order T.Distance.number T.object
             self.old }
-        ensures root { self.new.root ≡ self.old.root }
-        ensures ready { IsReady T.Cover.boxes T.distances (T.at point.now) T.Distance.cmp O.order T.Distance.number
-            T.object self.new }
-        ensures gives { IfSome result (λ r. IfOk r (λ x. IsNeighbor T.Cover.boxes T.distances (T.at point.now)
-            self.old.root.now (waiting_of self.old) (waiting_of self.new) x.0.now)) }
-        ensures distance { IfSome result
-            (λ r. IfOk r (λ x. T.Distance.number x.1 ≡ pos (T.distances.distance_2 x.0.now (T.at point.now)))) }
-        ensures first { IfSome result (λ r. IfOk r
-            (λ x. ComesFirst T.Cover.boxes T.distances (T.at point.now) O.order (waiting_of self.new) x.0.now)) }
-        ensures none { IfNone result (IsUnrefused self.old.stage → all_elements (waiting_of self.old) ≡ []) }
-        ensures over { IfNone result (IsUnrefused self.old.stage → waiting_of self.new ≡ []) }
-        ensures stays { IfNone result (IsUnrefused self.old.stage → self.new.stage ≡ Running) }
-        ensures refused { IfSome result (λ r. IfErr r (λ _. 0 < all_parents (waiting_of self.old))) }
-        ensures goes_on { IfSome result (λ r. IfOk r (λ _. self.new.stage ≡ Running)) }
-        ensures ends { IfSome result (λ r. IfErr r (λ _. self.new.stage ≡ Ended)) }
-        ensures once { IfSome result (λ _. IsUnrefused self.old.stage) }
-        ensures ended { (IsUnrefused self.old.stage → ⊥) → IsUnrefused self.new.stage → ⊥ }
+        ensures { GivesNext T.Cover.boxes T.distances (T.at point.now) T.Distance.cmp O.order T.Distance.number T.object
+            self.old result self.new }
     {
         if let Stage::Ended = self.stage {
             return None;
@@ -144,11 +124,8 @@ impl<'a, T: Measured, O: TieOrder<RTreeNode<T>>> NeighborSearch<
             T.object self.old }
         ensures root { self.new.root ≡ self.old.root }
         ensures stage { OnOk result (self.new.stage ≡ Running) }
-        ensures running { OnOk result (IsRunning T.Cover.boxes T.distances (T.at point.now) T.Distance.cmp O.order
-            T.Distance.number T.object self.new.root.now self.new.heap self.new.opened) }
-        ensures bag { OnOk result (IsPermutation (all_elements (waiting_of self.old))
-            (all_elements (waiting_nodes (held_by self.new)))) }
-        ensures fewer { OnOk result (all_parents (waiting_nodes (held_by self.new)) ≤ all_parents (waiting_of self.old)) }
+        ensures under_way { OnOk result (IsUnderWay T.Cover.boxes T.distances (T.at point.now) T.Distance.cmp O.order
+            T.Distance.number T.object self.new.root.now (waiting_of self.old) self.new.heap self.new.opened) }
         ensures refused { OnErr result (0 < all_parents (waiting_of self.old)) }
     {
         match self.stage {
@@ -167,12 +144,8 @@ impl<'a, T: Measured, O: TieOrder<RTreeNode<T>>> NeighborSearch<
         requires { IsReadyAt T.Cover.boxes T.distances (T.at point.now) T.Distance.cmp O.order T.Distance.number
             T.object Fresh self.old.root.now self.old.heap self.old.opened }
         ensures root { self.new.root ≡ self.old.root }
-        ensures running { OnOk result (IsRunning T.Cover.boxes T.distances (T.at point.now) T.Distance.cmp O.order
-            T.Distance.number T.object self.new.root.now self.new.heap self.new.opened) }
-        ensures bag { OnOk result (IsPermutation (all_elements (Parent self.old.root.now ∷ []))
-            (all_elements (waiting_nodes (held_by self.new)))) }
-        ensures fewer { OnOk result
-            (all_parents (waiting_nodes (held_by self.new)) ≤ all_parents (Parent self.old.root.now ∷ [])) }
+        ensures under_way { OnOk result (IsUnderWay T.Cover.boxes T.distances (T.at point.now) T.Distance.cmp O.order
+            T.Distance.number T.object self.new.root.now (Parent self.old.root.now ∷ []) self.new.heap self.new.opened) }
     {
         // Does nothing but tell that the point's coordinates are in their range.
         T::known(point);
@@ -188,16 +161,8 @@ impl<'a, T: Measured, O: TieOrder<RTreeNode<T>>> NeighborSearch<
             T.object self.old.root.now self.old.heap self.old.opened }
         ensures root { self.new.root ≡ self.old.root }
         ensures stage { self.new.stage ≡ self.old.stage }
-        ensures running { OnOk result (IsRunning T.Cover.boxes T.distances (T.at point.now) T.Distance.cmp O.order
-            T.Distance.number T.object self.old.root.now self.new.heap self.new.opened) }
-        ensures gives { IfOk result (λ r. IfSome r (λ x. IsNeighbor T.Cover.boxes T.distances (T.at point.now)
-            self.old.root.now (waiting_nodes (held_by self.old)) (waiting_nodes (held_by self.new)) x.0.now)) }
-        ensures distance { IfOk result
-            (λ r. IfSome r (λ x. T.Distance.number x.1 ≡ pos (T.distances.distance_2 x.0.now (T.at point.now)))) }
-        ensures first { IfOk result (λ r. IfSome r (λ x. ComesFirst T.Cover.boxes T.distances (T.at point.now) O.order
-            (waiting_nodes (held_by self.new)) x.0.now)) }
-        ensures none { IfOk result (λ r. IfNone r (all_elements (waiting_nodes (held_by self.old)) ≡ [])) }
-        ensures over { IfOk result (λ r. IfNone r (waiting_nodes (held_by self.new) ≡ [])) }
+        ensures gives { IfOk result (GivesFirst T.Cover.boxes T.distances (T.at point.now) T.Distance.cmp O.order
+            T.Distance.number T.object self.old self.new) }
         ensures refused { OnErr result (0 < all_parents (waiting_nodes (held_by self.old))) }
     {
         T::known(point);

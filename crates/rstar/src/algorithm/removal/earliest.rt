@@ -3,12 +3,11 @@
 //! A read-only recursion finds the child below which it lies; then it is removed below that child in the
 //! same way. So one path changes, and each level of it is read once.
 
-ghost use Rattle.std.specs.Prelude.{◌≡◌, ◌≢◌, ℕ, [], false, None, IfNone, slice_index_or};
+ghost use Rattle.std.specs.Prelude.{◌≡◌, ◌≢◌, [], false, None, slice_index_or};
 ghost use Rattle.rstar_base.specs.Hulls.{hull};
 ghost use Rattle.rstar.specs.inside.Earliest.{earliest, lent, earlier_at, IsGivenAt, IsEarliestOf};
-ghost use Rattle.rstar.specs.inside.ParentBounds.{IsKept, AreKept};
 ghost use Rattle.rstar.specs.Nodes.{node_box, given, all_given, is_leaf_node};
-ghost use Rattle.rstar.specs.inside.Taking.{Takes, TakesInside};
+ghost use Rattle.rstar.specs.inside.Taking.{Takes, TakesBelow, TakesInside};
 
 use crate::algorithm::removal::{drop_child, is_childless, take_leaf};
 use crate::bounds::{Covered, Merges, Question};
@@ -89,15 +88,10 @@ pub(crate) fn take_earliest<T: Covered + Ord, R: Question<T>>(
     changed: &mut bool,
     func: &R,
 ) -> Option<T>
-    ensures takes { Takes T.Cover.boxes T.object (R.accepts func.now) (R.selects func.now)
-        node.old.children.items [] None result node.new.children.items [] None }
+    ensures below { TakesBelow T.Cover.boxes T.object (R.accepts func.now) (R.selects func.now)
+        node.old [] None result node.new [] None changed.new }
     ensures first { result ≡ earliest T.cmp
         (all_given (R.accepts func.now) (R.selects func.now) node.old.children.items) }
-    ensures kept { (w h : ℕ) → IsKept T.Cover.boxes T.object w node.old
-        → AreKept T.Cover.boxes T.object w h node.old.children.items
-        → IsKept T.Cover.boxes T.object w node.new }
-    ensures same { IfNone result (node.new ≡ node.old) }
-    ensures unchanged { changed.new ≡ false → node.new.envelope ≡ node.old.envelope }
 {
     let place = match earliest_below(node.children.as_slice(), func) {
         Some(found) => found.0,
@@ -153,8 +147,7 @@ fn take_inside<T: Covered + Ord, R: Question<T>>(
     ensures takes { TakesInside T.Cover.boxes T.object (R.accepts func.now) (R.selects func.now)
         child.old [] None result child.new [] None }
     ensures first { result ≡ earliest T.cmp (given (R.accepts func.now) (R.selects func.now) child.old) }
-    ensures unchanged { changed.new ≡ false
-        → node_box T.object.box_of child.new ≡ node_box T.object.box_of child.old }
+    ensures unchanged { changed.new ≡ false → node_box T.object.box_of child.new ≡ node_box T.object.box_of child.old }
 {
     match child {
         RTreeNode::Leaf(_) => unreachable!(),

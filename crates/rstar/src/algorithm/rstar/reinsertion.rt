@@ -1,16 +1,15 @@
 //! Forced reinsertion (Beckmann et al. 1990): an overfull lowest parent hands out some children, which are
 //! inserted again from the root. Nothing here takes memory, and nothing can fail.
 
-ghost use Rattle.std.specs.Prelude.{◌≡◌, ◌+◌, ◌*◌, ◌<◌, ◌≤◌, [], ◌∷◌, ◌++◌, false, length, vec_len, vec_capacity, None};
+ghost use Rattle.std.specs.Prelude.{◌≡◌, ◌+◌, ◌*◌, ◌<◌, ◌≤◌, [], ◌∷◌, ◌++◌, vec_len, vec_capacity, None};
 ghost use Rattle.std.specs.List.Sorted.{IsPermutation};
 ghost use Rattle.rstar_base.specs.Hulls.{hull};
 ghost use Rattle.rstar.specs.declared.node.RTreeNode.{Leaf};
 ghost use Rattle.rstar.specs.Heights.{spare_lists};
 ghost use Rattle.rstar.specs.Nodes.{node_box, all_elements};
-ghost use Rattle.rstar.specs.Shapes.{AreSized, IsSizedTree};
-ghost use Rattle.rstar.specs.inside.ParentBounds.{HasAtMost, IsSpare, IsKept, HasMergedBox, AreKept, IsKeptTree, IsSizedAfter};
-ghost use Rattle.rstar.specs.inside.ParentBounds.{has_room, all_roomy, roomy_of};
-ghost use Rattle.rstar.specs.inside.Reserves.{IsReady, Spends};
+ghost use Rattle.rstar.specs.inside.ParentBounds.{HasAtMost, IsSpare, HasMergedBox, AreKept, IsKeptTree, GoesIn};
+ghost use Rattle.rstar.specs.inside.ParentBounds.{CanTakeIn, CanHandOut, has_room, roomy_of};
+ghost use Rattle.rstar.specs.inside.Reserves.{IsReady, BecomesRoot};
 
 use crate::algorithm::rstar::insertion::insert_at_root;
 use crate::algorithm::rstar::preparation::Reserve;
@@ -81,10 +80,7 @@ fn add_leaf<T: Placed, Params: RTreeParams>(
     requires covered { node.old.envelope
         ≡ hull T.Cover.boxes (node_box T.object.box_of) (node.old.children.items ++ Leaf t ∷ []) }
     requires narrow { HasAtMost widest node.old }
-    requires wide { Params.MAX_SIZE ≤ widest }
-    requires reinserts { 0 < Params.REINSERTION_COUNT }
-    requires spare { IsSpare widest handed.old }
-    requires overfull { IsSpare (widest + 1) overfull.old }
+    requires lists { CanHandOut Params.MAX_SIZE Params.REINSERTION_COUNT widest handed.old overfull.old }
     ensures same { IsPermutation (node.old.children.items ++ Leaf t ∷ [])
         (node.new.children.items ++ handed.new.items) }
     ensures fit { HasMergedBox T.Cover.boxes T.object widest node.new }
@@ -106,7 +102,6 @@ fn add_leaf<T: Placed, Params: RTreeParams>(
 
 /// Inserts an element below a node with `levels` levels of parents below it. An overfull lowest parent hands
 /// out children, and no node is split.
-#[cycle(first)]
 fn insert_first<T: Placed, Params: RTreeParams>(
     node: &mut ParentNode<T>,
     t: T,
@@ -115,21 +110,12 @@ fn insert_first<T: Placed, Params: RTreeParams>(
     handed: &mut Vec<RTreeNode<T>>,
     overfull: &mut Vec<RTreeNode<T>>,
 )
-    requires node { IsKept T.Cover.boxes T.object widest node.old }
-    requires below { AreKept T.Cover.boxes T.object widest levels node.old.children.items }
-    requires some { 0 < levels → 0 < vec_len node.old.children }
-    requires element { T.Cover.boxes.is_empty (T.object.box_of t) ≡ false }
-    requires wide { Params.MAX_SIZE ≤ widest }
-    requires reinserts { 0 < Params.REINSERTION_COUNT }
-    requires spare { IsSpare widest handed.old }
-    requires overfull { IsSpare (widest + 1) overfull.old }
-    ensures bag { IsPermutation (t ∷ all_elements node.old.children.items)
-        (all_elements node.new.children.items ++ all_elements handed.new.items) }
-    ensures kept { IsKeptTree T.Cover.boxes T.object widest levels node.new }
+    requires place { CanTakeIn T.Cover.boxes T.object widest levels node.old t }
+    requires lists { CanHandOut Params.MAX_SIZE Params.REINSERTION_COUNT widest handed.old overfull.old }
+    ensures tree { GoesIn T.Cover.boxes T.object widest Params.MIN_SIZE Params.MAX_SIZE levels t node.old
+        node.new None (all_elements handed.new.items) }
     ensures leaves { AreKept T.Cover.boxes T.object widest 0 handed.new.items }
     ensures count { vec_len handed.new ≤ Params.REINSERTION_COUNT }
-    ensures sized { IsSizedTree Params.MIN_SIZE Params.MAX_SIZE levels node.old
-        → IsSizedAfter Params.MIN_SIZE Params.MAX_SIZE levels (vec_len node.old.children) node.new None }
     ensures overfull { IsSpare (widest + 1) overfull.new }
 
     // No list with room for all that a parent may have is lost. No parent is new, and none goes.
@@ -144,58 +130,12 @@ fn insert_first<T: Placed, Params: RTreeParams>(
         return;
     }
     let index = T::choose_subtree(&node.children, &envelope, levels == 1);
-    insert_first_in_child::<T, Params>(
-        &mut node.children,
-        index,
-        t,
-        levels,
-        widest,
-        handed,
-        overfull,
-    );
+    let RTreeNode::Parent(child) = &mut node.children[index] else {
+        unreachable!()
+    };
+    insert_first::<T, Params>(child, t, levels - 1, widest, handed, overfull);
     if !handed.is_empty() {
         node.envelope = envelope_for_children(&node.children);
-    }
-}
-
-/// Inserts an element into one of several trees with `levels` levels of parents, and splits no node.
-#[cycle(first)]
-fn insert_first_in_child<T: Placed, Params: RTreeParams>(
-    children: &mut Vec<RTreeNode<T>>,
-    index: usize,
-    t: T,
-    levels: usize,
-    widest: usize,
-    handed: &mut Vec<RTreeNode<T>>,
-    overfull: &mut Vec<RTreeNode<T>>,
-)
-    requires index { index < vec_len children.old }
-    requires above { 0 < levels }
-    requires below { AreKept T.Cover.boxes T.object widest levels children.old.items }
-    requires element { T.Cover.boxes.is_empty (T.object.box_of t) ≡ false }
-    requires wide { Params.MAX_SIZE ≤ widest }
-    requires reinserts { 0 < Params.REINSERTION_COUNT }
-    requires spare { IsSpare widest handed.old }
-    requires overfull { IsSpare (widest + 1) overfull.old }
-    ensures bag { IsPermutation (t ∷ all_elements children.old.items)
-        (all_elements children.new.items ++ all_elements handed.new.items) }
-    ensures below { AreKept T.Cover.boxes T.object widest levels children.new.items }
-    ensures leaves { AreKept T.Cover.boxes T.object widest 0 handed.new.items }
-    ensures count { vec_len handed.new ≤ Params.REINSERTION_COUNT }
-    ensures sized { AreSized Params.MIN_SIZE Params.MAX_SIZE levels children.old.items
-        → AreSized Params.MIN_SIZE Params.MAX_SIZE levels children.new.items }
-    ensures length { vec_len children.new ≡ vec_len children.old }
-    ensures capacity { vec_capacity children.new ≡ vec_capacity children.old }
-    ensures overfull { IsSpare (widest + 1) overfull.new }
-    ensures room { all_roomy widest levels children.old.items + 1
-        ≤ all_roomy widest levels children.new.items + has_room widest handed.new }
-    ensures parents { all_roomy 0 levels children.new.items ≡ all_roomy 0 levels children.old.items }
-{
-    match &mut children[index] {
-        RTreeNode::Parent(child) => {
-            insert_first::<T, Params>(child, t, levels - 1, widest, handed, overfull)
-        }
-        RTreeNode::Leaf(_) => unreachable!(),
     }
 }
 
@@ -210,12 +150,8 @@ fn insert_again<T: Placed, Params: RTreeParams>(
     requires root { IsKeptTree T.Cover.boxes T.object reserve.old.widest levels root.old }
     requires leaves { AreKept T.Cover.boxes T.object reserve.old.widest 0 handed.old.items }
     requires ready { IsReady Params.MAX_SIZE (vec_len handed.old * (levels + vec_len handed.old + 1)) reserve.old }
-    ensures bag { IsPermutation (all_elements root.old.children.items ++ all_elements handed.old.items)
-        (all_elements root.new.children.items) }
-    ensures kept { IsKeptTree T.Cover.boxes T.object reserve.old.widest result root.new }
-    ensures sized { IsSizedTree Params.MIN_SIZE Params.MAX_SIZE levels root.old
-        → IsSizedTree Params.MIN_SIZE Params.MAX_SIZE result root.new }
-    ensures spends { Spends (λ n. roomy_of n levels root.old) (λ n. roomy_of n result root.new) reserve.old reserve.new }
+    ensures root { BecomesRoot T.Cover.boxes T.object Params.MIN_SIZE Params.MAX_SIZE levels root.old reserve.old
+        (all_elements root.old.children.items ++ all_elements handed.old.items) result root.new reserve.new }
     ensures none { handed.new.items ≡ [] }
     ensures capacity { vec_capacity handed.new ≡ vec_capacity handed.old }
 {
@@ -237,16 +173,10 @@ pub(crate) fn insert_with_reinsertion<T: Placed, Params: RTreeParams>(
     levels: usize,
     reserve: &mut Reserve<RTreeNode<T>>,
 ) -> usize
-    requires root { IsKept T.Cover.boxes T.object reserve.old.widest root.old }
-    requires below { AreKept T.Cover.boxes T.object reserve.old.widest levels root.old.children.items }
-    requires some { 0 < levels → 0 < vec_len root.old.children }
-    requires element { T.Cover.boxes.is_empty (T.object.box_of t) ≡ false }
+    requires place { CanTakeIn T.Cover.boxes T.object reserve.old.widest levels root.old t }
     requires ready { IsReady Params.MAX_SIZE (spare_lists Params.REINSERTION_COUNT (1 + levels)) reserve.old }
-    ensures bag { IsPermutation (t ∷ all_elements root.old.children.items) (all_elements root.new.children.items) }
-    ensures kept { IsKeptTree T.Cover.boxes T.object reserve.old.widest result root.new }
-    ensures sized { IsSizedTree Params.MIN_SIZE Params.MAX_SIZE levels root.old
-        → IsSizedTree Params.MIN_SIZE Params.MAX_SIZE result root.new }
-    ensures spends { Spends (λ n. roomy_of n levels root.old) (λ n. roomy_of n result root.new) reserve.old reserve.new }
+    ensures { BecomesRoot T.Cover.boxes T.object Params.MIN_SIZE Params.MAX_SIZE levels root.old reserve.old
+        (t ∷ all_elements root.old.children.items) result root.new reserve.new }
 {
     if Params::REINSERTION_COUNT == 0 {
         return insert_at_root::<T, Params>(root, t, levels, reserve);

@@ -1,9 +1,9 @@
 //! The split of an overfull list of children (Beckmann et al. 1990).
 
-ghost use Rattle.std.specs.Prelude.{◌≡◌, ◌+◌, ◌*◌, ◌<◌, ◌≤◌, ℕ, [], ◌++◌, ◌&&◌, ◌||◌, not, take, drop, length, vec_len, vec_capacity, pos, unsigned_abs, int_lt};
-ghost use Rattle.std.specs.List.Sorted.{IsPermutation, IsSortedByKey};
+ghost use Rattle.std.specs.Prelude.{◌≡◌, ◌+◌, ◌<◌, ◌≤◌, ℕ, [], ◌++◌, ◌&&◌, ◌||◌, not, take, drop, length, vec_len, vec_capacity, pos, unsigned_abs, int_lt};
+ghost use Rattle.std.specs.List.Sorted.{IsPermutation};
 ghost use Rattle.rstar.specs.inside.ParentBounds.{has_room};
-ghost use Rattle.rstar.specs.Cuts.{RisesByAxis, IsArrangement, IsAllowedCut, overlap_at, areas_at, IsLeastCut};
+ghost use Rattle.rstar.specs.Cuts.{IsArrangement, overlap_at, areas_at, IsLeastCut};
 
 use rstar_base::envelope::Envelope;
 use rstar_base::object::{Distance, RTreeObject, envelope_of_all, sort_envelopes};
@@ -91,19 +91,12 @@ fn measures_at<T: RTreeObject>(list: &[T], k: usize) -> (Distance<T>, Distance<T
     )
 }
 
-/// Whether `a < b`.
-fn is_less<S: RTreeNum>(a: S, b: S) -> bool
-    ensures { result ≡ int_lt (S.value a) (S.value b) }
-{
-    a < b
-}
-
 /// Whether a pair is less than another, by the first numbers and then by the second.
 fn is_below<S: RTreeNum>(x: (S, S), y: (S, S)) -> bool
     ensures { result ≡ (int_lt (S.value x.0) (S.value y.0)
         || (not (int_lt (S.value y.0) (S.value x.0)) && int_lt (S.value x.1) (S.value y.1))) }
 {
-    is_less(x.0, y.0) || (!is_less(y.0, x.0) && is_less(x.1, y.1))
+    x.0 < y.0 || !(y.0 < x.0) && x.1 < y.1
 }
 
 /// The first least cut among the allowed ones.

@@ -37,8 +37,7 @@ impl<'a, T: Meets<T>> SelfIntersectionIterator<'a, T> {
         ensures gives { IfOk result (λ it. own_to_come (meets_by T.Cover.boxes T.seen) T.object.box_of it
             ≡ pairs_within (meets_by T.Cover.boxes T.seen) T.object.box_of (children_of root.now)) }
         ensures made { IfOk result (λ it. IsSelfJoinMade T.Cover.boxes T.object (meets_by T.Cover.boxes T.seen) root.now it) }
-        ensures joining { IfOk result (λ it.
-            IsSelfJoining T.Cover.boxes T.object (meets_by T.Cover.boxes T.seen) it) }
+        ensures joining { IfOk result (λ it. IsSelfJoining T.Cover.boxes T.object (meets_by T.Cover.boxes T.seen) it) }
         ensures near { levels ≤ 11 → IsOk result }
     {
         let alloc = *root.children.allocator();

@@ -4,8 +4,8 @@ ghost use Rattle.std.specs.Prelude.{◌≡◌, ◌+◌, ◌-◌, ◌*◌, ◌^�
 ghost use Rattle.rstar.specs.declared.node.RTreeNode.{Leaf};
 ghost use Rattle.rstar.specs.Nodes.{node_box};
 ghost use Rattle.rstar.specs.Lists.{product};
-ghost use Rattle.rstar.specs.Meets.{opened_to, both_leaves, all_pairs, all_opens};
-ghost use Rattle.rstar.specs.inside.PairWalks.{marked_items, with_marks, rows_beside, pairs_by, opens_by, AreJoinable, IsFirstPair, IsSingle, IsIdle, IsWalk, IsPairStep, IsNextPair};
+ghost use Rattle.rstar.specs.Meets.{opened_to, both_leaves};
+ghost use Rattle.rstar.specs.inside.PairWalks.{marked_items, with_marks, rows_beside, AreJoinable, Begins, IsFirstPair, IsSingle, IsIdle, IsWalk, IsPairStep, IsNextPair};
 ghost use Rattle.rstar.specs.Joins.{meets_by};
 
 use crate::bounds::{Covered, Meets};
@@ -23,20 +23,15 @@ const NARROW: usize = 8;
 /// Where one of the two is a leaf, the other goes on alone.
 #[derive(Drop)]
 pub(crate) struct PairWalk<'a, T: Covered, U: Meets<T>> {
-    // The nodes that are being read: for the first on the left, eight or one, those on the right that were asked, with
-    // marks for the pairs that meet, and those to be asked later, and for the others on the left all on the right. The
-    // path has what was left of others.
-    lefts: &'a [RTreeNode<T>],
-    asked: &'a [RTreeNode<U>],
-    marks: u64,
-    later: &'a [RTreeNode<U>],
-    rights: &'a [RTreeNode<U>],
+    // The pairs that are being read, and in the path what was left of others.
+    frame: Frame<&'a [RTreeNode<T>], &'a [RTreeNode<U>]>,
     path: Path<Frame<&'a [RTreeNode<T>], &'a [RTreeNode<U>]>>,
     // The number of pairs of nodes visited, clamped to the greatest `usize`.
     pub(super) opened: usize,
 }
 
-/// The pairs that a traversal has left for later.
+/// Pairs of nodes that are still to be read: for the first on the left, eight or one, those on the right that were
+/// asked, with marks for the pairs that meet, and those to be asked later; for the others on the left all on the right.
 #[derive(Copy)]
 struct Frame<L, R> {
     lefts: L,
@@ -103,9 +98,7 @@ fn with_mark(marks: u64, mark: bool) -> u64
     if mark { others.wrapping_add(1) } else { others }
 }
 
-/// Marks with one more for each node in front, where there is room: whether an envelope intersects the
-/// node's.
-//
+/// Marks with one more for each node in front, where there is room: whether an envelope intersects the node's.
 // The room is a premise of the clauses of marks, and no `requires`: `step` would have to state it in a goal of its own.
 fn row_marks<T: Covered, U: Meets<T>>(
     envelope: &T::Cover,
@@ -204,20 +197,16 @@ impl<'a, T: Covered, U: Meets<T>> PairWalk<'a, T, U> {
         ensures room { IfOk result (λ walk. levels ≤ walk.path.capacity) }
         ensures near { levels ≤ 12 → IsOk result }
     {
-        let blank = Frame {
+        let frame = Frame {
             lefts,
             asked: rights,
             marks: 0,
             later: rights,
             rights,
         };
-        let path = Path::with_room(alloc, blank, levels)?;
+        let path = Path::with_room(alloc, frame, levels)?;
         Ok(PairWalk {
-            lefts,
-            asked: rights,
-            marks: 0,
-            later: rights,
-            rights,
+            frame,
             path,
             opened: 0,
         })
@@ -227,18 +216,13 @@ impl<'a, T: Covered, U: Meets<T>> PairWalk<'a, T, U> {
     pub(crate) fn begin(&mut self, lefts: &'a [RTreeNode<T>], rights: &'a [RTreeNode<U>])
         requires idle { IsIdle self.old }
         requires fits { AreJoinable self.old.path.capacity lefts.now rights.now }
-        ensures walk { IsWalk (meets_by T.Cover.boxes U.seen) T.object.box_of U.object.box_of self.new }
-        ensures pairs { pairs_by (meets_by T.Cover.boxes U.seen) T.object.box_of U.object.box_of self.new
-            ≡ all_pairs (meets_by T.Cover.boxes U.seen) T.object.box_of U.object.box_of lefts.now rights.now }
-        ensures opens { opens_by (meets_by T.Cover.boxes U.seen) T.object.box_of U.object.box_of self.new
-            ≡ all_opens (meets_by T.Cover.boxes U.seen) T.object.box_of U.object.box_of lefts.now rights.now }
-        ensures opened { self.new.opened ≡ self.old.opened }
-        ensures room { self.new.path.capacity ≡ self.old.path.capacity }
+        ensures { Begins (meets_by T.Cover.boxes U.seen) T.object.box_of U.object.box_of
+            self.old lefts.now rights.now self.new }
     {
-        self.lefts = lefts;
-        self.marks = 0;
-        self.later = rights;
-        self.rights = rights;
+        self.frame.lefts = lefts;
+        self.frame.marks = 0;
+        self.frame.later = rights;
+        self.frame.rights = rights;
     }
 
     /// The next pair of elements that intersect, and `None` at the end. It takes no memory.
@@ -255,30 +239,33 @@ impl<'a, T: Covered, U: Meets<T>> PairWalk<'a, T, U> {
         }
     }
 
-    /// Reads an intersecting pair, tests the next pairs, goes on with the next nodes on the left, or goes
-    /// back.
+    /// Reads an intersecting pair, tests the next pairs, goes on with the next nodes on the left, or goes back.
     fn step(&mut self) -> PairStep<'a, T, U>
         requires { IsWalk (meets_by T.Cover.boxes U.seen) T.object.box_of U.object.box_of self.old }
         ensures { IsPairStep (meets_by T.Cover.boxes U.seen) T.object.box_of U.object.box_of self.old result self.new }
     {
-        if self.lefts.is_empty() {
+        if self.frame.lefts.is_empty() {
             return self.go_back();
         }
-        let rows = self.lefts.len().min(rows_beside(self.rights));
-        let (block, others) = self.lefts.split_at(rows);
-        if let Some((left, right, marks)) = first_marked(block, self.asked, self.marks) {
+        let rows = self.frame.lefts.len().min(rows_beside(self.frame.rights));
+        let (block, others) = self.frame.lefts.split_at(rows);
+        if let Some((left, right, marks)) = first_marked(
+            block,
+            self.frame.asked,
+            self.frame.marks,
+        ) {
             return self.read(left, right, marks);
         }
-        if self.later.is_empty() {
-            self.lefts = others;
-            self.marks = 0;
-            self.later = self.rights;
+        if self.frame.later.is_empty() {
+            self.frame.lefts = others;
+            self.frame.marks = 0;
+            self.frame.later = self.frame.rights;
             return PairStep::Passed;
         }
-        let (asked, later) = self.later.split_at(self.later.len().min(MARKS));
-        self.marks = marks_of(block, asked);
-        self.asked = asked;
-        self.later = later;
+        let (asked, later) = self.frame.later.split_at(self.frame.later.len().min(MARKS));
+        self.frame.marks = marks_of(block, asked);
+        self.frame.asked = asked;
+        self.frame.later = later;
         PairStep::Passed
     }
 
@@ -290,8 +277,8 @@ impl<'a, T: Covered, U: Meets<T>> PairWalk<'a, T, U> {
         marks: u64,
     ) -> PairStep<'a, T, U>
         requires walk { IsWalk (meets_by T.Cover.boxes U.seen) T.object.box_of U.object.box_of self.old }
-        requires met { IsFirstPair (take (rows_beside self.old.rights.now) self.old.lefts.now) self.old.asked.now
-            self.old.marks lefts.now rights.now marks }
+        requires met { IsFirstPair (take (rows_beside self.old.frame.rights.now) self.old.frame.lefts.now)
+            self.old.frame.asked.now self.old.frame.marks lefts.now rights.now marks }
         ensures { IsPairStep (meets_by T.Cover.boxes U.seen) T.object.box_of U.object.box_of self.old result self.new }
     {
         let Some((left, _under)) = lefts.split_first() else {
@@ -300,39 +287,29 @@ impl<'a, T: Covered, U: Meets<T>> PairWalk<'a, T, U> {
         let Some((right, _behind)) = rights.split_first() else {
             return PairStep::Ended;
         };
-        self.marks = marks;
+        self.frame.marks = marks;
         if let Some((t, u)) = two_leaves(left, right) {
             return PairStep::Found(t, u);
         }
         self.opened = self.opened.saturating_add(1);
-        self.path.push_reserved(Frame {
-            lefts: self.lefts,
-            asked: self.asked,
-            marks,
-            later: self.later,
-            rights: self.rights,
-        });
-        self.lefts = opened_nodes(first_alone(lefts));
-        self.rights = opened_nodes(first_alone(rights));
-        self.marks = 0;
-        self.later = self.rights;
+        self.path.push_reserved(self.frame);
+        self.frame.lefts = opened_nodes(first_alone(lefts));
+        self.frame.rights = opened_nodes(first_alone(rights));
+        self.frame.marks = 0;
+        self.frame.later = self.frame.rights;
         PairStep::Passed
     }
 
     /// Goes back to the pairs that were left last.
     fn go_back(&mut self) -> PairStep<'a, T, U>
         requires walk { IsWalk (meets_by T.Cover.boxes U.seen) T.object.box_of U.object.box_of self.old }
-        requires none { self.old.lefts.now ≡ [] }
+        requires none { self.old.frame.lefts.now ≡ [] }
         ensures { IsPairStep (meets_by T.Cover.boxes U.seen) T.object.box_of U.object.box_of self.old result self.new }
     {
         let Some(frame) = self.path.pop() else {
             return PairStep::Ended;
         };
-        self.lefts = frame.lefts;
-        self.asked = frame.asked;
-        self.marks = frame.marks;
-        self.later = frame.later;
-        self.rights = frame.rights;
+        self.frame = frame;
         PairStep::Passed
     }
 }

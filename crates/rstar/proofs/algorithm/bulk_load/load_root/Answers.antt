@@ -1,7 +1,7 @@
 use Rattle.std.proofs.Common.{Result, Ok, Err, IfOk, ◌∙◌}
 use Rattle.std.proofs.lemmas.List.Sorted.{length_permutation}
 use Rattle.rstar.specs.Nodes.{elements_of}
-use Rattle.rstar.proofs.lists.Tails.{last_itself}
+use Rattle.rstar.proofs.loading.Loads.{last_itself}
 use Rattle.rstar.proofs.algorithm.bulk_load.load_root.Goals as goal
 
 both : {A E : Type 0} (P Q R : A → Type 0) (r : Result A E) → ((x : A) → P x → Q x → R x) → IfOk r P → IfOk r Q → IfOk r R

@@ -18,7 +18,6 @@ no_room full less = absurd (omega arith)
 pub gather_among-loop-i-init : goal.gather_among-loop-i-init
 gather_among-loop-i-init g t c = record {
   gathering = gathering_begins g.T.Cover.Merges.boxes g.T.Covered.object (g.R.Question.accepts c.args.func.now) (g.R.Question.selects c.args.func.now) c.args.most c.args.children.now.items c.args.taken.now.items c.len-i.result (c.len-i.ensures ∙ c.args.children.now.ok.0);
-  unvisited = λ k d lt. refl;
   capacity = refl;
 }
 
@@ -40,11 +39,9 @@ gather_among-loop-i-preserved-then-is_selected_leaf g t c =
     let at_i = place c.loop-i-test.true c.loop-i.invariant.gathering.within in
     let here = same_read c.loop-i.children.items (c.loop-i.i - 1) c.index.result.now (Leaf c.swap_leaf_out.result) at_i.1 c.index.ensures c.swap_leaf_out.ensures.node in
     let chosen = sym (ap (selects_in selects) (outs-Leaf _)) ∙ ap (is_selected_leaf selects) (sym here) ∙ sym c.is_selected_leaf.ensures ∙ c.if-is_selected_leaf.true in
-    let after = takes_leaf g.T.Cover.Merges.boxes g.T.Covered.object (g.R.Question.accepts c.args.func.now) (g.R.Question.selects c.args.func.now) c.args.most c.args.children.now.items c.args.taken.now.items c.loop-i.children.items c.loop-i.taken.items c.loop-i.i (c.loop-i.i - 1) c.loop-i.invariant.gathering at_i.0 c.swap_leaf_out.result c.swap_leaf_out.new.children.items c.swap_leaf_out.ensures.node chosen
-    (rw (c.len.ensures ∙ c.loop-i.taken.ok.0) at c.if-len-most.false) c.swap_leaf_out.ensures.out in
     record {
-      gathering = rw c.push_reserved.ensures.items after;
-      unvisited = after.first;
+      gathering = rw c.push_reserved.ensures.items (takes_leaf g.T.Cover.Merges.boxes g.T.Covered.object (g.R.Question.accepts c.args.func.now) (g.R.Question.selects c.args.func.now) c.args.most c.args.children.now.items c.args.taken.now.items c.loop-i.children.items c.loop-i.taken.items c.loop-i.i (c.loop-i.i - 1) c.loop-i.invariant.gathering at_i.0 c.swap_leaf_out.result c.swap_leaf_out.new.children.items c.swap_leaf_out.ensures.node chosen
+          (rw (c.len.ensures ∙ c.loop-i.taken.ok.0) at c.if-len-most.false) c.swap_leaf_out.ensures.out);
       capacity = c.push_reserved.ensures.capacity ∙ c.loop-i.invariant.capacity;
     }
 
@@ -54,11 +51,9 @@ gather_among-loop-i-preserved g t c =
     let here = same_read c.loop-i.children.items (c.loop-i.i - 1) c.index.result.now c.index_mut.result.now at_i.1 c.index.ensures c.index_mut.ensures.value in
     let leaf = sym (ap (is_selected_leaf (g.R.Question.selects c.args.func.now)) here) ∙ sym c.is_selected_leaf.ensures ∙ c.if-is_selected_leaf.false in
     let written = c.index-else-is_selected_leaf.ensures ∙ get_or-set_same _ _ _ _ at_i.1 in
-    let after = goes_inside g.T.Cover.Merges.boxes g.T.Covered.object (g.R.Question.accepts c.args.func.now) (g.R.Question.selects c.args.func.now) c.args.most c.args.children.now.items c.args.taken.now.items c.loop-i.children.items c.loop-i.taken.items c.loop-i.i (c.loop-i.i - 1) c.loop-i.invariant.gathering at_i.0 c.index_mut.result.now c.gather_inside.new.child c.gather_inside.new.taken.items c.index_mut.ensures.value c.gather_inside.ensures.gathers leaf
-    (sym (ap is_childless written) ∙ sym c.is_childless.ensures ∙ c.if-is_childless.false) in
     record {
-      gathering = after;
-      unvisited = after.first;
+      gathering = goes_inside g.T.Cover.Merges.boxes g.T.Covered.object (g.R.Question.accepts c.args.func.now) (g.R.Question.selects c.args.func.now) c.args.most c.args.children.now.items c.args.taken.now.items c.loop-i.children.items c.loop-i.taken.items c.loop-i.i (c.loop-i.i - 1) c.loop-i.invariant.gathering at_i.0 c.index_mut.result.now c.gather_inside.new.child c.gather_inside.new.taken.items c.index_mut.ensures.value c.gather_inside.ensures.gathers leaf
+          (sym (ap is_childless written) ∙ sym c.is_childless.ensures ∙ c.if-is_childless.false);
       capacity = c.gather_inside.ensures.capacity ∙ c.loop-i.invariant.capacity;
     }
 
@@ -68,11 +63,9 @@ gather_among-loop-i-preserved-then-is_childless g t c =
     let here = same_read c.loop-i.children.items (c.loop-i.i - 1) c.index.result.now c.index_mut.result.now at_i.1 c.index.ensures c.index_mut.ensures.value in
     let leaf = sym (ap (is_selected_leaf (g.R.Question.selects c.args.func.now)) here) ∙ sym c.is_selected_leaf.ensures ∙ c.if-is_selected_leaf.false in
     let written = c.index-else-is_selected_leaf.ensures ∙ get_or-set_same _ _ _ _ at_i.1 in
-    let after = drops_childless g.T.Cover.Merges.boxes g.T.Covered.object (g.R.Question.accepts c.args.func.now) (g.R.Question.selects c.args.func.now) c.args.most c.args.children.now.items c.args.taken.now.items c.loop-i.children.items c.loop-i.taken.items c.loop-i.i (c.loop-i.i - 1) c.loop-i.invariant.gathering at_i.0 c.index_mut.result.now c.gather_inside.new.child c.gather_inside.new.taken.items c.index_mut.ensures.value c.gather_inside.ensures.gathers leaf
-    (sym (ap is_childless written) ∙ sym c.is_childless.ensures ∙ c.if-is_childless.true) c.swap_out.new.children.items c.swap_out.ensures.out in
     record {
-      gathering = after;
-      unvisited = after.first;
+      gathering = drops_childless g.T.Cover.Merges.boxes g.T.Covered.object (g.R.Question.accepts c.args.func.now) (g.R.Question.selects c.args.func.now) c.args.most c.args.children.now.items c.args.taken.now.items c.loop-i.children.items c.loop-i.taken.items c.loop-i.i (c.loop-i.i - 1) c.loop-i.invariant.gathering at_i.0 c.index_mut.result.now c.gather_inside.new.child c.gather_inside.new.taken.items c.index_mut.ensures.value c.gather_inside.ensures.gathers leaf
+          (sym (ap is_childless written) ∙ sym c.is_childless.ensures ∙ c.if-is_childless.true) c.swap_out.new.children.items c.swap_out.ensures.out;
       capacity = c.gather_inside.ensures.capacity ∙ c.loop-i.invariant.capacity;
     }
 

@@ -1,5 +1,4 @@
-use Rattle.std.proofs.Common.{◌≡◌, ℕ, ◌<◌, get_or, vec_capacity}
-use Rattle.rstar.specs.declared.node.RTreeNode.{RTreeNode}
+use Rattle.std.proofs.Common.{◌≡◌, vec_capacity}
 use Rattle.rstar.proofs.removing.Gathered.{Gathering}
 use Rattle.rstar.proofs.algorithm.gathering.+gather.Given as goal
 
@@ -7,6 +6,5 @@ use Rattle.rstar.proofs.algorithm.gathering.+gather.Given as goal
 abbrev pub invariant-gather_among-loop-i : goal.invariant-gather_among-loop-i
 invariant-gather_among-loop-i g l = record {
   gathering : Gathering g.T.Cover.Merges.boxes g.T.Covered.object (g.R.Question.accepts l.func) (g.R.Question.selects l.func) l.most l.initial.children.items l.initial.taken.items l.children.items l.taken.items l.i;
-  unvisited : (k : ℕ) (d : RTreeNode g.row.T.Denot g.row.T-Cover.Denot) → k < l.i → get_or l.children.items k d ≡ get_or l.initial.children.items k d;
   capacity : vec_capacity l.taken ≡ vec_capacity l.initial.taken;
 }

@@ -1,10 +1,10 @@
-use Rattle.std.proofs.Common.{◌≡◌, ◌∙◌, ◌<◌, sym, refl, arith, ap, length, suc, ◌+◌, ◌-◌, get_or, get_or-set_same, Vec, ℕ, ◌≤◌, vec_len}
+use Rattle.std.proofs.Common.{◌≡◌, ◌∙◌, ◌<◌, sym, refl, arith, ap, length, suc, ◌+◌, ◌-◌, get_or-set_same, Vec, ℕ, ◌≤◌, vec_len, rules}
 use Rattle.std.proofs.lemmas.Bool.{true≢false}
 use Rattle.rstar.specs.declared.node.RTreeNode.{Leaf}
 use Rattle.rstar.specs.declared.node.RTreeNode.TheVariants.{outs-Leaf, outs-Parent}
 use Rattle.rstar.specs.inside.Taking.{selects_in, is_selected_leaf, is_childless, lower_numbers}
 use Rattle.rstar.proofs.removing.Parts.{same_read, same_item, lower_lent, lower_left}
-use Rattle.rstar.proofs.removing.Scans.{begins, gives_leaf, gives_inside, gives_last, passes, finishes, some_one, entered, not_entered, kept_anew, kept_still, hull_set, none_gives}
+use Rattle.rstar.proofs.removing.Scans.{begins, gives_leaf, gives_inside, gives_last, passes, finishes, some_one, entered, not_entered, kept_anew, kept_still, hull_set, if_none, none_gives}
 use Rattle.rstar_base.specs.Hulls.{hull}
 use Rattle.rstar.specs.Nodes.{node_box}
 use Rattle.rstar.proofs.trees.ByChildren.{node_box-Parent}
@@ -18,7 +18,7 @@ place e f h l k = (omega arith, omega arith, omega arith, omega arith)
 pub take_among-loop-passed-init : goal.take_among-loop-passed-init
 take_among-loop-passed-init g t c =
     let start = begins g.T.Cover.Merges.boxes g.T.Covered.object (g.R.Question.accepts c.args.func.now) (g.R.Question.selects c.args.func.now) c.args.children.now.items c.args.path.now c.args.rest.now c.first_number-passed.result c.first_number-passed.ensures in
-    record { scanned = start.0; behind = start.1; unvisited = λ k d. refl; same = refl }
+    record { scanned = start.0; behind = start.1; same = refl }
 
 pub take_among-returns-then-is_some : goal.take_among-returns-then-is_some
 take_among-returns-then-is_some g t c =
@@ -32,7 +32,7 @@ take_among-returns-then-is_some g t c =
         | take_among-then-is_childless w ↦
             rw (c.set_first-then-is_some.ensures, w.path-is, w.rest-is, w.children-is, w.drop_child.ensures.items)
             (gives_last g.T.Cover.Merges.boxes g.T.Covered.object (g.R.Question.accepts c.args.func.now) (g.R.Question.selects c.args.func.now) c.args.children.now.items c.args.path.now c.args.rest.now c.loop-passed.path c.loop-passed.rest c.loop-passed.passed c.loop-passed.invariant.scanned c.loop-passed.children.items (ap (λ (v : Vec _ _). v.items) c.loop-passed.invariant.same) i at_i.3 c.index_mut.result.now c.index_mut.ensures.value c.take_inside-taken.new.child c.take_inside-taken.new.path c.take_inside-taken.new.rest c.take_inside-taken.result c.take_inside-taken.ensures.takes c.take_inside-taken.auto.path
-            w.clear_lower.new.path w.clear_lower.new.rest (record { long = w.clear_lower.auto.path; numbers = w.clear_lower.ensures.numbers; still = w.clear_lower.ensures.still; none = w.clear_lower.ensures.none })
+            w.clear_lower.new.path w.clear_lower.new.rest w.clear_lower.ensures
             (λ _. c.loop-passed.invariant.behind) some (sym (ap is_childless written) ∙ sym c.is_childless.ensures ∙ w.if-is_childless.true))
         | take_among-else-is_childless w ↦
             rw (c.set_first-then-is_some.ensures, w.path-is, w.rest-is, w.children-is)
@@ -57,9 +57,9 @@ take_among-loop-passed-preserved g t c =
     let none = sym c.is_some.ensures ∙ c.if-is_some.false in
     let unchanged = same_item c.loop-passed.children i c.take_inside-taken.new.child _ (none_gives c.take_inside-taken.result none c.take_inside-taken.ensures.takes.kept ∙ c.index_mut.ensures.value) ∙ c.loop-passed.invariant.same in
     let passed = passes g.T.Cover.Merges.boxes g.T.Covered.object (g.R.Question.accepts c.args.func.now) (g.R.Question.selects c.args.func.now) c.args.children.now.items c.args.path.now c.args.rest.now c.loop-passed.path c.loop-passed.rest c.loop-passed.passed c.loop-passed.invariant.scanned c.loop-passed.children.items (ap (λ (v : Vec _ _). v.items) c.loop-passed.invariant.same) i at_i.3 c.index_mut.result.now c.index_mut.ensures.value c.take_inside-taken.new.child c.take_inside-taken.new.path c.take_inside-taken.new.rest c.take_inside-taken.result c.take_inside-taken.ensures.takes c.take_inside-taken.auto.path
-    c.clear_lower-in-loop-passed.new.path c.clear_lower-in-loop-passed.new.rest (record { long = c.clear_lower-in-loop-passed.auto.path; numbers = c.clear_lower-in-loop-passed.ensures.numbers; still = c.clear_lower-in-loop-passed.ensures.still; none = c.clear_lower-in-loop-passed.ensures.none })
+    c.clear_lower-in-loop-passed.new.path c.clear_lower-in-loop-passed.new.rest c.clear_lower-in-loop-passed.ensures
     c.loop-passed.invariant.behind none (sym (ap (is_selected_leaf (g.R.Question.selects c.args.func.now)) here) ∙ sym c.is_selected_leaf.ensures ∙ c.if-is_selected_leaf.false) in
-    record { scanned = passed.0; behind = passed.1; unvisited = λ k d. ap (λ (v : Vec _ _). get_or v.items k d) unchanged; same = unchanged }
+    record { scanned = passed.0; behind = passed.1; same = unchanged }
 
 pub take_inside-returns-then-may_hold : goal.take_inside-returns-then-may_hold
 take_inside-returns-then-may_hold g t c =
@@ -101,36 +101,40 @@ take_among-returns g t c = record {
   unchanged = λ told. ap (λ (v : Vec _ _). hull g.T.Cover.Merges.boxes (node_box g.T.Covered.object.box_of) v.items) c.loop-passed.invariant.same;
 }
 
-pub take_below-returns-then-changed-clause-takes : goal.take_below-returns-then-changed-clause-takes
-take_below-returns-then-changed-clause-takes g t c =
+pub take_below-returns-then-changed : goal.take_below-returns-then-changed
+take_below-returns-then-changed g t c =
     let takes = c.take_among-taken.ensures.takes in
-    let rests = rw c.deref.ensures.value at c.merge_along-merged.ensures.rests in
+    let merge = rw c.deref.ensures.value at c.merge_along-merged.ensures in
     record {
-      taken = takes.taken;
-      selected = takes.selected;
-      whole = takes.whole;
-      rests = λ w h k spot. rests (takes.rests w h k spot);
-      still = λ none. c.merge_along-merged.ensures.still (c.take_among-taken.auto.path ∙ none) ∙ takes.still none;
-      shorter = takes.shorter;
-      past = takes.past;
-      missed = takes.missed;
+      takes = record {
+        taken = takes.taken;
+        selected = takes.selected;
+        whole = takes.whole;
+        rests = λ w h k spot. merge.rests (takes.rests w h k spot);
+        still = λ none. merge.still (c.take_among-taken.auto.path ∙ none) ∙ takes.still none;
+        shorter = takes.shorter;
+        past = takes.past;
+        missed = takes.missed;
+      };
+      kept = λ w h kept below at. kept_anew g.met.T.Cover.Merges.merge_laws g.met.T.Covered.cover_law w h c.args.node.now _ kept (takes.whole w h below at) takes.shorter (merge.merged (takes.rests w h below at));
+      same = some_one _ c.take_among-taken.result (sym c.is_some.ensures ∙ c.if-is_some.true);
+      unchanged = search rules;
     }
 
-pub take_below-returns-then-changed-clause-kept : goal.take_below-returns-then-changed-clause-kept
-take_below-returns-then-changed-clause-kept g t c w h kept below at =
-    let takes = c.take_among-taken.ensures.takes in
-    let made = (rw c.deref.ensures.value at c.merge_along-merged.ensures.merged) (takes.rests w h below at) in
-    kept_anew g.met.T.Cover.Merges.merge_laws g.met.T.Covered.cover_law w h c.args.node.now _ kept (takes.whole w h below at) takes.shorter made
-
-pub take_below-returns-else-is_some-clause-kept : goal.take_below-returns-else-is_some-clause-kept
-take_below-returns-else-is_some-clause-kept g t c w h kept below at =
-    let takes = c.take_among-taken.ensures.takes in
+pub take_below-returns-else-is_some : goal.take_below-returns-else-is_some
+take_below-returns-else-is_some g t c =
+    let takes = c.take_among-taken.ensures.takes in let same = c.take_among-taken.ensures.same in
     let box = node_box g.T.Covered.object.box_of in
     let hulls : hull g.T.Cover.Merges.boxes box c.take_among-taken.new.children.items ≡ hull g.T.Cover.Merges.boxes box c.args.node.now.children.items = elim c.else-is_some.branch [
       | take_below-else-is_some-via-then-is_some+else-changed w ↦ c.take_among-taken.ensures.unchanged w.if-changed.false
-      | take_below-else-is_some-via-else-is_some w ↦ ap (λ (v : Vec _ _). hull g.T.Cover.Merges.boxes box v.items) (none_gives c.take_among-taken.result (sym c.is_some.ensures ∙ w.if-is_some.false) c.take_among-taken.ensures.same)
+      | take_below-else-is_some-via-else-is_some w ↦ ap (λ (v : Vec _ _). hull g.T.Cover.Merges.boxes box v.items) (none_gives c.take_among-taken.result (sym c.is_some.ensures ∙ w.if-is_some.false) same)
     ] in
-    kept_still g.met.T.Cover.Merges.merge_laws g.met.T.Covered.cover_law w h c.args.node.now _ kept below (takes.whole w h below at) takes.shorter refl hulls
+    record {
+      takes = takes;
+      kept = λ w h kept below at. kept_still g.met.T.Cover.Merges.merge_laws g.met.T.Covered.cover_law w h c.args.node.now _ kept below (takes.whole w h below at) takes.shorter refl hulls;
+      same = if_none c.take_among-taken.result same (λ e. ap (λ v. record c.args.node.now { children = v }) e);
+      unchanged = λ told. refl;
+    }
 
 pub take_among-overflow_sub-i : goal.take_among-overflow_sub-i
 take_among-overflow_sub-i g t c = (place c.len.ensures (ap vec_len c.loop-passed.invariant.same) c.len-passed-end.ensures c.loop-passed-test.true c.loop-passed.children.ok.0).0

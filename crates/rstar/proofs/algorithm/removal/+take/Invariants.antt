@@ -1,5 +1,4 @@
-use Rattle.std.proofs.Common.{◌≡◌, ℕ, get_or}
-use Rattle.rstar.specs.declared.node.RTreeNode.{RTreeNode}
+use Rattle.std.proofs.Common.{◌≡◌}
 use Rattle.rstar.proofs.removing.Scans.{NoneBehind, Scanned}
 use Rattle.rstar.proofs.algorithm.removal.+take.Given as goal
 
@@ -8,6 +7,5 @@ abbrev pub invariant-take_among-loop-passed : goal.invariant-take_among-loop-pas
 invariant-take_among-loop-passed g l = record {
   scanned : Scanned g.T.Cover.Merges.boxes g.T.Covered.object (g.R.Question.accepts l.func) (g.R.Question.selects l.func) l.initial.children.items l.initial.path l.initial.rest l.path l.rest l.passed;
   behind : NoneBehind g.T.Cover.Merges.boxes g.T.Covered.object (g.R.Question.accepts l.func) (g.R.Question.selects l.func) l.initial.children.items l.initial.path l.passed;
-  unvisited : (k : ℕ) (d : RTreeNode g.row.T.Denot g.row.T-Cover.Denot) → get_or l.children.items k d ≡ get_or l.initial.children.items k d;
   same : l.children ≡ l.initial.children;
 }

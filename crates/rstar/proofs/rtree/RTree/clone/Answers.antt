@@ -1,8 +1,8 @@
 use Rattle.std.proofs.Common.{refl}
 use Rattle.rstar.specs.Trees.{IsWholeTree}
 use Rattle.rstar.proofs.inserting.Insertion.{trees_map}
-use Rattle.rstar.proofs.trees.Clones.{all_cloned, tree_cloned_whole}
 use Rattle.rstar.proofs.trees.Shown.{root-sized, root-loaded}
+use Rattle.rstar.proofs.trees.Clones.{all_cloned, tree_cloned_whole}
 use Rattle.rstar.specs.Clones.{ClonesEqual}
 use Rattle.rstar.proofs.rtree.RTree.clone.Goals as goal
 

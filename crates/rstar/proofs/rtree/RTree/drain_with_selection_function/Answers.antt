@@ -11,9 +11,9 @@ returns g c =
       (cc, λ w. refl, tt),
       record {
         refused = tt;
-        same = (c.new.ensures.tree, c.new.ensures.same_reference);
-        question = c.new.ensures.func;
-        draining = rw (c.new.ensures.tree, c.new.ensures.func, c.new.ensures.path, c.new.ensures.rest, zeros)
+        same = (refl, refl);
+        question = refl;
+        draining = rw zeros
             (c.requires, rest_none g.T.Envelope.Envelope.boxes g.T.RTreeObject.object (replicate c.saturating_add.result 0) (children_of c.args.self.now.root), λ lawful. past_zeros (g.R.SelectionFunction.selects c.args.func) c.saturating_add.result (children_of c.args.self.now.root));
       },
     )

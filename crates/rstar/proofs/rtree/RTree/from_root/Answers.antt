@@ -1,5 +1,5 @@
 use Rattle.std.proofs.Common.{rules}
-use Rattle.rstar.proofs.storing.Roots.{kept_root}
+use Rattle.rstar.proofs.trees.WholeTrees.{kept_root}
 use Rattle.rstar.proofs.rtree.RTree.from_root.Goals as goal
 
 pub returns-clause-whole : goal.returns-clause-whole

@@ -3,16 +3,20 @@ use Rattle.std.proofs.lemmas.List.Sorted.{length_permutation}
 use Rattle.rstar.specs.Trees.{IsWholeTree}
 use Rattle.rstar.specs.Heights.{spare_lists}
 use Rattle.rstar.specs.inside.Reserves.{IsReady}
-use Rattle.rstar.proofs.storing.Roots.{kept_root}
-use Rattle.rstar.proofs.trees.WholeTrees.{kept_at, sized_at}
+use Rattle.rstar.proofs.trees.WholeTrees.{some_below, kept_root, kept_at, sized_at}
 use Rattle.rstar.proofs.rtree.RTree.insert_prepared.Goals as goal
 
-pub insert_with_reinsertion-self-requires-clause-below : goal.insert_with_reinsertion-self-requires-clause-below
+pub insert_with_reinsertion-self-requires-clause-place : goal.insert_with_reinsertion-self-requires-clause-place
 unfolding IsWholeTree
-insert_with_reinsertion-self-requires-clause-below g c =
+insert_with_reinsertion-self-requires-clause-place g c =
     let whole = c.requires.whole in
-    kept_at g.T.Envelope.Envelope.boxes g.T.RTreeObject.object c.args.self.now.reserve.widest whole.root_whole.height c.args.self.now.levels c.args.self.now.root.children.items
-    whole.leveled whole.root_whole.below whole.narrow_below
+    record {
+      node = record { tight = whole.root_whole.tight; narrow = whole.narrow };
+      below = kept_at g.T.Envelope.Envelope.boxes g.T.RTreeObject.object c.args.self.now.reserve.widest whole.root_whole.height c.args.self.now.levels c.args.self.now.root.children.items
+          whole.leveled whole.root_whole.below whole.narrow_below;
+      some = λ above. omega (arith, c.args.self.now.root.children.ok.0, some_below c.args.self.now.root.children.items c.args.self.now.levels whole.leveled above);
+      element = c.requires.element;
+    }
 
 pub insert_with_reinsertion-self-requires-clause-ready : goal.insert_with_reinsertion-self-requires-clause-ready
 unfolding IsWholeTree

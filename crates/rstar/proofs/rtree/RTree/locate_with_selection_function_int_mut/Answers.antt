@@ -8,8 +8,7 @@ use Rattle.rstar.proofs.rtree.RTree.locate_with_selection_function_int_mut.Goals
 pub returns : goal.returns
 unfolding IsWholeTree
 returns g c =
-    let told = c.select_nodes_mut.ensures.written in
-    let whole = c.requires.whole.root_whole in
+    let told = c.select_nodes_mut.ensures.written in let whole = c.requires.whole.root_whole in
     let root = c.select_nodes_mut.ensures.changed whole.height (trees_map (λ p k. tt) (λ t k. tt) whole.height (children_of c.args.self.now.root) whole.below) in
     record {
       written = record {

@@ -1,7 +1,6 @@
+use Rattle.rstar.specs.Neighbors.{IsSearching}
 use Rattle.rstar.proofs.rtree.RTree.nearest_neighbor_iter_with_distance_2.Goals as goal
 
-pub returns-clause-begun : goal.returns-clause-begun
-returns-clause-begun g c = c.new.ensures.begun
-
-pub returns-clause-searching : goal.returns-clause-searching
-returns-clause-searching g c = c.new.ensures.searching
+pub returns : goal.returns
+unfolding IsSearching
+returns g c = record { begun = c.new-search.ensures.begun _; searching = c.new-search.ensures.ready _ }

@@ -2,14 +2,15 @@ use Rattle.std.proofs.Common.{refl}
 use Rattle.rstar.specs.Nodes.{children_of}
 use Rattle.rstar.specs.Clones.{IsNodeClone}
 use Rattle.rstar.specs.inside.Traversals.{IsLevel}
-use Rattle.rstar.proofs.trees.Clones.{zip_push, item_has, zip_whole, leaf_cloned, parent_cloned}
+use Rattle.rstar.proofs.lists.Items.{zip_push, item_has, zip_whole}
+use Rattle.rstar.proofs.trees.Clones.{leaf_cloned, parent_cloned}
 use Rattle.rstar.proofs.rtree.copies.+clone.Goals as goal
 
-pub cloned_node-returns-in_ok-element-in-Leaf : goal.cloned_node-returns-in_ok-element-in-Leaf
-cloned_node-returns-in_ok-element-in-Leaf g t c = λ h level. leaf_cloned g.T.Clone.is_clone h _ _ _ _ c.in-Leaf.is refl c.in_ok-element-in-Leaf.ensures.cases level
+pub cloned_node-returns-in_ok-clone-in-Leaf : goal.cloned_node-returns-in_ok-clone-in-Leaf
+cloned_node-returns-in_ok-clone-in-Leaf g t c = λ h level. leaf_cloned g.T.Clone.is_clone h _ _ _ _ c.in-Leaf.is refl c.in_ok-clone-in-Leaf.ensures.cases level
 
-pub cloned_node-returns-in_ok-parent-in-Parent : goal.cloned_node-returns-in_ok-parent-in-Parent
-cloned_node-returns-in_ok-parent-in-Parent g t c = λ h level. parent_cloned g.T.Clone.is_clone h _ _ _ _ c.in-Parent.is refl c.in_ok-parent-in-Parent.ensures level
+pub cloned_node-returns-in_ok-cloned_parent-in-Parent : goal.cloned_node-returns-in_ok-cloned_parent-in-Parent
+cloned_node-returns-in_ok-cloned_parent-in-Parent g t c = λ h level. parent_cloned g.T.Clone.is_clone h _ _ _ _ c.in-Parent.is refl c.in_ok-cloned_parent-in-Parent.ensures level
 
 pub cloned_parent-loop-node-preserved : goal.cloned_parent-loop-node-preserved
 cloned_parent-loop-node-preserved g t c = λ h level.

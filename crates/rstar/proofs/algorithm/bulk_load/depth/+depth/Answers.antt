@@ -1,5 +1,5 @@
 use Rattle.std.proofs.Common.{rules, arith, ◌+◌, ◌-◌, ◌<◌, refl}
-use Rattle.rstar.proofs.loading.Depths.{falls_to_parts, falls_to_rest, half_bound, slab_positive, bound_slabs, depth_above, deep_slabs, ends_slabs}
+use Rattle.rstar.proofs.loading.Loads.{falls_to_parts, falls_to_rest, half_bound, slab_positive, bound_slabs, depth_above, deep_slabs, ends_slabs}
 use Rattle.rstar.proofs.algorithm.bulk_load.depth.+depth.Goals as goal
 
 pub load_depth-least_depth_of_parts-requires : goal.load_depth-least_depth_of_parts-requires

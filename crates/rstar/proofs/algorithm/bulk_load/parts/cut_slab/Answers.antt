@@ -2,7 +2,7 @@ use Rattle.std.proofs.Common.{ℤ, ◌≡◌, ◌-◌, ◌++◌, length, length-
 use Rattle.std.proofs.lemmas.List.Sorted.{length_permutation}
 use Rattle.rstar_base.proofs.Present.{refill-same}
 use Rattle.rstar.specs.inside.Loads.{CutsSlab}
-use Rattle.rstar.proofs.lists.Tails.{cut_none, cut_parted}
+use Rattle.rstar.proofs.loading.Loads.{cut_none, cut_parted}
 use Rattle.rstar.proofs.algorithm.bulk_load.parts.cut_slab.Goals as goal
 
 pub returns-then-rest-size : goal.returns-then-rest-size

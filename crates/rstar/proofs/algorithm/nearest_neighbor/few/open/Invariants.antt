@@ -1,21 +1,8 @@
-use Rattle.std.proofs.Common.{◌≡◌, ◌≤◌, ◌+◌, ◌++◌, drop, take, List}
-use Rattle.std.specs.Ordering.{flip_args}
-use Rattle.rstar_base.specs.SmallHeaps.{items_of, IsOrdered, Rises}
-use Rattle.rstar.specs.inside.Few.{is_one, kept_in, IsKept, IsSeeking, WaitAtDistance, waiting_parents}
-use Rattle.rstar.specs.Nodes.{all_parents}
-use Rattle.rstar.specs.inside.Searches.{any_first, nearest_on_top}
+use Rattle.std.proofs.Common.{take}
+use Rattle.rstar.specs.inside.Few.{Visits}
 use Rattle.rstar.proofs.algorithm.nearest_neighbor.few.open.Given as goal
 
--- the nodes so far are opened
+-- the nodes so far are visited
 abbrev pub invariant-loop-child : goal.invariant-loop-child
-invariant-loop-child g l = record {
-  ordered : IsOrdered (nearest_on_top g.T.Distance.Ord.cmp any_first) l.heap;
-  kept : IsKept g.T.Distance.SquaredDistance.number l.most l.best.bound l.best.kept;
-  same : is_one l.best.kept ≡ is_one l.fn.best.kept;
-  falls : Rises (flip_args (nearest_on_top g.T.Distance.Ord.cmp g.E.TieOrder.order)) (kept_in l.best.kept);
-  waiting : WaitAtDistance g.T.Cover.Merges.boxes g.T.Measured.distances (g.T.Measured.at l.fn.point) g.T.Distance.SquaredDistance.number (items_of l.fn.heap)
-      → WaitAtDistance g.T.Cover.Merges.boxes g.T.Measured.distances (g.T.Measured.at l.fn.point) g.T.Distance.SquaredDistance.number (items_of l.heap);
-  fewer : all_parents (waiting_parents (items_of l.heap)) ≤ all_parents (waiting_parents (items_of l.fn.heap)) + all_parents (take l.child-index l.children);
-  first : (all : List g.row.T.Denot) → IsSeeking g.T.Cover.Merges.boxes g.T.Covered.object g.T.Measured.distances (g.T.Measured.at l.fn.point) g.E.TieOrder.order g.T.Distance.SquaredDistance.number l.most all (waiting_parents (items_of l.fn.heap) ++ l.children) l.fn.best.bound (kept_in l.fn.best.kept)
-      → IsSeeking g.T.Cover.Merges.boxes g.T.Covered.object g.T.Measured.distances (g.T.Measured.at l.fn.point) g.E.TieOrder.order g.T.Distance.SquaredDistance.number l.most all (waiting_parents (items_of l.heap) ++ drop l.child-index l.children) l.best.bound (kept_in l.best.kept);
-}
+invariant-loop-child g l =
+    Visits g.T.Distance.Ord.cmp g.E.TieOrder.order g.T.Distance.SquaredDistance.number l.most g.T.Cover.Merges.boxes g.T.Covered.object g.T.Measured.distances (g.T.Measured.at l.fn.point) (take l.child-index l.children) l.fn.heap l.fn.best l.heap l.best

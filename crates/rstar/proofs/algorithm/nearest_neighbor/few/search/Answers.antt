@@ -11,38 +11,36 @@ use Rattle.rstar.proofs.algorithm.nearest_neighbor.few.search.Goals as goal
 
 pub loop-current-init : goal.loop-current-init
 loop-current-init g c = record {
-  ordered = c.open.ensures.ordered;
-  kept = c.in_ok-open.ensures.kept;
-  same = c.open.ensures.same;
-  falls = c.open.ensures.falls;
-  waiting = c.in_ok-open.ensures.waiting (rw c.new-heap.ensures.none tt);
-  first = c.in_ok-open.ensures.first (elements_of c.args.root.now) (rw c.deref.ensures.value (seeking.seek-start c.new-heap.ensures.none c.requires.none c.requires.unbound c.requires.whole));
+  ordered = c.in_ok-open.ensures.visits.ordered;
+  best = c.in_ok-open.ensures.visits.best;
+  same = c.in_ok-open.ensures.visits.same;
+  waiting = c.in_ok-open.ensures.visits.waiting (rw c.new-heap.ensures.none tt);
+  first = seeking.visits-all c.in_ok-open.ensures.visits (elements_of c.args.root.now) (rw c.deref.ensures.value (seeking.seek-start c.new-heap.ensures.none c.requires.none c.requires.unbound c.requires.whole));
 }
 
 pub loop-current-smaller : goal.loop-current-smaller
 loop-current-smaller g c =
     let popped = few.pushed-parents (IsPermutation-sym _ _ c.in-Some.ensures.some) in
-    omega (arith, popped, parents-Parent c.in-Some.current.node.now, ap all_parents c.deref-in-Some.ensures.value, c.in_ok-open-2.ensures.fewer)
+    omega (arith, popped, parents-Parent c.in-Some.current.node.now, ap all_parents c.deref-in-Some.ensures.value, c.in_ok-open-2.ensures.visits.fewer)
 
 pub loop-current-preserved : goal.loop-current-preserved
 loop-current-preserved g c =
     let law = measured-by g.met.T.Cover.Merges.merge_laws g.met.T.Covered.cover_law g.met.T.Measured.distance_laws c.known.ensures.range in
     let opened = seeking.seek-step (λ left. few.so-far-parent law c.in-Some.current.node.now) (seeking.seek-popped c.in-Some.ensures.some c.loop-current.invariant.first) in
     record {
-      ordered = c.open-in-Some.ensures.ordered;
-      kept = c.in_ok-open-2.ensures.kept;
-      same = c.open-in-Some.ensures.same ∙ c.loop-current.invariant.same;
-      falls = c.open-in-Some.ensures.falls;
-      waiting = c.in_ok-open-2.ensures.waiting (all_along _ _ _ c.in-Some.ensures.some c.loop-current.invariant.waiting).1;
-      first = c.in_ok-open-2.ensures.first (elements_of c.args.root.now) (rw c.deref-in-Some.ensures.value opened);
+      ordered = c.in_ok-open-2.ensures.visits.ordered;
+      best = c.in_ok-open-2.ensures.visits.best;
+      same = c.in_ok-open-2.ensures.visits.same ∙ c.loop-current.invariant.same;
+      waiting = c.in_ok-open-2.ensures.visits.waiting (all_along _ _ _ c.in-Some.ensures.some c.loop-current.invariant.waiting).1;
+      first = seeking.visits-all c.in_ok-open-2.ensures.visits (elements_of c.args.root.now) (rw c.deref-in-Some.ensures.value opened);
     }
 
 pub returns-then-rules_out-clause-first : goal.returns-then-rules_out-clause-first
 returns-then-rules_out-clause-first g c =
     let law = measured-by g.met.T.Cover.Merges.merge_laws g.met.T.Covered.cover_law g.met.T.Measured.distance_laws c.known.ensures.range in
     let order = order_of g.T.Distance.SquaredDistance.number g.T.Distance.Ord.cmp _ g.met.T.Distance.Ord.matches_partial_cmp g.met.T.Distance.SquaredDistance.number_order in
-    seeking.seek-end c.loop-current.best.bound c.loop-current.best.kept c.loop-current.invariant.kept
+    seeking.seek-end c.loop-current.best.bound c.loop-current.best.kept c.loop-current.invariant.best.kept
     (seeking.seek-stops law order any_first c.in-Some.ensures.some c.in-Some.ensures.greatest c.loop-current.invariant.waiting (c.rules_out.ensures c.if-rules_out.true) c.loop-current.invariant.first)
 
 pub returns-clause-first : goal.returns-clause-first
-returns-clause-first g c = seeking.seek-end c.loop-current.best.bound c.loop-current.best.kept c.loop-current.invariant.kept (rw c.in_default.ensures.none at c.loop-current.invariant.first)
+returns-clause-first g c = seeking.seek-end c.loop-current.best.bound c.loop-current.best.kept c.loop-current.invariant.best.kept (rw c.in_default.ensures.none at c.loop-current.invariant.first)

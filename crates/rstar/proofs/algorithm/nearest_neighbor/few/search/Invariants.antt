@@ -1,7 +1,6 @@
 use Rattle.std.proofs.Common.{◌≡◌}
-use Rattle.std.specs.Ordering.{flip_args}
-use Rattle.rstar_base.specs.SmallHeaps.{items_of, IsOrdered, Rises}
-use Rattle.rstar.specs.inside.Few.{is_one, kept_in, IsKept, IsSeeking, WaitAtDistance, waiting_parents}
+use Rattle.rstar_base.specs.SmallHeaps.{items_of, IsOrdered}
+use Rattle.rstar.specs.inside.Few.{is_one, kept_in, IsBest, IsSeeking, WaitAtDistance, waiting_parents}
 use Rattle.rstar.specs.Nodes.{all_parents, elements_of}
 use Rattle.rstar.specs.inside.Searches.{any_first, nearest_on_top}
 use Rattle.rstar.proofs.algorithm.nearest_neighbor.few.search.Given as goal
@@ -9,9 +8,8 @@ use Rattle.rstar.proofs.algorithm.nearest_neighbor.few.search.Given as goal
 abbrev pub invariant-loop-current : goal.invariant-loop-current
 invariant-loop-current g l = record {
   ordered : IsOrdered (nearest_on_top g.T.Distance.Ord.cmp any_first) l.heap;
-  kept : IsKept g.T.Distance.SquaredDistance.number l.most l.best.bound l.best.kept;
+  best : IsBest g.T.Distance.Ord.cmp g.E.TieOrder.order g.T.Distance.SquaredDistance.number l.most l.best;
   same : is_one l.best.kept ≡ is_one l.fn.best.kept;
-  falls : Rises (flip_args (nearest_on_top g.T.Distance.Ord.cmp g.E.TieOrder.order)) (kept_in l.best.kept);
   waiting : WaitAtDistance g.T.Cover.Merges.boxes g.T.Measured.distances (g.T.Measured.at l.fn.point) g.T.Distance.SquaredDistance.number (items_of l.heap);
   first : IsSeeking g.T.Cover.Merges.boxes g.T.Covered.object g.T.Measured.distances (g.T.Measured.at l.fn.point) g.E.TieOrder.order g.T.Distance.SquaredDistance.number l.most (elements_of l.fn.root) (waiting_parents (items_of l.heap)) l.best.bound (kept_in l.best.kept);
 }

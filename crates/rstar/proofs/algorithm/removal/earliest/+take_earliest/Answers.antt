@@ -17,8 +17,7 @@ take_at-take_leaf-requires-clause-leaf g t c = λ n.
 
 pub take_at-returns-then-is_leaf : goal.take_at-returns-then-is_leaf
 take_at-returns-then-is_leaf g t c =
-    let accepts = g.R.Question.accepts c.args.func.now in
-    let selects = g.R.Question.selects c.args.func.now in
+    let accepts = g.R.Question.accepts c.args.func.now in let selects = g.R.Question.selects c.args.func.now in
     let here = c.take_leaf.ensures.node in
     let selected = leaf_selected accepts selects _ c.take_leaf.result (sym here) (c.requires.some (Leaf c.take_leaf.result)) in
     record {
@@ -29,10 +28,8 @@ take_at-returns-then-is_leaf g t c =
 
 pub take_at-returns-then-is_childless-clause-takes : goal.take_at-returns-then-is_childless-clause-takes
 take_at-returns-then-is_childless-clause-takes g t c =
-    let accepts = g.R.Question.accepts c.args.func.now in
-    let selects = g.R.Question.selects c.args.func.now in
-    let n = c.index_mut.result.now in
-    let here = c.index_mut.ensures.value in
+    let accepts = g.R.Question.accepts c.args.func.now in let selects = g.R.Question.selects c.args.func.now in
+    let n = c.index_mut.result.now in let here = c.index_mut.ensures.value in
     let written = c.index-2.ensures ∙ get_or-set_same _ _ _ _ c.requires.within in
     rw c.drop_child.ensures.items
     (takes_last g.T.Cover.Merges.boxes g.T.Covered.object accepts selects c.args.children.now.items c.args.place c.requires.within n c.take_inside-taken.new.child c.take_inside-taken.result here c.take_inside-taken.ensures.takes
@@ -41,10 +38,8 @@ take_at-returns-then-is_childless-clause-takes g t c =
 
 pub take_at-returns-else-is_childless : goal.take_at-returns-else-is_childless
 take_at-returns-else-is_childless g t c =
-    let accepts = g.R.Question.accepts c.args.func.now in
-    let selects = g.R.Question.selects c.args.func.now in
-    let n = c.index_mut.result.now in
-    let here = c.index_mut.ensures.value in
+    let accepts = g.R.Question.accepts c.args.func.now in let selects = g.R.Question.selects c.args.func.now in
+    let n = c.index_mut.result.now in let here = c.index_mut.ensures.value in
     let written = c.index-2.ensures ∙ get_or-set_same _ _ _ _ c.requires.within in
     record {
       takes = takes_below g.T.Cover.Merges.boxes g.T.Covered.object accepts selects c.args.children.now.items c.args.place c.requires.within n c.take_inside-taken.new.child c.take_inside-taken.result here c.take_inside-taken.ensures.takes
@@ -59,24 +54,26 @@ take_inside-unreachable-requires g t c = no_leaf_here c.args.child.now _ c.in-Le
 
 pub take_inside-returns : goal.take_inside-returns
 take_inside-returns g t c =
-    let accepts = g.R.Question.accepts c.args.func.now in
-    let selects = g.R.Question.selects c.args.func.now in
-    let box = g.T.Covered.object.box_of in
-    let is = ap (given accepts selects) c.in-Parent.is in
-    let below = rw c.in-Parent.parent-is at c.take_earliest.ensures in
+    let accepts = g.R.Question.accepts c.args.func.now in let selects = g.R.Question.selects c.args.func.now in
+    let box = g.T.Covered.object.box_of in let is = ap (given accepts selects) c.in-Parent.is in
+    let taken = rw c.in-Parent.parent-is at c.take_earliest.ensures in let below = taken.below in
     record {
       takes = rw (c.in-Parent.is, outs-Parent c.in-Parent.parent)
-          (entered g.T.Cover.Merges.boxes g.T.Covered.object accepts selects c.in-Parent.parent c.take_earliest.new.node [] [] None None c.take_earliest.result below.takes (λ w h k inside at. below.kept w h k inside) below.same);
-      first = below.first ∙ sym (ap (earliest g.T.Ord.cmp) (is ∙ given_below accepts selects c.in-Parent.parent (λ none. c.requires.some (is ∙ none))));
+          (entered g.T.Cover.Merges.boxes g.T.Covered.object accepts selects c.in-Parent.parent c.take_earliest.new.node [] [] None None c.take_earliest.result below.takes below.kept below.same);
+      first = taken.first ∙ sym (ap (earliest g.T.Ord.cmp) (is ∙ given_below accepts selects c.in-Parent.parent (λ none. c.requires.some (is ∙ none))));
       unchanged = rw (c.in-Parent.is, outs-Parent c.in-Parent.parent) (λ told. node_box-Parent box c.take_earliest.new.node ∙ below.unchanged told ∙ sym (node_box-Parent box c.in-Parent.parent));
     }
 
-pub take_earliest-returns-in-None-clause-takes : goal.take_earliest-returns-in-None-clause-takes
-take_earliest-returns-in-None-clause-takes g t c =
-    let accepts = g.R.Question.accepts c.args.func.now in
-    let selects = g.R.Question.selects c.args.func.now in
-    takes_nothing accepts selects g.met.T.Cover.Merges.merge_laws g.met.T.Covered.cover_law c.args.node.now.children.items
-    (sym (ap (all_given accepts selects) c.as_slice.ensures.value) ∙ c.in-None.ensures)
+pub take_earliest-returns-in-None-clause-below : goal.take_earliest-returns-in-None-clause-below
+take_earliest-returns-in-None-clause-below g t c =
+    let accepts = g.R.Question.accepts c.args.func.now in let selects = g.R.Question.selects c.args.func.now in
+    record {
+      takes = takes_nothing accepts selects g.met.T.Cover.Merges.merge_laws g.met.T.Covered.cover_law c.args.node.now.children.items
+          (sym (ap (all_given accepts selects) c.as_slice.ensures.value) ∙ c.in-None.ensures);
+      kept = λ w h kept below at. kept;
+      same = refl;
+      unchanged = λ told. refl;
+    }
 
 pub take_earliest-returns-then-changed : goal.take_earliest-returns-then-changed
 take_earliest-returns-then-changed g t c =
@@ -85,11 +82,13 @@ take_earliest-returns-then-changed g t c =
     let there = earliest-there (g.R.Question.accepts c.args.func.now) (g.R.Question.selects c.args.func.now) g.met.T.Ord.total c.args.node.now.children.items c.as_slice.result.now c.in-Some.found.0 c.in-Some.found.1.now c.take_at-taken.result (Parent c.args.node.now)
     c.as_slice.ensures.value c.in-Some.ensures (c.take_at-taken.ensures.first (Parent c.args.node.now)) in
     record {
-      takes = takes;
+      below = record {
+        takes = takes;
+        kept = λ w h kept below at. kept_anew g.met.T.Cover.Merges.merge_laws g.met.T.Covered.cover_law w h c.args.node.now _ kept (takes.whole w h below tt) takes.shorter made;
+        same = some_one _ c.take_at-taken.result there.1;
+        unchanged = search rules;
+      };
       first = there.0;
-      kept = λ w h kept below. kept_anew g.met.T.Cover.Merges.merge_laws g.met.T.Covered.cover_law w h c.args.node.now _ kept (takes.whole w h below tt) takes.shorter made;
-      same = some_one _ c.take_at-taken.result there.1;
-      unchanged = search rules;
     }
 
 pub take_earliest-returns-else-changed : goal.take_earliest-returns-else-changed
@@ -98,9 +97,11 @@ take_earliest-returns-else-changed g t c =
     let there = earliest-there (g.R.Question.accepts c.args.func.now) (g.R.Question.selects c.args.func.now) g.met.T.Ord.total c.args.node.now.children.items c.as_slice.result.now c.in-Some.found.0 c.in-Some.found.1.now c.take_at-taken.result (Parent c.args.node.now)
     c.as_slice.ensures.value c.in-Some.ensures (c.take_at-taken.ensures.first (Parent c.args.node.now)) in
     record {
-      takes = takes;
+      below = record {
+        takes = takes;
+        kept = λ w h kept below at. kept_still g.met.T.Cover.Merges.merge_laws g.met.T.Covered.cover_law w h c.args.node.now _ kept below (takes.whole w h below tt) takes.shorter refl (c.take_at-taken.ensures.unchanged c.if-changed.false);
+        same = some_one _ c.take_at-taken.result there.1;
+        unchanged = λ _. refl;
+      };
       first = there.0;
-      kept = λ w h kept below. kept_still g.met.T.Cover.Merges.merge_laws g.met.T.Covered.cover_law w h c.args.node.now _ kept below (takes.whole w h below tt) takes.shorter refl (c.take_at-taken.ensures.unchanged c.if-changed.false);
-      same = some_one _ c.take_at-taken.result there.1;
-      unchanged = λ _. refl;
     }

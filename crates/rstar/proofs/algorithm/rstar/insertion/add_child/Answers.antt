@@ -1,17 +1,23 @@
 use Rattle.std.proofs.Common.{arith, append-nil, refl}
 use Rattle.std.proofs.lemmas.List.Sorted.{IsPermutation-refl}
-use Rattle.rstar.proofs.inserting.Insertion.{room_more, room_one, room_same}
-use Rattle.rstar.proofs.inserting.Reserves.{last_spare, spends_as, spends_one}
+use Rattle.rstar.proofs.inserting.Insertion.{room_more, room_one, room_same, last_spare, spends_as, spends_one}
 use Rattle.rstar.proofs.algorithm.rstar.insertion.add_child.Goals as goal
 
-pub returns-then-len-MAX_SIZE-clause-same : goal.returns-then-len-MAX_SIZE-clause-same
-returns-then-len-MAX_SIZE-clause-same g c = rw (append-nil c.push_reserved.new.self.items, c.push_reserved.ensures.items, c.take_place.ensures.same) (IsPermutation-refl _)
-
-pub returns-then-len-MAX_SIZE-clause-first : goal.returns-then-len-MAX_SIZE-clause-first
-returns-then-len-MAX_SIZE-clause-first g c = record {
-  merged = rw (c.push_reserved.ensures.items, c.take_place.ensures.same) c.requires.covered;
-  some = omega (arith, c.push_reserved.ensures.len);
-  narrow = omega (arith, c.push_reserved.ensures.len, c.take_place.ensures.length, c.push_reserved.new.self.ok.0, c.requires.ready.wide);
+pub returns-then-len-MAX_SIZE-clause-adds : goal.returns-then-len-MAX_SIZE-clause-adds
+returns-then-len-MAX_SIZE-clause-adds g c = record {
+  same = rw (append-nil c.push_reserved.new.self.items, c.push_reserved.ensures.items, c.take_place.ensures.same) (IsPermutation-refl _);
+  first = record {
+    merged = rw (c.push_reserved.ensures.items, c.take_place.ensures.same) c.requires.covered;
+    some = omega (arith, c.push_reserved.ensures.len);
+    narrow = omega (arith, c.push_reserved.ensures.len, c.take_place.ensures.length, c.push_reserved.new.self.ok.0, c.requires.ready.wide);
+  };
+  second_merged = tt;
+  whole = omega (arith, c.push_reserved.ensures.len, c.take_place.ensures.length);
+  low = omega (arith, c.push_reserved.ensures.len, c.take_place.ensures.length, c.if-len-MAX_SIZE.true, c.len.ensures);
+  first_least = tt;
+  second_least = tt;
+  lengths = tt;
+  second_room = tt;
 }
 
 pub returns-then-len-MAX_SIZE-clause-spends : goal.returns-then-len-MAX_SIZE-clause-spends
@@ -48,25 +54,27 @@ returns g c =
     let more = room_more c.args.reserve.now.widest c.args.node.now.children c.move_all-2.new.empty (omega (arith, c.move_all.ensures.capacity, c.move_all-2.ensures.empty_capacity)) in
     let small = c.requires.ready.overfull.1 in
     record {
-      same = rw (← c.move_all.ensures.moved, ← c.push_reserved-2.ensures.items, c.move_all-2.ensures.moved) split.same;
-      first = record {
-        merged = rw (← c.deref.ensures.value) c.envelope_for_children.ensures.hull;
-        some = omega (arith, positive, split.first, moved, c.move_all-2.new.empty.ok.0);
-        narrow = omega (arith, positive, split.lengths, split.second, moved, over, added, c.requires.narrow, c.args.node.now.children.ok.0, c.move_all-2.new.empty.ok.0);
+      adds = record {
+        same = rw (← c.move_all.ensures.moved, ← c.push_reserved-2.ensures.items, c.move_all-2.ensures.moved) split.same;
+        first = record {
+          merged = rw (← c.deref.ensures.value) c.envelope_for_children.ensures.hull;
+          some = omega (arith, positive, split.first, moved, c.move_all-2.new.empty.ok.0);
+          narrow = omega (arith, positive, split.lengths, split.second, moved, over, added, c.requires.narrow, c.args.node.now.children.ok.0, c.move_all-2.new.empty.ok.0);
+        };
+        second_merged = record {
+          merged = rw (← c.deref-2.ensures.value) c.envelope_for_children-envelope.ensures.hull;
+          some = omega (arith, positive, split.second, c.split_in_place.new.spare.ok.0);
+          narrow = omega (arith, positive, split.lengths, split.first, over, added, c.requires.narrow, c.args.node.now.children.ok.0, c.split_in_place.new.spare.ok.0);
+        };
+        whole = tt;
+        low = tt;
+        first_least = omega (arith, split.first, moved, c.move_all-2.new.empty.ok.0);
+        second_least = omega (arith, split.second, c.split_in_place.new.spare.ok.0);
+        lengths = omega (arith, split.lengths, moved, over, added, c.args.node.now.children.ok.0, c.move_all-2.new.empty.ok.0, c.split_in_place.new.spare.ok.0);
+        second_room = omega (arith, spare.1, split.second_capacity);
       };
-      second = record {
-        merged = rw (← c.deref-2.ensures.value) c.envelope_for_children-envelope.ensures.hull;
-        some = omega (arith, positive, split.second, c.split_in_place.new.spare.ok.0);
-        narrow = omega (arith, positive, split.lengths, split.first, over, added, c.requires.narrow, c.args.node.now.children.ok.0, c.split_in_place.new.spare.ok.0);
-      };
-      whole = tt;
-      low = tt;
-      first_least = omega (arith, split.first, moved, c.move_all-2.new.empty.ok.0);
-      second_least = omega (arith, split.second, c.split_in_place.new.spare.ok.0);
-      lengths = omega (arith, split.lengths, moved, over, added, c.args.node.now.children.ok.0, c.move_all-2.new.empty.ok.0, c.split_in_place.new.spare.ok.0);
       spends = spends_one c.requires.ready c.take_last-second.result taken.items taken.len taken.capacity refl
           (c.move_all-2.ensures.left, omega (arith, small, c.move_all.ensures.empty_capacity, c.push_reserved-2.ensures.capacity, split.first_capacity, c.move_all-2.ensures.capacity))
           (omega (arith, more)) (omega (arith, room_one 0 c.args.node.now.children (omega arith), room_one 0 c.move_all-2.new.empty (omega arith)));
       used = omega (arith, taken.len);
-      second_room = omega (arith, spare.1, split.second_capacity);
     }

@@ -1,6 +1,5 @@
 use Rattle.std.proofs.Common.{length, vec_len, vec_capacity, ap, refl, arith}
-use Rattle.rstar.proofs.inserting.Insertion.{room_one}
-use Rattle.rstar.proofs.inserting.Reserves.{last_spare, spends_one}
+use Rattle.rstar.proofs.inserting.Insertion.{room_one, last_spare, spends_one}
 use Rattle.rstar.proofs.algorithm.rstar.insertion.grow_root.Goals as goal
 
 pub push_reserved-requires : goal.push_reserved-requires

@@ -1,6 +1,5 @@
 use Rattle.std.proofs.Common.{refl, arith}
-use Rattle.rstar.proofs.inserting.Insertion.{room_one, room_none}
-use Rattle.rstar.proofs.inserting.Reserves.{last_spare, spends_none, spends_one}
+use Rattle.rstar.proofs.inserting.Insertion.{room_one, room_none, last_spare, spends_none, spends_one}
 use Rattle.rstar.proofs.algorithm.rstar.insertion.take_place.Goals as goal
 
 pub move_over-requires-clause-empty : goal.move_over-requires-clause-empty

@@ -1,16 +1,20 @@
-use Rattle.std.proofs.Common.{◌∙◌, ◌+◌, ◌≤◌, ◌∷◌, [], arith, vec_len, vec_capacity}
+use Rattle.std.proofs.Common.{append-nil, ◌∙◌, ◌+◌, ◌≤◌, ◌∷◌, [], arith, vec_len, vec_capacity}
 use Rattle.std.proofs.lemmas.List.Sorted.{IsPermutation-trans}
 use Rattle.rstar.specs.inside.ParentBounds.{IsSpare}
 use Rattle.rstar_base.proofs.Lists.{all-append}
-use Rattle.rstar.proofs.inserting.Insertion.{room_one, room_none, room_same}
-use Rattle.rstar.proofs.inserting.Reserves.{last_spare, enough_again, some_spare}
+use Rattle.rstar.proofs.inserting.Insertion.{room_one, room_none, room_same, last_spare, enough_again, some_spare}
 use Rattle.rstar.proofs.algorithm.rstar.reinsertion.insert_with_reinsertion.Goals as goal
 
 pub take_last-handed-requires : goal.take_last-handed-requires
 take_last-handed-requires g c = some_spare g.Params.RTreeParams.REINSERTION_COUNT (1 + c.args.levels) (vec_len c.args.reserve.now.spares) c.requires.ready.enough
 
-pub insert_first-requires-clause-spare : goal.insert_first-requires-clause-spare
-insert_first-requires-clause-spare g c = (last_spare c.requires.ready _ c.take_last-handed.result c.take_last-handed.ensures.items).1
+pub insert_first-requires-clause-lists : goal.insert_first-requires-clause-lists
+insert_first-requires-clause-lists g c = record {
+  wide = c.requires.ready.wide;
+  reinserts = omega arith;
+  spare = (last_spare c.requires.ready _ c.take_last-handed.result c.take_last-handed.ensures.items).1;
+  overfull = c.requires.ready.overfull;
+}
 
 pub insert_again-grown-requires-clause-ready : goal.insert_again-grown-requires-clause-ready
 insert_again-grown-requires-clause-ready g c = record {
@@ -23,7 +27,7 @@ insert_again-grown-requires-clause-ready g c = record {
 
 pub push_reserved-requires : goal.push_reserved-requires
 push_reserved-requires g c =
-    let again = c.insert_again-grown.ensures.spends in
+    let again = c.insert_again-grown.ensures.root.spends in
     omega (arith, c.take_last-handed.ensures.len, c.take_last-handed.ensures.capacity, again.fewer, again.places, c.args.reserve.now.spares.ok)
 
 pub returns-then-reserve-capacity : goal.returns-then-reserve-capacity
@@ -34,19 +38,19 @@ returns-then-reserve-capacity g c =
     let handed = c.insert_again-grown.new.handed in
     let fits : c.insert_again-grown.new.reserve.widest ≤ vec_capacity handed = omega (arith, c.capacity.ensures, c.if-reserve-capacity.true) in
     let held = room_same c.args.reserve.now.widest handed c.insert_first.new.handed again.capacity in
-    let own = room_one c.args.reserve.now.widest handed (omega (arith, fits, again.spends.widest)) in
+    let own = room_one c.args.reserve.now.widest handed (omega (arith, fits, again.root.spends.widest)) in
     record {
-      bag = IsPermutation-trans _ _ _ first.bag again.bag;
-      kept = again.kept;
-      sized = λ sized. let after = first.sized sized in again.sized (after.below, omega (arith, after.most, c.insert_first.new.node.children.ok.0));
+      bag = IsPermutation-trans _ _ _ (rw append-nil at first.tree.bag) again.root.bag;
+      kept = again.root.kept;
+      sized = λ sized. let after = first.tree.sized sized in again.root.sized (after.below, omega (arith, after.most, c.insert_first.new.node.children.ok.0));
       spends = record {
-        widest = again.spends.widest;
-        spares = rw c.push_reserved.ensures.items (all-append (IsSpare c.insert_again-grown.new.reserve.widest) _ (handed ∷ []) again.spends.spares ((again.none, fits), tt));
-        fewer = omega (arith, taken.len, again.spends.fewer, c.push_reserved.ensures.len);
-        places = c.push_reserved.ensures.capacity ∙ again.spends.places ∙ taken.capacity;
-        overfull = again.spends.overfull;
-        room = omega (arith, taken.len, first.room, again.spends.room, held, own, c.push_reserved.ensures.len);
-        made = omega (arith, taken.len, first.parents, again.spends.made, c.push_reserved.ensures.len);
+        widest = again.root.spends.widest;
+        spares = rw c.push_reserved.ensures.items (all-append (IsSpare c.insert_again-grown.new.reserve.widest) _ (handed ∷ []) again.root.spends.spares ((again.none, fits), tt));
+        fewer = omega (arith, taken.len, again.root.spends.fewer, c.push_reserved.ensures.len);
+        places = c.push_reserved.ensures.capacity ∙ again.root.spends.places ∙ taken.capacity;
+        overfull = again.root.spends.overfull;
+        room = omega (arith, taken.len, first.room, again.root.spends.room, held, own, c.push_reserved.ensures.len);
+        made = omega (arith, taken.len, first.parents, again.root.spends.made, c.push_reserved.ensures.len);
       };
     }
 
@@ -57,18 +61,18 @@ returns-else-reserve-capacity g c =
     let again = c.insert_again-grown.ensures in
     let handed = c.insert_again-grown.new.handed in
     let held = room_same c.args.reserve.now.widest handed c.insert_first.new.handed again.capacity in
-    let none = room_none c.args.reserve.now.widest handed (omega (arith, c.capacity.ensures, c.if-reserve-capacity.false, again.spends.widest)) in
+    let none = room_none c.args.reserve.now.widest handed (omega (arith, c.capacity.ensures, c.if-reserve-capacity.false, again.root.spends.widest)) in
     record {
-      bag = IsPermutation-trans _ _ _ first.bag again.bag;
-      kept = again.kept;
-      sized = λ sized. let after = first.sized sized in again.sized (after.below, omega (arith, after.most, c.insert_first.new.node.children.ok.0));
+      bag = IsPermutation-trans _ _ _ (rw append-nil at first.tree.bag) again.root.bag;
+      kept = again.root.kept;
+      sized = λ sized. let after = first.tree.sized sized in again.root.sized (after.below, omega (arith, after.most, c.insert_first.new.node.children.ok.0));
       spends = record {
-        widest = again.spends.widest;
-        spares = again.spends.spares;
-        fewer = omega (arith, taken.len, again.spends.fewer);
-        places = again.spends.places ∙ taken.capacity;
-        overfull = again.spends.overfull;
-        room = omega (arith, taken.len, first.room, again.spends.room, held, none);
-        made = omega (arith, taken.len, first.parents, again.spends.made);
+        widest = again.root.spends.widest;
+        spares = again.root.spends.spares;
+        fewer = omega (arith, taken.len, again.root.spends.fewer);
+        places = again.root.spends.places ∙ taken.capacity;
+        overfull = again.root.spends.overfull;
+        room = omega (arith, taken.len, first.room, again.root.spends.room, held, none);
+        made = omega (arith, taken.len, first.parents, again.root.spends.made);
       };
     }

@@ -12,11 +12,8 @@ use Rattle.rstar.proofs.iterators.joins.IntersectionIterator.new.Goals.{then-is_
 pub returns-then-empty : goal.returns-then-empty
 unfolding pairs_to_come IsJoining
 returns-then-empty g c =
-    let meets = meets_by g.T.Cover.Merges.boxes g.U.Meets.seen in
-    let left_box = g.T.Covered.object.box_of in
-    let right_box = g.U.Covered.object.box_of in
-    let left = c.args.left.now in
-    let right = c.args.right.now in
+    let meets = meets_by g.T.Cover.Merges.boxes g.U.Meets.seen in let left_box = g.T.Covered.object.box_of in
+    let right_box = g.U.Covered.object.box_of in let left = c.args.left.now in let right = c.args.right.now in
     let none : (meet_of_roots meets left_box right_box left right ≡ 0) × (pairs_from_roots meets left_box right_box left right ≡ []) = elim c.then-empty.branch [
       | then-empty-via-then-empty w ↦
           let empty : (children_of left ≡ []) ⊎ (children_of right ≡ []) = elim c.if-is_empty.branch [
@@ -51,11 +48,8 @@ begin-requires-clause-fits g c =
 pub returns : goal.returns
 unfolding pairs_to_come IsJoining
 returns g c =
-    let meets = meets_by g.T.Cover.Merges.boxes g.U.Meets.seen in
-    let left_box = g.T.Covered.object.box_of in
-    let right_box = g.U.Covered.object.box_of in
-    let left = c.args.left.now in
-    let right = c.args.right.now in
+    let meets = meets_by g.T.Cover.Merges.boxes g.U.Meets.seen in let left_box = g.T.Covered.object.box_of in
+    let right_box = g.U.Covered.object.box_of in let left = c.args.left.now in let right = c.args.right.now in
     let does = sym c.meet.ensures ∙ c.if-not-meet.false in
     let some : (children_of left ≢ []) × (children_of right ≢ []) = elim c.if-is_empty.branch [
       | then-is_empty u ↦ absurd (true≢false (sym u.if-is_empty.true ∙ sym u.empty-is ∙ c.if-empty.false))

@@ -11,9 +11,7 @@ loop-left-init g c = λ few. mark-first _ c.args.lefts.now 0 refl
 
 pub loop-left-preserved : goal.loop-left-preserved
 loop-left-preserved g c = λ few.
-    let lefts = c.args.lefts.now in
-    let rights = c.args.rights.now in
-    let behind = c.loop-left.invariant few in
+    let lefts = c.args.lefts.now in let rights = c.args.rights.now in let behind = c.loop-left.invariant few in
     let cut = c.in-Some.ensures.cases.0 in
     let fits = rows-fit _ lefts c.loop-left.rest.now c.in-Some.before.now rights c.in-Some.left.now c.loop-left.marks behind cut few in
     let row = map (λ n. meets_by g.T.Cover.Merges.boxes g.U.Meets.seen (node_box g.T.Covered.object.box_of c.in-Some.left.now) (node_box g.U.Covered.object.box_of n)) rights in

@@ -5,8 +5,7 @@ use Rattle.rstar.proofs.iterators.selection.SelectionIterator.enter.Goals.{then-
 
 pub returns-then-not-should_unpack_parent : goal.returns-then-not-should_unpack_parent
 returns-then-not-should_unpack_parent g c =
-    let it = c.args.self.now in
-    let refused = sym c.should_unpack_parent.ensures ∙ c.if-not-should_unpack_parent.true in
+    let it = c.args.self.now in let refused = sym c.should_unpack_parent.ensures ∙ c.if-not-should_unpack_parent.true in
     let moved = refused-moved (g.Func.Question.accepts it.func) (g.Func.Question.selects it.func) it.path.items it.nodes c.args.rest c.args.parent.now c.requires.first refused in
     stepped g.Func.Question.accepts g.Func.Question.selects it it.path c.args.rest it.opened moved refl (omega (arith, c.requires.way.counted)) c.requires.way
 
@@ -17,9 +16,7 @@ push_reserved-requires g c =
 
 pub returns : goal.returns
 returns g c =
-    let it = c.args.self.now in
-    let children = c.as_slice-self.result in
-    let count = c.saturating_add-self in
+    let it = c.args.self.now in let children = c.as_slice-self.result in let count = c.saturating_add-self in
     let accepted = sym c.should_unpack_parent.ensures ∙ c.if-not-should_unpack_parent.false in
     let moved = opened-moved (g.Func.Question.accepts it.func) (g.Func.Question.selects it.func) it.path.items it.nodes c.args.rest children c.args.parent.now c.requires.first accepted c.as_slice-self.ensures.value in
     elim c.if-not-is_empty.branch [

@@ -24,13 +24,9 @@ returns-then-not-enters-clause-gives g c =
 pub returns-clause-walking : goal.returns-clause-walking
 unfolding IsWalking
 returns-clause-walking g c =
-    let v = g.T.Cover.Merges.boxes in
-    let o = g.T.Covered.object in
-    let accepts = g.Func.Question.accepts c.args.func in
-    let root = c.args.root.now in
-    let h = c.requires.whole.height in
-    let entered = c.enters.ensures.entered c.if-not-enters.false in
-    let value = c.as_slice.ensures.value in
+    let v = g.T.Cover.Merges.boxes in let o = g.T.Covered.object in let accepts = g.Func.Question.accepts c.args.func in
+    let root = c.args.root.now in let h = c.requires.whole.height in
+    let entered = c.enters.ensures.entered c.if-not-enters.false in let value = c.as_slice.ensures.value in
     let deep = c.requires.levels ∙ levels_are (IsInner v o) (IsElement v o) (λ p q. q.1) h (children_of root) entered.0 c.requires.whole.below in
     way-start accepts root c.in_ok-path.path.items c.as_slice.result _ h 1 c.in_ok-path.ensures.empty
     (subst (AllByRecursion (IsLevel h)) (sym value) (all-level v o h (children_of root) c.requires.whole.below))
@@ -39,7 +35,6 @@ returns-clause-walking g c =
 
 pub returns-clause-made : goal.returns-clause-made
 returns-clause-made g c =
-    let root = c.args.root.now in
-    let entered = c.enters.ensures.entered c.if-not-enters.false in
+    let root = c.args.root.now in let entered = c.enters.ensures.entered c.if-not-enters.false in
     let asked = reach-asked (g.Func.Question.accepts c.args.func) (envelope_of root) (children_of root) entered.0 entered.1 in
     record { root = refl; question = refl; opened = omega arith; at_most = omega arith }

@@ -14,8 +14,7 @@ module _ {T F E : Type 0} (accepts : F → E → Bool) (selects : F → T → Bo
   gave : (t : Bor T) → IsStep accepts selects mid (t.now ∷ []) new → GivesNext accepts selects old (Some t) new
   unfolding IsWalking to_come
   gave t step =
-      let reach = same-reach step.root step.question in
-      let all = step.walking.all in
+      let reach = same-reach step.root step.question in let all = step.walking.all in
       record {
         gives = same ∙ step.given;
         root = step.root ∙ root;
@@ -28,8 +27,7 @@ module _ {T F E : Type 0} (accepts : F → E → Bool) (selects : F → T → Bo
   over : IsOver accepts selects mid new → GivesNext accepts selects old None new
   unfolding IsWalking to_come
   over end =
-      let reach = same-reach end.root end.question in
-      let all = end.walking.all in
+      let reach = same-reach end.root end.question in let all = end.walking.all in
       record {
         gives = (same ∙ end.given.0, end.given.1);
         root = end.root ∙ root;

@@ -21,11 +21,4 @@ returns-clause-steps g c =
 pub returns-clause-goes : goal.returns-clause-goes
 unfolding IsSearchingByOrder
 returns-clause-goes g c =
-    let told = c.next_neighbor.ensures in
-    let r = c.next_neighbor.result in
-    let fewer = progress.fewer-left _ _ _ c.args.self.now.search c.next_neighbor.new.self r told.gives told.goes_on told.ends told.once in
-    record {
-      on = λ _. progress.on-some _ _ _ r told.ready tt fewer;
-      keeps = progress.if-some _ r told.ready;
-      rests = λ _. progress.if-none _ r tt;
-    }
+    progress.goes-on c.next_neighbor.result c.next_neighbor.ensures.ready tt (progress.fewer-left c.next_neighbor.result c.next_neighbor.ensures)

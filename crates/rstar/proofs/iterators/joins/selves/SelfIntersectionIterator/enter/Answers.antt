@@ -12,12 +12,8 @@ use Rattle.rstar.proofs.iterators.joins.selves.SelfIntersectionIterator.enter.Go
 
 pub returns-in_default : goal.returns-in_default
 returns-in_default g c =
-    let v = g.T.Cover.Merges.boxes in
-    let o = g.T.Covered.object in
-    let meets = meets_by v g.T.Meets.seen in
-    let self = c.args.self.now in
-    let had = c.requires.lists in
-    let none = c.in_default.ensures.none in
+    let v = g.T.Cover.Merges.boxes in let o = g.T.Covered.object in let meets = meets_by v g.T.Meets.seen in
+    let self = c.args.self.now in let had = c.requires.lists in let none = c.in_default.ensures.none in
     let walk = idle-pairs meets o.box_of o.box_of self.walk c.requires.idle in
     record {
       lists = advanced v o meets self _ refl (none.1 ∙ sym none.0) c.pop.ensures.capacity had (record { walk = had.walk; room = refl; count = λ all h. h });
@@ -29,24 +25,17 @@ returns-in_default g c =
 
 pub returns-in_default-split_first : goal.returns-in_default-split_first
 returns-in_default-split_first g c =
-    let v = g.T.Cover.Merges.boxes in
-    let o = g.T.Covered.object in
-    let meets = meets_by v g.T.Meets.seen in
-    let self = c.args.self.now in
-    let had = c.requires.lists in
+    let v = g.T.Cover.Merges.boxes in let o = g.T.Covered.object in let meets = meets_by v g.T.Meets.seen in
+    let self = c.args.self.now in let had = c.requires.lists in
     let taken = taken-none v o meets _ _ _ _ c.in-Some.ensures.some had.lists (nil-length _ c.in_default-split_first.ensures.cases) in
     takes-list v o meets self _ had c.requires.idle taken c.pop.ensures.capacity refl had.walk refl
     (idle-pairs meets o.box_of o.box_of self.walk c.requires.idle) (idle-opens meets o.box_of o.box_of self.walk c.requires.idle) (λ n h. omega (arith, h))
 
 pub begin-requires-clause-fits : goal.begin-requires-clause-fits
 begin-requires-clause-fits g c =
-    let v = g.T.Cover.Merges.boxes in
-    let o = g.T.Covered.object in
-    let self = c.args.self.now in
-    let had = c.requires.lists in
-    let node = c.in-Some-split_first.node.now in
-    let behind = c.in-Some-split_first.behind.now in
-    let first = c.in-Some-split_first.ensures.cases.0 in
+    let v = g.T.Cover.Merges.boxes in let o = g.T.Covered.object in let self = c.args.self.now in
+    let had = c.requires.lists in let node = c.in-Some-split_first.node.now in
+    let behind = c.in-Some-split_first.behind.now in let first = c.in-Some-split_first.ensures.cases.0 in
     let last = last-list v o _ _ _ _ c.in-Some.ensures.some had.lists in
     let whole = subst (AreWhole v o last.level) first last.whole in
     subst (λ l. AreJoinable self.walk.path.capacity l behind) (sym (c.first_alone.ensures ∙ ap (take 1) first))
@@ -60,11 +49,8 @@ push_reserved-requires g c =
 
 pub push_reserved-requires-2 : goal.push_reserved-requires-2
 push_reserved-requires-2 g c =
-    let v = g.T.Cover.Merges.boxes in
-    let o = g.T.Covered.object in
-    let had = c.requires.lists in
-    let behind = c.in-Some-split_first.behind in
-    let last = last-list v o _ _ _ _ c.in-Some.ensures.some had.lists in
+    let v = g.T.Cover.Merges.boxes in let o = g.T.Covered.object in let had = c.requires.lists in
+    let behind = c.in-Some-split_first.behind in let last = last-list v o _ _ _ _ c.in-Some.ensures.some had.lists in
     let whole = subst (AreWhole v o last.level) c.in-Some-split_first.ensures.cases.0 last.whole in
     let low = own-parent v o last.level c.in-Some-split_first.node.now behind.now c.in-Parent.parent whole c.in-Parent.is in
     omega (
@@ -80,11 +66,8 @@ push_reserved-requires-2 g c =
 
 pub returns-in_default-node : goal.returns-in_default-node
 returns-in_default-node g c =
-    let v = g.T.Cover.Merges.boxes in
-    let o = g.T.Covered.object in
-    let meets = meets_by v g.T.Meets.seen in
-    let had = c.requires.lists in
-    let first = c.in-Some-split_first.ensures.cases.0 in
+    let v = g.T.Cover.Merges.boxes in let o = g.T.Covered.object in let meets = meets_by v g.T.Meets.seen in
+    let had = c.requires.lists in let first = c.in-Some-split_first.ensures.cases.0 in
     let taken = taken-leaf v o meets _ _ _ _ c.in-Some.ensures.some had.lists _ c.in-Some-split_first.behind _ first _ (c.first_alone.ensures ∙ ap (take 1) first)
     c.in_default-node.field-0 c.in_default-node.is c.push_reserved.ensures.items in
     takes-list v o meets c.args.self.now _ had c.requires.idle taken (c.push_reserved.ensures.capacity ∙ c.pop.ensures.capacity) refl
@@ -92,13 +75,9 @@ returns-in_default-node g c =
 
 pub returns : goal.returns
 returns g c =
-    let v = g.T.Cover.Merges.boxes in
-    let o = g.T.Covered.object in
-    let meets = meets_by v g.T.Meets.seen in
-    let had = c.requires.lists in
-    let first = c.in-Some-split_first.ensures.cases.0 in
-    let behind = c.in-Some-split_first.behind in
-    let children = c.as_slice.result in
+    let v = g.T.Cover.Merges.boxes in let o = g.T.Covered.object in let meets = meets_by v g.T.Meets.seen in
+    let had = c.requires.lists in let first = c.in-Some-split_first.ensures.cases.0 in
+    let behind = c.in-Some-split_first.behind in let children = c.as_slice.result in
     let is = c.push_reserved-2.ensures.items ∙ ap (λ l. l ++ children ∷ []) c.push_reserved.ensures.items ∙ append_assoc c.pop.new.self.items (behind ∷ []) (children ∷ []) in
     let taken = taken-parent v o meets _ _ _ _ c.in-Some.ensures.some had.lists _ behind _ first _ (c.first_alone.ensures ∙ ap (take 1) first)
     children c.in-Parent.parent c.in-Parent.is c.as_slice.ensures.value is in

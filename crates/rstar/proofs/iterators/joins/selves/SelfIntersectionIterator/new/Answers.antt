@@ -10,11 +10,8 @@ use Rattle.rstar.proofs.iterators.joins.selves.SelfIntersectionIterator.new.Goal
 pub returns : goal.returns
 unfolding own_to_come IsSelfJoining
 returns g c =
-    let v = g.T.Cover.Merges.boxes in
-    let o = g.T.Covered.object in
-    let meets = meets_by v g.T.Meets.seen in
-    let levels = c.args.levels in
-    let children = children_of c.args.root.now in
+    let v = g.T.Cover.Merges.boxes in let o = g.T.Covered.object in let meets = meets_by v g.T.Meets.seen in
+    let levels = c.args.levels in let children = children_of c.args.root.now in
     let is = c.push_reserved.ensures.items ∙ ap (λ l. l ++ c.as_slice.result ∷ []) c.in_ok-lists.ensures.empty in
     let whole = subst (AreWhole v o levels) (sym c.as_slice.ensures.value) (at_levels (IsInner v o) (IsElement v o) (λ p q. q.1) c.requires.whole.height levels children c.requires.levels c.requires.whole.below) in
     let started = own-started meets o.box_of children in

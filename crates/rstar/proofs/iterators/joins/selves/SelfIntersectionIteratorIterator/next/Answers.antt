@@ -10,8 +10,7 @@ returns-in-Some-clause-steps g c =
 
 pub returns-in-Some-clause-goes : goal.returns-in-Some-clause-goes
 returns-in-Some-clause-goes g c =
-    let step = returns-in-Some-clause-steps g c in
-    let long = ap length step.gives in
+    let step = returns-in-Some-clause-steps g c in let long = ap length step.gives in
     record { on = λ _. (step.joining, tt, omega (arith, long)); keeps = step.joining; rests = λ _. tt }
 
 pub enter-requires-clause-lists : goal.enter-requires-clause-lists

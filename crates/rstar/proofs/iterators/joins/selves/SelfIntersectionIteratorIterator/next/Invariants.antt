@@ -6,8 +6,7 @@ use Rattle.rstar.proofs.iterators.joins.selves.SelfIntersectionIteratorIterator.
 -- the same join, with the same to come
 abbrev pub invariant-loop-pair : goal.invariant-loop-pair
 invariant-loop-pair g l =
-    let meets = meets_by g.T.Cover.Merges.boxes g.T.Meets.seen in
-    let o = g.T.Covered.object in
+    let meets = meets_by g.T.Cover.Merges.boxes g.T.Meets.seen in let o = g.T.Covered.object in
     record {
       lists : HasItsLists g.T.Cover.Merges.boxes o meets l.self;
       root : own_root l.self ≡ own_root l.initial.self;

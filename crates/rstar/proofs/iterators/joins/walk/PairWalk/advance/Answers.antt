@@ -1,9 +1,6 @@
-use Rattle.std.proofs.Common.{◌∙◌, refl}
+use Rattle.std.proofs.Common.{◌∙◌}
 use Rattle.rstar.proofs.joining.PairWalks.{goes-on}
 use Rattle.rstar.proofs.iterators.joins.walk.PairWalk.advance.Goals as goal
-
-pub loop-t-init : goal.loop-t-init
-loop-t-init g c = record { on = record { walk = c.requires; room = refl; count = λ all h. h }; same = refl }
 
 pub loop-t-preserved : goal.loop-t-preserved
 loop-t-preserved g c = record {

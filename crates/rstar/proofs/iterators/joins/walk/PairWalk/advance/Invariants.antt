@@ -6,8 +6,7 @@ use Rattle.rstar.proofs.iterators.joins.walk.PairWalk.advance.Given as goal
 -- the same walk, with the same to come
 abbrev pub invariant-loop-t : goal.invariant-loop-t
 invariant-loop-t g l =
-    let meets = meets_by g.T.Cover.Merges.boxes g.U.Meets.seen in
-    let left_box = g.T.Covered.object.box_of in
+    let meets = meets_by g.T.Cover.Merges.boxes g.U.Meets.seen in let left_box = g.T.Covered.object.box_of in
     let right_box = g.U.Covered.object.box_of in
     record {
       on : GoesOn meets left_box right_box l.initial.self l.self;

@@ -1,0 +1,36 @@
+use Rattle.std.proofs.Common.{take, length, ◌<◌, arith, refl}
+use Rattle.std.proofs.lemmas.List.{append-nil, take_more}
+use Rattle.std.proofs.lemmas.List.Sorted.{IsPermutation-refl}
+use lib.Seq.{take_all}
+use Rattle.rstar_base.specs.SmallHeaps.{items_of}
+use Rattle.rstar_base.proofs.Lists.{all_along}
+use Rattle.rstar.specs.inside.Searches.{waiting_nodes, held_by}
+use Rattle.rstar.proofs.searching.Searches.{added-push}
+use Rattle.rstar.proofs.algorithm.nearest_neighbor.search.NodeSearch+T+O.add_children.Goals as goal
+
+pub loop-node-init : goal.loop-node-init
+loop-node-init g c =
+    record { root = refl; stage = refl; opened = refl; ordered = c.requires; waiting = λ before. before; added = rw (append-nil (waiting_nodes (held_by c.args.self.now))) (IsPermutation-refl _) }
+
+pub loop-node-preserved : goal.loop-node-preserved
+loop-node-preserved g c =
+    let in_range : c.loop-node.node-index < length c.args.children.now = omega arith in
+    let more = rw (← c.node-item.is) at (take_more c.args.children.now c.loop-node.node-index c.node-item.result in_range) in
+    record {
+      root = c.loop-node.invariant.root;
+      stage = c.loop-node.invariant.stage;
+      opened = c.loop-node.invariant.opened;
+      ordered = c.push.ensures.ordered;
+      waiting = λ before. record { ordered = c.push.ensures.ordered; at = all_along _ _ _ c.in_default.ensures.ok (c.distance_to-distance.ensures, (c.loop-node.invariant.waiting before).at) };
+      added = rw more (added-push (waiting_nodes (held_by c.args.self.now)) (take c.loop-node.node-index c.args.children.now) _ (items_of c.loop-node.self.heap) (items_of c.push.new.self) c.loop-node.invariant.added c.in_default.ensures.ok);
+    }
+
+pub returns : goal.returns
+returns g c =
+    let inv = c.loop-node.invariant in
+    record { root = inv.root; opened = inv.opened; stage = inv.stage; waiting = inv.waiting; added = rw (take_all c.loop-node.node-index c.args.children.now (omega arith)) at inv.added }
+
+pub returns-in-Err : goal.returns-in-Err
+returns-in-Err g c =
+    let inv = c.loop-node.invariant in
+    record { root = inv.root; opened = inv.opened; stage = inv.stage; waiting = λ before. rw c.in-Err.ensures.err (inv.waiting before); added = tt }

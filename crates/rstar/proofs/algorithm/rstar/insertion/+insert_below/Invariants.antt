@@ -1,0 +1,4 @@
+use Rattle.rstar.proofs.algorithm.rstar.insertion.+insert_below.Given as goal
+
+abbrev pub decreases-insert_below : goal.decreases-insert_below
+decreases-insert_below g l = l.levels

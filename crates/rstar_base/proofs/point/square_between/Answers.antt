@@ -1,5 +1,0 @@
-use Rattle.rstar_base.proofs.Squares.{square_law}
-use Rattle.rstar_base.proofs.point.square_between.Goals as goal
-
-pub returns : goal.returns
-returns g c = square_law g.S.Bounded.low g.S.Bounded.high _ _ _ g.met.S.RTreeNum.low_law g.met.S.RTreeNum.high_law c.apart-apart.ensures c.clamped_mul.ensures
