@@ -48,7 +48,7 @@ fn written<Params: RTreeParams>(alloc: Global, points: &[[i64; 2]]) -> Vec<u8> {
 }
 
 /// The tree that is read of what a tree is written as, which shows the same.
-#[tactic(auto, using(rstar::proofs::storing::Trees::one_tree))]
+#[tactic(auto)]
 pub fn read_back<Params: RTreeParams, Others: RTreeParams>(
     alloc: Global,
     tree: &RTree<[i64; 2], Params>,
