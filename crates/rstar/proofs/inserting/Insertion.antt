@@ -273,13 +273,9 @@ module _ {T E : Type 0} (min max : ℕ) where
   -- what is left of a list of children
   pub sized_whole : (h n : ℕ) (before out : List (RTreeNode T E)) (p : ParentNode T E) → AreSized min max h before → IsPermutation before (p.children.items ++ out)
       → vec_len p.children ≤ max → (min ≤ n → min ≤ vec_len p.children) → IsSizedAfter min max h n p None
-  sized_whole h n before out p trees same most least = record {
-    below = (parts_of (HasSize min max) IsAny h before p.children.items out same trees).0;
-    most = omega (arith, p.children.ok.0);
-    still_least = λ k. omega (arith, p.children.ok.0, least k);
-    cut_least = tt;
-    second_sized = tt;
-  }
+  sized_whole h n before out p trees same most least =
+      let parts = parts_of (HasSize min max) IsAny h before p.children.items out same trees in
+      search (arith, tt, p.children.ok.0)
 
   -- a child that took an element in, and what it handed out
   pub sized_child : (h : ℕ) (old : List (RTreeNode T E)) (i : ℕ) (a b : ParentNode T E) (r : Option (ParentNode T E)) → 0 < h → i < length old → Parent a ≡ get_or old i (Parent a)
@@ -309,13 +305,7 @@ module _ {T E : Type 0} (v : Boxes E) (o : Objects T E) (widest min max : ℕ) w
   sized_cut h before old child p None positive trees same few adds = sized_whole min max h (vec_len old.children) before [] p trees same adds.low (λ k. omega (arith, adds.whole))
   sized_cut h before old child p (Some q) positive trees same few adds =
       let parts = parts_of (HasSize min max) IsAny h before p.children.items q.children.items same trees in
-      record {
-        below = parts.0;
-        most = omega (arith, p.children.ok.0, adds.second_least, adds.lengths);
-        still_least = λ k. omega (arith, p.children.ok.0, adds.first_least);
-        cut_least = omega (arith, p.children.ok.0, adds.first_least);
-        second_sized = ((omega (arith, q.children.ok.0, adds.second_least), omega (arith, q.children.ok.0, adds.first_least, adds.lengths)), parts.1);
-      }
+      search (arith, p.children.ok.0, q.children.ok.0, adds.first_least, adds.second_least, adds.lengths)
 
 module _ {T E : Type 0} {v : Boxes E} {o : Objects T E} {widest h : ℕ} {t : T} {p : ParentNode T E} (place : CanTakeIn v o widest h p t) where
   -- the child can take the element in too
@@ -396,36 +386,21 @@ module _ {A : Type 0} where
   pub spends_one : {max least : ℕ} {before after : ℕ → ℕ} {r s : Reserve A} → IsReady max least r → (last : Vec A Global) → r.spares.items ≡ s.spares.items ++ last ∷ []
       → vec_len s.spares + 1 ≡ vec_len r.spares → vec_capacity s.spares ≡ vec_capacity r.spares → s.widest ≡ r.widest → IsSpare (s.widest + 1) s.overfull
       → before r.widest + 1 ≤ after r.widest → after 0 ≤ before 0 + 1 → Spends before after r s
-  spends_one {s = s} ready last items len capacity same over room made = record {
-    widest = same;
-    spares = rw same (last_spare ready s.spares.items last items).0;
-    fewer = omega arith;
-    places = capacity;
-    overfull = over;
-    room = omega arith;
-    made = omega arith;
-  }
+  spends_one {s = s} ready last items len capacity same over room made =
+      let spares = rw (← same) at (last_spare ready s.spares.items last items).0 in
+      search arith
 
   -- two steps, one after the other
   pub spends_both : {a b c d : ℕ → ℕ} {r s t : Reserve A} → Spends a b r s → Spends c d s t → Spends (λ n. a n + c n) (λ n. b n + d n) r t
   spends_both first second =
       let room = rw first.widest at second.room in
-      record {
-        widest = second.widest ∙ first.widest;
-        spares = second.spares;
-        fewer = omega (arith, first.fewer, second.fewer);
-        places = second.places ∙ first.places;
-        overfull = second.overfull;
-        room = omega (arith, first.room, room);
-        made = omega (arith, first.made, second.made);
-      }
+      search arith
 
   -- the same step, told of other nodes
   pub spends_as : {a b a' b' : ℕ → ℕ} {r s : Reserve A} → Spends a b r s → ((n : ℕ) → n ≤ r.widest → a' n + b n ≡ a n + b' n) → Spends a' b' r s
   spends_as {a' = a'} {b' = b'} {r = r} {s = s} spends same =
-      let room : vec_len r.spares + a' r.widest ≤ vec_len s.spares + b' r.widest = omega (arith, spends.room, same r.widest (omega arith)) in
-      let made : vec_len s.spares + b' 0 ≤ vec_len r.spares + a' 0 = omega (arith, spends.made, same 0 (omega arith)) in
-      assumption
+      let room = same r.widest (omega arith) in let made = same 0 (omega arith) in
+      search arith
 
   -- a step that begins with the nodes that another leaves
   pub spends_next : {a b c : ℕ → ℕ} {r s t : Reserve A} → Spends a b r s → Spends b c s t → Spends a c r t

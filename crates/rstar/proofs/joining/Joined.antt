@@ -30,13 +30,11 @@ use Rattle.rstar.proofs.searching.Nearness.{box-value}
 use Rattle.rstar.proofs.trees.Trees.{sound, all_sound, values-of, box_is_hull, merged_is_hull}
 use Rattle.rstar.proofs.joining.PairsByChildren.{the_pair, each-product, product-none, whole-opened, all_meets, meet-roots, does_meet, AreLeaves, IsOpened, Kind, kinds, leaves}
 use Rattle.rstar.proofs.joining.PairWalks.{idle-pairs, idle-count, at_most}
-use Rattle.rstar.proofs.joining.MeetingNodes.{IsJoined, all-joined, apart, filter-none}
+use Rattle.rstar.proofs.joining.MeetingNodes.{IsJoined, all-joined, apart}
+use Rattle.rstar.proofs.lists.Items.{sum_by-same}
+use Rattle.rstar.proofs.searching.Ties.{filter_nothing}
 
 -- ---- sums
-
-sums-same : {A : Type 0} (f g : A → ℕ) (xs : List A) → AllByRecursion (λ x. f x ≡ g x) xs → sum_by f xs ≡ sum_by g xs
-sums-same f g [] all = refl
-sums-same f g (x ∷ xs) all = omega (arith, sum_by-cons f x xs, sum_by-cons g x xs, all.0, sums-same f g xs all.1)
 
 sums-zero : {A : Type 0} (f : A → ℕ) (xs : List A) → AllByRecursion (λ x. f x ≡ 0) xs → sum_by f xs ≡ 0
 sums-zero f [] all = refl
@@ -58,7 +56,7 @@ module _ {T E U F : Type 0} {IsPoint IsPoint' : List ℤ → Type 0} {v : Boxes 
   -- where the merges of elements do not meet, they have no join
   none-joined : (ts : List T) (us : List U) → AllByRecursion (IsElement v o) ts → AllByRecursion (IsElement w o') us → meets (hull v o.box_of ts) (hull w o'.box_of us) ≡ false
       → join meets o.box_of o'.box_of ts us ≡ []
-  none-joined ts us hl hr missed = filter-none _ _ (apart laws laws' same o.box_of o'.box_of ts us (values-of laws ok ts hl) (values-of laws' ok' us hr) missed)
+  none-joined ts us hl hr missed = filter_nothing _ _ (apart laws laws' same o.box_of o'.box_of ts us (values-of laws ok ts hl) (values-of laws' ok' us hr) missed)
 
   -- what the walk gives of a pair of nodes is the join of their elements, it opens what Meet counts, and Meet counts nothing where the two do not meet
   pub record IsRight (l : RTreeNode T E) (r : RTreeNode U F) : Type 0 where
@@ -75,7 +73,7 @@ module _ {T E U F : Type 0} {IsPoint IsPoint' : List ℤ → Type 0} {v : Boxes 
   -- what Meet counts of all pairs
   all-counted : (ls : List (RTreeNode T E)) (rs : List (RTreeNode U F)) → AreRight ls rs → all_meets meets o.box_of o'.box_of ls rs ≡ all_opens meets o.box_of o'.box_of ls rs
   all-counted ls rs all =
-      sums-same (λ (p : RTreeNode T E × RTreeNode U F). meet meets o.box_of o'.box_of p.0 p.1) (λ p. opens_at meets o.box_of o'.box_of p.0 p.1) (product ls rs)
+      sum_by-same (λ (p : RTreeNode T E × RTreeNode U F). meet meets o.box_of o'.box_of p.0 p.1) (λ p. opens_at meets o.box_of o'.box_of p.0 p.1) (product ls rs)
       (all_map _ _ (λ p q. q.counted) (product ls rs) all)
 
   -- of nodes whose merges do not meet, none do
@@ -227,14 +225,8 @@ module _ {T E U F : Type 0} (meets : E → F → Bool) (left_box : T → E) (rig
   unfolding IsJoining
   keeps r joining on gives ended =
       let all = meet_by meets left_box right_box old in let count = on.count all joining.count in
-      record {
-        gives = gives;
-        left = left;
-        right = right;
-        joining = record { walk = on.walk; count = subst (λ n. CountsPairs meets left_box right_box n new.walk) (sym (λ i. meet_of_roots meets left_box right_box (left i) (right i))) count };
-        ended = ended;
-        at_most = at_most meets left_box right_box all new.walk count;
-      }
+      let same : meet_by meets left_box right_box new ≡ all = (λ i. meet_of_roots meets left_box right_box (left i) (right i)) in
+      assumption (at_most meets left_box right_box all new.walk count, subst (λ n. CountsPairs meets left_box right_box n new.walk) (sym same) count)
 
   pub next-gives : (r : Option (Bor T × Bor U)) → IsJoining meets left_box right_box old → IsNextPair meets left_box right_box old.walk r new.walk → GivesPair meets left_box right_box old r new
   unfolding IsJoining pairs_to_come

@@ -1,5 +1,5 @@
 -- The walk of a join against the definitions: by the laws of envelopes, a merge intersects what a part intersects.
-use Rattle.std.proofs.Common.{◌≡◌, ℤ, List, [], ◌∷◌, ◌++◌, map, flat_map, filter, refl, ap, ◌∙◌, sym, subst, Bool, true, false, append_assoc}
+use Rattle.std.proofs.Common.{◌≡◌, ℤ, List, [], ◌∷◌, ◌++◌, map, flat_map, filter, ap, ◌∙◌, sym, subst, Bool, true, false, append_assoc}
 use Rattle.std.specs.List.{AllByRecursion}
 use Rattle.std.specs.List.Sorted.{IsPermutation}
 use Rattle.std.proofs.lemmas.Bool.{true≢false, false_from_ne_true}
@@ -55,10 +55,6 @@ module _ {E F : Type 0} {IsPoint IsPoint' : List ℤ → Type 0} {v : Boxes E} {
       all-product (λ (p : A × B). meets (left_box p.0) (right_box p.1) ≡ false) xs ys (all_both _ _ _
       (λ x vx none. hull-refused laws' (meets (left_box x)) (λ a b wa wb h. meets-right (left_box x) a b vx wa wb h) right_box ys ws none) xs vs
       (hull-refused laws (λ e. meets e all) (λ a b va vb h. laws.merge_intersects a b (seen all) va vb (same.value all value) h) left_box xs vs missed))
-
-pub filter-none : {A : Type 0} (test : A → Bool) (xs : List A) → AllByRecursion (λ x. test x ≡ false) xs → filter test xs ≡ []
-filter-none test [] all = refl
-filter-none test (x ∷ xs) all = rw all.0 (filter-none test xs all.1)
 
 -- ---- joins of lists put together
 

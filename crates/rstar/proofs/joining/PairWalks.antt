@@ -71,8 +71,7 @@ block-some rights xs some = let t = length-take (rows_beside rights) xs in let p
 steps-listed : {A B : Type 0} (f : A → B → ℕ) (xs : List A) (ys : List B) → all_steps f xs ys ≡ 1 + length xs + sum_by (λ (p : A × B). 1 + f p.0 p.1) (product xs ys)
 steps-listed f [] ys = omega arith
 steps-listed {A} {B} f (x ∷ xs) ys =
-    let here = total-map (λ y. 1 + f x y) ys ∙ sym (sum_by-map (λ y. the_pair x y) (λ (p : A × B). 1 + f p.0 p.1) ys) in
-    omega (arith, here, sum_by-append (λ (p : A × B). 1 + f p.0 p.1) (map (λ y. the_pair x y) ys) (product xs ys), steps-listed f xs ys)
+    omega (arith, total-map (λ y. 1 + f x y) ys ∙ sym (sum_by-map (λ y. the_pair x y) (λ (p : A × B). 1 + f p.0 p.1) ys), sum_by-append (λ (p : A × B). 1 + f p.0 p.1) (map (λ y. the_pair x y) ys) (product xs ys), steps-listed f xs ys)
 
 module _ {T E U F : Type 0} (meets : E → F → Bool) (left_box : T → E) (right_box : U → F) where
   -- ---- frames at the end
@@ -192,16 +191,7 @@ module _ {T E U F : Type 0} (meets : E → F → Bool) (left_box : T → E) (rig
   same-sides : (old : Frame T E U F) (asked later : Bor (List (RTreeNode U F))) (marks k : ℕ) (at : IsFrame meets left_box right_box k old)
       → AllByRecursion (IsMetPair meets left_box right_box at.left_height at.right_height) (met_of (frame_of old.lefts asked marks later old.rights))
       → AllByRecursion (IsLevel at.right_height) later.now → length later.now ≤ length old.rights.now → IsFrame meets left_box right_box k (frame_of old.lefts asked marks later old.rights)
-  same-sides old asked later marks k at met levels no_more = record {
-    left_height = at.left_height;
-    right_height = at.right_height;
-    lefts = at.lefts;
-    met = met;
-    later = levels;
-    rights = at.rights;
-    no_more = no_more;
-    fits = at.fits;
-  }
+  same-sides old asked later marks k at met levels no_more = search
 
   -- ---- a frame of which nothing was asked
 
@@ -219,16 +209,7 @@ module _ {T E U F : Type 0} (meets : E → F → Bool) (left_box : T → E) (rig
     fresh-steps = omega (arith, ap (sum_by steps_of_pair) fresh-met, ap (sum_by asked_step) fresh-unasked, steps-listed steps_at ls.now rights.now)
 
     fresh-frame : (n h k : ℕ) → AllByRecursion (IsLevel h) ls.now → AllByRecursion (IsLevel k) rights.now → max h k ≤ n → IsFrame meets left_box right_box n (frame_of ls asked 0 rights rights)
-    fresh-frame n h k left right fits = record {
-      left_height = h;
-      right_height = k;
-      lefts = left;
-      met = subst (AllByRecursion (IsMetPair meets left_box right_box h k)) (sym fresh-met) tt;
-      later = right;
-      rights = right;
-      no_more = omega arith;
-      fits = fits;
-    }
+    fresh-frame n h k left right fits = let met = subst (AllByRecursion (IsMetPair meets left_box right_box h k)) (sym fresh-met) tt in search arith
 
   -- ---- the moves of a step
 

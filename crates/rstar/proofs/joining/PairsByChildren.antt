@@ -212,16 +212,7 @@ module _ {T E U F : Type 0} (meets : E → F → Bool) (left_box : T → E) (rig
 
   leaves-at : (t : T) (u : U) → AreLeaves t u (Leaf t) (Leaf u)
   unfolding is_leaf_node node_box pairs_at opens_at meet steps_at given reach shown steps_beside fold_tree
-  leaves-at t u = record {
-    left = refl;
-    right = refl;
-    both = refl;
-    meeting = refl;
-    pairs = if-map (λ u. the_pair t u) (meets (left_box t) (right_box u)) (u ∷ []);
-    opens = refl;
-    counts = refl;
-    steps = refl;
-  }
+  leaves-at t u = assumption (if-map (λ (u : U). the_pair t u) (meets (left_box t) (right_box u)) (u ∷ []))
 
   -- a leaf beside a parent goes on alone
   opened-beside : (t : T) (q : ParentNode U F) → IsOpened (meets (left_box t) q.envelope) (Leaf t ∷ []) (children_of q) (Leaf t) (Parent q)

@@ -14,7 +14,7 @@ use Rattle.rstar_base.specs.Elements.{Objects, ObjectLaws}
 use Rattle.rstar.specs.declared.node.RTreeNode.{RTreeNode, Leaf, Parent}
 use Rattle.rstar.specs.declared.node.ParentNode.{ParentNode}
 use Rattle.rstar.specs.declared.iterators.joins.selves.SelfIntersectionIterator.{SelfIntersectionIterator}
-use Rattle.rstar.specs.Nodes.{parents, all_parents, elements, all_elements, elements_of, children_of, node_box, is_leaf_node, fold_tree, IsTree, IsInner, IsElement, AreWhole, IsWhole}
+use Rattle.rstar.specs.Nodes.{parents, all_parents, elements, all_elements, elements_of, children_of, node_box, is_leaf_node, IsTree, IsInner, IsElement, AreWhole, IsWhole}
 use Rattle.rstar.specs.Lists.{product}
 use Rattle.rstar.specs.Meets.{opened_to, both_leaves, meet_of_roots, all_pairs, all_opens, pairs_at, opens_at}
 use Rattle.rstar.specs.inside.PairWalks.{pairs_below, opens_below, opens_by, GoesOn, IsNextPair, pairs_by, IsIdle, IsWalk}
@@ -26,6 +26,7 @@ use Rattle.rstar.proofs.joining.PairsByChildren.{the_pair, opened, opened_to-Par
 use Rattle.rstar.proofs.joining.MeetingNodes.{exchanged, products-beside}
 use Rattle.rstar.proofs.searching.Ties.{filter-along}
 use Rattle.rstar.proofs.searching.Nearness.{box-value, full-box}
+use Rattle.rstar.proofs.searching.Searches.{parents-Leaf}
 use Rattle.rstar.proofs.joining.Joined.{nodes-joined, roots-counted}
 use Rattle.rstar_base.specs.Counts.{usize_max}
 use Rattle.rstar.proofs.joining.PairWalks.{idle-pairs, idle-opens}
@@ -68,10 +69,6 @@ module _ {T E : Type 0} (meets : E → E → Bool) (box_of : T → E) where
   opens-parts n ns ps qs =
       let opens : RTreeNode T E × RTreeNode T E → ℕ = λ p. opens_at meets box_of box_of p.0 p.1 in
       omega (arith, sum_by-append opens (product (n ∷ []) ns) (ps ++ qs), sum_by-append opens ps qs)
-
-parents-Leaf : (T E : Type 0) (t : T) → parents {T = T} {E = E} (Leaf t) ≡ 0
-unfolding parents fold_tree
-parents-Leaf T E t = refl
 
 -- ---- what the walk gives of whole nodes
 
@@ -282,8 +279,7 @@ module _ {T E : Type 0} {IsPoint : List ℤ → Type 0} {v : Boxes E} {o : Objec
       let p = is_parent _ n w in let same : opened_to n ≡ children_of p.0 = ap opened_to p.1 ∙ opened_to-Parent p.0 in
       let leaf = ap is_leaf_node p.1 ∙ is_leaf-Parent p.0 in
       let inner : both_leaves n n ≡ false = ap (λ (b : Bool). if b then is_leaf_node n else false) leaf in
-      let gone = opened v.intersects o.box_of o.box_of true n n inner (meets-itself (suc h) n w) in
-      omega (arith, gone.opens, ap parents p.1, parents-Parent p.0, ap all_parents same, list-fewer h (node-fewer h) (opened_to n) (subst (AreWhole v o h) (sym same) p.2.1))
+      omega (arith, (opened v.intersects o.box_of o.box_of true n n inner (meets-itself (suc h) n w)).opens, ap parents p.1, parents-Parent p.0, ap all_parents same, list-fewer h (node-fewer h) (opened_to n) (subst (AreWhole v o h) (sym same) p.2.1))
 
   pub root-fewer : (root : ParentNode T E) → IsWhole v o root → own_meet v.intersects o.box_of root ≤ meet_of_roots v.intersects o.box_of o.box_of root root
   root-fewer root whole = by_list (children_of root) refl where

@@ -1,6 +1,7 @@
 -- What holds of each item of a list, at an index and after a write, and of two lists place by place.
-use Rattle.std.proofs.Common.{◌≡◌, ◌∙◌, ℕ, zero, suc, ◌+◌, ◌<◌, ◌≤◌, List, [], ◌∷◌, ◌++◌, length, get_or, set, take, ap, sym, subst, arith, ◌≢◌, refl}
+use Rattle.std.proofs.Common.{◌≡◌, ◌∙◌, ℕ, zero, suc, ◌+◌, ◌<◌, ◌≤◌, List, [], ◌∷◌, ◌++◌, length, get_or, set, take, ap, sym, subst, arith, ◌≢◌, refl, sum_by}
 use Rattle.std.proofs.lemmas.List.{take_more, take_all}
+use Rattle.std.proofs.lemmas.List.Sums.{sum_by-cons}
 use Rattle.std.specs.List.{AllByRecursion, AllZip}
 use Rattle.rstar_base.proofs.Lists.{all-append}
 
@@ -18,6 +19,11 @@ module _ {A : Type 0} (F : A → Type 0) where
 pub some_item : {A : Type 0} (xs : List A) → xs ≢ [] → 0 < length xs
 some_item [] full = absurd (full refl)
 some_item (x ∷ xs) full = omega arith
+
+-- sums of equal numbers
+pub sum_by-same : {A : Type 0} (f g : A → ℕ) (xs : List A) → AllByRecursion (λ x. f x ≡ g x) xs → sum_by f xs ≡ sum_by g xs
+sum_by-same f g [] all = refl
+sum_by-same f g (x ∷ xs) all = omega (arith, all.0, sum_by-same f g xs all.1, sum_by-cons f x xs, sum_by-cons g x xs)
 
 -- what holds of the first items, and of the next, and of all
 pub all_more : {A : Type 0} (P : A → Type 0) (xs : List A) (k : ℕ) (x : A) → k < length xs → x ≡ get_or xs k x → P x → AllByRecursion P (take k xs) → AllByRecursion P (take (k + 1) xs)

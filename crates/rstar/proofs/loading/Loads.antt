@@ -79,8 +79,7 @@ pub cluster_bound : (most axes n k : ℕ) → 0 < most → IsClusterNumber most 
 cluster_bound most axes n k some number = elim (cases_lt 2 k) [
   | inl large ↦
       let is : max k 2 ≡ k = omega arith in
-      let parts = ceil_small n (most ^ number.below) most (positive most number.below some) (omega (arith, number.depth.reaches, pow-suc most number.below)) in
-      rw is (omega (arith, number.root.within, parts))
+      rw is (omega (arith, number.root.within, ceil_small n (most ^ number.below) most (positive most number.below some) (omega (arith, number.depth.reaches, pow-suc most number.below))))
   | inr small ↦ let is : max k 2 ≡ 2 = omega arith in rw is (omega arith)
 ]
 

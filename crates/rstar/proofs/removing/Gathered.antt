@@ -145,12 +145,9 @@ module _ {T E : Type 0} (v : Boxes E) (o : Objects T E) (accepts : E → Bool) (
   module _ (old : List (RTreeNode T E)) (held : List T) (cur : List (RTreeNode T E)) (held' : List T) where
     -- none is left, or there is no room
     pub gathering_ends : (left : ℕ) → Gathering old held cur held' left → (length held' < most → left ≡ 0) → GathersAmong v o accepts selects most old held cur held'
-    gathering_ends left s over = record {
-      moved = s.moved;
-      shorter = s.shorter;
-      kept = s.kept;
-      ended = λ lawful less w h kept. let none = over less in none_each selects cur (λ k d lt. s.passed lawful less w h kept k d (omega (arith, none)) lt);
-    }
+    gathering_ends left s over =
+        let ended = λ (lawful : IsLawful v o accepts selects) (less : length held' < most) (w h : ℕ) (kept : AreKept v o w h old). none_each selects cur (λ k d lt. s.passed lawful less w h kept k d (omega (arith, over less)) lt) in
+        assumption
 
     module _ (left i : ℕ) (s : Gathering old held cur held' left) (next : left ≡ suc i) where
       here_within : i < length cur

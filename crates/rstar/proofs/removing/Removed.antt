@@ -138,15 +138,7 @@ module _ {T E : Type 0} {IsPoint : List ℤ → Type 0} {v : Boxes E} {o : Objec
   -- so it is left as it is
   pub leaves : (tree : RTree T D E P S X) (path : List ℕ) (rest : Option (Rest E)) → IsWholeTree v o max tree → (children_of (root_of tree) ≡ []) ⊎ (accepts (envelope_of (root_of tree)) ≡ false)
       → Removes v o max accepts selects tree path rest None tree path rest
-  leaves tree path rest whole not_entered = record {
-    whole = λ at. whole;
-    rests = λ at. at;
-    taken = refl;
-    selected = tt;
-    kept = refl;
-    past = λ lawful past. past;
-    missed = λ lawful past. root_refused tree whole not_entered lawful;
-  }
+  leaves tree path rest whole not_entered = search (root_refused tree whole not_entered)
 
 -- from the first element on, nothing lies left of the place
 pub none_from_start : {A : Type 0} (Lawful Nothing : Type 0) (r : Option A) → IfNone r (Lawful → Unit {0} → Nothing) → IfNone r (Lawful → Nothing)

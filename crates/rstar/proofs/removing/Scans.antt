@@ -145,19 +145,12 @@ module _ {T E : Type 0} (v : Boxes E) (o : Objects T E) (accepts : E → Bool) (
   pub not_entered : {IsPoint : List ℤ → Type 0} (laws : EnvelopeLaws IsPoint v) (ok : ObjectLaws v o) (p : ParentNode T E) (path : List ℕ) (rest : Option (Rest E))
       → (accepts p.envelope ≡ false) ⊎ NoneSelected selects (all_elements p.children.items)
       → TakesInside v o accepts selects (Parent p) path rest None (Parent p) path rest
-  not_entered laws ok p path rest no_entry = record {
-    taken = refl;
-    selected = tt;
-    whole = λ w h k spot has. k;
-    rests = λ w h k spot. spot;
-    still = λ none. refl;
-    kept = refl;
-    past = λ lawful w h k past. past;
-    missed = λ lawful w h k past. rw (children_parent p) (below_then v o w (NoneSelected selects (all_elements p.children.items)) h p k (λ h' a b. elim no_entry [
-      | inl shut ↦ refused laws ok accepts selects lawful h' p a.tight (whole_of_kept laws ok w h' p.children.items b) shut
-      | inr none ↦ none
-    ]));
-  }
+  not_entered laws ok p path rest no_entry =
+      let missed = λ (lawful : IsLawful v o accepts selects) (w h : ℕ) (k : IsKeptNode v o w h (Parent p)) (past : IsPast selects path (node_children (Parent p))). rw (← children_parent p) at (below_then v o w (NoneSelected selects (all_elements p.children.items)) h p k (λ h' a b. elim no_entry [
+        | inl shut ↦ refused laws ok accepts selects lawful h' p a.tight (whole_of_kept laws ok w h' p.children.items b) shut
+        | inr none ↦ none
+      ])) in
+      assumption
 
   -- below a place that was set back
   module _ {path path' : List ℕ} {rest rest' : Option (Rest E)} (cleared : IsCleared path rest path' rest') where

@@ -106,9 +106,8 @@ module _ {T E : Type 0} where
   pub has_room : (old : IntoIter T E) (rest : List (RTreeNode T E)) (p : ParentNode T E) → old.nodes.items ≡ rest ++ Parent p ∷ [] → HasItsLists (vec_capacity old.path) (lists_of old)
       → vec_len old.path < vec_capacity old.path
   has_room old rest p is its =
-      let room = (goes_below (vec_capacity old.path) (map (λ v. v.items) old.path.items) old.nodes.items rest p is its).0 in
       let same = length-map old.path.items (λ v. v.items) in let counted = old.path.ok.0 in
-      omega (arith, room, same, counted)
+      omega (arith, (goes_below (vec_capacity old.path) (map (λ v. v.items) old.path.items) old.nodes.items rest p is its).0, same, counted)
 
   -- it gives its last node, a leaf
   pub gave : (old : IntoIter T E) (rest : Vec (RTreeNode T E) Global) (t : T) → old.nodes.items ≡ rest.items ++ Leaf t ∷ [] → HasItsLists (vec_capacity old.path) (lists_of old)

@@ -1,12 +1,11 @@
 -- What a search gives comes first in the stated order of what waits; and where a parent that waits is opened before an
 -- element at its distance is given, only the farther parents still wait.
-use Rattle.std.proofs.Common.{◌≡◌, ℕ, ◌-◌, ◌<◌, ◌≤◌, ℤ, min, true, false, Some, None, List, [], ◌∷◌, sum_by, if◌then◌else◌, nat_lt, refl, ap, sym, ◌∙◌, subst, arith, Option, Result, Ok, Err, IfSome, IfOk, inl, inr}
+use Rattle.std.proofs.Common.{◌≡◌, ℕ, ◌-◌, ◌<◌, ◌≤◌, ℤ, min, true, false, Some, None, List, [], ◌∷◌, if◌then◌else◌, nat_lt, ap, sym, ◌∙◌, subst, arith, Option, Result, Ok, Err, IfSome, IfOk, inl, inr}
 use Rattle.std.specs.List.{AllByRecursion}
 use Rattle.std.specs.Ordering.{is_lt}
 use Rattle.std.specs.declared.cmp.Ordering.{Ordering}
 use Rattle.std.proofs.lemmas.Bool.{cases_lt}
 use Rattle.std.proofs.lemmas.Bool.Decides.{nat_tests}
-use Rattle.std.proofs.lemmas.List.Sums.{sum_by-cons}
 use Rattle.rstar_base.specs.Counts.{usize_max}
 use Rattle.rstar_base.specs.Envelopes.{Boxes}
 use Rattle.rstar_base.specs.Elements.{Objects, Distances}
@@ -22,11 +21,12 @@ use Rattle.rstar.specs.Neighbors.{IsNeighbor, shown}
 use Rattle.rstar.specs.Nodes.{far_of, parents_of, elements, parents, far, all_elements, all_parents, all_far, children_of, envelope_of, IsTree, IsInner, IsElement}
 use Rattle.rstar.specs.inside.Searches.{NodeSearch, Item, waiting_at, waiting_of, any_first, parents_first, distance_of, AreWholeNodes, ComesFirst, TiesBy, IsReady, IsReadyAt, IsUnrefused}
 use Rattle.rstar.specs.laws.TieLaws.{parents_ties}
+use Rattle.rstar.proofs.lists.Items.{sum_by-same}
 use Rattle.rstar.proofs.searching.Nearness.{IsMeasured, IsPart, by-tree, above-node, above-Parent}
+use Rattle.rstar.proofs.searching.Searches.{parents-Leaf}
 use Rattle.rstar.proofs.searching.InOrder.{first-by}
 use Rattle.rstar.proofs.selecting.Progress as progress
 use Rattle.rstar.proofs.trees.ByChildren.{leaf_element-Leaf, leaf_element-Parent, parents-Parent, far-Parent, far-Leaf, node_distance-Parent}
-use Rattle.rstar.proofs.searching.Searches.{parents-Leaf}
 
 -- ---- two elements in the stated order
 
@@ -51,10 +51,6 @@ first-if-ok distance all most given (Err z) h = tt
 counted : (a b : ℕ) → a < b → ◌≡◌ {A = ℕ} (if nat_lt a b then 1 else 0) 1
 counted a b less = grind (arith, nat_tests)
 
-same-sums : {X : Type 0} (f g : X → ℕ) (xs : List X) → AllByRecursion (λ x. f x ≡ g x) xs → sum_by f xs ≡ sum_by g xs
-same-sums f g [] h = refl
-same-sums f g (x ∷ xs) h = omega (arith, h.0, same-sums f g xs h.1, sum_by-cons f x xs, sum_by-cons g x xs)
-
 -- ---- what waits after a leaf was given
 
 module _ {T E : Type 0} {IsPoint : List ℤ → Type 0} {v : Boxes E} {o : Objects T E} {d : Distances T} {p : List ℤ} (law : IsMeasured IsPoint v o d p) where
@@ -74,7 +70,7 @@ module _ {T E : Type 0} {IsPoint : List ℤ → Type 0} {v : Boxes E} {o : Objec
       (λ h q inner each whole less.
       let over : m < dist law (envelope_of q) = omega (arith, less, node_distance-Parent (dist law) (near law) q) in
       let below = all_both (λ c. dist law (envelope_of q) ≤ at law c) (λ c. IsTree (IsInner v o) (IsElement v o) h c × (m < at law c → far (dist law) m c ≡ parents c)) (λ c. far (dist law) m c ≡ parents c) (λ c le own. own.1 (omega (arith, over, le))) (children_of q) (above-Parent law q h inner.0 whole) each in
-      omega (arith, same-sums (far (dist law) m) parents (children_of q) below, counted m (dist law (envelope_of q)) over, far-Parent (dist law) m q, parents-Parent q))
+      omega (arith, sum_by-same (far (dist law) m) parents (children_of q) below, counted m (dist law (envelope_of q)) over, far-Parent (dist law) m q, parents-Parent q))
 
   -- nothing that waits comes before what is given
   module _ (ties : RTreeNode T E → RTreeNode T E → Ordering) (order : T → T → Ordering) (by : TiesBy ties order) (t : T) where
@@ -106,7 +102,7 @@ module _ {T E : Type 0} {IsPoint : List ℤ → Type 0} {v : Boxes E} {o : Objec
 
     -- all parents that wait are farther
     pub parents-far : (ns : List (RTreeNode T E)) → AreWholeNodes v o ns → ComesFirst v d p (parents_first order) ns t → all_far (dist law) (near law t) ns ≡ all_parents ns
-    parents-far ns w h = same-sums (far (dist law) (near law t)) parents ns (all_both (λ n. (h : ℕ) × IsTree (IsInner v o) (IsElement v o) h n) IsBehind (λ n. far (dist law) (near law t) n ≡ parents n) (λ n part behind. node-far part.0 n part.1 behind) ns w h)
+    parents-far ns w h = sum_by-same (far (dist law) (near law t)) parents ns (all_both (λ n. (h : ℕ) × IsTree (IsInner v o) (IsElement v o) h n) IsBehind (λ n. far (dist law) (near law t) n ≡ parents n) (λ n part behind. node-far part.0 n part.1 behind) ns w h)
 
 -- ---- what a call gives
 

@@ -123,8 +123,7 @@ kept-all compare P most x old new (inr (inr out)) h k = rw out.is k
 kept-length : {X : Type 0} (compare : X → X → Ordering) (most : ℕ) (x : X) (old new : List X) → KeepsGreatest compare most x old new → most ≤ length old → length new ≡ length old
 kept-length compare most x old new (inl in') full = absurd (omega (arith, in'.room, full))
 kept-length compare most x old new (inr (inl out)) full =
-    let put = length_permutation (x ∷ out.front) (insert out.front out.place x) (IsPermutation-insert out.front out.place x) in
-    omega (arith, put, ap length out.is, ap length out.was, length-append out.front (out.last ∷ []))
+    omega (arith, length_permutation (x ∷ out.front) (insert out.front out.place x) (IsPermutation-insert out.front out.place x), ap length out.is, ap length out.was, length-append out.front (out.last ∷ []))
 kept-length compare most x old new (inr (inr out)) full = ap length out.is
 
 -- ---- items that were found, in the order of their elements
@@ -143,8 +142,7 @@ module _ {T S O : Type 0} (value : S → ℤ) (compare : S → S → Ordering) (
 
   came-in : (w : Found T S O) (us new : List (Found T S O)) (place : ℕ) → new ≡ insert us place w → AllByRecursion (λ u. value w.distance <ℤ value u.distance) new → ⊥
   came-in w us new place is far =
-      let less = (all_along _ _ (w ∷ us) (IsPermutation-sym _ _ (IsPermutation-insert us place w)) (rw is at far)).0 in
-      absurd (omega (arith, ints, less))
+      absurd (omega (arith, ints, (all_along _ _ (w ∷ us) (IsPermutation-sym _ _ (IsPermutation-insert us place w)) (rw is at far)).0))
 
   -- where one place is for the greatest, what is kept is no farther than what came
   pub one-within : (w : Found T S O) (old : Option (Found T S O)) (new : List (Found T S O)) → KeepsGreatest top 1 w (option_to_list old) new → AllByRecursion (λ u. value w.distance <ℤ value u.distance) new → ⊥
@@ -152,9 +150,7 @@ module _ {T S O : Type 0} (value : S → ℤ) (compare : S → S → Ordering) (
   one-within w old new (inr (inl out)) far = came-in w out.front new out.place out.is far
   one-within w None new (inr (inr out)) far = let full = out.full in absurd (omega (arith, full))
   one-within w (Some u) new (inr (inr out)) far =
-      let near = no-farther value compare ties order u w (out.not_less [] u refl) in
-      let less = (subst (AllByRecursion (λ x. value w.distance <ℤ value x.distance)) out.is far).0 in
-      absurd (omega (arith, ints, near, less))
+      absurd (omega (arith, ints, no-farther value compare ties order u w (out.not_less [] u refl), (subst (AllByRecursion (λ x. value w.distance <ℤ value x.distance)) out.is far).0))
 
   module _ (distance : T → ℕ) where
     abbrev IsAt : Found T S O → Type 0

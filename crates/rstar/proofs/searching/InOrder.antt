@@ -107,9 +107,7 @@ module _ {I A Z : Type 0} (steps : I → Option (Result A Z) → I → Type 0) w
   run-taken [] s t run = let same = ap take_count run in (ap take_source run, omega (arith, same))
   run-taken (y ∷ ys) s t run =
       let rest = run-taken ys run.0 t run.2 in
-      let one = run.1.1 in
-      let others = rest.1 in
-      ((take_source run.0, run.1.0, rest.0), omega (arith, one, others))
+      ((take_source run.0, run.1.0, rest.0), omega (arith, run.1.1, rest.1))
 
 module _ {I T E P A Z : Type 0} (v : Boxes E) (d : Distances T) (axes : ℕ) (coord : P → ℕ → ℤ) (element : A → T) (shown : I → Search T E P)
     (steps : I → Option (Result A Z) → I → Type 0) (tell : (s : I) (r : Option (Result A Z)) (t : I) → steps s r t → GivesNeighbor v d axes coord element (shown s) r (shown t))

@@ -40,26 +40,19 @@ module _ {A E : Type 0} {IsPoint : List ℤ → Type 0} {v : Boxes E} (laws : En
     hull_above near (a ∷ b ∷ bs) h =
         let rest = hull-value laws box (b ∷ bs) (values (b ∷ bs) h.1) in
         let first = laws.merge_distance (box a) (hull v box (b ∷ bs)) p is (value a h.0) rest (full a h.0) in
-        let own = near a h.0 in
         let second = laws.merge_distance (hull v box (b ∷ bs)) (box a) p is rest (value a h.0) (hull_full b bs h.1) in
         let swapped = subst (λ e. v.distance_2 e p ≤ v.distance_2 (hull v box (b ∷ bs)) p) (laws.merge_comm (hull v box (b ∷ bs)) (box a) rest (value a h.0)) second in
-        (omega (arith, first, own), lower f _ _ (b ∷ bs) swapped (hull_above near (b ∷ bs) h.1))
+        (omega (arith, first, near a h.0), lower f _ _ (b ∷ bs) swapped (hull_above near (b ∷ bs) h.1))
 
     -- not all of some are farther than a limit that is at least their merge's min-max distance
     hull_within : ((a : A) → Q a → f a ≤ v.min_max_dist_2 (box a) p) → (xs : List A) → xs ≢ [] → AllByRecursion Q xs → (m : ℕ) → v.min_max_dist_2 (hull v box xs) p ≤ m → AllByRecursion (λ a. m < f a) xs → ⊥
     hull_within within [] some h m le far = some refl
     hull_within within (a ∷ []) some h m le far =
-        let one = ap (λ e. v.min_max_dist_2 e p) (hull-single laws box a (value a h.0)) in
-        let own = within a h.0 in
-        let more = far.0 in
-        absurd (omega arith)
+        absurd (omega (arith, ap (λ e. v.min_max_dist_2 e p) (hull-single laws box a (value a h.0)), within a h.0, far.0))
     hull_within within (a ∷ b ∷ bs) some h m le far =
         let rest = hull-value laws box (b ∷ bs) (values (b ∷ bs) h.1) in
-        let both = laws.merge_min_max (box a) (hull v box (b ∷ bs)) p is (value a h.0) rest (full a h.0) (hull_full b bs h.1) in
-        let own = within a h.0 in
-        let more = far.0 in
         elim (cases_lt m (v.min_max_dist_2 (hull v box (b ∷ bs)) p)) [
-          | inl beyond ↦ absurd (omega arith)
+          | inl beyond ↦ absurd (omega (arith, laws.merge_min_max (box a) (hull v box (b ∷ bs)) p is (value a h.0) rest (full a h.0) (hull_full b bs h.1), within a h.0, far.0))
           | inr near ↦ hull_within within (b ∷ bs) (λ e. cc) h.1 m near far.1
         ]
 

@@ -1,12 +1,13 @@
 -- Two lists of the same elements in one order are one list, up to elements that compare equal; and so are two lists of
 -- the first k.
-use Rattle.std.proofs.Common.{◌≡◌, ℕ, ◌+◌, ◌<◌, ◌≤◌, Bool, true, false, Less, Equal, Greater, List, [], ◌∷◌, ◌++◌, length, sum_by, Result, Ok, Err, IfOk, if◌then◌else◌, refl, ap, sym, ◌∙◌, arith, append-nil}
+use Rattle.std.proofs.Common.{◌≡◌, inl, inr, ℕ, ◌+◌, ◌<◌, ◌≤◌, true, false, Less, Equal, Greater, List, [], ◌∷◌, ◌++◌, length, sum_by, Result, Ok, Err, IfOk, if◌then◌else◌, refl, ap, sym, ◌∙◌, arith, append-nil}
 use Rattle.std.proofs.HeapSift as sifts
 use Rattle.std.specs.Cmp.{IsTotalOrder}
 use Rattle.std.specs.List.{AllByRecursion}
 use Rattle.std.specs.List.Sorted.{IsPermutation}
 use Rattle.std.specs.Ordering.{is_lt, ordering_reverse}
 use Rattle.std.specs.declared.cmp.Ordering.{Ordering}
+use Rattle.std.proofs.lemmas.Bool.{cases_Bool}
 use Rattle.std.proofs.lemmas.Cmp.{tied_itself, alike_right}
 use Rattle.std.proofs.lemmas.List.{length-append}
 use Rattle.std.proofs.lemmas.List.Elements.{recursion_from_All}
@@ -30,26 +31,16 @@ module _ {T : Type 0} (order : T → T → Ordering) (total : IsTotalOrder order
   none-reached : (z x : T) (us : List T) → order z x ≡ Less → AllByRecursion (before x) us → sum_by (reach z) us ≡ 0
   none-reached z x [] less h = refl
   none-reached z x (u ∷ us) less h =
-      let one : reach z u ≡ 0 = go (is_lt (order z u)) refl in
-      let rest = none-reached z x us less h.1 in
-      let all = sum_by-cons (reach z) u us in
-      omega (arith, one, rest, all)
-    where
       -- z comes before x, and x may stand before u
-      go : (b : Bool) → is_lt (order z u) ≡ b → ◌≡◌ {A = ℕ} (if b then 0 else 1) 0
-      go true e = refl
-      go false e = let no : true ≡ false = sym (ap is_lt less) ∙ (sifts.ranks total).chain z u x e h.0 in cc
+      let one : reach z u ≡ 0 = elim (cases_Bool (is_lt (order z u))) [ inl e ↦ rw e | inr e ↦ let no : true ≡ false = sym (ap is_lt less) ∙ (sifts.ranks total).chain z u x e h.0 in cc ] in
+      omega (arith, one, none-reached z x us less h.1, sum_by-cons (reach z) u us)
 
   -- no head comes before the other
   not-before : (x y : T) (xs ys : List T) → ((z : T) → sum_by (reach z) (x ∷ xs) ≡ sum_by (reach z) (y ∷ ys)) → AllByRecursion (before y) ys → order x y ≡ Less → ⊥
   not-before x y xs ys same h less =
       let one : reach x y ≡ 0 = ap (λ r. if is_lt r then 0 else 1) less in
       let own : reach x x ≡ 1 = ap (λ r. if is_lt r then 0 else 1) (tied_itself total x) in
-      let rest = none-reached x y ys less h in
-      let all = sum_by-cons (reach x) y ys in
-      let some = sum_by-cons (reach x) x xs in
-      let both = same x in
-      omega (arith, one, own, rest, all, some, both)
+      omega (arith, one, own, none-reached x y ys less h, sum_by-cons (reach x) y ys, sum_by-cons (reach x) x xs, same x)
 
   heads : (x y : T) (xs ys : List T) → ((z : T) → sum_by (reach z) (x ∷ xs) ≡ sum_by (reach z) (y ∷ ys)) → AllByRecursion (before x) xs → AllByRecursion (before y) ys → order x y ≡ Equal
   heads x y xs ys same h k = go (order x y) refl
@@ -68,11 +59,8 @@ module _ {T : Type 0} (order : T → T → Ordering) (total : IsTotalOrder order
   alike (x ∷ xs) (y ∷ ys) ls ms long same h k f g =
       let equal = heads x y (xs ++ ls) (ys ++ ms) same (all-append (before x) xs ls h.0 f.0) (all-append (before y) ys ms k.0 g.0) in
       let tails : (z : T) → sum_by (reach z) (xs ++ ls) ≡ sum_by (reach z) (ys ++ ms) = λ z.
-      let a = sum_by-cons (reach z) x (xs ++ ls) in
-      let b = sum_by-cons (reach z) y (ys ++ ms) in
       let own : reach z x ≡ reach z y = ap (λ r. if is_lt r then 0 else 1) (alike_right total x y z equal) in
-      let all = same z in
-      omega (arith, a, b, own, all) in
+      omega (arith, sum_by-cons (reach z) x (xs ++ ls), sum_by-cons (reach z) y (ys ++ ms), own, same z) in
       (equal, alike xs ys ls ms (omega (arith, long)) tails h.1 k.1 f.1 g.1)
 
   pub only_first : (all : List T) (k : ℕ) (ts us : List T) → AreFirstOf before all k ts → AreFirstOf before all k us → AreAlike order ts us

@@ -6,7 +6,7 @@ use mir.Syntax.{Ty, ty_int, ty_bool, ty_float, ty_ptr, ty_ref, ty_array, ty_unit
 use Rattle.rstar_base.specs.Sizes.{room, room_of_fields, room_of_variants}
 
 up-le : (k e : ℕ) → up k e ≤ e + k
-up-le k e = let less = mod-le (k - e % k) k in omega arith
+up-le k e = omega (arith, mod-le (k - e % k) k)
 
 mutual
   pub within : (τ : Ty) → size τ + align τ ≤ room τ
@@ -15,21 +15,10 @@ mutual
   within (ty_float f) = omega arith
   within ty_ptr = omega arith
   within (ty_ref κ μ τ) = omega arith
-  within (ty_array τ n) =
-      let one = within τ in
-      let all = mul-le-mul_left n one in
-      omega arith
+  within (ty_array τ n) = omega (arith, within τ, mul-le-mul_left n (within τ))
   within ty_unit = omega arith
-  within (ty_struct ν τs) =
-      let widest = aligns-le τs in
-      let last = end-le 0 τs in
-      let end = up-le (aligns τs) (end_of 0 τs) in
-      omega arith
-  within (ty_enum ν τss) =
-      let widest = alignss-le τss in
-      let last = endss-le τss in
-      let end = up-le (alignss τss) (endss τss) in
-      omega arith
+  within (ty_struct ν τs) = omega (arith, aligns-le τs, end-le 0 τs, up-le (aligns τs) (end_of 0 τs))
+  within (ty_enum ν τss) = omega (arith, alignss-le τss, endss-le τss, up-le (alignss τss) (endss τss))
   within (ty_param ι) = omega arith
   within (ty_const ι) = omega arith
   within (ty_array_p υ ι) = omega arith
@@ -37,33 +26,20 @@ mutual
 
   aligns-le : (τs : Tys) → aligns τs ≤ 1 + room_of_fields τs
   aligns-le tnil = omega arith
-  aligns-le (tcons τ τs) =
-      let one = within τ in
-      let rest = aligns-le τs in
-      omega arith
+  aligns-le (tcons τ τs) = omega (arith, within τ, aligns-le τs)
 
   alignss-le : (τss : Tyss) → alignss τss ≤ 1 + room_of_variants τss
   alignss-le ttnil = omega arith
-  alignss-le (ttcons τs τss) =
-      let one = aligns-le τs in
-      let rest = alignss-le τss in
-      omega arith
+  alignss-le (ttcons τs τss) = omega (arith, aligns-le τs, alignss-le τss)
 
   end-le : (e : ℕ) (τs : Tys) → end_of e τs ≤ e + room_of_fields τs
   end-le e tnil = omega arith
-  end-le e (tcons τ τs) =
-      let one = within τ in
-      let start = up-le (align τ) e in
-      let rest = end-le (up (align τ) e + size τ) τs in
-      omega arith
+  end-le e (tcons τ τs) = omega (arith, within τ, up-le (align τ) e, end-le (up (align τ) e + size τ) τs)
 
   endss-le : (τss : Tyss) → endss τss ≤ 1 + room_of_variants τss
   endss-le ttnil = omega arith
-  endss-le (ttcons τs τss) =
-      let one = end-le 1 τs in
-      let rest = endss-le τss in
-      omega arith
+  endss-le (ttcons τs τss) = omega (arith, end-le 1 τs, endss-le τss)
 
 -- a type whose room is small fits in memory
 pub fits : (τ : Ty) → room τ < 2 ^ 63 → size τ < 2 ^ 63
-fits τ h = let le = within τ in omega arith
+fits τ h = omega (arith, within τ)

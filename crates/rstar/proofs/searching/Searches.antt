@@ -1,5 +1,5 @@
 -- What the steps of a search keep.
-use Rattle.std.proofs.Common.{Less, Equal, Greater, ◌≡◌, ℕ, ◌+◌, ◌≤◌, ◌≤ℤ◌, min, ℤ, pos, Bool, true, false, List, [], ◌∷◌, ◌++◌, sum_by, refl, ap, sym, ◌∙◌, arith, if◌then◌else◌, nat_lt, append_assoc}
+use Rattle.std.proofs.Common.{Equal, ◌≡◌, ℕ, ◌+◌, ◌≤◌, ◌≤ℤ◌, min, ℤ, pos, Bool, false, List, [], ◌∷◌, ◌++◌, sum_by, refl, ap, sym, ◌∙◌, arith, if◌then◌else◌, nat_lt, append_assoc}
 use Rattle.std.specs.Borrow.{Bor}
 use Rattle.std.specs.List.{AllByRecursion}
 use Rattle.std.specs.List.Sorted.{IsPermutation}
@@ -31,9 +31,7 @@ not-less : (a b : ℤ) → is_lt (int_cmp a b) ≡ false → b ≤ℤ a
 not-less a b h = grind (arith, ints)
 
 then-first : (a b : Ordering) → is_lt (ordering_then a b) ≡ false → is_lt a ≡ false
-then-first Less b e = cc
-then-first Equal b e = refl
-then-first Greater b e = refl
+then-first a b e = grind arith
 
 -- what is not less is no farther
 pub no-farther : {N S O : Type 0} (value : S → ℤ) (compare : S → S → Ordering) (ties : N → N → Ordering) (order : (a b : S) → compare a b ≡ int_cmp (value a) (value b)) (w u : Waiting (Bor N) S O)
@@ -69,8 +67,7 @@ not-counted : (a b : ℕ) → b ≤ a → ◌≡◌ {A = ℕ} (if nat_lt a b the
 not-counted a b h = grind (arith, nat_tests)
 
 one-more : (b : Bool) (x y : ℕ) → x ≤ y → (if b then 1 else 0) + x ≤ 1 + y
-one-more true x y le = omega (arith, le)
-one-more false x y le = omega (arith, le)
+one-more b x y le = grind arith
 
 -- of the parents, those that are farther than some distance are no more than all
 module _ {T E : Type 0} (dist : E → ℕ) (m : ℕ) where

@@ -25,11 +25,8 @@ use Rattle.rstar.proofs.trees.ByChildren.{elements-Leaf, elements-Parent, node_d
 module _ {X : Type 0} (p : X → Bool) where
   filter-flat : (xs : List X) → filter p xs ≡ flat_map (λ x. if p x then x ∷ [] else []) xs
   filter-flat [] = refl
-  filter-flat (x ∷ xs) = picked (p x) (filter-flat xs)
-    where
-      picked : (b : Bool) {ys zs : List X} → ys ≡ zs → (if b then x ∷ ys else ys) ≡ (if b then x ∷ [] else []) ++ zs
-      picked true e = ap (λ l. x ∷ l) e
-      picked false e = e
+  filter-flat (x ∷ xs) =
+      elim (p x) as (λ b. (if b then x ∷ filter p xs else filter p xs) ≡ (if b then x ∷ [] else []) ++ flat_map (λ x. if p x then x ∷ [] else []) xs) [ true ↦ ap (λ l. x ∷ l) (filter-flat xs) | false ↦ filter-flat xs ]
 
   -- a filter of a reordered list
   pub filter-along : (xs ys : List X) → IsPermutation xs ys → IsPermutation (filter p xs) (filter p ys)

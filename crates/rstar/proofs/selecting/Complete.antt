@@ -109,8 +109,4 @@ module _ {T E : Type 0} (accepts : E → Bool) (selects : T → Bool) (root : Pa
   -- a root without children, or one that is refused
   pub gives_none : (children_of root ≡ []) ⊎ (accepts (envelope_of root) ≡ false) → given_of accepts selects root ≡ []
   gives_none (inr refused) = rw refused
-  gives_none (inl none) = either (accepts (envelope_of root)) refl
-    where
-      either : (b : Bool) → accepts (envelope_of root) ≡ b → given_of accepts selects root ≡ []
-      either true is = gives_below is ∙ ap (all_given accepts selects) none
-      either false is = rw is
+  gives_none (inl none) = elim (accepts (envelope_of root)) as (λ b. (if b then all_given accepts selects (children_of root) else []) ≡ []) [ true ↦ ap (all_given accepts selects) none | false ↦ refl ]

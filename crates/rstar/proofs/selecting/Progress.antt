@@ -1,5 +1,5 @@
 -- Each call that gives something leaves fewer.
-use Rattle.std.proofs.Common.{◌≡◌, ℕ, ℤ, ◌+◌, ◌-◌, ◌<◌, ◌≤◌, min, List, [], ◌∷◌, length, refl, ap, sym, ◌∙◌, subst, arith, Option, Some, None, Result, Ok, Err, IfSome, IfNone, IfOk, IfErr, OnSome, OnErr}
+use Rattle.std.proofs.Common.{◌≡◌, ℕ, ℤ, ◌+◌, ◌-◌, ◌<◌, ◌≤◌, List, [], ◌∷◌, length, refl, ap, sym, ◌∙◌, subst, arith, Option, Some, None, Result, Ok, Err, IfSome, IfNone, IfOk, IfErr, OnSome, OnErr}
 use Rattle.std.specs.Borrow.{Bor}
 use Rattle.std.specs.Iterator.{Count, IsFinite, MakesProgress, size}
 use Rattle.std.specs.declared.alloc.AllocError.{AllocError}
@@ -15,7 +15,6 @@ use Rattle.rstar.specs.declared.node.ParentNode.{ParentNode}
 use Rattle.rstar.specs.declared.algorithm.nearest_neighbor.search.Stage.{Stage}
 use Rattle.rstar.specs.declared.algorithm.nearest_neighbor.search.Stage.TheVariants.{Fresh, Running, Ended}
 use Rattle.rstar.specs.Nodes.{all_elements, all_parents, all_far, far_of, parents_of}
-use Rattle.rstar_base.specs.Counts.{usize_max}
 use Rattle.rstar_base.specs.Points.{table}
 use Rattle.rstar.specs.Neighbors.{IsNeighbor, GivesNeighbor, shown}
 use Rattle.rstar.specs.inside.Searches.{NodeSearch, Item, waiting_nodes, waiting_at, calls_at, waiting_of, held_by, calls_left, IsUnrefused, CountsOpenings, IsRunning, IsReady, IsReadyAt}
@@ -34,17 +33,11 @@ module _ {T E S O : Type 0} where
   module _ (v : Boxes E) (d : Distances T) (p : List ℤ) (s t : NodeSearch T E S O) where
     -- a neighbour more
     pub given-fewer : (x : T) → IsNeighbor v d p s.root.now (waiting_of s) (waiting_of t) x → t.stage ≡ Running → IsUnrefused s.stage → size (calls_left t) < size (calls_left s)
-    given-fewer x gives on going =
-        let before = many s going in let after = many t (subst IsUnrefused (sym on) tt) in
-        let fewer = length_permutation _ _ gives.bag in
-        omega arith
+    given-fewer x gives on going = omega (arith, many s going, many t (subst IsUnrefused (sym on) tt), length_permutation _ _ gives.bag)
 
     -- a refusal
     pub refused-fewer : t.stage ≡ Ended → IsUnrefused s.stage → size (calls_left t) < size (calls_left s)
-    refused-fewer ended going =
-        let before = many s going in
-        let after : size (calls_left t) ≡ 0 = ap (λ stage. calls_at stage t.root.now (held_by t)) ended in
-        omega (arith, before, after)
+    refused-fewer ended going = omega (arith, many s going, ap (λ stage. calls_at stage t.root.now (held_by t)) ended)
 
 -- until a refusal, the parents opened are those that do not wait
 counted-at : {T E S O : Type 0} (v : Boxes E) (d : Distances T) (p : List ℤ) (compare : S → S → Ordering) (ties : RTreeNode T E → RTreeNode T E → Ordering) (value : S → ℤ) (o : Objects T E) (stage : Stage) (root : ParentNode T E) (heap : Held (Item T E S O)) (opened : ℕ)
@@ -66,13 +59,11 @@ module _ {T E S O : Type 0} (v : Boxes E) (d : Distances T) (p : List ℤ) (comp
   pub given-cost : (x : T) → IsNeighbor v d p s.root.now (waiting_of s) (waiting_of t) x → t.stage ≡ Running
       → t.opened + far_of (λ e. v.distance_2 e p) (d.distance_2 x p) t.root.now ≤ parents_of t.root.now
   given-cost x gives on =
-      let m = d.distance_2 x p in let is = running on in
+      let m = d.distance_2 x p in let counts = (running on).counted in
       let waits : waiting_of t ≡ waiting_nodes (held_by t) = ap (λ stage. waiting_at stage t.root.now (held_by t)) on in
       let still : all_far (λ e. v.distance_2 e p) m (waiting_nodes (held_by t)) ≡ far_of (λ e. v.distance_2 e p) m t.root.now =
       ap (all_far (λ e. v.distance_2 e p) m) (sym waits) ∙ gives.still_far ∙ ap (far_of (λ e. v.distance_2 e p) m) (sym same) in
-      let few = all-far-fewer (λ e. v.distance_2 e p) m (waiting_nodes (held_by t)) in let fewer = is.counted.fewer in
-      let counts = is.counted.counts in
-      omega (arith, still, few, fewer, counts)
+      omega (arith, still, all-far-fewer (λ e. v.distance_2 e p) m (waiting_nodes (held_by t)), counts.fewer, counts.counts)
 
   pub cost : {A Z : Type 0} (element : A → T) (r : Option (Result A Z)) → IfSome r (λ x. IfOk x (λ y. IsNeighbor v d p s.root.now (waiting_of s) (waiting_of t) (element y)))
       → IfSome r (λ x. IfOk x (λ _. t.stage ≡ Running)) → IfSome r (λ x. IfOk x (λ y. t.opened + far_of (λ e. v.distance_2 e p) (d.distance_2 (element y) p) t.root.now ≤ parents_of t.root.now))
@@ -100,23 +91,15 @@ module _ {T E P S O A Z : Type 0} (v : Boxes E) (d : Distances T) (axes : ℕ) (
       → ((IsUnrefused s.stage → ⊥) → IsUnrefused t.stage → ⊥) → GivesNeighbor v d axes coord element (shown s point) r (shown t point)
   gives-neighbor same ready gives none over stays refused on last once ended =
       let root : t.root.now ≡ s.root.now = ap (λ b. b.now) same in
-      let count = counted v d (table axes (coord point)) compare ties value o t ready in
-      record {
-        root = root;
-        point = refl;
-        gives = gives;
-        cost = cost v d (table axes (coord point)) compare ties value o s t ready root element r gives on;
-        none = none;
-        over = over;
-        goes_on_at_end = goes_on_at_end s.stage t.stage r stays;
-        refused = refused;
-        goes_on = IfSome_then r on (λ x is. IfOk-weaker x _ _ (λ y on. subst IsUnrefused (sym on) tt) is);
-        ends = IfSome_then r last (λ x is. IfErr-weaker x _ _ (λ z ended going. subst IsUnrefused ended going) is);
-        once = once;
-        stays_ended = ended;
-        opened = λ going. subst (λ (q : ParentNode T E). t.opened ≡ min (parents_of q - all_parents (waiting_of t)) usize_max) root (count going).counts;
-        fewer = λ going. subst (λ (q : ParentNode T E). all_parents (waiting_of t) ≤ parents_of q) root (count going).fewer;
-      }
+      let count = λ (going : IsUnrefused t.stage). subst (λ (q : ParentNode T E). CountsOpenings q (waiting_of t) t.opened) root (counted v d (table axes (coord point)) compare ties value o t ready going) in
+      let goes_on : IfSome r (λ x. IfOk x (λ _. IsUnrefused t.stage)) = IfSome_then r on (λ x is. IfOk-weaker x _ _ (λ y on. subst IsUnrefused (sym on) tt) is) in
+      let ends : IfSome r (λ x. IfErr x (λ _. IsUnrefused t.stage → ⊥)) = IfSome_then r last (λ x is. IfErr-weaker x _ _ (λ z ended going. subst IsUnrefused ended going) is) in
+      assumption (
+        cost v d (table axes (coord point)) compare ties value o s t ready root element r gives on,
+        goes_on_at_end s.stage t.stage r stays,
+        λ (going : IsUnrefused t.stage). (count going).counts,
+        λ (going : IsUnrefused t.stage). (count going).fewer,
+      )
 
 pub goes-on : {I A : Type 0} {can : I → Type 0} {left : I → Count} {old new : I} (r : Option A) → can new → IsFinite (left new) → OnSome r (size (left new) < size (left old)) → MakesProgress can left old r new
 goes-on None ready finite fewer = record { on = λ _. tt; keeps = tt; rests = λ _. finite }

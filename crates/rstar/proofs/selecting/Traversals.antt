@@ -29,8 +29,7 @@ module _ {T E : Type 0} where
   levels-left : (h : ℕ) (path : Slices T E) (nodes rest : Bor (List (RTreeNode T E))) (p : ParentNode T E)
       → nodes.now ≡ Parent p ∷ rest.now → AreSlices h (path ++ nodes ∷ []) → length path + 2 ≤ h
   levels-left h [] nodes rest p first is =
-      let level = level-Parent is.0 p (subst (AllByRecursion (IsLevel is.0)) first is.2).0 in
-      omega (arith, is.1, level.1)
+      omega (arith, is.1, (level-Parent is.0 p (subst (AllByRecursion (IsLevel is.0)) first is.2).0).1)
   levels-left h (m ∷ path) nodes rest p first is = omega (arith, is.1, levels-left is.0 path nodes rest p first is.3)
 
   pub room-opened : (accepts : E → Bool) (root : ParentNode T E) (path : Slices T E) (nodes rest : Bor (List (RTreeNode T E))) (p : ParentNode T E) {room opened : ℕ}

@@ -92,6 +92,9 @@ pub parent_read : (h : ℕ) (bytes : List ℕ) (p : ParentNode Place Box) (rest 
 unfolding node_at
 parent_read h bytes p rest some e = let up : h ≡ suc (h - 1) = omega (arith, some) in rw (up, e, shown-Parent p) refl
 
+pub some_eqb : (n : ℕ) → 0 < n → eqb n 0 ≡ false
+some_eqb n some = ne_eqb n 0 (λ none. omega (arith, none, some))
+
 -- the answer for a parent whose parts were read, by nodes that show its children
 pub parent_shown : (child : List ℕ → Read Tree) (bytes r0 r1 r2 rest : List ℕ) (count : ℕ) (lower upper : Place) (ns : List (RTreeNode Place Box)) (merged : Box) (b : Bool) → number_at bytes ≡ Ok (count, r0) → 0 < count → 32 + 16 * count ≤ length r0
     → point_at r0 ≡ Ok (lower, r1) → point_at r1 ≡ Ok (upper, r2) → each_at child count r2 ≡ Ok (map shown ns, rest)
@@ -99,10 +102,9 @@ pub parent_shown : (child : List ℕ → Read Tree) (bytes r0 r1 r2 rest : List 
     → parent_at child bytes ≡ (if b then Ok (parent merged (row_of (map shown ns)), rest) else Err BadBox)
 unfolding parent_at children_at
 parent_shown child bytes r0 r1 r2 rest count lower upper ns merged b e0 some long e1 e2 e3 is test =
-    let full : eqb count 0 ≡ false = ne_eqb count 0 (λ none. omega (arith, none, some)) in
     let room : ltb (length r0) (32 + 16 * count) ≡ false = le-ltb _ _ long in
     let same : merge_of (map shown ns) ≡ merged = merge_same boxes places.box_of ns ∙ sym is in
-    rw (e0, full, room, e1, e2, e3, same, test) refl
+    rw (e0, some_eqb count some, room, e1, e2, e3, same, test) refl
 
 -- ---- the children of a parent one after another, as a loop reads them
 
@@ -232,15 +234,10 @@ unfolding each_at
 each_again h one [] rest all = (refl, omega arith)
 each_again h one (n ∷ ns) rest all =
     let first = one n (joined (map spelling ns) ++ rest) all.0 in
-    let others = each_again h one ns rest all.1 in
-    let a = first.1 in
-    let b = others.1 in (
+    let others = each_again h one ns rest all.1 in (
       ap (each_at (node_at h) (suc (length ns))) (append_assoc (spelling n) (joined (map spelling ns)) rest) ∙ rw (first.0, others.0) refl,
-      omega (arith, a, b, length-append (spelling n) (joined (map spelling ns))),
+      omega (arith, first.1, others.1, length-append (spelling n) (joined (map spelling ns))),
     )
-
-pub some_eqb : (n : ℕ) → 0 < n → eqb n 0 ≡ false
-some_eqb n some = ne_eqb n 0 (λ none. omega (arith, none, some))
 
 -- behind the child count and the corners of a parent
 pub begun : (h count : ℕ) (l u : Place) (text rest : List ℕ) → 0 < count → count < 2 ^ 64 → IsPoint low high 2 l → IsPoint low high 2 u → 16 * count ≤ length (text ++ rest)

@@ -159,8 +159,7 @@ pub record AreWritten (p : ParentNode Place Box) (k : ℕ) (start out : Vec ℕ 
 module _ (ns : List (RTreeNode Place Box)) {items : List (RTreeNode Place Box)} {k : ℕ} {n : RTreeNode Place Box} (same : items ≡ ns) (below : k < length items) (is : n ≡ get_or items k n) where
   sum_more : sum_by size_of (take (k + 1) ns) ≡ sum_by size_of (take k ns) + size_of n
   sum_more =
-      let all = ap (sum_by size_of) (next_item ns items k n same below is) in
-      omega (arith, all, sum_by-append size_of (take k ns) (n ∷ []))
+      omega (arith, ap (sum_by size_of) (next_item ns items k n same below is), sum_by-append size_of (take k ns) (n ∷ []))
 
   -- the sizes so far, and one more
   pub size_more : (size one new : ℕ) → size ≡ min (40 + sum_by size_of (take k ns)) (2 ^ 64 - 1) → one ≡ min (size_of n) (2 ^ 64 - 1) → new ≡ min (size + one) (2 ^ 64 - 1) → new ≡ min (40 + sum_by size_of (take (k + 1) ns)) (2 ^ 64 - 1)

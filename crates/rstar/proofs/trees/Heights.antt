@@ -26,9 +26,7 @@ module _ {T E : Type 0} where
       ap levels l.1 ∙ levels-Leaf T E l.0
   levels_are Q R some (suc h) (n ∷ rest) full trees =
       let p = is_parent _ n trees.0 in
-      let below = levels_are Q R some h p.0.children.items (some p.0 p.2.0) p.2.1 in
-      let whole = ap levels p.1 ∙ levels-Parent p.0 in
-      omega (arith, below, whole)
+      omega (arith, levels_are Q R some h p.0.children.items (some p.0 p.2.0) p.2.1, ap levels p.1 ∙ levels-Parent p.0)
 
   -- so they lie by the levels that the first of them shows
   pub at_levels : (Q : ParentNode T E → Type 0) (R : T → Type 0) (some : (p : ParentNode T E) → Q p → p.children.items ≢ []) (h n : ℕ) (ns : List (RTreeNode T E))

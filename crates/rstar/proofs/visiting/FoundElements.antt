@@ -2,7 +2,7 @@
 use Rattle.std.proofs.Common.{◌≡◌, ℕ, zero, suc, ◌<◌, nat_lt, Bool, true, false, ◌&&◌, ◌||◌, List, [], ◌∷◌, ◌++◌, map, length, take, drop, if◌then◌else◌, slice_index_or, slice_set, refl, ap, sym, ◌∙◌, arith, append_assoc, filter, ℤ}
 use Rattle.std.specs.List.{AllByRecursion, AllZip, list_any}
 use Rattle.std.proofs.lemmas.Bool.Decides.{nat_tests}
-use Rattle.std.proofs.lemmas.Bool.{ltb-true, lt-ltb}
+use Rattle.std.proofs.lemmas.Bool.{ltb-true}
 use Rattle.std.proofs.lemmas.List.{length-map, set_split, set-get_or}
 use Rattle.std.proofs.lemmas.List.Concat.{flat_map-append}
 use Rattle.rstar.specs.declared.node.RTreeNode.{RTreeNode, Parent}
@@ -112,8 +112,8 @@ module _ {T D E P S X : Type 0} {v : Boxes E} {o : Objects T E} {max : ℕ} (acc
 
 -- ---- where nothing is found
 
-shift : (m n : ℕ) → nat_lt (suc m) (suc n) ≡ nat_lt m n
-shift m n = grind (arith, nat_tests)
+first-there : (b : Bool) (m n : ℕ) → nat_lt (if b then 0 else suc m) (suc n) ≡ (b || nat_lt m n)
+first-there b m n = grind (arith, nat_tests)
 
 abbrev pub full : {A : Type 0} → List A → Bool
 full [] = false
@@ -125,11 +125,7 @@ full-append (x ∷ xs) ys = refl
 
 pub any-filter : {A : Type 0} (test : A → Bool) (xs : List A) → full (filter test xs) ≡ list_any test xs
 any-filter test [] = refl
-any-filter test (x ∷ xs) = by_test (test x) (any-filter test xs)
-  where
-    by_test : (b : Bool) → full (filter test xs) ≡ list_any test xs → full (if b then x ∷ filter test xs else filter test xs) ≡ (b || list_any test xs)
-    by_test true e = refl
-    by_test false e = e
+any-filter test (x ∷ xs) = elim (test x) as (λ b. full (if b then x ∷ filter test xs else filter test xs) ≡ (b || list_any test xs)) [ true ↦ refl | false ↦ any-filter test xs ]
 
 -- a search finds one just where the walk gives one
 module _ {T E : Type 0} (accepts : E → Bool) (selects : T → Bool) where
@@ -139,19 +135,11 @@ module _ {T E : Type 0} (accepts : E → Bool) (selects : T → Bool) where
 
   full-joined : (bs : List Bool) (xs : List (List T)) → AllZip (λ b x. b ≡ full x) bs xs → nat_lt (first_true bs) (length bs) ≡ full (joined xs)
   full-joined = zip-fold (λ b x. b ≡ full x) (λ bs xs. nat_lt (first_true bs) (length bs) ≡ full (joined xs)) refl
-      (λ b x bs xs one rest. by_test b (first_true bs) (length bs) ∙ cc (one, rest, full-append x (joined xs)))
-    where
-      by_test : (b : Bool) (m n : ℕ) → nat_lt (if b then 0 else suc m) (suc n) ≡ (b || nat_lt m n)
-      by_test true m n = lt-ltb 0 (suc n) (omega arith)
-      by_test false m n = shift m n
+      (λ b x bs xs one rest. first-there b (first_true bs) (length bs) ∙ cc (one, rest, full-append x (joined xs)))
 
   full-node : (n : RTreeNode T E) → finds accepts selects n ≡ full (given accepts selects n)
   unfolding finds given
-  full-node n = both-folds (λ b x. b ≡ full x) _ _ _ _ (λ t. one (selects t) t) (λ e bs xs each. ap (λ b. accepts e && b) (full-joined bs xs each) ∙ full-if (accepts e) (joined xs)) n
-    where
-      one : (b : Bool) (t : T) → b ≡ full (if b then t ∷ [] else [])
-      one true t = refl
-      one false t = refl
+  full-node n = both-folds (λ b x. b ≡ full x) _ _ _ _ (λ t. elim (selects t) as (λ b. b ≡ full (if b then t ∷ [] else [])) [ true ↦ refl | false ↦ refl ]) (λ e bs xs each. ap (λ b. accepts e && b) (full-joined bs xs each) ∙ full-if (accepts e) (joined xs)) n
 
   full-each : (ns : List (RTreeNode T E)) → AllZip (λ b x. b ≡ full x) (map (finds accepts selects) ns) (map (given accepts selects) ns)
   full-each [] = tt

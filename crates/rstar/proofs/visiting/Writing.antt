@@ -1,5 +1,6 @@
 -- Visits that write, one part of a list after another.
 use Rattle.std.proofs.Common.{◌≡◌, ◌<◌, ℕ, ℤ, suc, zero, ◌+◌, ◌-◌, ◌≤◌, ◌∙◌, List, [], ◌∷◌, ◌++◌, ◌⊎◌, inl, inr, ap, subst, sym, refl, Bool, true, false, if◌then◌else◌, map, arith, length, take, drop, slice_set, slice_index_or, append-nil, add-one, length-drop, drop-cons, Vec}
+use Rattle.std.proofs.lemmas.Bool.{cases_Bool}
 use Rattle.std.proofs.lemmas.List.{map-append, with_items_is, take-append-drop, take_more, take_more_set, take_all, drop-set-lt}
 use Rattle.std.proofs.lemmas.List.Concat.{flat_map-append}
 use Rattle.std.specs.Vec.{with_items}
@@ -79,11 +80,7 @@ module _ {V T E B : Type 0} (o : Objects T E) (accepts : E → Bool) (selects : 
 
   pub passed-writes : (v : V) (p : ParentNode T E) → (children_of p ≡ []) ⊎ (accepts p.envelope ≡ false) → Writes step v (marked_of accepts selects p) (Continue tt) v (all_elements (children_of p))
   passed-writes v p (inr refused) = refused-writes v p refused
-  passed-writes v p (inl none) = either (accepts p.envelope) refl
-    where
-      either : (b : Bool) → accepts p.envelope ≡ b → Writes step v (marked_of accepts selects p) (Continue tt) v (all_elements (children_of p))
-      either true is = rw (is, none) (refl, refl, refl)
-      either false is = refused-writes v p is
+  passed-writes v p (inl none) = elim (cases_Bool (accepts p.envelope)) [ inl is ↦ rw (is, none) (refl, refl, refl) | inr is ↦ refused-writes v p is ]
 
   -- what was lent of a child list, and written back to it
   pub refilled : (list : Vec (RTreeNode T E) Global) (lent new : List (RTreeNode T E)) (v : V) (r : ControlFlow B (Unit {0})) (w : V) → lent ≡ list.items → length new ≡ length lent

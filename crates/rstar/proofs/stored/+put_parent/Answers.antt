@@ -5,13 +5,10 @@ use Rattle.rstar.proofs.stored.+put_parent.Goals as goal
 use Rattle.rstar.proofs.stored.+put_parent.Goals.{in-Leaf, in-Parent}
 
 pub loop-child-init : goal.loop-child-init
-loop-child-init t c = record {
-  spelled = head_put c.args.out.now.items c.put_bytes.new.out.items c.put_point.new.out.items _ _ _ c.lower.result c.upper.result (search rules) (search rules) c.lower.ensures c.upper.ensures
-      (c.put_bytes.ensures.items ∙ ap (λ u. c.args.out.now.items ++ u) (c.to_le_bytes.ensures ∙ number_is _ ∙ ap number (c.len.ensures ∙ sym c.as_slice-child-items.ensures.len ∙ ap length c.as_slice-child-items.ensures.value))) c.put_point.ensures.put.items c.put_point-2.ensures.put.items;
-  len = search rules;
-  capacity = search rules;
-  stored = λ h w. tt;
-}
+loop-child-init t c =
+    let spelled = head_put c.args.out.now.items c.put_bytes.new.out.items c.put_point.new.out.items _ _ _ c.lower.result c.upper.result (search rules) (search rules) c.lower.ensures c.upper.ensures
+    (c.put_bytes.ensures.items ∙ ap (λ u. c.args.out.now.items ++ u) (c.to_le_bytes.ensures ∙ number_is _ ∙ ap number (c.len.ensures ∙ sym c.as_slice-child-items.ensures.len ∙ ap length c.as_slice-child-items.ensures.value))) c.put_point.ensures.put.items c.put_point-2.ensures.put.items in
+    search rules
 
 pub put_point-requires-in-Leaf : goal.put_point-requires-in-Leaf
 put_point-requires-in-Leaf t c =
@@ -36,11 +33,10 @@ loop-child-preserved t c =
 pub returns : goal.returns
 returns t c =
     let value = c.as_slice-child-items.ensures.value in
-    let all = whole_size c.args.parent.now _ c.loop-child.child-index value c.loop-child-test.false in
     record {
       put = record {
         items = whole_spelled c.args.parent.now _ c.loop-child.child-index value c.loop-child-test.false c.args.out.now.items _ c.loop-child.invariant.spelled;
-        len = omega (arith, all, c.loop-child.invariant.len);
+        len = omega (arith, whole_size c.args.parent.now _ c.loop-child.child-index value c.loop-child-test.false, c.loop-child.invariant.len);
         capacity = c.loop-child.invariant.capacity;
       };
       stored = λ h w. whole_stored c.args.parent.now _ c.loop-child.child-index value c.loop-child-test.false h w (c.loop-child.invariant.stored h w);

@@ -18,17 +18,13 @@ children_at-returns-in_err-node-clause-read t c =
     rw (p.1, p.2) (ends (node_at c.args.below) c.in_err-node.field-0.0 (map shown c.loop.children.items) c.args.count c.loop.counter c.loop.rest.now _ c.loop-test.true c.in_err-node.ensures.read c.loop.invariant.read)
 
 pub children_at-loop-preserved : goal.children_at-loop-preserved
-children_at-loop-preserved t c = record {
-  read = rw (c.push_reserved.ensures.items, map_push shown c.loop.children.items c.in_ok-node.node)
-      (goes_on (node_at c.args.below) (map shown c.loop.children.items) c.args.count c.loop.counter c.loop.rest.now (shown c.in_ok-node.node) c.in_ok-node.after.now _ c.loop-test.true c.in_ok-node.ensures.read c.loop.invariant.read);
-  kept = kept_push boxes places c.loop.widest c.node_at.new.widest c.args.below c.loop.children.items _ c.in_ok-node.node c.in_ok-node.ensures.wider.0 c.push_reserved.ensures.items c.loop.invariant.kept c.in_ok-node.ensures.kept;
-  len = search rules;
-  room = search rules;
-  wider = let a = c.in_ok-node.ensures.wider.0 in let b = c.loop.invariant.wider in omega (arith, a, b);
-  counted = c.in_ok-node.ensures.wider.1;
-  points = points_push c.loop.children.items _ c.in_ok-node.node c.args.points.now c.loop.points c.node_at.new.points c.push_reserved.ensures.items c.loop.invariant.points c.in_ok-node.ensures.points;
-  left = let a = c.in_ok-node.ensures.left in let b = c.loop.invariant.left in omega (arith, a, b);
-}
+children_at-loop-preserved t c =
+    let read = rw (← map_push shown c.loop.children.items c.in_ok-node.node, ← c.push_reserved.ensures.items) at
+    (goes_on (node_at c.args.below) (map shown c.loop.children.items) c.args.count c.loop.counter c.loop.rest.now (shown c.in_ok-node.node) c.in_ok-node.after.now _ c.loop-test.true c.in_ok-node.ensures.read c.loop.invariant.read) in
+    let kept = kept_push boxes places c.loop.widest c.node_at.new.widest c.args.below c.loop.children.items _ c.in_ok-node.node c.in_ok-node.ensures.wider.0 c.push_reserved.ensures.items c.loop.invariant.kept c.in_ok-node.ensures.kept in
+    let points = points_push c.loop.children.items _ c.in_ok-node.node c.args.points.now c.loop.points c.node_at.new.points c.push_reserved.ensures.items c.loop.invariant.points c.in_ok-node.ensures.points in
+    let here = c.in_ok-node.ensures in
+    search rules
 
 pub children_at-returns-clause-read : goal.children_at-returns-clause-read
 children_at-returns-clause-read t c =

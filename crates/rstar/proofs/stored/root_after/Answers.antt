@@ -1,5 +1,4 @@
-use Rattle.std.proofs.Common.{rules, inr, ap, ◌∙◌, sym}
-use Rattle.std.proofs.Common.{Ok}
+use Rattle.std.proofs.Common.{rules, inr, ap, ◌∙◌, sym, Ok}
 use Rattle.rstar.specs.Shown.{shown_root}
 use Rattle.rstar.proofs.storing.Laws.{root_by, root_other, root_trailing, root_done}
 use Rattle.rstar.proofs.stored.root_after.Goals as goal

@@ -106,16 +106,9 @@ take_below-returns-then-changed g t c =
     let takes = c.take_among-taken.ensures.takes in
     let merge = rw c.deref.ensures.value at c.merge_along-merged.ensures in
     record {
-      takes = record {
-        taken = takes.taken;
-        selected = takes.selected;
-        whole = takes.whole;
-        rests = λ w h k spot. merge.rests (takes.rests w h k spot);
-        still = λ none. merge.still (c.take_among-taken.auto.path ∙ none) ∙ takes.still none;
-        shorter = takes.shorter;
-        past = takes.past;
-        missed = takes.missed;
-      };
+      takes =
+          let still = λ (none : length c.args.path.now ≡ 0). merge.still (c.take_among-taken.auto.path ∙ none) ∙ takes.still none in
+          search (takes.whole, takes.past, takes.rests, merge.rests);
       kept = λ w h kept below at. kept_anew g.met.T.Cover.Merges.merge_laws g.met.T.Covered.cover_law w h c.args.node.now _ kept (takes.whole w h below at) takes.shorter (merge.merged (takes.rests w h below at));
       same = some_one _ c.take_among-taken.result (sym c.is_some.ensures ∙ c.if-is_some.true);
       unchanged = search rules;

@@ -10,8 +10,7 @@ load_depth-least_depth_of_parts-requires g t c κs within =
 
 pub load_depth-returns-clause-bound : goal.load_depth-returns-clause-bound
 load_depth-returns-clause-bound g t c =
-    let half = half_bound c.axes-axes.result c.args.n c.slabs_on_axis-clusters.result (omega (arith, c.axes-axes.ensures)) c.slabs_on_axis-clusters.ensures.least in
-    omega (arith, half, c.least_depth_of_parts.ensures.bound, g.Params.RTreeParams.max_at_least_four)
+    omega (arith, half_bound c.axes-axes.result c.args.n c.slabs_on_axis-clusters.result (omega (arith, c.axes-axes.ensures)) c.slabs_on_axis-clusters.ensures.least, c.least_depth_of_parts.ensures.bound, g.Params.RTreeParams.max_at_least_four)
 
 pub load_depth-returns-clause-depth : goal.load_depth-returns-clause-depth
 load_depth-returns-clause-depth g t c =

@@ -1,5 +1,5 @@
-use Rattle.std.proofs.Common.{arith, false, ◌≡◌, ◌≢◌, ◌+◌, ◌-◌, ◌*◌, ◌<◌, ◌≤◌, ℕ, suc, List, drop, length, refl, sym, ap, ◌∙◌}
-use Rattle.std.proofs.Math.Nat.{le_refl, le_trans, le_of_eq, le-min, min-le_right, sub-le}
+use Rattle.std.proofs.Common.{arith, false, ◌≡◌, ◌≢◌, ◌+◌, ◌-◌, ◌*◌, ◌<◌, ◌≤◌, ℕ, suc, List, drop, length, refl, sym, ap, ◌∙◌, rules}
+use Rattle.std.proofs.Math.Nat.{le_trans, le_of_eq, le-min, min-le_right, sub-le}
 use Rattle.std.proofs.Math.Arith.{le-zero}
 use Rattle.std.proofs.lemmas.List.Sorted.{All-permutation, IsPermutation-refl, length_permutation}
 use Rattle.rstar.specs.inside.Loads.{CanLoad, front_of, last_of}
@@ -63,14 +63,8 @@ pub load_parts-returns-then-axes-eq0-clause-adds : goal.load_parts-returns-then-
 load_parts-returns-then-axes-eq0-clause-adds g t c = one_part c.if-axes-eq0.true c.in_ok-push.ensures.items c.in_ok-node.ensures.same c.in_ok-node.ensures.fresh
 
 pub load_parts-loop-rest-init : goal.load_parts-loop-rest-init
-load_parts-loop-rest-init g t c = record {
-  within = c.requires.part.within;
-  front = refl;
-  each = c.requires.part.elements;
-  wider = le_refl c.args.widest.now;
-  counted = c.requires.part.counted;
-  parts = underway_start (some_last c.args.len c.args.list.now.items c.requires.part.some c.requires.part.within);
-}
+load_parts-loop-rest-init g t c =
+    search (rules, c.requires.part.elements, underway_start, some_last c.args.len c.args.list.now.items c.requires.part.some c.requires.part.within)
 
 pub load_parts-load_parts-requires : goal.load_parts-load_parts-requires
 load_parts-load_parts-requires g t c κs within =

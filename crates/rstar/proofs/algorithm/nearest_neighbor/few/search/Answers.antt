@@ -10,18 +10,13 @@ use Rattle.rstar.proofs.trees.ByChildren.{parents-Parent}
 use Rattle.rstar.proofs.algorithm.nearest_neighbor.few.search.Goals as goal
 
 pub loop-current-init : goal.loop-current-init
-loop-current-init g c = record {
-  ordered = c.in_ok-open.ensures.visits.ordered;
-  best = c.in_ok-open.ensures.visits.best;
-  same = c.in_ok-open.ensures.visits.same;
-  waiting = c.in_ok-open.ensures.visits.waiting (rw c.new-heap.ensures.none tt);
-  first = seeking.visits-all c.in_ok-open.ensures.visits (elements_of c.args.root.now) (rw c.deref.ensures.value (seeking.seek-start c.new-heap.ensures.none c.requires.none c.requires.unbound c.requires.whole));
-}
+loop-current-init g c =
+    let waiting = c.in_ok-open.ensures.visits.waiting (rw c.new-heap.ensures.none tt) in
+    assumption (c.in_ok-open.ensures.visits, seeking.visits-all c.in_ok-open.ensures.visits (elements_of c.args.root.now) (rw c.deref.ensures.value (seeking.seek-start c.new-heap.ensures.none c.requires.none c.requires.unbound c.requires.whole)))
 
 pub loop-current-smaller : goal.loop-current-smaller
 loop-current-smaller g c =
-    let popped = few.pushed-parents (IsPermutation-sym _ _ c.in-Some.ensures.some) in
-    omega (arith, popped, parents-Parent c.in-Some.current.node.now, ap all_parents c.deref-in-Some.ensures.value, c.in_ok-open-2.ensures.visits.fewer)
+    omega (arith, few.pushed-parents (IsPermutation-sym _ _ c.in-Some.ensures.some), parents-Parent c.in-Some.current.node.now, ap all_parents c.deref-in-Some.ensures.value, c.in_ok-open-2.ensures.visits.fewer)
 
 pub loop-current-preserved : goal.loop-current-preserved
 loop-current-preserved g c =

@@ -67,13 +67,8 @@ take_inside-returns g t c =
 pub take_earliest-returns-in-None-clause-below : goal.take_earliest-returns-in-None-clause-below
 take_earliest-returns-in-None-clause-below g t c =
     let accepts = g.R.Question.accepts c.args.func.now in let selects = g.R.Question.selects c.args.func.now in
-    record {
-      takes = takes_nothing accepts selects g.met.T.Cover.Merges.merge_laws g.met.T.Covered.cover_law c.args.node.now.children.items
-          (sym (ap (all_given accepts selects) c.as_slice.ensures.value) ∙ c.in-None.ensures);
-      kept = λ w h kept below at. kept;
-      same = refl;
-      unchanged = λ told. refl;
-    }
+    assumption (takes_nothing accepts selects g.met.T.Cover.Merges.merge_laws g.met.T.Covered.cover_law c.args.node.now.children.items
+    (sym (ap (all_given accepts selects) c.as_slice.ensures.value) ∙ c.in-None.ensures))
 
 pub take_earliest-returns-then-changed : goal.take_earliest-returns-then-changed
 take_earliest-returns-then-changed g t c =

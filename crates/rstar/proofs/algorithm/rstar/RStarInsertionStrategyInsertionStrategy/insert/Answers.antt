@@ -4,26 +4,10 @@ use Rattle.rstar.proofs.trees.WholeTrees.{sized_along}
 use Rattle.rstar.proofs.algorithm.rstar.RStarInsertionStrategyInsertionStrategy.insert.Goals as goal
 
 pub returns : goal.returns
-returns g c = record {
-  added = search rules;
-  counted = search rules;
-  handed_back = search rules;
-  unchanged = search rules;
-  too_many = search rules;
-  whole = search rules;
-  sized = λ sized.
-      c.insert_prepared.ensures.sized
-      (sized_along g.Params.RTreeParams.MIN_SIZE g.Params.RTreeParams.MAX_SIZE (root_of c.args.tree.now) (root_of c.prepare.new.self) c.prepare.ensures.same sized);
-}
+returns g c =
+    let same = sized_along g.Params.RTreeParams.MIN_SIZE g.Params.RTreeParams.MAX_SIZE (root_of c.args.tree.now) (root_of c.prepare.new.self) c.prepare.ensures.same in
+    search (rules, c.insert_prepared.ensures.sized)
 
 pub returns-in_default-prepare : goal.returns-in_default-prepare
-returns-in_default-prepare g c = record {
-  added = search rules;
-  counted = search rules;
-  handed_back = search rules;
-  unchanged = search rules;
-  too_many = search rules;
-  whole = search rules;
-  sized = λ sized.
-      sized_along g.Params.RTreeParams.MIN_SIZE g.Params.RTreeParams.MAX_SIZE (root_of c.args.tree.now) (root_of c.prepare.new.self) c.prepare.ensures.same sized;
-}
+returns-in_default-prepare g c =
+    search (rules, sized_along g.Params.RTreeParams.MIN_SIZE g.Params.RTreeParams.MAX_SIZE (root_of c.args.tree.now) (root_of c.prepare.new.self) c.prepare.ensures.same)

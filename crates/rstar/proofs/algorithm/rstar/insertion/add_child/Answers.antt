@@ -1,24 +1,14 @@
-use Rattle.std.proofs.Common.{arith, append-nil, refl}
-use Rattle.std.proofs.lemmas.List.Sorted.{IsPermutation-refl}
+use Rattle.std.proofs.Common.{arith, append-nil, refl, rules, sym, ◌∙◌}
+use Rattle.rstar_base.proofs.Along.{IsPermutation-same}
 use Rattle.rstar.proofs.inserting.Insertion.{room_more, room_one, room_same, last_spare, spends_as, spends_one}
 use Rattle.rstar.proofs.algorithm.rstar.insertion.add_child.Goals as goal
 
 pub returns-then-len-MAX_SIZE-clause-adds : goal.returns-then-len-MAX_SIZE-clause-adds
-returns-then-len-MAX_SIZE-clause-adds g c = record {
-  same = rw (append-nil c.push_reserved.new.self.items, c.push_reserved.ensures.items, c.take_place.ensures.same) (IsPermutation-refl _);
-  first = record {
-    merged = rw (c.push_reserved.ensures.items, c.take_place.ensures.same) c.requires.covered;
-    some = omega (arith, c.push_reserved.ensures.len);
-    narrow = omega (arith, c.push_reserved.ensures.len, c.take_place.ensures.length, c.push_reserved.new.self.ok.0, c.requires.ready.wide);
-  };
-  second_merged = tt;
-  whole = omega (arith, c.push_reserved.ensures.len, c.take_place.ensures.length);
-  low = omega (arith, c.push_reserved.ensures.len, c.take_place.ensures.length, c.if-len-MAX_SIZE.true, c.len.ensures);
-  first_least = tt;
-  second_least = tt;
-  lengths = tt;
-  second_room = tt;
-}
+returns-then-len-MAX_SIZE-clause-adds g c =
+    let is = rw c.take_place.ensures.same at c.push_reserved.ensures.items in
+    let same = IsPermutation-same _ _ (sym is ∙ sym (append-nil c.push_reserved.new.self.items)) in
+    let merged = rw (← is) at c.requires.covered in
+    search (rules, c.push_reserved.ensures.len, c.take_place.ensures.length, c.push_reserved.new.self.ok.0, c.requires.ready.wide, c.if-len-MAX_SIZE.true, c.len.ensures)
 
 pub returns-then-len-MAX_SIZE-clause-spends : goal.returns-then-len-MAX_SIZE-clause-spends
 returns-then-len-MAX_SIZE-clause-spends g c =
@@ -35,8 +25,7 @@ split_in_place-requires-clause-empty g c = (last_spare c.requires.ready _ c.take
 
 pub split_in_place-requires-clause-room : goal.split_in_place-requires-clause-room
 split_in_place-requires-clause-room g c =
-    let spare = (last_spare c.requires.ready _ c.take_last-second.result c.take_last-second.ensures.items).1 in
-    omega (arith, spare.1, c.requires.narrow, c.move_all.ensures.length, c.push_reserved-2.ensures.len, c.args.node.now.children.ok.0, g.Params.RTreeParams.min_positive)
+    omega (arith, ((last_spare c.requires.ready _ c.take_last-second.result c.take_last-second.ensures.items).1).1, c.requires.narrow, c.move_all.ensures.length, c.push_reserved-2.ensures.len, c.args.node.now.children.ok.0, g.Params.RTreeParams.min_positive)
 
 pub move_all-requires-2-clause-room : goal.move_all-requires-2-clause-room
 move_all-requires-2-clause-room g c =

@@ -5,16 +5,12 @@ use Rattle.rstar.proofs.algorithm.rstar.insertion.grow_root.Goals as goal
 pub push_reserved-requires : goal.push_reserved-requires
 push_reserved-requires g c =
     let spare = (last_spare c.requires.ready _ c.take_last-children.result c.take_last-children.ensures.items).1 in
-    let room = ap (λ n. vec_capacity n.children) c.replace-old.ensures.after in
-    let none = ap (λ n. vec_len n.children) c.replace-old.ensures.after in
-    omega (arith, spare.1, ap length spare.0, c.take_last-children.result.ok.0, room, none, c.requires.ready.wide, g.Params.RTreeParams.max_at_least_four)
+    omega (arith, spare.1, ap length spare.0, c.take_last-children.result.ok.0, ap (λ n. vec_capacity n.children) c.replace-old.ensures.after, ap (λ n. vec_len n.children) c.replace-old.ensures.after, c.requires.ready.wide, g.Params.RTreeParams.max_at_least_four)
 
 pub push_reserved-requires-2 : goal.push_reserved-requires-2
 push_reserved-requires-2 g c =
     let spare = (last_spare c.requires.ready _ c.take_last-children.result c.take_last-children.ensures.items).1 in
-    let room = ap (λ n. vec_capacity n.children) c.replace-old.ensures.after in
-    let none = ap (λ n. vec_len n.children) c.replace-old.ensures.after in
-    omega (arith, spare.1, ap length spare.0, c.take_last-children.result.ok.0, room, none, c.push_reserved.ensures.len, c.push_reserved.ensures.capacity, c.requires.ready.wide, g.Params.RTreeParams.max_at_least_four)
+    omega (arith, spare.1, ap length spare.0, c.take_last-children.result.ok.0, ap (λ n. vec_capacity n.children) c.replace-old.ensures.after, ap (λ n. vec_len n.children) c.replace-old.ensures.after, c.push_reserved.ensures.len, c.push_reserved.ensures.capacity, c.requires.ready.wide, g.Params.RTreeParams.max_at_least_four)
 
 pub returns-clause-children : goal.returns-clause-children
 returns-clause-children g c =

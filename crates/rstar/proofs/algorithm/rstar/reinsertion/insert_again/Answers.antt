@@ -1,20 +1,11 @@
-use Rattle.std.proofs.Common.{◌≡◌, ◌+◌, ◌∙◌, refl, arith, rules, vec_len}
+use Rattle.std.proofs.Common.{◌≡◌, ◌+◌, ◌∙◌, arith, rules, vec_len}
 use Rattle.std.proofs.lemmas.List.Sorted.{IsPermutation-refl}
 use Rattle.rstar.proofs.trees.ByChildren.{is_leaf, leaf_of}
 use Rattle.rstar.proofs.inserting.Insertion.{taken_again, leaf_taken, ready_again, spends_none, spends_next, one_less}
 use Rattle.rstar.proofs.algorithm.rstar.reinsertion.insert_again.Goals as goal
 
 pub loop-leaf-init : goal.loop-leaf-init
-loop-leaf-init g c = record {
-  bag = IsPermutation-refl _;
-  kept = c.requires.root;
-  leaves = c.requires.leaves;
-  sized = λ sized. sized;
-  grown = omega arith;
-  ready = c.requires.ready;
-  spends = spends_none c.requires.ready;
-  capacity = refl;
-}
+loop-leaf-init g c = search (rules, IsPermutation-refl, spends_none, c.requires.ready)
 
 pub unreachable-requires : goal.unreachable-requires
 unreachable-requires g c =

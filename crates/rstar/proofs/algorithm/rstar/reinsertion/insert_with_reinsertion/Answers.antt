@@ -1,4 +1,4 @@
-use Rattle.std.proofs.Common.{append-nil, ◌∙◌, ◌+◌, ◌≤◌, ◌∷◌, [], arith, vec_len, vec_capacity}
+use Rattle.std.proofs.Common.{append-nil, ◌+◌, ◌≤◌, ◌∷◌, [], arith, vec_len, vec_capacity}
 use Rattle.std.proofs.lemmas.List.Sorted.{IsPermutation-trans}
 use Rattle.rstar.specs.inside.ParentBounds.{IsSpare}
 use Rattle.rstar_base.proofs.Lists.{all-append}
@@ -36,22 +36,16 @@ returns-then-reserve-capacity g c =
     let first = c.insert_first.ensures in
     let again = c.insert_again-grown.ensures in
     let handed = c.insert_again-grown.new.handed in
-    let fits : c.insert_again-grown.new.reserve.widest ≤ vec_capacity handed = omega (arith, c.capacity.ensures, c.if-reserve-capacity.true) in
     let held = room_same c.args.reserve.now.widest handed c.insert_first.new.handed again.capacity in
-    let own = room_one c.args.reserve.now.widest handed (omega (arith, fits, again.root.spends.widest)) in
+    let fits : c.insert_again-grown.new.reserve.widest ≤ vec_capacity handed = omega (arith, c.capacity.ensures, c.if-reserve-capacity.true) in
     record {
       bag = IsPermutation-trans _ _ _ (rw append-nil at first.tree.bag) again.root.bag;
       kept = again.root.kept;
       sized = λ sized. let after = first.tree.sized sized in again.root.sized (after.below, omega (arith, after.most, c.insert_first.new.node.children.ok.0));
-      spends = record {
-        widest = again.root.spends.widest;
-        spares = rw c.push_reserved.ensures.items (all-append (IsSpare c.insert_again-grown.new.reserve.widest) _ (handed ∷ []) again.root.spends.spares ((again.none, fits), tt));
-        fewer = omega (arith, taken.len, again.root.spends.fewer, c.push_reserved.ensures.len);
-        places = c.push_reserved.ensures.capacity ∙ again.root.spends.places ∙ taken.capacity;
-        overfull = again.root.spends.overfull;
-        room = omega (arith, taken.len, first.room, again.root.spends.room, held, own, c.push_reserved.ensures.len);
-        made = omega (arith, taken.len, first.parents, again.root.spends.made, c.push_reserved.ensures.len);
-      };
+      spends =
+          let own = room_one c.args.reserve.now.widest handed (omega (arith, fits, again.root.spends.widest)) in
+          let spares = rw (← c.push_reserved.ensures.items) at (all-append (IsSpare c.insert_again-grown.new.reserve.widest) _ (handed ∷ []) again.root.spends.spares ((again.none, fits), tt)) in
+          search (arith, held, c.push_reserved.ensures);
     }
 
 pub returns-else-reserve-capacity : goal.returns-else-reserve-capacity
@@ -61,18 +55,9 @@ returns-else-reserve-capacity g c =
     let again = c.insert_again-grown.ensures in
     let handed = c.insert_again-grown.new.handed in
     let held = room_same c.args.reserve.now.widest handed c.insert_first.new.handed again.capacity in
-    let none = room_none c.args.reserve.now.widest handed (omega (arith, c.capacity.ensures, c.if-reserve-capacity.false, again.root.spends.widest)) in
     record {
       bag = IsPermutation-trans _ _ _ (rw append-nil at first.tree.bag) again.root.bag;
       kept = again.root.kept;
       sized = λ sized. let after = first.tree.sized sized in again.root.sized (after.below, omega (arith, after.most, c.insert_first.new.node.children.ok.0));
-      spends = record {
-        widest = again.root.spends.widest;
-        spares = again.root.spends.spares;
-        fewer = omega (arith, taken.len, again.root.spends.fewer);
-        places = again.root.spends.places ∙ taken.capacity;
-        overfull = again.root.spends.overfull;
-        room = omega (arith, taken.len, first.room, again.root.spends.room, held, none);
-        made = omega (arith, taken.len, first.parents, again.root.spends.made);
-      };
+      spends = let none = room_none c.args.reserve.now.widest handed (omega (arith, c.capacity.ensures, c.if-reserve-capacity.false, again.root.spends.widest)) in search (arith, held);
     }

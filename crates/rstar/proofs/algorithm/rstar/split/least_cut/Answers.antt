@@ -20,16 +20,8 @@ loop-k-preserved g c =
     let so_far = c.loop-k.invariant in
     let here = c.measures_at-here.ensures in
     elim c.if-is_below.branch [
-      | then-is_below w ↦ rw (w.best-is, w.least-is) (record {
-        allowed = (omega arith, omega arith);
-        first = here.overlap;
-        second = here.areas;
-        least = least_new overlap areas g.Params.RTreeParams.MIN_SIZE c.loop-k.k c.loop-k.best here.overlap here.areas so_far.first so_far.second so_far.least (sym c.is_below.ensures ∙ w.if-is_below.true);
-      })
-      | else-is_below w ↦ rw (w.best-is, w.least-is) (record {
-        allowed = so_far.allowed;
-        first = so_far.first;
-        second = so_far.second;
-        least = least_old overlap areas g.Params.RTreeParams.MIN_SIZE c.loop-k.k c.loop-k.best here.overlap here.areas so_far.first so_far.second so_far.least (sym c.is_below.ensures ∙ w.if-is_below.false);
-      })
+      | then-is_below w ↦ rw (w.best-is, w.least-is)
+          (search (arith, least_new overlap areas g.Params.RTreeParams.MIN_SIZE c.loop-k.k c.loop-k.best here.overlap here.areas so_far.first so_far.second so_far.least (sym c.is_below.ensures ∙ w.if-is_below.true)))
+      | else-is_below w ↦ rw (w.best-is, w.least-is)
+          (search (arith, least_old overlap areas g.Params.RTreeParams.MIN_SIZE c.loop-k.k c.loop-k.best here.overlap here.areas so_far.first so_far.second so_far.least (sym c.is_below.ensures ∙ w.if-is_below.false)))
     ]

@@ -16,19 +16,13 @@ returns-in-Leaf g c =
     let law = turns.measured-by g.met.T.Cover.Merges.merge_laws g.met.T.Covered.cover_law g.met.T.Measured.distance_laws c.known.ensures.range in
     let order = turns.order_of g.T.Distance.SquaredDistance.number g.T.Distance.Ord.cmp _ g.met.T.Distance.Ord.matches_partial_cmp g.met.T.Distance.SquaredDistance.number_order in
     let t = c.in-Leaf.t in
-    record {
-      root = c.loop-current.invariant.root;
-      stage = c.loop-current.invariant.stage;
-      gives = record {
-        running = turns.leaf-running law order c.pop.new.self c.loop-current.invariant.under_way.running c.pop.ensures.ordered c.in-Some.ensures.some c.in-Some.ensures.greatest t c.in-Leaf.is;
-        gives = turns.leaf-gives law order c.pop.new.self c.loop-current.invariant.under_way.running c.pop.ensures.ordered c.in-Some.ensures.some c.in-Some.ensures.greatest t c.in-Leaf.is c.loop-current.invariant.under_way.bag;
-        distance = turns.leaf-at law order c.pop.new.self c.loop-current.invariant.under_way.running c.pop.ensures.ordered c.in-Some.ensures.some c.in-Some.ensures.greatest t c.in-Leaf.is;
-        first = turns.leaf-first law order c.pop.new.self c.loop-current.invariant.under_way.running c.pop.ensures.ordered c.in-Some.ensures.some c.in-Some.ensures.greatest t c.in-Leaf.is;
-        none = tt;
-        over = tt;
-      };
-      refused = tt;
-    }
+    assumption (
+      c.loop-current.invariant,
+      turns.leaf-running law order c.pop.new.self c.loop-current.invariant.under_way.running c.pop.ensures.ordered c.in-Some.ensures.some c.in-Some.ensures.greatest t c.in-Leaf.is,
+      turns.leaf-gives law order c.pop.new.self c.loop-current.invariant.under_way.running c.pop.ensures.ordered c.in-Some.ensures.some c.in-Some.ensures.greatest t c.in-Leaf.is c.loop-current.invariant.under_way.bag,
+      turns.leaf-at law order c.pop.new.self c.loop-current.invariant.under_way.running c.pop.ensures.ordered c.in-Some.ensures.some c.in-Some.ensures.greatest t c.in-Leaf.is,
+      turns.leaf-first law order c.pop.new.self c.loop-current.invariant.under_way.running c.pop.ensures.ordered c.in-Some.ensures.some c.in-Some.ensures.greatest t c.in-Leaf.is,
+    )
 
 pub loop-current-smaller : goal.loop-current-smaller
 loop-current-smaller g c =
@@ -61,16 +55,9 @@ returns-in_err-add_children-in-Parent g c =
     }
 
 pub returns : goal.returns
-returns g c = record {
-  root = c.loop-current.invariant.root;
-  stage = c.loop-current.invariant.stage;
-  gives = record {
-    running = turns.same-running (c.in_default.ensures.none ∙ sym c.in_default.ensures.stays) c.pop.ensures.ordered c.loop-current.invariant.under_way.running;
-    gives = tt;
-    distance = tt;
-    first = tt;
-    none = nil_from_length _ (sym (length_permutation _ _ c.loop-current.invariant.under_way.bag) ∙ ap (λ ws. length (all_elements (waiting_nodes ws))) c.in_default.ensures.none);
-    over = ap waiting_nodes c.in_default.ensures.stays;
-  };
-  refused = tt;
-}
+returns g c = assumption (
+  c.loop-current.invariant,
+  turns.same-running (c.in_default.ensures.none ∙ sym c.in_default.ensures.stays) c.pop.ensures.ordered c.loop-current.invariant.under_way.running,
+  nil_from_length _ (sym (length_permutation _ _ c.loop-current.invariant.under_way.bag) ∙ ap (λ ws. length (all_elements (waiting_nodes ws))) c.in_default.ensures.none),
+  ap waiting_nodes c.in_default.ensures.stays,
+)

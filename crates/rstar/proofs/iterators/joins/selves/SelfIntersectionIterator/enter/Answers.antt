@@ -44,8 +44,7 @@ begin-requires-clause-fits g c =
 pub push_reserved-requires : goal.push_reserved-requires
 push_reserved-requires g c =
     let had = c.requires.lists in
-    let last = last-list g.T.Cover.Merges.boxes g.T.Covered.object _ _ _ _ c.in-Some.ensures.some had.lists in
-    omega (arith, last.few, had.fits, c.pop.ensures.capacity)
+    omega (arith, (last-list g.T.Cover.Merges.boxes g.T.Covered.object _ _ _ _ c.in-Some.ensures.some had.lists).few, had.fits, c.pop.ensures.capacity)
 
 pub push_reserved-requires-2 : goal.push_reserved-requires-2
 push_reserved-requires-2 g c =
