@@ -10,7 +10,9 @@ page. Beside the two pages and their sizes `--check` looks at
 - examples in docstrings (at most twelve lines) and pieces of docs/CALLING.md: the lines between two fences stand, in
   this order and whitespace aside, in the file that the line below names, as `*`crates/..`*`. A line `// ..` marks what is
   left out;
-- wrong bodies (`must-fail/`, `edits/`): the text that each replaces stands once in its file;
+- wrong bodies (`must-fail/`, `edits/`): the text that each replaces stands once in its file, and each listed call with
+  a clause has one;
+- tactic attributes: each lemma or word that one names stands in its file;
 - links and paths in README.md, CONTRIBUTING.md and docs/*.md: the file and the heading are there.
 """
 
@@ -24,6 +26,9 @@ PROGRAM = ["run", "pack", "unpack", "mode_of"]
 LIMITS = {"docs/API.md": 30_000, "docs/DEFINITIONS.md": 28_000}
 # A definition of at most so many characters is shown with its own lines.
 SHORT = 96
+# Calls without a wrong body: what they give is the one value of its type that they are given, or nothing.
+UNTURNED = {"known", "Counted::aabb", "GeomWithData::geom", "GeomWithData::new", "InEnvelope::seen", "ObjectRef::new",
+            "PointWithData::new", "PointWithData::position", "SelectEqualsFunction::new"}
 # Words that say nothing of an answer by themselves.
 PLAIN = {"pos", "min", "table", "true", "false", "IfOk", "IfSome", "IfErr", "IfNone", "IsTrue"}
 
@@ -118,7 +123,8 @@ class Library:
         return "next: {} → {}".format(*members) if members else ""
 
     def wrong(self):
-        """The wrong bodies of each listed item: those of its text, and of a trait's method those of its impls."""
+        """The wrong bodies of each listed item, those that the gate tries or else the first: those of its text, and of a
+        trait's method those of its impls."""
         shown = {}
         for edit in [edit for crate in LIBRARIES for edit in edits(crate)]:
             inside = [one for one in self.all if one.path == edit.path and one.first <= edit.line <= one.last]
@@ -127,7 +133,13 @@ class Library:
                 and one.name == inside[-1].name and f"{one.owner.name}" in inside[-1].owner.head.split(" for ")[0]]
             for item in found[:1]:
                 shown.setdefault(id(item), []).append(f"**{edit.name}**" if edit.in_gate else edit.name)
-        return shown
+        return {item: [name for name in names if name.startswith("*")] or names[:1] for item, names in shown.items()}
+
+    def lacking(self):
+        """The listed calls with a clause that no wrong body turns, but those that have nothing to turn."""
+        shown = self.wrong()
+        return [item for item in self.listed if item.kind == "fn" and item.clauses and id(item) not in shown
+                and "::".join(one.name for one in (item.owner, item) if one) not in UNTURNED]
 
     def words(self):
         """The words that clauses of public items and of the program's calls cite, and those of short definitions."""
@@ -201,6 +213,15 @@ def examples(place, lines):
             waiting = []
 
 
+def attributes(path):
+    """The lemmas and words that tactic attributes of a source file name, and that do not stand there."""
+    for crate, module, name in re.findall(r"\b(\w+)::((?:proofs|specs)(?:::\w+)+)::(\w+)", path.read_text()):
+        home = path.relative_to(ROOT).parts[1] if crate == "crate" else crate
+        file = ROOT / "crates" / home / (module.replace("::", "/") + ".antt")
+        if not file.is_file() or not re.search(rf"^ *(?:abbrev |unfoldable )*pub\b.*\b{name}\b", file.read_text(), re.M):
+            yield f"{path.relative_to(ROOT)}: {crate}::{module}::{name} is not there"
+
+
 def links(page):
     """The dead links and paths of a page."""
     text = page.read_text()
@@ -216,7 +237,7 @@ def links(page):
             yield f"{page.relative_to(ROOT)}: {path} is not there"
 
 
-def faults(pages):
+def faults(library, pages):
     """All that is not as the sources are."""
     for name, text in pages.items():
         if not (ROOT / name).is_file() or (ROOT / name).read_text() != text:
@@ -226,8 +247,12 @@ def faults(pages):
     for crate in [*CRATES, "rstar_base_vectors", "rstar_uses", "rstar_vectors"]:
         for item in [item for path in sources(crate) for item in items(path)]:
             yield from examples(f"{item.path.relative_to(ROOT)}: {item.name}", item.docs)
+        for path in sources(crate):
+            yield from attributes(path)
         for edit in edits(crate):
             yield from edit.faults
+    for item in library.lacking():
+        yield f"{item.path.relative_to(ROOT)}: {item.name}: no wrong body turns it"
     yield from examples("docs/CALLING.md", (ROOT / "docs/CALLING.md").read_text().splitlines())
     for page in [ROOT / "README.md", ROOT / "CONTRIBUTING.md", *sorted((ROOT / "docs").glob("*.md"))]:
         yield from links(page)
@@ -237,7 +262,7 @@ def main():
     library = Library()
     pages = {"docs/API.md": api_page(library), "docs/DEFINITIONS.md": definitions_page(library)}
     if sys.argv[1:] == ["--check"]:
-        found = list(faults(pages))
+        found = list(faults(library, pages))
         print("\n".join(found) or "API.md, DEFINITIONS.md, examples, wrong bodies and links are as the sources are")
         return 1 if found else 0
     for name, text in pages.items():
