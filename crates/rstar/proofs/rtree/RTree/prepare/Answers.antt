@@ -1,4 +1,4 @@
-use Rattle.std.proofs.Common.{◌≡◌, ◌∙◌, ℕ, [], Vec, refl, arith}
+use Rattle.std.proofs.Common.{◌≡◌, ◌∙◌, ℕ, [], Vec, refl, rules}
 use Rattle.std.proofs.lemmas.Result.{IfOk-from_err, on_ok_weaker}
 use Rattle.std.specs.List.{AllByRecursion}
 use Rattle.std.specs.declared.alloc.Global.{Global}
@@ -34,9 +34,6 @@ returns-clause-whole g c =
 
 pub returns-clause-ready : goal.returns-clause-ready
 unfolding IsWholeTree
-returns-clause-ready g c = on_ok_weaker c.reserve.result (λ room. record {
-  wide = c.requires.whole.wide;
-  spares = c.top_up.ensures.spares;
-  enough = omega (arith, c.in_ok-top_up.ensures.count);
-  overfull = (c.reserve.ensures.items ∙ c.requires.whole.none_over, omega (arith, room));
-}) c.reserve.ensures.ok
+returns-clause-ready g c =
+    let none = c.reserve.ensures.items ∙ c.requires.whole.none_over in
+    on_ok_weaker c.reserve.result (λ room. search (rules, c.requires.whole.wide, c.in_ok-top_up.ensures.count)) c.reserve.ensures.ok
