@@ -201,13 +201,7 @@ module _ {T E U F : Type 0} (meets : E → F → Bool) (left_box : T → E) (rig
 
 pub joinable : {T E U F : Type 0} (v : Boxes E) (w : Boxes F) (o : Objects T E) (o' : Objects U F) (room h k : ℕ) (ls : List (RTreeNode T E)) (rs : List (RTreeNode U F))
     → AreWhole v o h ls → AreWhole w o' k rs → max h k ≤ room → AreJoinable room ls rs
-joinable v w o o' room h k ls rs hl hr fits = record {
-  left_height = h;
-  right_height = k;
-  left = all-level v o h ls hl;
-  right = all-level w o' k rs hr;
-  fits = fits;
-}
+joinable v w o o' room h k ls rs hl hr fits = search (all-level v o h ls hl, all-level w o' k rs hr)
 
 pub roots-joinable : {T E U F : Type 0} {v : Boxes E} {w : Boxes F} {o : Objects T E} {o' : Objects U F} {left : ParentNode T E} {other : ParentNode U F} → IsWhole v o left → IsWhole w o' other
     → (room : ℕ) → max (levels_below (children_of left)) (levels_below (children_of other)) ≤ room → AreJoinable room (children_of left) (children_of other)

@@ -312,16 +312,8 @@ module _ {T E : Type 0} (v : Boxes E) (o : Objects T E) (meets : E → E → Boo
   advanced old new root items capacity had on =
       let all = had.count + opens_by meets o.box_of o.box_of old.walk in
       let count = on.count all (record { count = had.count; counted = had.counted; whole = refl }) in
-      record {
-        walk = on.walk;
-        height = had.height;
-        room = omega (arith, had.room, on.room);
-        lists = subst (AreLists v o (had.height + 1)) (sym items) had.lists;
-        fits = omega (arith, had.fits, capacity);
-        count = count.count;
-        counted = count.counted;
-        all = omega (arith, count.whole, had.all, ap (opens_from_lists meets o.box_of) items, ap (own_meet meets o.box_of) root);
-      }
+      let lists = subst (AreLists v o (had.height + 1)) (sym items) had.lists in
+      search (arith, ap (opens_from_lists meets o.box_of) items, ap (own_meet meets o.box_of) root)
 
   -- a list was taken, and the walk begins with its first node and those behind it
   pub takes-list : (old new : SelfIntersectionIterator T E) {firsts behind : List (RTreeNode T E)} {opened : ℕ} (had : HasItsLists v o meets old) → IsIdle old.walk

@@ -61,16 +61,10 @@ module _ {T : Type 0} (before after : T → T → Type 0) (weaker : (t u : T) �
   ordered-by (t ∷ ts) h = (all_map (before t) (after t) (weaker t) ts h.0, ordered-by ts h.1)
 
   pub first-by : (all : List T) (most : ℕ) (first : List T) → AreFirstOf before all most first → AreFirstOf after all most first
-  first-by all most first h = record {
-    left = h.left;
-    first = record {
-      bag = h.first.bag;
-      order = ordered-by first h.first.order;
-      least = all_map _ _ (λ t. all_map (before t) (after t) (weaker t) h.left) first h.first.least;
-    };
-    few = h.few;
-    enough = h.enough;
-  }
+  first-by all most first h =
+      let least = all_map (λ t. AllByRecursion (before t) h.left) (λ t. AllByRecursion (after t) h.left) (λ t. all_map (before t) (after t) (weaker t) h.left) first h.first.least in
+      let parted : AreFirst after all first h.left = assumption (ordered-by first h.first.order) in
+      record { left = h.left; first = parted; few = h.few; enough = h.enough }
 
 -- a search that has begun has all elements left
 pub begun-left : {T E P : Type 0} (over : ParentNode T E) (at : P) (s : Search T E P) → HasBegun over at s → elements_waiting s ≡ elements_of over

@@ -1,5 +1,5 @@
 -- Each call that gives something leaves fewer.
-use Rattle.std.proofs.Common.{◌≡◌, ℕ, ℤ, ◌+◌, ◌-◌, ◌<◌, ◌≤◌, List, [], ◌∷◌, length, refl, ap, sym, ◌∙◌, subst, arith, Option, Some, None, Result, Ok, Err, IfSome, IfNone, IfOk, IfErr, OnSome, OnErr}
+use Rattle.std.proofs.Common.{◌≡◌, ℕ, ℤ, ◌+◌, ◌<◌, ◌≤◌, List, [], ◌∷◌, length, refl, ap, sym, ◌∙◌, subst, arith, Option, Some, None, Result, Ok, Err, IfSome, IfNone, IfOk, IfErr, OnSome, OnErr}
 use Rattle.std.specs.Borrow.{Bor}
 use Rattle.std.specs.Iterator.{Count, IsFinite, MakesProgress, size}
 use Rattle.std.specs.declared.alloc.AllocError.{AllocError}

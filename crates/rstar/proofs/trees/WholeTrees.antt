@@ -59,11 +59,7 @@ module _ {T E : Type 0} (min max : ℕ) (positive : 0 < min) where
   sized_at = at_levels (HasSize min max) IsAny has_child
 
 pub sized_along : {T E : Type 0} (min max : ℕ) (a b : ParentNode T E) → children_of b ≡ children_of a → IsSized min max a → IsSized min max b
-sized_along min max a b same s = record {
-  height = s.height;
-  most = rw same s.most;
-  below = subst (AreTrees (HasSize min max) IsAny s.height) (sym same) s.below;
-}
+sized_along min max a b same s = let below = subst (AreTrees (HasSize min max) IsAny s.height) (sym same) s.below in search same
 
 pub kept_root : {T D E P S X : Type 0} {IsPoint : List ℤ → Type 0} {v : Boxes E} {o : Objects T E} (laws : EnvelopeLaws IsPoint v) (ok : ObjectLaws v o) (max widest : ℕ) (tree : RTree T D E P S X) → IsKeptTree v o widest tree.levels tree.root
     → tree.size ≡ length (elements_in tree) → tree.levels < 2 ^ 64 → max ≤ widest → widest + 1 < 2 ^ 64 → tree.reserve.widest ≡ widest → AllByRecursion (IsSpare tree.reserve.widest) tree.reserve.spares.items → tree.reserve.overfull.items ≡ [] → IsWholeTree v o max tree

@@ -1,4 +1,4 @@
-use Rattle.std.proofs.Common.{arith, inl, refl}
+use Rattle.std.proofs.Common.{arith}
 use Rattle.std.specs.declared.ops.ControlFlow.TheVariants.{Break}
 use Rattle.rstar.proofs.visiting.Visits.{Visits-append, Visits-break}
 use Rattle.rstar.proofs.visits.+visit_nodes.Goals as goal
@@ -14,7 +14,3 @@ loop-leaf-preserved g t c = record {
   come = λ r w rest. c.loop-leaf.invariant.come r w
       (rw c.in-Open.ensures.0 (Visits-append g.N.NodesRef.element (goal.V-step g) c.loop-leaf.visitor c.visit_nodes.new.visitor _ _ r w c.in_default-visit_nodes.ensures rest));
 }
-
-pub returns-in-Break : goal.returns-in-Break
-returns-in-Break g t c =
-    c.loop-leaf.invariant.come (Break c.in-Break.b) c.visitor.new.self (rw c.in-Give.ensures.0 (inl (c.in-Give.leaf, c.in-Break.b, refl, refl, c.in-Break.ensures)))

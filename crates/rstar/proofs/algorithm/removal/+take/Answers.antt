@@ -128,12 +128,3 @@ take_below-returns-else-is_some g t c =
       same = if_none c.take_among-taken.result same (λ e. ap (λ v. record c.args.node.now { children = v }) e);
       unchanged = λ told. refl;
     }
-
-pub take_among-overflow_sub-i : goal.take_among-overflow_sub-i
-take_among-overflow_sub-i g t c = (place c.len.ensures (ap vec_len c.loop-passed.invariant.same) c.len-passed-end.ensures c.loop-passed-test.true c.loop-passed.children.ok.0).0
-
-pub take_among-overflow_sub-i-in-loop-passed : goal.take_among-overflow_sub-i-in-loop-passed
-take_among-overflow_sub-i-in-loop-passed g t c = (place c.len.ensures (ap vec_len c.loop-passed.invariant.same) c.len-passed-end.ensures c.loop-passed-test.true c.loop-passed.children.ok.0).1
-
-pub take_among-take_leaf-taken-requires-clause-within : goal.take_among-take_leaf-taken-requires-clause-within
-take_among-take_leaf-taken-requires-clause-within g t c = (place c.len.ensures (ap vec_len c.loop-passed.invariant.same) c.len-passed-end.ensures c.loop-passed-test.true c.loop-passed.children.ok.0).2

@@ -1,8 +1,5 @@
 use Rattle.rstar.proofs.replay.answers.ask_query.Goals as goal
 
-pub returns-in-All : goal.returns-in-All
-returns-in-All g c = rw c.in-All.is c.clones_of.ensures
-
 pub returns-in-In : goal.returns-in-In
 returns-in-In g c = rw c.in-In.is (rw c.new.ensures.selects at c.clones_of-in-In.ensures)
 

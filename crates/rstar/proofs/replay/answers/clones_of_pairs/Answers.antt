@@ -1,4 +1,4 @@
-use Rattle.std.proofs.Common.{◌≡◌, ◌∙◌, ◌∷◌, [], ◌++◌, ap, append_assoc, append-nil, arith, length, sym}
+use Rattle.std.proofs.Common.{◌≡◌, ◌∙◌, ◌∷◌, [], ◌++◌, ap, append_assoc, sym}
 use Rattle.rstar.specs.Joins.{meets_by, pairs_to_come}
 use Rattle.rstar.proofs.replay.answers.clones_of_pairs.Goals as goal
 
@@ -7,9 +7,6 @@ loop-t-init g c = record {
   joining = c.requires.joining;
   rest = ap (λ ps. ps ++ pairs_to_come (meets_by g.T.Cover.Merges.boxes g.U.Meets.seen) g.T.Covered.object.box_of g.U.Covered.object.box_of c.args.walk) c.new-pairs.ensures.items;
 }
-
-pub loop-t-smaller : goal.loop-t-smaller
-loop-t-smaller g c = let less = ap length c.in-Some.ensures.steps.gives in omega arith
 
 pub loop-t-preserved : goal.loop-t-preserved
 loop-t-preserved g c =
@@ -22,6 +19,3 @@ loop-t-preserved g c =
           ∙ ap (λ t. c.loop-t.pairs.items ++ (t, c.in_ok-clone.field-0) ∷ more) left ∙ ap (λ u. c.loop-t.pairs.items ++ (c.in-Some.t.now, u) ∷ more) right
           ∙ ap (λ ps. c.loop-t.pairs.items ++ ps) (sym c.in-Some.ensures.steps.gives) ∙ c.loop-t.invariant.rest;
     }
-
-pub returns : goal.returns
-returns g c = sym (append-nil c.loop-t.pairs.items) ∙ ap (λ ps. c.loop-t.pairs.items ++ ps) (sym c.in_default.ensures.steps.gives.0) ∙ c.loop-t.invariant.rest

@@ -1,5 +1,5 @@
-use Rattle.std.proofs.Common.{◌≡◌, ◌∙◌, ℕ, [], Vec, refl, arith}
-use Rattle.std.proofs.lemmas.Result.{IfOk-from_err, on_ok_weaker}
+use Rattle.std.proofs.Common.{◌≡◌, ◌∙◌, ℕ, [], Vec, refl}
+use Rattle.std.proofs.lemmas.Result.{IfOk-from_err}
 use Rattle.std.specs.List.{AllByRecursion}
 use Rattle.std.specs.declared.alloc.Global.{Global}
 use Rattle.rstar_base.specs.Envelopes.{Boxes}
@@ -24,19 +24,7 @@ returns-in_err-top_up g c = record {
   ready = IfOk-from_err c.from_residual.result _ c.from_residual.ensures.0;
 }
 
-pub returns-clause-unchanged : goal.returns-clause-unchanged
-returns-clause-unchanged g c = record { shown = refl; size = refl; elements = refl; envelopes = refl }
-
 pub returns-clause-whole : goal.returns-clause-whole
 unfolding IsWholeTree
 returns-clause-whole g c =
     whole_again g.T.Envelope.Envelope.boxes g.T.RTreeObject.object g.Params.RTreeParams.MAX_SIZE c.args.self.now c.top_up.new.spares c.reserve.new.self c.top_up.ensures.spares (c.reserve.ensures.items ∙ c.requires.whole.none_over) c.requires.whole
-
-pub returns-clause-ready : goal.returns-clause-ready
-unfolding IsWholeTree
-returns-clause-ready g c = on_ok_weaker c.reserve.result (λ room. record {
-  wide = c.requires.whole.wide;
-  spares = c.top_up.ensures.spares;
-  enough = omega (arith, c.in_ok-top_up.ensures.count);
-  overfull = (c.reserve.ensures.items ∙ c.requires.whole.none_over, omega (arith, room));
-}) c.reserve.ensures.ok

@@ -1,4 +1,4 @@
-use Rattle.std.proofs.Common.{rules, arith, ◌+◌, ◌-◌, ◌<◌, refl}
+use Rattle.std.proofs.Common.{rules, arith, ◌+◌, ◌-◌, ◌<◌}
 use Rattle.rstar.proofs.loading.Loads.{falls_to_parts, falls_to_rest, half_bound, slab_positive, bound_slabs, depth_above, deep_slabs, ends_slabs}
 use Rattle.rstar.proofs.algorithm.bulk_load.depth.+depth.Goals as goal
 
@@ -44,9 +44,3 @@ least_depth_of_parts-returns-clause-ends g t c =
     ends_slabs g.Params.RTreeParams.MAX_SIZE g.T.InSlabs.axes c.args.clusters c.args.axes (c.args.axes - 1) c.args.n c.div_ceil-slab.result c.last_slab-rest.result c.least_depth_of_parts-depth.result
     c.least_depth_of_parts.result c.min.result (omega arith) c.requires.clusters c.requires.some c.div_ceil-slab.ensures c.last_slab-rest.ensures.within c.last_slab-rest.ensures.last
     c.least_depth_of_parts-depth.ensures.ends c.least_depth_of_parts.ensures.ends (omega arith)
-
-pub least_depth_of_parts-returns-then-axes-eq0-clause-ends : goal.least_depth_of_parts-returns-then-axes-eq0-clause-ends
-least_depth_of_parts-returns-then-axes-eq0-clause-ends g t c = rw c.if-axes-eq0.true (c.args.n, refl, c.load_depth.ensures.depth.ends)
-
-pub least_depth_of_parts-returns-then-axes-eq0-clause-deep : goal.least_depth_of_parts-returns-then-axes-eq0-clause-deep
-least_depth_of_parts-returns-then-axes-eq0-clause-deep g t c = rw c.if-axes-eq0.true (λ m part. rw part c.load_depth.ensures.depth.deep)

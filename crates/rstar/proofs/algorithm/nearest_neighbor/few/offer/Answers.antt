@@ -65,6 +65,3 @@ returns-in-Ok g c =
             (seeking.seek-lowered law {n = Parent c.in-Parent.parent} c.args.best.now.bound (rw (node_box-Parent g.T.Covered.object.box_of c.in-Parent.parent) c.bound_with-best.ensures.lowered) front);
       };
     }
-
-pub returns-in-Err : goal.returns-in-Err
-returns-in-Err g c = record { order = record { ordered = c.push.ensures.ordered; falls = c.requires.best.falls; same = refl }; visits = tt }

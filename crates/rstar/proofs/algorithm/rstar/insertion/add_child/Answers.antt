@@ -14,22 +14,12 @@ pub returns-then-len-MAX_SIZE-clause-spends : goal.returns-then-len-MAX_SIZE-cla
 returns-then-len-MAX_SIZE-clause-spends g c =
     spends_as c.take_place.ensures.spends (λ n few. omega (arith, room_same n c.push_reserved.new.self c.take_place.new.list c.push_reserved.ensures.capacity))
 
-pub move_all-requires-clause-room : goal.move_all-requires-clause-room
-move_all-requires-clause-room g c = omega (arith, c.requires.narrow, c.requires.ready.overfull.1, c.args.node.now.children.ok.0)
-
-pub push_reserved-requires-2 : goal.push_reserved-requires-2
-push_reserved-requires-2 g c = omega (arith, c.requires.narrow, c.requires.ready.overfull.1, c.args.node.now.children.ok.0, c.move_all.ensures.length, c.move_all.ensures.empty_capacity)
-
 pub split_in_place-requires-clause-empty : goal.split_in_place-requires-clause-empty
 split_in_place-requires-clause-empty g c = (last_spare c.requires.ready _ c.take_last-second.result c.take_last-second.ensures.items).1.0
 
 pub split_in_place-requires-clause-room : goal.split_in_place-requires-clause-room
 split_in_place-requires-clause-room g c =
     omega (arith, ((last_spare c.requires.ready _ c.take_last-second.result c.take_last-second.ensures.items).1).1, c.requires.narrow, c.move_all.ensures.length, c.push_reserved-2.ensures.len, c.args.node.now.children.ok.0, g.Params.RTreeParams.min_positive)
-
-pub move_all-requires-2-clause-room : goal.move_all-requires-2-clause-room
-move_all-requires-2-clause-room g c =
-    omega (arith, c.split_in_place.ensures.lengths, c.split_in_place.ensures.second, c.move_all.ensures.length, c.push_reserved-2.ensures.len, c.move_all.ensures.capacity, c.args.node.now.children.ok, g.Params.RTreeParams.min_positive)
 
 pub returns : goal.returns
 returns g c =

@@ -1,5 +1,4 @@
-use Rattle.std.proofs.Common.{arith, append-nil}
-use Rattle.std.proofs.lemmas.List.Sorted.{IsPermutation-refl}
+use Rattle.std.proofs.Common.{arith}
 use Rattle.rstar.proofs.inserting.Insertion.{room_one, room_same, room_more}
 use Rattle.rstar.proofs.algorithm.rstar.reinsertion.add_leaf.Goals as goal
 
@@ -9,9 +8,6 @@ returns-then-MAX_SIZE-len-clause-room g c = omega (
   room_more c.args.widest c.args.node.now.children c.hand_out.new.node.children c.hand_out.ensures.capacity,
   room_one c.args.widest c.hand_out.new.handed (omega (arith, c.requires.lists.spare.1, c.hand_out.ensures.handed_capacity)),
 )
-
-pub returns-clause-same : goal.returns-clause-same
-returns-clause-same g c = rw (c.make_place.ensures.left, append-nil c.push_reserved.new.self.items, c.push_reserved.ensures.items, c.make_place.ensures.same) (IsPermutation-refl _)
 
 pub returns-clause-room : goal.returns-clause-room
 returns-clause-room g c = omega (

@@ -1,10 +1,6 @@
 use Rattle.std.proofs.Common.{arith}
 use Rattle.rstar.proofs.algorithm.rstar.reinsertion.hand_out.Goals as goal
 
-pub move_all-requires-2-clause-room : goal.move_all-requires-2-clause-room
-move_all-requires-2-clause-room g c =
-    omega (arith, c.cut_at.ensures.first_length, c.move_all.ensures.length, c.move_all.ensures.capacity, c.push_reserved.ensures.len, c.requires.reinserts, c.args.node.now.children.ok)
-
 pub returns-clause-over : goal.returns-clause-over
 returns-clause-over g c = (
   c.move_all-2.ensures.left,

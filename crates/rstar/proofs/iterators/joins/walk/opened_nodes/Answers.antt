@@ -1,10 +1,7 @@
-use Rattle.std.proofs.Common.{◌∷◌, [], ◌∙◌, ap, sym, arith}
+use Rattle.std.proofs.Common.{◌∷◌, [], ◌∙◌, ap, sym}
 use Rattle.rstar.proofs.joining.PairsByChildren.{opened-single, opened_to-Leaf, opened_to-Parent}
 use Rattle.rstar.specs.Meets.{opened_to}
 use Rattle.rstar.proofs.iterators.joins.walk.opened_nodes.Goals as goal
-
-pub returns-in_default : goal.returns-in_default
-returns-in_default g c = absurd (omega (arith, c.in_default.ensures.cases, c.requires))
 
 pub returns-in-Leaf : goal.returns-in-Leaf
 returns-in-Leaf g c =

@@ -29,8 +29,3 @@ pub returns : goal.returns
 returns g c =
     let inv = c.loop-node.invariant in
     record { root = inv.root; opened = inv.opened; stage = inv.stage; waiting = inv.waiting; added = rw (take_all c.loop-node.node-index c.args.children.now (omega arith)) at inv.added }
-
-pub returns-in-Err : goal.returns-in-Err
-returns-in-Err g c =
-    let inv = c.loop-node.invariant in
-    record { root = inv.root; opened = inv.opened; stage = inv.stage; waiting = λ before. rw c.in-Err.ensures.err (inv.waiting before); added = tt }

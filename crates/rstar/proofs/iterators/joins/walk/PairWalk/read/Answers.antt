@@ -6,12 +6,6 @@ use Rattle.rstar.proofs.joining.PairsByChildren.{leaves}
 use Rattle.rstar.proofs.joining.PairWalks.{read-meets, move-read, move-open, open-room, passes, path-room, last-frame, finds}
 use Rattle.rstar.proofs.iterators.joins.walk.PairWalk.read.Goals as goal
 
-pub returns-in_default : goal.returns-in_default
-returns-in_default g c = absurd (omega (arith, c.requires.met.left, c.in_default.ensures.cases))
-
-pub returns-in_default-split_first : goal.returns-in_default-split_first
-returns-in_default-split_first g c = absurd (omega (arith, c.requires.met.right, c.in_default-split_first.ensures.cases))
-
 pub returns-in-Some-two_leaves : goal.returns-in-Some-two_leaves
 returns-in-Some-two_leaves g c =
     let meets = meets_by g.T.Cover.Merges.boxes g.U.Meets.seen in let left_box = g.T.Covered.object.box_of in
