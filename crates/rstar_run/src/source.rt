@@ -1,6 +1,8 @@
 //! The bytes of an input.
 
-ghost use Rattle.std.specs.Prelude.{◌≡◌, ◌⊎◌, ◌↔◌, IfOk, IfErr, IfSome};
+ghost use Rattle.std.specs.Prelude.{◌≡◌, ◌≢◌, ◌⊎◌, ◌↔◌, IfOk, IfErr, IfSome};
+ghost use Rattle.std.specs.Io.{ReadsAtMost};
+ghost use Rattle.std.specs.Io.KnownBytes.{ReadConsumes};
 ghost use Rattle.std.specs.IoError.{error_kind};
 
 use super::stops::Stop;
@@ -15,7 +17,11 @@ pub struct Source<R>(pub R);
 impl<R: Read> Read for Source<R> {
     ghost remaining = { λ source. R.remaining source.0 };
 
-    fn read(&mut self, buf: &mut [u8]) -> io::Result<usize> {
+    fn read(&mut self, buf: &mut [u8]) -> io::Result<usize>
+        ensures bound { ReadsAtMost result buf.new }
+        ensures bytes { ReadConsumes (R.remaining self.old.0) (R.remaining self.new.0) result buf.new }
+        ensures kind { IfErr result (λ e. error_kind e ≢ ErrorKind.OutOfMemory) }
+    {
         match self.0.read(buf) {
             Ok(count) => Ok(count),
             Err(e) => match e.kind() {
