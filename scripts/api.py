@@ -26,8 +26,8 @@ PROGRAM = ["run", "pack", "unpack", "mode_of"]
 LIMITS = {"docs/API.md": 30_000, "docs/DEFINITIONS.md": 28_000}
 # A definition of at most so many characters is shown with its own lines.
 SHORT = 96
-# Calls without a wrong body: what they give is the one value of its type that they are given, or nothing.
-UNTURNED = {"known", "Counted::aabb", "GeomWithData::geom", "GeomWithData::new", "InEnvelope::seen", "ObjectRef::new",
+# Calls without a wrong body: each gives the one value of its type that can be made of what it is given.
+UNTURNED = {"Counted::aabb", "GeomWithData::geom", "GeomWithData::new", "InEnvelope::seen", "ObjectRef::new",
             "PointWithData::new", "PointWithData::position", "SelectEqualsFunction::new"}
 # Words that say nothing of an answer by themselves.
 PLAIN = {"pos", "min", "table", "true", "false", "IfOk", "IfSome", "IfErr", "IfNone", "IsTrue"}
@@ -136,7 +136,7 @@ class Library:
         return {item: [name for name in names if name.startswith("*")] or names[:1] for item, names in shown.items()}
 
     def lacking(self):
-        """The listed calls with a clause that no wrong body turns, but those that have nothing to turn."""
+        """The listed calls with a clause that no wrong body turns, those of `UNTURNED` aside."""
         shown = self.wrong()
         return [item for item in self.listed if item.kind == "fn" and item.clauses and id(item) not in shown
                 and "::".join(one.name for one in (item.owner, item) if one) not in UNTURNED]

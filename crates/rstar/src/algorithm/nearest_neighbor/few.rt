@@ -142,7 +142,8 @@ fn lent<'a, T, S: Copy, E>(found: &Vec<Waiting<&'a T, S, E>>) -> Result<Vec<(&'a
 /// Whether a distance lies above the bound.
 #[inline(always)]
 fn rules_out<S: SquaredDistance>(bound: Option<S>, distance: S) -> bool
-    ensures { result ≡ true → (m : ℕ) → S.number distance ≡ pos m → IsAbove S.number bound m }
+    ensures above { result ≡ true → (m : ℕ) → S.number distance ≡ pos m → IsAbove S.number bound m }
+    ensures within { result ≡ false → (m : ℕ) → S.number distance ≡ pos m → IsAbove S.number bound m → ⊥ }
 {
     match bound {
         Some(limit) => !distance.is_within(limit),

@@ -35,7 +35,7 @@ returns-then-rules_out-clause-first g c =
     let law = measured-by g.met.T.Cover.Merges.merge_laws g.met.T.Covered.cover_law g.met.T.Measured.distance_laws c.known.ensures.range in
     let order = order_of g.T.Distance.SquaredDistance.number g.T.Distance.Ord.cmp _ g.met.T.Distance.Ord.matches_partial_cmp g.met.T.Distance.SquaredDistance.number_order in
     seeking.seek-end c.loop-current.best.bound c.loop-current.best.kept c.loop-current.invariant.best.kept
-    (seeking.seek-stops law order any_first c.in-Some.ensures.some c.in-Some.ensures.greatest c.loop-current.invariant.waiting (c.rules_out.ensures c.if-rules_out.true) c.loop-current.invariant.first)
+    (seeking.seek-stops law order any_first c.in-Some.ensures.some c.in-Some.ensures.greatest c.loop-current.invariant.waiting (c.rules_out.ensures.above c.if-rules_out.true) c.loop-current.invariant.first)
 
 pub returns-clause-first : goal.returns-clause-first
 returns-clause-first g c = seeking.seek-end c.loop-current.best.bound c.loop-current.best.kept c.loop-current.invariant.best.kept (rw c.in_default.ensures.none at c.loop-current.invariant.first)
