@@ -247,10 +247,10 @@ def faults(library, pages):
     for crate in [*CRATES, "rstar_base_vectors", "rstar_uses", "rstar_vectors"]:
         for item in [item for path in sources(crate) for item in items(path)]:
             yield from examples(f"{item.path.relative_to(ROOT)}: {item.name}", item.docs)
-        for path in sources(crate):
-            yield from attributes(path)
         for edit in edits(crate):
             yield from edit.faults
+    for path in sorted(ROOT.glob("crates/*/src/**/*.rt")):
+        yield from attributes(path)
     for item in library.lacking():
         yield f"{item.path.relative_to(ROOT)}: {item.name}: no wrong body turns it"
     yield from examples("docs/CALLING.md", (ROOT / "docs/CALLING.md").read_text().splitlines())
