@@ -27,9 +27,8 @@ pub use crate::bounds::distances::{Measured, SquaredDistance};
 pub use crate::bounds::meeting::Meets;
 pub use crate::bounds::placing::Placed;
 pub use crate::bounds::slabs::InSlabs;
-use rstar_base::algorithm::selection_functions::SelectionFunction;
-use rstar_base::envelope::{Envelope, copied_envelope};
-use rstar_base::object::RTreeObject;
+use rstar_base::envelope::copied_envelope;
+use rstar_base::{Envelope, RTreeObject, SelectionFunction};
 use std::fmt::Debug;
 
 /// An envelope that can be merged and compared.

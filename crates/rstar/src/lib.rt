@@ -17,10 +17,7 @@ pub use crate::algorithm::rstar::RStarInsertionStrategy;
 pub use crate::node::{ParentNode, RTreeNode};
 pub use crate::params::{DefaultParams, InsertCause, InsertError, InsertionStrategy, RTreeParams};
 pub use crate::rtree::RTree;
-pub use rstar_base::aabb::AABB;
-pub use rstar_base::algorithm::selection_functions::SelectionFunction;
-pub use rstar_base::envelope::{Counted, Envelope};
-pub use rstar_base::gaps::EnvelopeDistance;
-pub use rstar_base::object::{EqualEnvelopes, PointDistance, RTreeObject};
-pub use rstar_base::point::{Point, RTreeNum};
-pub use rstar_base::{aabb, envelope, mint, object, point, primitives};
+pub use rstar_base::{
+    AABB, Counted, Envelope, EnvelopeDistance, EqualEnvelopes, Point, PointDistance, RTreeNum,
+    RTreeObject, SelectionFunction, aabb, envelope, mint, object, point, primitives,
+};

@@ -6,8 +6,7 @@ ghost use Rattle.rstar_base.specs.Hulls.{hull};
 ghost use Rattle.rstar.specs.Nodes.{node_box, is_leaf_node, children_of, envelope_of};
 
 use crate::bounds::{Covered, Merges};
-use rstar_base::envelope::Envelope;
-use rstar_base::object::{Distance, RTreeObject};
+use rstar_base::{Distance, Envelope, RTreeObject};
 
 /// A node of a tree: a leaf with one element, or a parent.
 #[cycle(node)]

@@ -5,9 +5,8 @@ ghost use Rattle.rstar.specs.Insertions.{Inserts};
 ghost use Rattle.rstar.specs.Trees.{IsWholeTree};
 
 use crate::rtree::RTree;
-use rstar_base::envelope::Envelope;
-use rstar_base::object::RTreeObject;
 pub use rstar_base::params::{DefaultParams, RTreeParams, verify_parameters};
+use rstar_base::{Envelope, RTreeObject};
 
 /// The cause of a refused insertion.
 #[derive(Clone, Copy, Debug, PartialEq, Eq, Drop)]

@@ -10,10 +10,8 @@ ghost use Rattle.rstar.specs.inside.WaysDown.{finds_at, first_at, way_to, child_
 ghost use Rattle.rstar.specs.inside.WaysDown.{LendsLeaf, LendsParent, LendsChild, LendsElement};
 
 use crate::node::{ParentNode, RTreeNode};
-use rstar_base::envelope::Envelope;
-use rstar_base::object::{PointDistance, PointOf, RTreeObject};
-use rstar_base::point::Point;
 use rstar_base::primitives::GeomWithData;
+use rstar_base::{Envelope, Point, PointDistance, PointOf, RTreeObject};
 
 /// Whether an element below a node contains the point. Only parents whose envelopes contain it are visited.
 #[cycle(finding)]

@@ -20,10 +20,10 @@ use answers::{ask, join, nearest, neighbours};
 use changes::{drain, insert, load};
 pub use fits::{all_fit, is_fit};
 use readings::Reading;
-use rstar_base::envelope::Envelope;
-use rstar_base::object::{Distance, EqualEnvelopes, PointDistance, PointOf, RTreeObject};
-use rstar_base::params::RTreeParams;
-use rstar_base::point::{Point, RTreeNum};
+use rstar_base::{
+    Distance, Envelope, EqualEnvelopes, Point, PointDistance, PointOf, RTreeNum, RTreeObject,
+    RTreeParams,
+};
 use std::alloc::AllocError;
 
 /// The element types of commands. Their elements have distances, and equal ones have equal envelopes. Every

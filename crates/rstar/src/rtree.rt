@@ -27,10 +27,7 @@ use crate::algorithm::rstar::preparation::{Reserve, lists_wanted, top_up};
 use crate::algorithm::rstar::reinsertion::insert_with_reinsertion;
 use crate::node::{ParentNode, RTreeNode};
 use crate::params::{InsertError, InsertionStrategy};
-use rstar_base::envelope::Envelope;
-use rstar_base::object::RTreeObject;
-use rstar_base::params::{DefaultParams, RTreeParams};
-use rstar_base::point::Point;
+use rstar_base::{DefaultParams, Envelope, Point, RTreeObject, RTreeParams};
 use std::alloc::{AllocError, Global};
 use std::marker::PhantomData;
 

@@ -21,9 +21,8 @@ ghost use Rattle.rstar.specs.Trees.{root_of, IsWholeTree};
 
 use crate::node::{ParentNode, RTreeNode, envelope_for_children};
 use crate::rtree::RTree;
-use rstar_base::aabb::AABB;
-use rstar_base::params::RTreeParams;
 use rstar_base::point::known;
+use rstar_base::{AABB, RTreeParams};
 use std::alloc::{AllocError, AllocFailed, Global};
 
 /// Why a tree was not read or not written.

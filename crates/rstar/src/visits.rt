@@ -10,9 +10,7 @@ ghost use Rattle.rstar.specs.Visits.{IsFirst, Visits, VisitsWithin, Writes, Writ
 
 use crate::bounds::{Covered, Question};
 use crate::node::{ParentNode, RTreeNode};
-use rstar_base::algorithm::selection_functions::SelectionFunction;
-use rstar_base::envelope::Envelope;
-use rstar_base::object::RTreeObject;
+use rstar_base::{Envelope, RTreeObject, SelectionFunction};
 use std::ops::ControlFlow;
 
 /// What a traversal does at the first of several nodes.

@@ -16,3 +16,11 @@ mod places;
 pub mod point;
 pub mod primitives;
 mod segments;
+
+pub use crate::aabb::AABB;
+pub use crate::algorithm::selection_functions::SelectionFunction;
+pub use crate::envelope::{Counted, Envelope};
+pub use crate::gaps::EnvelopeDistance;
+pub use crate::object::{Distance, EqualEnvelopes, PointDistance, PointOf, RTreeObject};
+pub use crate::params::{DefaultParams, RTreeParams};
+pub use crate::point::{Point, RTreeNum};

@@ -1,11 +1,8 @@
 //! Tests of boxes: the answers on given corners.
 
 use num_traits::Zero;
-use rstar_base::aabb::{AABB, upright};
-use rstar_base::envelope::{Counted, Envelope};
-use rstar_base::gaps::EnvelopeDistance;
-use rstar_base::object::PointDistance;
-use rstar_base::point::{Point, RTreeNum};
+use rstar_base::aabb::upright;
+use rstar_base::{AABB, Counted, Envelope, EnvelopeDistance, Point, PointDistance, RTreeNum};
 use std::alloc::{AllocError, Global};
 use std::fmt::Debug;
 use std::hash::{DefaultHasher, Hash, Hasher};

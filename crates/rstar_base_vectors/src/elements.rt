@@ -4,15 +4,11 @@ ghost use Rattle.std.specs.Prelude.{◌≤◌};
 ghost use Rattle.rstar_base.specs.Elements.{carried_objects};
 
 use num_traits::One;
-use rstar_base::aabb::AABB;
-use rstar_base::envelope::Envelope;
-use rstar_base::object::{
-    Distance, PointDistance, PointOf, RTreeObject, partition_envelopes, sort_envelopes,
-};
-use rstar_base::point::{Point, RTreeNum};
+use rstar_base::object::{partition_envelopes, sort_envelopes};
 use rstar_base::primitives::{
     CachedEnvelope, GeomWithData, Line, ObjectRef, PointWithData, Rectangle,
 };
+use rstar_base::{AABB, Distance, Envelope, Point, PointDistance, PointOf, RTreeNum, RTreeObject};
 use std::alloc::Global;
 use std::cell::Cell;
 use std::rc::Rc;

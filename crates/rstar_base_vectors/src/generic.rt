@@ -3,16 +3,17 @@
 ghost use Rattle.std.specs.Prelude.{◌≡◌, ◌<◌, ◌↔◌, ◌==◌, ℕ, IsTrue, if◌then◌else◌};
 ghost use Rattle.rstar_base.specs.Points.{table};
 
-use rstar_base::aabb::AABB;
 use rstar_base::algorithm::selection_functions::{
     SelectAtPointFunction, SelectEqualsFunction, SelectInEnvelopeFuncIntersecting,
-    SelectInEnvelopeFunction, SelectWithinDistanceFunction, SelectionFunction,
+    SelectInEnvelopeFunction, SelectWithinDistanceFunction,
 };
-use rstar_base::envelope::Envelope;
 use rstar_base::mint::Point2;
-use rstar_base::object::{Distance, EqualEnvelopes, PointDistance, PointOf, RTreeObject};
-use rstar_base::point::{Point, known};
+use rstar_base::point::known;
 use rstar_base::primitives::{GeomWithData, Line, Rectangle};
+use rstar_base::{
+    AABB, Distance, Envelope, EqualEnvelopes, Point, PointDistance, PointOf, RTreeObject,
+    SelectionFunction,
+};
 
 /// An element with a number.
 type Numbered<R> = GeomWithData<R, u64>;

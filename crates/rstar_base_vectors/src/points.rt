@@ -2,7 +2,7 @@
 
 use num_traits::Zero;
 use rstar_base::mint::{Point2, Point3};
-use rstar_base::point::{Point, RTreeNum};
+use rstar_base::{Point, RTreeNum};
 
 /// Whether sums and differences of the ends of a scalar type are clamped.
 fn sums_at_ends<S: RTreeNum>(low: S, high: S, minus_one: S) -> bool {

@@ -5,10 +5,9 @@ ghost use Rattle.std.specs.Prelude.{◌<◌};
 use crate::marks::is_marked;
 use num_traits::Zero;
 use rstar_base::clusters::{ClusterGroupIterator, calculate_number_of_clusters_on_axis};
-use rstar_base::envelope::Envelope;
-use rstar_base::object::{Distance, RTreeObject, partition_envelopes};
-use rstar_base::params::DefaultParams;
+use rstar_base::object::partition_envelopes;
 use rstar_base::point::least;
+use rstar_base::{DefaultParams, Distance, Envelope, RTreeObject};
 use std::alloc::{AllocError, Global};
 
 /// Whether there is a slab of this length, with this least key on an axis, or 0 where that is less. Elements

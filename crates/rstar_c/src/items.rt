@@ -5,7 +5,7 @@ ghost use Rattle.rstar_base.specs.Boxes.{is_empty_box};
 ghost use Rattle.rstar_c.specs.Items.{box_between, box_of, corners_of, item_of};
 
 use rstar::RTreeParams;
-use rstar_base::aabb::AABB;
+use rstar_base::AABB;
 use rstar_base::primitives::{GeomWithData, Rectangle};
 
 /// Two opposite corners of a box, in any order.

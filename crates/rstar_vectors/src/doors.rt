@@ -3,10 +3,8 @@
 ghost use Rattle.rstar_vectors.specs.Doors.{doors_objects, doors_distances};
 ghost use Rattle.rstar_vectors.specs.laws.DoorsLaws.{doors_object_law, doors_laws, doors_equal};
 
-use rstar_base::aabb::AABB;
-use rstar_base::envelope::Envelope;
-use rstar_base::object::{EqualEnvelopes, PointDistance, RTreeObject};
-use rstar_base::point::{Point, least};
+use rstar_base::point::least;
+use rstar_base::{AABB, Envelope, EqualEnvelopes, Point, PointDistance, RTreeObject};
 
 /// A place with two doors. Its distance is that of the nearer door, and it contains the points of its doors.
 #[derive(PartialEq, Drop)]

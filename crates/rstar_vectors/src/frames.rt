@@ -10,10 +10,9 @@ ghost use Rattle.rstar_vectors.specs.laws.FrameLaws.{frame_laws};
 
 use crate::interval::squared_nearer_end;
 use num_traits::{Bounded, Zero};
-use rstar_base::aabb::AABB;
-use rstar_base::envelope::Envelope;
-use rstar_base::object::{PointDistance, RTreeObject, contains_by_distance, up_to};
-use rstar_base::point::{Point, least};
+use rstar_base::object::{contains_by_distance, up_to};
+use rstar_base::point::least;
+use rstar_base::{AABB, Envelope, Point, PointDistance, RTreeObject};
 
 /// The outline of the box between two opposite corners. From a point inside, its distance is that of the
 /// nearest face; from a point outside, that of the box.

@@ -1,7 +1,6 @@
 //! Insertion and splits: the shapes that fixed sequences of elements give.
 
-ghost use Rattle.std.specs.Prelude.{◌≡◌, ◌≤◌, false};
-ghost use Rattle.rstar.specs.Trees.{IsWholeTree};
+ghost use Rattle.std.specs.Prelude.{◌≤◌, false};
 
 use crate::node_sizes::Huge;
 use crate::scenarios::{ALONG_A_LINE, inserted, let_go, stands_within};
@@ -11,10 +10,7 @@ use rstar::params::{
     DefaultParams, InsertCause, InsertError, InsertionStrategy, RTreeParams, verify_parameters,
 };
 use rstar::rtree::RTree;
-use rstar_base::aabb::AABB;
-use rstar_base::envelope::Envelope;
-use rstar_base::object::{EqualEnvelopes, RTreeObject};
-use rstar_base::point::Point;
+use rstar_base::{AABB, Envelope, EqualEnvelopes, Point, RTreeObject};
 use std::alloc::{AllocError, Global};
 
 const TWO_HEAPS: [[i32; 2]; 7] = [[12, 12], [0, 0], [10, 10], [2, 2], [11, 11], [3, 3], [1, 1]];

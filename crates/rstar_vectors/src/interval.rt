@@ -5,8 +5,8 @@ ghost use Rattle.std.specs.Int.{int_min, int_max};
 ghost use Rattle.rstar_vectors.specs.Stretches.{gap_between, length_between, nearer_end, held_square};
 
 use num_traits::Zero;
-use rstar_base::envelope::Envelope;
-use rstar_base::point::{Point, RTreeNum, greatest, least, not_above};
+use rstar_base::point::{greatest, least, not_above};
+use rstar_base::{Envelope, Point, RTreeNum};
 use std::marker::Model;
 
 /// An interval with the greatest level of the intervals merged into it.

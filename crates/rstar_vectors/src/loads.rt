@@ -15,10 +15,7 @@ use rstar::object::PointOf;
 use rstar::params::{DefaultParams, RTreeParams};
 use rstar::primitives::{CachedEnvelope, GeomWithData, Line, Rectangle};
 use rstar::rtree::RTree;
-use rstar_base::aabb::AABB;
-use rstar_base::envelope::Envelope;
-use rstar_base::object::{EqualEnvelopes, PointDistance, RTreeObject};
-use rstar_base::point::Point;
+use rstar_base::{AABB, Envelope, EqualEnvelopes, Point, PointDistance, RTreeObject};
 use std::alloc::{AllocError, Global};
 use std::fmt::Debug;
 

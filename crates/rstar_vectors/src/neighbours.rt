@@ -15,10 +15,7 @@ use rstar::algorithm::nearest_neighbor::{
 };
 use rstar::params::{DefaultParams, RTreeParams};
 use rstar::rtree::RTree;
-use rstar_base::aabb::AABB;
-use rstar_base::envelope::Envelope;
-use rstar_base::object::{Distance, PointDistance, PointOf, RTreeObject};
-use rstar_base::point::{Point, RTreeNum};
+use rstar_base::{AABB, Distance, Envelope, Point, PointDistance, PointOf, RTreeNum, RTreeObject};
 use std::alloc::{AllocError, Global};
 
 /// A place.

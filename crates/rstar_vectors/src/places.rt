@@ -9,10 +9,7 @@ use crate::doors::Doors;
 use crate::scenarios::let_go;
 use rstar::params::{DefaultParams, InsertError, RTreeParams};
 use rstar::rtree::RTree;
-use rstar_base::aabb::AABB;
-use rstar_base::envelope::Envelope;
-use rstar_base::object::RTreeObject;
-use rstar_base::point::Point;
+use rstar_base::{AABB, Envelope, Point, RTreeObject};
 use std::alloc::{AllocError, Global};
 
 /// A tree of two elements of any type.

@@ -2,7 +2,7 @@
 //!
 //! What is done to a tree is generic, and a test gives it elements.
 
-ghost use Rattle.std.specs.Prelude.{◌≡◌, ◌≤◌, false, IfOk, IfSome};
+ghost use Rattle.std.specs.Prelude.{◌≡◌, ◌≤◌, false, IfOk};
 ghost use Rattle.rstar.specs.Drains.{drained, IsDraining};
 ghost use Rattle.rstar.specs.inside.Removals.{IsWithout};
 ghost use Rattle.rstar.specs.Trees.{elements_in, IsWholeTree};

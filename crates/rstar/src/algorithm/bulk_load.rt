@@ -16,10 +16,7 @@ use crate::algorithm::bulk_load::depth::load_depth;
 use crate::algorithm::bulk_load::parts::load_node;
 use crate::node::ParentNode;
 pub use rstar_base::clusters::{ClusterGroupIterator, calculate_number_of_clusters_on_axis};
-use rstar_base::envelope::Envelope;
-use rstar_base::object::RTreeObject;
-use rstar_base::params::RTreeParams;
-use rstar_base::point::Point;
+use rstar_base::{Envelope, Point, RTreeObject, RTreeParams};
 use std::alloc::AllocError;
 
 /// The root of a tree loaded with these elements (Lee and Lee 2003).

@@ -14,9 +14,7 @@ use crate::algorithm::rstar::split::split_in_place;
 use crate::node::RTreeNode;
 use crate::params::{InsertCause, InsertError, InsertionStrategy};
 use crate::rtree::RTree;
-use rstar_base::envelope::Envelope;
-use rstar_base::object::RTreeObject;
-use rstar_base::params::RTreeParams;
+use rstar_base::{Envelope, RTreeObject, RTreeParams};
 
 /// Inserts as the R*-tree does: choice of the subtree, forced reinsertion, splits. The source is Beckmann et
 /// al. 1990.

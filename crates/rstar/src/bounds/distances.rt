@@ -8,9 +8,7 @@ ghost use Rattle.rstar_base.specs.Points.{table};
 ghost use Rattle.rstar_base.specs.Sizes.{IsNarrow};
 
 use crate::bounds::Covered;
-use rstar_base::envelope::Envelope;
-use rstar_base::object::{Distance, PointDistance, PointOf, RTreeObject};
-use rstar_base::point::{self, Point, RTreeNum};
+use rstar_base::{Distance, Envelope, Point, PointDistance, PointOf, RTreeNum, RTreeObject, point};
 
 /// A squared distance: an ordered number.
 pub trait SquaredDistance: Copy + Ord {

@@ -5,8 +5,7 @@ ghost use Rattle.rstar.specs.Joins.{SeenLaws, meets_by};
 
 use crate::bounds::Covered;
 use crate::iterators::InEnvelope;
-use rstar_base::envelope::Envelope;
-use rstar_base::object::RTreeObject;
+use rstar_base::{Envelope, RTreeObject};
 
 /// Whether envelopes of two element types intersect.
 pub trait Meets<T: Covered>: Covered {

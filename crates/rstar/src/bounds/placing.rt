@@ -7,9 +7,7 @@ ghost use Rattle.std.specs.List.Sorted.{IsPermutation};
 use crate::algorithm::rstar::{choose, reinsertion, split};
 use crate::bounds::Covered;
 use crate::node::RTreeNode;
-use rstar_base::envelope::Envelope;
-use rstar_base::object::RTreeObject;
-use rstar_base::params::RTreeParams;
+use rstar_base::{Envelope, RTreeObject, RTreeParams};
 
 /// An element that an insertion can place.
 pub trait Placed: Covered {

@@ -8,10 +8,7 @@ ghost use Rattle.rstar.specs.inside.Loads.{CutsSlab};
 
 use crate::algorithm::bulk_load::{depth, parts};
 use crate::bounds::Covered;
-use rstar_base::envelope::Envelope;
-use rstar_base::object::{self, RTreeObject};
-use rstar_base::params::RTreeParams;
-use rstar_base::point::Point;
+use rstar_base::{Envelope, Point, RTreeObject, RTreeParams, object};
 
 /// An element that a bulk load can cut into slabs.
 pub trait InSlabs: Covered {

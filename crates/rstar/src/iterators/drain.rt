@@ -6,10 +6,7 @@ ghost use Rattle.rstar.specs.Drains.{left_in_tree, IsDraining, TakesNext};
 
 use crate::algorithm::removal::Rest;
 use crate::rtree::RTree;
-use rstar_base::algorithm::selection_functions::SelectionFunction;
-use rstar_base::envelope::Envelope;
-use rstar_base::object::RTreeObject;
-use rstar_base::params::{DefaultParams, RTreeParams};
+use rstar_base::{DefaultParams, Envelope, RTreeObject, RTreeParams, SelectionFunction};
 
 /// A drain: each `next` removes a selected element and yields it. They come in some order.
 ///

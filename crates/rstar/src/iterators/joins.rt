@@ -14,8 +14,7 @@ use crate::bounds::{Covered, Meets};
 pub use crate::iterators::joins::selves::SelfIntersectionIterator;
 use crate::iterators::joins::walk::PairWalk;
 use crate::node::ParentNode;
-use rstar_base::envelope::Envelope;
-use rstar_base::object::RTreeObject;
+use rstar_base::{Envelope, RTreeObject};
 use std::alloc::AllocError;
 
 /// Element types with envelopes of type `E`. Every element type has it for its own envelope type alone. It

@@ -19,12 +19,12 @@ use crate::rtree::RTree;
 use crate::visits::{Look, NodesRef, enters};
 use rstar_base::algorithm::selection_functions::{
     SelectAllFunc, SelectAtPointFunction, SelectInEnvelopeFuncIntersecting,
-    SelectInEnvelopeFunction, SelectWithinDistanceFunction, SelectionFunction,
+    SelectInEnvelopeFunction, SelectWithinDistanceFunction,
 };
-use rstar_base::envelope::Envelope;
-use rstar_base::object::{EqualEnvelopes, PointDistance, PointOf, RTreeObject};
-use rstar_base::params::RTreeParams;
-use rstar_base::point::{Point, RTreeNum};
+use rstar_base::{
+    Envelope, EqualEnvelopes, Point, PointDistance, PointOf, RTreeNum, RTreeObject, RTreeParams,
+    SelectionFunction,
+};
 use std::alloc::{AllocError, Global};
 
 /// The elements of a query.

@@ -14,12 +14,12 @@ use crate::replay::{Query, Reply, Scanned};
 use crate::rtree::RTree;
 use rstar_base::algorithm::selection_functions::{
     SelectAllFunc, SelectAtPointFunction, SelectInEnvelopeFuncIntersecting,
-    SelectInEnvelopeFunction, SelectWithinDistanceFunction, SelectionFunction,
+    SelectInEnvelopeFunction, SelectWithinDistanceFunction,
 };
-use rstar_base::envelope::Envelope;
-use rstar_base::object::{EqualEnvelopes, PointDistance, RTreeObject};
-use rstar_base::params::RTreeParams;
-use rstar_base::point::{Point, RTreeNum};
+use rstar_base::{
+    Envelope, EqualEnvelopes, Point, PointDistance, RTreeNum, RTreeObject, RTreeParams,
+    SelectionFunction,
+};
 use std::alloc::AllocError;
 
 /// Replaces the tree by a bulk load.

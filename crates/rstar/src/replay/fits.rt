@@ -7,9 +7,7 @@ ghost use Rattle.rstar.specs.Steps.{IsFit};
 
 use crate::algorithm::bulk_load::none_empty;
 use crate::replay::{Command, Scanned};
-use rstar_base::envelope::Envelope;
-use rstar_base::object::{EqualEnvelopes, PointDistance, PointOf, RTreeObject};
-use rstar_base::point::{Point, RTreeNum};
+use rstar_base::{Envelope, EqualEnvelopes, Point, PointDistance, PointOf, RTreeNum, RTreeObject};
 
 /// Whether `step` may run a command. No element in it has an empty envelope, and the points of a load or a
 /// join have at least two axes. It looks at each element of the command.

@@ -8,8 +8,7 @@ ghost use Rattle.rstar.specs.Trees.{elements_in, IsWholeTree};
 use crate::algorithm::nearest_neighbor::{AnyFirst, ElementOrder, OwnOrder};
 use crate::replay::{Reply, Scanned};
 use crate::rtree::RTree;
-use rstar_base::object::{EqualEnvelopes, PointDistance, PointOf};
-use rstar_base::params::RTreeParams;
+use rstar_base::{EqualEnvelopes, PointDistance, PointOf, RTreeParams};
 
 /// Which of several elements at equal distance comes first.
 pub(super) trait Reading<T: PointDistance + EqualEnvelopes>: ElementOrder<T> {

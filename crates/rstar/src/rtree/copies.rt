@@ -12,10 +12,8 @@ ghost use Rattle.rstar.specs.inside.Traversals.{IsLevel};
 use crate::algorithm::rstar::preparation::Reserve;
 use crate::node::{ParentNode, RTreeNode};
 use crate::rtree::RTree;
-use rstar_base::envelope::{Envelope, copied_envelope};
-use rstar_base::object::RTreeObject;
-use rstar_base::params::RTreeParams;
-use rstar_base::point::Point;
+use rstar_base::envelope::copied_envelope;
+use rstar_base::{Envelope, Point, RTreeObject, RTreeParams};
 use std::alloc::AllocError;
 use std::marker::PhantomData;
 

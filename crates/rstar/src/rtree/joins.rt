@@ -10,9 +10,7 @@ ghost use Rattle.rstar.specs.Trees.{root_of, elements_in, IsWholeTree};
 
 use crate::iterators::{InEnvelope, IntersectionIterator, SelfIntersectionIterator};
 use crate::rtree::RTree;
-use rstar_base::envelope::Envelope;
-use rstar_base::object::RTreeObject;
-use rstar_base::params::RTreeParams;
+use rstar_base::{Envelope, RTreeObject, RTreeParams};
 use std::alloc::AllocError;
 
 impl<T: RTreeObject, Params: RTreeParams> RTree<T, Params> {

@@ -9,10 +9,7 @@ ghost use Rattle.rstar.specs.Trees.{root_of, elements_in, IsWholeTree};
 use crate::algorithm::bulk_load::depth::load_depth;
 use crate::algorithm::bulk_load::load_root;
 use crate::rtree::RTree;
-use rstar_base::envelope::Envelope;
-use rstar_base::object::RTreeObject;
-use rstar_base::params::{DefaultParams, RTreeParams};
-use rstar_base::point::Point;
+use rstar_base::{DefaultParams, Envelope, Point, RTreeObject, RTreeParams};
 use std::alloc::AllocError;
 
 impl<T: RTreeObject> RTree<T> {

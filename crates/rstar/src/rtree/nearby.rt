@@ -8,12 +8,10 @@ ghost use Rattle.rstar.specs.Trees.{root_of, elements_in, IsWholeTree};
 use crate::iterators::LocateWithinDistanceOfEnvelope;
 use crate::rtree::RTree;
 use rstar_base::algorithm::envelope_selection::SelectWithinDistanceOfEnvelope;
-use rstar_base::algorithm::selection_functions::SelectionFunction;
-use rstar_base::envelope::Envelope;
-use rstar_base::gaps::EnvelopeDistance;
-use rstar_base::object::{Distance, RTreeObject};
-use rstar_base::params::RTreeParams;
-use rstar_base::point::{Point, RTreeNum};
+use rstar_base::{
+    Distance, Envelope, EnvelopeDistance, Point, RTreeNum, RTreeObject, RTreeParams,
+    SelectionFunction,
+};
 use std::alloc::AllocError;
 
 impl<T: RTreeObject, Params: RTreeParams> RTree<T, Params>

@@ -18,10 +18,9 @@ use crate::algorithm::nearest_neighbor::{
 };
 use crate::rtree::RTree;
 use rstar_base::algorithm::selection_functions::SelectWithinDistanceFunction;
-use rstar_base::envelope::Envelope;
-use rstar_base::object::{Distance, PointDistance, PointOf, RTreeObject};
-use rstar_base::params::RTreeParams;
-use rstar_base::point::{Point, RTreeNum};
+use rstar_base::{
+    Distance, Envelope, Point, PointDistance, PointOf, RTreeNum, RTreeObject, RTreeParams,
+};
 use std::alloc::AllocError;
 
 impl<T: PointDistance, Params: RTreeParams> RTree<T, Params> {

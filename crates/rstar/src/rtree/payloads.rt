@@ -9,11 +9,9 @@ ghost use Rattle.rstar.specs.Trees.{elements_in, IsWholeTree};
 
 use crate::payloads::{first_finding, payload_below};
 use crate::rtree::RTree;
-use rstar_base::envelope::Envelope;
-use rstar_base::object::{PointDistance, PointOf, RTreeObject};
-use rstar_base::params::RTreeParams;
-use rstar_base::point::{Point, known};
+use rstar_base::point::known;
 use rstar_base::primitives::GeomWithData;
+use rstar_base::{Envelope, Point, PointDistance, PointOf, RTreeObject, RTreeParams};
 
 impl<R: PointDistance, D: Drop, Params: RTreeParams> RTree<GeomWithData<R, D>, Params> {
     /// A mutable borrow of the payload of an element that contains a point. `None` comes exactly where none

@@ -15,13 +15,11 @@ use crate::algorithm::removal::earliest::take_earliest;
 use crate::algorithm::removal::{Rest, take_below};
 use crate::rtree::RTree;
 use crate::visits::enters;
-use rstar_base::algorithm::selection_functions::{
-    SelectAtPointFunction, SelectEqualsFunction, SelectionFunction,
+use rstar_base::algorithm::selection_functions::{SelectAtPointFunction, SelectEqualsFunction};
+use rstar_base::{
+    Envelope, EqualEnvelopes, Point, PointDistance, PointOf, RTreeObject, RTreeParams,
+    SelectionFunction,
 };
-use rstar_base::envelope::Envelope;
-use rstar_base::object::{EqualEnvelopes, PointDistance, PointOf, RTreeObject};
-use rstar_base::params::RTreeParams;
-use rstar_base::point::Point;
 
 impl<T: RTreeObject, Params: RTreeParams> RTree<T, Params> {
     /// Removes one element that a function selects. With a function that is not lawful it may miss some.

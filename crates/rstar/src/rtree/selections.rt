@@ -16,12 +16,12 @@ use crate::rtree::RTree;
 use crate::visits::{enters, first_below};
 use rstar_base::algorithm::selection_functions::{
     SelectAllFunc, SelectAtPointFunction, SelectInEnvelopeFuncIntersecting,
-    SelectInEnvelopeFunction, SelectWithinDistanceFunction, SelectionFunction,
+    SelectInEnvelopeFunction, SelectWithinDistanceFunction,
 };
-use rstar_base::envelope::Envelope;
-use rstar_base::object::{Distance, PointDistance, PointOf, RTreeObject};
-use rstar_base::params::RTreeParams;
-use rstar_base::point::{Point, RTreeNum};
+use rstar_base::{
+    Distance, Envelope, Point, PointDistance, PointOf, RTreeNum, RTreeObject, RTreeParams,
+    SelectionFunction,
+};
 use std::alloc::AllocError;
 
 impl<T: RTreeObject, Params: RTreeParams> RTree<T, Params> {

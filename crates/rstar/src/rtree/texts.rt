@@ -2,9 +2,7 @@
 
 use crate::node::{ParentNode, RTreeNode};
 use crate::rtree::RTree;
-use rstar_base::envelope::Envelope;
-use rstar_base::object::RTreeObject;
-use rstar_base::params::RTreeParams;
+use rstar_base::{Envelope, RTreeObject, RTreeParams};
 use std::fmt::{self, Debug, DebugSet, Formatter, Write};
 
 /// The elements below a root, as a set.

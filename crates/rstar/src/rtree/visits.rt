@@ -10,12 +10,10 @@ use crate::rtree::RTree;
 use crate::visits::{select_nodes, select_nodes_mut};
 use rstar_base::algorithm::selection_functions::{
     SelectAtPointFunction, SelectInEnvelopeFuncIntersecting, SelectInEnvelopeFunction,
-    SelectionFunction,
 };
-use rstar_base::envelope::Envelope;
-use rstar_base::object::{PointDistance, PointOf, RTreeObject};
-use rstar_base::params::RTreeParams;
-use rstar_base::point::{Point, RTreeNum};
+use rstar_base::{
+    Envelope, Point, PointDistance, PointOf, RTreeNum, RTreeObject, RTreeParams, SelectionFunction,
+};
 use std::ops::ControlFlow;
 
 impl<T: RTreeObject, Params: RTreeParams> RTree<T, Params> {

@@ -1,6 +1,6 @@
 //! Commands over points: a caller with all that a step promises, rows, and thousands of commands beside a plain list.
 
-ghost use Rattle.std.specs.Prelude.{◌≡◌, ◌<◌, ◌≤◌, ◌↔◌, ◌⊎◌, IfOk, OnErr};
+ghost use Rattle.std.specs.Prelude.{◌≡◌, ◌<◌, ◌↔◌, ◌⊎◌, IfOk, OnErr};
 ghost use Rattle.std.specs.List.{AllByRecursion};
 ghost use Rattle.rstar.specs.declared.replay.Reply.TheVariants.{TooMany};
 ghost use Rattle.rstar.specs.Clones.{ClonesEqual};

@@ -7,8 +7,7 @@ ghost use Rattle.rstar.specs.inside.Loads.{part_bound};
 
 use crate::bounds::InSlabs;
 use rstar_base::clusters::calculate_number_of_clusters_on_axis;
-use rstar_base::object::RTreeObject;
-use rstar_base::params::RTreeParams;
+use rstar_base::{RTreeObject, RTreeParams};
 
 /// The number of slabs along each axis for a node of `n` elements.
 pub(crate) fn slabs_on_axis<T: RTreeObject, Params: RTreeParams>(n: usize) -> usize

@@ -14,8 +14,8 @@ ghost use Rattle.rstar.specs.inside.ParentBounds.{Widens};
 use crate::bounds::{Covered, InSlabs};
 use crate::node::{ParentNode, RTreeNode, envelope_for_children};
 use num_traits::checked_pow;
-use rstar_base::object::{RTreeObject, partition_envelopes};
-use rstar_base::params::RTreeParams;
+use rstar_base::object::partition_envelopes;
+use rstar_base::{RTreeObject, RTreeParams};
 use std::alloc::AllocError;
 
 /// A leaf for each element.

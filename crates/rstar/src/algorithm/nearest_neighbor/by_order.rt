@@ -6,9 +6,8 @@ ghost use Rattle.rstar.specs.ByOrder.{search_by_order, neighbors_left, IsSearchi
 use crate::algorithm::nearest_neighbor::search::NeighborSearch;
 use crate::algorithm::nearest_neighbor::waiting::ParentsFirst;
 use crate::node::{ParentNode, RTreeNode};
-use rstar_base::envelope::Envelope;
-use rstar_base::object::{Distance, PointDistance, PointOf, RTreeObject};
-use rstar_base::point::{Point, RTreeNum, known};
+use rstar_base::point::known;
+use rstar_base::{Distance, Envelope, Point, PointDistance, PointOf, RTreeNum, RTreeObject};
 use std::alloc::AllocError;
 
 /// The elements of a tree with their squared distances, by distance and at equal distance by `Ord`.

@@ -4,9 +4,7 @@ ghost use Rattle.std.specs.Prelude.{◌<◌, length, IfSome};
 
 use crate::node::RTreeNode;
 use num_traits::Zero;
-use rstar_base::envelope::Envelope;
-use rstar_base::object::{Distance, RTreeObject};
-use rstar_base::point::RTreeNum;
+use rstar_base::{Distance, Envelope, RTreeNum, RTreeObject};
 
 /// The place of the child for a new envelope: of the children that contain it, the first of least area;
 /// where none does, the first with the least enlargement. `above_leaves` says that the children's children

@@ -12,7 +12,7 @@ use crate::algorithm::rstar::preparation::Reserve;
 use crate::algorithm::rstar::split::{move_all, move_over};
 use crate::bounds::{Covered, Merges, Placed};
 use crate::node::{ParentNode, RTreeNode, envelope_for_children};
-use rstar_base::params::RTreeParams;
+use rstar_base::RTreeParams;
 use std::mem;
 
 /// Makes room for one more item: the items of a full list move into the last spare list.

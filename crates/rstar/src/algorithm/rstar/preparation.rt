@@ -5,7 +5,7 @@ ghost use Rattle.std.specs.List.{AllByRecursion};
 ghost use Rattle.rstar.specs.Heights.{spare_lists};
 ghost use Rattle.rstar.specs.inside.ParentBounds.{IsSpare};
 
-use rstar_base::params::RTreeParams;
+use rstar_base::RTreeParams;
 use std::alloc::{AllocError, Global};
 
 /// The number of spare lists for an insertion below a root with this many levels of parents; `None` where it

@@ -16,9 +16,7 @@ use crate::algorithm::rstar::preparation::Reserve;
 use crate::algorithm::rstar::split::{cut_at, make_place, move_all};
 use crate::bounds::{Covered, Merges, Placed};
 use crate::node::{ParentNode, RTreeNode, envelope_for_children};
-use rstar_base::envelope::Envelope;
-use rstar_base::object::{Distance, PointDistance, PointOf, RTreeObject};
-use rstar_base::params::RTreeParams;
+use rstar_base::{Distance, Envelope, PointDistance, PointOf, RTreeObject, RTreeParams};
 use std::cmp::Ordering;
 
 /// The squared distance from an element's center to a point.

@@ -5,10 +5,8 @@ ghost use Rattle.std.specs.List.Sorted.{IsPermutation};
 ghost use Rattle.rstar.specs.inside.ParentBounds.{has_room};
 ghost use Rattle.rstar.specs.Cuts.{IsArrangement, overlap_at, areas_at, IsLeastCut};
 
-use rstar_base::envelope::Envelope;
-use rstar_base::object::{Distance, RTreeObject, envelope_of_all, sort_envelopes};
-use rstar_base::params::RTreeParams;
-use rstar_base::point::{Point, RTreeNum};
+use rstar_base::object::{envelope_of_all, sort_envelopes};
+use rstar_base::{Distance, Envelope, Point, RTreeNum, RTreeObject, RTreeParams};
 use std::mem;
 
 /// Moves the items from `at` on into the spare list. It takes no memory.
