@@ -41,7 +41,7 @@ pub type Distance<T> = <<<T as RTreeObject>::Envelope as Envelope>::Point as Poi
 ///         (λ d. P.coord d.back) };
 /// }
 /// ```
-/// *`crates/rstar_vectors/src/doors.rt`*
+/// *`crates/rstar_base_vectors/src/doors.rt`*
 pub trait RTreeObject: Drop {
     /// The type of the envelopes.
     type Envelope: Envelope;

@@ -15,7 +15,7 @@ use std::rc::Rc;
 
 /// Whether an element has this squared distance from a point, is not within the next lesser one, and
 /// contains the point as expected.
-fn is_so_far<T: PointDistance>(
+pub(crate) fn is_so_far<T: PointDistance>(
     element: &T,
     point: &PointOf<T>,
     distance: Distance<T>,

@@ -1,16 +1,20 @@
-//! Rows: what each call of `rstar_base` answers.
+//! Types of one's own over `rstar_base`, and rows: what each of its calls answers.
 //!
 //! What is asked is generic over the points, a test gives rows: the same steps at a concrete type are dear to prove.
 #![tactic(auto)]
 
 #[cfg(test)]
 mod boxes;
+pub mod counted;
+pub mod doors;
 #[cfg(test)]
 mod elements;
+pub mod frames;
 #[cfg(test)]
 mod generic;
 #[cfg(test)]
 mod heaps;
+pub mod interval;
 #[cfg(test)]
 mod marks;
 #[cfg(test)]

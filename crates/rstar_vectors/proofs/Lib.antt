@@ -1,6 +1,5 @@
 pub mod Callers
 pub mod Drained
-pub mod Faces
 pub mod FirstSeen
 pub mod Fits
 pub mod LeftHalf

@@ -1,13 +1,7 @@
-//! Envelopes that count: elements of a user's own, each of which counts once in every parent above it.
+//! Envelopes that count: each element counts once in every parent above it.
 
 ghost use Rattle.std.specs.Prelude.{◌≡◌, ◌<◌, ◌↔◌, ◌⊎◌, min, length, IfOk, OnErr};
 ghost use Rattle.std.specs.List.{AllByRecursion};
-ghost use Rattle.rstar_base.specs.BoxData.{box_data};
-ghost use Rattle.rstar_base.specs.Counts.{counted_objects};
-ghost use Rattle.rstar_base.specs.PointElements.{point_object, point_distances};
-ghost use Rattle.rstar_base.specs.laws.CountedLaws.{counted_element_laws};
-ghost use Rattle.rstar_base.specs.laws.PointElementLaws.{point_distance_laws};
-ghost use Rattle.rstar_vectors.specs.laws.PlaceLaws.{place_equal};
 ghost use Rattle.rstar.specs.declared.replay.Reply.TheVariants.{TooMany};
 ghost use Rattle.rstar.specs.Heights.{height_of, spare_lists};
 ghost use Rattle.rstar.specs.Steps.{IsFit, IsInsertion, IsRefusal, Step, Run};
@@ -17,65 +11,11 @@ ghost use Rattle.rstar.specs.Trees.{root_of, size_of, elements_in, IsUnchanged, 
 use crate::scenarios::{inserted, let_go, stands_with};
 use crate::trials::{ALL, By, Drained, Order, Step as Turn, go_through};
 use rstar::replay::{Command, Query, Reply, Scanned, all_fit, replay, step};
-use rstar::{
-    AABB, Counted, DefaultParams, Envelope, EqualEnvelopes, Point, PointDistance, RTree,
-    RTreeObject, RTreeParams,
-};
+use rstar::{AABB, Counted, DefaultParams, Envelope, Point, RTree, RTreeObject, RTreeParams};
+use rstar_base_vectors::counted::Place;
 use std::alloc::{AllocError, Global};
 
 type At = [i64; 2];
-
-/// A place with a number.
-#[derive(Clone, Copy, PartialEq, Drop)]
-pub struct Place<P> {
-    /// Its number.
-    pub number: u64,
-    /// Where it is.
-    pub at: P,
-}
-
-impl<P: Point> RTreeObject for Place<P> {
-    type Envelope = Counted<P>;
-
-    ghost object = { counted_objects (box_data P.Scalar.low P.Scalar.high P.DIMENSIONS)
-        (point_object P.Scalar.low P.Scalar.high P.DIMENSIONS (λ p. P.coord p.at)) };
-
-    #[tactic(auto, using(crate::specs::laws::PlaceLaws::one_point))]
-    fn envelope(&self) -> Counted<P> {
-        Counted::new(self.at.envelope())
-    }
-
-    ghost object_law = { λ p h. h.1 };
-}
-
-impl<P: Point> PointDistance for Place<P> {
-    ghost distances = { point_distances P.Scalar.high P.DIMENSIONS (λ p. P.coord p.at) };
-
-    fn distance_2(&self, point: &P) -> P::Scalar {
-        self.at.distance_2(point)
-    }
-
-    fn contains_point(&self, point: &P) -> bool {
-        self.at.contains_point(point)
-    }
-
-    fn distance_2_if_less_or_equal(
-        &self,
-        point: &P,
-        max_distance_2: P::Scalar,
-    ) -> Option<P::Scalar> {
-        self.at.distance_2_if_less_or_equal(point, max_distance_2)
-    }
-
-    ghost distance_laws = { counted_element_laws (box_data P.Scalar.low P.Scalar.high P.DIMENSIONS)
-        (point_object P.Scalar.low P.Scalar.high P.DIMENSIONS (λ p. P.coord p.at))
-        (point_distances P.Scalar.high P.DIMENSIONS (λ p. P.coord p.at))
-        (point_distance_laws P.Scalar.low P.Scalar.high P.DIMENSIONS (λ p. P.coord p.at)) };
-}
-
-impl<P: Point> EqualEnvelopes for Place<P> {
-    ghost equal_law = { λ a b _ _ e. place_equal P.DIMENSIONS P.coord P.eq P.same_law a.number b.number a.at b.at e };
-}
 
 /// What the envelope of a tree's root counts: each element once.
 pub fn count_at_root<P: Point>(tree: &RTree<Place<P>>) -> usize

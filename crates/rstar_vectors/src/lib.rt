@@ -1,4 +1,4 @@
-//! Tests over trees, and types of one's own.
+//! Tests over trees.
 #![tactic(auto)]
 
 #[cfg(test)]
@@ -6,15 +6,9 @@ mod by_order;
 #[cfg(test)]
 mod counted;
 #[cfg(test)]
-mod doors;
-#[cfg(test)]
 mod extremes;
 #[cfg(test)]
-mod frames;
-#[cfg(test)]
 mod insertion;
-#[cfg(test)]
-mod interval;
 #[cfg(test)]
 mod joins;
 #[cfg(test)]

@@ -23,6 +23,7 @@ use rstar::object::{Distance, PointDistance, PointOf, RTreeObject};
 use rstar::point::Point;
 use rstar::primitives::{Line, Rectangle};
 use rstar::{DefaultParams, Envelope, RTree, RTreeParams};
+use rstar_base_vectors::frames::Frame;
 use std::alloc::{AllocError, Global};
 use std::cell::Cell;
 use std::cmp::Ordering;
@@ -405,6 +406,20 @@ fn lines_and_rectangles_come_by_their_own_distances(rt: HostRuntime) {
             "row {row}"
         );
     }
+}
+
+// The inner frame is nearer to a point between both than the outer one, whose box contains it.
+#[test]
+fn an_inner_frame_comes_first(rt: HostRuntime) {
+    let outer = Frame {
+        one: [0i32, 10],
+        other: [10, 0],
+    };
+    let inner = Frame {
+        one: [4, 8],
+        other: [6, 9],
+    };
+    assert!(rt; come_and_go(rt.alloc(), &[outer, inner], [5, 5], &[9, 25], &[]));
 }
 
 // ---- beside a plain scan

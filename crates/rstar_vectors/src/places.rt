@@ -5,11 +5,11 @@ ghost use Rattle.std.specs.Iterator.{IsFinite};
 ghost use Rattle.rstar.specs.Trees.{IsWholeTree, elements_in};
 ghost use Rattle.rstar_vectors.specs.Callers.{IsCountOf};
 
-use crate::doors::Doors;
 use crate::scenarios::let_go;
 use rstar::params::{DefaultParams, InsertError, RTreeParams};
 use rstar::rtree::RTree;
 use rstar_base::{AABB, Envelope, Point, RTreeObject};
+use rstar_base_vectors::doors::Doors;
 use std::alloc::{AllocError, Global};
 
 /// A tree of two elements of any type.

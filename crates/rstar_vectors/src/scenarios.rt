@@ -10,10 +10,9 @@ ghost use Rattle.rstar.specs.Trees.{IsWholeTree};
 
 use rstar::algorithm::bulk_load::none_empty;
 use rstar::node::{ParentNode, RTreeNode};
-use rstar::object::{Distance, PointOf};
 use rstar::point::RTreeNum;
 use rstar::primitives::{GeomWithData, Rectangle};
-use rstar::{Envelope, Point, PointDistance, RTree, RTreeObject, RTreeParams};
+use rstar::{Envelope, Point, RTree, RTreeObject, RTreeParams};
 use std::alloc::{AllocError, Global};
 
 /// Seven points in two groups on a line, which lie under two parents.
@@ -131,21 +130,6 @@ pub(crate) fn fences_of(alloc: Global, rows: &[Outlined]) -> Vec<Fence> {
             .is_err();
     }
     all
-}
-
-/// Whether an element lies at this squared distance from a point, and not within a lesser one, and contains the point as
-/// told.
-pub(crate) fn lies_at<T: PointDistance>(
-    element: &T,
-    point: &PointOf<T>,
-    distance: Distance<T>,
-    lesser: Distance<T>,
-    contained: bool,
-) -> bool {
-    element.distance_2(point) == distance
-        && element.distance_2_if_less_or_equal(point, distance) == Some(distance)
-        && element.distance_2_if_less_or_equal(point, lesser).is_none()
-        && element.contains_point(point) == contained
 }
 
 /// Lets a tree go. What drops a tree is proved at each end of a function that lets one go by itself, which is more than a

@@ -3,7 +3,7 @@ use Rattle.std.specs.Prelude.{◌&&◌, if◌then◌else◌, ℕ, ℤ, zero, suc
 use Rattle.rstar_base.specs.Boxes.{box_contains_point, merge_boxes}
 use Rattle.rstar_base.specs.Distances.{near_face, least_below, box_distance}
 use Rattle.rstar_base.specs.Elements.{Distances}
-use Rattle.rstar_vectors.specs.Doors.{corner}
+use Rattle.rstar_base_vectors.specs.Doors.{corner}
 
 -- the square from a point to the nearer face of a box on axis k
 abbrev pub near_face_at : ℕ → List (ℤ × ℤ) → List ℤ → ℕ

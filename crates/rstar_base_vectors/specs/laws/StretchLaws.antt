@@ -12,7 +12,7 @@ use Rattle.rstar_base.specs.Scalars.{InRange}
 use Rattle.rstar_base.specs.Points.{IsPoint}
 use Rattle.rstar_base.specs.laws.PointLemmas.{and_parts, and_both}
 use Rattle.rstar_base.specs.Envelopes.{EnvelopeLaws}
-use Rattle.rstar_vectors.specs.Stretches.{low, high, greatest_number, length_between, gap_between, nearer_end, held_square, empty_stretch, IsStretch, merge_stretches, number_of, stretch_data}
+use Rattle.rstar_base_vectors.specs.Stretches.{low, high, greatest_number, length_between, gap_between, nearer_end, held_square, empty_stretch, IsStretch, merge_stretches, number_of, stretch_data}
 
 least_comm : (x y : ℤ) → int_min x y ≡ int_min y x
 least_comm x y = omega (arith, ints, clamps)

@@ -3,10 +3,10 @@
 ghost use Rattle.std.specs.Prelude.{◌≡◌, pos};
 ghost use Rattle.rstar_base.specs.Boxes.{merge_boxes};
 ghost use Rattle.rstar_base.specs.Points.{table};
-ghost use Rattle.rstar_vectors.specs.Doors.{corner, doors_objects};
-ghost use Rattle.rstar_vectors.specs.Frames.{nearest_face, frame_distances};
-ghost use Rattle.rstar_vectors.specs.laws.DoorsLaws.{doors_object_law};
-ghost use Rattle.rstar_vectors.specs.laws.FrameLaws.{frame_laws};
+ghost use Rattle.rstar_base_vectors.specs.Doors.{corner, doors_objects};
+ghost use Rattle.rstar_base_vectors.specs.Frames.{nearest_face, frame_distances};
+ghost use Rattle.rstar_base_vectors.specs.laws.DoorsLaws.{doors_object_law};
+ghost use Rattle.rstar_base_vectors.specs.laws.FrameLaws.{frame_laws};
 
 use crate::interval::squared_nearer_end;
 use num_traits::{Bounded, Zero};
@@ -87,13 +87,7 @@ impl<P: Point> PointDistance for Frame<P> {
 #[cfg(test)]
 mod tests {
     use super::*;
-    use crate::neighbour_rows::come_and_go;
-    use crate::scenarios::lies_at;
-
-    const WIDE: Frame<[i32; 2]> = Frame {
-        one: [0, 10],
-        other: [10, 0],
-    };
+    use crate::elements::is_so_far;
 
     // A point, its squared distance from the outline, and whether it lies on it: inside, nearest to a face or in the middle,
     // on a face and at a corner, and outside.
@@ -107,22 +101,13 @@ mod tests {
             ([12, 5], 4, false),
             ([-3, 14], 25, false),
         ];
+        let wide = Frame {
+            one: [0, 10],
+            other: [10, 0],
+        };
         for row in 0..ROWS.len() {
             let &(point, distance, is_on) = &ROWS[row];
-            assert!(rt;
-                lies_at(&WIDE, &point, distance, distance - 1, is_on),
-                "row {row}"
-            );
+            assert!(rt; is_so_far(&wide, &point, distance, is_on), "row {row}");
         }
-    }
-
-    // The inner frame is nearer to a point between both than the outer one, whose box contains it.
-    #[test]
-    fn an_inner_frame_comes_first(rt: HostRuntime) {
-        let inner = Frame {
-            one: [4, 8],
-            other: [6, 9],
-        };
-        assert!(rt; come_and_go(rt.alloc(), &[WIDE, inner], [5, 5], &[9, 25], &[]));
     }
 }

@@ -1,7 +1,7 @@
 //! An element type of one's own: a place with two doors.
 
-ghost use Rattle.rstar_vectors.specs.Doors.{doors_objects, doors_distances};
-ghost use Rattle.rstar_vectors.specs.laws.DoorsLaws.{doors_object_law, doors_laws, doors_equal};
+ghost use Rattle.rstar_base_vectors.specs.Doors.{doors_objects, doors_distances};
+ghost use Rattle.rstar_base_vectors.specs.laws.DoorsLaws.{doors_object_law, doors_laws, doors_equal};
 
 use rstar_base::point::least;
 use rstar_base::{AABB, Envelope, EqualEnvelopes, Point, PointDistance, RTreeObject};
@@ -52,7 +52,7 @@ impl<P: Point> EqualEnvelopes for Doors<P> {
 #[cfg(test)]
 mod tests {
     use super::*;
-    use crate::scenarios::lies_at;
+    use crate::elements::is_so_far;
 
     // A point, its squared distance from the nearer door, and whether a door is there. The third lies inside the
     // envelope, and at neither door.
@@ -70,10 +70,7 @@ mod tests {
         };
         for row in 0..ROWS.len() {
             let &(point, distance, is_there) = &ROWS[row];
-            assert!(rt;
-                lies_at(&shop, &point, distance, distance - 1, is_there),
-                "row {row}"
-            );
+            assert!(rt; is_so_far(&shop, &point, distance, is_there), "row {row}");
         }
     }
 }

@@ -1,7 +1,7 @@
 use Rattle.std.proofs.Common.{◌≡◌, pos, unsigned_abs}
 use Rattle.rstar_base.specs.Distances.{least_below}
-use Rattle.rstar_vectors.proofs.Faces.{face_on}
-use Rattle.rstar_vectors.proofs.frames.nearest_face.Given as goal
+use Rattle.rstar_base_vectors.proofs.Faces.{face_on}
+use Rattle.rstar_base_vectors.proofs.frames.nearest_face.Given as goal
 
 -- the least over the axes so far
 abbrev pub invariant-loop-axis : goal.invariant-loop-axis

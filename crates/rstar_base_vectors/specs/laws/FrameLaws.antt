@@ -10,8 +10,8 @@ use Rattle.rstar_base.specs.Distances.{square_apart, nearest_on_axis, distance_s
 use Rattle.rstar_base.specs.BoxData.{box_data}
 use Rattle.rstar_base.specs.Elements.{DistanceLaws}
 use Rattle.rstar_base.specs.laws.BoxElementLaws.{box_within}
-use Rattle.rstar_vectors.specs.Doors.{doors_objects}
-use Rattle.rstar_vectors.specs.Frames.{near_face_at, nearest_face, frame_distances}
+use Rattle.rstar_base_vectors.specs.Doors.{doors_objects}
+use Rattle.rstar_base_vectors.specs.Frames.{near_face_at, nearest_face, frame_distances}
 
 -- ---- from inside the box it is no distance
 

@@ -6,9 +6,9 @@ use Rattle.rstar_base.specs.Points.{table}
 use Rattle.rstar_base.specs.Boxes.{merge_boxes}
 use Rattle.rstar_base.specs.Distances.{square_apart, near_face, least_below}
 use Rattle.rstar_base.specs.laws.Leasts.{least-most}
-use Rattle.rstar_vectors.specs.Doors.{corner}
-use Rattle.rstar_vectors.specs.Frames.{near_face_at, nearest_face}
-use Rattle.rstar_vectors.specs.Stretches.{gap_between, nearer_end, held_square}
+use Rattle.rstar_base_vectors.specs.Doors.{corner}
+use Rattle.rstar_base_vectors.specs.Frames.{near_face_at, nearest_face}
+use Rattle.rstar_base_vectors.specs.Stretches.{gap_between, nearer_end, held_square}
 
 -- the square to the nearer face on axis j, where the corners have the coordinates c and d
 abbrev pub face_on : (ℕ → ℤ) → (ℕ → ℤ) → (ℕ → ℤ) → ℕ → ℕ

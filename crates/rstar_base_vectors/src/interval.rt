@@ -2,7 +2,7 @@
 
 ghost use Rattle.std.specs.Prelude.{◌≡◌, pos, min, unsigned_abs};
 ghost use Rattle.std.specs.Int.{int_min, int_max};
-ghost use Rattle.rstar_vectors.specs.Stretches.{gap_between, length_between, nearer_end, held_square};
+ghost use Rattle.rstar_base_vectors.specs.Stretches.{gap_between, length_between, nearer_end, held_square};
 
 use num_traits::Zero;
 use rstar_base::point::{greatest, least, not_above};
@@ -19,7 +19,7 @@ pub struct Stretch {
 
 impl Model for Stretch {
     ghost use Rattle.std.specs.Prelude.{ℤ, ℕ, refl};
-    ghost use Rattle.rstar_vectors.specs.Stretches.{IsStretch};
+    ghost use Rattle.rstar_base_vectors.specs.Stretches.{IsStretch};
 
     ghost Value = { ℤ × ℤ × ℕ };
 
@@ -89,8 +89,8 @@ pub(crate) fn squared_nearer_end<S: RTreeNum>(from: S, to: S, at: S) -> S
 }
 
 impl Envelope for Stretch {
-    ghost use Rattle.rstar_vectors.specs.Stretches.{stretch_data};
-    ghost use Rattle.rstar_vectors.specs.laws.StretchLaws.{stretch_laws, stretch_eq};
+    ghost use Rattle.rstar_base_vectors.specs.Stretches.{stretch_data};
+    ghost use Rattle.rstar_base_vectors.specs.laws.StretchLaws.{stretch_laws, stretch_eq};
 
     type Point = [i64; 1];
 

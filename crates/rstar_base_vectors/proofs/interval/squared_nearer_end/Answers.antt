@@ -1,6 +1,6 @@
 use Rattle.rstar_base.proofs.Squares.{square_law}
 use Rattle.rstar_base.proofs.MinMax.{least_clamped}
-use Rattle.rstar_vectors.proofs.interval.squared_nearer_end.Goals as goal
+use Rattle.rstar_base_vectors.proofs.interval.squared_nearer_end.Goals as goal
 
 pub returns : goal.returns
 returns g c =

@@ -1,6 +1,6 @@
 use Rattle.std.proofs.Common.{◌∙◌, ap, sym}
 use Rattle.rstar_base.proofs.Measures.{extent_up, extent_none}
-use Rattle.rstar_vectors.proofs.interval.length.Goals as goal
+use Rattle.rstar_base_vectors.proofs.interval.length.Goals as goal
 
 pub returns-then-not_above : goal.returns-then-not_above
 returns-then-not_above g c =

@@ -1,8 +1,8 @@
 use Rattle.std.proofs.Common.{◌≡◌, ◌∙◌, ◌<◌, ap, pos, unsigned_abs, refl, arith}
 use Rattle.rstar_base.specs.Distances.{least_below}
 use Rattle.rstar_base.proofs.MinMax.{above_zero}
-use Rattle.rstar_vectors.proofs.Faces.{face_on, face-more, all-faces}
-use Rattle.rstar_vectors.proofs.frames.nearest_face.Goals as goal
+use Rattle.rstar_base_vectors.proofs.Faces.{face_on, face-more, all-faces}
+use Rattle.rstar_base_vectors.proofs.frames.nearest_face.Goals as goal
 
 pub loop-axis-preserved : goal.loop-axis-preserved
 loop-axis-preserved g c =

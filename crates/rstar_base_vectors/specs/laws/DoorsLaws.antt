@@ -13,7 +13,7 @@ use Rattle.rstar_base.specs.BoxData.{box_data}
 use Rattle.rstar_base.specs.laws.BoxEnvelopes.{box_laws}
 use Rattle.rstar_base.specs.Elements.{ObjectLaws, DistanceLaws}
 use Rattle.rstar_base.specs.laws.PointElementLaws.{point_distance_laws}
-use Rattle.rstar_vectors.specs.Doors.{corner, doors_objects, doors_distances}
+use Rattle.rstar_base_vectors.specs.Doors.{corner, doors_objects, doors_distances}
 
 pub lesser : (x y z : ℤ) (a b : ℕ) → z ≡ int_min x y → x ≡ pos a → y ≡ pos b → z ≡ pos (min a b)
 lesser x y z a b h k l = omega (arith, ints, clamps)

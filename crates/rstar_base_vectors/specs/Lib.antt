@@ -1,0 +1,4 @@
+pub mod Doors
+pub mod Frames
+pub mod Stretches
+pub mod laws
