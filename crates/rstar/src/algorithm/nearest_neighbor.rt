@@ -19,7 +19,7 @@ pub(crate) use few::one_nearest;
 pub(crate) use firsts::first_nearest;
 pub use rstar_base::heap::SmallHeap;
 use rstar_base::{Distance, Envelope, Point, PointDistance, PointOf, RTreeNum, RTreeObject};
-pub(crate) use search::NeighborSearch;
+pub(crate) use search::{NeighborSearch, fits};
 use std::alloc::AllocError;
 pub(crate) use ties::all_nearest;
 pub(crate) use waiting::{AnyFirst, ElementOrder, OwnOrder};

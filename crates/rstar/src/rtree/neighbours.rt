@@ -14,7 +14,7 @@ ghost use Rattle.rstar.specs.Trees.{root_of, size_of, elements_in, IsWholeTree};
 use crate::algorithm::nearest_neighbor::{
     AnyFirst, NearestNeighborByOrderIterator, NearestNeighborDistance2Iterator,
     NearestNeighborIterator, NeighborSearch, Neighbors, NeighborsByOrder, NeighborsWithDistance,
-    OwnOrder, all_nearest, first_nearest, nearest_neighbor_with_distance_2, one_nearest,
+    OwnOrder, all_nearest, first_nearest, fits, nearest_neighbor_with_distance_2, one_nearest,
 };
 use crate::rtree::RTree;
 use rstar_base::algorithm::selection_functions::SelectWithinDistanceFunction;
@@ -47,6 +47,7 @@ impl<T: PointDistance, Params: RTreeParams> RTree<T, Params> {
         ensures searching { IsSearching T.Envelope.boxes T.object T.distances T.Envelope.Point.DIMENSIONS
             T.Envelope.Point.coord T.Envelope.Point.Scalar.cmp T.Envelope.Point.Scalar.value (with_distances result) }
     {
+        fits::<Distance<T>>();
         let search = NeighborSearch::new(&self.root);
         Neighbors { search, point }
     }
@@ -65,6 +66,7 @@ impl<T: PointDistance, Params: RTreeParams> RTree<T, Params> {
         ensures searching { IsSearching T.Envelope.boxes T.object T.distances T.Envelope.Point.DIMENSIONS
             T.Envelope.Point.coord T.Envelope.Point.Scalar.cmp T.Envelope.Point.Scalar.value result }
     {
+        fits::<Distance<T>>();
         let search = NeighborSearch::new(&self.root);
         NeighborsWithDistance { search, point }
     }
@@ -245,6 +247,7 @@ impl<T: PointDistance + Ord, Params: RTreeParams> RTree<T, Params> {
         ensures searching { IsSearchingByOrder T.Envelope.boxes T.object T.distances T.cmp T.Envelope.Point.DIMENSIONS
             T.Envelope.Point.coord T.Envelope.Point.Scalar.cmp T.Envelope.Point.Scalar.value result }
     {
+        fits::<Distance<T>>();
         let search = NeighborSearch::new(&self.root);
         NeighborsByOrder { search, point }
     }
