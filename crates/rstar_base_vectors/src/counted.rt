@@ -60,3 +60,26 @@ impl<P: Point> PointDistance for Place<P> {
 impl<P: Point> EqualEnvelopes for Place<P> {
     ghost equal_law = { λ a b _ _ e. place_equal P.DIMENSIONS P.coord P.eq P.same_law a.number b.number a.at b.at e };
 }
+
+#[cfg(test)]
+mod tests {
+    use super::*;
+    use crate::elements::is_so_far;
+
+    // A place lies at its point and counts once; two merged envelopes count both, and two places are equal by number and point.
+    #[test]
+    fn a_place_counts_once(rt: HostRuntime) {
+        let one = Place {
+            number: 7,
+            at: [3i64, 4],
+        };
+        let other = Place {
+            number: 8,
+            at: [3, 4],
+        };
+        assert!(rt; is_so_far(&one, &[0, 0], 25, false) && is_so_far(&one, &[3, 4], 0, true));
+        let both = one.envelope().merged(&other.envelope());
+        assert!(rt; one.envelope().count() == 1 && both.count() == 2);
+        assert!(rt; one == one && one != other);
+    }
+}

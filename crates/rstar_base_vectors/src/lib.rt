@@ -1,4 +1,4 @@
-//! Types of one's own over `rstar_base`, and rows: what each of its calls answers.
+//! Types of one's own that need no tree, and rows: what each call of `rstar_base` answers.
 //!
 //! What is asked is generic over the points, a test gives rows: the same steps at a concrete type are dear to prove.
 #![tactic(auto)]
