@@ -30,7 +30,7 @@ SHORT = 96
 UNTURNED = {"Counted::aabb", "GeomWithData::geom", "GeomWithData::new", "InEnvelope::seen", "ObjectRef::new",
             "PointWithData::new", "PointWithData::position", "SelectEqualsFunction::new"}
 # Words that say nothing of an answer by themselves.
-PLAIN = {"pos", "min", "table", "true", "false", "IfOk", "IfSome", "IfErr", "IfNone", "IsTrue"}
+PLAIN = {"ℕ", "pos", "min", "table", "true", "false", "IfOk", "IfSome", "IfErr", "IfNone", "IsTrue"}
 
 
 def head(page):

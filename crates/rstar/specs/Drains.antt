@@ -55,8 +55,8 @@ module _ {T F D E P S X : Type 0} (v : Boxes E) (o : Objects T E) (max : ℕ) (a
   unfoldable pub IsDraining : DrainIterator T F D (Vec ℕ Global) E P S X → Type 0
   IsDraining it = HasItsPlace it
 
-  -- a call of `next`: it removes a selected element from the tree, which stays whole; at `None` no selected element is
-  -- left, and the tree is as it was
+  -- a call of `next`: it removes a selected element from the tree, which stays whole; at `None` none is left, and the
+  -- tree is as it was
   pub record TakesNext (old : DrainIterator T F D (Vec ℕ Global) E P S X) (r : Option T)
       (new : DrainIterator T F D (Vec ℕ Global) E P S X) : Type 0 where
     pub taken : IsWithout (left_in_tree old) r (left_in_tree new)

@@ -1,6 +1,6 @@
 -- What a search for neighbours shows, what an iterator over it gives, and what it costs. All distances are squared.
 -- T is the element's type, E its envelope's, P its point's, S its scalar's.
-use Rattle.std.specs.Prelude.{◌≡◌, ℕ, ◌+◌, ◌-◌, ◌<◌, ◌≤◌, min, ℤ, pos, List, [], ◌∷◌, Option, Result, IfSome, IfNone, IfOk, IfErr}
+use Rattle.std.specs.Prelude.{◌≡◌, ℕ, ◌+◌, ◌-◌, ◌<◌, ◌≤◌, min, ℤ, pos, List, [], ◌∷◌, length, Option, Result, IfSome, IfNone, IfOk, IfErr}
 use Rattle.std.specs.Borrow.{Bor}
 use Rattle.std.specs.Iterator.{Count}
 use Rattle.std.specs.List.{AllByRecursion}
@@ -35,6 +35,10 @@ pub record Search (T E P : Type 0) : Type 0 where
   pub waiting : List (RTreeNode T E)
   pub opened : ℕ
   pub stage : Stage
+
+-- a search through these nodes may want memory: a parent is among them, and more than 32 elements lie in them
+abbrev pub MayWantMemory : {T E : Type 0} → List (RTreeNode T E) → Type 0
+MayWantMemory waiting = (0 < all_parents waiting) × (32 < length (all_elements waiting))
 
 module _ {T E P : Type 0} where
   -- the elements that a search has not yielded
@@ -96,9 +100,8 @@ module _ {T E : Type 0} (v : Boxes E) (d : Distances T) (p : List ℤ) where
   abbrev pub HasCost : {P : Type 0} → Search T E P → T → Type 0
   HasCost s t = s.opened + far_of (λ e. v.distance_2 e p) (d.distance_2 t p) s.root ≤ parents_of s.root
 
--- a call of `next`: it yields a nearest waiting element, and `None` where none waits. A refusal comes once, only where
--- a parent waits, and then `None`. The parents visited are those of the root that neither wait nor lie below what
--- waits.
+-- a call of `next`: a nearest waiting element, or `None` where none waits. A refusal comes once, only where a parent
+-- waits and more than 32 elements, and then `None`. Visited are the parents that neither wait nor lie below what waits.
 pub record GivesNeighbor {T E P A Z : Type 0} (v : Boxes E) (d : Distances T) (axes : ℕ) (coord : P → ℕ → ℤ)
     (element : A → T) (old : Search T E P) (r : Option (Result A Z)) (new : Search T E P) : Type 0 where
   pub root : new.root ≡ old.root
@@ -109,7 +112,7 @@ pub record GivesNeighbor {T E P A Z : Type 0} (v : Boxes E) (d : Distances T) (a
   pub none : IfNone r (IsGoingOn old → elements_waiting old ≡ [])
   pub over : IfNone r (IsGoingOn old → new.waiting ≡ [])
   pub goes_on_at_end : IfNone r (IsGoingOn old → IsGoingOn new)
-  pub refused : IfSome r (λ x. IfErr x (λ _. 0 < all_parents old.waiting))
+  pub refused : IfSome r (λ x. IfErr x (λ _. MayWantMemory old.waiting))
   pub goes_on : IfSome r (λ x. IfOk x (λ _. IsGoingOn new))
   pub ends : IfSome r (λ x. IfErr x (λ _. IsGoingOn new → ⊥))
   pub once : IfSome r (λ _. IsGoingOn old)

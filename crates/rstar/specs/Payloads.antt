@@ -49,8 +49,8 @@ abbrev pub LendsPayloadOf : (R D Q E P S X : RattleType) → Boxes E.Denot → D
 LendsPayloadOf R D Q E P S X v dist p t r =
     LendsIf (tree_row (geom_row R D) Q E P S X) D t r (put_payload v dist p t.now) t.now
 
--- the payload of an element that contains the point. After a write, that element has it in its place, every other
--- element and all parents are the same, and the tree is whole.
+-- the payload of an element that contains the point. After a write, that element has it in its place, all else is the
+-- same, and the tree is whole.
 pub record IsPayloadOf {R D Q E P S X : Type 0} (v : Boxes E) (o : Objects (R × D) E) (dist : Distances (R × D))
     (max : ℕ) (p : List ℤ) (tree : RTree (R × D) Q E P S X) (d : D) : Type 0 where
   pub before : List (R × D)

@@ -50,8 +50,7 @@ pub record IsMade {T F E : Type 0} (accepts : F → E → Bool) (over : ParentNo
   pub opened : opened_by it ≤ 1
   pub at_most : opened_by it ≤ reach_of asked over
 
--- a call of `next`: it yields the first element that is to come; at the end it has visited `reach_by` parents, and
--- never more
+-- a call of `next`: the first element that is to come; at the end it has visited `reach_by` parents, and never more
 pub record GivesNext {T F E : Type 0} (accepts : F → E → Bool) (selects : F → T → Bool)
     (old : SelectionIterator T F E) (r : Option (Bor T)) (new : SelectionIterator T F E) : Type 0 where
   pub gives : YieldsFirstRef (to_come accepts selects) old r new

@@ -1,6 +1,6 @@
 //! Loops over neighbours, at concrete types and at any.
 
-ghost use Rattle.std.specs.Prelude.{◌≡◌, ℕ, [], pos, min, map, Ok, IfOk, IfSome, IfNone};
+ghost use Rattle.std.specs.Prelude.{◌≡◌, ◌≤◌, ℕ, [], length, pos, min, map, Ok, IsOk, IfOk, IfSome, IfNone};
 ghost use Rattle.std.specs.Iterator.{IsFinite, Drains};
 ghost use Rattle.std.specs.List.Sorted.{IsPermutation};
 ghost use Rattle.rstar_base.specs.Points.{table};
@@ -42,6 +42,21 @@ pub(crate) fn in_order<'a, T: PointDistance>(
         all.push(item)?;
     }
     Ok((all, neighbors.opened()))
+}
+
+/// The nearest element, by the first call of `next`, which is not refused where there are few.
+pub(crate) fn first_of<'a, T: PointDistance>(
+    tree: &'a RTree<T>,
+    place: PointOf<T>,
+) -> Option<Result<&'a T, AllocError>>
+    requires narrow { IsNarrow T.Envelope.Point.row }
+    requires whole { IsWholeTree T.Envelope.boxes T.object ⟦<DefaultParams as RTreeParams>⟧.MAX_SIZE tree.now }
+    ensures none { IfNone result (elements_in tree.now ≡ []) }
+    ensures few { length (elements_in tree.now) ≤ 32 → IfSome result IsOk }
+{
+    fits::<PointOf<T>>();
+    let mut neighbors = tree.nearest_neighbor_iter(place);
+    neighbors.next()
 }
 
 /// All items of an iterator over results, by a `for`, or its first refusal.
@@ -101,6 +116,7 @@ pub(crate) fn one_below<'a, T: PointDistance>(
     ensures none { IfOk result (λ r. IfNone r (elements_in tree.now ≡ [])) }
     ensures one { IfOk result (λ r. IfSome r (λ x. IsNearest (λ t. T.distances.distance_2 t
         (table T.Envelope.Point.DIMENSIONS (T.Envelope.Point.coord place))) (elements_in tree.now) x.0.now)) }
+    ensures few { parents_of (root_of tree.now) ≤ 32 → IsOk result }
 {
     nearest_neighbor_with_distance_2(tree.root(), place)
 }
@@ -152,7 +168,11 @@ mod tests {
             points_in_order(rt.alloc(), &tree, [6, 6]),
             &[[5, 5], [2, 2], [0, 0]],
         );
+        let is_first = match first_of(&tree, [6, 6]) {
+            Some(Ok(place)) => *place == [5, 5],
+            _ => false,
+        };
         let_go(tree);
-        assert!(rt; is_so);
+        assert!(rt; is_so & is_first);
     }
 }

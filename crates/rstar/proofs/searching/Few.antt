@@ -18,6 +18,7 @@ use Rattle.std.proofs.lemmas.Simd.{map-map}
 use Rattle.std.proofs.Math.Seq.{get_or-append_seam}
 use Rattle.std.proofs.lemmas.List.Sorted.{IsPermutation-refl, IsPermutation-trans, IsPermutation-sym, IsPermutation-cons, IsPermutation-append_left, IsPermutation-append_right, IsPermutation-append_comm, IsPermutation-insert, IsPermutation-middle, IsPermutation-map, length_permutation, sum_by_pushed}
 use Rattle.std.proofs.lemmas.List.Concat.{flat_map-append}
+use Rattle.std.proofs.lemmas.List.Sums.{sum_by-cons}
 use Rattle.rstar_base.specs.Envelopes.{Boxes}
 use Rattle.rstar_base.specs.Elements.{Objects, Distances}
 use Rattle.rstar_base.specs.SmallHeaps.{Rises}
@@ -35,7 +36,7 @@ use Rattle.rstar.specs.Nodes.{elements, parents, all_elements, all_parents, chil
 use Rattle.rstar.specs.inside.Searches.{nearest_on_top}
 use Rattle.rstar.proofs.commands.Firsts.{stated_ranks}
 use Rattle.rstar.proofs.searching.Nearness.{IsMeasured, IsPart, part-Parent, parts}
-use Rattle.rstar.proofs.trees.ByChildren.{elements-Parent, elements-Leaf}
+use Rattle.rstar.proofs.trees.ByChildren.{elements-Parent, elements-Leaf, parents-Parent}
 use Rattle.rstar.proofs.searching.Searches.{no-farther}
 
 -- ---- the last of a list
@@ -303,3 +304,8 @@ module _ {T E S O : Type 0} {w : Waiting (Bor (ParentNode T E)) S O} {ws us : Li
 
   pub pushed-parents : all_parents (waiting_parents us) ≡ parents (Parent w.node.now) + all_parents (waiting_parents ws)
   pushed-parents = sum_by_pushed parents (Parent w.node.now) (waiting_parents ws) (waiting_parents us) pushed-nodes
+
+-- no more items wait than parents, those below them included
+pub no-more-waiting : {T E S O : Type 0} (ws : List (Waiting (Bor (ParentNode T E)) S O)) → length ws ≤ all_parents (waiting_parents ws)
+no-more-waiting [] = omega arith
+no-more-waiting (w ∷ ws) = omega (arith, no-more-waiting ws, sum_by-cons parents (Parent w.node.now) (waiting_parents ws), parents-Parent w.node.now)

@@ -143,6 +143,16 @@ module _ {T E : Type 0} {IsPoint : List ℤ → Type 0} {v : Boxes E} {o : Objec
       some h [] none all = absurd (none refl)
       some h (n ∷ ns) none all = λ e. all.0.1 (nil_from_length (elements n) (omega (arith, ap length e, length-append (elements n) (all_elements ns))))
 
+  -- whole nodes have at least as many elements
+  pub no-more-nodes : (ns : List (RTreeNode T E)) → AreWholeNodes v o ns → length ns ≤ length (all_elements ns)
+  no-more-nodes [] w = omega arith
+  no-more-nodes (n ∷ ns) w =
+      let some : 0 < length (elements n) = elim (cases_lt 0 (length (elements n))) [
+        | inl some ↦ some
+        | inr none ↦ absurd (some-elements w.0.0 n w.0.1 (nil_from_length (elements n) (omega (arith, none))))
+      ] in
+      omega (arith, some, no-more-nodes ns w.1, length-append (elements n) (all_elements ns))
+
   -- not all elements of a node are farther than its min-max distance
   pub node-within : (n : RTreeNode T E) → IsPart n → (m : ℕ) → v.min_max_dist_2 (node_box o.box_of n) p ≤ m → AllByRecursion (λ t. m < d.distance_2 t p) (elements n) → ⊥
   node-within n w m le far =

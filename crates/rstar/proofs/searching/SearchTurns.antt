@@ -1,12 +1,12 @@
 -- What a turn of a search keeps, over the items of its heap, and the opening of its root.
-use Rattle.std.proofs.Common.{◌≡◌, ℕ, ◌+◌, ◌<◌, ◌≤◌, min, ℤ, pos, false, List, [], ◌∷◌, ◌++◌, ap, ◌∙◌, subst, All, arith, Option, None, Some, Ok, Err}
+use Rattle.std.proofs.Common.{◌≡◌, ℕ, ◌+◌, ◌<◌, ◌≤◌, min, ℤ, pos, false, List, [], ◌∷◌, ◌++◌, length, ap, ◌∙◌, subst, All, arith, Option, None, Some, Ok, Err}
 use Rattle.std.specs.Borrow.{Bor}
 use Rattle.std.specs.List.{AllByRecursion}
 use Rattle.std.specs.List.Sorted.{IsPermutation}
 use Rattle.std.specs.Ordering.{is_lt, int_cmp}
 use Rattle.std.specs.declared.alloc.AllocError.{AllocError}
 use Rattle.std.specs.declared.cmp.Ordering.{Ordering}
-use Rattle.std.proofs.lemmas.List.Sorted.{IsPermutation-refl, IsPermutation-trans, IsPermutation-map, sum_by_popped}
+use Rattle.std.proofs.lemmas.List.Sorted.{IsPermutation-refl, IsPermutation-trans, IsPermutation-map, length_permutation, sum_by_popped}
 use Rattle.std.proofs.lemmas.List.Elements.{recursion_from_All}
 use Rattle.rstar_base.specs.Envelopes.{Boxes, EnvelopeLaws}
 use Rattle.rstar_base.specs.Elements.{Objects, ObjectLaws, Distances, DistanceLaws}
@@ -17,11 +17,11 @@ use Rattle.rstar.specs.declared.node.RTreeNode.{RTreeNode, Leaf, Parent}
 use Rattle.rstar.specs.declared.node.ParentNode.{ParentNode}
 use Rattle.rstar.specs.Nodes.{all_elements, all_parents, parents, children_of, IsWhole}
 use Rattle.rstar_base.specs.Counts.{usize_max}
-use Rattle.rstar.specs.Neighbors.{IsNeighbor}
+use Rattle.rstar.specs.Neighbors.{IsNeighbor, MayWantMemory}
 use Rattle.rstar.specs.inside.Searches.{Item, NodeSearch, nearest_on_top, waiting_of, ComesFirst, IsReady, IsUnrefused, waiting_nodes, distance_of, AreWholeNodes, AreWaiting, IsRunning}
 use Rattle.rstar.specs.inside.SearchSteps.{GivesNext, IsUnderWay}
 use Rattle.rstar.proofs.trees.ByChildren.{node_distance-Leaf, parents-Parent}
-use Rattle.rstar.proofs.searching.Nearness.{IsMeasured, IsPart, part-Parent}
+use Rattle.rstar.proofs.searching.Nearness.{IsMeasured, IsPart, no-more-nodes, part-Parent}
 use Rattle.rstar.proofs.searching.Searches.{first-nodes, parts-parent, fewer-parents, same-elements, counted-parent, far-parent, bag-given, least-given, far-given, counted-leaf, far-rest, fresh-counted, fresh-far}
 
 -- the laws of a function's element type, at a point
@@ -103,6 +103,14 @@ module _ {T E : Type 0} {IsPoint : List ℤ → Type 0} {v : Boxes E} {o : Objec
     pub parent-waits : 0 < all_parents old
     parent-waits = omega (arith, sum_by_popped parents (Parent q) old rest (nodes-as (Parent q) is), parents-Parent q)
 
+    -- where its children make many nodes wait, many elements waited
+    pub parent-crowds : 32 < length (rest ++ children_of q) → MayWantMemory old
+    parent-crowds many =
+        let i = part-Parent law q (subst (IsPart law) is all-parts.0) in
+        let put = IsPermutation-refl (rest ++ children_of q) in
+        let whole = parts-parent law q (nodes-as (Parent q) is) put i.0 i.2 all-parts.1 in
+        (parent-waits, omega (arith, many, no-more-nodes law (rest ++ children_of q) whole, length_permutation _ _ (same-elements law q (nodes-as (Parent q) is) put)))
+
     -- its children came into the heap
     module _ (vs : Held (Item T E S O)) (put : IsPermutation (rest ++ children_of q) (waiting_nodes (items_of vs))) where
       pub parent-fewer : 1 + all_parents (waiting_nodes (items_of vs)) ≡ all_parents old
@@ -138,7 +146,7 @@ ends-none root ready over ended =
 
 -- a refusal ends a search
 pub ends-refused : {T E S O : Type 0} {v : Boxes E} {d : Distances T} {p : List ℤ} {value : S → ℤ} {compare : S → S → Ordering} {ties : RTreeNode T E → RTreeNode T E → Ordering} {o : Objects T E} {old new : NodeSearch T E S O} {z : AllocError}
-    → new.root ≡ old.root → 0 < all_parents (waiting_of old) → IsUnrefused old.stage → new.stage ≡ Ended → GivesNext v d p compare ties value o old (Some (Err z)) new
+    → new.root ≡ old.root → MayWantMemory (waiting_of old) → IsUnrefused old.stage → new.stage ≡ Ended → GivesNext v d p compare ties value o old (Some (Err z)) new
 ends-refused root waits going is =
     record { root = root; ready = rw is tt; gives = tt; distance = tt; first = tt; none = tt; over = tt; stays = tt; refused = waits; goes_on = tt; ends = is; once = going; ended = λ over. absurd (over going) }
 

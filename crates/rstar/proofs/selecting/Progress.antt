@@ -1,8 +1,9 @@
 -- Each call that gives something leaves fewer.
-use Rattle.std.proofs.Common.{◌≡◌, ℕ, ℤ, ◌+◌, ◌<◌, ◌≤◌, List, [], ◌∷◌, length, refl, ap, sym, ◌∙◌, subst, arith, Option, Some, None, Result, Ok, Err, IfSome, IfNone, IfOk, IfErr, OnSome, OnErr}
+use Rattle.std.proofs.Common.{◌≡◌, ℕ, ℤ, ◌+◌, ◌<◌, ◌≤◌, List, [], ◌∷◌, length, refl, ap, sym, ◌∙◌, subst, arith, Option, Some, None, Result, Ok, Err, IfSome, IfNone, IsOk, IfOk, IfErr, OnSome, OnErr, inl, inr}
 use Rattle.std.specs.Borrow.{Bor}
 use Rattle.std.specs.Iterator.{Count, IsFinite, MakesProgress, size}
 use Rattle.std.specs.declared.alloc.AllocError.{AllocError}
+use Rattle.std.proofs.lemmas.Bool.{cases_lt}
 use Rattle.std.proofs.lemmas.List.Sorted.{length_permutation}
 use Rattle.std.proofs.lemmas.Option.{IfSome_then}
 use Rattle.std.proofs.lemmas.Result.{IfOk-weaker, IfErr-weaker}
@@ -16,7 +17,7 @@ use Rattle.rstar.specs.declared.algorithm.nearest_neighbor.search.Stage.{Stage}
 use Rattle.rstar.specs.declared.algorithm.nearest_neighbor.search.Stage.TheVariants.{Fresh, Running, Ended}
 use Rattle.rstar.specs.Nodes.{all_elements, all_parents, all_far, far_of, parents_of}
 use Rattle.rstar_base.specs.Points.{table}
-use Rattle.rstar.specs.Neighbors.{IsNeighbor, GivesNeighbor, shown}
+use Rattle.rstar.specs.Neighbors.{IsNeighbor, GivesNeighbor, MayWantMemory, shown}
 use Rattle.rstar.specs.inside.Searches.{NodeSearch, Item, waiting_nodes, waiting_at, calls_at, waiting_of, held_by, calls_left, IsUnrefused, CountsOpenings, IsRunning, IsReady, IsReadyAt}
 use Rattle.rstar.specs.inside.SearchSteps.{GivesNext}
 use Rattle.rstar.proofs.searching.Searches.{fresh-counted, all-far-fewer}
@@ -87,7 +88,7 @@ module _ {T E P S O A Z : Type 0} (v : Boxes E) (d : Distances T) (axes : ℕ) (
     (s t : NodeSearch T E S O) (point : P) (element : A → T) (r : Option (Result A Z)) where
   pub gives-neighbor : t.root ≡ s.root → IsReady v d (table axes (coord point)) compare ties value o t → IfSome r (λ x. IfOk x (λ y. IsNeighbor v d (table axes (coord point)) s.root.now (waiting_of s) (waiting_of t) (element y)))
       → IfNone r (IsUnrefused s.stage → all_elements (waiting_of s) ≡ []) → IfNone r (IsUnrefused s.stage → waiting_of t ≡ []) → IfNone r (IsUnrefused s.stage → t.stage ≡ Running)
-      → IfSome r (λ x. IfErr x (λ _. 0 < all_parents (waiting_of s))) → IfSome r (λ x. IfOk x (λ _. t.stage ≡ Running)) → IfSome r (λ x. IfErr x (λ _. t.stage ≡ Ended)) → IfSome r (λ _. IsUnrefused s.stage)
+      → IfSome r (λ x. IfErr x (λ _. MayWantMemory (waiting_of s))) → IfSome r (λ x. IfOk x (λ _. t.stage ≡ Running)) → IfSome r (λ x. IfErr x (λ _. t.stage ≡ Ended)) → IfSome r (λ _. IsUnrefused s.stage)
       → ((IsUnrefused s.stage → ⊥) → IsUnrefused t.stage → ⊥) → GivesNeighbor v d axes coord element (shown s point) r (shown t point)
   gives-neighbor same ready gives none over stays refused on last once ended =
       let root : t.root.now ≡ s.root.now = ap (λ b. b.now) same in
@@ -104,6 +105,18 @@ module _ {T E P S O A Z : Type 0} (v : Boxes E) (d : Distances T) (axes : ℕ) (
 pub goes-on : {I A : Type 0} {can : I → Type 0} {left : I → Count} {old new : I} (r : Option A) → can new → IsFinite (left new) → OnSome r (size (left new) < size (left old)) → MakesProgress can left old r new
 goes-on None ready finite fewer = record { on = λ _. tt; keeps = tt; rests = λ _. finite }
 goes-on (Some x) ready finite fewer = record { on = λ _. (ready, finite, fewer); keeps = ready; rests = λ _. tt }
+
+-- where a push onto the queue is refused, the 32 places are taken
+pub taken : {A Z : Type 0} (r : Result A Z) {z : Z} → r ≡ Err z → (n : ℕ) → (n < 32 → IsOk r) → 32 ≤ n
+taken r is n fits = elim (cases_lt n 32) [
+  | inl few ↦ absurd (cc (subst IsOk is (fits few)))
+  | inr full ↦ full
+]
+
+-- a call that gives a value is not refused
+pub ok-unrefused : {A Z : Type 0} (r : Result A Z) (P : Type 0) → IsOk r → OnErr r P
+ok-unrefused (Ok x) P ok = tt
+ok-unrefused (Err x) P ok = absurd (cc ok)
 
 pub on_err : {A Z : Type 0} (r : Result A Z) (P : Type 0) → P → OnErr r P
 on_err (Ok x) P p = tt

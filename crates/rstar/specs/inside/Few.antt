@@ -1,6 +1,6 @@
 -- What a search for the first few elements keeps: those found so far, a bound for the nearest, and the parents that wait.
 -- T is the element's type, E its envelope's, S its scalar's.
-use Rattle.std.specs.Prelude.{◌≡◌, ℕ, ◌+◌, ◌<◌, ◌≤◌, ◌<ℤ◌, ◌≤ℤ◌, ◌⊎◌, ℤ, pos, Bool, true, false, List, [], ◌∷◌, ◌++◌, length, map, Option, Some, None, Result, IfOk, IfSome, IfNone, MatchOption, option_to_list}
+use Rattle.std.specs.Prelude.{◌≡◌, ℕ, ◌+◌, ◌<◌, ◌≤◌, ◌<ℤ◌, ◌≤ℤ◌, ◌⊎◌, ℤ, pos, Bool, true, false, List, [], ◌∷◌, ◌++◌, length, map, Option, Some, None, Result, IsOk, IfOk, IfSome, IfNone, MatchOption, option_to_list}
 use Rattle.std.specs.Borrow.{Bor}
 use Rattle.std.specs.Int.{int_min}
 use Rattle.std.specs.List.{AllByRecursion, Contains, insert}
@@ -17,7 +17,7 @@ use Rattle.rstar.specs.declared.algorithm.nearest_neighbor.few.Kept.{Kept}
 use Rattle.rstar.specs.declared.algorithm.nearest_neighbor.few.Kept.TheVariants.{One, Few}
 use Rattle.rstar.specs.declared.algorithm.nearest_neighbor.waiting.Waiting.{Waiting}
 use Rattle.rstar.specs.Lists.{IsNearest, IsNotLater, AreFirstOf}
-use Rattle.rstar.specs.Nodes.{all_elements, all_parents, elements_of, envelope_of}
+use Rattle.rstar.specs.Nodes.{all_elements, all_parents, elements_of, parents_of, envelope_of}
 use Rattle.rstar.specs.inside.Searches.{any_first, AreWholeNodes, distance_of, nearest_on_top}
 
 -- ---- a list of the greatest
@@ -166,10 +166,12 @@ module _ {S T : Type 0} (scalars : S → S → Ordering) (compare : T → T → 
 
 -- ---- the nearest
 
--- a nearest element of a root is found with its distance, which lies between the two of the root's envelope; `None` where there is no element
+-- a nearest element of a root is found with its distance, which lies between the two of the root's envelope; `None` where there is no element.
+-- A refusal comes only where there are more than 32 parents.
 pub record FindsNearest {T E S Z : Type 0} (v : Boxes E) (d : Distances T) (p : List ℤ) (value : S → ℤ) (root : ParentNode T E) (r : Result (Option (Bor T × S)) Z) : Type 0 where
   pub none : IfOk r (λ x. IfNone x (elements_of root ≡ []))
   pub nearest : IfOk r (λ x. IfSome x (λ n. IsNearest (λ t. d.distance_2 t p) (elements_of root) n.0.now))
   pub distance : IfOk r (λ x. IfSome x (λ n. value n.1 ≡ pos (d.distance_2 n.0.now p)))
   pub not_below : IfOk r (λ x. IfSome x (λ n. v.distance_2 (envelope_of root) p ≤ d.distance_2 n.0.now p))
   pub not_above : IfOk r (λ x. IfSome x (λ n. d.distance_2 n.0.now p ≤ v.min_max_dist_2 (envelope_of root) p))
+  pub few : parents_of root ≤ 32 → IsOk r

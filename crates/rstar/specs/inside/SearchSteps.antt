@@ -1,6 +1,6 @@
 -- What the calls of a search for neighbours do, at the point with the coordinates p.
 -- T is the element's type, E its envelope's, S its scalar's.
-use Rattle.std.specs.Prelude.{◌≡◌, ℕ, ◌<◌, ◌≤◌, ℤ, pos, List, [], Option, Result, IfOk, IfErr, IfSome, IfNone}
+use Rattle.std.specs.Prelude.{◌≡◌, ℕ, ◌≤◌, ℤ, pos, List, [], Option, Result, IfOk, IfErr, IfSome, IfNone}
 use Rattle.std.specs.Borrow.{Bor}
 use Rattle.std.specs.List.Sorted.{IsPermutation}
 use Rattle.std.specs.declared.alloc.AllocError.{AllocError}
@@ -11,7 +11,7 @@ use Rattle.rstar_base.specs.SmallHeaps.{Held, items_of}
 use Rattle.rstar.specs.declared.node.RTreeNode.{RTreeNode}
 use Rattle.rstar.specs.declared.node.ParentNode.{ParentNode}
 use Rattle.rstar.specs.declared.algorithm.nearest_neighbor.search.Stage.TheVariants.{Running, Ended}
-use Rattle.rstar.specs.Neighbors.{IsNeighbor}
+use Rattle.rstar.specs.Neighbors.{IsNeighbor, MayWantMemory}
 use Rattle.rstar.specs.Nodes.{all_elements, all_parents}
 use Rattle.rstar.specs.inside.Searches.{Item, NodeSearch, ComesFirst, IsReady, IsRunning, IsUnrefused, held_by, waiting_nodes, waiting_of}
 
@@ -46,7 +46,7 @@ module _ {T E S O : Type 0} (v : Boxes E) (d : Distances T) (p : List ℤ) (comp
     pub none : IfNone r (IsUnrefused old.stage → all_elements (waiting_of old) ≡ [])
     pub over : IfNone r (IsUnrefused old.stage → waiting_of new ≡ [])
     pub stays : IfNone r (IsUnrefused old.stage → new.stage ≡ Running)
-    pub refused : IfSome r (λ r. IfErr r (λ _. 0 < all_parents (waiting_of old)))
+    pub refused : IfSome r (λ r. IfErr r (λ _. MayWantMemory (waiting_of old)))
     pub goes_on : IfSome r (λ r. IfOk r (λ _. new.stage ≡ Running))
     pub ends : IfSome r (λ r. IfErr r (λ _. new.stage ≡ Ended))
     pub once : IfSome r (λ _. IsUnrefused old.stage)

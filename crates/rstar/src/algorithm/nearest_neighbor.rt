@@ -1,8 +1,8 @@
 //! Neighbours: elements by distance, and elements at the least distance (Roussopoulos et al. 1995).
 
-ghost use Rattle.std.specs.Prelude.{◌≡◌, ◌≤◌, ℕ, [], pos, map, IfOk, IfSome, IfNone};
+ghost use Rattle.std.specs.Prelude.{◌≡◌, ◌≤◌, ℕ, [], pos, map, IsOk, IfOk, IfSome, IfNone};
 ghost use Rattle.rstar_base.specs.Points.{table};
-ghost use Rattle.rstar.specs.Nodes.{elements_of, envelope_of, IsWhole};
+ghost use Rattle.rstar.specs.Nodes.{elements_of, envelope_of, parents_of, IsWhole};
 ghost use Rattle.rstar.specs.Lists.{IsNearest, AreSomeNearest};
 ghost use Rattle.rstar.specs.Neighbors.{with_distances, search_of, neighbors_left, IsSearching, GivesElement, GivesWithDistance};
 
@@ -135,7 +135,7 @@ impl<'a, T: PointDistance> Iterator
 ///
 /// `None` comes exactly where there is no element. The traversal visits the nearest waiting parent first and
 /// prunes what is farther than the least `min_max_dist_2` seen (Roussopoulos et al. 1995). It takes memory,
-/// and may be refused, only where more than 32 nodes wait.
+/// and may be refused, only where more than 32 parents wait.
 pub fn nearest_neighbor_with_distance_2<'a, T: PointDistance>(
     root: &'a ParentNode<T>,
     point: PointOf<T>,
@@ -152,6 +152,7 @@ pub fn nearest_neighbor_with_distance_2<'a, T: PointDistance>(
     ensures not_above { IfOk result (λ r. IfSome r (λ x. T.distances.distance_2 x.0.now
         (table T.Envelope.Point.DIMENSIONS (T.Envelope.Point.coord point)) ≤ T.Envelope.boxes.min_max_dist_2
         (envelope_of root.now) (table T.Envelope.Point.DIMENSIONS (T.Envelope.Point.coord point)))) }
+    ensures few { parents_of root.now ≤ 32 → IsOk result }
 {
     one_nearest(root, &point)
 }

@@ -1,6 +1,6 @@
 //! Neighbours.
 
-ghost use Rattle.std.specs.Prelude.{◌≡◌, ◌+◌, ◌≤◌, ℕ, List, [], ◌∷◌, pos, map, IfOk, IfSome, IfNone, OnErr};
+ghost use Rattle.std.specs.Prelude.{◌≡◌, ◌+◌, ◌≤◌, ℕ, List, [], ◌∷◌, pos, map, IsOk, IfOk, IfSome, IfNone, OnErr};
 ghost use Rattle.std.specs.List.{AllByRecursion};
 ghost use Rattle.std.specs.List.Sorted.{IsPermutation};
 ghost use Rattle.rstar_base.specs.Points.{table};
@@ -8,7 +8,7 @@ ghost use Rattle.rstar.specs.ByOrder.{search_by_order, IsSearchingByOrder};
 ghost use Rattle.rstar.specs.Lists.{IsNearest, AreNearest, AreSomeNearest, AreNearestOf};
 ghost use Rattle.rstar.specs.Lists.{by_distance, IsLeast, IsNotLater, AreFirstOf, AreAlike};
 ghost use Rattle.rstar.specs.Neighbors.{with_distances, search_of, IsSearching, HasBegun};
-ghost use Rattle.rstar.specs.Nodes.{envelope_of};
+ghost use Rattle.rstar.specs.Nodes.{envelope_of, parents_of};
 ghost use Rattle.rstar.specs.Trees.{root_of, size_of, elements_in, IsWholeTree};
 
 use crate::algorithm::nearest_neighbor::{
@@ -93,6 +93,7 @@ impl<T: PointDistance, Params: RTreeParams> RTree<T, Params> {
         ensures none { IfOk result (λ r. IfNone r (elements_in self.now ≡ [])) }
         ensures nearest { IfOk result (λ r. IfSome r (λ t. IsNearest (λ t. T.distances.distance_2 t
             (table T.Envelope.Point.DIMENSIONS (T.Envelope.Point.coord point))) (elements_in self.now) t.now)) }
+        ensures few { parents_of (root_of self.now) ≤ 32 → IsOk result }
     {
         match self.nearest_neighbor_with_distance_2(point)? {
             Some((t, _distance)) => Ok(Some(t)),
@@ -104,7 +105,7 @@ impl<T: PointDistance, Params: RTreeParams> RTree<T, Params> {
     ///
     /// `None` comes exactly where the tree is empty. The traversal visits the nearest waiting parent first
     /// and prunes what is farther than the least `min_max_dist_2` seen (Roussopoulos et al. 1995). It takes
-    /// memory, and may be refused, only where more than 32 nodes wait.
+    /// memory, and may be refused, only where more than 32 parents wait.
     #[tactic(auto, unfolding(crate::specs::Trees::IsWholeTree))]
     pub fn nearest_neighbor_with_distance_2(
         &self,
@@ -123,6 +124,7 @@ impl<T: PointDistance, Params: RTreeParams> RTree<T, Params> {
         ensures not_above { IfOk result (λ r. IfSome r (λ x. T.distances.distance_2 x.0.now
             (table T.Envelope.Point.DIMENSIONS (T.Envelope.Point.coord point)) ≤ T.Envelope.boxes.min_max_dist_2
             (envelope_of (root_of self.now)) (table T.Envelope.Point.DIMENSIONS (T.Envelope.Point.coord point)))) }
+        ensures few { parents_of (root_of self.now) ≤ 32 → IsOk result }
     {
         nearest_neighbor_with_distance_2(&self.root, point)
     }
@@ -143,6 +145,7 @@ impl<T: PointDistance, Params: RTreeParams> RTree<T, Params> {
         ensures none { IfOk result (λ r. IfNone r (elements_in self.old ≡ [])) }
         ensures kept { IfOk result (λ r. IfNone r (self.new ≡ self.old)) }
         ensures refused { OnErr result (self.new ≡ self.old) }
+        ensures few { parents_of (root_of self.old) ≤ 32 → IsOk result }
         ensures whole { IsWholeTree T.Envelope.boxes T.object Params.MAX_SIZE self.new }
     {
         match one_nearest(&self.root, &point)? {
@@ -298,6 +301,7 @@ impl<T: PointDistance + Ord, Params: RTreeParams> RTree<T, Params> {
         ensures none { IfOk result (λ r. IfNone r (elements_in self.old ≡ [])) }
         ensures kept { IfOk result (λ r. IfNone r (self.new ≡ self.old)) }
         ensures refused { OnErr result (self.new ≡ self.old) }
+        ensures few { parents_of (root_of self.old) ≤ 32 → IsOk result }
         ensures whole { IsWholeTree T.Envelope.boxes T.object Params.MAX_SIZE self.new }
     {
         match one_nearest(&self.root, &point)? {

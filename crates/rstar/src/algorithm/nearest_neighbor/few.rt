@@ -1,13 +1,13 @@
 //! The nearest, and the k nearest for small k: the best elements found so far prune what is farther than the
 //! last of them, and the least MINMAXDIST seen prunes a search for one (Roussopoulos et al. 1995).
 
-ghost use Rattle.std.specs.Prelude.{◌≡◌, ◌≤◌, ◌≤ℤ◌, ◌++◌, ◌∷◌, [], List, ℕ, true, false, length, pos, map, None, Option, OnOk, IfOk, IfSome, IfNone, MatchOption, option_to_list};
+ghost use Rattle.std.specs.Prelude.{◌≡◌, ◌<◌, ◌≤◌, ◌+◌, ◌≤ℤ◌, ◌++◌, ◌∷◌, [], List, ℕ, true, false, length, pos, map, None, Option, OnOk, OnErr, IsOk, IfOk, IfSome, IfNone, MatchOption, option_to_list};
 ghost use Rattle.std.specs.List.{AllByRecursion, insert};
 ghost use Rattle.std.specs.Ordering.{flip_args, is_lt};
-ghost use Rattle.rstar_base.specs.SmallHeaps.{IsOrdered, Rises};
-ghost use Rattle.rstar.specs.inside.Few.{found_elements, is_one, kept_in, FindsNearest, IsAbove, IsBest, IsFarthest, IsKept, IsLowered, KeepsGreatest, StaysInOrder, TakesIn, Visits};
+ghost use Rattle.rstar_base.specs.SmallHeaps.{items_of, IsOrdered, Rises};
+ghost use Rattle.rstar.specs.inside.Few.{found_elements, is_one, kept_in, FindsNearest, IsAbove, IsBest, IsFarthest, IsKept, IsLowered, KeepsGreatest, StaysInOrder, TakesIn, Visits, waiting_parents};
 ghost use Rattle.rstar.specs.Lists.{IsNotLater, AreFirstOf};
-ghost use Rattle.rstar.specs.Nodes.{elements_of, IsWhole};
+ghost use Rattle.rstar.specs.Nodes.{all_parents, elements_of, parents_of, IsWhole};
 ghost use Rattle.rstar.specs.inside.Searches.{any_first, distance_of, nearest_on_top};
 
 use crate::algorithm::nearest_neighbor::search::{distance_to, fits};
@@ -112,6 +112,7 @@ fn search<'a, T: Measured, E: TieOrder<T>>(
     ensures distances { OnOk result (AllByRecursion
         (λ w. T.Distance.number w.distance ≡ pos (T.distances.distance_2 w.node.now (T.at point.now)))
         (kept_in best.new.kept)) }
+    ensures refused { is_one best.old.kept ≡ true → OnErr result (32 < parents_of root.now) }
 {
     // Does nothing but tell that the point's coordinates are in their range.
     T::known(point);
@@ -165,6 +166,8 @@ fn open<'a, T: Measured, E: TieOrder<T>>(
     ensures order { StaysInOrder T.Distance.cmp E.order best.old heap.new best.new }
     ensures visits { OnOk result (Visits T.Distance.cmp E.order T.Distance.number most T.Cover.boxes T.object T.distances
         (T.at point.now) children.now heap.old best.old heap.new best.new) }
+    ensures refused { is_one best.old.kept ≡ true
+        → OnErr result (32 < all_parents (waiting_parents (items_of heap.old)) + all_parents children.now) }
 {
     for child in children {
         offer(heap, best, child, point, most)?;
@@ -186,6 +189,8 @@ fn offer<'a, T: Measured, E: TieOrder<T>>(
     ensures order { StaysInOrder T.Distance.cmp E.order best.old heap.new best.new }
     ensures visits { OnOk result (Visits T.Distance.cmp E.order T.Distance.number most T.Cover.boxes T.object T.distances
         (T.at point.now) (node.now ∷ []) heap.old best.old heap.new best.new) }
+    ensures refused { is_one best.old.kept ≡ true
+        → OnErr result (32 < all_parents (waiting_parents (items_of heap.old)) + all_parents (node.now ∷ [])) }
 {
     let Some(distance) = distance_within(node, point, best.bound) else {
         return Ok(());
@@ -276,6 +281,7 @@ fn take_in<'a, T, S: SquaredDistance, E: TieOrder<T>>(
     ensures falls { Rises (flip_args (nearest_on_top S.cmp E.order)) (kept_in best.new.kept) }
     ensures same { is_one best.new.kept ≡ is_one best.old.kept }
     ensures takes { OnOk result (TakesIn S.cmp E.order S.number most item.entry best.old best.new) }
+    ensures one { is_one best.old.kept ≡ true → IsOk result }
 {
     match &mut best.kept {
         Kept::One(found) => {

@@ -1,15 +1,14 @@
 //! The traversal behind the neighbour iterators: a priority queue of nodes, the nearest first.
 
-ghost use Rattle.std.specs.Prelude.{◌≡◌, ◌<◌, ◌∷◌, ◌++◌, [], pos, OnOk, OnErr, IfOk};
+ghost use Rattle.std.specs.Prelude.{◌≡◌, ◌<◌, ◌++◌, length, pos, OnOk, OnErr, IfOk};
 ghost use Rattle.std.specs.List.Sorted.{IsPermutation};
 ghost use Rattle.std.specs.Mem.{FitsInMemory};
 ghost use Rattle.rstar_base.specs.SmallHeaps.{IsOrdered};
 ghost use Rattle.rstar.specs.inside.Fits.{heap_row, search_row};
-ghost use Rattle.rstar.specs.declared.node.RTreeNode.{Parent};
 ghost use Rattle.rstar.specs.declared.algorithm.nearest_neighbor.search.Stage.TheVariants.{Fresh, Running};
-ghost use Rattle.rstar.specs.Nodes.{all_parents, IsWhole};
-ghost use Rattle.rstar.specs.Neighbors.{shown, HasBegun};
-ghost use Rattle.rstar.specs.inside.Searches.{nearest_on_top, waiting_nodes, distance_of, AreWaiting, IsRunning, IsReady, IsReadyAt, IsUnrefused, held_by, waiting_of};
+ghost use Rattle.rstar.specs.Nodes.{IsWhole};
+ghost use Rattle.rstar.specs.Neighbors.{shown, HasBegun, MayWantMemory};
+ghost use Rattle.rstar.specs.inside.Searches.{nearest_on_top, waiting_nodes, distance_of, AreWaiting, IsRunning, IsReady, IsUnrefused, held_by, waiting_of};
 ghost use Rattle.rstar.specs.inside.SearchSteps.{GivesFirst, GivesNext, IsUnderWay};
 
 use crate::algorithm::nearest_neighbor::waiting::{TieOrder, Waiting};
@@ -126,33 +125,21 @@ impl<'a, T: Measured, O: TieOrder<RTreeNode<T>>> NodeSearch<'a, T, O> {
         ensures stage { OnOk result (self.new.stage ≡ Running) }
         ensures under_way { OnOk result (IsUnderWay T.Cover.boxes T.distances (T.at point.now) T.Distance.cmp O.order
             T.Distance.number T.object self.new.root.now (waiting_of self.old) self.new.heap self.new.opened) }
-        ensures refused { OnErr result (0 < all_parents (waiting_of self.old)) }
+        ensures refused { OnErr result (MayWantMemory (waiting_of self.old)) }
     {
         match self.stage {
             Stage::Fresh => {
-                self.open_root(point)?;
+                // Does nothing but tell that the point's coordinates are in their range.
+                T::known(point);
+                self.opened = 1;
+                let root = self.root;
+                self.add_children(&root.children, point)?;
                 self.stage = Stage::Running;
                 Ok(())
             }
             Stage::Running => Ok(()),
             Stage::Ended => unreachable!(),
         }
-    }
-
-    /// Visits the root.
-    fn open_root(&mut self, point: &T::Place) -> Result<(), AllocError>
-        requires { IsReadyAt T.Cover.boxes T.distances (T.at point.now) T.Distance.cmp O.order T.Distance.number
-            T.object Fresh self.old.root.now self.old.heap self.old.opened }
-        ensures root { self.new.root ≡ self.old.root }
-        ensures under_way { OnOk result (IsUnderWay T.Cover.boxes T.distances (T.at point.now) T.Distance.cmp O.order
-            T.Distance.number T.object self.new.root.now (Parent self.old.root.now ∷ []) self.new.heap self.new.opened) }
-    {
-        // Does nothing but tell that the point's coordinates are in their range.
-        T::known(point);
-        self.opened = 1;
-        let root = self.root;
-        self.add_children(&root.children, point)?;
-        Ok(())
     }
 
     /// Visits the nearest waiting parents until an element is nearest.
@@ -163,7 +150,7 @@ impl<'a, T: Measured, O: TieOrder<RTreeNode<T>>> NodeSearch<'a, T, O> {
         ensures stage { self.new.stage ≡ self.old.stage }
         ensures gives { IfOk result (GivesFirst T.Cover.boxes T.distances (T.at point.now) T.Distance.cmp O.order
             T.Distance.number T.object self.old self.new) }
-        ensures refused { OnErr result (0 < all_parents (waiting_nodes (held_by self.old))) }
+        ensures refused { OnErr result (MayWantMemory (waiting_nodes (held_by self.old))) }
     {
         T::known(point);
         while let Some(current) = self.heap.pop() {
@@ -193,6 +180,7 @@ impl<'a, T: Measured, O: TieOrder<RTreeNode<T>>> NodeSearch<'a, T, O> {
             T.Distance.number self.new.heap }
         ensures added { OnOk result (IsPermutation (waiting_nodes (held_by self.old) ++ children.now)
             (waiting_nodes (held_by self.new))) }
+        ensures refused { OnErr result (32 < length (waiting_nodes (held_by self.old) ++ children.now)) }
     {
         for node in children {
             let distance = distance_to(node, point);

@@ -36,38 +36,8 @@ pub(crate) fn sort_by_distance<T: RTreeObject>(list: &mut [T], point: &PointOf<T
     list.sort_unstable_by(|a: &T, b: &T| -> Ordering { compare_centres(point, a, b) });
 }
 
-/// Adds a child to a full node, and hands out the `REINSERTION_COUNT` children whose centers are farthest
-/// from the node's center, the farthest last.
-fn hand_out<T: Placed, Params: RTreeParams>(
-    node: &mut ParentNode<T>,
-    child: RTreeNode<T>,
-    handed: &mut Vec<RTreeNode<T>>,
-    overfull: &mut Vec<RTreeNode<T>>,
-)
-    requires many { Params.MAX_SIZE ≤ vec_len node.old.children }
-    requires reinserts { 0 < Params.REINSERTION_COUNT }
-    requires none { handed.old.items ≡ [] }
-    requires over { IsSpare (vec_len node.old.children + 1) overfull.old }
-    requires room { Params.REINSERTION_COUNT ≤ vec_capacity handed.old }
-    ensures same { IsPermutation (node.old.children.items ++ child ∷ [])
-        (node.new.children.items ++ handed.new.items) }
-    ensures merged { node.new.envelope ≡ hull T.Cover.boxes (node_box T.object.box_of) node.new.children.items }
-    ensures count { vec_len handed.new ≡ Params.REINSERTION_COUNT }
-    ensures lengths { vec_len node.new.children + Params.REINSERTION_COUNT ≡ vec_len node.old.children + 1 }
-    ensures capacity { vec_capacity node.old.children ≤ vec_capacity node.new.children }
-    ensures handed_capacity { vec_capacity handed.old ≤ vec_capacity handed.new }
-    ensures over { (overfull.new.items ≡ []) × (vec_capacity overfull.old ≤ vec_capacity overfull.new) }
-{
-    move_all(&mut node.children, overfull);
-    overfull.push_reserved(child);
-    T::sort_by_distance(overfull, &node.envelope);
-    let kept = overfull.len() - Params::REINSERTION_COUNT;
-    cut_at(overfull, kept, handed);
-    move_all(overfull, &mut node.children);
-    node.envelope = envelope_for_children(&node.children);
-}
-
-/// Adds a leaf that the node's envelope already covers. An overfull node hands out children.
+/// Adds a leaf that the node's envelope already covers. An overfull node hands out the `REINSERTION_COUNT`
+/// children whose centers are farthest from its own, the farthest last.
 fn add_leaf<T: Placed, Params: RTreeParams>(
     node: &mut ParentNode<T>,
     t: T,
@@ -90,12 +60,18 @@ fn add_leaf<T: Placed, Params: RTreeParams>(
     ensures overfull { IsSpare (widest + 1) overfull.new }
 {
     let leaf = RTreeNode::Leaf(t);
-    if Params::MAX_SIZE <= node.children.len() {
-        hand_out::<T, Params>(node, leaf, handed, overfull);
+    if node.children.len() < Params::MAX_SIZE {
+        make_place(&mut node.children, handed);
+        node.children.push_reserved(leaf);
         return;
     }
-    make_place(&mut node.children, handed);
-    node.children.push_reserved(leaf);
+    move_all(&mut node.children, overfull);
+    overfull.push_reserved(leaf);
+    T::sort_by_distance(overfull, &node.envelope);
+    let kept = overfull.len() - Params::REINSERTION_COUNT;
+    cut_at(overfull, kept, handed);
+    move_all(overfull, &mut node.children);
+    node.envelope = envelope_for_children(&node.children);
 }
 
 /// Inserts an element below a node with `levels` levels of parents below it. An overfull lowest parent hands

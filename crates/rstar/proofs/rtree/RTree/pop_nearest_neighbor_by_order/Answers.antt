@@ -1,4 +1,4 @@
-use Rattle.std.proofs.Common.{pos, ◌≡◌}
+use Rattle.std.proofs.Common.{pos, ◌≡◌, refl}
 use Rattle.rstar_base.specs.Points.{table}
 use Rattle.rstar.specs.Lists.{IsNearest}
 use Rattle.rstar.specs.Trees.{elements_in, IsWholeTree}
@@ -24,5 +24,6 @@ returns-in-Some g c =
       counted = counted_down _ _ _ _ _ c.requires.counted (removes.whole tt).counted removes.taken;
       kept = removes.kept;
       refused = tt;
+      few = λ _. refl;
       whole = removes.whole tt;
     }

@@ -1,4 +1,4 @@
-use Rattle.std.proofs.Common.{◌≡◌, [], pos, arith, refl, ap}
+use Rattle.std.proofs.Common.{◌≡◌, [], pos, length, arith, refl, ap}
 use Rattle.std.proofs.lemmas.Result.{on_ok_weaker}
 use Rattle.std.proofs.lemmas.List.Sorted.{IsPermutation-middle, IsPermutation-append_left}
 use Rattle.std.proofs.lemmas.List.Sums.{sum_by-cons}
@@ -8,9 +8,10 @@ use Rattle.rstar.specs.inside.Few.{waiting_parents}
 use Rattle.rstar.specs.declared.node.RTreeNode.{Parent}
 use Rattle.rstar.specs.Nodes.{parents}
 use Rattle.rstar.proofs.searching.Few as few
+use Rattle.rstar.proofs.selecting.Progress.{ok-unrefused, taken}
 use Rattle.rstar.proofs.searching.SearchTurns.{measured-by, order_of}
 use Rattle.rstar.proofs.searching.Seeking as seeking
-use Rattle.rstar.proofs.trees.ByChildren.{node_box-Parent, node_distance-Leaf}
+use Rattle.rstar.proofs.trees.ByChildren.{node_box-Parent, node_distance-Leaf, parents-Parent}
 use Rattle.rstar.proofs.algorithm.nearest_neighbor.few.offer.Goals as goal
 
 pub returns-in_default : goal.returns-in_default
@@ -26,6 +27,7 @@ returns-in_default g c =
         fewer = omega arith;
         first = λ all rest s. seeking.seek-cut law c.args.best.now.bound c.in_default.ensures.above (seeking.seek-same (IsPermutation-middle (waiting_parents (items_of c.args.heap.now)) c.args.node.now rest) s);
       };
+      refused = λ _. tt;
     }
 
 pub returns-in-Leaf : goal.returns-in-Leaf
@@ -46,6 +48,7 @@ returns-in-Leaf g c = record {
             seeking.seek-tightened law c.args.best.now.bound taken.tightened
             (seeking.seek-step (λ left. few.so-far-leaf order g.met.T.Distance.Ord.total g.met.E.TieOrder.total _ lies taken.keeps taken.best.falls) front);
       }) c.take_in.ensures.takes;
+  refused = λ one. ok-unrefused c.take_in.result _ (c.take_in.ensures.one one);
 }
 
 pub returns-in-Ok : goal.returns-in-Ok
@@ -64,4 +67,10 @@ returns-in-Ok g c =
             seeking.seek-same (IsPermutation-append_left rest _ _ (few.pushed-nodes c.in-Ok.ensures.ok))
             (seeking.seek-lowered law {n = Parent c.in-Parent.parent} c.args.best.now.bound (rw (node_box-Parent g.T.Covered.object.box_of c.in-Parent.parent) c.bound_with-best.ensures.lowered) front);
       };
+      refused = λ _. tt;
     }
+
+pub returns-in-Err-clause-refused : goal.returns-in-Err-clause-refused
+returns-in-Err-clause-refused g c =
+    let full = taken c.push.result c.in-Err.is (length (items_of c.args.heap.now)) c.push.ensures.inline in
+    λ _. omega (arith, full, few.no-more-waiting (items_of c.args.heap.now), ap parents c.in-Parent.is, sum_by-cons parents c.args.node.now [], parents-Parent c.in-Parent.parent)

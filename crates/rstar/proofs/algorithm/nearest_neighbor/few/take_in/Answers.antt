@@ -1,4 +1,4 @@
-use Rattle.std.proofs.Common.{inr, refl, sym, subst, ap}
+use Rattle.std.proofs.Common.{inr, refl, sym, ◌∙◌, subst, ap}
 use Rattle.rstar.specs.inside.Few.{is_one, kept_in, IsKept, KeepsGreatest}
 use Rattle.rstar.specs.inside.Searches.{nearest_on_top}
 use Rattle.rstar.proofs.searching.Few.{few-tightened, kept-in-one, one-falls, one-within}
@@ -12,6 +12,7 @@ returns-in-One g c =
     record {
       falls = one-falls _ c.keep_one.new.found;
       same = sym (ap is_one c.in-One.is);
+      one = λ _. refl;
       takes = record {
         best = record { kept = rw c.in-One.is at c.requires.best.kept; falls = one-falls _ c.keep_one.new.found };
         keeps = kept-in-one value (nearest_on_top g.S.Ord.cmp g.E.TieOrder.order) c.args.most c.args.item c.args.best.now.bound c.args.best.now.kept c.in-One.found _ c.in-One.is c.requires.best.kept c.keep_one.ensures;
@@ -21,6 +22,9 @@ returns-in-One g c =
 
 pub returns-in_err-best-in-Few-clause-same : goal.returns-in_err-best-in-Few-clause-same
 returns-in_err-best-in-Few-clause-same g c = sym (ap is_one c.in-Few.is)
+
+pub returns-in_err-best-in-Few-clause-one : goal.returns-in_err-best-in-Few-clause-one
+returns-in_err-best-in-Few-clause-one g c = λ one. absurd (cc (sym one ∙ ap is_one c.in-Few.is))
 
 pub returns-in_ok-best-in-Few : goal.returns-in_ok-best-in-Few
 returns-in_ok-best-in-Few g c =
@@ -32,6 +36,7 @@ returns-in_ok-best-in-Few g c =
     record {
       falls = c.keep_few.ensures.falls;
       same = sym (ap is_one c.in-Few.is);
+      one = λ _. refl;
       takes = record {
         best = record { kept = told.last; falls = c.keep_few.ensures.falls };
         keeps = subst (λ k. KeepsGreatest top c.args.most c.args.item (kept_in k) found) (sym c.in-Few.is) told.kept;

@@ -51,7 +51,10 @@ returns-in_err-add_children-in-Parent g c =
       root = c.add_children.ensures.root ∙ c.loop-current.invariant.root;
       stage = c.add_children.ensures.stage ∙ c.loop-current.invariant.stage;
       gives = IfOk-from_err c.from_residual.result _ c.from_residual.ensures.0;
-      refused = on_err c.from_residual.result _ (omega (arith, turns.parent-waits law order c.pop.new.self c.loop-current.invariant.under_way.running c.pop.ensures.ordered c.in-Some.ensures.some c.in-Some.ensures.greatest c.in-Parent.parent c.in-Parent.is, c.loop-current.invariant.under_way.fewer));
+      refused = on_err c.from_residual.result _
+          (let many = rw c.deref.ensures.value at c.in_err-add_children-in-Parent.ensures.refused in
+          let crowds = turns.parent-crowds law order c.pop.new.self c.loop-current.invariant.under_way.running c.pop.ensures.ordered c.in-Some.ensures.some c.in-Some.ensures.greatest c.in-Parent.parent c.in-Parent.is many in
+          (omega (arith, crowds.0, c.loop-current.invariant.under_way.fewer), omega (arith, crowds.1, length_permutation _ _ c.loop-current.invariant.under_way.bag)));
     }
 
 pub returns : goal.returns

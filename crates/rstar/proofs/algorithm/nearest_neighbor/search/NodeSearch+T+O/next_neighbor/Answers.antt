@@ -37,4 +37,4 @@ returns-in-Ok-None g c =
 
 pub returns-in-Err-advance : goal.returns-in-Err-advance
 returns-in-Err-advance g c =
-    ends-refused (c.advance.ensures.root ∙ c.begin.ensures.root) (omega (arith, c.in_default-begin.ensures.under_way.fewer, c.in-Err-advance.ensures.refused)) (going _ c.in_default.not-Ended) refl
+    ends-refused (c.advance.ensures.root ∙ c.begin.ensures.root) (omega (arith, c.in_default-begin.ensures.under_way.fewer, c.in-Err-advance.ensures.refused.0), omega (arith, c.in-Err-advance.ensures.refused.1, length_permutation _ _ c.in_default-begin.ensures.under_way.bag)) (going _ c.in_default.not-Ended) refl
