@@ -45,7 +45,7 @@ pub(crate) fn in_order<'a, T: PointDistance>(
 }
 
 /// The nearest element, by the first call of `next`, which is not refused where there are few.
-pub(crate) fn first_of<'a, T: PointDistance>(
+fn first_of<'a, T: PointDistance>(
     tree: &'a RTree<T>,
     place: PointOf<T>,
 ) -> Option<Result<&'a T, AllocError>>
