@@ -1,6 +1,6 @@
 //! Elements of a tree.
 
-ghost use Rattle.std.specs.Prelude.{◌≡◌, ◌<◌, ℕ, pos, int_le, length};
+ghost use Rattle.std.specs.Prelude.{◌≡◌, ◌<◌, ◌≤ℤ◌, ◌<ℤ◌, pos, int_le, length, IfSome, IfNone};
 ghost use Rattle.std.specs.Ordering.{int_cmp};
 ghost use Rattle.std.specs.List.Sorted.{IsPermutation, IsSortedByKey};
 ghost use Rattle.std.specs.List.{AllByRecursion};
@@ -135,7 +135,8 @@ pub fn contains_by_distance<S: RTreeNum>(distance_2: S) -> bool
 
 /// The distance where it is at most the limit, else `None`.
 pub fn up_to<S: RTreeNum>(distance_2: S, max_distance_2: S) -> Option<S>
-    ensures { (d : ℕ) → S.value distance_2 ≡ pos d → IsDistanceUpTo S.value (S.value max_distance_2) d result }
+    ensures some { IfSome result (λ d. (d ≡ distance_2) × (S.value d ≤ℤ S.value max_distance_2)) }
+    ensures none { IfNone result (S.value max_distance_2 <ℤ S.value distance_2) }
 {
     if not_above(distance_2, max_distance_2) {
         Some(distance_2)

@@ -264,7 +264,8 @@ fn rise<V: Ord + Copy>(low: V, wide: V, high: V) -> bool {
     low < wide && wide < high && low != wide && high.max(low) == high
 }
 
-fn hashed<T: Hash>(item: &T) -> u64 {
+/// The hash of a value.
+pub(crate) fn hashed<T: Hash>(item: &T) -> u64 {
     let mut state = DefaultHasher::new();
     item.hash(&mut state);
     state.finish()

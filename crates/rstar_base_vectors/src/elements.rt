@@ -3,6 +3,7 @@
 ghost use Rattle.std.specs.Prelude.{◌≤◌};
 ghost use Rattle.rstar_base.specs.Elements.{carried_objects};
 
+use crate::boxes::hashed;
 use num_traits::One;
 use rstar_base::object::{partition_envelopes, sort_envelopes};
 use rstar_base::primitives::{
@@ -11,6 +12,7 @@ use rstar_base::primitives::{
 use rstar_base::{AABB, Distance, Envelope, Point, PointDistance, PointOf, RTreeNum, RTreeObject};
 use std::alloc::Global;
 use std::cell::Cell;
+use std::hash::Hash;
 use std::rc::Rc;
 
 /// Whether an element has this squared distance from a point, is not within the next lesser one, and
@@ -184,6 +186,29 @@ fn carriers_answer_as_what_they_carry(rt: HostRuntime) {
     assert!(rt; carried_is_so_far(line, &[9, 2], 4));
     assert!(rt; carried_is_there([1i64, 2]));
     assert!(rt; shared_is_so_far(rt.alloc(), [1i64, 2], &[1, 5], 9));
+}
+
+/// Whether two values differ, and hash apart.
+fn are_apart<V: Hash>(one: &V, other: &V) -> bool {
+    *one != *other && hashed(one) != hashed(other)
+}
+
+// The diagonals of one box, alone, lent and kept; one place with two payloads; two boxes with one lower corner.
+#[test]
+fn values_that_differ_hash_apart(rt: HostRuntime) {
+    let rising = Line::new([0i64, 0], [4, 4]);
+    let falling = Line::new([0i64, 4], [4, 0]);
+    assert!(rt; are_apart(&rising, &falling));
+    assert!(rt; are_apart(&ObjectRef::new(&rising), &ObjectRef::new(&falling)));
+    assert!(rt; are_apart(&CachedEnvelope::new(rising), &CachedEnvelope::new(falling)));
+    assert!(rt;
+        are_apart(
+            &PointWithData::new(7u64, [1i64, 2]),
+            &PointWithData::new(8, [1, 2])
+        )
+    );
+    let low: Rectangle<[i64; 2]> = Rectangle::from_corners([0, 0], [1, 1]);
+    assert!(rt; are_apart(&low, &Rectangle::from_corners([0, 0], [1, 2])));
 }
 
 /// Sorts elements on the first axis and partitions them on the second at place 1. Whether both orders are as

@@ -1,6 +1,7 @@
 //! Generic code over points, equal elements and selection functions, and its callers at concrete types.
 
-ghost use Rattle.std.specs.Prelude.{◌≡◌, ◌<◌, ◌↔◌, ◌==◌, ℕ, IsTrue, if◌then◌else◌};
+ghost use Rattle.std.specs.Prelude.{◌≡◌, ◌<◌, ◌↔◌, ◌==◌, ◌&&◌, ℕ, IsTrue, if◌then◌else◌};
+ghost use Rattle.std.specs.Ordering.{ordering_then};
 ghost use Rattle.rstar_base.specs.Points.{table};
 
 use rstar_base::algorithm::selection_functions::{
@@ -9,11 +10,12 @@ use rstar_base::algorithm::selection_functions::{
 };
 use rstar_base::mint::Point2;
 use rstar_base::point::known;
-use rstar_base::primitives::{GeomWithData, Line, Rectangle};
+use rstar_base::primitives::{GeomWithData, Line, PointWithData, Rectangle};
 use rstar_base::{
     AABB, Distance, Envelope, EqualEnvelopes, Point, PointDistance, PointOf, RTreeObject,
     SelectionFunction,
 };
+use std::cmp::Ordering;
 
 /// An element with a number.
 type Numbered<R> = GeomWithData<R, u64>;
@@ -92,6 +94,26 @@ fn numbered_alike<R: EqualEnvelopes>(a: &Numbered<R>, b: &Numbered<R>) -> bool
     alike(a, b)
 }
 
+// Equality and order that are derived go by the fields in turn.
+fn stops_alike<T: PartialEq, P: PartialEq>(a: &PointWithData<T, P>, b: &PointWithData<T, P>) -> bool
+    ensures { result ≡ (T.eq a.now.1 b.now.1 && P.eq a.now.0 b.now.0) }
+{
+    a == b
+}
+
+fn lines_in_turn<P: Ord>(a: &Line<P>, b: &Line<P>) -> Ordering
+    ensures { result ≡ ordering_then (P.cmp a.now.from b.now.from) (P.cmp a.now.to b.now.to) }
+{
+    a.cmp(b)
+}
+
+// The rectangle of a box has its corners.
+fn framed<P: Point>(aabb: AABB<P>) -> Rectangle<P>
+    ensures { ⟦<Rectangle<P> as RTreeObject>⟧.object.box_of result ≡ aabb }
+{
+    Rectangle::from(aabb)
+}
+
 // Whether two elements are equal and have one envelope, which is not empty, where both have the number 7, and are told
 // apart where the other has the number 8.
 fn are_told_apart<R: EqualEnvelopes + Copy>(one: R, other: R) -> bool {
@@ -123,6 +145,17 @@ fn points_are_written_and_compared(rt: HostRuntime) {
     assert!(rt; same(&p, &[8, 9]) && !same(&p, &[8, 8]));
     assert!(rt; same_written(&mut p, &[8, 5], 1, 5));
     assert!(rt; points_alike(&p, &[8, 5]) && !points_alike(&p, &[5, 8]));
+}
+
+// One place with two payloads; the two diagonals of a box, and the box.
+#[test]
+fn carriers_are_compared_by_their_fields(rt: HostRuntime) {
+    let stop = PointWithData::new(7u64, [1i64, 2]);
+    assert!(rt; stops_alike(&stop, &stop) && !stops_alike(&stop, &PointWithData::new(8, [1, 2])));
+    let rising = Line::new([0i64, 0], [4, 4]);
+    assert!(rt; lines_in_turn(&rising, &Line::new([0, 4], [4, 0])).is_lt());
+    let flat = AABB::from_corners([0i64, 4], [4, 4]);
+    assert!(rt; framed(flat) == Rectangle::from_corners([0, 4], [4, 4]));
 }
 
 type Segment = Line<[i64; 2]>;

@@ -61,7 +61,9 @@ impl<T: RTreeObject> SelectionFunction<T> for SelectAllFunc {
         true
     }
 
-    fn should_unpack_leaf(&self, _leaf: &T) -> bool {
+    fn should_unpack_leaf(&self, _leaf: &T) -> bool
+        ensures always { result ≡ true }
+    {
         true
     }
 }
