@@ -22,6 +22,6 @@ abbrev pub height_of : {T E : Type 0} → ParentNode T E → ℕ
 height_of root = 1 + levels_below (children_of root)
 
 -- the spare child lists of an insertion: each of the reinserted children, and at least one, may take one on each level,
--- for a parent that splits or whose list is full, and one for a new root
+-- for a parent that splits or has a full list, and one for a new root
 abbrev pub spare_lists : ℕ → ℕ → ℕ
 spare_lists reinserted height = max 1 reinserted * (height + reinserted + 2)

@@ -15,9 +15,8 @@ use Rattle.rstar.specs.Trees.{root_of, size_of, elements_in, IsUnchanged, IsWhol
 use Rattle.rstar_base.specs.Counts.{usize_max}
 
 module _ {T D E P S X : Type 0} (v : Boxes E) (o : Objects T E) (min max reinserted : ℕ) where
-  -- an insertion: on `Ok` the tree has one more element; on `Err` the element comes back and the tree is
-  -- as it was. `TooMany` comes exactly where `size` or `spare_lists` exceeds a `usize`. The tree stays whole, and
-  -- sized where it was.
+  -- an insertion: one element more, or on `Err` the element back and the tree as it was. `TooMany` comes exactly where
+  -- `size` or `spare_lists` exceeds a `usize`. The tree stays whole, and sized where it was.
   pub record Inserts (t : T) (old : RTree T D E P S X) (r : Result (Unit {0}) (InsertError T)) (new : RTree T D E P S X)
       : Type 0 where
     pub added : OnOk r (IsPermutation (t ∷ elements_in old) (elements_in new))

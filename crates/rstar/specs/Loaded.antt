@@ -37,8 +37,7 @@ abbrev pub EndsAt : ℕ → ℕ → ℕ → ℕ → Type 0
 EndsAt most axes zero n = n ≤ most
 EndsAt most axes (suc below) n = (m : ℕ) × IsLoadPart most axes n m × EndsAt most axes below m
 
--- the levels of parents below the root of a load of n elements: the least depth at which some part fits one parent. It
--- depends on n alone.
+-- the levels of parents below the root of a load of n elements: the least depth at which some part fits one parent
 pub record IsLoadDepth (most axes n levels : ℕ) : Type 0 where
   pub deep : GoesDeep most axes levels n
   pub ends : EndsAt most axes levels n

@@ -91,8 +91,8 @@ module _ {T E P S X : Type 0} (q : Questions T E P S) where
   selects (query.At p) t = q.contains_point t p
   selects (query.Within p s) t = int_le (pos (q.distance_2 t p)) (q.value s)
 
-  -- a command on a list may have this reply, and leaves that list: one line for each command and reply. Lists are
-  -- bags; where a scan has a choice, any choice is right. At a point p, `before p t u` says that t may stand before u.
+  -- a command on a list may have this reply, and leaves that list. Lists are bags; any choice of a scan is right.
+  -- At a point p, `before p t u` says that t may stand before u.
   abbrev pub StepBy : (P → T → T → Type 0) → List T → Command T E P S X → Reply T E P S X → List T → Type 0
   StepBy before old (command.Load list) reply.Done new = IsPermutation list.items new
   StepBy before old (command.Insert t) reply.Done new = IsPermutation (t ∷ old) new
@@ -152,6 +152,15 @@ module _ {T E P S X : Type 0} (q : Questions T E P S) where
 abbrev pub IsInsertion : {T E P S X : Type 0} → Command T E P S X → Type 0
 IsInsertion (command.Insert t) = ⊤
 IsInsertion _ = ⊥
+
+-- a command that asks
+abbrev pub IsQuestion : {T E P S X : Type 0} → Command T E P S X → Type 0
+IsQuestion (command.Ask asked) = ⊤
+IsQuestion (command.Contains t) = ⊤
+IsQuestion (command.Nearest p) = ⊤
+IsQuestion (command.Neighbours p k) = ⊤
+IsQuestion (command.Join list) = ⊤
+IsQuestion _ = ⊥
 
 -- a reply that is a refusal: `NoMemory` or `TooMany`
 abbrev pub IsRefusal : {T E P S X : Type 0} → Reply T E P S X → Type 0

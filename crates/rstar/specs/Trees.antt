@@ -60,7 +60,7 @@ module _ {T D E P S X : Type 0} (v : Boxes E) (o : Objects T E) (max : ℕ) wher
     -- nothing is left of an overflow
     pub none_over : tree.reserve.overfull.items ≡ []
 
-  -- a whole tree: a whole root (`IsWhole`), with elements and levels counted. Every call leaves one; callers pass the
-  -- word on.
+  -- a whole tree: a whole root (`IsWhole`), with elements and levels counted. Every call leaves one, `clone` where
+  -- clones are equal.
   unfoldable pub IsWholeTree : RTree T D E P S X → Type 0
   IsWholeTree tree = WholeTree tree

@@ -1,11 +1,11 @@
 //! Commands, run over a tree as a scan would run them over a list of its elements.
 
-ghost use Rattle.std.specs.Prelude.{◌≡◌, ◌<◌, ◌↔◌, ◌⊎◌, List, IfOk, OnErr};
+ghost use Rattle.std.specs.Prelude.{◌≡◌, ◌<◌, ◌↔◌, ◌⊎◌, List, None, IfOk, OnErr};
 ghost use Rattle.std.specs.List.{AllByRecursion};
-ghost use Rattle.rstar.specs.declared.replay.Reply.TheVariants.{TooMany};
+ghost use Rattle.rstar.specs.declared.replay.Reply.TheVariants.{Taken, TooMany};
 ghost use Rattle.rstar.specs.Clones.{ClonesEqual};
 ghost use Rattle.rstar.specs.Heights.{height_of, spare_lists};
-ghost use Rattle.rstar.specs.Steps.{Questions, questions_of, IsFit, IsInsertion, IsRefusal, Step, StepByOrder, Run, RunByOrder};
+ghost use Rattle.rstar.specs.Steps.{Questions, questions_of, IsFit, IsInsertion, IsQuestion, IsRefusal, Step, StepByOrder, Run, RunByOrder};
 ghost use Rattle.rstar.specs.StepsOfTrees.{StepOfTree, RunOfTree};
 ghost use Rattle.rstar.specs.Trees.{root_of, size_of, elements_in, IsUnchanged, IsWholeTree};
 
@@ -55,7 +55,7 @@ pub enum Query<T: PointDistance> {
 /// A command over a tree.
 #[derive(Drop)]
 pub enum Command<T: PointDistance> {
-    /// Replaces the tree by a bulk load of these elements.
+    /// Replaces the elements by these, which are loaded in bulk.
     Load(Vec<T>),
     /// Inserts an element.
     Insert(T),
@@ -104,10 +104,10 @@ pub enum Reply<T: PointDistance> {
 
 /// Runs one command, as a scan of the elements would (`Step`).
 ///
-/// Commands are fit (`is_fit`), and a clone of an element equals it. `TooMany` comes from `Insert` alone,
-/// `NoMemory` from any command but `Remove`, `RemoveAtPoint` and `Contains`. Both leave the tree as it was,
-/// and a refused `Insert` drops its element. The cost is that of the tree's own call and of the clones in
-/// the reply.
+/// Commands are fit (`is_fit`), and a clone of an element equals it. A question, and a removal that finds
+/// none, leave the very tree. `TooMany` comes from `Insert` alone, `NoMemory` from any command but `Remove`,
+/// `RemoveAtPoint` and `Contains`. Both leave the tree as it was, and a refused `Insert` drops its element.
+/// The cost is that of the tree's own call and of the clones in the reply.
 #[tactic(auto, using(crate::proofs::commands::StepsByOrder::first_reading))]
 pub fn step<T: PointDistance + EqualEnvelopes + Clone, Params: RTreeParams>(
     tree: &mut RTree<T, Params>,
@@ -118,6 +118,8 @@ pub fn step<T: PointDistance + EqualEnvelopes + Clone, Params: RTreeParams>(
     requires fit { IsFit ⟦<T as Scanned>⟧.questions T.Envelope.Point.DIMENSIONS command }
     ensures step { Step ⟦<T as Scanned>⟧.questions (elements_in tree.old) command result (elements_in tree.new) }
     ensures whole { IsWholeTree T.Envelope.boxes T.object Params.MAX_SIZE tree.new }
+    ensures asked { IsQuestion command → tree.new ≡ tree.old }
+    ensures missed { result ≡ Taken None → tree.new ≡ tree.old }
     ensures refused { IsRefusal result → IsUnchanged tree.old tree.new }
     ensures too_many { (result ≡ TooMany) ↔ (IsInsertion command × ((size_of tree.old ≡ usize.MAX)
         ⊎ (usize.MAX < spare_lists Params.REINSERTION_COUNT (height_of (root_of tree.old))))) }
@@ -173,6 +175,8 @@ pub fn step_by_order<T: PointDistance + EqualEnvelopes + Clone + Ord, Params: RT
         → StepByOrder {X = T.Envelope.Point.Scalar.FromStrRadixErr} ⟦<T as Scanned>⟧.questions T.cmp old asked given new
         → Step ⟦<T as Scanned>⟧.questions old asked given new }
     ensures whole { IsWholeTree T.Envelope.boxes T.object Params.MAX_SIZE tree.new }
+    ensures asked { IsQuestion command → tree.new ≡ tree.old }
+    ensures missed { result ≡ Taken None → tree.new ≡ tree.old }
     ensures refused { IsRefusal result → IsUnchanged tree.old tree.new }
     ensures too_many { (result ≡ TooMany) ↔ (IsInsertion command × ((size_of tree.old ≡ usize.MAX)
         ⊎ (usize.MAX < spare_lists Params.REINSERTION_COUNT (height_of (root_of tree.old))))) }

@@ -19,7 +19,7 @@ use Rattle.rstar.specs.declared.rtree.RTree.{RTree}
 use Rattle.rstar.specs.Joins.{join}
 use Rattle.rstar.specs.inside.Gathering.{Gathers}
 use Rattle.rstar.specs.Lists.{product, NoneSelected}
-use Rattle.rstar.specs.Steps.{Questions, TakesOne, TakesSome, StepByOrder, RunBy, IsInsertion, IsRefusal}
+use Rattle.rstar.specs.Steps.{Questions, TakesOne, TakesSome, StepByOrder, RunBy, IsInsertion, IsQuestion, IsRefusal}
 use Rattle.rstar.specs.StepsOfTrees.{StepOfTree, RunOfTree}
 use Rattle.rstar.specs.Trees.{elements_in, IsUnchanged, IsWholeTree}
 use Rattle.rstar.proofs.searching.Ties.{filter_nothing, filter-along}
@@ -82,13 +82,25 @@ insertion_alone : {T E P S X : Type 0} (q : Questions T E P S) (compare : T → 
 insertion_alone q compare old new (command.Insert t) step = tt
 insertion_alone q compare old new c step = absurd step
 
+-- only a removal is answered by what was found
+pub no_removal : {T E P S X : Type 0} (q : Questions T E P S) (compare : T → T → Ordering) (old new : List T) (c : Command T E P S X) (r : Reply T E P S X) (A : Type 0)
+    → (StepByOrder q compare old c (reply.Taken None) new → ⊥) → StepByOrder q compare old c r new → r ≡ reply.Taken None → A
+no_removal q compare old new c r A never step is = absurd (never (subst (λ s. StepByOrder q compare old c s new) is step))
+
+-- what a removal leaves where it finds none
+pub none_taken : {T E P S X : Type 0} (r : Option T) (kept : Type 0) → IfNone r kept → (s : Reply T E P S X) → s ≡ reply.Taken r → s ≡ reply.Taken None → kept
+none_taken None kept is s taken none = is
+none_taken (Some x) kept is s taken none = absurd (cc (taken, none))
+
 module _ {T D E P S X : Type 0} (v : Boxes E) (o : Objects T E) (max reinserted : ℕ) (q : Questions T E P S) (compare : T → T → Ordering) where
   -- what a command other than an insertion does, where a refusal leaves the very tree
-  pub one_step : (old new : RTree T D E P S X) (c : Command T E P S X) (r : Reply T E P S X) → (IsInsertion c → ⊥) → StepByOrder q compare (elements_in old) c r (elements_in new) → IsWholeTree v o max new → (IsRefusal r → new ≡ old)
-      → StepOfTree v o max reinserted (StepByOrder q compare) old c r new
-  one_step old new c r other step whole kept = record {
+  pub one_step : (old new : RTree T D E P S X) (c : Command T E P S X) (r : Reply T E P S X) → (IsInsertion c → ⊥) → StepByOrder q compare (elements_in old) c r (elements_in new) → IsWholeTree v o max new
+      → (IsQuestion c → new ≡ old) → (r ≡ reply.Taken None → new ≡ old) → (IsRefusal r → new ≡ old) → StepOfTree v o max reinserted (StepByOrder q compare) old c r new
+  one_step old new c r other step whole asked missed kept = record {
     answered = step;
     whole = whole;
+    asked = asked;
+    missed = missed;
     refused = λ is. subst (λ (tree : RTree T D E P S X). IsUnchanged old tree) (sym (kept is)) (record { shown = refl; size = refl; elements = refl; envelopes = refl });
     too_many = (λ is. absurd (other (insertion_alone q compare (elements_in old) (elements_in new) c (subst (λ s. StepByOrder q compare (elements_in old) c s (elements_in new)) is step))), λ both. absurd (other both.0));
   }

@@ -52,4 +52,4 @@ module _ {T E P S X : Type 0} (q : Questions T E P S) (compare : T → T → Ord
     pub first_reading-trees : (old : RTree T D E P S X) (cs : List (Command T E P S X)) (rs : List (Reply T E P S X)) (new : RTree T D E P S X)
         → RunOfTree v o max reinserted (StepByOrder q compare) old cs rs new → RunOfTree v o max reinserted (Step q) old cs rs new
     first_reading-trees = run_shown (λ tree. tree) (λ old new. new ≡ old) (λ old new. new ≡ old) (StepOfTree v o max reinserted (StepByOrder q compare)) (StepOfTree v o max reinserted (Step q)) (λ old new same. same)
-        (λ old c r new h. record { answered = first_reading (elements_in old) c r (elements_in new) h.answered; whole = h.whole; refused = h.refused; too_many = h.too_many })
+        (λ old c r new h. record { answered = first_reading (elements_in old) c r (elements_in new) h.answered; whole = h.whole; asked = h.asked; missed = h.missed; refused = h.refused; too_many = h.too_many })

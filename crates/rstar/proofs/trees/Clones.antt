@@ -7,7 +7,7 @@ use Rattle.rstar.specs.declared.node.RTreeNode.{RTreeNode, Leaf, Parent}
 use Rattle.rstar.specs.declared.node.ParentNode.{ParentNode}
 use Rattle.rstar.specs.declared.rtree.RTree.{RTree}
 use Rattle.rstar.specs.Nodes.{elements, elements_of, children_of}
-use Rattle.rstar.specs.Shown.{shown, shown_root, leaf, parent, row_of}
+use Rattle.rstar.specs.Shown.{shown, shown_root, leaf, parent, more, row_of, outline, outline_row}
 use Rattle.rstar.specs.inside.Traversals.{IsLevel}
 use Rattle.rstar.specs.Trees.{IsUnchanged, IsWholeTree}
 use Rattle.rstar.specs.Clones.{ClonesEqual, IsNodeClone, IsParentClone}
@@ -30,7 +30,19 @@ module _ {T E : Type 0} (is_clone : T → T → Type 0) where
   pub all_cloned : (h : ℕ) (p q : ParentNode T E) → IsParentClone is_clone h p q → AllZip is_clone (elements_of p) (elements_of q)
   all_cloned h p q c = elements_each h (elements_cloned h) (children_of p) (children_of q) c.children
 
-  -- a clone shows the same
+  -- a clone shows the same, but for its elements
+  outlined_each : (h : ℕ) → ((m n : RTreeNode T E) → IsNodeClone is_clone h m n → outline (shown n) ≡ outline (shown m)) → (p q : ParentNode T E) → IsParentClone is_clone h p q → outline (shown_root q) ≡ outline (shown_root p)
+  outlined_each h one p q c = ap₂ parent c.envelope
+      (zip_along (IsNodeClone is_clone h) (λ ms ns. outline_row (row_of (map shown ns)) ≡ outline_row (row_of (map shown ms))) refl (λ m n ms ns r rest. ap₂ more (one m n r) rest) (children_of p) (children_of q) c.children)
+
+  outlined : (h : ℕ) (m n : RTreeNode T E) → IsNodeClone is_clone h m n → outline (shown n) ≡ outline (shown m)
+  outlined zero m n c = rw (c.2, c.3, shown-Leaf T E c.0, shown-Leaf T E c.1) refl
+  outlined (suc h) m n c = rw (c.2, c.3, shown-Parent c.0, shown-Parent c.1) (outlined_each h (outlined h) c.0 c.1 (record { envelope = c.4; children = c.5 }))
+
+  pub outline_cloned : (h : ℕ) (p q : ParentNode T E) → IsParentClone is_clone h p q → outline (shown_root q) ≡ outline (shown_root p)
+  outline_cloned h = outlined_each h (outlined h)
+
+  -- a clone of equal elements shows the same
   module _ (equal : ClonesEqual is_clone) where
     shown_each : (h : ℕ) → ((m n : RTreeNode T E) → IsNodeClone is_clone h m n → shown n ≡ shown m) → (p q : ParentNode T E) → IsParentClone is_clone h p q → shown_root q ≡ shown_root p
     shown_each h one p q c = ap₂ (λ e ns. parent e (row_of ns)) c.envelope

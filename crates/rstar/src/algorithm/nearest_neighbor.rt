@@ -134,8 +134,8 @@ impl<'a, T: PointDistance> Iterator
 /// A nearest element below a root with its squared distance.
 ///
 /// `None` comes exactly where there is no element. The traversal visits the nearest waiting parent first and
-/// prunes what is farther than the least `min_max_dist_2` seen (Roussopoulos et al. 1995). It takes memory,
-/// and may be refused, only where more than 32 parents wait.
+/// prunes what is farther than the least `min_max_dist_2` seen (Roussopoulos et al. 1995). It is never refused
+/// below a root of at most 32 parents.
 pub fn nearest_neighbor_with_distance_2<'a, T: PointDistance>(
     root: &'a ParentNode<T>,
     point: PointOf<T>,

@@ -1,7 +1,8 @@
 //! The order in which commands take neighbours.
 
-ghost use Rattle.std.specs.Prelude.{◌≡◌};
+ghost use Rattle.std.specs.Prelude.{◌≡◌, None};
 ghost use Rattle.rstar.specs.declared.replay.Command.TheVariants.{PopNearest};
+ghost use Rattle.rstar.specs.declared.replay.Reply.TheVariants.{Taken};
 ghost use Rattle.rstar.specs.Steps.{IsRefusal, StepByOrder};
 ghost use Rattle.rstar.specs.Trees.{elements_in, IsWholeTree};
 
@@ -18,6 +19,7 @@ pub(super) trait Reading<T: PointDistance + EqualEnvelopes>: ElementOrder<T> {
         ensures step { StepByOrder ⟦<T as Scanned>⟧.questions Self.order (elements_in tree.old) (PopNearest point) result
             (elements_in tree.new) }
         ensures whole { IsWholeTree T.Envelope.boxes T.object Params.MAX_SIZE tree.new }
+        ensures missed { result ≡ Taken None → tree.new ≡ tree.old }
         ensures refused { IsRefusal result → tree.new ≡ tree.old };
 }
 

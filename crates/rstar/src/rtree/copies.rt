@@ -6,7 +6,7 @@ ghost use Rattle.rstar.specs.Clones.{ClonesEqual, IsNodeClone, IsParentClone};
 ghost use Rattle.rstar.specs.Nodes.{children_of};
 ghost use Rattle.rstar.specs.Loaded.{IsLoaded};
 ghost use Rattle.rstar.specs.Shapes.{IsSized};
-ghost use Rattle.rstar.specs.Trees.{root_of, elements_in, IsUnchanged, IsWholeTree};
+ghost use Rattle.rstar.specs.Trees.{root_of, elements_in, HasSameOutline, IsUnchanged, IsWholeTree};
 ghost use Rattle.rstar.specs.inside.Traversals.{IsLevel};
 
 use crate::algorithm::rstar::preparation::Reserve;
@@ -19,13 +19,14 @@ use std::marker::PhantomData;
 
 impl<T: RTreeObject + Clone, Params: RTreeParams> RTree<T, Params> {
     /// A tree of clones of the elements, with the same nodes. Where each clone equals its element, the tree
-    /// shows the same.
+    /// shows the same and is whole.
     ///
     /// It is refused where the allocator refuses a list, or a clone of an element.
     #[tactic(auto, unfolding(crate::specs::Trees::IsWholeTree))]
     pub fn clone(&self) -> Result<Self, AllocError>
         requires { IsWholeTree T.Envelope.boxes T.object Params.MAX_SIZE self.now }
         ensures clones { IfOk result (λ tree. AllZip T.is_clone (elements_in self.now) (elements_in tree)) }
+        ensures outline { IfOk result (HasSameOutline self.now) }
         ensures same { ClonesEqual T.is_clone → IfOk result (IsUnchanged self.now) }
         ensures whole { ClonesEqual T.is_clone → IfOk result (IsWholeTree T.Envelope.boxes T.object Params.MAX_SIZE) }
         ensures sized { ClonesEqual T.is_clone → IsSized Params.MIN_SIZE Params.MAX_SIZE (root_of self.now)

@@ -26,8 +26,8 @@ use std::alloc::AllocError;
 impl<T: PointDistance, Params: RTreeParams> RTree<T, Params> {
     /// All elements, the nearest to a point first.
     ///
-    /// Making it takes no memory and visits nothing. `next` takes memory, and may be refused, where more
-    /// than 32 nodes wait.
+    /// Making it takes no memory and visits nothing. `next` is never refused while at most 32 elements are
+    /// left.
     ///
     /// ```rust
     /// fits::<PointOf<T>>();
@@ -54,8 +54,8 @@ impl<T: PointDistance, Params: RTreeParams> RTree<T, Params> {
 
     /// All elements with their squared distances, the nearest to a point first.
     ///
-    /// Making it takes no memory and visits nothing. `next` takes memory, and may be refused, where more
-    /// than 32 nodes wait.
+    /// Making it takes no memory and visits nothing. `next` is never refused while at most 32 elements are
+    /// left.
     #[tactic(auto, unfolding(crate::specs::Trees::IsWholeTree))]
     pub fn nearest_neighbor_iter_with_distance_2(
         &self,
@@ -104,8 +104,8 @@ impl<T: PointDistance, Params: RTreeParams> RTree<T, Params> {
     /// A nearest element to a point with its squared distance.
     ///
     /// `None` comes exactly where the tree is empty. The traversal visits the nearest waiting parent first
-    /// and prunes what is farther than the least `min_max_dist_2` seen (Roussopoulos et al. 1995). It takes
-    /// memory, and may be refused, only where more than 32 parents wait.
+    /// and prunes what is farther than the least `min_max_dist_2` seen (Roussopoulos et al. 1995). It is never
+    /// refused in a tree of at most 32 parents.
     #[tactic(auto, unfolding(crate::specs::Trees::IsWholeTree))]
     pub fn nearest_neighbor_with_distance_2(
         &self,
@@ -238,8 +238,8 @@ impl<T: PointDistance + Ord, Params: RTreeParams> RTree<T, Params> {
     /// All elements with their squared distances in the stated order. That order is by distance, and at
     /// equal distance by `Ord`.
     ///
-    /// Making it takes no memory and visits nothing. `next` takes memory, and may be refused, where more
-    /// than 32 nodes wait.
+    /// Making it takes no memory and visits nothing. `next` is never refused while at most 32 elements are
+    /// left.
     #[tactic(auto, unfolding(crate::specs::Trees::IsWholeTree))]
     pub fn nearest_neighbor_iter_by_order(
         &self,

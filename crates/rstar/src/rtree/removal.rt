@@ -26,7 +26,7 @@ impl<T: RTreeObject, Params: RTreeParams> RTree<T, Params> {
     ///
     /// `None` comes, with the tree as it was, where it finds none. It visits the accepted parents until it
     /// finds an element. Envelopes above it are recomputed as far up as one changes, and parents without
-    /// children are dropped; nodes are never merged. It takes no memory.
+    /// children are dropped. It takes no memory.
     pub fn remove_with_selection_function<R: SelectionFunction<T>>(&mut self, func: R) -> Option<T>
         requires { IsWholeTree T.Envelope.boxes T.object Params.MAX_SIZE self.old }
         ensures taken { IfSome result (λ x. IsPermutation (elements_in self.old) (x ∷ elements_in self.new)) }
