@@ -10,10 +10,11 @@
  *   - each array has been written before, and no two arrays of a call overlap;
  *   - a call gets two different handles where it takes two.
  *
- * A question with an array writes as many answers as the array has room for, and says how many there are. Where there
- * are more than it has room for, a second call with a longer array gets all.
+ * A question with an array writes as many answers as the array has room for, and says how many there are; of the nearest
+ * it finds no more than it is asked for. Where there are more than it has room for, a second call with a longer array
+ * gets all.
  *
- * Questions about boxes, points and distances take no memory, so none is refused.
+ * The questions meeting, inside, at and within, for one or for many, take no memory: lengths alone are refused.
  */
 #ifndef RSTAR_H
 #define RSTAR_H
@@ -44,7 +45,7 @@ typedef struct rstar_point {
 } rstar_point;
 
 /* What a call answers. After any but RSTAR_OK the handle is as it was. So are the arrays, but for those of
- * rstar_index_nearest_each and RSTAR_NO_MEMORY: these may have some of the answers. */
+ * rstar_index_nearest_each and RSTAR_NO_MEMORY: these have the answers for the first points. */
 typedef int32_t rstar_status;
 #define RSTAR_OK 0
 #define RSTAR_NO_MEMORY 1  /* memory was refused */
@@ -71,7 +72,8 @@ bool rstar_index_remove(rstar_index *index, uint64_t id, const rstar_box *box);
 /* Whether there is a rectangle with this ID and this box. */
 bool rstar_index_contains(rstar_index *index, uint64_t id, const rstar_box *box);
 
-/* All rectangles: their boxes, each as its lower and its upper corner, and their IDs. */
+/* All rectangles: their boxes, each as its lower and its upper corner, and their IDs. Each array is filled as far as it
+ * reaches. */
 rstar_status rstar_index_items(rstar_index *index, rstar_box *boxes, size_t boxes_len,
                                uint64_t *ids, size_t ids_len, size_t *found);
 

@@ -1,6 +1,6 @@
 //! The rectangles behind a handle.
 
-ghost use Rattle.std.specs.Prelude.{◌≡◌, ◌∷◌, [], true, false, filter, length, map, IfOk, OnOk, OnErr, IfSome, IfNone};
+ghost use Rattle.std.specs.Prelude.{◌≡◌, ◌∷◌, ℕ, [], true, false, filter, length, map, take, IfOk, OnOk, OnErr, IfSome, IfNone};
 ghost use Rattle.std.specs.List.{All, Contains};
 ghost use Rattle.std.specs.List.Sorted.{IsPermutation};
 ghost use Rattle.rstar.specs.Joins.{join};
@@ -149,8 +149,10 @@ impl Store {
         ids: &mut [u64],
         distances: &mut [i64],
     ) -> Result<usize, AllocError>
-        ensures { IfOk result
+        ensures put { IfOk result
             (AreNearestEach places.now most self.now ids.old ids.new distances.old distances.new) }
+        ensures refused { OnErr result ((count : ℕ) × (written : ℕ)
+            × AreNearestEach (take count places.now) most self.now ids.old ids.new distances.old distances.new written) }
     {
         // The proof needs to know that the lengths fit.
         let (_room, _other) = (room_in(ids), room_in(distances));

@@ -27,7 +27,7 @@ fn take<Q: Question>(
     ensures room { (result ≡ NO_ROOM) ↔ (length ids.old < length (filter (Q.chosen question shape.now) (items_in index.old))) }
     ensures wanted { result ≡ NO_ROOM → found.new ≡ length (filter (Q.chosen question shape.now) (items_in index.old)) }
     ensures refused { result ≢ OK → result ≢ NO_ROOM → (result ≡ NO_MEMORY) × (found.new ≡ found.old) }
-    ensures empty { index.old.held.value ≡ [] → result ≡ OK }
+    ensures empty { index.old.held.value ≡ [] → (result ≡ OK) × (index.new.held.value ≡ []) }
 {
     let Some(mut store) = taken(alloc, index) else {
         *found = 0;
@@ -54,7 +54,7 @@ pub extern "C" fn rstar_index_drain_meeting(
     ensures room { (result ≡ NO_ROOM) ↔ (length ids.old < length (filter (meets area.now) (items_in index.old))) }
     ensures wanted { result ≡ NO_ROOM → found.new ≡ length (filter (meets area.now) (items_in index.old)) }
     ensures refused { result ≢ OK → result ≢ NO_ROOM → (result ≡ NO_MEMORY) × (found.new ≡ found.old) }
-    ensures empty { index.old.held.value ≡ [] → result ≡ OK }
+    ensures empty { index.old.held.value ≡ [] → (result ≡ OK) × (index.new.held.value ≡ []) }
 {
     take(alloc, index, Meeting, area, ids, found)
 }
@@ -75,7 +75,7 @@ pub extern "C" fn rstar_index_drain_inside(
     ensures room { (result ≡ NO_ROOM) ↔ (length ids.old < length (filter (lies_in area.now) (items_in index.old))) }
     ensures wanted { result ≡ NO_ROOM → found.new ≡ length (filter (lies_in area.now) (items_in index.old)) }
     ensures refused { result ≢ OK → result ≢ NO_ROOM → (result ≡ NO_MEMORY) × (found.new ≡ found.old) }
-    ensures empty { index.old.held.value ≡ [] → result ≡ OK }
+    ensures empty { index.old.held.value ≡ [] → (result ≡ OK) × (index.new.held.value ≡ []) }
 {
     take(alloc, index, Inside, area, ids, found)
 }
@@ -96,7 +96,7 @@ pub extern "C" fn rstar_index_drain_at(
     ensures room { (result ≡ NO_ROOM) ↔ (length ids.old < length (filter (covers place.now) (items_in index.old))) }
     ensures wanted { result ≡ NO_ROOM → found.new ≡ length (filter (covers place.now) (items_in index.old)) }
     ensures refused { result ≢ OK → result ≢ NO_ROOM → (result ≡ NO_MEMORY) × (found.new ≡ found.old) }
-    ensures empty { index.old.held.value ≡ [] → result ≡ OK }
+    ensures empty { index.old.held.value ≡ [] → (result ≡ OK) × (index.new.held.value ≡ []) }
 {
     take(alloc, index, At, place, ids, found)
 }
@@ -118,7 +118,7 @@ pub extern "C" fn rstar_index_drain_within(
     ensures room { (result ≡ NO_ROOM) ↔ (length ids.old < length (filter (is_within distance place.now) (items_in index.old))) }
     ensures wanted { result ≡ NO_ROOM → found.new ≡ length (filter (is_within distance place.now) (items_in index.old)) }
     ensures refused { result ≢ OK → result ≢ NO_ROOM → (result ≡ NO_MEMORY) × (found.new ≡ found.old) }
-    ensures empty { index.old.held.value ≡ [] → result ≡ OK }
+    ensures empty { index.old.held.value ≡ [] → (result ≡ OK) × (index.new.held.value ≡ []) }
 {
     take(alloc, index, distance, place, ids, found)
 }

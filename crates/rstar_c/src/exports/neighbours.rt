@@ -1,6 +1,6 @@
 //! Nearest rectangles. They come by distance, at equal distance by their corners, and then by their IDs.
 
-ghost use Rattle.std.specs.Prelude.{◌≡◌, ◌≢◌, ◌↔◌, ◌*◌, ◌⊎◌, ℕ, [], ◌∷◌, pos, true, false, length, min};
+ghost use Rattle.std.specs.Prelude.{◌≡◌, ◌≢◌, ◌↔◌, ◌*◌, ◌⊎◌, ℕ, [], ◌∷◌, pos, true, false, length, min, take};
 ghost use Rattle.std.specs.List.Sorted.{IsPermutation};
 ghost use Rattle.rstar.specs.Lists.{IsLeast};
 ghost use Rattle.rstar_c.specs.Answers.{AreNearestPut, AreNearestEach};
@@ -52,7 +52,8 @@ pub extern "C" fn rstar_index_nearest(
 }
 
 /// The same for many points, `most` for each, the rectangles of one point behind those of the other. Each point gets the
-/// lesser of `most` and the number of rectangles; `found` says how many that is.
+/// lesser of `most` and the number of rectangles; `found` says how many that is. Where memory is refused both lists have
+/// the answers for the first points.
 #[unsafe(no_mangle)]
 pub extern "C" fn rstar_index_nearest_each(
     alloc: Global,
@@ -72,6 +73,8 @@ pub extern "C" fn rstar_index_nearest_each(
     ensures refused { result ≢ OK → result ≢ BAD_LENGTH → result ≡ NO_MEMORY }
     ensures empty { index.old.held.value ≡ [] → result ≢ NO_MEMORY }
     ensures uncounted { result ≢ OK → found.new ≡ found.old }
+    ensures partly { result ≡ NO_MEMORY → (count : ℕ) × (written : ℕ) × AreNearestEach (take count places.now) most
+        (items_in index.old) ids.old ids.new distances.old distances.new written }
     ensures unwritten { result ≡ BAD_LENGTH → (ids.new ≡ ids.old) × (distances.new ≡ distances.old) }
 {
     if !are_long(places.len(), most, ids.len(), distances.len()) {
