@@ -1,9 +1,9 @@
 -- Rectangles that each carry a number, and what is asked of lists of them.
-use Rattle.std.specs.Prelude.{◌&&◌, ◌==◌, ℕ, ℤ, Bool, List, filter, length, min, not, pos, negsuc, int_lt}
+use Rattle.std.specs.Prelude.{◌&&◌, ◌==◌, ℕ, ℤ, Bool, List, filter, length, map, min, not, pos, negsuc, int_lt}
 use Rattle.std.specs.List.{sum_by}
 use Rattle.rstar_base.specs.Counts.{usize_max}
 use Rattle.rstar_base.specs.declared.primitives.Rectangle.{Rectangle}
-use Rattle.rstar.specs.Boxes.{box_contains_point, boxes_intersect, contains_box}
+use Rattle.rstar.specs.Boxes.{box_contains_point, box_of_corners, boxes_intersect, contains_box}
 use Rattle.rstar.specs.Gaps.{gap_sum}
 use Rattle.rstar.specs.Points.{table}
 use Rattle.rstar.specs.Rectangles.{box_or_empty}
@@ -20,6 +20,14 @@ high = pos 9223372036854775807
 -- a rectangle, kept as two corners, and its number
 abbrev pub Numbered : Type 0
 Numbered = Rectangle (List ℤ) × ℕ
+
+-- the rectangle between two opposite corners, with a number
+abbrev pub fence_of : ℕ → List ℤ → List ℤ → Numbered
+fence_of number one other =
+    (record {
+        lower = map (λ side. side.0) (box_of_corners 2 (coordinate one) (coordinate other));
+        upper = map (λ side. side.1) (box_of_corners 2 (coordinate one) (coordinate other))
+    }, number)
 
 -- where it lies: an interval for each of two axes
 abbrev pub box_of : Numbered → List (ℤ × ℤ)

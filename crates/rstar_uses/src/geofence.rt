@@ -11,7 +11,7 @@ ghost use Rattle.rstar.specs.Lists.{NoneSelected};
 ghost use Rattle.rstar.specs.Points.{table};
 ghost use Rattle.rstar.specs.Segments.{coordinate};
 ghost use Rattle.rstar.specs.Trees.{elements_in, IsWholeTree};
-ghost use Rattle.rstar_uses.specs.Numbered.{box_of, count_and_sum, covers, lies_in};
+ghost use Rattle.rstar_uses.specs.Numbered.{box_of, count_and_sum, covers, fence_of, lies_in};
 
 use rstar::object::PointOf;
 use rstar::point::Point;
@@ -28,8 +28,8 @@ pub type Fence = GeomWithData<Rectangle<[i64; 2]>, u64>;
 
 /// The fence between two opposite corners, in any order, with a number.
 pub fn fence(number: u64, one: [i64; 2], other: [i64; 2]) -> Fence
+    ensures is { result ≡ fence_of number one other }
     ensures corners { box_of result ≡ box_of_corners 2 (coordinate one) (coordinate other) }
-    ensures number { result.1 ≡ number }
     ensures filled { is_empty_box (box_of result) ≡ false }
 {
     Fence::new(Rectangle::from_corners(one, other), number)
