@@ -22,7 +22,7 @@ import sys
 from sources import CRATES, ROOT, cited, edits, imports, items, module_of, sources, words
 
 LIBRARIES = ["rstar_base", "rstar"]
-PROGRAM = ["run", "pack", "unpack", "mode_of"]
+PROGRAM = ["run", "pack", "unpack", "mode"]
 LIMITS = {"docs/API.md": 30_000, "docs/DEFINITIONS.md": 28_000}
 # A definition of at most so many characters is shown with its own lines.
 SHORT = 96

@@ -234,6 +234,14 @@ fn pairs_of_boxes(rt: HostRuntime) {
             (EMPTY, FULL, true, false, 0, FULL),
         ])
     );
+    let none = ([127i8, 127], [-128, -128]);
+    let all = ([-128, -128], [127, 127]);
+    assert!(rt;
+        are_paired(&[
+            (([0, 0], [1, 1]), none, false, true, 0, ([0, 0], [1, 1])),
+            (none, all, true, false, 0, all),
+        ])
+    );
 }
 
 /// Whether boxes contain a point, and are empty, as expected.

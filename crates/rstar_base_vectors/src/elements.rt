@@ -33,12 +33,17 @@ pub(crate) fn is_so_far<T: PointDistance>(
 /// The ends of a line, its squared length, a point, the nearest point of the line, and the squared distance.
 type LineRow<P> = (P, P, <P as Point>::Scalar, P, P, <P as Point>::Scalar);
 
-/// Whether a line has this length, nearest point and distance.
+/// Whether a line has this length, nearest point and distance, also with a number and with its envelope kept.
 fn line_is_so_far<P: Point + Copy>(row: &LineRow<P>) -> bool {
-    let line = Line::new(row.0, row.1);
+    let numbered = GeomWithData::new(Line::new(row.0, row.1), 1u64);
+    let line = numbered.geom();
+    let kept = CachedEnvelope::new(Line::new(row.0, row.1));
     line.length_2() == row.2
         && line.nearest_point(&row.3) == row.4
         && line.distance_2(&row.3) == row.5
+        && numbered.distance_2(&row.3) == row.5
+        && (*kept).length_2() == row.2
+        && kept.distance_2(&row.3) == row.5
 }
 
 /// The same of several lines.
@@ -51,14 +56,17 @@ fn lines_are_so_far<P: Point + Copy>(rows: &[LineRow<P>]) -> bool {
     true
 }
 
-// The upright line is that of rstar's test `edge_distance`, twice as large. Where its numbers do not fit, a line has its
-// ends alone.
+// The upright line is that of rstar's tests `edge_distance` and `container_edge_distance`, twice as large; the line of
+// length 52 that of `length_2` and `container_length_2`. Where its numbers do not fit, a line has its ends alone.
 #[test]
 fn lines_and_points(rt: HostRuntime) {
     assert!(rt;
         lines_are_so_far(&[
-            ([1i64, 1], [1, 4], 9, [1, 2], [1, 2], 0),
+            ([1i64, 1], [1, 4], 9, [1, 1], [1, 1], 0),
+            ([1, 1], [1, 4], 9, [0, 1], [1, 1], 1),
+            ([1, 1], [1, 4], 9, [1, 2], [1, 2], 0),
             ([1, 1], [1, 4], 9, [0, 0], [1, 1], 2),
+            ([1, 1], [1, 4], 9, [0, 2], [1, 2], 1),
             ([1, 1], [1, 4], 9, [2, 2], [1, 2], 1),
             ([1, 1], [1, 4], 9, [2, 6], [1, 4], 5),
             ([3, 3], [7, 6], 25, [3, 3], [3, 3], 0),

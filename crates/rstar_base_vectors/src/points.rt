@@ -202,7 +202,7 @@ fn tuples_arrays_and_named_coordinates(rt: HostRuntime) {
         reads_and_writes((1i64,), &[1], 0),
         reads_and_writes((1i64, 2), &[1, 2], 0),
         reads_and_writes((1i64, 2), &[1, 2], 1),
-        reads_and_writes((1i64, 2, 3), &[1, 2, 3], 1),
+        reads_and_writes((0i64, 1, 2), &[0, 1, 2], 2),
         reads_and_writes((1i64, 2, 3, 4), &[1, 2, 3, 4], 3),
         reads_and_writes((1i64, 2, 3, 4, 5), &[1, 2, 3, 4, 5], 2),
         reads_and_writes((1i8, 2, 3, 4, 5, 6), &[1, 2, 3, 4, 5, 6], 5),

@@ -19,19 +19,18 @@ mod stored;
 mod tests;
 mod words;
 
-use modes::{Mode, mode_of};
-use program::run;
+use program::{Mode, mode, pack, run, unpack};
 use std::io::ErrorKind;
 use std::process::ExitCode;
 use std::rt::Env;
 use std::{env, io};
 use stops::Stop;
-use stored::{Fault, pack, refuse, unpack};
+use stored::{Fault, refuse};
 
 fn main(rt: HostRuntime) -> ExitCode {
     let mut output = io::writer(&rt);
     let status = match given_words(&rt) {
-        Ok(words) => match mode_of(&words) {
+        Ok(words) => match mode(&words) {
             Some(Mode::Run) => run(rt.alloc(), rt.reader(), &mut output),
             Some(Mode::Pack) => pack(rt.alloc(), rt.reader(), &mut output),
             Some(Mode::Unpack) => unpack(rt.alloc(), rt.reader(), &mut output),

@@ -27,7 +27,7 @@ fn mode_named(word: &str) -> Option<Mode>
 
 /// The mode that the words after the program's name ask for: no word for a run, `pack` or `unpack` alone.
 #[tactic(auto, using(crate::proofs::Arguments::mode_none))]
-pub fn mode_of(words: &[String]) -> Option<Mode>
+pub fn mode(words: &[String]) -> Option<Mode>
     ensures { result ≡ mode_of (map string_bytes words.now) }
 {
     match words {

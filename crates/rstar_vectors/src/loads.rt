@@ -13,7 +13,7 @@ use rstar::algorithm::bulk_load::{bulk_load_sequential, none_empty};
 use rstar::node::RTreeNode;
 use rstar::object::PointOf;
 use rstar::params::{DefaultParams, RTreeParams};
-use rstar::primitives::{CachedEnvelope, GeomWithData, Line, Rectangle};
+use rstar::primitives::{CachedEnvelope, GeomWithData, Line, OrderedDistances, Rectangle};
 use rstar::rtree::RTree;
 use rstar_base::{AABB, Envelope, EqualEnvelopes, Point, PointDistance, RTreeObject};
 use std::alloc::{AllocError, Global};
@@ -195,6 +195,17 @@ pub(crate) fn deep_points(alloc: Global, count: usize) -> Vec<[i32; 3]> {
     points
 }
 
+/// The points of `deep_points`, with a fourth coordinate.
+fn points_of_four_axes(alloc: Global, count: usize) -> Vec<[i32; 4]> {
+    let deep = deep_points(alloc, count);
+    let mut points = Vec::new(alloc);
+    for i in 0..deep.len() {
+        let [x, y, z] = deep[i];
+        let _refused = points.push([x, y, z, x.wrapping_add(z) % 67]).is_err();
+    }
+    points
+}
+
 const LOADED: [[i32; 3]; 40] = [
     [57000000, 108000000, 8900000],
     [3000000, 108000000, 62700000],
@@ -251,49 +262,6 @@ const INSERTED: [[i32; 3]; 10] = [
     [172932530, 106000230, 35850134],
 ];
 
-const OF_FOUR_AXES: [[i32; 4]; 40] = [
-    [37, 53, 29, 61],
-    [74, 3, 27, 55],
-    [10, 56, 25, 49],
-    [47, 6, 23, 43],
-    [84, 59, 21, 37],
-    [20, 9, 19, 31],
-    [57, 62, 17, 25],
-    [94, 12, 15, 19],
-    [30, 65, 13, 13],
-    [67, 15, 11, 7],
-    [3, 68, 9, 1],
-    [40, 18, 7, 62],
-    [77, 71, 5, 56],
-    [13, 21, 3, 50],
-    [50, 74, 1, 44],
-    [87, 24, 30, 38],
-    [23, 77, 28, 32],
-    [60, 27, 26, 26],
-    [97, 80, 24, 20],
-    [33, 30, 22, 14],
-    [70, 83, 20, 8],
-    [6, 33, 18, 2],
-    [43, 86, 16, 63],
-    [80, 36, 14, 57],
-    [16, 89, 12, 51],
-    [53, 39, 10, 45],
-    [90, 92, 8, 39],
-    [26, 42, 6, 33],
-    [63, 95, 4, 27],
-    [100, 45, 2, 21],
-    [36, 98, 0, 15],
-    [73, 48, 29, 9],
-    [9, 101, 27, 3],
-    [46, 51, 25, 64],
-    [83, 1, 23, 58],
-    [19, 54, 21, 52],
-    [56, 4, 19, 46],
-    [93, 57, 17, 40],
-    [29, 7, 15, 34],
-    [66, 60, 13, 28],
-];
-
 const EQUAL: [[i32; 2]; 300] = [[0, 1]; 300];
 
 /// Whether bulk loads of points of two axes, and of equal points, are as they should be, for both node
@@ -311,19 +279,14 @@ fn loads_well_at_both_sizes<P: Point + Copy + Ord>(
         && loads_well::<P, Small>(alloc, points, 4, &[])
 }
 
-// From none to 300 and some larger counts, of points and equal points; a load of 25 has a parent of leaves that is too
-// wide: 7 of them. Then points of three and of four axes.
+// From none to 300, and the larger counts of rstar's test `test_bulk_load_leaves_on_one_level`, of points of two, three
+// and four axes, and of equal points. A load of 25 has a parent of leaves that is too wide: 7 of them.
 #[test]
 fn loads_of_many_sizes_are_loaded_and_take_insertions(rt: HostRuntime) {
-    for turn in 0..305usize {
-        let (count, taken) = match turn {
-            0 | 25 | 28 | 37 | 300 => (turn, 40),
-            301 => (693, 0),
-            302 => (1024, 0),
-            303 => (1537, 0),
-            304 => (3000, 0),
-            _ => (turn, 0),
-        };
+    const LARGER: [usize; 10] = [693, 1024, 1299, 1537, 1791, 6145, 7167, 7777, 25_000, 100_003];
+    for turn in 0..311usize {
+        let count = if turn <= 300 { turn } else { LARGER[turn - 301] };
+        let taken = if matches!(turn, 0 | 25 | 28 | 37 | 300) { 40 } else { 0 };
         let flat = points(rt.alloc(), count);
         let more = points(rt.alloc(), taken);
         assert!(rt;
@@ -335,14 +298,13 @@ fn loads_of_many_sizes_are_loaded_and_take_insertions(rt: HostRuntime) {
             loads_well::<[i32; 3], DefaultParams>(rt.alloc(), &deep, 8, &[]),
             "of {count}"
         );
-    }
-    assert!(rt; loads_well::<[i32; 3], DefaultParams>(rt.alloc(), &LOADED, 8, &INSERTED));
-    for &count in &[7, 28, 35] {
+        let deeper = points_of_four_axes(rt.alloc(), count);
         assert!(rt;
-            loads_well::<_, DefaultParams>(rt.alloc(), &OF_FOUR_AXES[..count], 16, &[]),
+            loads_well::<_, DefaultParams>(rt.alloc(), &deeper, 16, &[]),
             "of {count}"
         );
     }
+    assert!(rt; loads_well::<[i32; 3], DefaultParams>(rt.alloc(), &LOADED, 8, &INSERTED));
 }
 
 /// Whether each of some nodes is a parent with these parts.
@@ -599,8 +561,14 @@ fn callers_load_query_and_insert(rt: HostRuntime) {
     );
 }
 
-/// Whether a bulk load of two elements contains an element.
-fn load_contains<T: EqualEnvelopes>(alloc: Global, one: T, other: T, wanted: &T) -> bool
+/// Whether a bulk load of two elements contains an element and has a nearest to a point.
+fn load_contains<T: EqualEnvelopes + PointDistance>(
+    alloc: Global,
+    one: T,
+    other: T,
+    wanted: &T,
+    at: PointOf<T>,
+) -> bool
     requires { 2 ≤ T.Envelope.Point.DIMENSIONS }
 {
     let mut elements = Vec::new(alloc);
@@ -609,7 +577,7 @@ fn load_contains<T: EqualEnvelopes>(alloc: Global, one: T, other: T, wanted: &T)
     }
     match RTree::<T>::bulk_load(elements) {
         Ok(tree) => {
-            let is_there = tree.contains(wanted);
+            let is_there = tree.contains(wanted) && matches!(tree.nearest_neighbor(at), Ok(Some(_)));
             let_go(tree);
             is_there
         }
@@ -617,8 +585,17 @@ fn load_contains<T: EqualEnvelopes>(alloc: Global, one: T, other: T, wanted: &T)
     }
 }
 
-/// Whether bulk loads of two elements contain the first, with numbers and with cached envelopes.
-fn loads_contain_the_first<R: EqualEnvelopes + Copy>(alloc: Global, one: R, other: R) -> bool
+/// Whether bulk loads of two elements contain the first and have a nearest to a point, with numbers and with cached
+/// envelopes.
+fn loads_contain_the_first<R: EqualEnvelopes + PointDistance + Copy>(
+    alloc: Global,
+    one: R,
+    other: R,
+    at: PointOf<R>,
+) -> bool
+where
+    R::Envelope: OrderedDistances,
+    PointOf<R>: Copy,
     requires { 2 ≤ R.Envelope.Point.DIMENSIONS }
 {
     load_contains(
@@ -626,18 +603,21 @@ fn loads_contain_the_first<R: EqualEnvelopes + Copy>(alloc: Global, one: R, othe
         GeomWithData::new(one, 7u64),
         GeomWithData::new(other, 7),
         &GeomWithData::new(one, 7),
+        at,
     ) && load_contains(
         alloc,
         CachedEnvelope::new(one),
         CachedEnvelope::new(other),
         &CachedEnvelope::new(one),
+        at,
     )
 }
 
-// rstar's tests `container_in_rtree`, of a line with a number and of one with its envelope beside it.
+// rstar's tests `container_in_rtree` and `container_nearest_neighbour`, of a line with a number and of one with its
+// envelope beside it.
 #[test]
 fn loads_contain_what_holds_a_line(rt: HostRuntime) {
     let one = Line::new([0i64, 0], [1, 1]);
     let other = Line::new([0, 0], [-1, 1]);
-    assert!(rt; loads_contain_the_first(rt.alloc(), one, other));
+    assert!(rt; loads_contain_the_first(rt.alloc(), one, other, [0, 0]));
 }

@@ -310,20 +310,35 @@ mod tests {
     {
         let mut tree = inserted::<GeomWithData<R, u64>, DefaultParams>(alloc, elements);
         let (one, two) = if is_inside {
-            (1000, 1001)
+            (9, 1000)
         } else {
             (number, number)
         };
         let left = elements.len().saturating_sub(usize::from(is_inside));
         let is_so = gives_of(alloc, &tree, elements, elements.len())
             & carries(&tree, other, number)
-            & (renumber(&mut tree, point, 1000) == is_inside)
+            & (renumber(&mut tree, point, 9) == is_inside)
             & carries(&tree, other, one)
             & gives_of(alloc, &tree, elements, left)
-            & (renumber_int(&mut tree, point, 1001) == is_inside)
+            & (renumber_int(&mut tree, point, 1000) == is_inside)
             & carries(&tree, other, two);
         let_go(tree);
         is_so
+    }
+
+    /// The number that is lent to write at a point.
+    fn lent_at<R: PointDistance + Copy>(
+        alloc: Global,
+        elements: &[GeomWithData<R, u64>],
+        point: PointOf<R>,
+    ) -> Option<u64> {
+        let mut tree = inserted::<GeomWithData<R, u64>, DefaultParams>(alloc, elements);
+        let number = match tree.locate_at_point_mut(point) {
+            Some(lent) => Some(*lent),
+            None => None,
+        };
+        let_go(tree);
+        number
     }
 
     // How many fences, their side, and the first one's number; a point where it is written, one where it is read, the
@@ -343,6 +358,8 @@ mod tests {
                 writes(rt.alloc(), &fences, point, other, number, is_inside),
                 "row {row}"
             );
+            let lent = is_inside.then_some(number);
+            assert_eq!(rt; lent_at(rt.alloc(), &fences, point), lent, "row {row}");
         }
     }
 }

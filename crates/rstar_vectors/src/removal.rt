@@ -11,7 +11,7 @@ use crate::loads::{are_same, deep_points, gather};
 use crate::node_sizes::{Emptying, Wide};
 use crate::payloads::Asked;
 use crate::scenarios::{ALONG_A_LINE, inserted, let_go, levels_of, points, stands, stands_with};
-use crate::selections::LeftOnly;
+use crate::selections::LeftOf;
 use crate::trials::{ALL, By, Drained, Order, State, Step, go_on, go_through};
 use rstar::algorithm::selection_functions::{SelectAllFunc, SelectionFunction};
 use rstar::iterators::DrainIterator;
@@ -196,18 +196,24 @@ fn forgotten_after<T: RTreeObject>(tree: &mut RTree<T>, calls: usize, given: &mu
     }
 }
 
-/// Whether a tree stands after a drain that is forgotten after so many calls, and what was given and what is left are these
-/// elements.
+/// Whether a tree stands after a drain that is dropped after some calls and one that is forgotten after others, and what was
+/// given and what is left are these elements.
 fn are_given_or_left<T: RTreeObject + Ord + Copy>(
     alloc: Global,
     elements: &[T],
+    dropped: usize,
     calls: usize,
 ) -> bool {
     let mut tree = inserted::<T, DefaultParams>(alloc, elements);
     let mut all = Vec::new(alloc);
+    let came = match tree.drain() {
+        Ok(mut drain) => call(&mut drain, dropped, &mut all),
+        Err(_) => 0,
+    };
     let is_so = forgotten_after(&mut tree, calls, &mut all)
-        & (all.len() == calls)
-        & (tree.size().saturating_add(calls) == elements.len())
+        & (came == dropped)
+        & (all.len() == dropped.saturating_add(calls))
+        & (tree.size().saturating_add(all.len()) == elements.len())
         & stands(&tree)
         & gather(
             tree.root().children(),
@@ -312,6 +318,15 @@ fn removals_of_all_in_several_orders(rt: HostRuntime) {
             assert_eq!(rt; gone, Ok(()), "of {count}");
         }
     }
+    let asked = (AABB::from_point([0i64, 0, 0]), [0, 0, 0], 10);
+    let steps = [
+        Step::In(0, ALL),
+        Step::Out(0, ALL, Order::Forward, By::Equality),
+        Step::Drain(Drained::Near, 1, 0),
+        Step::Left(0),
+    ];
+    let gone = go_through::<_, DefaultParams>(rt.alloc(), &[[1, 2, 3]], 0, &asked, &steps);
+    assert_eq!(rt; gone, Ok(()), "of three axes");
 }
 
 /// From a load of the first half of a list each element leaves for one of the others, and these then leave.
@@ -394,10 +409,11 @@ fn drains_that_are_given_up(rt: HostRuntime) {
         go_through::<_, DefaultParams>(rt.alloc(), &EIGHT, 0, &far, &ONE_OF_EACH),
         Ok(())
     );
-    assert!(rt; drains_at_most(rt.alloc(), &ALONG_A_LINE, LeftOnly, 3, &far, 4));
+    assert!(rt; drains_at_most(rt.alloc(), &ALONG_A_LINE, LeftOf { limit: 1 }, 3, &far, 4));
+    assert!(rt; are_given_or_left(rt.alloc(), &EIGHT[..5], 2, 0));
     for calls in 0..8usize {
         assert!(rt;
-            are_given_or_left(rt.alloc(), &ALONG_A_LINE, calls),
+            are_given_or_left(rt.alloc(), &ALONG_A_LINE, 0, calls),
             "after {calls}"
         );
         for &count in &[5, 7] {

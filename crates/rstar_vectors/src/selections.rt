@@ -2,7 +2,7 @@
 //!
 //! Steps on trees are generic, and a test gives them elements.
 
-ghost use Rattle.std.specs.Prelude.{◌≡◌, ◌<◌, true, false, pos, int_le, int_lt, map, filter, IfOk};
+ghost use Rattle.std.specs.Prelude.{◌≡◌, ◌<◌, true, false, pos, int_lt, map, filter, IfOk};
 ghost use Rattle.rstar.specs.Selections.{IsLawful};
 ghost use Rattle.rstar.specs.Trees.{elements_in, IsWholeTree};
 
@@ -161,17 +161,19 @@ fn a_function_of_ones_own_selects_what_it_says(rt: HostRuntime) {
     );
 }
 
-/// Accepts the parents that begin at 0 or left of it, and selects all points.
-#[derive(Drop)]
-pub(crate) struct LeftOnly;
+/// Accepts the parents that begin left of a limit, and selects all points.
+#[derive(Clone, Copy, Drop)]
+pub(crate) struct LeftOf {
+    pub(crate) limit: i32,
+}
 
-impl SelectionFunction<[i32; 2]> for LeftOnly {
-    ghost accepts = { λ _ e. int_le (⟦<AABB<[i32; 2]> as Envelope>⟧.boxes.axis_key e 0) (pos 0) };
+impl SelectionFunction<[i32; 2]> for LeftOf {
+    ghost accepts = { λ f e. int_lt (⟦<AABB<[i32; 2]> as Envelope>⟧.boxes.axis_key e 0) f.limit };
 
     ghost selects = { λ _ _. true };
 
     fn should_unpack_parent(&self, envelope: &AABB<[i32; 2]>) -> bool {
-        envelope.axis_key(0) <= 0
+        envelope.axis_key(0) < self.limit
     }
 
     fn should_unpack_leaf(&self, _leaf: &[i32; 2]) -> bool {
@@ -179,19 +181,21 @@ impl SelectionFunction<[i32; 2]> for LeftOnly {
     }
 }
 
-/// Points, and how many of them are selected, with the parents visited.
-type Selected<'a> = (&'a [[i32; 2]], (usize, usize));
+/// A limit, points, and how many of them are selected, with the parents visited.
+type Selected<'a> = (i32, &'a [[i32; 2]], (usize, usize));
 
-// A function that is not lawful misses some. Where no parent is accepted, none is opened: of the last three trees not
-// even the root, which is with one point rstar's test `test_root_node_is_not_always_unpacked`.
+// A function that is not lawful misses some. Where no parent is accepted, none is opened: of the last four trees not
+// even the root. With one point and no parent accepted at all that is rstar's test `test_root_node_is_not_always_unpacked`.
 #[test]
 fn unlawful_functions_give_less(rt: HostRuntime) {
-    const ROWS: [Selected<'static>; 5] = [
-        (&[[0, 0]], (1, 1)),
-        (&ALONG_A_LINE, (3, 2)),
-        (&[], (0, 0)),
-        (&[[1, 0]], (0, 0)),
+    const ROWS: [Selected<'static>; 6] = [
+        (1, &[[0, 0]], (1, 1)),
+        (1, &ALONG_A_LINE, (3, 2)),
+        (1, &[], (0, 0)),
+        (i32::MIN, &[[0, 0]], (0, 0)),
+        (1, &[[1, 0]], (0, 0)),
         (
+            1,
             &[
                 [1, 0],
                 [2, 0],
@@ -205,9 +209,9 @@ fn unlawful_functions_give_less(rt: HostRuntime) {
         ),
     ];
     for row in 0..ROWS.len() {
-        let &(points, (count, opened)) = &ROWS[row];
+        let &(limit, points, (count, opened)) = &ROWS[row];
         assert!(rt;
-            selects(rt.alloc(), points, LeftOnly, count, opened),
+            selects(rt.alloc(), points, LeftOf { limit }, count, opened),
             "row {row}"
         );
     }

@@ -58,6 +58,7 @@ mod tests {
     use rstar::algorithm::bulk_load::{bulk_load_sequential, none_empty};
     use rstar::algorithm::selection_functions::SelectAllFunc;
     use rstar::iterators::select_nodes;
+    use rstar::envelope::copied_envelope;
     use rstar::object::{PointDistance, PointOf};
     use std::alloc::Global;
 
@@ -78,22 +79,23 @@ mod tests {
         sum
     }
 
-    /// The break of a visit that adds 10 to each number, 0 where none breaks, and the sums of the numbers
-    /// after each of four visits: that one, two that add 1 inside an envelope and at a point, and one that
-    /// clears what an envelope intersects.
+    /// The break of a visit that adds to each number, 0 where none breaks, and the sums of the numbers after
+    /// each of five visits: that one, three that add 1 inside an envelope, to what it intersects and at a
+    /// point, and one that clears what an envelope intersects.
     fn visited<R: PointDistance + Copy>(
         alloc: Global,
         elements: &[Numbered<R>],
+        more: u64,
         breaks: bool,
-        area: R::Envelope,
+        area: &R::Envelope,
         point: PointOf<R>,
         cleared: R::Envelope,
-    ) -> (u64, [u64; 4]) {
+    ) -> (u64, [u64; 5]) {
         let mut tree = inserted::<Numbered<R>, DefaultParams>(alloc, elements);
         let answer = tree.locate_with_selection_function_int_mut(
             SelectAllFunc,
             |one: &mut Numbered<R>| {
-                one.data = one.data.wrapping_add(10);
+                one.data = one.data.wrapping_add(more);
                 if breaks {
                     ControlFlow::Break(one.data)
                 } else {
@@ -106,16 +108,18 @@ mod tests {
             one.data = one.data.wrapping_add(1);
             ControlFlow::<()>::Continue(())
         };
-        tree.locate_in_envelope_int_mut(area, add_one);
+        tree.locate_in_envelope_int_mut(copied_envelope(area), add_one);
         let second = sum(tree.root());
-        tree.locate_all_at_point_int_mut(point, add_one);
+        tree.locate_in_envelope_intersecting_int_mut(copied_envelope(area), add_one);
         let third = sum(tree.root());
+        tree.locate_all_at_point_int_mut(point, add_one);
+        let fourth = sum(tree.root());
         clear(&mut tree, cleared);
         let last = sum(tree.root());
         let_go(tree);
         (
             answer.break_value().unwrap_or(0),
-            [first, second, third, last],
+            [first, second, third, fourth, last],
         )
     }
 
@@ -152,20 +156,20 @@ mod tests {
     /// The corners of a box.
     type Corners = ([i64; 2], [i64; 2]);
 
-    /// Fences, whether a visit breaks, the box of the visits, the box of the clearing, the least and the
-    /// greatest break, and the four sums.
+    /// Fences, what the first visit adds and whether it breaks, the box of the visits, the box of the clearing,
+    /// the least and the greatest break, and the five sums.
     type Row = (
         &'static [Outlined],
-        bool,
+        (u64, bool),
         Corners,
         Corners,
         (u64, u64),
-        [u64; 4],
+        [u64; 5],
     );
 
-    // The numbers 1, 2 and 3 in one place, inside a box, each changed, or one until a break; and two fences. A box that
-    // contains none of them, and touches the first, a point inside that, and the point at its corner, where it is cleared,
-    // as by that box.
+    // The numbers 1, 2 and 3 in one place, inside a box, each changed, or one until a break; and one fence, and two. A box
+    // that contains none of them, and touches the first, a point inside that, and the point at its corner, where it is
+    // cleared, as by that box.
     #[test]
     fn visits_write_what_they_select_until_a_break(rt: HostRuntime) {
         const THREE: [Outlined; 3] = [
@@ -173,22 +177,25 @@ mod tests {
             (2, [0, 0], [2, 2]),
             (3, [0, 0], [2, 2]),
         ];
+        const ONE: [Outlined; 1] = [(7, [0, 0], [2, 2])];
         const TWO: [Outlined; 2] = [(7, [0, 0], [2, 2]), (5, [3, 3], [4, 4])];
         const WIDE: Corners = ([0, 0], [2, 2]);
         const AREA: Corners = ([0, 0], [1, 1]);
         const CORNER: Corners = ([2, 2], [2, 2]);
-        const ROWS: [Row; 4] = [
-            (&THREE, false, WIDE, CORNER, (0, 0), [36, 39, 42, 0]),
-            (&THREE, true, AREA, CORNER, (11, 13), [16, 16, 19, 0]),
-            (&TWO, false, AREA, CORNER, (0, 0), [32, 32, 33, 15]),
-            (&TWO, false, AREA, AREA, (0, 0), [32, 32, 33, 15]),
+        const ROWS: [Row; 5] = [
+            (&THREE, (10, false), WIDE, CORNER, (0, 0), [36, 39, 42, 45, 0]),
+            (&THREE, (10, true), AREA, CORNER, (11, 13), [16, 16, 19, 22, 0]),
+            (&ONE, (0, false), AREA, CORNER, (0, 0), [7, 7, 8, 9, 0]),
+            (&TWO, (10, false), AREA, CORNER, (0, 0), [32, 32, 33, 34, 15]),
+            (&TWO, (10, false), AREA, AREA, (0, 0), [32, 32, 33, 34, 15]),
         ];
         for row in 0..ROWS.len() {
-            let &(list, breaks, area, cleared, (least, most), sums) = &ROWS[row];
+            let &(list, (more, breaks), area, cleared, (least, most), sums) = &ROWS[row];
             let fences = fences_of(rt.alloc(), list);
             let area = AABB::from_corners(area.0, area.1);
             let cleared = AABB::from_corners(cleared.0, cleared.1);
-            let (number, own) = visited(rt.alloc(), &fences, breaks, area, [1, 1], cleared);
+            let (number, own) =
+                visited(rt.alloc(), &fences, more, breaks, &area, [1, 1], cleared);
             assert!(rt;
                 least <= number && number <= most && own == sums,
                 "row {row}"

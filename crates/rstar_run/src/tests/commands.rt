@@ -10,6 +10,7 @@ ghost use Rattle.rstar.specs.Trees.{root_of, size_of, elements_in, IsUnchanged, 
 
 use super::format::scan;
 use super::mark;
+use rstar::primitives::Rectangle;
 use rstar::replay::{
     Command, Query, Reply, Scanned, all_fit, is_fit, replay, replay_by_order, step,
 };
@@ -584,18 +585,22 @@ fn go(alloc: Global, rows: &[Row]) -> bool {
         && first_astray(alloc, &draws) == Ok(None)
 }
 
-// A point that came twice is joined twice, and leaves twice; five that were loaded are drained, two and then the others.
+// A point that came twice leaves twice, and is joined twice; five that were loaded are drained, two and then the others.
 #[test]
 fn rows_of_commands(rt: HostRuntime) {
-    const TWICE: [Row; 7] = [
+    const TWICE: [Row; 6] = [
         (Kind::Insert, [0, 2], 0, 0),
         (Kind::Insert, [0, 2], 0, 0),
-        // The list of this seed has the point once.
-        (Kind::Join, [0, 2], 4, 2),
         (Kind::Remove, [0, 2], 0, 1),
         (Kind::Remove, [0, 2], 0, 1),
         (Kind::Remove, [0, 2], 0, 0),
         (Kind::Ask, [0, 0], 0, 0),
+    ];
+    const JOINED: [Row; 3] = [
+        (Kind::Insert, [0, 2], 0, 0),
+        (Kind::Insert, [0, 2], 0, 0),
+        // The list of this seed has the point once.
+        (Kind::Join, [0, 2], 4, 2),
     ];
     const FIVE: [Row; 5] = [
         (Kind::LoadLine, [0, 0], 5, 0),
@@ -605,5 +610,34 @@ fn rows_of_commands(rt: HostRuntime) {
         (Kind::Nearest, [0, 0], 0, 0),
     ];
     assert!(rt; go(rt.alloc(), &TWICE));
+    assert!(rt; go(rt.alloc(), &JOINED));
     assert!(rt; go(rt.alloc(), &FIVE));
+}
+
+/// The number of pairs that commands join of an element that comes twice and another one; none where one is refused.
+fn pairs_of_two<T: PointDistance + EqualEnvelopes + Copy + Ord>(
+    alloc: Global,
+    twice: T,
+    other: T,
+) -> Result<Option<usize>, AllocError>
+    requires { ClonesEqual T.is_clone }
+{
+    let mut list = Vec::new(alloc);
+    list.push(other)?;
+    let mut commands = Vec::new(alloc);
+    commands.push(Command::Insert(twice))?;
+    commands.push(Command::Insert(twice))?;
+    commands.push(Command::Join(list))?;
+    let mut tree: RTree<T> = RTree::default(alloc);
+    match replied(alloc, &mut tree, commands, false)?.last() {
+        Some(Reply::Pairs(pairs)) => Ok(Some(pairs.len())),
+        _ => Ok(None),
+    }
+}
+
+#[test]
+fn a_rectangle_that_came_twice_is_joined_twice(rt: HostRuntime) {
+    let two = Rectangle::from_corners([0i64, 0], [2, 2]);
+    let touching = Rectangle::from_corners([2, 2], [4, 4]);
+    assert!(rt; pairs_of_two(rt.alloc(), two, touching) == Ok(Some(2)));
 }

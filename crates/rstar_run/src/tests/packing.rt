@@ -1,8 +1,8 @@
 //! Stored trees: packed, unpacked, refused, and over a reader and a writer that fail.
 
 use super::{Feed, Terminal, expect_written};
-use crate::modes::{Mode, mode_of};
-use crate::stored::{Fault, pack, refuse, unpack};
+use crate::program::{Mode, mode, pack, unpack};
+use crate::stored::{Fault, refuse};
 use std::alloc::{AllocError, Global};
 use std::cell::Cell;
 use std::io::{Cursor, ErrorKind, Read, Write};
@@ -43,7 +43,7 @@ fn reads_its_mode(rt: HostRuntime) -> Result<(), Fail> {
     ];
     for (words, want) in rows {
         let list = list_of(rt.alloc(), words)?;
-        assert_eq!(rt; mode_of(&list), want, "at {words:?}");
+        assert_eq!(rt; mode(&list), want, "at {words:?}");
     }
     // What the program says where its words ask for nothing.
     let mut taken = Cursor::new([0u8; 256]);
