@@ -1,11 +1,12 @@
-//! The run of the program.
+//! What `main` calls: the mode, and the run.
 
-ghost use Rattle.std.specs.Prelude.{◌≡◌, ◌+◌, ◌++◌, ℕ, List, [], Ok, Err, true, false, IsErr, OnOk, IfOk, IfErr};
+ghost use Rattle.std.specs.Prelude.{◌≡◌, ◌+◌, ◌++◌, ℕ, List, [], Ok, Err, true, false, IsErr, OnOk, IfOk, IfErr, map, string_bytes};
 ghost use Rattle.std.specs.Io.KnownBytes.{Appends, IsAtEnd, Keeps};
 ghost use Rattle.rstar.specs.Lists.{NoneEmpty};
 ghost use Rattle.rstar.specs.Steps.{IsFit};
 ghost use Rattle.rstar_run.specs.Items.{Reply, StoreStep, questions};
 ghost use Rattle.rstar_run.specs.Lines.{bytes_left, TakesLine};
+ghost use Rattle.rstar_run.specs.Modes.{mode_of};
 ghost use Rattle.rstar_run.specs.Prints.{AppendsFront, Prints, Printed, PrintsSome};
 ghost use Rattle.rstar_run.specs.Runs.{IsNoLine, ReadsLoad, StepSays, Turn, RunSays, Ran};
 ghost use Rattle.rstar_run.specs.Texts.{HasNoText, end_text};
@@ -14,7 +15,8 @@ use super::answers::{print_number, print_reply, print_stop};
 use super::command::{Entry, Line, parse_entry, parse_line};
 use super::items::Item;
 use super::lines::Lines;
-pub use super::modes::{Mode, mode};
+pub use super::modes::Mode;
+use super::modes::mode_named;
 use super::print::Printer;
 use super::stops::{Stop, status};
 use super::store::Store;
@@ -23,6 +25,18 @@ use rstar::replay::Command;
 use std::alloc::Global;
 use std::io::{Read, Write};
 use std::mem::forget;
+
+/// The mode that the words after the program's name ask for: no word for a run, `pack` or `unpack` alone.
+#[tactic(auto, using(crate::proofs::Arguments::mode_none))]
+pub fn mode(words: &[String]) -> Option<Mode>
+    ensures { result ≡ mode_of (map string_bytes words.now) }
+{
+    match words {
+        [] => Some(Mode::Run),
+        [word] => mode_named(word),
+        _ => None,
+    }
+}
 
 /// Writes what is printed, where the next line may have to be waited for.
 fn show_before_reading<W: Write>(

@@ -23,11 +23,13 @@ Numbered = Rectangle (List ℤ) × ℕ
 
 -- the rectangle between two opposite corners, with a number
 abbrev pub fence_of : ℕ → List ℤ → List ℤ → Numbered
-fence_of number one other =
-    (record {
-        lower = map (λ side. side.0) (box_of_corners 2 (coordinate one) (coordinate other));
-        upper = map (λ side. side.1) (box_of_corners 2 (coordinate one) (coordinate other))
-    }, number)
+fence_of number one other = (
+  record {
+    lower = map (λ side. side.0) (box_of_corners 2 (coordinate one) (coordinate other));
+    upper = map (λ side. side.1) (box_of_corners 2 (coordinate one) (coordinate other));
+  },
+  number,
+)
 
 -- where it lies: an interval for each of two axes
 abbrev pub box_of : Numbered → List (ℤ × ℤ)

@@ -283,10 +283,20 @@ fn loads_well_at_both_sizes<P: Point + Copy + Ord>(
 // and four axes, and of equal points. A load of 25 has a parent of leaves that is too wide: 7 of them.
 #[test]
 fn loads_of_many_sizes_are_loaded_and_take_insertions(rt: HostRuntime) {
-    const LARGER: [usize; 10] = [693, 1024, 1299, 1537, 1791, 6145, 7167, 7777, 25_000, 100_003];
+    const LARGER: [usize; 10] = [
+        693, 1024, 1299, 1537, 1791, 6145, 7167, 7777, 25_000, 100_003,
+    ];
     for turn in 0..311usize {
-        let count = if turn <= 300 { turn } else { LARGER[turn - 301] };
-        let taken = if matches!(turn, 0 | 25 | 28 | 37 | 300) { 40 } else { 0 };
+        let count = if turn <= 300 {
+            turn
+        } else {
+            LARGER[turn - 301]
+        };
+        let taken = if matches!(turn, 0 | 25 | 28 | 37 | 300) {
+            40
+        } else {
+            0
+        };
         let flat = points(rt.alloc(), count);
         let more = points(rt.alloc(), taken);
         assert!(rt;
@@ -577,7 +587,8 @@ fn load_contains<T: EqualEnvelopes + PointDistance>(
     }
     match RTree::<T>::bulk_load(elements) {
         Ok(tree) => {
-            let is_there = tree.contains(wanted) && matches!(tree.nearest_neighbor(at), Ok(Some(_)));
+            let is_there = tree.contains(wanted)
+                && matches!(tree.nearest_neighbor(at), Ok(Some(_)));
             let_go(tree);
             is_there
         }

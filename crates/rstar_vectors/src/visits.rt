@@ -57,8 +57,8 @@ mod tests {
     use rstar::AABB;
     use rstar::algorithm::bulk_load::{bulk_load_sequential, none_empty};
     use rstar::algorithm::selection_functions::SelectAllFunc;
-    use rstar::iterators::select_nodes;
     use rstar::envelope::copied_envelope;
+    use rstar::iterators::select_nodes;
     use rstar::object::{PointDistance, PointOf};
     use std::alloc::Global;
 
@@ -183,10 +183,31 @@ mod tests {
         const AREA: Corners = ([0, 0], [1, 1]);
         const CORNER: Corners = ([2, 2], [2, 2]);
         const ROWS: [Row; 5] = [
-            (&THREE, (10, false), WIDE, CORNER, (0, 0), [36, 39, 42, 45, 0]),
-            (&THREE, (10, true), AREA, CORNER, (11, 13), [16, 16, 19, 22, 0]),
+            (
+                &THREE,
+                (10, false),
+                WIDE,
+                CORNER,
+                (0, 0),
+                [36, 39, 42, 45, 0],
+            ),
+            (
+                &THREE,
+                (10, true),
+                AREA,
+                CORNER,
+                (11, 13),
+                [16, 16, 19, 22, 0],
+            ),
             (&ONE, (0, false), AREA, CORNER, (0, 0), [7, 7, 8, 9, 0]),
-            (&TWO, (10, false), AREA, CORNER, (0, 0), [32, 32, 33, 34, 15]),
+            (
+                &TWO,
+                (10, false),
+                AREA,
+                CORNER,
+                (0, 0),
+                [32, 32, 33, 34, 15],
+            ),
             (&TWO, (10, false), AREA, AREA, (0, 0), [32, 32, 33, 34, 15]),
         ];
         for row in 0..ROWS.len() {
@@ -194,8 +215,7 @@ mod tests {
             let fences = fences_of(rt.alloc(), list);
             let area = AABB::from_corners(area.0, area.1);
             let cleared = AABB::from_corners(cleared.0, cleared.1);
-            let (number, own) =
-                visited(rt.alloc(), &fences, more, breaks, &area, [1, 1], cleared);
+            let (number, own) = visited(rt.alloc(), &fences, more, breaks, &area, [1, 1], cleared);
             assert!(rt;
                 least <= number && number <= most && own == sums,
                 "row {row}"

@@ -16,8 +16,8 @@ impl<T: RTreeObject> RTree<T> {
     /// A tree of these elements, by bulk load with the default node sizes (Lee and Lee 2003).
     ///
     /// No element has an empty envelope, and the points have at least two axes; `verify_parameters` tests
-    /// that. The tree usually has fewer nodes, with less overlap, than one built by insertions. The cost is
-    /// that of `bulk_load_sequential`. A refusal of memory drops the elements.
+    /// that. Its parents usually overlap less than those that insertions make. The cost is that of
+    /// `bulk_load_sequential`. A refusal of memory drops the elements.
     ///
     /// ```rust
     /// pub fn points_loaded(alloc: Global, more: [i64; 2]) -> Result<RTree<[i64; 2]>, AllocError>
