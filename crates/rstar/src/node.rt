@@ -24,10 +24,7 @@ impl<T: Covered> RTreeNode<T> {
     pub fn is_leaf(&self) -> bool
         ensures { result ≡ is_leaf_node self.now }
     {
-        match self {
-            RTreeNode::Leaf(_) => true,
-            RTreeNode::Parent(_) => false,
-        }
+        matches!(self, RTreeNode::Leaf(_))
     }
 
     /// The envelope of the element, or the one that the parent keeps.

@@ -6,8 +6,7 @@ ghost use Rattle.rstar_base.specs.Points.{table};
 ghost use Rattle.rstar.specs.declared.node.RTreeNode.{Leaf, Parent};
 ghost use Rattle.rstar.specs.Payloads.{LendsData, LendsBelow, IsAtPayload};
 ghost use Rattle.rstar.specs.Nodes.{layer_of};
-ghost use Rattle.rstar.specs.inside.WaysDown.{finds_at, first_at, way_to, child_at, IsLeaf, IsParent, Leads, LeadsBelow, IsAt};
-ghost use Rattle.rstar.specs.inside.WaysDown.{LendsLeaf, LendsParent, LendsChild, LendsElement};
+ghost use Rattle.rstar.specs.inside.WaysDown.{finds_at, first_at, way_to, child_at, IsLeaf, IsParent, Leads, LeadsBelow, IsAt, LendsLeaf, LendsParent, LendsChild, LendsElement};
 
 use crate::node::{ParentNode, RTreeNode};
 use rstar_base::primitives::GeomWithData;

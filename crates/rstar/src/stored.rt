@@ -74,25 +74,15 @@ fn number_at(bytes: &[u8]) -> Result<(u64, &[u8]), StoredError>
     }
 }
 
-/// A coordinate, and the bytes after it.
-#[tactic(auto, unfolding(crate::specs::StoredReading::coordinate_at))]
-fn coordinate_at(bytes: &[u8]) -> Result<(i64, &[u8]), StoredError>
-    ensures read { Gives (λ x. (x.0, x.1.now)) result (coordinate_at bytes.now) }
-    ensures len { IfOk result (λ x. length x.1.now + 8 ≡ length bytes.now) }
-{
-    let (number, rest) = number_at(bytes)?;
-    Ok((number.cast_signed(), rest))
-}
-
 /// A point, and the bytes after it.
-#[tactic(auto, unfolding(crate::specs::StoredReading::point_at))]
+#[tactic(auto, unfolding(crate::specs::StoredReading::point_at, crate::specs::StoredReading::coordinate_at))]
 fn point_at(bytes: &[u8]) -> Result<([i64; 2], &[u8]), StoredError>
     ensures read { Gives (λ x. (x.0, x.1.now)) result (point_at bytes.now) }
     ensures len { IfOk result (λ x. length x.1.now + 16 ≡ length bytes.now) }
 {
-    let (x, rest) = coordinate_at(bytes)?;
-    let (y, rest) = coordinate_at(rest)?;
-    Ok(([x, y], rest))
+    let (x, rest) = number_at(bytes)?;
+    let (y, rest) = number_at(rest)?;
+    Ok(([x.cast_signed(), y.cast_signed()], rest))
 }
 
 /// Whether a box has these corners.
@@ -198,7 +188,7 @@ fn children_at<'a>(
 }
 
 /// The tree after its number of points.
-#[tactic(auto, unfolding(crate::specs::StoredReading::levels_at, crate::specs::StoredReading::root_at))]
+#[tactic(auto, unfolding(crate::specs::StoredReading::levels_at, crate::specs::StoredReading::root_at, crate::specs::StoredReading::node_at))]
 fn tree_after<Params: RTreeParams>(
     alloc: Global,
     count: u64,
@@ -207,10 +197,7 @@ fn tree_after<Params: RTreeParams>(
     ensures read { Gives (λ tree. shown_root (root_of tree)) result (levels_at count bytes.now) }
     ensures whole { IfOk result (IsWholeTree boxes places Params.MAX_SIZE) }
 {
-    let Some((height, rest)) = bytes.split_first() else {
-        return Err(StoredError::Truncated);
-    };
-    let height = *height;
+    let (&height, rest) = bytes.split_first().ok_or(StoredError::Truncated)?;
     if height > 64 {
         return Err(StoredError::BadLevel);
     }
@@ -223,23 +210,10 @@ fn tree_after<Params: RTreeParams>(
         }
         return Ok(RTree::default(alloc));
     }
-    root_after(alloc, count, height as usize - 1, rest)
-}
-
-/// The tree of a root with this many levels of parents below it.
-#[tactic(auto, unfolding(crate::specs::StoredReading::root_at, crate::specs::StoredReading::node_at))]
-fn root_after<Params: RTreeParams>(
-    alloc: Global,
-    count: u64,
-    below: usize,
-    bytes: &[u8],
-) -> Result<RTree<[i64; 2], Params>, StoredError>
-    ensures read { Gives (λ tree. shown_root (root_of tree)) result (root_at (suc below) count bytes.now) }
-    ensures whole { IfOk result (IsWholeTree boxes places Params.MAX_SIZE) }
-{
+    let below = height as usize - 1;
     let mut widest = Params::MAX_SIZE;
     let mut points = 0;
-    let (root, rest) = parent_at(alloc, bytes, below, &mut widest, &mut points)?;
+    let (root, rest) = parent_at(alloc, rest, below, &mut widest, &mut points)?;
     if points as u64 != count {
         return Err(StoredError::BadCount);
     }

@@ -101,10 +101,7 @@ pub(crate) fn enters<T: Covered, F: Question<T>>(root: &ParentNode<T>, func: &F)
     ensures entered { result ≡ true → (children_of root.now ≢ []) × (F.accepts func.now (envelope_of root.now) ≡ true) }
     ensures refused { result ≡ false → (children_of root.now ≡ []) ⊎ (F.accepts func.now (envelope_of root.now) ≡ false) }
 {
-    if root.children.is_empty() {
-        return false;
-    }
-    func.should_unpack_parent(&root.envelope)
+    !root.children.is_empty() && func.should_unpack_parent(&root.envelope)
 }
 
 /// Calls the visitor at each selected element below several nodes, until a call breaks.

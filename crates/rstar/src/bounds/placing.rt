@@ -4,14 +4,17 @@
 ghost use Rattle.std.specs.Prelude.{◌≡◌, ◌+◌, ◌<◌, ◌≤◌, [], ◌++◌, length, vec_len, vec_capacity};
 ghost use Rattle.std.specs.List.Sorted.{IsPermutation};
 
-use crate::algorithm::rstar::{choose, reinsertion, split};
+use crate::algorithm::rstar::choose::{least_grown, least_overlapping, smallest_container};
+use crate::algorithm::rstar::{reinsertion, split};
 use crate::bounds::Covered;
 use crate::node::RTreeNode;
 use rstar_base::{Envelope, RTreeObject, RTreeParams};
 
 /// An element that an insertion can place.
 pub trait Placed: Covered {
-    /// The place of the child for a new envelope.
+    /// The place of the child for a new envelope: of the children that contain it, the first of least area;
+    /// where none does, the first with the least enlargement. `above_leaves` says that the children's children
+    /// are leaves. Then the enlargement of a child's overlaps with the others comes before that of its area.
     fn choose_subtree(
         children: &[RTreeNode<Self>],
         envelope: &Self::Cover,
@@ -46,7 +49,15 @@ impl<T: RTreeObject> Placed for T {
         envelope: &T::Envelope,
         above_leaves: bool,
     ) -> usize {
-        choose::choose_subtree(children, envelope, above_leaves)
+        if let Some(index) = smallest_container(children, envelope) {
+            return index;
+        }
+        let least = least_grown(children, envelope);
+        if above_leaves {
+            least_overlapping(children, least, envelope)
+        } else {
+            least
+        }
     }
 
     fn split_in_place<Params: RTreeParams>(

@@ -6,9 +6,10 @@ ghost use Rattle.rstar_base.specs.Clusters.{IsClusterNumber};
 ghost use Rattle.rstar_base.specs.Hulls.{hull};
 ghost use Rattle.rstar.specs.inside.Loads.{CutsSlab};
 
-use crate::algorithm::bulk_load::{depth, parts};
 use crate::bounds::Covered;
-use rstar_base::{Envelope, Point, RTreeObject, RTreeParams, object};
+use rstar_base::clusters::calculate_number_of_clusters_on_axis;
+use rstar_base::object::{self, partition_envelopes};
+use rstar_base::{Envelope, Point, RTreeObject, RTreeParams};
 
 /// An element that a bulk load can cut into slabs.
 pub trait InSlabs: Covered {
@@ -23,7 +24,8 @@ pub trait InSlabs: Covered {
         ensures hull { result ≡ hull Self.Cover.boxes Self.object.box_of list.now }
         ensures own { AllByRecursion Self.object.IsValue list.now };
 
-    /// Brings the next slab of the last `rest` elements to the end of the list.
+    /// Partitions the last `rest` elements of a list so that the `size` elements of the greatest keys come last.
+    /// Returns how many they are: `size`, or all where there are fewer.
     fn cut_slab(axis: usize, list: &mut Vec<Self>, rest: usize, size: usize) -> usize
         requires axis { axis < axes }
         requires some { 0 < size }
@@ -31,7 +33,7 @@ pub trait InSlabs: Covered {
         ensures { CutsSlab (λ t. Self.Cover.boxes.axis_key (Self.object.box_of t) axis) size rest list.old.items result
             list.new.items };
 
-    /// The number of slabs along each axis, for `n` elements.
+    /// The number of slabs along each axis, for a node of `n` elements.
     fn slabs_on_axis<Params: RTreeParams>(n: usize) -> usize
         requires large { Params.MAX_SIZE < n }
         requires axes { 2 ≤ axes }
@@ -51,10 +53,16 @@ impl<T: RTreeObject> InSlabs for T {
     }
 
     fn cut_slab(axis: usize, list: &mut Vec<T>, rest: usize, size: usize) -> usize {
-        parts::cut_slab(axis, list, rest, size)
+        if rest <= size {
+            return rest;
+        }
+        let first = list.len() - rest;
+        let (_, last) = list.as_mut_slice().split_at_mut(first);
+        partition_envelopes(axis, last, rest - size);
+        size
     }
 
     fn slabs_on_axis<Params: RTreeParams>(n: usize) -> usize {
-        depth::slabs_on_axis::<T, Params>(n)
+        calculate_number_of_clusters_on_axis::<T, Params>(n).max(2)
     }
 }

@@ -5,8 +5,7 @@ ghost use Rattle.std.specs.List.{AllByRecursion};
 ghost use Rattle.std.specs.List.Sorted.{IsPermutation};
 ghost use Rattle.rstar_base.specs.Points.{table};
 ghost use Rattle.rstar.specs.ByOrder.{search_by_order, IsSearchingByOrder};
-ghost use Rattle.rstar.specs.Lists.{IsNearest, AreNearest, AreSomeNearest, AreNearestOf};
-ghost use Rattle.rstar.specs.Lists.{by_distance, IsLeast, IsNotLater, AreFirstOf, AreAlike};
+ghost use Rattle.rstar.specs.Lists.{IsNearest, AreNearest, AreSomeNearest, AreNearestOf, by_distance, IsLeast, IsNotLater, AreFirstOf, AreAlike};
 ghost use Rattle.rstar.specs.Neighbors.{with_distances, search_of, IsSearching, HasBegun};
 ghost use Rattle.rstar.specs.Nodes.{envelope_of, parents_of};
 ghost use Rattle.rstar.specs.Trees.{root_of, size_of, elements_in, IsWholeTree};
@@ -148,14 +147,11 @@ impl<T: PointDistance, Params: RTreeParams> RTree<T, Params> {
         ensures few { parents_of (root_of self.old) ≤ 32 → IsOk result }
         ensures whole { IsWholeTree T.Envelope.boxes T.object Params.MAX_SIZE self.new }
     {
-        match one_nearest(&self.root, &point)? {
-            Some(found) => {
-                let least = found.1;
-                let func = SelectWithinDistanceFunction::new(point, least);
-                Ok(self.remove_with_selection_function(func))
-            }
-            None => Ok(None),
-        }
+        let Some(found) = one_nearest(&self.root, &point)? else {
+            return Ok(None);
+        };
+        let func = SelectWithinDistanceFunction::new(point, found.1);
+        Ok(self.remove_with_selection_function(func))
     }
 
     /// All elements at the least distance to a point, in some order.
@@ -304,13 +300,10 @@ impl<T: PointDistance + Ord, Params: RTreeParams> RTree<T, Params> {
         ensures few { parents_of (root_of self.old) ≤ 32 → IsOk result }
         ensures whole { IsWholeTree T.Envelope.boxes T.object Params.MAX_SIZE self.new }
     {
-        match one_nearest(&self.root, &point)? {
-            Some(found) => {
-                let distance_2 = found.1;
-                let func = SelectWithinDistanceFunction::new(point, distance_2);
-                Ok(self.take_earliest(&func))
-            }
-            None => Ok(None),
-        }
+        let Some(near) = one_nearest(&self.root, &point)? else {
+            return Ok(None);
+        };
+        let func = SelectWithinDistanceFunction::new(point, near.1);
+        Ok(self.take_earliest(&func))
     }
 }

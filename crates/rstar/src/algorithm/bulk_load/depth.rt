@@ -1,23 +1,11 @@
 //! The depth of a bulk load.
 
-ghost use Rattle.std.specs.Prelude.{◌≡◌, ℕ, ◌<◌, ◌≤◌, max, ◌+◌, ◌-◌, ◌*◌};
-ghost use Rattle.rstar_base.specs.Clusters.{IsClusterNumber};
+ghost use Rattle.std.specs.Prelude.{◌≡◌, ℕ, ◌<◌, ◌≤◌, ◌+◌, ◌-◌, ◌*◌};
 ghost use Rattle.rstar.specs.Loaded.{IsPartSize, IsLoadDepth, GoesDeep, EndsAt};
 ghost use Rattle.rstar.specs.inside.Loads.{part_bound};
 
 use crate::bounds::InSlabs;
-use rstar_base::clusters::calculate_number_of_clusters_on_axis;
-use rstar_base::{RTreeObject, RTreeParams};
-
-/// The number of slabs along each axis for a node of `n` elements.
-pub(crate) fn slabs_on_axis<T: RTreeObject, Params: RTreeParams>(n: usize) -> usize
-    requires large { Params.MAX_SIZE < n }
-    requires axes { 2 ≤ T.Envelope.Point.DIMENSIONS }
-    ensures least { 2 ≤ result }
-    ensures number { (c : ℕ) × IsClusterNumber Params.MAX_SIZE T.Envelope.Point.DIMENSIONS n c × (result ≡ max c 2) }
-{
-    calculate_number_of_clusters_on_axis::<T, Params>(n).max(2)
-}
+use rstar_base::RTreeParams;
 
 /// The number of levels of parents below the root, for a load of `n` elements.
 #[cycle(depth)]

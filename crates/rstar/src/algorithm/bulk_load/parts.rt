@@ -8,14 +8,13 @@ ghost use Rattle.std.specs.List.Sorted.{IsPermutation};
 ghost use Rattle.rstar.specs.declared.node.RTreeNode.{Leaf};
 ghost use Rattle.rstar.specs.Nodes.{elements_of};
 ghost use Rattle.rstar.specs.Loaded.{IsPartSize, GoesDeep};
-ghost use Rattle.rstar.specs.inside.Loads.{AddsParts, CanLoad, CutsSlab, IsFresh, IsFreshNode, front_of, last_of};
+ghost use Rattle.rstar.specs.inside.Loads.{AddsParts, CanLoad, IsFresh, IsFreshNode, front_of, last_of};
 ghost use Rattle.rstar.specs.inside.ParentBounds.{Widens};
 
 use crate::bounds::{Covered, InSlabs};
 use crate::node::{ParentNode, RTreeNode, envelope_for_children};
 use num_traits::checked_pow;
-use rstar_base::object::partition_envelopes;
-use rstar_base::{RTreeObject, RTreeParams};
+use rstar_base::RTreeParams;
 use std::alloc::AllocError;
 
 /// A leaf for each element.
@@ -48,16 +47,6 @@ fn widen<A>(widest: &mut usize, nodes: &Vec<A>)
     *widest = nodes.len().max(*widest);
 }
 
-/// A bound on the number of parts, for `len` elements and this many slabs along each axis.
-fn parts_at_most(clusters: usize, axes: usize, len: usize) -> usize
-    ensures { result ≤ len }
-{
-    match checked_pow(clusters, axes) {
-        Some(parts) => parts.min(len),
-        None => len,
-    }
-}
-
 /// A parent of the last `len` elements of a list, with this many levels of parents below it. The elements
 /// leave the list. `widest` is raised to the greatest number of children of a parent.
 #[cycle(load)]
@@ -85,37 +74,12 @@ pub(crate) fn load_node<T: InSlabs, Params: RTreeParams>(
     }
     let clusters = T::slabs_on_axis::<Params>(len);
     let axes = T::axes();
-    let mut nodes = Vec::with_capacity(*list.allocator(), parts_at_most(clusters, axes, len))?;
-    load_parts::<T, Params>(list, len, axes, clusters, below - 1, &mut nodes, widest)?;
-    widen(widest, &nodes);
-    let envelope = envelope_for_children(&nodes);
-    Ok(ParentNode {
-        children: nodes,
-        envelope,
-    })
-}
-
-/// Partitions the last `rest` elements of a list so that the `size` elements of the greatest keys come last.
-/// Returns how many they are: `size`, or all where there are fewer.
-pub(crate) fn cut_slab<T: RTreeObject>(
-    axis: usize,
-    list: &mut Vec<T>,
-    rest: usize,
-    size: usize,
-) -> usize
-    requires axis { axis < T.Envelope.Point.DIMENSIONS }
-    requires some { 0 < size }
-    requires within { rest ≤ length list.old.items }
-    ensures { CutsSlab (λ t. T.Envelope.boxes.axis_key (T.object.box_of t) axis) size rest list.old.items result
-        list.new.items }
-{
-    if rest <= size {
-        return rest;
-    }
-    let first = list.len() - rest;
-    let (_, last) = list.as_mut_slice().split_at_mut(first);
-    partition_envelopes(axis, last, rest - size);
-    size
+    let most = checked_pow(clusters, axes).unwrap_or(len).min(len);
+    let mut children = Vec::with_capacity(*list.allocator(), most)?;
+    load_parts::<T, Params>(list, len, axes, clusters, below - 1, &mut children, widest)?;
+    widen(widest, &children);
+    let envelope = envelope_for_children(&children);
+    Ok(ParentNode { children, envelope })
 }
 
 /// Takes off the last `len` elements of a list, cuts them into slabs along each of the first axes, and

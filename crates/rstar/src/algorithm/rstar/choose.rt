@@ -6,30 +6,8 @@ use crate::node::RTreeNode;
 use num_traits::Zero;
 use rstar_base::{Distance, Envelope, RTreeNum, RTreeObject};
 
-/// The place of the child for a new envelope: of the children that contain it, the first of least area;
-/// where none does, the first with the least enlargement. `above_leaves` says that the children's children
-/// are leaves. Then the enlargement of a child's overlaps with the others comes before that of its area.
-pub(crate) fn choose_subtree<T: RTreeObject>(
-    children: &[RTreeNode<T>],
-    envelope: &T::Envelope,
-    above_leaves: bool,
-) -> usize
-    requires { 0 < length children.now }
-    ensures { result < length children.now }
-{
-    if let Some(index) = smallest_container(children, envelope) {
-        return index;
-    }
-    let least = least_grown(children, envelope);
-    if above_leaves {
-        least_overlapping(children, least, envelope)
-    } else {
-        least
-    }
-}
-
 /// The first child of least area among those that contain the envelope.
-fn smallest_container<T: RTreeObject>(
+pub(crate) fn smallest_container<T: RTreeObject>(
     children: &[RTreeNode<T>],
     envelope: &T::Envelope,
 ) -> Option<usize>
@@ -55,7 +33,10 @@ fn smallest_container<T: RTreeObject>(
 }
 
 /// The first child with the least area enlargement, then the least area.
-fn least_grown<T: RTreeObject>(children: &[RTreeNode<T>], envelope: &T::Envelope) -> usize
+pub(crate) fn least_grown<T: RTreeObject>(
+    children: &[RTreeNode<T>],
+    envelope: &T::Envelope,
+) -> usize
     requires { 0 < length children.now }
     ensures { result < length children.now }
 {
@@ -83,7 +64,7 @@ fn growth<T: RTreeObject>(
 
 /// The first child with the least overlap enlargement, then the least area enlargement, then the least area.
 /// `least_grown` is the first by the last two.
-fn least_overlapping<T: RTreeObject>(
+pub(crate) fn least_overlapping<T: RTreeObject>(
     children: &[RTreeNode<T>],
     least_grown: usize,
     envelope: &T::Envelope,

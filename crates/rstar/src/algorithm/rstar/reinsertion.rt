@@ -7,8 +7,7 @@ ghost use Rattle.rstar_base.specs.Hulls.{hull};
 ghost use Rattle.rstar.specs.declared.node.RTreeNode.{Leaf};
 ghost use Rattle.rstar.specs.Heights.{spare_lists};
 ghost use Rattle.rstar.specs.Nodes.{node_box, all_elements};
-ghost use Rattle.rstar.specs.inside.ParentBounds.{HasAtMost, IsSpare, HasMergedBox, AreKept, IsKeptTree, GoesIn};
-ghost use Rattle.rstar.specs.inside.ParentBounds.{CanTakeIn, CanHandOut, has_room, roomy_of};
+ghost use Rattle.rstar.specs.inside.ParentBounds.{HasAtMost, IsSpare, HasMergedBox, AreKept, IsKeptTree, GoesIn, CanTakeIn, CanHandOut, has_room, roomy_of};
 ghost use Rattle.rstar.specs.inside.Reserves.{IsReady, BecomesRoot};
 
 use crate::algorithm::rstar::insertion::insert_at_root;
@@ -16,24 +15,17 @@ use crate::algorithm::rstar::preparation::Reserve;
 use crate::algorithm::rstar::split::{cut_at, make_place, move_all};
 use crate::bounds::{Covered, Merges, Placed};
 use crate::node::{ParentNode, RTreeNode, envelope_for_children};
-use rstar_base::{Distance, Envelope, PointDistance, PointOf, RTreeObject, RTreeParams};
+use rstar_base::{Envelope, PointDistance, PointOf, RTreeObject, RTreeParams};
 use std::cmp::Ordering;
-
-/// The squared distance from an element's center to a point.
-fn centre_distance<T: RTreeObject>(t: &T, point: &PointOf<T>) -> Distance<T> {
-    t.envelope().center().distance_2(point)
-}
-
-/// Compares two elements by the distance from their centers to a point.
-fn compare_centres<T: RTreeObject>(point: &PointOf<T>, a: &T, b: &T) -> Ordering {
-    centre_distance(a, point).cmp(&centre_distance(b, point))
-}
 
 /// Sorts elements by the distance from their centers to a point. It takes no memory.
 pub(crate) fn sort_by_distance<T: RTreeObject>(list: &mut [T], point: &PointOf<T>)
     ensures { IsPermutation list.old list.new }
 {
-    list.sort_unstable_by(|a: &T, b: &T| -> Ordering { compare_centres(point, a, b) });
+    list.sort_unstable_by(|a: &T, b: &T| -> Ordering {
+        let distance_2 = a.envelope().center().distance_2(point);
+        distance_2.cmp(&b.envelope().center().distance_2(point))
+    });
 }
 
 /// Adds a leaf that the node's envelope already covers. An overfull node hands out the `REINSERTION_COUNT`

@@ -6,7 +6,7 @@ ghost use Rattle.rstar.specs.inside.ParentBounds.{has_room};
 ghost use Rattle.rstar.specs.Cuts.{IsArrangement, overlap_at, areas_at, IsLeastCut};
 
 use rstar_base::object::{envelope_of_all, sort_envelopes};
-use rstar_base::{Distance, Envelope, Point, RTreeNum, RTreeObject, RTreeParams};
+use rstar_base::{Distance, Envelope, Point, RTreeNum, RTreeObject, RTreeParams, point};
 use std::mem;
 
 /// Moves the items from `at` on into the spare list. It takes no memory.
@@ -121,10 +121,7 @@ fn least_perimeter<T: RTreeObject, Params: RTreeParams>(list: &[T]) -> Distance<
 {
     let mut least = perimeter_at(list, Params::MIN_SIZE);
     for k in Params::MIN_SIZE + 1..list.len() - Params::MIN_SIZE + 1 {
-        let here = perimeter_at(list, k);
-        if here < least {
-            least = here;
-        }
+        least = point::least(least, perimeter_at(list, k));
     }
     least
 }

@@ -9,7 +9,7 @@ ghost use Rattle.rstar.specs.Joins.{meets_by};
 ghost use Rattle.rstar.specs.SelfJoins.{pairs_within, own_opened, own_to_come, HasItsLists, IsSelfJoining, IsSelfJoinMade, IsEntered, GivesOwnPair};
 
 use crate::bounds::Meets;
-use crate::iterators::joins::walk::{PairWalk, first_alone};
+use crate::iterators::joins::walk::PairWalk;
 use crate::node::{ParentNode, RTreeNode};
 use crate::path::Path;
 use std::alloc::AllocError;
@@ -72,7 +72,7 @@ impl<'a, T: Meets<T>> SelfIntersectionIterator<'a, T> {
         let Some((node, behind)) = nodes.split_first() else {
             return true;
         };
-        self.walk.begin(first_alone(nodes), behind);
+        self.walk.begin(&nodes[..1], behind);
         self.lists.push_reserved(behind);
         let RTreeNode::Parent(parent) = node else {
             return true;

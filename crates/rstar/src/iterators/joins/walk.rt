@@ -57,14 +57,6 @@ enum PairStep<'a, T, U> {
     Ended,
 }
 
-/// The list of the first item alone.
-pub(super) fn first_alone<L>(items: &[L]) -> &[L]
-    requires { 0 < length items.now }
-    ensures { result.now ≡ take 1 items.now }
-{
-    &items[..1]
-}
-
 /// The children of a single node, or the node itself where it is a leaf.
 fn opened_nodes<'a, T: Covered>(nodes: &'a [RTreeNode<T>]) -> &'a [RTreeNode<T>]
     requires { IsSingle nodes.now }
@@ -172,12 +164,9 @@ fn two_leaves<'a, T: Covered, U: Covered>(
     ensures some { IfSome result (λ p. (left.now ≡ Leaf p.0.now) × (right.now ≡ Leaf p.1.now)) }
     ensures none { IfNone result (both_leaves left.now right.now ≡ false) }
 {
-    match left {
-        RTreeNode::Leaf(t) => match right {
-            RTreeNode::Leaf(u) => Some((t, u)),
-            RTreeNode::Parent(_) => None,
-        },
-        RTreeNode::Parent(_) => None,
+    match (left, right) {
+        (RTreeNode::Leaf(t), RTreeNode::Leaf(u)) => Some((t, u)),
+        _ => None,
     }
 }
 
@@ -293,8 +282,8 @@ impl<'a, T: Covered, U: Meets<T>> PairWalk<'a, T, U> {
         }
         self.opened = self.opened.saturating_add(1);
         self.path.push_reserved(self.frame);
-        self.frame.lefts = opened_nodes(first_alone(lefts));
-        self.frame.rights = opened_nodes(first_alone(rights));
+        self.frame.lefts = opened_nodes(&lefts[..1]);
+        self.frame.rights = opened_nodes(&rights[..1]);
         self.frame.marks = 0;
         self.frame.later = self.frame.rights;
         PairStep::Passed

@@ -54,7 +54,7 @@ load_node-returns-clause-fresh g t c =
     parts_parent g.met.T.Cover.Merges.merge_laws g.met.T.Covered.cover_law g.Params.RTreeParams.MAX_SIZE c.widen-2.new.widest g.T.InSlabs.axes (c.args.below - 1) c.load_parts.new.widest c.slabs_on_axis-clusters.result number.0
     (last_of c.args.len c.args.list.now.items) (rw long (deep_large g.Params.RTreeParams.MAX_SIZE g.T.InSlabs.axes c.args.below c.args.len c.if-below-eq0.false c.requires.deep)) c.slabs_on_axis-clusters.ensures.least
     (rw number.2 (cluster_bound g.Params.RTreeParams.MAX_SIZE g.T.InSlabs.axes c.args.len number.0 (omega (arith, g.Params.RTreeParams.max_at_least_four)) number.1)) c.requires.dimensions
-    (rw long number.1) number.2 c.widen-2.ensures.wider.0 (rw (c.in_ok-nodes.ensures.items, c.axes-axes.ensures) at c.in_ok-load_parts.ensures.adds) refl (previous c.args.below c.if-below-eq0.false)
+    (rw long number.1) number.2 c.widen-2.ensures.wider.0 (rw (c.in_ok-children-2.ensures.items, c.axes-axes.ensures) at c.in_ok-load_parts.ensures.adds) refl (previous c.args.below c.if-below-eq0.false)
     (rw c.deref-2.ensures.value at c.envelope_for_children-envelope.ensures.hull) c.widen-2.ensures.narrow
 
 -- ---- parts

@@ -38,7 +38,7 @@ begin-requires-clause-fits g c =
     let behind = c.in-Some-split_first.behind.now in let first = c.in-Some-split_first.ensures.cases.0 in
     let last = last-list v o _ _ _ _ c.in-Some.ensures.some had.lists in
     let whole = subst (AreWhole v o last.level) first last.whole in
-    subst (λ l. AreJoinable self.walk.path.capacity l behind) (sym (c.first_alone.ensures ∙ ap (take 1) first))
+    subst (λ l. AreJoinable self.walk.path.capacity l behind) (sym (ap (take 1) first))
     (joinable v v o o self.walk.path.capacity last.level last.level (node ∷ []) behind (whole.0, tt) whole.1 (omega (arith, last.few, had.room)))
 
 pub push_reserved-requires : goal.push_reserved-requires
@@ -67,7 +67,7 @@ pub returns-in_default-node : goal.returns-in_default-node
 returns-in_default-node g c =
     let v = g.T.Cover.Merges.boxes in let o = g.T.Covered.object in let meets = meets_by v g.T.Meets.seen in
     let had = c.requires.lists in let first = c.in-Some-split_first.ensures.cases.0 in
-    let taken = taken-leaf v o meets _ _ _ _ c.in-Some.ensures.some had.lists _ c.in-Some-split_first.behind _ first _ (c.first_alone.ensures ∙ ap (take 1) first)
+    let taken = taken-leaf v o meets _ _ _ _ c.in-Some.ensures.some had.lists _ c.in-Some-split_first.behind _ first _ (ap (take 1) first)
     c.in_default-node.field-0 c.in_default-node.is c.push_reserved.ensures.items in
     takes-list v o meets c.args.self.now _ had c.requires.idle taken (c.push_reserved.ensures.capacity ∙ c.pop.ensures.capacity) refl
     c.begin.ensures.walk c.begin.ensures.room c.begin.ensures.pairs c.begin.ensures.opens (λ n h. omega (arith, h, c.begin.ensures.opened))
@@ -78,7 +78,7 @@ returns g c =
     let had = c.requires.lists in let first = c.in-Some-split_first.ensures.cases.0 in
     let behind = c.in-Some-split_first.behind in let children = c.as_slice.result in
     let is = c.push_reserved-2.ensures.items ∙ ap (λ l. l ++ children ∷ []) c.push_reserved.ensures.items ∙ append_assoc c.pop.new.self.items (behind ∷ []) (children ∷ []) in
-    let taken = taken-parent v o meets _ _ _ _ c.in-Some.ensures.some had.lists _ behind _ first _ (c.first_alone.ensures ∙ ap (take 1) first)
+    let taken = taken-parent v o meets _ _ _ _ c.in-Some.ensures.some had.lists _ behind _ first _ (ap (take 1) first)
     children c.in-Parent.parent c.in-Parent.is c.as_slice.ensures.value is in
     takes-list v o meets c.args.self.now _ had c.requires.idle taken (c.push_reserved-2.ensures.capacity ∙ c.push_reserved.ensures.capacity ∙ c.pop.ensures.capacity) refl
     c.begin.ensures.walk c.begin.ensures.room c.begin.ensures.pairs c.begin.ensures.opens (λ n h. omega (arith, h, c.begin.ensures.opened, c.saturating_add-self.ensures))

@@ -30,8 +30,8 @@ returns g c =
     let ls = c.opened_nodes-self.result in let rs = c.opened_nodes-self-2.result in
     let all = c.requires.met.all _ _ _ _ c.in-Some.ensures.cases.0 c.in-Some-split_first.ensures.cases.0 in
     let meeting = read-meets meets left_box right_box self.frame c.args.marks _ _ all (last-frame meets left_box right_box self c.requires.walk).1 in
-    let down = c.opened_nodes-self.ensures ∙ ap (flat_map opened_to) (c.first_alone.ensures ∙ ap (take 1) c.in-Some.ensures.cases.0) ∙ append-nil _ in
-    let down' = c.opened_nodes-self-2.ensures ∙ ap (flat_map opened_to) (c.first_alone-2.ensures ∙ ap (take 1) c.in-Some-split_first.ensures.cases.0) ∙ append-nil _ in
+    let down = c.opened_nodes-self.ensures ∙ ap (flat_map opened_to) (ap (take 1) c.in-Some.ensures.cases.0) ∙ append-nil _ in
+    let down' = c.opened_nodes-self-2.ensures ∙ ap (flat_map opened_to) (ap (take 1) c.in-Some-split_first.ensures.cases.0) ∙ append-nil _ in
     let move = move-open meets left_box right_box self.frame c.args.marks _ _ all ls rs c.in_default-two_leaves.ensures.none down down' meeting in
     let below = frame_of ls self.frame.asked 0 rs rs in
     let is-new = ap (λ f. f ++ below ∷ []) c.push_reserved.ensures.items ∙ append_assoc above (record self.frame { marks = c.args.marks } ∷ []) (below ∷ []) in

@@ -3,7 +3,7 @@ use Rattle.std.proofs.lemmas.List.Sorted.{length_permutation}
 use Rattle.rstar_base.proofs.Present.{refill-same}
 use Rattle.rstar.specs.inside.Loads.{CutsSlab}
 use Rattle.rstar.proofs.loading.Loads.{cut_none, cut_parted}
-use Rattle.rstar.proofs.algorithm.bulk_load.parts.cut_slab.Goals as goal
+use Rattle.rstar.proofs.bounds.slabs.AnyInSlabs.cut_slab.Goals as goal
 
 pub returns-then-rest-size : goal.returns-then-rest-size
 returns-then-rest-size g c = cut_none (λ t. g.T.Envelope.Envelope.boxes.axis_key (g.T.RTreeObject.object.box_of t) c.args.axis) c.args.size c.args.rest c.args.list.now.items c.requires.within c.if-rest-size.true
