@@ -113,12 +113,6 @@ module _ {T E : Type 0} (accepts : E → Bool) (selects : T → Bool) where
 
   -- ---- the steps of an iterator
 
-  pub leaf-moved : (path : Slices T E) (nodes rest : Bor (List (RTreeNode T E))) (t : T) (b : Bool) → nodes.now ≡ Leaf t ∷ rest.now → b ≡ selects t
-      → IsMoved (path ++ nodes ∷ []) (if b then t ∷ [] else []) 0 (path ++ rest ∷ [])
-  leaf-moved path nodes rest t b first says =
-      let one = steps-Leaf T E t in
-      on-last path (read nodes rest (Leaf t) (if b then t ∷ [] else []) first (given-Leaf T E accepts selects t ∙ ap (λ (b : Bool). if b then t ∷ [] else []) (sym says)) (reach-Leaf T E accepts t) (omega arith))
-
   pub refused-moved : (path : Slices T E) (nodes rest : Bor (List (RTreeNode T E))) (p : ParentNode T E) → nodes.now ≡ Parent p ∷ rest.now → accepts p.envelope ≡ false
       → IsMoved (path ++ nodes ∷ []) [] 0 (path ++ rest ∷ [])
   refused-moved path nodes rest p first refused =
@@ -132,10 +126,6 @@ module _ {T E : Type 0} (accepts : E → Bool) (selects : T → Bool) where
       rw (is, append_assoc) (on-last path (entered nodes rest children p first accepted same))
   opened-moved path nodes rest children p first accepted same kept (inr is) =
       rw is.0 (on-last path (then-moved (entered nodes rest children p first accepted same) (dropped rest (children ∷ []) is.1)))
-
-  pub back-moved : (path : Slices T E) (above nodes : Bor (List (RTreeNode T E))) (old : Slices T E) → old ≡ path ++ above ∷ [] → nodes.now ≡ []
-      → IsMoved (old ++ nodes ∷ []) [] 0 (path ++ above ∷ [])
-  back-moved path above nodes old is none = rw (is, append_assoc) (on-last path (on-last (above ∷ []) (dropped nodes [] none)))
 
 pub stepped : {T F E : Type 0} (accepts : F → E → Bool) (selects : F → T → Bool) (it : SelectionIterator T F E) (path : Path (Bor (List (RTreeNode T E)))) (nodes : Bor (List (RTreeNode T E))) (opened : ℕ)
     {found : List T} {more : ℕ} → IsMoved (accepts it.func) (selects it.func) (slices_of it) found more (path.items ++ nodes ∷ []) → path.capacity ≡ it.path.capacity
@@ -154,6 +144,20 @@ stepped accepts selects it path nodes opened {more = more} moved room counts way
   given = moved.gives;
   nearer = moved.nearer;
 }
+
+module _ {T F E : Type 0} (accepts : F → E → Bool) (selects : F → T → Bool) (it : SelectionIterator T F E) where
+  pub leaf-stepped : (rest : Bor (List (RTreeNode T E))) {n : RTreeNode T E} {t u : T} {b : Bool} → it.nodes.now ≡ n ∷ rest.now → n ≡ Leaf t → u ≡ t → b ≡ selects it.func u → HasItsWay accepts it
+      → IsStep accepts selects it (if b then u ∷ [] else []) (record it { nodes = rest })
+  leaf-stepped rest {u = u} {b = b} first is same says way =
+      let one = steps-Leaf T E u in let gives = given-Leaf T E (accepts it.func) (selects it.func) u ∙ ap (λ (b : Bool). if b then u ∷ [] else []) (sym says) in
+      let moved = read _ _ it.nodes rest (Leaf u) (if b then u ∷ [] else []) (rw (same, ← is) first) gives (reach-Leaf T E (accepts it.func) u) (omega arith) in
+      stepped accepts selects it it.path rest it.opened (on-last _ _ it.path.items moved) refl (omega (arith, way.counted)) way
+
+  pub back-stepped : (path : Path (Bor (List (RTreeNode T E)))) {above : Bor (List (RTreeNode T E))} → it.path.items ≡ path.items ++ above ∷ [] → path.capacity ≡ it.path.capacity → length it.nodes.now ≡ 0 → HasItsWay accepts it
+      → IsStep accepts selects it [] (record it { path = path; nodes = above })
+  back-stepped path {above = above} is room none way =
+      let moved = on-last (accepts it.func) (selects it.func) it.path.items (dropped _ _ it.nodes [] (nil-length _ none)) in
+      stepped accepts selects it path above it.opened (subst (IsMoved _ _ (slices_of it) [] 0) (append-nil it.path.items ∙ is) moved) room (omega (arith, way.counted)) way
 
 -- ---- where a walk starts
 

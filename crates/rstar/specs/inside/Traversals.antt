@@ -78,12 +78,3 @@ pub record IsStep {T F E : Type 0} (accepts : F → E → Bool) (selects : F →
   pub question : new.func ≡ old.func
   pub given : given_by accepts selects old ≡ found ++ given_by accepts selects new
   pub nearer : steps_of (slices_of new) < steps_of (slices_of old)
-
--- at the end nothing is to come, and no parent is left to open
-pub record IsOver {T F E : Type 0} (accepts : F → E → Bool) (selects : F → T → Bool)
-    (old new : SelectionIterator T F E) : Type 0 where
-  pub walking : HasItsWay accepts new
-  pub root : new.root.now ≡ old.root.now
-  pub question : new.func ≡ old.func
-  pub given : (given_by accepts selects old ≡ []) × (given_by accepts selects new ≡ [])
-  pub over : reach_from_slices (accepts new.func) (slices_of new) ≡ 0

@@ -1,12 +1,12 @@
 //! The traversal of a selection.
 
-ghost use Rattle.std.specs.Prelude.{◌≡◌, ◌≤◌, if◌then◌else◌, true, false, [], ◌∷◌, IsOk, IfOk};
+ghost use Rattle.std.specs.Prelude.{◌≡◌, ◌≤◌, [], ◌∷◌, IsOk, IfOk};
 ghost use Rattle.std.specs.Iterator.{item_count};
 ghost use Rattle.rstar.specs.Heights.{levels_below};
 ghost use Rattle.rstar.specs.Nodes.{children_of, given_of, IsWhole};
 ghost use Rattle.rstar.specs.Selections.{question_of, opened_by, to_come, IsMade, IsWalking, GivesNext};
-ghost use Rattle.rstar.specs.inside.Traversals.{HasItsWay, IsStep, IsOver};
-ghost use Rattle.rstar.specs.declared.node.RTreeNode.{Leaf, Parent};
+ghost use Rattle.rstar.specs.inside.Traversals.{HasItsWay, IsStep};
+ghost use Rattle.rstar.specs.declared.node.RTreeNode.{Parent};
 
 use crate::bounds::{Covered, Question};
 use crate::node::{ParentNode, RTreeNode};
@@ -74,16 +74,6 @@ impl<'a, T: Covered, Func: Question<T>> SelectionIterator<'a, T, Func> {
         self.opened
     }
 
-    /// Passes a leaf, and returns whether it is selected.
-    fn leave(&mut self, t: &'a T, rest: &'a [RTreeNode<T>]) -> bool
-        requires way { HasItsWay Func.accepts self.old }
-        requires first { self.old.nodes.now ≡ Leaf t.now ∷ rest.now }
-        ensures { IsStep Func.accepts Func.selects self.old (if result then t.now ∷ [] else []) self.new }
-    {
-        self.nodes = rest;
-        self.func.should_unpack_leaf(t)
-    }
-
     /// Enters an accepted parent, and leaves the nodes behind it for later.
     fn enter(&mut self, parent: &'a ParentNode<T>, rest: &'a [RTreeNode<T>])
         requires way { HasItsWay Func.accepts self.old }
@@ -99,22 +89,6 @@ impl<'a, T: Covered, Func: Question<T>> SelectionIterator<'a, T, Func> {
             self.path.push_reserved(rest);
         }
         self.nodes = parent.children.as_slice();
-    }
-
-    /// Goes back to the nodes that were left last, if there are any.
-    fn back(&mut self) -> bool
-        requires way { HasItsWay Func.accepts self.old }
-        requires none { self.old.nodes.now ≡ [] }
-        ensures more { result ≡ true → IsStep Func.accepts Func.selects self.old [] self.new }
-        ensures over { result ≡ false → IsOver Func.accepts Func.selects self.old self.new }
-    {
-        match self.path.pop() {
-            Some(above) => {
-                self.nodes = above;
-                true
-            }
-            None => false,
-        }
     }
 }
 
@@ -132,16 +106,13 @@ impl<'a, T: Covered, Func: Question<T>> Iterator for SelectionIterator<'a, T, Fu
         loop {
             match self.nodes.split_first() {
                 Some((RTreeNode::Leaf(t), rest)) => {
-                    if self.leave(t, rest) {
+                    self.nodes = rest;
+                    if self.func.should_unpack_leaf(t) {
                         return Some(t);
                     }
                 }
                 Some((RTreeNode::Parent(parent), rest)) => self.enter(parent, rest),
-                None => {
-                    if !self.back() {
-                        return None;
-                    }
-                }
+                None => self.nodes = self.path.pop()?,
             }
         }
     }
