@@ -23,7 +23,7 @@ mod texts;
 mod visits;
 
 use crate::algorithm::rstar::RStarInsertionStrategy;
-use crate::algorithm::rstar::preparation::{Reserve, lists_wanted, top_up};
+use crate::algorithm::rstar::preparation::{Reserve, top_up};
 use crate::algorithm::rstar::reinsertion::insert_with_reinsertion;
 use crate::node::{ParentNode, RTreeNode};
 use crate::params::{InsertError, InsertionStrategy};
@@ -207,7 +207,12 @@ impl<T: RTreeObject, Params: RTreeParams> RTree<T, Params> {
         if self.size == usize::MAX {
             return None;
         }
-        lists_wanted::<Params>(self.levels)
+        let each = self
+            .levels
+            .checked_add(1)?
+            .checked_add(Params::REINSERTION_COUNT)?
+            .checked_add(2)?;
+        Params::REINSERTION_COUNT.max(1).checked_mul(each)
     }
 
     /// Takes the memory of an insertion with this many spare lists.

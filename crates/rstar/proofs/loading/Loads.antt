@@ -1,5 +1,5 @@
 -- How deep a load goes, how it cuts elements into parts, and makes nodes of them.
-use Rattle.std.proofs.Common.{◌*◌, ◌^◌, ◌≤ℤ◌, ℤ, suc, max, add-one, ◌≡◌, ◌≢◌, ◌≤◌, ◌<◌, ◌+◌, ℕ, List, [], ◌∷◌, ◌++◌, length, All, map, arith, refl, sym, ap, ◌∙◌, subst, inl, inr, append_assoc, append-nil, IsPermutation, false, slice_index_or, vec_len, ◌-◌, take, drop, zero, min}
+use Rattle.std.proofs.Common.{Result, Ok, Err, IfOk, ◌*◌, ◌^◌, ◌≤ℤ◌, ℤ, suc, max, add-one, ◌≡◌, ◌≢◌, ◌≤◌, ◌<◌, ◌+◌, ℕ, List, [], ◌∷◌, ◌++◌, length, All, map, arith, refl, sym, ap, ◌∙◌, subst, inl, inr, append_assoc, append-nil, IsPermutation, false, slice_index_or, vec_len, ◌-◌, take, drop, zero, min}
 use Rattle.std.specs.Int.{div_ceil}
 use Rattle.std.specs.List.{AllPairs, AllByRecursion}
 use Rattle.std.proofs.Math.Nat.{pow-zero, pow-suc, mul-le-mul_right, lt_of_mul-lt-mul_left, mul-le-mul_left, pow-le-pow_left, suc-pred-eq_of_ne-zero}
@@ -28,7 +28,7 @@ use Rattle.rstar.specs.Nodes.{elements, all_elements, elements_of, children_of, 
 use Rattle.rstar.specs.Shapes.{IsParentTree, IsAny}
 use Rattle.rstar.specs.inside.ParentBounds.{HasAtMost}
 use Rattle.rstar.specs.Lists.{NoneEmpty}
-use Rattle.rstar.specs.Loaded.{IsSlabSize, IsPartSize, EndsAt, IsParted, IsCutAbove, HasSmallParent, IsLoadPart, GoesDeep, IsLoadDepth}
+use Rattle.rstar.specs.Loaded.{IsSlabSize, IsPartSize, EndsAt, IsParted, IsCutAbove, HasSmallParent, IsLoadPart, GoesDeep, IsLoadDepth, IsLoaded}
 use Rattle.rstar.specs.inside.Loads.{part_bound, HasNodeOf, AddsParts, IsUnderway, IsFresh, IsFreshNode, last_of, front_of, CutsSlab}
 use Rattle.rstar.proofs.trees.ByChildren.{elements-Leaf, elements-Parent, is_parent, IsLeafOf-Leaf, IsParentOf-Parent}
 use Rattle.rstar.proofs.trees.Trees.{merged_is_hull}
@@ -448,3 +448,11 @@ module _ {T : Type 0} (key : T → ℤ) where
         cut = slab_from_split key size (rest - size) (last_of rest xs) parted (last_of size (front ++ parted)) (last_of (rest - size) (front_of size (front ++ parted)))
             (omega (arith, length_last rest xs within)) some (subst (λ l. IsPermutation l parted) behind same) split left slab;
       }
+
+-- a load of a whole list
+pub whole_load : {T E X : Type 0} (v : Boxes E) (o : Objects T E) (most axes widest levels : ℕ) (ts : List T) (r : Result (ParentNode T E) X) → IsLoadDepth most axes (length ts) levels
+    → IfOk r (λ p. IsPermutation ts (elements_of p)) → IfOk r (IsFresh v o most widest axes levels) → IfOk r (IsLoaded v o most axes)
+whole_load v o most axes widest levels ts (Ok p) depth same fresh =
+    let long = length_permutation ts (elements_of p) same in
+    record { levels = levels; cut = fresh.cut; small = fresh.small (rw long depth.ends); depth = rw long depth }
+whole_load v o most axes widest levels ts (Err e) depth same fresh = tt

@@ -1,13 +1,11 @@
 //! Bulk loading, after Lee and Lee, "OMT: Overlap Minimizing Top-down Bulk Loading Algorithm for R-tree"
 //! (2003).
 
-ghost use Rattle.std.specs.Prelude.{◌≢◌, ◌≤◌, ◌<◌, ◌+◌, ◌^◌, ◌↔◌, [], length, IsTrue, IfOk, OnOk};
+ghost use Rattle.std.specs.Prelude.{◌≢◌, ◌≤◌, ◌↔◌, [], IsTrue, IfOk};
 ghost use Rattle.std.specs.List.Sorted.{IsPermutation};
 ghost use Rattle.rstar.specs.Nodes.{elements_of, IsWhole};
 ghost use Rattle.rstar.specs.Lists.{NoneEmpty};
-ghost use Rattle.rstar.specs.Loaded.{IsLoadDepth, IsLoaded};
-ghost use Rattle.rstar.specs.inside.Loads.{IsFresh};
-ghost use Rattle.rstar.specs.inside.ParentBounds.{Widens};
+ghost use Rattle.rstar.specs.Loaded.{IsLoaded};
 
 pub(crate) mod depth;
 pub(crate) mod parts;
@@ -26,7 +24,7 @@ use std::alloc::AllocError;
 /// a child, and all leaves lie on one level. The cost is one partition for each slab of each axis on each
 /// level: about n log n calls of `axis_key`. A refusal of memory drops the elements.
 pub fn bulk_load_sequential<T: RTreeObject, Params: RTreeParams>(
-    elements: Vec<T>,
+    mut elements: Vec<T>,
 ) -> Result<ParentNode<T>, AllocError>
     requires some { elements.items ≢ [] }
     requires elements { NoneEmpty T.Envelope.boxes.is_empty T.object.box_of elements.items }
@@ -36,31 +34,9 @@ pub fn bulk_load_sequential<T: RTreeObject, Params: RTreeParams>(
     ensures loaded { IfOk result (IsLoaded T.Envelope.boxes T.object Params.MAX_SIZE T.Envelope.Point.DIMENSIONS) }
 {
     let mut widest = Params::MAX_SIZE;
-    let levels = load_depth::<T, Params>(elements.len());
-    load_root::<T, Params>(elements, levels, &mut widest)
-}
-
-/// The same with this many levels of parents below the root. `widest` is raised to the greatest number of
-/// children.
-pub(crate) fn load_root<T: RTreeObject, Params: RTreeParams>(
-    elements: Vec<T>,
-    levels: usize,
-    widest: &mut usize,
-) -> Result<ParentNode<T>, AllocError>
-    requires some { elements.items ≢ [] }
-    requires elements { NoneEmpty T.Envelope.boxes.is_empty T.object.box_of elements.items }
-    requires dimensions { 2 ≤ T.Envelope.Point.DIMENSIONS }
-    requires depth { IsLoadDepth Params.MAX_SIZE T.Envelope.Point.DIMENSIONS (length elements.items) levels }
-    requires counted { widest.old + 1 < 2 ^ 64 }
-    ensures same { IfOk result (λ root. IsPermutation elements.items (elements_of root)) }
-    ensures fresh { IfOk result
-        (IsFresh T.Envelope.boxes T.object Params.MAX_SIZE widest.new T.Envelope.Point.DIMENSIONS levels) }
-    ensures loaded { IfOk result (IsLoaded T.Envelope.boxes T.object Params.MAX_SIZE T.Envelope.Point.DIMENSIONS) }
-    ensures wider { OnOk result (Widens widest.old widest.new) }
-{
-    let mut list = elements;
-    let len = list.len();
-    load_node::<_, Params>(&mut list, len, levels, widest)
+    let len = elements.len();
+    let levels = load_depth::<T, Params>(len);
+    load_node::<_, Params>(&mut elements, len, levels, &mut widest)
 }
 
 /// Whether no element has an empty envelope, as bulk loads ask.

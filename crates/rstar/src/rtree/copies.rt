@@ -2,7 +2,7 @@
 
 ghost use Rattle.std.specs.Prelude.{ℕ, IfOk};
 ghost use Rattle.std.specs.List.{AllByRecursion, AllZip};
-ghost use Rattle.rstar.specs.Clones.{ClonesEqual, IsNodeClone, IsParentClone};
+ghost use Rattle.rstar.specs.Clones.{ClonesEqual, IsParentClone};
 ghost use Rattle.rstar.specs.Nodes.{children_of};
 ghost use Rattle.rstar.specs.Loaded.{IsLoaded};
 ghost use Rattle.rstar.specs.Shapes.{IsSized};
@@ -47,19 +47,7 @@ impl<T: RTreeObject + Clone, Params: RTreeParams> RTree<T, Params> {
     }
 }
 
-/// The clone of a node whose leaves all lie on one level.
-#[cycle(clone)]
-fn cloned_node<T: RTreeObject + Clone>(node: &RTreeNode<T>) -> Result<RTreeNode<T>, AllocError>
-    ensures { (h : ℕ) → IsLevel h node.now → IfOk result (IsNodeClone T.is_clone h node.now) }
-{
-    match node {
-        RTreeNode::Leaf(t) => Ok(RTreeNode::Leaf(t.clone()?)),
-        RTreeNode::Parent(parent) => Ok(RTreeNode::Parent(cloned_parent(parent)?)),
-    }
-}
-
 /// The clone of a parent whose leaves all lie on one level.
-#[cycle(clone)]
 fn cloned_parent<T: RTreeObject + Clone>(
     parent: &ParentNode<T>,
 ) -> Result<ParentNode<T>, AllocError>
@@ -68,7 +56,11 @@ fn cloned_parent<T: RTreeObject + Clone>(
 {
     let mut children = Vec::with_capacity(*parent.children.allocator(), parent.children.len())?;
     for node in parent.children.as_slice() {
-        children.push(cloned_node(node)?)?;
+        let copy = match node {
+            RTreeNode::Leaf(t) => RTreeNode::Leaf(t.clone()?),
+            RTreeNode::Parent(below) => RTreeNode::Parent(cloned_parent(below)?),
+        };
+        children.push(copy)?;
     }
     Ok(ParentNode {
         children,

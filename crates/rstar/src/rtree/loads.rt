@@ -7,7 +7,7 @@ ghost use Rattle.rstar.specs.Loaded.{IsLoaded};
 ghost use Rattle.rstar.specs.Trees.{root_of, elements_in, IsWholeTree};
 
 use crate::algorithm::bulk_load::depth::load_depth;
-use crate::algorithm::bulk_load::load_root;
+use crate::algorithm::bulk_load::parts::load_node;
 use crate::rtree::RTree;
 use rstar_base::{DefaultParams, Envelope, Point, RTreeObject, RTreeParams};
 use std::alloc::AllocError;
@@ -43,7 +43,7 @@ impl<T: RTreeObject> RTree<T> {
 
 impl<T: RTreeObject, Params: RTreeParams> RTree<T, Params> {
     /// The same with chosen node sizes.
-    pub fn bulk_load_with_params(elements: Vec<T>) -> Result<Self, AllocError>
+    pub fn bulk_load_with_params(mut elements: Vec<T>) -> Result<Self, AllocError>
         requires dimensions { 2 ≤ T.Envelope.Point.DIMENSIONS }
         requires elements { NoneEmpty T.Envelope.boxes.is_empty T.object.box_of elements.items }
         ensures same { IfOk result (λ tree. IsPermutation elements.items (elements_in tree)) }
@@ -58,7 +58,7 @@ impl<T: RTreeObject, Params: RTreeParams> RTree<T, Params> {
         let size = elements.len();
         let levels = load_depth::<T, Params>(size);
         let mut widest = Params::MAX_SIZE;
-        let root = load_root::<T, Params>(elements, levels, &mut widest)?;
+        let root = load_node::<_, Params>(&mut elements, size, levels, &mut widest)?;
         Ok(RTree::from_root(alloc, root, size, levels, widest))
     }
 }

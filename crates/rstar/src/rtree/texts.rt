@@ -20,21 +20,14 @@ impl<T: RTreeObject + Debug> Debug for Items<'_, T> {
 }
 
 /// Adds the elements of several nodes.
-#[cycle(text)]
 fn add_all<T: RTreeObject + Debug, W: Write>(set: &mut DebugSet<'_, W>, nodes: &[RTreeNode<T>]) {
     for node in nodes {
-        add(set, node);
-    }
-}
-
-/// Adds the elements of a node.
-#[cycle(text)]
-fn add<T: RTreeObject + Debug, W: Write>(set: &mut DebugSet<'_, W>, node: &RTreeNode<T>) {
-    match node {
-        RTreeNode::Leaf(t) => {
-            set.entry(t);
+        match node {
+            RTreeNode::Leaf(t) => {
+                set.entry(t);
+            }
+            RTreeNode::Parent(parent) => add_all(set, parent.children.as_slice()),
         }
-        RTreeNode::Parent(parent) => add_all(set, parent.children.as_slice()),
     }
 }
 

@@ -4,8 +4,7 @@ ghost use Rattle.std.specs.Prelude.{◌≡◌, ◌+◌, ◌<◌, ◌≤◌, [], 
 ghost use Rattle.rstar_base.specs.Hulls.{hull};
 ghost use Rattle.rstar.specs.declared.node.RTreeNode.{Parent};
 ghost use Rattle.rstar.specs.Nodes.{node_box, all_elements};
-ghost use Rattle.rstar.specs.inside.ParentBounds.{HasAtMost, CanTakeIn, AddsChild, GoesIn, as_node};
-ghost use Rattle.rstar.specs.inside.ParentBounds.{has_room, roomy_of, second_roomy};
+ghost use Rattle.rstar.specs.inside.ParentBounds.{HasAtMost, CanTakeIn, AddsChild, GoesIn, as_node, has_room, roomy_of, second_roomy};
 ghost use Rattle.rstar.specs.inside.Reserves.{IsReady, Spends, BecomesRoot};
 
 use crate::algorithm::rstar::preparation::Reserve;
@@ -53,17 +52,14 @@ fn add_child<T: Placed, Params: RTreeParams>(
         node.children.push_reserved(child);
         return None;
     }
-    let mut second = reserve.spares.take_last();
+    let mut children = reserve.spares.take_last();
     move_all(&mut node.children, &mut reserve.overfull);
     reserve.overfull.push_reserved(child);
-    T::split_in_place::<Params>(&mut reserve.overfull, &mut second);
+    T::split_in_place::<Params>(&mut reserve.overfull, &mut children);
     move_all(&mut reserve.overfull, &mut node.children);
     node.envelope = envelope_for_children(&node.children);
-    let envelope = envelope_for_children(&second);
-    Some(ParentNode {
-        children: second,
-        envelope,
-    })
+    let envelope = envelope_for_children(&children);
+    Some(ParentNode { children, envelope })
 }
 
 /// Inserts an element below a node with `levels` levels of parents below it, and returns the second part of
@@ -97,25 +93,6 @@ fn insert_below<T: Placed, Params: RTreeParams>(
     }
 }
 
-/// Makes a new root above the old one and a second part.
-fn grow_root<T: Placed, Params: RTreeParams>(
-    root: &mut ParentNode<T>,
-    second: ParentNode<T>,
-    reserve: &mut Reserve<RTreeNode<T>>,
-)
-    requires ready { IsReady Params.MAX_SIZE 1 reserve.old }
-    ensures children { root.new.children.items ≡ Parent root.old ∷ Parent second ∷ [] }
-    ensures envelope { root.new.envelope ≡ T.Cover.boxes.merge root.old.envelope second.envelope }
-    ensures spends { Spends (λ n. 0) (λ n. has_room n root.new.children) reserve.old reserve.new }
-    ensures used { vec_len reserve.old.spares ≤ vec_len reserve.new.spares + 1 }
-{
-    let children = reserve.spares.take_last();
-    let envelope = root.envelope.merged(&second.envelope);
-    let old = mem::replace(root, ParentNode { children, envelope });
-    root.children.push_reserved(RTreeNode::Parent(old));
-    root.children.push_reserved(RTreeNode::Parent(second));
-}
-
 /// Inserts an element below the root, which has `levels` levels of parents below it, and returns the new
 /// number of levels.
 pub(crate) fn insert_at_root<T: Placed, Params: RTreeParams>(
@@ -131,11 +108,13 @@ pub(crate) fn insert_at_root<T: Placed, Params: RTreeParams>(
     ensures grown { result ≤ levels + 1 }
     ensures used { vec_len reserve.old.spares ≤ vec_len reserve.new.spares + result + 1 }
 {
-    match insert_below::<T, Params>(root, t, levels, reserve) {
-        None => levels,
-        Some(second) => {
-            grow_root::<T, Params>(root, second, reserve);
-            levels + 1
-        }
-    }
+    let Some(second) = insert_below::<T, Params>(root, t, levels, reserve) else {
+        return levels;
+    };
+    let children = reserve.spares.take_last();
+    let envelope = root.envelope.merged(&second.envelope);
+    let old = mem::replace(root, ParentNode { children, envelope });
+    root.children.push_reserved(RTreeNode::Parent(old));
+    root.children.push_reserved(RTreeNode::Parent(second));
+    levels + 1
 }

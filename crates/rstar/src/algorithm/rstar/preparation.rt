@@ -1,25 +1,10 @@
 //! The memory of an insertion, taken before the first change.
 
-ghost use Rattle.std.specs.Prelude.{◌≡◌, ◌+◌, ◌<◌, [], max, OnOk, IfSome, IfNone, vec_len};
+ghost use Rattle.std.specs.Prelude.{◌≡◌, [], max, OnOk, vec_len};
 ghost use Rattle.std.specs.List.{AllByRecursion};
-ghost use Rattle.rstar.specs.Heights.{spare_lists};
 ghost use Rattle.rstar.specs.inside.ParentBounds.{IsSpare};
 
-use rstar_base::RTreeParams;
 use std::alloc::{AllocError, Global};
-
-/// The number of spare lists for an insertion below a root with this many levels of parents; `None` where it
-/// exceeds a `usize`.
-pub(crate) fn lists_wanted<Params: RTreeParams>(levels: usize) -> Option<usize>
-    ensures some { IfSome result (λ n. n ≡ spare_lists Params.REINSERTION_COUNT (1 + levels)) }
-    ensures none { IfNone result (usize.MAX < spare_lists Params.REINSERTION_COUNT (1 + levels)) }
-{
-    let each = levels
-        .checked_add(1)?
-        .checked_add(Params::REINSERTION_COUNT)?
-        .checked_add(2)?;
-    Params::REINSERTION_COUNT.max(1).checked_mul(each)
-}
 
 /// The memory of the insertions in a tree.
 #[derive(Drop)]

@@ -15,16 +15,16 @@ returns-then-len-MAX_SIZE-clause-spends g c =
     spends_as c.take_place.ensures.spends (λ n few. omega (arith, room_same n c.push_reserved.new.self c.take_place.new.list c.push_reserved.ensures.capacity))
 
 pub split_in_place-requires-clause-empty : goal.split_in_place-requires-clause-empty
-split_in_place-requires-clause-empty g c = (last_spare c.requires.ready _ c.take_last-second.result c.take_last-second.ensures.items).1.0
+split_in_place-requires-clause-empty g c = (last_spare c.requires.ready _ c.take_last-children.result c.take_last-children.ensures.items).1.0
 
 pub split_in_place-requires-clause-room : goal.split_in_place-requires-clause-room
 split_in_place-requires-clause-room g c =
-    omega (arith, ((last_spare c.requires.ready _ c.take_last-second.result c.take_last-second.ensures.items).1).1, c.requires.narrow, c.move_all.ensures.length, c.push_reserved-2.ensures.len, c.args.node.now.children.ok.0, g.Params.RTreeParams.min_positive)
+    omega (arith, ((last_spare c.requires.ready _ c.take_last-children.result c.take_last-children.ensures.items).1).1, c.requires.narrow, c.move_all.ensures.length, c.push_reserved-2.ensures.len, c.args.node.now.children.ok.0, g.Params.RTreeParams.min_positive)
 
 pub returns : goal.returns
 returns g c =
-    let taken = c.take_last-second.ensures in
-    let spare = (last_spare c.requires.ready _ c.take_last-second.result taken.items).1 in
+    let taken = c.take_last-children.ensures in
+    let spare = (last_spare c.requires.ready _ c.take_last-children.result taken.items).1 in
     let positive = g.Params.RTreeParams.min_positive in
     let split = c.split_in_place.ensures in
     let moved = c.move_all-2.ensures.length in
@@ -52,7 +52,7 @@ returns g c =
         lengths = omega (arith, split.lengths, moved, over, added, c.args.node.now.children.ok.0, c.move_all-2.new.empty.ok.0, c.split_in_place.new.spare.ok.0);
         second_room = omega (arith, spare.1, split.second_capacity);
       };
-      spends = spends_one c.requires.ready c.take_last-second.result taken.items taken.len taken.capacity refl
+      spends = spends_one c.requires.ready c.take_last-children.result taken.items taken.len taken.capacity refl
           (c.move_all-2.ensures.left, omega (arith, small, c.move_all.ensures.empty_capacity, c.push_reserved-2.ensures.capacity, split.first_capacity, c.move_all-2.ensures.capacity))
           (omega (arith, more)) (omega (arith, room_one 0 c.args.node.now.children (omega arith), room_one 0 c.move_all-2.new.empty (omega arith)));
       used = omega (arith, taken.len);
