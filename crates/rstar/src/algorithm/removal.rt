@@ -2,16 +2,13 @@
 //!
 //! Steps that not every call needs stay out of line (`#[inline(never)]`), so that the path down is short.
 
-ghost use Rattle.std.specs.Prelude.{◌≡◌, ◌⊎◌, ℕ, ◌-◌, ◌<◌, ◌≤◌, true, false, IfNone, length, replicate};
-ghost use Rattle.std.specs.Prelude.{vec_len, slice_index_or};
+ghost use Rattle.std.specs.Prelude.{◌≡◌, ◌⊎◌, ℕ, ◌-◌, ◌<◌, ◌≤◌, true, false, IfNone, length, replicate, vec_len, slice_index_or};
 ghost use Rattle.std.specs.List.{remove};
 ghost use Rattle.rstar_base.specs.Hulls.{hull};
 ghost use Rattle.rstar.specs.declared.node.RTreeNode.{Leaf};
 ghost use Rattle.rstar.specs.Lists.{NoneSelected};
 ghost use Rattle.rstar.specs.Nodes.{node_box, all_elements};
-ghost use Rattle.rstar.specs.inside.Taking.{IsCleared, IsMerged, IsRest, IsRestAt, Takes, TakesBelow, TakesInside};
-ghost use Rattle.rstar.specs.inside.Taking.{with_first, first_number, lower_numbers};
-ghost use Rattle.rstar.specs.inside.Taking.{is_selected_leaf, is_a_leaf, is_childless};
+ghost use Rattle.rstar.specs.inside.Taking.{IsCleared, IsMerged, IsRest, IsRestAt, Takes, TakesBelow, TakesInside, with_first, first_number, lower_numbers, is_selected_leaf, is_a_leaf, is_childless};
 
 pub(crate) mod earliest;
 
@@ -210,20 +207,14 @@ fn are_passed<T: Covered, R: Question<T>>(nodes: &[RTreeNode<T>], func: &R) -> b
 pub(super) fn is_selected_leaf<T: Covered, R: Question<T>>(node: &RTreeNode<T>, func: &R) -> bool
     ensures { result ≡ is_selected_leaf (R.selects func.now) node.now }
 {
-    match node {
-        RTreeNode::Leaf(t) => func.should_unpack_leaf(t),
-        RTreeNode::Parent(_) => false,
-    }
+    matches!(node, RTreeNode::Leaf(t) if func.should_unpack_leaf(t))
 }
 
 /// Whether a node is a parent without children.
 pub(super) fn is_childless<T: Covered>(node: &RTreeNode<T>) -> bool
     ensures { result ≡ is_childless node.now }
 {
-    match node {
-        RTreeNode::Leaf(_) => false,
-        RTreeNode::Parent(parent) => parent.children.is_empty(),
-    }
+    matches!(node, RTreeNode::Parent(parent) if parent.children.is_empty())
 }
 
 /// Removes the leaf at a place.
