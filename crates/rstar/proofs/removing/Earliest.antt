@@ -1,5 +1,6 @@
 -- The earliest of a list and of what is given below some nodes, and its removal.
-use Rattle.std.proofs.Common.{◌≡◌, ◌≢◌, ℕ, ℤ, ◌+◌, ◌-◌, ◌<◌, Bool, true, false, List, [], ◌∷◌, ◌++◌, refl, sym, ◌∙◌, ap, subst, arith, length, get_or, take, Option, Some, None, is_some, filter, if◌then◌else◌, length-append, append-nil, inl, inr}
+use Rattle.std.proofs.Common.{◌≡◌, ◌≢◌, ℕ, ℤ, ◌+◌, ◌-◌, ◌<◌, Bool, true, false, List, [], ◌∷◌, ◌++◌, refl, sym, ◌∙◌, ap, subst, arith, length, get_or, take, Option, Some, None, option_map, is_some, filter, if◌then◌else◌, length-append, append-nil, inl, inr}
+use Rattle.std.specs.Bool.{then_some}
 use Rattle.std.specs.Borrow.{Bor}
 use Rattle.std.specs.Cmp.{IsTotalOrder, IsStrictWeakOrder}
 use Rattle.std.specs.List.{AllByRecursion}
@@ -146,9 +147,9 @@ module _ {T E : Type 0} (accepts : E → Bool) (selects : T → Bool) {R : T →
       (pushed (take i ns) n found next at here))
 
   -- of one node
-  pub earliest-leaf : (n : RTreeNode T E) (t : T) (b : Bool) → n ≡ Leaf t → selects t ≡ b → earliest R (below n) ≡ (if b then Some t else None)
-  earliest-leaf n t true is chosen = rw (is, given-Leaf T E accepts selects t, chosen)
-  earliest-leaf n t false is chosen = rw (is, given-Leaf T E accepts selects t, chosen)
+  pub earliest-leaf : {A : Type 0} (f : A → T) (n : RTreeNode T E) (x : A) (b : Bool) → n ≡ Leaf (f x) → b ≡ selects (f x) → option_map f (then_some b x) ≡ earliest R (below n)
+  earliest-leaf f n x true is chosen = rw (is, given-Leaf T E accepts selects (f x), sym chosen)
+  earliest-leaf f n x false is chosen = rw (is, given-Leaf T E accepts selects (f x), sym chosen)
 
   pub earliest-shut : (n : RTreeNode T E) (p : ParentNode T E) → n ≡ Parent p → accepts p.envelope ≡ false → earliest R (below n) ≡ None
   earliest-shut n p is shut = rw (is, given-Parent accepts selects p, shut)

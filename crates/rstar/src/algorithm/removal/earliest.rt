@@ -22,23 +22,11 @@ fn earliest_in<'a, T: Covered + Ord, R: Question<T>>(
     ensures { lent result ≡ earliest T.cmp (given (R.accepts func.now) (R.selects func.now) node.now) }
 {
     match node {
-        RTreeNode::Leaf(t) => {
-            if func.should_unpack_leaf(t) {
-                Some(t)
-            } else {
-                None
-            }
+        RTreeNode::Leaf(t) => func.should_unpack_leaf(t).then_some(t),
+        RTreeNode::Parent(parent) if func.should_unpack_parent(&parent.envelope) => {
+            Some(earliest_below(parent.children.as_slice(), func)?.1)
         }
-        RTreeNode::Parent(parent) => {
-            if func.should_unpack_parent(&parent.envelope) {
-                match earliest_below(parent.children.as_slice(), func) {
-                    Some((_place, t)) => Some(t),
-                    None => None,
-                }
-            } else {
-                None
-            }
-        }
+        RTreeNode::Parent(_) => None,
     }
 }
 
@@ -69,14 +57,8 @@ fn earlier<'a, T: Ord>(
         return found;
     };
     match found {
-        Some(first) => {
-            if t.cmp(first.1).is_lt() {
-                Some((place, t))
-            } else {
-                Some(first)
-            }
-        }
-        None => Some((place, t)),
+        Some(first) if !t.cmp(first.1).is_lt() => found,
+        _ => Some((place, t)),
     }
 }
 
@@ -93,10 +75,7 @@ pub(crate) fn take_earliest<T: Covered + Ord, R: Question<T>>(
     ensures first { result ≡ earliest T.cmp
         (all_given (R.accepts func.now) (R.selects func.now) node.old.children.items) }
 {
-    let place = match earliest_below(node.children.as_slice(), func) {
-        Some(found) => found.0,
-        None => return None,
-    };
+    let place = earliest_below(node.children.as_slice(), func)?.0;
     let taken = take_at(&mut node.children, place, changed, func);
     if *changed {
         let merged = envelope_for_children(&node.children);

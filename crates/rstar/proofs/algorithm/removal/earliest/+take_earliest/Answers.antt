@@ -22,7 +22,7 @@ take_at-returns-then-is_leaf g t c =
     let selected = leaf_selected accepts selects _ c.take_leaf.result (sym here) (c.requires.some (Leaf c.take_leaf.result)) in
     record {
       takes = rw c.take_leaf.ensures.items (takes_leaf g.T.Cover.Merges.boxes g.T.Covered.object accepts selects c.args.children.now.items c.args.place c.requires.within c.take_leaf.result here selected);
-      first = λ d. sym (earliest-leaf accepts selects g.met.T.Ord.total (get_or c.args.children.now.items c.args.place d) c.take_leaf.result true (sym (get_or_read c.args.children.now.items c.args.place (Leaf c.take_leaf.result) c.requires.within here d)) selected);
+      first = λ d. earliest-leaf accepts selects g.met.T.Ord.total (λ u. u) (get_or c.args.children.now.items c.args.place d) c.take_leaf.result true (sym (get_or_read c.args.children.now.items c.args.place (Leaf c.take_leaf.result) c.requires.within here d)) (sym selected);
       unchanged = search rules;
     }
 
@@ -64,18 +64,19 @@ take_inside-returns g t c =
       unchanged = rw (c.in-Parent.is, outs-Parent c.in-Parent.parent) (λ told. node_box-Parent box c.take_earliest.new.node ∙ below.unchanged told ∙ sym (node_box-Parent box c.in-Parent.parent));
     }
 
-pub take_earliest-returns-in-None-clause-below : goal.take_earliest-returns-in-None-clause-below
-take_earliest-returns-in-None-clause-below g t c =
+pub take_earliest-returns-in_err-place-clause-below : goal.take_earliest-returns-in_err-place-clause-below
+take_earliest-returns-in_err-place-clause-below g t c =
     let accepts = g.R.Question.accepts c.args.func.now in let selects = g.R.Question.selects c.args.func.now in
-    assumption (takes_nothing accepts selects g.met.T.Cover.Merges.merge_laws g.met.T.Covered.cover_law c.args.node.now.children.items
-    (sym (ap (all_given accepts selects) c.as_slice.ensures.value) ∙ c.in-None.ensures))
+    rw c.from_residual.ensures
+    (assumption (takes_nothing accepts selects g.met.T.Cover.Merges.merge_laws g.met.T.Covered.cover_law c.args.node.now.children.items
+    (sym (ap (all_given accepts selects) c.as_slice.ensures.value) ∙ c.in_err-place.ensures)))
 
 pub take_earliest-returns-then-changed : goal.take_earliest-returns-then-changed
 take_earliest-returns-then-changed g t c =
     let takes = c.take_at-taken.ensures.takes in
     let made = rw c.deref.ensures.value at c.envelope_for_children-merged.ensures.hull in
-    let there = earliest-there (g.R.Question.accepts c.args.func.now) (g.R.Question.selects c.args.func.now) g.met.T.Ord.total c.args.node.now.children.items c.as_slice.result.now c.in-Some.found.0 c.in-Some.found.1.now c.take_at-taken.result (Parent c.args.node.now)
-    c.as_slice.ensures.value c.in-Some.ensures (c.take_at-taken.ensures.first (Parent c.args.node.now)) in
+    let there = earliest-there (g.R.Question.accepts c.args.func.now) (g.R.Question.selects c.args.func.now) g.met.T.Ord.total c.args.node.now.children.items c.as_slice.result.now c.in_ok-place.field-0.0 c.in_ok-place.field-0.1.now c.take_at-taken.result (Parent c.args.node.now)
+    c.as_slice.ensures.value c.in_ok-place.ensures (c.take_at-taken.ensures.first (Parent c.args.node.now)) in
     record {
       below = record {
         takes = takes;
@@ -89,8 +90,8 @@ take_earliest-returns-then-changed g t c =
 pub take_earliest-returns-else-changed : goal.take_earliest-returns-else-changed
 take_earliest-returns-else-changed g t c =
     let takes = c.take_at-taken.ensures.takes in
-    let there = earliest-there (g.R.Question.accepts c.args.func.now) (g.R.Question.selects c.args.func.now) g.met.T.Ord.total c.args.node.now.children.items c.as_slice.result.now c.in-Some.found.0 c.in-Some.found.1.now c.take_at-taken.result (Parent c.args.node.now)
-    c.as_slice.ensures.value c.in-Some.ensures (c.take_at-taken.ensures.first (Parent c.args.node.now)) in
+    let there = earliest-there (g.R.Question.accepts c.args.func.now) (g.R.Question.selects c.args.func.now) g.met.T.Ord.total c.args.node.now.children.items c.as_slice.result.now c.in_ok-place.field-0.0 c.in_ok-place.field-0.1.now c.take_at-taken.result (Parent c.args.node.now)
+    c.as_slice.ensures.value c.in_ok-place.ensures (c.take_at-taken.ensures.first (Parent c.args.node.now)) in
     record {
       below = record {
         takes = takes;
