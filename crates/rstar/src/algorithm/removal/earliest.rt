@@ -3,13 +3,13 @@
 //! A read-only recursion finds the child below which it lies; then it is removed below that child in the
 //! same way. So one path changes, and each level of it is read once.
 
-ghost use Rattle.std.specs.Prelude.{◌≡◌, ◌≢◌, [], false, None, slice_index_or};
+ghost use Rattle.std.specs.Prelude.{◌≡◌, [], false, None, slice_index_or};
 ghost use Rattle.rstar_base.specs.Hulls.{hull};
 ghost use Rattle.rstar.specs.inside.Earliest.{earliest, lent, earlier_at, IsGivenAt, IsEarliestOf};
-ghost use Rattle.rstar.specs.Nodes.{node_box, given, all_given, is_leaf_node};
-ghost use Rattle.rstar.specs.inside.Taking.{Takes, TakesBelow, TakesInside};
+ghost use Rattle.rstar.specs.Nodes.{node_box, given, all_given};
+ghost use Rattle.rstar.specs.inside.Taking.{Takes, TakesBelow};
 
-use crate::algorithm::removal::{drop_child, is_childless, take_leaf};
+use crate::algorithm::removal::{drop_child, element_of, is_childless};
 use crate::bounds::{Covered, Merges, Question};
 use crate::node::{ParentNode, RTreeNode, envelope_for_children};
 
@@ -102,34 +102,14 @@ fn take_at<T: Covered + Ord, R: Question<T>>(
     ensures unchanged { changed.new ≡ false → hull T.Cover.boxes (node_box T.object.box_of) children.new.items
         ≡ hull T.Cover.boxes (node_box T.object.box_of) children.old.items }
 {
-    if children[place].is_leaf() {
+    let RTreeNode::Parent(parent) = &mut children[place] else {
         *changed = true;
-        return Some(take_leaf(children, place));
-    }
-    let taken = take_inside(&mut children[place], changed, func);
+        return Some(element_of(children.remove(place)));
+    };
+    let taken = take_earliest(parent, changed, func);
     if is_childless(&children[place]) {
         drop_child(children, place);
         *changed = true;
     }
     taken
-}
-
-/// Removes the earliest selected element below a parent, which may be left without children.
-#[cycle(take_earliest)]
-fn take_inside<T: Covered + Ord, R: Question<T>>(
-    child: &mut RTreeNode<T>,
-    changed: &mut bool,
-    func: &R,
-) -> Option<T>
-    requires parent { is_leaf_node child.old ≡ false }
-    requires some { given (R.accepts func.now) (R.selects func.now) child.old ≢ [] }
-    ensures takes { TakesInside T.Cover.boxes T.object (R.accepts func.now) (R.selects func.now)
-        child.old [] None result child.new [] None }
-    ensures first { result ≡ earliest T.cmp (given (R.accepts func.now) (R.selects func.now) child.old) }
-    ensures unchanged { changed.new ≡ false → node_box T.object.box_of child.new ≡ node_box T.object.box_of child.old }
-{
-    match child {
-        RTreeNode::Leaf(_) => unreachable!(),
-        RTreeNode::Parent(parent) => take_earliest(parent, changed, func),
-    }
 }
