@@ -1,11 +1,9 @@
 //! Removal of many elements in one pass, into a list with room. Nothing here takes memory.
 
-ghost use Rattle.std.specs.Prelude.{◌≡◌, ℕ, ◌<◌, ◌≤◌, true, slice_index_or, vec_len, vec_capacity};
-ghost use Rattle.rstar.specs.declared.node.RTreeNode.{Leaf};
+ghost use Rattle.std.specs.Prelude.{◌≡◌, ℕ, ◌<◌, ◌≤◌, vec_len, vec_capacity};
 ghost use Rattle.rstar.specs.inside.Gathering.{GathersAmong, GathersInside, IsSwappedOut};
 ghost use Rattle.rstar.specs.inside.ParentBounds.{IsKept, AreKept};
 ghost use Rattle.rstar.specs.Nodes.{children_of};
-ghost use Rattle.rstar.specs.inside.Taking.{is_a_leaf};
 
 use crate::algorithm::removal::{element_of, is_childless, is_selected_leaf};
 use crate::bounds::{Covered, Question};
@@ -56,7 +54,7 @@ fn gather_among<T: Covered, R: Question<T>>(
             return;
         }
         if is_selected_leaf(&children[i], func) {
-            taken.push_reserved(swap_leaf_out(children, i));
+            taken.push_reserved(element_of(children.swap_remove(i)));
         } else {
             gather_inside(&mut children[i], func, most, taken);
             if is_childless(&children[i]) {
@@ -87,16 +85,6 @@ fn gather_inside<T: Covered, R: Question<T>>(
             }
         }
     }
-}
-
-/// Removes the leaf at a place. The last node takes its place.
-fn swap_leaf_out<T: Covered>(children: &mut Vec<RTreeNode<T>>, index: usize) -> T
-    requires within { index < vec_len children.old }
-    requires leaf { (n : _) → is_a_leaf (slice_index_or children.old.items index n) ≡ true }
-    ensures node { Leaf result ≡ slice_index_or children.old.items index (Leaf result) }
-    ensures out { IsSwappedOut children.old.items index children.new.items }
-{
-    element_of(children.swap_remove(index))
 }
 
 /// Drops the node at a place. The last node takes its place.

@@ -2,7 +2,7 @@
 //!
 //! Steps that not every call needs stay out of line (`#[inline(never)]`), so that the path down is short.
 
-ghost use Rattle.std.specs.Prelude.{◌≡◌, ◌⊎◌, ℕ, ◌-◌, ◌<◌, ◌≤◌, true, false, IfNone, length, replicate, vec_len, slice_index_or};
+ghost use Rattle.std.specs.Prelude.{◌≡◌, ◌⊎◌, ℕ, ◌-◌, ◌<◌, ◌≤◌, true, false, IfNone, length, replicate, vec_len};
 ghost use Rattle.std.specs.List.{remove};
 ghost use Rattle.rstar_base.specs.Hulls.{hull};
 ghost use Rattle.rstar.specs.declared.node.RTreeNode.{Leaf};
@@ -125,10 +125,9 @@ fn take_among<T: Covered, R: Question<T>>(
     for passed in first_number(path)..children.len() {
         let i = children.len() - 1 - passed;
         if is_selected_leaf(&children[i], func) {
-            let taken = take_leaf(children, i);
             set_first(path, passed);
             *changed = true;
-            return Some(taken);
+            return Some(element_of(children.remove(i)));
         }
         let taken = take_inside(&mut children[i], path, rest, changed, func);
         if taken.is_some() {
@@ -215,16 +214,6 @@ pub(super) fn is_childless<T: Covered>(node: &RTreeNode<T>) -> bool
     ensures { result ≡ is_childless node.now }
 {
     matches!(node, RTreeNode::Parent(parent) if parent.children.is_empty())
-}
-
-/// Removes the leaf at a place.
-fn take_leaf<T: Covered>(children: &mut Vec<RTreeNode<T>>, index: usize) -> T
-    requires within { index < vec_len children.old }
-    requires leaf { (n : _) → is_a_leaf (slice_index_or children.old.items index n) ≡ true }
-    ensures node { Leaf result ≡ slice_index_or children.old.items index (Leaf result) }
-    ensures items { children.new.items ≡ remove children.old.items index }
-{
-    element_of(children.remove(index))
 }
 
 /// The element of a leaf.

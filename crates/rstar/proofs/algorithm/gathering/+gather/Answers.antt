@@ -2,7 +2,7 @@ use Rattle.std.proofs.Common.{◌≡◌, ◌∙◌, ◌<◌, ◌≤◌, ◌-◌,
 use Rattle.rstar.specs.declared.node.RTreeNode.{Leaf}
 use Rattle.rstar.specs.declared.node.RTreeNode.TheVariants.{outs-Leaf, outs-Parent}
 use Rattle.rstar.specs.inside.Taking.{selects_in, is_selected_leaf, is_childless}
-use Rattle.rstar.proofs.removing.Gathered.{gathering_begins, gathering_ends, takes_leaf, goes_inside, drops_childless, leaf_stays, opened, not_opened, same_elements, kept_alike}
+use Rattle.rstar.proofs.removing.Gathered.{gathering_begins, gathering_ends, takes_leaf, goes_inside, drops_childless, leaf_stays, opened, not_opened, same_elements, kept_alike, swapped_out}
 use Rattle.rstar.proofs.removing.Parts.{same_read}
 use Rattle.rstar.proofs.removing.Scans.{kept_anew}
 use Rattle.rstar.proofs.algorithm.gathering.+gather.Goals as goal
@@ -37,11 +37,13 @@ pub gather_among-loop-i-preserved-then-is_selected_leaf :
 gather_among-loop-i-preserved-then-is_selected_leaf g t c =
     let selects = g.R.Question.selects c.args.func.now in
     let at_i = place c.loop-i-test.true c.loop-i.invariant.gathering.within in
-    let here = same_read c.loop-i.children.items (c.loop-i.i - 1) c.index.result.now (Leaf c.swap_leaf_out.result) at_i.1 c.index.ensures c.swap_leaf_out.ensures.node in
+    let removed = c.swap_remove.ensures in let leaf = rw (sym c.element_of.ensures) at removed.value in
+    let out = swapped_out c.loop-i.children.items c.swap_remove.new.self.items (c.loop-i.i - 1) _ _ c.swap_remove.result c.loop-i.children.ok.0 c.swap_remove.new.self.ok.0 (rw (sym c.loop-i.children.ok.0) at at_i.1) removed.value removed.items removed.len removed.by_index in
+    let here = same_read c.loop-i.children.items (c.loop-i.i - 1) c.index.result.now (Leaf c.element_of.result) at_i.1 c.index.ensures leaf in
     let chosen = sym (ap (selects_in selects) (outs-Leaf _)) ∙ ap (is_selected_leaf selects) (sym here) ∙ sym c.is_selected_leaf.ensures ∙ c.if-is_selected_leaf.true in
     record {
-      gathering = rw c.push_reserved.ensures.items (takes_leaf g.T.Cover.Merges.boxes g.T.Covered.object (g.R.Question.accepts c.args.func.now) (g.R.Question.selects c.args.func.now) c.args.most c.args.children.now.items c.args.taken.now.items c.loop-i.children.items c.loop-i.taken.items c.loop-i.i (c.loop-i.i - 1) c.loop-i.invariant.gathering at_i.0 c.swap_leaf_out.result c.swap_leaf_out.new.children.items c.swap_leaf_out.ensures.node chosen
-          (rw (c.len.ensures ∙ c.loop-i.taken.ok.0) at c.if-len-most.false) c.swap_leaf_out.ensures.out);
+      gathering = rw c.push_reserved.ensures.items (takes_leaf g.T.Cover.Merges.boxes g.T.Covered.object (g.R.Question.accepts c.args.func.now) (g.R.Question.selects c.args.func.now) c.args.most c.args.children.now.items c.args.taken.now.items c.loop-i.children.items c.loop-i.taken.items c.loop-i.i (c.loop-i.i - 1) c.loop-i.invariant.gathering at_i.0 c.element_of.result c.swap_remove.new.self.items leaf chosen
+          (rw (c.len.ensures ∙ c.loop-i.taken.ok.0) at c.if-len-most.false) out);
       capacity = c.push_reserved.ensures.capacity ∙ c.loop-i.invariant.capacity;
     }
 

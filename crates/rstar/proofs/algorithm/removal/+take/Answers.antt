@@ -82,11 +82,12 @@ take_among-returns-then-is_selected_leaf g t c =
     let i = c.len.result - 1 - c.loop-passed.passed in
     let at_i = place c.len.ensures (ap vec_len c.loop-passed.invariant.same) c.len-passed-end.ensures c.loop-passed-test.true c.loop-passed.children.ok.0 in
     let within : i < length c.loop-passed.children.items = omega (arith, at_i.3) in
-    let here = same_read c.loop-passed.children.items i c.index.result.now (Leaf c.take_leaf-taken.result) within c.index.ensures c.take_leaf-taken.ensures.node in
+    let leaf = rw (sym c.element_of.ensures) at c.remove.ensures.value in
+    let here = same_read c.loop-passed.children.items i c.index.result.now (Leaf c.element_of.result) within c.index.ensures leaf in
     let chosen = ap (is_selected_leaf (g.R.Question.selects c.args.func.now)) (sym here) in
     record {
-      takes = rw (c.set_first.ensures, c.take_leaf-taken.ensures.items)
-          (gives_leaf g.T.Cover.Merges.boxes g.T.Covered.object (g.R.Question.accepts c.args.func.now) (g.R.Question.selects c.args.func.now) c.args.children.now.items c.args.path.now c.args.rest.now c.loop-passed.path c.loop-passed.rest c.loop-passed.passed c.loop-passed.invariant.scanned c.loop-passed.children.items (ap (λ (v : Vec _ _). v.items) c.loop-passed.invariant.same) i at_i.3 c.take_leaf-taken.result c.take_leaf-taken.ensures.node
+      takes = rw (c.set_first.ensures, c.remove.ensures.items)
+          (gives_leaf g.T.Cover.Merges.boxes g.T.Covered.object (g.R.Question.accepts c.args.func.now) (g.R.Question.selects c.args.func.now) c.args.children.now.items c.args.path.now c.args.rest.now c.loop-passed.path c.loop-passed.rest c.loop-passed.passed c.loop-passed.invariant.scanned c.loop-passed.children.items (ap (λ (v : Vec _ _). v.items) c.loop-passed.invariant.same) i at_i.3 c.element_of.result leaf
           (λ _. c.loop-passed.invariant.behind) (sym (ap (selects_in (g.R.Question.selects c.args.func.now)) (outs-Leaf _)) ∙ chosen ∙ sym c.is_selected_leaf.ensures ∙ c.if-is_selected_leaf.true));
       same = tt;
       unchanged = λ told. absurd (true≢false told);
