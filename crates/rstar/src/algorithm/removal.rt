@@ -66,11 +66,8 @@ fn merge_along<T: Covered>(
         → IsRestAt T.Cover.boxes T.object rest.new path.now children.now }
     ensures still { length path.now ≡ 0 → rest.new ≡ rest.old }
 {
-    if path.len() != 1 {
-        return envelope_for_children(children);
-    }
     let left = children.len().saturating_sub(first_number(path));
-    if left < 32 {
+    if path.len() != 1 || left < 32 {
         return envelope_for_children(children);
     }
     let front = front_of(children, left, rest);
@@ -158,17 +155,14 @@ fn take_inside<T: Covered, R: Question<T>>(
         child.old (lower_numbers path.old) rest.old result child.new (lower_numbers path.new) rest.new }
     ensures unchanged { changed.new ≡ false → node_box T.object.box_of child.new ≡ node_box T.object.box_of child.old }
 {
-    match child {
-        RTreeNode::Leaf(_) => None,
-        RTreeNode::Parent(parent) => {
-            if may_hold(parent, path, func) {
-                let lower = path.len().min(1);
-                take_below(parent, &mut path[lower..], rest, changed, func)
-            } else {
-                None
-            }
-        }
+    let RTreeNode::Parent(parent) = child else {
+        return None;
+    };
+    if !may_hold(parent, path, func) {
+        return None;
     }
+    let lower = path.len().min(1);
+    take_below(parent, &mut path[lower..], rest, changed, func)
 }
 
 /// Whether a removal goes below a parent: it is accepted, and its children are no leaves that all are passed.
@@ -203,14 +197,14 @@ fn are_passed<T: Covered, R: Question<T>>(nodes: &[RTreeNode<T>], func: &R) -> b
 }
 
 /// Whether a node is a selected leaf.
-pub(super) fn is_selected_leaf<T: Covered, R: Question<T>>(node: &RTreeNode<T>, func: &R) -> bool
+fn is_selected_leaf<T: Covered, R: Question<T>>(node: &RTreeNode<T>, func: &R) -> bool
     ensures { result ≡ is_selected_leaf (R.selects func.now) node.now }
 {
     matches!(node, RTreeNode::Leaf(t) if func.should_unpack_leaf(t))
 }
 
 /// Whether a node is a parent without children.
-pub(super) fn is_childless<T: Covered>(node: &RTreeNode<T>) -> bool
+fn is_childless<T: Covered>(node: &RTreeNode<T>) -> bool
     ensures { result ≡ is_childless node.now }
 {
     matches!(node, RTreeNode::Parent(parent) if parent.children.is_empty())

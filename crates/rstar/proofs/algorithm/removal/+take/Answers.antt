@@ -61,8 +61,8 @@ take_among-loop-passed-preserved g t c =
     c.loop-passed.invariant.behind none (sym (ap (is_selected_leaf (g.R.Question.selects c.args.func.now)) here) ∙ sym c.is_selected_leaf.ensures ∙ c.if-is_selected_leaf.false) in
     record { scanned = passed.0; behind = passed.1; same = unchanged }
 
-pub take_inside-returns-then-may_hold : goal.take_inside-returns-then-may_hold
-take_inside-returns-then-may_hold g t c =
+pub take_inside-returns : goal.take_inside-returns
+take_inside-returns g t c =
     let below = rw (c.in-Parent.parent-is, lower_lent c.args.path.now c.min-lower.result c.min-lower.ensures) at c.take_below.ensures in
     let box = g.T.Covered.object.box_of in
     record {
@@ -70,12 +70,12 @@ take_inside-returns-then-may_hold g t c =
       unchanged = rw (c.in-Parent.is, outs-Parent c.in-Parent.parent) (λ told. node_box-Parent box c.take_below.new.node ∙ below.unchanged told ∙ sym (node_box-Parent box c.in-Parent.parent));
     }
 
-pub take_inside-returns-else-may_hold-clause-takes :
-    goal.take_inside-returns-else-may_hold-clause-takes
-take_inside-returns-else-may_hold-clause-takes g t c =
+pub take_inside-returns-then-not-may_hold-clause-takes :
+    goal.take_inside-returns-then-not-may_hold-clause-takes
+take_inside-returns-then-not-may_hold-clause-takes g t c =
     let passed = rw c.in-Parent.parent-is at c.may_hold.ensures in
     rw (c.in-Parent.is, outs-Parent c.in-Parent.parent)
-    (not_entered g.T.Cover.Merges.boxes g.T.Covered.object (g.R.Question.accepts c.args.func.now) (g.R.Question.selects c.args.func.now) g.met.T.Cover.Merges.merge_laws g.met.T.Covered.cover_law c.in-Parent.parent (lower_numbers c.args.path.now) c.args.rest.now (passed c.if-may_hold.false))
+    (not_entered g.T.Cover.Merges.boxes g.T.Covered.object (g.R.Question.accepts c.args.func.now) (g.R.Question.selects c.args.func.now) g.met.T.Cover.Merges.merge_laws g.met.T.Covered.cover_law c.in-Parent.parent (lower_numbers c.args.path.now) c.args.rest.now (passed c.if-not-may_hold.true))
 
 pub take_among-returns-then-is_selected_leaf : goal.take_among-returns-then-is_selected_leaf
 take_among-returns-then-is_selected_leaf g t c =
