@@ -1,5 +1,6 @@
 -- The earliest of a list and of what is given below some nodes, and its removal.
-use Rattle.std.proofs.Common.{◌≡◌, ◌≢◌, ℕ, ℤ, ◌+◌, ◌-◌, ◌<◌, Bool, true, false, List, [], ◌∷◌, ◌++◌, refl, sym, ◌∙◌, ap, subst, arith, length, get_or, take, Option, Some, None, is_some, filter, if◌then◌else◌, length-append, append-nil, inl, inr}
+use Rattle.std.proofs.Common.{◌≡◌, ◌≢◌, ℕ, ℤ, ◌+◌, ◌-◌, ◌<◌, Bool, true, false, List, [], ◌∷◌, ◌++◌, refl, sym, ◌∙◌, ap, subst, arith, length, get_or, take, Option, Some, None, option_map, is_some, filter, if◌then◌else◌, length-append, append-nil, inl, inr}
+use Rattle.std.specs.Bool.{then_some}
 use Rattle.std.specs.Borrow.{Bor}
 use Rattle.std.specs.Cmp.{IsTotalOrder, IsStrictWeakOrder}
 use Rattle.std.specs.List.{AllByRecursion}
@@ -9,7 +10,7 @@ use Rattle.std.proofs.Math.ListN.{get_or-append}
 use Rattle.std.proofs.Math.Seq.{get_or-append_seam}
 use Rattle.std.proofs.lemmas.Bool.{both_ways, cases_Bool, cond_both, true_from_ne_false}
 use Rattle.std.proofs.lemmas.Cmp.{tied_itself}
-use Rattle.std.proofs.lemmas.List.{take_more, length-take-le}
+use Rattle.std.proofs.lemmas.List.{get_or_read, take_more, length-take-le}
 use Rattle.std.proofs.lemmas.List.Concat.{flat_map-append}
 use Rattle.std.proofs.lemmas.List.Elements.{Contains-append_right}
 use Rattle.std.proofs.lemmas.List.MinMax.{ranks_by}
@@ -18,16 +19,15 @@ use Rattle.rstar_base.specs.Envelopes.{Boxes, EnvelopeLaws}
 use Rattle.rstar_base.specs.Elements.{Objects, ObjectLaws}
 use Rattle.rstar_base.specs.Selections.{SelectsBy}
 use Rattle.rstar.specs.declared.node.RTreeNode.{RTreeNode, Leaf, Parent}
-use Rattle.rstar.specs.declared.node.RTreeNode.TheVariants.{outs-Leaf, outs-Parent}
 use Rattle.rstar.specs.declared.node.ParentNode.{ParentNode}
-use Rattle.rstar.specs.inside.Earliest.{earlier, earliest, lent, earlier_at, IsEarliestAt, IsEarliestOf}
-use Rattle.rstar.specs.inside.Taking.{Takes, is_a_leaf, leaf_in}
+use Rattle.rstar.specs.inside.Earliest.{earlier, earliest, lent, earlier_at, IsGivenAt, IsEarliestAt, IsEarliestOf}
+use Rattle.rstar.specs.inside.Taking.{Takes, TakesBelow, TakesInside}
 use Rattle.rstar.specs.Lists.{IsLeast, IsNotAfter}
-use Rattle.rstar.specs.Nodes.{fold_tree, given, all_given, given_of, all_elements, children_of, elements_of, is_leaf_node, IsWhole}
+use Rattle.rstar.specs.Nodes.{given, all_given, given_of, all_elements, children_of, elements_of, IsWhole}
 use Rattle.rstar.proofs.inserting.Insertion.{whole_of_kept}
 use Rattle.rstar.proofs.selecting.Complete.{all-each, all-node, all-root}
-use Rattle.rstar.proofs.trees.ByChildren.{by_node, given-Leaf, given-Parent}
-use Rattle.rstar.proofs.removing.Scans.{filter_none, finishes, nowhere}
+use Rattle.rstar.proofs.trees.ByChildren.{given-Leaf, given-Parent}
+use Rattle.rstar.proofs.removing.Scans.{entered, filter_none, finishes, nowhere}
 
 -- ---- of a list
 
@@ -146,9 +146,9 @@ module _ {T E : Type 0} (accepts : E → Bool) (selects : T → Bool) {R : T →
       (pushed (take i ns) n found next at here))
 
   -- of one node
-  pub earliest-leaf : (n : RTreeNode T E) (t : T) (b : Bool) → n ≡ Leaf t → selects t ≡ b → earliest R (below n) ≡ (if b then Some t else None)
-  earliest-leaf n t true is chosen = rw (is, given-Leaf T E accepts selects t, chosen)
-  earliest-leaf n t false is chosen = rw (is, given-Leaf T E accepts selects t, chosen)
+  pub earliest-leaf : {A : Type 0} (f : A → T) (n : RTreeNode T E) (x : A) (b : Bool) → n ≡ Leaf (f x) → b ≡ selects (f x) → option_map f (then_some b x) ≡ earliest R (below n)
+  earliest-leaf f n x true is chosen = rw (is, given-Leaf T E accepts selects (f x), sym chosen)
+  earliest-leaf f n x false is chosen = rw (is, given-Leaf T E accepts selects (f x), sym chosen)
 
   pub earliest-shut : (n : RTreeNode T E) (p : ParentNode T E) → n ≡ Parent p → accepts p.envelope ≡ false → earliest R (below n) ≡ None
   earliest-shut n p is shut = rw (is, given-Parent accepts selects p, shut)
@@ -175,28 +175,28 @@ module _ {T E : Type 0} {IsPoint : List ℤ → Type 0} {v : Boxes E} {o : Objec
 
 -- ---- its removal
 
-module _ {T E : Type 0} where
-  -- the two tests of a leaf
-  pub leaf_is : (n : RTreeNode T E) → is_leaf_node n ≡ is_a_leaf n
-  unfolding is_leaf_node fold_tree
-  leaf_is = by_node (λ (n : RTreeNode T E). is_leaf_node n ≡ is_a_leaf n) (λ t. sym (ap leaf_in (outs-Leaf t))) (λ p. sym (ap leaf_in (outs-Parent p)))
+module _ {T E : Type 0} (accepts : E → Bool) (selects : T → Bool) where
+  -- a leaf below which something is given is selected, and a parent is accepted
+  pub leaf_selected : (n : RTreeNode T E) (t : T) → n ≡ Leaf t → given accepts selects n ≢ [] → selects t ≡ true
+  leaf_selected n t leaf some = true_from_ne_false (selects t) (λ passed. some (rw (leaf, given-Leaf T E accepts selects t, passed)))
 
-  pub no_leaf_here : (n : RTreeNode T E) (t : T) → n ≡ Leaf t → is_leaf_node n ≡ false → ⊥
-  no_leaf_here n t e parent = let is : is_a_leaf n ≡ true = ap is_a_leaf e ∙ ap leaf_in (outs-Leaf t) in let two = leaf_is n in cc
+  pub given_below : (p : ParentNode T E) → given accepts selects (Parent p) ≢ [] → given accepts selects (Parent p) ≡ all_given accepts selects (children_of p)
+  given_below p some =
+      let opened = true_from_ne_false (accepts p.envelope) (λ shut. some (rw (given-Parent accepts selects p, shut))) in rw (given-Parent accepts selects p, opened)
 
-  module _ (accepts : E → Bool) (selects : T → Bool) where
-    -- a leaf below which something is given is selected, and a parent is accepted
-    pub leaf_selected : (n : RTreeNode T E) (t : T) → n ≡ Leaf t → given accepts selects n ≢ [] → selects t ≡ true
-    leaf_selected n t leaf some = true_from_ne_false (selects t) (λ passed. some (rw (leaf, given-Leaf T E accepts selects t, passed)))
+  -- what is taken below a parent is the earliest of what is given at its place
+  pub taken_inside : {v : Boxes E} {o : Objects T E} {changed : Bool} (R : T → T → Ordering) (ns : List (RTreeNode T E)) (i : ℕ) (p q : ParentNode T E) (r : Option T) → IsGivenAt accepts selects ns i → Parent p ≡ get_or ns i (Parent p)
+      → TakesBelow v o accepts selects p [] None r q [] None changed → r ≡ earliest R (all_given accepts selects (children_of p))
+      → TakesInside v o accepts selects (Parent p) [] None r (Parent q) [] None × (is_some r ≡ true) × ((d : RTreeNode T E) → r ≡ earliest R (given accepts selects (get_or ns i d)))
+  taken_inside {v} {o} R ns i p q r at here below first =
+      let some = λ (none : given accepts selects (Parent p) ≡ []). at.some (Parent p) (ap (given accepts selects) (sym here) ∙ none) in
+      let is = first ∙ sym (ap (earliest R) (given_below p some)) in
+      (entered v o accepts selects p q [] [] None None r below.takes below.kept below.same, earliest-some R (given accepts selects (Parent p)) r is some, λ d. is ∙ ap (λ n. earliest R (given accepts selects n)) (get_or_read ns i (Parent p) at.within here d))
 
-    pub given_below : (p : ParentNode T E) → given accepts selects (Parent p) ≢ [] → given accepts selects (Parent p) ≡ all_given accepts selects (children_of p)
-    given_below p some =
-        let opened = true_from_ne_false (accepts p.envelope) (λ shut. some (rw (given-Parent accepts selects p, shut))) in rw (given-Parent accepts selects p, opened)
-
-    -- where nothing is given, nothing is taken
-    pub takes_nothing : {IsPoint : List ℤ → Type 0} {v : Boxes E} {o : Objects T E} (laws : EnvelopeLaws IsPoint v) (ok : ObjectLaws v o) (ns : List (RTreeNode T E))
-        → all_given accepts selects ns ≡ [] → Takes v o accepts selects ns [] None None ns [] None
-    takes_nothing {v} {o} laws ok ns nothing = finishes v o accepts selects ns [] None [] None (length ns) (nowhere v o accepts selects ns (length ns)) (omega arith) (length ns) refl
-        (λ lawful w h k past.
-        let all_behind : length ns - length ns ≡ 0 = omega arith in rw all_behind (filter_none selects (all_elements ns)
-        (sym (all-each laws ok accepts selects lawful h (all-node laws ok accepts selects lawful h) ns (whole_of_kept laws ok w h ns k)) ∙ nothing)))
+  -- where nothing is given, nothing is taken
+  pub takes_nothing : {IsPoint : List ℤ → Type 0} {v : Boxes E} {o : Objects T E} (laws : EnvelopeLaws IsPoint v) (ok : ObjectLaws v o) (ns : List (RTreeNode T E))
+      → all_given accepts selects ns ≡ [] → Takes v o accepts selects ns [] None None ns [] None
+  takes_nothing {v} {o} laws ok ns nothing = finishes v o accepts selects ns [] None [] None (length ns) (nowhere v o accepts selects ns (length ns)) (omega arith) (length ns) refl
+      (λ lawful w h k past.
+      let all_behind : length ns - length ns ≡ 0 = omega arith in rw all_behind (filter_none selects (all_elements ns)
+      (sym (all-each laws ok accepts selects lawful h (all-node laws ok accepts selects lawful h) ns (whole_of_kept laws ok w h ns k)) ∙ nothing)))

@@ -1,6 +1,7 @@
 -- One pass that moves selected elements out of a tree.
 use Rattle.std.proofs.Common.{◌≡◌, ◌≢◌, ℕ, ℤ, suc, ◌+◌, ◌-◌, ◌<◌, ◌≤◌, inl, inr, Bool, true, false, List, [], ◌∷◌, ◌++◌, refl, sym, ◌∙◌, ap, subst, arith, length, get_or, set, append_assoc, append-nil, length-append, length-set, get_or-set_same, get_or-set_other, IsPermutation, if◌then◌else◌, ◌==◌, vec_len}
 use Rattle.std.specs.List.{remove, swap_remove}
+use Rattle.std.proofs.Math.Dec.{eqb-suc-zero}
 use Rattle.std.proofs.lemmas.List.{nil_from_length, set-get_or}
 use Rattle.std.proofs.lemmas.List.Elements.{recursion_from_All}
 use Rattle.std.proofs.lemmas.List.Sorted.{IsPermutation-refl, IsPermutation-sym, IsPermutation-trans, IsPermutation-append_left, IsPermutation-append_right, IsPermutation-remove, IsPermutation-swap_remove, length_permutation}
@@ -18,14 +19,14 @@ use Rattle.rstar.specs.Nodes.{children_of, elements, all_elements}
 use Rattle.rstar.specs.inside.ParentBounds.{IsKept, AreKept}
 use Rattle.rstar.specs.Lists.{NoneSelected}
 use Rattle.rstar.specs.Trees.{root_of, IsWholeTree}
-use Rattle.rstar.specs.inside.Taking.{is_selected_leaf, is_childless}
-use Rattle.rstar.specs.inside.Gathering.{Gathers, GathersAmong, GathersInside, IsSwappedOut}
+use Rattle.rstar.specs.inside.Taking.{is_childless, is_nil}
+use Rattle.rstar.specs.inside.Gathering.{Gathers, GathersAmong, IsSwappedOut}
 use Rattle.rstar.proofs.inserting.Insertion.{whole_of_kept}
 use Rattle.rstar.proofs.removing.Parts.{remove_set, same_read}
 use Rattle.rstar.proofs.lists.Items.{all_set, all_get}
 use Rattle.rstar.proofs.removing.Removed.{kept_of, whole_still}
 use Rattle.rstar.proofs.trees.ByChildren.{elements-Leaf, elements-Parent}
-use Rattle.rstar.proofs.removing.Scans.{IsKeptNode, node_none, no_elements, children_leaf, below_then, whole_again, refused, kept_still}
+use Rattle.rstar.proofs.removing.Scans.{IsKeptNode, no_elements, childless_parent, below_then, whole_again, refused, kept_still}
 use Rattle.rstar.proofs.trees.Trees.{all_sound, values-of, merged_is_hull}
 
 -- ---- lists of elements
@@ -114,6 +115,10 @@ module _ {T E : Type 0} where
   elements_swapped : (ns : List (RTreeNode T E)) (i : ℕ) (n : RTreeNode T E) (ns' : List (RTreeNode T E)) → IsSwappedOut ns i ns' → n ≡ get_or ns i n → IsPermutation (all_elements ns) (elements n ++ all_elements ns')
   elements_swapped ns i n ns' out here = IsPermutation-flat_map elements ns (n ∷ ns') (out.bag n here)
 
+  nil_length : (ns : List (RTreeNode T E)) → is_nil ns ≡ (length ns == 0)
+  nil_length [] = refl
+  nil_length (n ∷ ns) = sym (eqb-suc-zero (length ns))
+
   -- nothing is selected where nothing is in any node
   none_each : (selects : T → Bool) (ns : List (RTreeNode T E)) → ((k : ℕ) (d : RTreeNode T E) → k < length ns → NoneSelected selects (elements (get_or ns k d))) → NoneSelected selects (all_elements ns)
   none_each selects [] each = tt
@@ -178,6 +183,23 @@ module _ {T E : Type 0} (v : Boxes E) (o : Objects T E) (accepts : E → Bool) (
               passed = λ lawful less w h kept. each_left (λ x. NoneSelected selects (elements x)) (set cur i n') i cur' out i (omega (arith, within, long)) (others_passed lawful less w h kept);
             }
 
+        -- the node at i stays, or what is left of it
+        left_there : (n : RTreeNode T E) → n ≡ get_or cur i n → Gathers selects most (all_elements old) held (all_elements (set cur i n')) held'' → ((w h : ℕ) → IsKeptNode v o w h n → IsKeptNode v o w h n')
+            → (IsLawful v o accepts selects → length held'' < most → (w h : ℕ) → IsKeptNode v o w h n → NoneSelected selects (elements n')) → Gathering old held (set cur i n') held'' i
+        left_there n here moved kept none =
+            let long = length-set cur i n' in let short = s.shorter in let within = here_within in
+            record {
+              moved = moved;
+              shorter = omega arith;
+              within = omega arith;
+              first = λ k d lt. get_or-set_other cur i k n' d (λ e. omega (arith, e, lt)) ∙ s.first k d (omega (arith, lt, next));
+              kept = λ w h k. all_set (IsKeptNode v o w h) cur i n' (s.kept w h k) (kept w h (here_kept w h n here k));
+              passed = λ lawful less w h all k d on lt. elim (eqb_tells k i) as (λ _. NoneSelected selects (elements (get_or (set cur i n') k d))) [
+                | inl w' ↦ rw (w'.1, get_or-set_same cur i n' d within) (none lawful less w h (here_kept w h n here all))
+                | inr w' ↦ others_passed lawful less w h all k d on w'.1 lt
+              ];
+            }
+
       -- a selected leaf goes
       pub takes_leaf : (t : T) (cur' : List (RTreeNode T E)) → Leaf t ≡ get_or cur i (Leaf t) → selects t ≡ true → length held' < most → IsSwappedOut cur i cur'
           → Gathering old held cur' (held' ++ t ∷ []) i
@@ -185,62 +207,36 @@ module _ {T E : Type 0} (v : Boxes E) (o : Objects T E) (accepts : E → Bool) (
           let same : set cur i (Leaf t) ≡ cur = ap (set cur i) here ∙ set-get_or cur i (Leaf t) in
           goes (Leaf t) (held' ++ t ∷ []) (λ less. room) held' cur' (rw same s.moved) (rw (elements-Leaf T E t) (moved_leaf selects most t held' chosen room)) (rw same out)
 
-      module _ (n n' : RTreeNode T E) (held'' : List T) (here : n ≡ get_or cur i n) (ins : GathersInside v o accepts selects most n held' n' held'') (leaf : is_selected_leaf selects n ≡ false) where
-        moved_inside : Gathers selects most (all_elements old) held (all_elements (set cur i n')) held''
-        moved_inside = moved_on selects most (all_elements old) held (all_elements cur) held' (elements n) (elements n') (all_elements (remove cur i)) (all_elements (set cur i n')) held'' s.moved ins.moved
-            (elements_out cur i n here_within here) (elements_put cur i n' here_within)
+      -- nothing in it is selected
+      pub stays : (n : RTreeNode T E) → n ≡ get_or cur i n → (IsLawful v o accepts selects → (w h : ℕ) → IsKeptNode v o w h n → NoneSelected selects (elements n)) → Gathering old held (set cur i n) held' i
+      stays n here none = left_there n held' (λ less. less) n here (rw (ap (set cur i) here ∙ set-get_or cur i n) s.moved) (λ w h k. k) (λ lawful less. none lawful)
+
+      -- a parent that is opened
+      module _ (p q : ParentNode T E) (held'' : List T) (here : Parent p ≡ get_or cur i (Parent p)) (among : GathersAmong v o accepts selects most p.children.items held' q.children.items held'') where
+        moved_inside : Gathers selects most (all_elements old) held (all_elements (set cur i (Parent q))) held''
+        moved_inside = moved_on selects most (all_elements old) held (all_elements cur) held' (elements (Parent p)) (elements (Parent q)) (all_elements (remove cur i)) (all_elements (set cur i (Parent q))) held'' s.moved
+            (rw (elements-Parent p, elements-Parent q) among.moved) (elements_out cur i (Parent p) here_within here) (elements_put cur i (Parent q) here_within)
 
         room_before : length held'' < most → length held' < most
-        room_before less = let grown = held_longer selects most _ _ _ _ ins.moved in omega (arith, less, grown)
+        room_before less = let grown = held_longer selects most _ _ _ _ among.moved in omega (arith, less, grown)
+
+        childless : is_childless (Parent q) ≡ (vec_len q.children == 0)
+        childless = childless_parent q ∙ nil_length q.children.items ∙ ap (λ n. n == 0) (sym q.children.ok.0)
 
         -- it stays, without what went
-        pub goes_inside : is_childless n' ≡ false → Gathering old held (set cur i n') held'' i
-        goes_inside has =
-            let long = length-set cur i n' in let short = s.shorter in let within = here_within in
-            record {
-              moved = moved_inside;
-              shorter = omega arith;
-              within = omega arith;
-              first = λ k d lt. get_or-set_other cur i k n' d (λ e. omega (arith, e, lt)) ∙ s.first k d (omega (arith, lt, next));
-              kept = λ w h k. all_set (IsKeptNode v o w h) cur i n' (s.kept w h k) (ins.kept w h (here_kept w h n here k) has);
-              passed = λ lawful less w h kept k d on lt. elim (eqb_tells k i) as (λ _. NoneSelected selects (elements (get_or (set cur i n') k d))) [
-                | inl w' ↦ rw (w'.1, get_or-set_same cur i n' d within) (ins.ended lawful leaf less w h (here_kept w h n here kept))
-                | inr w' ↦ others_passed n' held'' room_before lawful less w h kept k d on w'.1 lt
-              ];
-            }
+        pub goes_inside : ((w h : ℕ) → IsKept v o w p → AreKept v o w h p.children.items → IsKept v o w q) → (vec_len q.children == 0) ≡ false → Gathering old held (set cur i (Parent q)) held'' i
+        goes_inside kept has = left_there (Parent q) held'' room_before (Parent p) here moved_inside (λ w h k. whole_again v o w h p q (λ h' a b. (kept w h' a b, among.kept w h' b)) k (childless ∙ has))
+            (λ lawful less w h k. rw (elements-Parent q) (below_then v o w (NoneSelected selects (all_elements q.children.items)) h p k (λ h' a b. among.ended lawful less w h' b)))
 
         -- it lost its last child, and goes too
-        pub drops_childless : is_childless n' ≡ true → (cur' : List (RTreeNode T E)) → IsSwappedOut (set cur i n') i cur' → Gathering old held cur' held'' i
-        drops_childless empty cur' = goes n' held'' room_before held'' cur' moved_inside (rw (no_elements n' empty) (moved_none selects most [] held'' [] (IsPermutation-refl [])))
-
-  -- ---- below one node
-
-  pub leaf_stays : (n : RTreeNode T E) (t : T) (held : List T) → n ≡ Leaf t → GathersInside v o accepts selects most n held n held
-  leaf_stays n t held is = record {
-    moved = moved_none selects most (elements n) held (elements n) (IsPermutation-refl _);
-    kept = λ w h k has. k;
-    ended = λ lawful leaf less w h k. node_none selects n leaf (subst (λ (ns : List (RTreeNode T E)). NoneSelected selects (all_elements ns)) (sym (children_leaf n t is)) tt);
-  }
-
-  -- a parent that is opened
-  pub opened : (p q : ParentNode T E) (held held' : List T) → GathersAmong v o accepts selects most p.children.items held q.children.items held'
-      → ((w h : ℕ) → IsKept v o w p → AreKept v o w h p.children.items → IsKept v o w q) → GathersInside v o accepts selects most (Parent p) held (Parent q) held'
-  opened p q held held' among kept = record {
-    moved = rw (elements-Parent p, elements-Parent q) among.moved;
-    kept = λ w h k has. whole_again v o w h p q (λ h' a b. (kept w h' a b, among.kept w h' b)) k has;
-    ended = λ lawful leaf less w h k. rw (elements-Parent q)
-        (below_then v o w (NoneSelected selects (all_elements q.children.items)) h p k (λ h' a b. among.ended lawful less w h' b));
-  }
+        pub drops_childless : (vec_len q.children == 0) ≡ true → (cur' : List (RTreeNode T E)) → IsSwappedOut (set cur i (Parent q)) i cur' → Gathering old held cur' held'' i
+        drops_childless empty cur' = goes (Parent q) held'' room_before held'' cur' moved_inside (rw (no_elements (Parent q) (childless ∙ empty)) (moved_none selects most [] held'' [] (IsPermutation-refl [])))
 
   -- a parent that is not opened
-  pub not_opened : {IsPoint : List ℤ → Type 0} (laws : EnvelopeLaws IsPoint v) (ok : ObjectLaws v o) (p : ParentNode T E) (held : List T) → accepts p.envelope ≡ false
-      → GathersInside v o accepts selects most (Parent p) held (Parent p) held
-  not_opened laws ok p held no_entry = record {
-    moved = moved_none selects most _ held _ (IsPermutation-refl _);
-    kept = λ w h k has. k;
-    ended = λ lawful leaf less w h k. rw (elements-Parent p)
-        (below_then v o w (NoneSelected selects (all_elements p.children.items)) h p k (λ h' a b. refused laws ok accepts selects lawful h' p a.tight (whole_of_kept laws ok w h' p.children.items b) no_entry));
-  }
+  pub not_opened : {IsPoint : List ℤ → Type 0} (laws : EnvelopeLaws IsPoint v) (ok : ObjectLaws v o) (p : ParentNode T E) → accepts p.envelope ≡ false
+      → IsLawful v o accepts selects → (w h : ℕ) → IsKeptNode v o w h (Parent p) → NoneSelected selects (elements (Parent p))
+  not_opened laws ok p no_entry lawful w h k = rw (elements-Parent p)
+      (below_then v o w (NoneSelected selects (all_elements p.children.items)) h p k (λ h' a b. refused laws ok accepts selects lawful h' p a.tight (whole_of_kept laws ok w h' p.children.items b) no_entry))
 
 -- a parent below which nothing went is kept
 module _ {T E : Type 0} {IsPoint : List ℤ → Type 0} {v : Boxes E} {o : Objects T E} (laws : EnvelopeLaws IsPoint v) (ok : ObjectLaws v o) (w : ℕ) where

@@ -66,11 +66,11 @@ module _ {T E : Type 0} where
   children_parent : (p : ParentNode T E) → node_children (Parent p) ≡ p.children.items
   children_parent p = ap children_in (outs-Parent p)
 
-  childless_parent : (p : ParentNode T E) → is_childless (Parent p) ≡ is_nil p.children.items
+  pub childless_parent : (p : ParentNode T E) → is_childless (Parent p) ≡ is_nil p.children.items
   childless_parent p = ap childless_in (outs-Parent p)
 
   -- nothing in a node is selected, where it is no selected leaf and nothing below it is selected
-  pub node_none : (selects : T → Bool) (n : RTreeNode T E) → is_selected_leaf selects n ≡ false → NoneSelected selects (all_elements (node_children n)) → NoneSelected selects (elements n)
+  node_none : (selects : T → Bool) (n : RTreeNode T E) → is_selected_leaf selects n ≡ false → NoneSelected selects (all_elements (node_children n)) → NoneSelected selects (elements n)
   node_none selects = by_node (λ (n : RTreeNode T E). is_selected_leaf selects n ≡ false → NoneSelected selects (all_elements (node_children n)) → NoneSelected selects (elements n))
       (λ t chosen below. rw (elements-Leaf T E t) (sym (ap (selects_in selects) (outs-Leaf t)) ∙ chosen, tt))
       (λ p chosen below. rw (elements-Parent p) (subst (λ ns. NoneSelected selects (all_elements ns)) (children_parent p) below))
@@ -88,7 +88,7 @@ module _ {T E : Type 0} where
   nil_some [] e = cc
   nil_some (n ∷ ns) e = omega arith
 
-  pub children_leaf : (n : RTreeNode T E) (t : T) → n ≡ Leaf t → node_children n ≡ []
+  children_leaf : (n : RTreeNode T E) (t : T) → n ≡ Leaf t → node_children n ≡ []
   children_leaf n t e = ap node_children e ∙ ap children_in (outs-Leaf t)
 
   module _ (v : Boxes E) (o : Objects T E) (w : ℕ) where

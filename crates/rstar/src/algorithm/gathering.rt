@@ -1,13 +1,11 @@
 //! Removal of many elements in one pass, into a list with room. Nothing here takes memory.
 
-ghost use Rattle.std.specs.Prelude.{◌≡◌, ℕ, ◌<◌, ◌≤◌, true, slice_index_or, vec_len, vec_capacity};
-ghost use Rattle.rstar.specs.declared.node.RTreeNode.{Leaf};
-ghost use Rattle.rstar.specs.inside.Gathering.{GathersAmong, GathersInside, IsSwappedOut};
+ghost use Rattle.std.specs.Prelude.{◌≡◌, ℕ, ◌<◌, ◌≤◌, vec_len, vec_capacity};
+ghost use Rattle.rstar.specs.inside.Gathering.{GathersAmong, IsSwappedOut};
 ghost use Rattle.rstar.specs.inside.ParentBounds.{IsKept, AreKept};
 ghost use Rattle.rstar.specs.Nodes.{children_of};
-ghost use Rattle.rstar.specs.inside.Taking.{is_a_leaf};
 
-use crate::algorithm::removal::{element_of, is_childless, is_selected_leaf};
+use crate::algorithm::removal::element_of;
 use crate::bounds::{Covered, Question};
 use crate::node::{ParentNode, RTreeNode, envelope_for_children};
 
@@ -55,48 +53,20 @@ fn gather_among<T: Covered, R: Question<T>>(
         if taken.len() >= most {
             return;
         }
-        if is_selected_leaf(&children[i], func) {
-            taken.push_reserved(swap_leaf_out(children, i));
-        } else {
-            gather_inside(&mut children[i], func, most, taken);
-            if is_childless(&children[i]) {
-                swap_out(children, i);
+        match &mut children[i] {
+            RTreeNode::Leaf(t) if func.should_unpack_leaf(t) => {
+                taken.push_reserved(element_of(children.swap_remove(i)));
             }
-        }
-    }
-}
-
-/// The same below one node, unless it is a leaf or is not accepted.
-#[cycle(gather)]
-fn gather_inside<T: Covered, R: Question<T>>(
-    child: &mut RTreeNode<T>,
-    func: &R,
-    most: usize,
-    taken: &mut Vec<T>,
-)
-    requires room { most ≤ vec_capacity taken.old }
-    ensures gathers { GathersInside T.Cover.boxes T.object (R.accepts func.now) (R.selects func.now) most
-        child.old taken.old.items child.new taken.new.items }
-    ensures capacity { vec_capacity taken.new ≡ vec_capacity taken.old }
-{
-    match child {
-        RTreeNode::Leaf(_) => {}
-        RTreeNode::Parent(parent) => {
-            if func.should_unpack_parent(&parent.envelope) {
+            RTreeNode::Parent(parent) if func.should_unpack_parent(&parent.envelope) => {
                 gather_below(parent, func, most, taken);
+                if parent.children.is_empty() {
+                    swap_out(children, i);
+                }
             }
+            RTreeNode::Leaf(_) => {}
+            RTreeNode::Parent(_) => {}
         }
     }
-}
-
-/// Removes the leaf at a place. The last node takes its place.
-fn swap_leaf_out<T: Covered>(children: &mut Vec<RTreeNode<T>>, index: usize) -> T
-    requires within { index < vec_len children.old }
-    requires leaf { (n : _) → is_a_leaf (slice_index_or children.old.items index n) ≡ true }
-    ensures node { Leaf result ≡ slice_index_or children.old.items index (Leaf result) }
-    ensures out { IsSwappedOut children.old.items index children.new.items }
-{
-    element_of(children.swap_remove(index))
 }
 
 /// Drops the node at a place. The last node takes its place.

@@ -2,16 +2,13 @@
 //!
 //! Steps that not every call needs stay out of line (`#[inline(never)]`), so that the path down is short.
 
-ghost use Rattle.std.specs.Prelude.{◌≡◌, ◌⊎◌, ℕ, ◌-◌, ◌<◌, ◌≤◌, true, false, IfNone, length, replicate};
-ghost use Rattle.std.specs.Prelude.{vec_len, slice_index_or};
+ghost use Rattle.std.specs.Prelude.{◌≡◌, ◌⊎◌, ℕ, ◌-◌, ◌<◌, ◌≤◌, true, false, IfNone, length, replicate, vec_len};
 ghost use Rattle.std.specs.List.{remove};
 ghost use Rattle.rstar_base.specs.Hulls.{hull};
 ghost use Rattle.rstar.specs.declared.node.RTreeNode.{Leaf};
 ghost use Rattle.rstar.specs.Lists.{NoneSelected};
 ghost use Rattle.rstar.specs.Nodes.{node_box, all_elements};
-ghost use Rattle.rstar.specs.inside.Taking.{IsCleared, IsMerged, IsRest, IsRestAt, Takes, TakesBelow, TakesInside};
-ghost use Rattle.rstar.specs.inside.Taking.{with_first, first_number, lower_numbers};
-ghost use Rattle.rstar.specs.inside.Taking.{is_selected_leaf, is_a_leaf, is_childless};
+ghost use Rattle.rstar.specs.inside.Taking.{IsCleared, IsMerged, IsRest, IsRestAt, Takes, TakesBelow, TakesInside, with_first, first_number, lower_numbers, is_selected_leaf, is_a_leaf, is_childless};
 
 pub(crate) mod earliest;
 
@@ -69,11 +66,8 @@ fn merge_along<T: Covered>(
         → IsRestAt T.Cover.boxes T.object rest.new path.now children.now }
     ensures still { length path.now ≡ 0 → rest.new ≡ rest.old }
 {
-    if path.len() != 1 {
-        return envelope_for_children(children);
-    }
     let left = children.len().saturating_sub(first_number(path));
-    if left < 32 {
+    if path.len() != 1 || left < 32 {
         return envelope_for_children(children);
     }
     let front = front_of(children, left, rest);
@@ -128,10 +122,9 @@ fn take_among<T: Covered, R: Question<T>>(
     for passed in first_number(path)..children.len() {
         let i = children.len() - 1 - passed;
         if is_selected_leaf(&children[i], func) {
-            let taken = take_leaf(children, i);
             set_first(path, passed);
             *changed = true;
-            return Some(taken);
+            return Some(element_of(children.remove(i)));
         }
         let taken = take_inside(&mut children[i], path, rest, changed, func);
         if taken.is_some() {
@@ -162,17 +155,14 @@ fn take_inside<T: Covered, R: Question<T>>(
         child.old (lower_numbers path.old) rest.old result child.new (lower_numbers path.new) rest.new }
     ensures unchanged { changed.new ≡ false → node_box T.object.box_of child.new ≡ node_box T.object.box_of child.old }
 {
-    match child {
-        RTreeNode::Leaf(_) => None,
-        RTreeNode::Parent(parent) => {
-            if may_hold(parent, path, func) {
-                let lower = path.len().min(1);
-                take_below(parent, &mut path[lower..], rest, changed, func)
-            } else {
-                None
-            }
-        }
+    let RTreeNode::Parent(parent) = child else {
+        return None;
+    };
+    if !may_hold(parent, path, func) {
+        return None;
     }
+    let lower = path.len().min(1);
+    take_below(parent, &mut path[lower..], rest, changed, func)
 }
 
 /// Whether a removal goes below a parent: it is accepted, and its children are no leaves that all are passed.
@@ -207,33 +197,17 @@ fn are_passed<T: Covered, R: Question<T>>(nodes: &[RTreeNode<T>], func: &R) -> b
 }
 
 /// Whether a node is a selected leaf.
-pub(super) fn is_selected_leaf<T: Covered, R: Question<T>>(node: &RTreeNode<T>, func: &R) -> bool
+fn is_selected_leaf<T: Covered, R: Question<T>>(node: &RTreeNode<T>, func: &R) -> bool
     ensures { result ≡ is_selected_leaf (R.selects func.now) node.now }
 {
-    match node {
-        RTreeNode::Leaf(t) => func.should_unpack_leaf(t),
-        RTreeNode::Parent(_) => false,
-    }
+    matches!(node, RTreeNode::Leaf(t) if func.should_unpack_leaf(t))
 }
 
 /// Whether a node is a parent without children.
-pub(super) fn is_childless<T: Covered>(node: &RTreeNode<T>) -> bool
+fn is_childless<T: Covered>(node: &RTreeNode<T>) -> bool
     ensures { result ≡ is_childless node.now }
 {
-    match node {
-        RTreeNode::Leaf(_) => false,
-        RTreeNode::Parent(parent) => parent.children.is_empty(),
-    }
-}
-
-/// Removes the leaf at a place.
-fn take_leaf<T: Covered>(children: &mut Vec<RTreeNode<T>>, index: usize) -> T
-    requires within { index < vec_len children.old }
-    requires leaf { (n : _) → is_a_leaf (slice_index_or children.old.items index n) ≡ true }
-    ensures node { Leaf result ≡ slice_index_or children.old.items index (Leaf result) }
-    ensures items { children.new.items ≡ remove children.old.items index }
-{
-    element_of(children.remove(index))
+    matches!(node, RTreeNode::Parent(parent) if parent.children.is_empty())
 }
 
 /// The element of a leaf.

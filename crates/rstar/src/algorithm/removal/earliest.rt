@@ -3,13 +3,13 @@
 //! A read-only recursion finds the child below which it lies; then it is removed below that child in the
 //! same way. So one path changes, and each level of it is read once.
 
-ghost use Rattle.std.specs.Prelude.{◌≡◌, ◌≢◌, [], false, None, slice_index_or};
+ghost use Rattle.std.specs.Prelude.{◌≡◌, [], false, None, slice_index_or};
 ghost use Rattle.rstar_base.specs.Hulls.{hull};
 ghost use Rattle.rstar.specs.inside.Earliest.{earliest, lent, earlier_at, IsGivenAt, IsEarliestOf};
-ghost use Rattle.rstar.specs.Nodes.{node_box, given, all_given, is_leaf_node};
-ghost use Rattle.rstar.specs.inside.Taking.{Takes, TakesBelow, TakesInside};
+ghost use Rattle.rstar.specs.Nodes.{node_box, given, all_given};
+ghost use Rattle.rstar.specs.inside.Taking.{Takes, TakesBelow};
 
-use crate::algorithm::removal::{drop_child, is_childless, take_leaf};
+use crate::algorithm::removal::{drop_child, element_of, is_childless};
 use crate::bounds::{Covered, Merges, Question};
 use crate::node::{ParentNode, RTreeNode, envelope_for_children};
 
@@ -22,23 +22,11 @@ fn earliest_in<'a, T: Covered + Ord, R: Question<T>>(
     ensures { lent result ≡ earliest T.cmp (given (R.accepts func.now) (R.selects func.now) node.now) }
 {
     match node {
-        RTreeNode::Leaf(t) => {
-            if func.should_unpack_leaf(t) {
-                Some(t)
-            } else {
-                None
-            }
+        RTreeNode::Leaf(t) => func.should_unpack_leaf(t).then_some(t),
+        RTreeNode::Parent(parent) if func.should_unpack_parent(&parent.envelope) => {
+            Some(earliest_below(parent.children.as_slice(), func)?.1)
         }
-        RTreeNode::Parent(parent) => {
-            if func.should_unpack_parent(&parent.envelope) {
-                match earliest_below(parent.children.as_slice(), func) {
-                    Some((_place, t)) => Some(t),
-                    None => None,
-                }
-            } else {
-                None
-            }
-        }
+        RTreeNode::Parent(_) => None,
     }
 }
 
@@ -69,14 +57,8 @@ fn earlier<'a, T: Ord>(
         return found;
     };
     match found {
-        Some(first) => {
-            if t.cmp(first.1).is_lt() {
-                Some((place, t))
-            } else {
-                Some(first)
-            }
-        }
-        None => Some((place, t)),
+        Some(first) if !t.cmp(first.1).is_lt() => found,
+        _ => Some((place, t)),
     }
 }
 
@@ -93,10 +75,7 @@ pub(crate) fn take_earliest<T: Covered + Ord, R: Question<T>>(
     ensures first { result ≡ earliest T.cmp
         (all_given (R.accepts func.now) (R.selects func.now) node.old.children.items) }
 {
-    let place = match earliest_below(node.children.as_slice(), func) {
-        Some(found) => found.0,
-        None => return None,
-    };
+    let place = earliest_below(node.children.as_slice(), func)?.0;
     let taken = take_at(&mut node.children, place, changed, func);
     if *changed {
         let merged = envelope_for_children(&node.children);
@@ -123,34 +102,14 @@ fn take_at<T: Covered + Ord, R: Question<T>>(
     ensures unchanged { changed.new ≡ false → hull T.Cover.boxes (node_box T.object.box_of) children.new.items
         ≡ hull T.Cover.boxes (node_box T.object.box_of) children.old.items }
 {
-    if children[place].is_leaf() {
+    let RTreeNode::Parent(parent) = &mut children[place] else {
         *changed = true;
-        return Some(take_leaf(children, place));
-    }
-    let taken = take_inside(&mut children[place], changed, func);
+        return Some(element_of(children.remove(place)));
+    };
+    let taken = take_earliest(parent, changed, func);
     if is_childless(&children[place]) {
         drop_child(children, place);
         *changed = true;
     }
     taken
-}
-
-/// Removes the earliest selected element below a parent, which may be left without children.
-#[cycle(take_earliest)]
-fn take_inside<T: Covered + Ord, R: Question<T>>(
-    child: &mut RTreeNode<T>,
-    changed: &mut bool,
-    func: &R,
-) -> Option<T>
-    requires parent { is_leaf_node child.old ≡ false }
-    requires some { given (R.accepts func.now) (R.selects func.now) child.old ≢ [] }
-    ensures takes { TakesInside T.Cover.boxes T.object (R.accepts func.now) (R.selects func.now)
-        child.old [] None result child.new [] None }
-    ensures first { result ≡ earliest T.cmp (given (R.accepts func.now) (R.selects func.now) child.old) }
-    ensures unchanged { changed.new ≡ false → node_box T.object.box_of child.new ≡ node_box T.object.box_of child.old }
-{
-    match child {
-        RTreeNode::Leaf(_) => unreachable!(),
-        RTreeNode::Parent(parent) => take_earliest(parent, changed, func),
-    }
 }

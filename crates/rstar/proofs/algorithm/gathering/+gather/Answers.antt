@@ -1,10 +1,12 @@
-use Rattle.std.proofs.Common.{◌≡◌, ◌∙◌, ◌<◌, ◌≤◌, ◌-◌, ℕ, sym, refl, arith, ap, suc, get_or-set_same}
-use Rattle.rstar.specs.declared.node.RTreeNode.{Leaf}
+use Rattle.std.proofs.Common.{◌≡◌, ◌∙◌, ◌<◌, ◌≤◌, ◌-◌, ℕ, sym, refl, arith, ap, suc, set}
+use Rattle.std.proofs.lemmas.List.{set-get_or}
+use Rattle.rstar.specs.declared.node.RTreeNode.{Leaf, Parent}
 use Rattle.rstar.specs.declared.node.RTreeNode.TheVariants.{outs-Leaf, outs-Parent}
-use Rattle.rstar.specs.inside.Taking.{selects_in, is_selected_leaf, is_childless}
-use Rattle.rstar.proofs.removing.Gathered.{gathering_begins, gathering_ends, takes_leaf, goes_inside, drops_childless, leaf_stays, opened, not_opened, same_elements, kept_alike}
+use Rattle.rstar.specs.inside.Taking.{selects_in, is_selected_leaf}
+use Rattle.rstar.proofs.removing.Gathered.{gathering_begins, gathering_ends, takes_leaf, stays, goes_inside, drops_childless, not_opened, same_elements, kept_alike, swapped_out}
 use Rattle.rstar.proofs.removing.Parts.{same_read}
 use Rattle.rstar.proofs.removing.Scans.{kept_anew}
+use Rattle.rstar.proofs.trees.ByChildren.{elements-Leaf}
 use Rattle.rstar.proofs.algorithm.gathering.+gather.Goals as goal
 
 -- ---- the place of a child, and room, by lemmas that read no more than they need
@@ -32,41 +34,61 @@ gather_among-returns-clause-gathers g t c =
     let ended = c.loop-i-test.false in
     gathering_ends g.T.Cover.Merges.boxes g.T.Covered.object (g.R.Question.accepts c.args.func.now) (g.R.Question.selects c.args.func.now) c.args.most c.args.children.now.items c.args.taken.now.items c.loop-i.children.items c.loop-i.taken.items c.loop-i.i c.loop-i.invariant.gathering (λ less. omega (arith, ended))
 
-pub gather_among-loop-i-preserved-then-is_selected_leaf :
-    goal.gather_among-loop-i-preserved-then-is_selected_leaf
-gather_among-loop-i-preserved-then-is_selected_leaf g t c =
-    let selects = g.R.Question.selects c.args.func.now in
+pub gather_among-loop-i-preserved-then-should_unpack_leaf :
+    goal.gather_among-loop-i-preserved-then-should_unpack_leaf
+gather_among-loop-i-preserved-then-should_unpack_leaf g t c =
+    let selects = g.R.Question.selects c.args.func.now in let ns = c.loop-i.children.items in let i = c.loop-i.i - 1 in
     let at_i = place c.loop-i-test.true c.loop-i.invariant.gathering.within in
-    let here = same_read c.loop-i.children.items (c.loop-i.i - 1) c.index.result.now (Leaf c.swap_leaf_out.result) at_i.1 c.index.ensures c.swap_leaf_out.ensures.node in
-    let chosen = sym (ap (selects_in selects) (outs-Leaf _)) ∙ ap (is_selected_leaf selects) (sym here) ∙ sym c.is_selected_leaf.ensures ∙ c.if-is_selected_leaf.true in
+    let here = rw c.in-Leaf.is at c.index_mut.ensures.value in
+    let still = ap (set ns i) here ∙ set-get_or ns i (Leaf c.in-Leaf.t) in
+    let removed = rw still at (rw (c.in-Leaf.is, outs-Leaf c.in-Leaf.t) at c.swap_remove.ensures) in let leaf = rw (sym c.element_of.ensures) at removed.value in
+    let same = same_read ns i (Leaf c.in-Leaf.t) (Leaf c.element_of.result) at_i.1 here leaf in
+    let chosen = sym (ap (selects_in selects) (outs-Leaf _)) ∙ ap (is_selected_leaf selects) (sym same) ∙ ap (selects_in selects) (outs-Leaf _) ∙ sym (rw c.in-Leaf.t-is at c.should_unpack_leaf.ensures) ∙ c.if-should_unpack_leaf.true in
     record {
-      gathering = rw c.push_reserved.ensures.items (takes_leaf g.T.Cover.Merges.boxes g.T.Covered.object (g.R.Question.accepts c.args.func.now) (g.R.Question.selects c.args.func.now) c.args.most c.args.children.now.items c.args.taken.now.items c.loop-i.children.items c.loop-i.taken.items c.loop-i.i (c.loop-i.i - 1) c.loop-i.invariant.gathering at_i.0 c.swap_leaf_out.result c.swap_leaf_out.new.children.items c.swap_leaf_out.ensures.node chosen
-          (rw (c.len.ensures ∙ c.loop-i.taken.ok.0) at c.if-len-most.false) c.swap_leaf_out.ensures.out);
+      gathering = rw c.push_reserved.ensures.items (takes_leaf g.T.Cover.Merges.boxes g.T.Covered.object (g.R.Question.accepts c.args.func.now) (g.R.Question.selects c.args.func.now) c.args.most c.args.children.now.items c.args.taken.now.items c.loop-i.children.items c.loop-i.taken.items c.loop-i.i (c.loop-i.i - 1) c.loop-i.invariant.gathering at_i.0 c.element_of.result c.swap_remove.new.self.items leaf chosen
+          (rw (c.len.ensures ∙ c.loop-i.taken.ok.0) at c.if-len-most.false)
+          (swapped_out ns c.swap_remove.new.self.items i _ _ c.swap_remove.result c.loop-i.children.ok.0 c.swap_remove.new.self.ok.0 (rw (sym c.loop-i.children.ok.0) at at_i.1) removed.value removed.items removed.len removed.by_index));
       capacity = c.push_reserved.ensures.capacity ∙ c.loop-i.invariant.capacity;
+    }
+
+pub gather_among-loop-i-preserved-else-should_unpack_leaf : goal.gather_among-loop-i-preserved-else-should_unpack_leaf
+gather_among-loop-i-preserved-else-should_unpack_leaf g t c =
+    let chosen = rw c.in-Leaf.t-is at c.should_unpack_leaf.ensures in
+    let at_i = place c.loop-i-test.true c.loop-i.invariant.gathering.within in
+    record {
+      gathering = rw (c.in-Leaf.is, outs-Leaf c.in-Leaf.t) (stays g.T.Cover.Merges.boxes g.T.Covered.object (g.R.Question.accepts c.args.func.now) (g.R.Question.selects c.args.func.now) c.args.most c.args.children.now.items c.args.taken.now.items c.loop-i.children.items c.loop-i.taken.items c.loop-i.i (c.loop-i.i - 1) c.loop-i.invariant.gathering at_i.0 (Leaf c.in-Leaf.t) (rw c.in-Leaf.is at c.index_mut.ensures.value)
+          (λ lawful w h k. rw (elements-Leaf _ _ c.in-Leaf.t) (sym chosen ∙ c.if-should_unpack_leaf.false, tt)));
+      capacity = c.loop-i.invariant.capacity;
+    }
+
+pub gather_among-loop-i-preserved-then-is_empty : goal.gather_among-loop-i-preserved-then-is_empty
+gather_among-loop-i-preserved-then-is_empty g t c =
+    let at_i = place c.loop-i-test.true c.loop-i.invariant.gathering.within in
+    let p = c.in-Parent.parent in let q = c.gather_below.new.node in let below = rw c.in-Parent.parent-is at c.gather_below.ensures in
+    record {
+      gathering = drops_childless g.T.Cover.Merges.boxes g.T.Covered.object (g.R.Question.accepts c.args.func.now) (g.R.Question.selects c.args.func.now) c.args.most c.args.children.now.items c.args.taken.now.items c.loop-i.children.items c.loop-i.taken.items c.loop-i.i (c.loop-i.i - 1) c.loop-i.invariant.gathering at_i.0 p q c.gather_below.new.taken.items (rw c.in-Parent.is at c.index_mut.ensures.value) below.gathers
+          (sym c.is_empty.ensures ∙ c.if-is_empty.true) c.swap_out.new.children.items (rw (c.in-Parent.is, outs-Parent p) at c.swap_out.ensures.out);
+      capacity = below.capacity ∙ c.loop-i.invariant.capacity;
+    }
+
+pub gather_among-loop-i-preserved-else-is_empty : goal.gather_among-loop-i-preserved-else-is_empty
+gather_among-loop-i-preserved-else-is_empty g t c =
+    let at_i = place c.loop-i-test.true c.loop-i.invariant.gathering.within in
+    let p = c.in-Parent.parent in let q = c.gather_below.new.node in let below = rw c.in-Parent.parent-is at c.gather_below.ensures in
+    record {
+      gathering = rw (c.in-Parent.is, outs-Parent p) (goes_inside g.T.Cover.Merges.boxes g.T.Covered.object (g.R.Question.accepts c.args.func.now) (g.R.Question.selects c.args.func.now) c.args.most c.args.children.now.items c.args.taken.now.items c.loop-i.children.items c.loop-i.taken.items c.loop-i.i (c.loop-i.i - 1) c.loop-i.invariant.gathering at_i.0 p q c.gather_below.new.taken.items (rw c.in-Parent.is at c.index_mut.ensures.value) below.gathers
+          below.kept (sym c.is_empty.ensures ∙ c.if-is_empty.false));
+      capacity = below.capacity ∙ c.loop-i.invariant.capacity;
     }
 
 pub gather_among-loop-i-preserved : goal.gather_among-loop-i-preserved
 gather_among-loop-i-preserved g t c =
-    let at_i = place c.loop-i-test.true c.loop-i.invariant.gathering.within in
-    let here = same_read c.loop-i.children.items (c.loop-i.i - 1) c.index.result.now c.index_mut.result.now at_i.1 c.index.ensures c.index_mut.ensures.value in
-    let leaf = sym (ap (is_selected_leaf (g.R.Question.selects c.args.func.now)) here) ∙ sym c.is_selected_leaf.ensures ∙ c.if-is_selected_leaf.false in
-    let written = c.index-else-is_selected_leaf.ensures ∙ get_or-set_same _ _ _ _ at_i.1 in
+    let at_i = place c.loop-i-test.true c.loop-i.invariant.gathering.within in let p = c.in-Parent.parent in
+    let refused = rw c.in-Parent.parent-is at c.should_unpack_parent.ensures in
     record {
-      gathering = goes_inside g.T.Cover.Merges.boxes g.T.Covered.object (g.R.Question.accepts c.args.func.now) (g.R.Question.selects c.args.func.now) c.args.most c.args.children.now.items c.args.taken.now.items c.loop-i.children.items c.loop-i.taken.items c.loop-i.i (c.loop-i.i - 1) c.loop-i.invariant.gathering at_i.0 c.index_mut.result.now c.gather_inside.new.child c.gather_inside.new.taken.items c.index_mut.ensures.value c.gather_inside.ensures.gathers leaf
-          (sym (ap is_childless written) ∙ sym c.is_childless.ensures ∙ c.if-is_childless.false);
-      capacity = c.gather_inside.ensures.capacity ∙ c.loop-i.invariant.capacity;
-    }
-
-pub gather_among-loop-i-preserved-then-is_childless : goal.gather_among-loop-i-preserved-then-is_childless
-gather_among-loop-i-preserved-then-is_childless g t c =
-    let at_i = place c.loop-i-test.true c.loop-i.invariant.gathering.within in
-    let here = same_read c.loop-i.children.items (c.loop-i.i - 1) c.index.result.now c.index_mut.result.now at_i.1 c.index.ensures c.index_mut.ensures.value in
-    let leaf = sym (ap (is_selected_leaf (g.R.Question.selects c.args.func.now)) here) ∙ sym c.is_selected_leaf.ensures ∙ c.if-is_selected_leaf.false in
-    let written = c.index-else-is_selected_leaf.ensures ∙ get_or-set_same _ _ _ _ at_i.1 in
-    record {
-      gathering = drops_childless g.T.Cover.Merges.boxes g.T.Covered.object (g.R.Question.accepts c.args.func.now) (g.R.Question.selects c.args.func.now) c.args.most c.args.children.now.items c.args.taken.now.items c.loop-i.children.items c.loop-i.taken.items c.loop-i.i (c.loop-i.i - 1) c.loop-i.invariant.gathering at_i.0 c.index_mut.result.now c.gather_inside.new.child c.gather_inside.new.taken.items c.index_mut.ensures.value c.gather_inside.ensures.gathers leaf
-          (sym (ap is_childless written) ∙ sym c.is_childless.ensures ∙ c.if-is_childless.true) c.swap_out.new.children.items c.swap_out.ensures.out;
-      capacity = c.gather_inside.ensures.capacity ∙ c.loop-i.invariant.capacity;
+      gathering = rw (c.in-Parent.is, outs-Parent p) (stays g.T.Cover.Merges.boxes g.T.Covered.object (g.R.Question.accepts c.args.func.now) (g.R.Question.selects c.args.func.now) c.args.most c.args.children.now.items c.args.taken.now.items c.loop-i.children.items c.loop-i.taken.items c.loop-i.i (c.loop-i.i - 1) c.loop-i.invariant.gathering at_i.0 (Parent p) (rw c.in-Parent.is at c.index_mut.ensures.value)
+          (not_opened g.T.Cover.Merges.boxes g.T.Covered.object (g.R.Question.accepts c.args.func.now) (g.R.Question.selects c.args.func.now) c.args.most g.met.T.Cover.Merges.merge_laws g.met.T.Covered.cover_law p (sym refused ∙ c.if-should_unpack_parent.false)));
+      capacity = c.loop-i.invariant.capacity;
     }
 
 pub gather_below-returns-then-len-before-clause-kept : goal.gather_below-returns-then-len-before-clause-kept
@@ -81,22 +103,3 @@ gather_below-returns-else-len-before-clause-kept g t c w h kept below =
     kept_alike g.met.T.Cover.Merges.merge_laws g.met.T.Covered.cover_law w h c.args.node.now _ kept below (gathers.kept w h below) gathers.shorter refl
     (same_elements (g.R.Question.selects c.args.func.now) c.args.most _ _ _ _ gathers.moved
     (rw (c.len.ensures ∙ c.gather_among.new.taken.ok.0, c.len-before.ensures ∙ c.args.taken.now.ok.0) at c.if-len-before.false))
-
-pub gather_inside-returns-in-Leaf-clause-gathers : goal.gather_inside-returns-in-Leaf-clause-gathers
-gather_inside-returns-in-Leaf-clause-gathers g t c =
-    leaf_stays g.T.Cover.Merges.boxes g.T.Covered.object (g.R.Question.accepts c.args.func.now) (g.R.Question.selects c.args.func.now) c.args.most c.args.child.now c.in-Leaf.field-0 c.args.taken.now.items c.in-Leaf.is
-
-pub gather_inside-returns-then-should_unpack_parent-clause-gathers :
-    goal.gather_inside-returns-then-should_unpack_parent-clause-gathers
-gather_inside-returns-then-should_unpack_parent-clause-gathers g t c =
-    let gathers = rw c.in-Parent.parent-is at c.gather_below.ensures.gathers in
-    let kept = rw c.in-Parent.parent-is at c.gather_below.ensures.kept in
-    rw (c.in-Parent.is, outs-Parent c.in-Parent.parent)
-    (opened g.T.Cover.Merges.boxes g.T.Covered.object (g.R.Question.accepts c.args.func.now) (g.R.Question.selects c.args.func.now) c.args.most c.in-Parent.parent c.gather_below.new.node c.args.taken.now.items c.gather_below.new.taken.items gathers kept)
-
-pub gather_inside-returns-else-should_unpack_parent-clause-gathers :
-    goal.gather_inside-returns-else-should_unpack_parent-clause-gathers
-gather_inside-returns-else-should_unpack_parent-clause-gathers g t c =
-    let refused = rw c.in-Parent.parent-is at c.should_unpack_parent.ensures in
-    rw (c.in-Parent.is, outs-Parent c.in-Parent.parent)
-    (not_opened g.T.Cover.Merges.boxes g.T.Covered.object (g.R.Question.accepts c.args.func.now) (g.R.Question.selects c.args.func.now) c.args.most g.met.T.Cover.Merges.merge_laws g.met.T.Covered.cover_law c.in-Parent.parent c.args.taken.now.items (sym refused ∙ c.if-should_unpack_parent.false))

@@ -61,8 +61,8 @@ take_among-loop-passed-preserved g t c =
     c.loop-passed.invariant.behind none (sym (ap (is_selected_leaf (g.R.Question.selects c.args.func.now)) here) ∙ sym c.is_selected_leaf.ensures ∙ c.if-is_selected_leaf.false) in
     record { scanned = passed.0; behind = passed.1; same = unchanged }
 
-pub take_inside-returns-then-may_hold : goal.take_inside-returns-then-may_hold
-take_inside-returns-then-may_hold g t c =
+pub take_inside-returns : goal.take_inside-returns
+take_inside-returns g t c =
     let below = rw (c.in-Parent.parent-is, lower_lent c.args.path.now c.min-lower.result c.min-lower.ensures) at c.take_below.ensures in
     let box = g.T.Covered.object.box_of in
     record {
@@ -70,23 +70,24 @@ take_inside-returns-then-may_hold g t c =
       unchanged = rw (c.in-Parent.is, outs-Parent c.in-Parent.parent) (λ told. node_box-Parent box c.take_below.new.node ∙ below.unchanged told ∙ sym (node_box-Parent box c.in-Parent.parent));
     }
 
-pub take_inside-returns-else-may_hold-clause-takes :
-    goal.take_inside-returns-else-may_hold-clause-takes
-take_inside-returns-else-may_hold-clause-takes g t c =
+pub take_inside-returns-then-not-may_hold-clause-takes :
+    goal.take_inside-returns-then-not-may_hold-clause-takes
+take_inside-returns-then-not-may_hold-clause-takes g t c =
     let passed = rw c.in-Parent.parent-is at c.may_hold.ensures in
     rw (c.in-Parent.is, outs-Parent c.in-Parent.parent)
-    (not_entered g.T.Cover.Merges.boxes g.T.Covered.object (g.R.Question.accepts c.args.func.now) (g.R.Question.selects c.args.func.now) g.met.T.Cover.Merges.merge_laws g.met.T.Covered.cover_law c.in-Parent.parent (lower_numbers c.args.path.now) c.args.rest.now (passed c.if-may_hold.false))
+    (not_entered g.T.Cover.Merges.boxes g.T.Covered.object (g.R.Question.accepts c.args.func.now) (g.R.Question.selects c.args.func.now) g.met.T.Cover.Merges.merge_laws g.met.T.Covered.cover_law c.in-Parent.parent (lower_numbers c.args.path.now) c.args.rest.now (passed c.if-not-may_hold.true))
 
 pub take_among-returns-then-is_selected_leaf : goal.take_among-returns-then-is_selected_leaf
 take_among-returns-then-is_selected_leaf g t c =
     let i = c.len.result - 1 - c.loop-passed.passed in
     let at_i = place c.len.ensures (ap vec_len c.loop-passed.invariant.same) c.len-passed-end.ensures c.loop-passed-test.true c.loop-passed.children.ok.0 in
     let within : i < length c.loop-passed.children.items = omega (arith, at_i.3) in
-    let here = same_read c.loop-passed.children.items i c.index.result.now (Leaf c.take_leaf-taken.result) within c.index.ensures c.take_leaf-taken.ensures.node in
+    let leaf = rw (sym c.element_of.ensures) at c.remove.ensures.value in
+    let here = same_read c.loop-passed.children.items i c.index.result.now (Leaf c.element_of.result) within c.index.ensures leaf in
     let chosen = ap (is_selected_leaf (g.R.Question.selects c.args.func.now)) (sym here) in
     record {
-      takes = rw (c.set_first.ensures, c.take_leaf-taken.ensures.items)
-          (gives_leaf g.T.Cover.Merges.boxes g.T.Covered.object (g.R.Question.accepts c.args.func.now) (g.R.Question.selects c.args.func.now) c.args.children.now.items c.args.path.now c.args.rest.now c.loop-passed.path c.loop-passed.rest c.loop-passed.passed c.loop-passed.invariant.scanned c.loop-passed.children.items (ap (λ (v : Vec _ _). v.items) c.loop-passed.invariant.same) i at_i.3 c.take_leaf-taken.result c.take_leaf-taken.ensures.node
+      takes = rw (c.set_first.ensures, c.remove.ensures.items)
+          (gives_leaf g.T.Cover.Merges.boxes g.T.Covered.object (g.R.Question.accepts c.args.func.now) (g.R.Question.selects c.args.func.now) c.args.children.now.items c.args.path.now c.args.rest.now c.loop-passed.path c.loop-passed.rest c.loop-passed.passed c.loop-passed.invariant.scanned c.loop-passed.children.items (ap (λ (v : Vec _ _). v.items) c.loop-passed.invariant.same) i at_i.3 c.element_of.result leaf
           (λ _. c.loop-passed.invariant.behind) (sym (ap (selects_in (g.R.Question.selects c.args.func.now)) (outs-Leaf _)) ∙ chosen ∙ sym c.is_selected_leaf.ensures ∙ c.if-is_selected_leaf.true));
       same = tt;
       unchanged = λ told. absurd (true≢false told);

@@ -1,81 +1,68 @@
-use Rattle.std.proofs.Common.{[], None, true, sym, ◌∙◌, ap, refl, get_or, get_or-set_same, rules}
-use Rattle.std.proofs.lemmas.List.{get_or_read}
+use Rattle.std.proofs.Common.{true, sym, ◌∙◌, ap, refl, get_or, get_or-set_same, set, rules}
+use Rattle.std.proofs.lemmas.List.{get_or_read, set-get_or}
 use Rattle.rstar.specs.declared.node.RTreeNode.{Leaf, Parent}
 use Rattle.rstar.specs.declared.node.RTreeNode.TheVariants.{outs-Parent}
-use Rattle.rstar.specs.inside.Earliest.{earliest}
-use Rattle.rstar.specs.Nodes.{given, all_given, node_box}
-use Rattle.rstar.specs.inside.Taking.{is_a_leaf, is_childless}
-use Rattle.rstar.proofs.removing.Earliest.{earliest-leaf, earliest-some, earliest-there, leaf_is, no_leaf_here, leaf_selected, given_below, takes_nothing}
+use Rattle.rstar.specs.Nodes.{all_given, node_box}
+use Rattle.rstar.specs.inside.Taking.{is_childless}
+use Rattle.rstar.proofs.removing.Earliest.{earliest-leaf, earliest-there, leaf_selected, taken_inside, takes_nothing}
 use Rattle.rstar.proofs.trees.ByChildren.{node_box-Parent}
-use Rattle.rstar.proofs.removing.Scans.{entered, kept_anew, kept_still, hull_set, some_one, takes_leaf, takes_below, takes_last}
+use Rattle.rstar.proofs.removing.Scans.{kept_anew, kept_still, hull_set, some_one, takes_leaf, takes_below, takes_last}
 use Rattle.rstar.proofs.algorithm.removal.earliest.+take_earliest.Goals as goal
 
-pub take_at-take_leaf-requires-clause-leaf : goal.take_at-take_leaf-requires-clause-leaf
-take_at-take_leaf-requires-clause-leaf g t c = λ n.
-    ap is_a_leaf (sym (get_or_read c.args.children.now.items c.args.place c.index.result.now c.requires.within c.index.ensures n))
-    ∙ sym (leaf_is c.index.result.now) ∙ sym c.is_leaf.ensures ∙ c.if-is_leaf.true
-
-pub take_at-returns-then-is_leaf : goal.take_at-returns-then-is_leaf
-take_at-returns-then-is_leaf g t c =
+pub take_at-returns-in_default : goal.take_at-returns-in_default
+take_at-returns-in_default g t c =
     let accepts = g.R.Question.accepts c.args.func.now in let selects = g.R.Question.selects c.args.func.now in
-    let here = c.take_leaf.ensures.node in
-    let selected = leaf_selected accepts selects _ c.take_leaf.result (sym here) (c.requires.some (Leaf c.take_leaf.result)) in
+    let still = ap (set c.args.children.now.items c.args.place) c.index_mut.ensures.value ∙ set-get_or c.args.children.now.items c.args.place c.index_mut.result.now in
+    let removed = rw still at c.remove.ensures in let here = rw (sym c.element_of.ensures) at removed.value in
+    let selected = leaf_selected accepts selects _ c.element_of.result (sym here) (c.requires.some (Leaf c.element_of.result)) in
     record {
-      takes = rw c.take_leaf.ensures.items (takes_leaf g.T.Cover.Merges.boxes g.T.Covered.object accepts selects c.args.children.now.items c.args.place c.requires.within c.take_leaf.result here selected);
-      first = λ d. sym (earliest-leaf accepts selects g.met.T.Ord.total (get_or c.args.children.now.items c.args.place d) c.take_leaf.result true (sym (get_or_read c.args.children.now.items c.args.place (Leaf c.take_leaf.result) c.requires.within here d)) selected);
+      takes = rw removed.items (takes_leaf g.T.Cover.Merges.boxes g.T.Covered.object accepts selects c.args.children.now.items c.args.place c.requires.within c.element_of.result here selected);
+      first = λ d. earliest-leaf accepts selects g.met.T.Ord.total (λ u. u) (get_or c.args.children.now.items c.args.place d) c.element_of.result true (sym (get_or_read c.args.children.now.items c.args.place (Leaf c.element_of.result) c.requires.within here d)) (sym selected);
       unchanged = search rules;
     }
 
-pub take_at-returns-then-is_childless-clause-takes : goal.take_at-returns-then-is_childless-clause-takes
-take_at-returns-then-is_childless-clause-takes g t c =
+pub take_at-returns-then-is_childless : goal.take_at-returns-then-is_childless
+take_at-returns-then-is_childless g t c =
     let accepts = g.R.Question.accepts c.args.func.now in let selects = g.R.Question.selects c.args.func.now in
-    let n = c.index_mut.result.now in let here = c.index_mut.ensures.value in
-    let written = c.index-2.ensures ∙ get_or-set_same _ _ _ _ c.requires.within in
-    rw c.drop_child.ensures.items
-    (takes_last g.T.Cover.Merges.boxes g.T.Covered.object accepts selects c.args.children.now.items c.args.place c.requires.within n c.take_inside-taken.new.child c.take_inside-taken.result here c.take_inside-taken.ensures.takes
-    (earliest-some g.T.Ord.cmp (given accepts selects n) c.take_inside-taken.result c.take_inside-taken.ensures.first (λ none. c.requires.some n (ap (given accepts selects) (sym here) ∙ none)))
-    (sym (ap is_childless written) ∙ sym c.is_childless.ensures ∙ c.if-is_childless.true))
+    let p = c.in-Parent.parent in let q = c.take_earliest-taken.new.node in let here = rw c.in-Parent.is at c.index_mut.ensures.value in
+    let taken = rw c.in-Parent.parent-is at c.take_earliest-taken.ensures in
+    let inside = taken_inside accepts selects g.T.Ord.cmp c.args.children.now.items c.args.place p q c.take_earliest-taken.result c.requires here taken.below taken.first in
+    let last = sym (ap is_childless (c.index.ensures ∙ get_or-set_same _ _ _ _ c.requires.within)) ∙ sym c.is_childless.ensures ∙ c.if-is_childless.true in
+    record {
+      takes = rw (c.drop_child.ensures.items, c.in-Parent.is, outs-Parent p)
+          (takes_last g.T.Cover.Merges.boxes g.T.Covered.object accepts selects c.args.children.now.items c.args.place c.requires.within (Parent p) (Parent q) c.take_earliest-taken.result here inside.0 inside.1 (rw (c.in-Parent.is, outs-Parent p) at last));
+      first = inside.2;
+      unchanged = search rules;
+    }
 
 pub take_at-returns-else-is_childless : goal.take_at-returns-else-is_childless
 take_at-returns-else-is_childless g t c =
-    let accepts = g.R.Question.accepts c.args.func.now in let selects = g.R.Question.selects c.args.func.now in
-    let n = c.index_mut.result.now in let here = c.index_mut.ensures.value in
-    let written = c.index-2.ensures ∙ get_or-set_same _ _ _ _ c.requires.within in
+    let accepts = g.R.Question.accepts c.args.func.now in let selects = g.R.Question.selects c.args.func.now in let box = g.T.Covered.object.box_of in
+    let p = c.in-Parent.parent in let q = c.take_earliest-taken.new.node in let here = rw c.in-Parent.is at c.index_mut.ensures.value in
+    let taken = rw c.in-Parent.parent-is at c.take_earliest-taken.ensures in
+    let inside = taken_inside accepts selects g.T.Ord.cmp c.args.children.now.items c.args.place p q c.take_earliest-taken.result c.requires here taken.below taken.first in
+    let has = sym (ap is_childless (c.index.ensures ∙ get_or-set_same _ _ _ _ c.requires.within)) ∙ sym c.is_childless.ensures ∙ c.if-is_childless.false in
     record {
-      takes = takes_below g.T.Cover.Merges.boxes g.T.Covered.object accepts selects c.args.children.now.items c.args.place c.requires.within n c.take_inside-taken.new.child c.take_inside-taken.result here c.take_inside-taken.ensures.takes
-          (earliest-some g.T.Ord.cmp (given accepts selects n) c.take_inside-taken.result c.take_inside-taken.ensures.first (λ none. c.requires.some n (ap (given accepts selects) (sym here) ∙ none)))
-          (sym (ap is_childless written) ∙ sym c.is_childless.ensures ∙ c.if-is_childless.false);
-      first = λ d. rw (sym (get_or_read c.args.children.now.items c.args.place n c.requires.within here d)) c.take_inside-taken.ensures.first;
-      unchanged = λ told. hull_set g.T.Cover.Merges.boxes (node_box g.T.Covered.object.box_of) c.args.children.now.items c.args.place n c.take_inside-taken.new.child c.requires.within here (c.take_inside-taken.ensures.unchanged told);
+      takes = rw (c.in-Parent.is, outs-Parent p)
+          (takes_below g.T.Cover.Merges.boxes g.T.Covered.object accepts selects c.args.children.now.items c.args.place c.requires.within (Parent p) (Parent q) c.take_earliest-taken.result here inside.0 inside.1 (rw (c.in-Parent.is, outs-Parent p) at has));
+      first = inside.2;
+      unchanged = rw (c.in-Parent.is, outs-Parent p) (λ told. hull_set g.T.Cover.Merges.boxes (node_box box) c.args.children.now.items c.args.place (Parent p) (Parent q) c.requires.within here
+          (node_box-Parent box q ∙ taken.below.unchanged told ∙ sym (node_box-Parent box p)));
     }
 
-pub take_inside-unreachable-requires : goal.take_inside-unreachable-requires
-take_inside-unreachable-requires g t c = no_leaf_here c.args.child.now _ c.in-Leaf.is c.requires.parent
-
-pub take_inside-returns : goal.take_inside-returns
-take_inside-returns g t c =
+pub take_earliest-returns-in_err-place-clause-below : goal.take_earliest-returns-in_err-place-clause-below
+take_earliest-returns-in_err-place-clause-below g t c =
     let accepts = g.R.Question.accepts c.args.func.now in let selects = g.R.Question.selects c.args.func.now in
-    let box = g.T.Covered.object.box_of in let is = ap (given accepts selects) c.in-Parent.is in
-    let taken = rw c.in-Parent.parent-is at c.take_earliest.ensures in let below = taken.below in
-    record {
-      takes = rw (c.in-Parent.is, outs-Parent c.in-Parent.parent)
-          (entered g.T.Cover.Merges.boxes g.T.Covered.object accepts selects c.in-Parent.parent c.take_earliest.new.node [] [] None None c.take_earliest.result below.takes below.kept below.same);
-      first = taken.first ∙ sym (ap (earliest g.T.Ord.cmp) (is ∙ given_below accepts selects c.in-Parent.parent (λ none. c.requires.some (is ∙ none))));
-      unchanged = rw (c.in-Parent.is, outs-Parent c.in-Parent.parent) (λ told. node_box-Parent box c.take_earliest.new.node ∙ below.unchanged told ∙ sym (node_box-Parent box c.in-Parent.parent));
-    }
-
-pub take_earliest-returns-in-None-clause-below : goal.take_earliest-returns-in-None-clause-below
-take_earliest-returns-in-None-clause-below g t c =
-    let accepts = g.R.Question.accepts c.args.func.now in let selects = g.R.Question.selects c.args.func.now in
-    assumption (takes_nothing accepts selects g.met.T.Cover.Merges.merge_laws g.met.T.Covered.cover_law c.args.node.now.children.items
-    (sym (ap (all_given accepts selects) c.as_slice.ensures.value) ∙ c.in-None.ensures))
+    rw c.from_residual.ensures
+    (assumption (takes_nothing accepts selects g.met.T.Cover.Merges.merge_laws g.met.T.Covered.cover_law c.args.node.now.children.items
+    (sym (ap (all_given accepts selects) c.as_slice.ensures.value) ∙ c.in_err-place.ensures)))
 
 pub take_earliest-returns-then-changed : goal.take_earliest-returns-then-changed
 take_earliest-returns-then-changed g t c =
     let takes = c.take_at-taken.ensures.takes in
     let made = rw c.deref.ensures.value at c.envelope_for_children-merged.ensures.hull in
-    let there = earliest-there (g.R.Question.accepts c.args.func.now) (g.R.Question.selects c.args.func.now) g.met.T.Ord.total c.args.node.now.children.items c.as_slice.result.now c.in-Some.found.0 c.in-Some.found.1.now c.take_at-taken.result (Parent c.args.node.now)
-    c.as_slice.ensures.value c.in-Some.ensures (c.take_at-taken.ensures.first (Parent c.args.node.now)) in
+    let there = earliest-there (g.R.Question.accepts c.args.func.now) (g.R.Question.selects c.args.func.now) g.met.T.Ord.total c.args.node.now.children.items c.as_slice.result.now c.in_ok-place.field-0.0 c.in_ok-place.field-0.1.now c.take_at-taken.result (Parent c.args.node.now)
+    c.as_slice.ensures.value c.in_ok-place.ensures (c.take_at-taken.ensures.first (Parent c.args.node.now)) in
     record {
       below = record {
         takes = takes;
@@ -89,8 +76,8 @@ take_earliest-returns-then-changed g t c =
 pub take_earliest-returns-else-changed : goal.take_earliest-returns-else-changed
 take_earliest-returns-else-changed g t c =
     let takes = c.take_at-taken.ensures.takes in
-    let there = earliest-there (g.R.Question.accepts c.args.func.now) (g.R.Question.selects c.args.func.now) g.met.T.Ord.total c.args.node.now.children.items c.as_slice.result.now c.in-Some.found.0 c.in-Some.found.1.now c.take_at-taken.result (Parent c.args.node.now)
-    c.as_slice.ensures.value c.in-Some.ensures (c.take_at-taken.ensures.first (Parent c.args.node.now)) in
+    let there = earliest-there (g.R.Question.accepts c.args.func.now) (g.R.Question.selects c.args.func.now) g.met.T.Ord.total c.args.node.now.children.items c.as_slice.result.now c.in_ok-place.field-0.0 c.in_ok-place.field-0.1.now c.take_at-taken.result (Parent c.args.node.now)
+    c.as_slice.ensures.value c.in_ok-place.ensures (c.take_at-taken.ensures.first (Parent c.args.node.now)) in
     record {
       below = record {
         takes = takes;
