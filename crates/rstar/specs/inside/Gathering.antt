@@ -1,4 +1,4 @@
--- What taking many elements out at once leaves: of lists of elements, of a list of nodes, and below one node.
+-- What taking many elements out at once leaves: of lists of elements, and of a list of nodes.
 use Rattle.std.specs.Prelude.{◌≡◌, ◌≢◌, ℕ, ◌+◌, ◌-◌, ◌≤◌, ◌<◌, Bool, true, false, List, ◌∷◌, ◌++◌, length, slice_index_or}
 use Rattle.std.specs.List.{AllByRecursion}
 use Rattle.std.specs.List.Sorted.{IsPermutation}
@@ -6,10 +6,9 @@ use Rattle.rstar_base.specs.Envelopes.{Boxes}
 use Rattle.rstar_base.specs.Elements.{Objects}
 use Rattle.rstar_base.specs.Selections.{IsLawful}
 use Rattle.rstar.specs.declared.node.RTreeNode.{RTreeNode}
-use Rattle.rstar.specs.Nodes.{elements, all_elements, IsElement, IsTree}
-use Rattle.rstar.specs.inside.ParentBounds.{IsKeptInner, AreKept}
+use Rattle.rstar.specs.Nodes.{all_elements}
+use Rattle.rstar.specs.inside.ParentBounds.{AreKept}
 use Rattle.rstar.specs.Lists.{NoneSelected}
-use Rattle.rstar.specs.inside.Taking.{is_selected_leaf, is_childless}
 
 -- some selected elements left a list and came to the end of another one, which they fill up to `most` at most
 pub record Gathers {T : Type 0} (selects : T → Bool) (most : ℕ) (old held new held' : List T) : Type 0 where
@@ -36,12 +35,3 @@ module _ {T E : Type 0} (v : Boxes E) (o : Objects T E) (accepts : E → Bool) (
     pub kept : (w h : ℕ) → AreKept v o w h old → AreKept v o w h new
     pub ended : IsLawful v o accepts selects → length held' < most → (w h : ℕ) → AreKept v o w h old
         → NoneSelected selects (all_elements new)
-
-  -- they left one node, which may be left without children
-  pub record GathersInside (old : RTreeNode T E) (held : List T) (new : RTreeNode T E) (held' : List T)
-      : Type 0 where
-    pub moved : Gathers selects most (elements old) held (elements new) held'
-    pub kept : (w h : ℕ) → IsTree (IsKeptInner v o w) (IsElement v o) h old → is_childless new ≡ false
-        → IsTree (IsKeptInner v o w) (IsElement v o) h new
-    pub ended : IsLawful v o accepts selects → is_selected_leaf selects old ≡ false → length held' < most
-        → (w h : ℕ) → IsTree (IsKeptInner v o w) (IsElement v o) h old → NoneSelected selects (elements new)
